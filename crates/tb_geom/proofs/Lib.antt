@@ -1,0 +1,2 @@
+pub mod RectLemmas
+pub mod PixelsLemmas

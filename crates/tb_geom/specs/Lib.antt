@@ -1,0 +1,5 @@
+-- What the contracts speak of: points and sets of them, rectangles, finite sets of pixels, refusals.
+pub mod Points
+pub mod Rects
+pub mod Refusals
+pub mod Pixels

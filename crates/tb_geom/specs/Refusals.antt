@@ -1,0 +1,48 @@
+-- The name and the number of each refusal.
+use Rattle.std.specs.Prelude.{ℕ, List, codes}
+use Rattle.tb_geom.specs.declared.refusal.Refusal.{Refusal}
+use Rattle.tb_geom.specs.declared.refusal.Refusal.TheVariants.{NoMemory, NoSuchWindow, NoSuchControl, NoSuchMenu, NoSuchList, NoSuchItem, NoSuchCell, OutOfRange, TooMany, TooLong, Busy, NotBusy, BadFont, BadRegion, BadSyntax, NoDefinition, StalePixels, ReadFault, WriteFault, NoSuchName}
+
+abbrev pub name_of : Refusal → List ℕ
+name_of NoMemory = codes "NoMemory"
+name_of NoSuchWindow = codes "NoSuchWindow"
+name_of NoSuchControl = codes "NoSuchControl"
+name_of NoSuchMenu = codes "NoSuchMenu"
+name_of NoSuchList = codes "NoSuchList"
+name_of NoSuchItem = codes "NoSuchItem"
+name_of NoSuchCell = codes "NoSuchCell"
+name_of OutOfRange = codes "OutOfRange"
+name_of TooMany = codes "TooMany"
+name_of TooLong = codes "TooLong"
+name_of Busy = codes "Busy"
+name_of NotBusy = codes "NotBusy"
+name_of BadFont = codes "BadFont"
+name_of BadRegion = codes "BadRegion"
+name_of BadSyntax = codes "BadSyntax"
+name_of NoDefinition = codes "NoDefinition"
+name_of StalePixels = codes "StalePixels"
+name_of ReadFault = codes "ReadFault"
+name_of WriteFault = codes "WriteFault"
+name_of NoSuchName = codes "NoSuchName"
+
+abbrev pub number_of : Refusal → ℕ
+number_of NoMemory = 1
+number_of NoSuchWindow = 2
+number_of NoSuchControl = 3
+number_of NoSuchMenu = 4
+number_of NoSuchList = 5
+number_of NoSuchItem = 6
+number_of NoSuchCell = 7
+number_of OutOfRange = 8
+number_of TooMany = 9
+number_of TooLong = 10
+number_of Busy = 11
+number_of NotBusy = 12
+number_of BadFont = 13
+number_of BadRegion = 14
+number_of BadSyntax = 15
+number_of NoDefinition = 16
+number_of StalePixels = 17
+number_of ReadFault = 18
+number_of WriteFault = 19
+number_of NoSuchName = 20

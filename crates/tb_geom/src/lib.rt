@@ -1,0 +1,16 @@
+//! The numbers under everything: points, rectangles, sets of pixels, and why a call refuses.
+//!
+//! A point names the pixel below and to the right of it, by its column `h` and its row `v`. Columns
+//! grow to the right and rows downwards (*Inside Macintosh* I, "QuickDraw", "The Coordinate Plane").
+//! What a rectangle or a region means is the set of pixels that it encloses: every contract here and
+//! in the crates above says, for each point, whether it is in. The sides of what is kept lie in
+//! -16384..=16383; the numbers that calls take may be any.
+#![tactic(auto)]
+
+mod point;
+mod rect;
+mod refusal;
+
+pub use point::Point;
+pub use rect::Rect;
+pub use refusal::Refusal;
