@@ -14,3 +14,6 @@ mod refusal;
 pub use point::Point;
 pub use rect::Rect;
 pub use refusal::Refusal;
+
+#[cfg(test)]
+mod tests;
