@@ -140,6 +140,11 @@ pub or_first : (a b : Bool) → b ≡ false → (a || b) ≡ true → a ≡ true
 or_first true b n e = refl
 or_first false b n e = absurd (cc)
 
+-- one of the two, and not the first
+pub or_second : (a b : Bool) → a ≡ false → (a || b) ≡ true → b ≡ true
+or_second true b n e = absurd (cc)
+or_second false b n e = e
+
 -- a rectangle is its sides
 pub same_rect : (a b : Rect) → a.left ≡ b.left → a.top ≡ b.top → a.right ≡ b.right → a.bottom ≡ b.bottom → a ≡ b
 same_rect a b l t r m = λ i. record { left = l i; top = t i; right = r i; bottom = m i }

@@ -1,5 +1,5 @@
 -- The pixels of a rectangle, and the range of coordinates.
-use Rattle.std.specs.Prelude.{Bool, ◌&&◌, ◌||◌, ℤ, pos, negsuc, int_le, int_lt, ◌+ℤ◌}
+use Rattle.std.specs.Prelude.{◌≡◌, true, Bool, ◌&&◌, ◌||◌, ℤ, pos, negsuc, int_le, int_lt, ◌+ℤ◌}
 use Rattle.std.specs.Int.{int_min, int_max}
 use Rattle.tb_geom.specs.declared.point.Point.{Point}
 use Rattle.tb_geom.specs.declared.rect.Rect.{Rect}
@@ -12,6 +12,11 @@ between low x high = int_le low x && int_lt x high
 -- whether the rectangle encloses the pixel at p
 abbrev pub rect_holds : Rect → PixelSet
 rect_holds r p = between r.left p.h r.right && between r.top p.v r.bottom
+
+-- the smallest rectangle that encloses the set
+pub record IsBoxOf (r : Rect) (s : PixelSet) : Type 0 where
+  pub holds : (p : Point) → s p ≡ true → rect_holds r p ≡ true
+  pub smallest : (q : Rect) → ((p : Point) → s p ≡ true → rect_holds q p ≡ true) → (p : Point) → rect_holds r p ≡ true → rect_holds q p ≡ true
 
 -- whether it encloses none
 abbrev pub is_empty_rect : Rect → Bool

@@ -3,7 +3,7 @@ ghost use Rattle.std.specs.Prelude.{◌≡◌, ◌↔◌, false, true, ◌&&◌,
 ghost use Rattle.tb_geom.specs.Points.{minus};
 ghost use Rattle.tb_geom.specs.declared.point.Point.{Point};
 ghost use Rattle.tb_geom.specs.declared.rect.Rect.{Rect};
-ghost use Rattle.tb_geom.specs.Rects.{between, rect_holds, is_in_range, is_coordinate, moved, is_empty_rect, empty_rect, shared_rect, rect_around};
+ghost use Rattle.tb_geom.specs.Rects.{IsBoxOf, between, rect_holds, is_in_range, is_coordinate, moved, is_empty_rect, empty_rect, shared_rect, rect_around};
 
 use crate::{Point, Refusal};
 
@@ -97,11 +97,7 @@ impl Rect {
 
     /// The smallest rectangle that holds both. An empty one adds nothing.
     pub fn union(self, other: Rect) -> Rect
-        ensures holds { (p : Point) → (rect_holds self p || rect_holds other p) ≡ true
-            → rect_holds result p ≡ true }
-        ensures smallest { (r : Rect)
-            → ((p : Point) → (rect_holds self p || rect_holds other p) ≡ true → rect_holds r p ≡ true)
-            → (p : Point) → rect_holds result p ≡ true → rect_holds r p ≡ true }
+        ensures { IsBoxOf result (λ p. rect_holds self p || rect_holds other p) }
     {
         if self.is_empty() {
             other
