@@ -30,6 +30,10 @@ empty_rect = record { left = pos 0; top = pos 0; right = pos 0; bottom = pos 0 }
 abbrev pub is_coordinate : ℤ → Bool
 is_coordinate z = int_le (negsuc 16383) z && int_le z (pos 16383)
 
+-- whether both of a point's do
+abbrev pub in_plane : PixelSet
+in_plane p = is_coordinate p.h && is_coordinate p.v
+
 -- whether each side of the rectangle does
 abbrev pub is_in_range : Rect → Bool
 is_in_range r = is_coordinate r.left && (is_coordinate r.top && (is_coordinate r.right && is_coordinate r.bottom))

@@ -25,7 +25,7 @@ fn is_between(low: i32, x: i32, high: i32) -> bool
 }
 
 /// Whether `x` lies in -16384..=16383.
-fn is_coordinate(x: i32) -> bool
+pub(crate) fn is_coordinate(x: i32) -> bool
     ensures { result ≡ is_coordinate x }
 {
     -16384 <= x && x <= 16383

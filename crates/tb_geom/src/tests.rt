@@ -74,6 +74,9 @@ fn moves_up_to_the_edge_of_the_range(rt: HostRuntime) {
     assert!(rt; rect(-16384, -16384, 16383, 16383).is_in_range());
     assert!(rt; !rect(-16385, 0, 0, 0).is_in_range());
     assert!(rt; !rect(0, 0, 0, 16384).is_in_range());
+    for (h, v, inside) in [(-16384, 16383, true), (16384, 0, false), (0, -16385, false)] {
+        assert_eq!(rt; Point { h, v }.is_in_range(), inside, "{h} {v}");
+    }
 }
 
 #[test]

@@ -1,0 +1,4 @@
+-- Lemmas on drawings.
+pub mod DrawsLemmas
+pub mod SpansLemmas
+pub mod WalkLemmas

@@ -1,0 +1,2 @@
+-- What the contracts speak of: what a drawing leaves.
+pub mod Draws

@@ -1,0 +1,2 @@
+-- Lemmas on the bits of a map.
+pub mod BitsLemmas

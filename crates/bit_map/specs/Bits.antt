@@ -1,0 +1,43 @@
+-- A map of bits, point by point.
+use Rattle.std.specs.Prelude.{◌≡◌, ℕ, ◌+◌, ◌*◌, ◌≤◌, ℤ, pos, negsuc, Bool, false, ◌&&◌, List, length, nat_lt, nat_abs, int_le, slice_index_or}
+use Rattle.std.specs.Ordering.{int_eq}
+use Rattle.tb_geom.specs.declared.point.Point.{Point}
+use Rattle.tb_geom.specs.declared.rect.Rect.{Rect}
+use Rattle.tb_geom.specs.Points.{PixelSet}
+
+-- the bits of a map row by row, the top row first; black is true
+pub record Bits : Type 0 where
+  pub width : ℕ
+  pub height : ℕ
+  pub black : List Bool
+
+-- the list has a bit for each pixel, and no side is longer than 32767
+pub record IsWhole (width height : ℕ) (black : List Bool) : Type 0 where
+  pub all : length black ≡ height * width
+  pub across : width ≤ 32767
+  pub down : height ≤ 32767
+
+-- whether a number is one of 0 .. limit - 1
+abbrev pub is_below : ℕ → ℤ → Bool
+is_below limit (pos n) = nat_lt n limit
+is_below limit (negsuc n) = false
+
+-- whether the map has the pixel at a point
+unfoldable pub on_map : Bits → PixelSet
+on_map m p = is_below m.width p.h && is_below m.height p.v
+
+-- the bit at a point of the map; off the map it is white
+unfoldable pub bit : Bits → PixelSet
+bit m p = on_map m p && slice_index_or m.black (nat_abs p.v * m.width + nat_abs p.h) false
+
+-- whether p is the point q
+abbrev pub is_point : Point → PixelSet
+is_point q p = int_eq p.h q.h && int_eq p.v q.v
+
+-- the rectangle of the map's pixels
+abbrev pub bounds_of : Bits → Rect
+bounds_of m = record { left = pos 0; top = pos 0; right = pos m.width; bottom = pos m.height }
+
+-- whether a number may be a side of a map: 0 .. 32767
+abbrev pub is_side : ℤ → Bool
+is_side n = int_le (pos 0) n && int_le n (pos 32767)

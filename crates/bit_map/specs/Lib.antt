@@ -1,0 +1,4 @@
+-- What the contracts speak of: the bits of a map, transfer modes, patterns.
+pub mod Bits
+pub mod Modes
+pub mod Patterns

@@ -1,0 +1,68 @@
+//! A fixed linear congruential generator, and the regions that it makes.
+ghost use Rattle.std.specs.Prelude.{pos, ◌≤ℤ◌, ◌<ℤ◌};
+
+use scan_region::Region;
+use std::alloc::Global;
+use tb_geom::{Rect, Refusal};
+
+/// The state of the generator, which begins at 1: each number is the high part of the next state.
+#[derive(Drop)]
+pub struct Random {
+    state: u32,
+}
+
+impl Random {
+    /// The generator at its start.
+    pub fn new() -> Random {
+        Random { state: 1 }
+    }
+
+    /// The next number, in 0..=1023.
+    fn number(&mut self) -> i32
+        ensures low { pos 0 ≤ℤ result }
+        ensures high { result <ℤ pos 1024 }
+    {
+        self.state = self
+            .state
+            .wrapping_mul(1_664_525)
+            .wrapping_add(1_013_904_223);
+        (self.state >> 22) as i32
+    }
+
+    /// The next rectangle, within 0..1024 both ways, with a pixel at least.
+    fn rect(&mut self) -> Rect
+        ensures left { pos 0 ≤ℤ result.left }
+        ensures top { pos 0 ≤ℤ result.top }
+        ensures across { result.left <ℤ result.right }
+        ensures down { result.top <ℤ result.bottom }
+        ensures right { result.right ≤ℤ pos 1024 }
+        ensures bottom { result.bottom ≤ℤ pos 1024 }
+    {
+        let h = self.number();
+        let v = self.number();
+        let other_h = self.number();
+        let other_v = self.number();
+        Rect {
+            left: h.min(other_h),
+            top: v.min(other_v),
+            right: h.max(other_h) + 1,
+            bottom: v.max(other_v) + 1,
+        }
+    }
+
+    /// The region of the next `count` rectangles.
+    pub fn region(&mut self, alloc: Global, count: usize) -> Result<Region, Refusal> {
+        let nothing = Rect {
+            left: 0,
+            top: 0,
+            right: 0,
+            bottom: 0,
+        };
+        let mut region = Region::from_rect(alloc, nothing)?;
+        for _ in 0..count {
+            let one = Region::from_rect(alloc, self.rect())?;
+            region = region.union(alloc, &one)?;
+        }
+        Ok(region)
+    }
+}

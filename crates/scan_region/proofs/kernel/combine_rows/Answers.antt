@@ -1,0 +1,16 @@
+use Rattle.std.proofs.Common.{◌≡◌, [], ◌∙◌, sym, ap, ◌&&◌, rules}
+use Rattle.std.proofs.lemmas.List.{nil_from_length}
+use Rattle.std.proofs.lemmas.Result.{IfOk-weaker}
+use Rattle.scan_region.specs.Edges.{inside, applied}
+use Rattle.scan_region.proofs.Edges.{inside-nil, applied-left, applied-right}
+use Rattle.scan_region.proofs.kernel.combine_rows.Goals as goal
+
+pub returns-then-is_empty-clause-pixels : goal.returns-then-is_empty-clause-pixels
+returns-then-is_empty-clause-pixels c =
+    let nil : c.args.b.now ≡ [] = nil_from_length _ (search rules) in
+    IfOk-weaker c.row_if.result _ _ (λ row pixels h. pixels h ∙ ap (λ t. inside c.args.a.now h && t) c.holds.ensures ∙ sym (applied-left c.args.operator _) ∙ ap (applied c.args.operator (inside c.args.a.now h)) (sym (ap (λ b. inside b h) nil ∙ inside-nil h))) c.row_if.ensures.pixels
+
+pub returns-then-is_empty-2-clause-pixels : goal.returns-then-is_empty-2-clause-pixels
+returns-then-is_empty-2-clause-pixels c =
+    let nil : c.args.a.now ≡ [] = nil_from_length _ (search rules) in
+    IfOk-weaker c.row_if-then-is_empty-2.result _ _ (λ row pixels h. pixels h ∙ ap (λ t. inside c.args.b.now h && t) c.holds-then-is_empty-2.ensures ∙ sym (applied-right c.args.operator _) ∙ ap (λ t. applied c.args.operator t (inside c.args.b.now h)) (sym (ap (λ b. inside b h) nil ∙ inside-nil h))) c.row_if-then-is_empty-2.ensures.pixels

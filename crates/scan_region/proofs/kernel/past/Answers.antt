@@ -1,0 +1,11 @@
+use Rattle.std.proofs.Common.{pos, rules}
+use Rattle.std.proofs.lemmas.Int.{ints}
+use Rattle.std.proofs.lemmas.List.{take_more}
+use Rattle.scan_region.proofs.Edges.{IsAt-hit, inside-push_before}
+use Rattle.scan_region.proofs.kernel.past.Goals as goal
+
+pub returns-then-edges-at-clause-at : goal.returns-then-edges-at-clause-at
+returns-then-edges-at-clause-at c = λ x i l. IsAt-hit _ _ x _ c.requires.rising i l c.if-at-edges.true (search rules)
+
+pub returns-then-edges-at-clause-before : goal.returns-then-edges-at-clause-before
+returns-then-edges-at-clause-before c = λ k l. rw (take_more _ _ (pos 0) c.if-at-edges.true) (inside-push_before _ _ k (search (rules, ints)))

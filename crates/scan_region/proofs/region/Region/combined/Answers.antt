@@ -1,0 +1,7 @@
+use Rattle.scan_region.proofs.Plane.{has_merged}
+use Rattle.scan_region.proofs.region.Region.combined.Goals as goal
+
+pub returns : goal.returns
+returns c =
+    let pixels = simp (c.as_slice.ensures.value, c.as_slice-2.ensures.value) at c.in_ok-rows.ensures.pixels in
+    λ p. has_merged c.self.inside.rows.items c.other.inside.rows.items _ c.args.operator _ _ c.self.view_is c.other.view_is c.self.invariant c.other.invariant c.in_ok-rows.ensures.rows pixels p.h p.v

@@ -1,0 +1,8 @@
+-- What the contracts speak of: the edges of a row, the rows of a region, how far they are read, and spans.
+pub mod Edges
+pub mod Cursor
+pub mod Rows
+pub mod RowsAt
+pub mod Runs
+pub mod Scan
+pub mod Moves

@@ -1,0 +1,29 @@
+//! Regions: finite sets of pixels, kept as rows of edges.
+//!
+//! A region is the list of its rows from the top down, and a row the columns at which it turns from
+//! out to in or back, from left to right. A pixel is in a row where an odd number of edges lies at
+//! its column or left of it, so edges come in pairs, a pair for each run of pixels. Every `Region`
+//! keeps this: rows rise strictly and each has edges; the edges of a row rise strictly and are even
+//! in number; edges lie in -16384..=16383 and rows in -16384..=16382, so that all four sides of each
+//! pixel are coordinates.
+//!
+//! One kernel, `combine_rows`, combines two rows under an `Operator`, by one sweep over the edges of
+//! both; one merge of the rows does so for regions; `union`, `sect` and `diff` differ in the operator
+//! alone. Contracts see a `Region` as a finite set of pixels and say, for each point, whether it is
+//! in. A region has no coordinate space of its own: it is that of the call.
+#![tactic(auto)]
+
+mod contains;
+mod kernel;
+mod merge;
+mod offset;
+mod rect;
+mod region;
+mod row;
+mod spans;
+
+pub use region::Region;
+pub use spans::{Span, Spans};
+
+#[cfg(test)]
+mod tests;

@@ -1,0 +1,129 @@
+//! The public calls: each wraps a function of the rows.
+ghost use Rattle.std.specs.Prelude.{◌≡◌, true, false, ◌&&◌, ◌||◌, not, IfOk, IfErr, OnOk, OnErr};
+ghost use Rattle.tb_geom.specs.declared.point.Point.{Point};
+ghost use Rattle.tb_geom.specs.Points.{minus};
+ghost use Rattle.tb_geom.specs.Rects.{rect_holds, is_in_range};
+ghost use Rattle.tb_geom.specs.Pixels.{holds};
+ghost use Rattle.scan_region.specs.Edges.{applied};
+
+use crate::contains::rows_contain;
+use crate::kernel::Operator;
+use crate::merge::merge_rows;
+use crate::offset::{move_rows, rows_stay};
+use crate::rect::rect_rows;
+use crate::row::Row;
+use crate::spans::Spans;
+use std::alloc::{AllocError, Global};
+use std::marker::Model;
+use tb_geom::{Point, Rect, Refusal};
+
+/// A finite set of pixels, in the coordinate space of the call that uses it.
+#[derive(Drop)]
+pub struct Region {
+    rows: Vec<Row>,
+}
+
+impl Model for Region {
+    ghost use Rattle.tb_geom.specs.Pixels.{Pixels, pixels_code, pixels_where};
+
+    ghost Value = { Pixels };
+
+    ghost coded = { pixels_code };
+
+    ghost use Rattle.scan_region.specs.Rows.{has_in_rows, AreRows};
+
+    ghost view = { λ r. pixels_where (has_in_rows r.rows.items) };
+
+    ghost invariant = { λ r. AreRows r.rows.items };
+}
+
+impl Region {
+    ghost use Rattle.scan_region.specs.Moves.{StaysInRange, LeavesRange};
+    ghost use Rattle.scan_region.specs.Scan.{IsScan};
+
+    /// The pixels of a rectangle. OutOfRange exactly where one of its sides lies outside
+    /// -16384..=16383, also of an empty rectangle; else it refuses only for want of memory.
+    pub fn from_rect(alloc: Global, rect: Rect) -> Result<Region, Refusal>
+        ensures pixels { IfOk result (λ region. (p : Point) → holds region p ≡ rect_holds rect p) }
+        ensures out_of_range { is_in_range rect ≡ false → result ≡ Err Refusal.OutOfRange }
+        ensures refused { is_in_range rect ≡ true → IfErr result (λ e. e ≡ Refusal.NoMemory) }
+    {
+        if !rect.is_in_range() {
+            return Err(Refusal::OutOfRange);
+        }
+        let rows = rect_rows(alloc, rect)?;
+        Ok(Region { rows })
+    }
+
+    /// The pixels of both regions.
+    pub fn sect(&self, alloc: Global, other: &Region) -> Result<Region, Refusal>
+        ensures pixels { IfOk result (λ region. (p : Point)
+            → holds region p ≡ (holds self.now p && holds other.now p)) }
+        ensures refused { IfErr result (λ e. e ≡ Refusal.NoMemory) }
+    {
+        Ok(self.combined(alloc, other, Operator::Intersection)?)
+    }
+
+    /// The pixels of either region.
+    pub fn union(&self, alloc: Global, other: &Region) -> Result<Region, Refusal>
+        ensures pixels { IfOk result (λ region. (p : Point)
+            → holds region p ≡ (holds self.now p || holds other.now p)) }
+        ensures refused { IfErr result (λ e. e ≡ Refusal.NoMemory) }
+    {
+        Ok(self.combined(alloc, other, Operator::Union)?)
+    }
+
+    /// The pixels of this region that the other lacks.
+    pub fn diff(&self, alloc: Global, other: &Region) -> Result<Region, Refusal>
+        ensures pixels { IfOk result (λ region. (p : Point)
+            → holds region p ≡ (holds self.now p && not (holds other.now p))) }
+        ensures refused { IfErr result (λ e. e ≡ Refusal.NoMemory) }
+    {
+        Ok(self.combined(alloc, other, Operator::Difference)?)
+    }
+
+    /// Moves the region `dh` columns to the right and `dv` rows down, taking no memory. OutOfRange,
+    /// with nothing changed, exactly where a moved pixel lies outside -16384..=16382 in `h` or `v`.
+    pub fn offset(&mut self, dh: i32, dv: i32) -> Result<(), Refusal>
+        ensures moved { OnOk result ((p : Point)
+            → holds self.new p ≡ holds self.old (minus p (record { h = dh; v = dv }))) }
+        ensures fits { OnOk result (StaysInRange self.old (record { h = dh; v = dv })) }
+        ensures refused { IfErr result (λ e.
+            (e ≡ Refusal.OutOfRange) × LeavesRange self.old (record { h = dh; v = dv })) }
+        ensures kept { OnErr result (self.new ≡ self.old) }
+    {
+        if !rows_stay(self.rows.as_slice(), dh, dv) {
+            return Err(Refusal::OutOfRange);
+        }
+        move_rows(self.rows.as_mut_slice(), dh, dv);
+        Ok(())
+    }
+
+    /// Whether the region has the pixel at `point`, which may lie anywhere.
+    pub fn contains(&self, point: Point) -> bool
+        ensures { result ≡ holds self.now point }
+    {
+        rows_contain(self.rows.as_slice(), point.h, point.v)
+    }
+
+    /// The spans of the region, by rising rows and columns: its maximal runs of pixels in a row.
+    pub fn spans(&self) -> Spans<'_>
+        ensures { IsScan result self.now }
+    {
+        Spans::new(self.rows.as_slice())
+    }
+
+    /// The pixels that the operator keeps of the two regions.
+    fn combined(
+        &self,
+        alloc: Global,
+        other: &Region,
+        operator: Operator,
+    ) -> Result<Region, AllocError>
+        ensures { IfOk result (λ region. (p : Point)
+            → holds region p ≡ applied operator (holds self.now p) (holds other.now p)) }
+    {
+        let rows = merge_rows(alloc, self.rows.as_slice(), other.rows.as_slice(), operator)?;
+        Ok(Region { rows })
+    }
+}
