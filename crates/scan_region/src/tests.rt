@@ -162,3 +162,95 @@ fn moves_up_to_the_edge_of_the_range(rt: HostRuntime) -> Result<(), Fail> {
     assert_eq!(rt; none.spans().next(), None);
     Ok(())
 }
+
+/// A region of some of the pixels with `0 <= h < 3` and `0 <= v < 3`, and the set of them: a bit of
+/// its own for each pixel.
+#[derive(Drop)]
+struct Sample {
+    mask: u16,
+    region: Region,
+}
+
+/// The pixels that the bits of a mask stand for, the low bit first.
+const PIXELS: [Point; 9] = [
+    Point { h: 0, v: 0 },
+    Point { h: 1, v: 0 },
+    Point { h: 2, v: 0 },
+    Point { h: 0, v: 1 },
+    Point { h: 1, v: 1 },
+    Point { h: 2, v: 1 },
+    Point { h: 0, v: 2 },
+    Point { h: 1, v: 2 },
+    Point { h: 2, v: 2 },
+];
+
+/// Which of the nine pixels a region has.
+fn mask_of(region: &Region) -> u16 {
+    let mut mask = 0;
+    let mut bit = 1;
+    for pixel in PIXELS {
+        if region.contains(pixel) {
+            mask |= bit;
+        }
+        bit <<= 1;
+    }
+    mask
+}
+
+/// How many pixels a region has, by its spans.
+fn area_of(region: &Region) -> i32 {
+    let mut area: i32 = 0;
+    for span in region.spans() {
+        area = area.wrapping_add(span.right.wrapping_sub(span.left));
+    }
+    area
+}
+
+/// The region of the pixels of a mask, made of single pixels.
+fn region_of_mask(alloc: Global, mask: u16) -> Result<Region, Refusal> {
+    let mut region = Region::from_rect(alloc, rect(0, 0, 0, 0))?;
+    let mut rest = mask;
+    for Point { h, v } in PIXELS {
+        if rest % 2 == 1 {
+            let sides = rect(h, v, h.wrapping_add(1), v.wrapping_add(1));
+            let one = Region::from_rect(alloc, sides)?;
+            region = region.union(alloc, &one)?;
+        }
+        rest /= 2;
+    }
+    Ok(region)
+}
+
+/// Compares the pixels of a region with those of a mask, and their number, so that no other is in.
+fn assert_mask(rt: &impl Abort, region: &Region, mask: u16) {
+    assert_eq!(rt; mask_of(region), mask, "the pixels that it contains");
+    assert_eq!(rt;
+        area_of(region),
+        mask.count_ones() as i32,
+        "the pixels of its spans, for {mask}"
+    );
+}
+
+/// Compares what the operators make of two regions with what they make of two masks.
+fn assert_pair(rt: &impl Abort, alloc: Global, a: &Sample, b: &Sample) -> Result<(), Refusal> {
+    assert_mask(rt, &a.region.sect(alloc, &b.region)?, a.mask & b.mask);
+    assert_mask(rt, &a.region.union(alloc, &b.region)?, a.mask | b.mask);
+    assert_mask(rt, &a.region.diff(alloc, &b.region)?, a.mask & !b.mask);
+    Ok(())
+}
+
+#[test]
+fn agrees_on_all_pairs_within_three_by_three(rt: HostRuntime) -> Result<(), Fail> {
+    let mut samples = Vec::new(rt.alloc());
+    for mask in 0..512 {
+        let region = region_of_mask(rt.alloc(), mask)?;
+        assert_mask(&rt, &region, mask);
+        samples.push(Sample { mask, region })?;
+    }
+    for a in samples.as_slice() {
+        for b in samples.as_slice() {
+            assert_pair(&rt, rt.alloc(), a, b)?;
+        }
+    }
+    Ok(())
+}

@@ -1,0 +1,54 @@
+//! The interface of window definitions, the stock that they wait in, and what they draw on.
+//!
+//! A definition is the code behind a kind of window (*Inside Macintosh* I, "The Window Manager",
+//! "Defining Your Own Windows"): it answers which pixels belong to a window of some size, and it draws
+//! the window's frame. The program makes its definitions, and hands them in as boxes of the trait
+//! `WindowDef`. The Toolbox knows no more of a box than the value that the trait's contract gives it:
+//! its stage, the size that it was told, its regions and their box as functions of the size alone, and
+//! its picture. Points are local to the window, whose content begins at 0 0.
+//!
+//! A definition's life has three stages. It is Fresh when it is made. `begin` makes it Live, and from
+//! then on it can be told of changes and can draw. Each change is answered by a rectangle outside which
+//! the picture stayed as it was. `dispose` makes it Closed, and Closed it remains: no window is made
+//! with it again.
+//!
+//! Definitions wait in a `Stock`: a list of slots, each for a kind that goes by its name, and several
+//! slots may be for one kind. `take` gives the first Fresh definition of a kind, in the order in which
+//! the slots were added, and leaves its slot empty. What it gives is a `Taken`, in which the box
+//! travels together with the number of its slot. So each slot has one definition for good, whether that
+//! is in it or out: the box goes back to the very place that it left, no other can come in between, and
+//! putting it back takes no memory and cannot fail. A Closed definition is put back too. Its slot is
+//! then still one of the kind, which is how a kind that is used up differs from one that never was.
+//!
+//! A `Canvas` is a bitmap, a rectangle and a `Cut` that bound what may change on it, and the place of
+//! the canvas's own 0 0 on the map. The rectangle and the cut are in the coordinates of the map, and
+//! what is drawn is in the canvas's own. A cut holds the pixels that lie in each of up to three regions
+//! and not in a fourth, so that no region has to be made of them in order to draw. A definition gives
+//! each pixel of the canvas its value, also white ones: nothing of what stood there shows through.
+//!
+//! Two laws say what all of this is for. The desk as plain data is a stack of layers: the desktop, the
+//! windows from back to front, each a frame and content layers on it, and the menu bar. The first law:
+//! painting all of it from nothing, back to front, gives each pixel the value of its owner, the one
+//! layer to which the pixel belongs. The second: a call that moves, uncovers or draws pixels, and does
+//! so soundly, keeps a right screen right, where right means that each pixel which waits for no update
+//! has the very value that painting from nothing would give it.
+//!
+//! Modules: `size` has the sizes of windows, `canvas` what is drawn on, `window_def` the trait, `stock`
+//! the slots, `taken` the definition out of its slot, and `laws` the two laws.
+#![tactic(auto)]
+
+mod canvas;
+pub mod laws;
+mod size;
+mod stock;
+mod taken;
+mod window_def;
+
+pub use canvas::{Canvas, Cut};
+pub use size::Size;
+pub use stock::{Returned, Stock, Stocked};
+pub use taken::{Defined, Taken};
+pub use window_def::{Stage, WindowChange, WindowDef, WindowRegions};
+
+#[cfg(test)]
+mod tests;

@@ -1,0 +1,94 @@
+//! A definition on its way: out of its slot, in a window's record, and back.
+ghost use Rattle.std.specs.Prelude.{◌≡◌, true, IfOk, IfErr};
+ghost use Rattle.tb_geom.specs.declared.point.Point.{Point};
+ghost use Rattle.tb_geom.specs.Rects.{IsBoxOf, rect_holds};
+ghost use Rattle.tb_geom.specs.Pixels.{holds};
+ghost use Rattle.bit_blit.specs.Draws.{Draws};
+ghost use Rattle.def_iface.specs.Sizes.{is_size};
+ghost use Rattle.def_iface.specs.Canvases.{canvas_holds, canvas_point, SameFrame};
+ghost use Rattle.def_iface.specs.Meaning.{Loan, IsWithin, IsBegun, is_fitting};
+
+use crate::{Canvas, Size, Stage, WindowChange, WindowDef, WindowRegions};
+use std::alloc::Global;
+use tb_geom::{Rect, Refusal};
+
+/// A definition that was taken out of a stock, and the number of its slot there. The two travel
+/// together until they are put back.
+#[derive(Drop)]
+pub struct Taken {
+    pub(crate) definition: Box<dyn WindowDef>,
+    pub(crate) slot: usize,
+}
+
+/// What was taken, as contracts see it: the definition as a value, and its slot.
+pub trait Defined {
+    ghost loan: { Self → Loan };
+}
+
+impl Defined for Taken {
+    ghost loan = { λ t. record {
+      definition = (WindowDef-box t.definition).meaning t.definition.value;
+      slot = t.slot;
+    } };
+}
+
+impl Taken {
+    /// The exact box of the structure of a window of this size, local to the window.
+    pub fn bounds(&self, size: Size) -> Rect
+        requires { is_size size ≡ true }
+        ensures value { result ≡ (⟦<Taken as Defined>⟧.loan self.now).definition.bounds size }
+        ensures exact { IsBoxOf result ((⟦<Taken as Defined>⟧.loan self.now).definition.structure size) }
+    {
+        self.definition.bounds(size)
+    }
+
+    /// Structure and content of a window of this size, local to it. NoMemory is the only refusal.
+    pub fn regions_for(&self, alloc: Global, size: Size) -> Result<WindowRegions, Refusal>
+        requires { is_fitting (⟦<Taken as Defined>⟧.loan self.now).definition size ≡ true }
+        ensures structure { IfOk result (λ r. (p : Point)
+            → holds r.structure p ≡ (⟦<Taken as Defined>⟧.loan self.now).definition.structure size p) }
+        ensures content { IfOk result (λ r. (p : Point)
+            → holds r.content p ≡ (⟦<Taken as Defined>⟧.loan self.now).definition.content size p) }
+        ensures within { IfOk result (λ r. IsWithin (holds r.content) (holds r.structure)) }
+        ensures boxed { IfOk result (λ r. IsWithin (holds r.structure)
+            (rect_holds ((⟦<Taken as Defined>⟧.loan self.now).definition.bounds size))) }
+        ensures refused { IfErr result (λ e. e ≡ Refusal.NoMemory) }
+    {
+        self.definition.regions_for(alloc, size)
+    }
+
+    /// Makes a Fresh definition Live, and tells it the size.
+    pub fn begin(&mut self, size: Size)
+        requires fresh { (⟦<Taken as Defined>⟧.loan self.old).definition.stage ≡ Stage.Fresh }
+        requires fits { is_fitting (⟦<Taken as Defined>⟧.loan self.old).definition size ≡ true }
+        ensures begun { IsBegun size (⟦<Taken as Defined>⟧.loan self.old).definition
+            (⟦<Taken as Defined>⟧.loan self.new).definition }
+        ensures slot { (⟦<Taken as Defined>⟧.loan self.new).slot ≡ (⟦<Taken as Defined>⟧.loan self.old).slot }
+    {
+        self.definition.begin();
+        let _damage = self.definition.told(WindowChange::Resized(size));
+    }
+
+    /// Gives each pixel of the canvas the value that the definition's picture has there.
+    pub fn draw(&self, canvas: &mut Canvas<'_>)
+        requires live { (⟦<Taken as Defined>⟧.loan self.now).definition.stage ≡ Stage.Live }
+        requires told { is_fitting (⟦<Taken as Defined>⟧.loan self.now).definition
+            (⟦<Taken as Defined>⟧.loan self.now).definition.size ≡ true }
+        ensures same_map { canvas.new.map.ghost_name ≡ canvas.old.map.ghost_name }
+        ensures same_frame { SameFrame canvas.old canvas.new }
+        ensures drawn { Draws (canvas_holds canvas.old)
+            (λ p _. (⟦<Taken as Defined>⟧.loan self.now).definition.picture (canvas_point canvas.old p))
+            canvas.old.map.now canvas.new.map.now }
+    {
+        self.definition.draw(canvas);
+    }
+
+    /// Ends a Live definition's use.
+    pub fn dispose(&mut self)
+        requires { (⟦<Taken as Defined>⟧.loan self.old).definition.stage ≡ Stage.Live }
+        ensures closed { (⟦<Taken as Defined>⟧.loan self.new).definition.stage ≡ Stage.Closed }
+        ensures slot { (⟦<Taken as Defined>⟧.loan self.new).slot ≡ (⟦<Taken as Defined>⟧.loan self.old).slot }
+    {
+        self.definition.dispose();
+    }
+}

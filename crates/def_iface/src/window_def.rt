@@ -1,0 +1,101 @@
+//! The interface of a window's definition.
+ghost use Rattle.std.specs.Prelude.{◌≡◌, true, IfOk, IfErr};
+ghost use Rattle.tb_geom.specs.declared.point.Point.{Point};
+ghost use Rattle.tb_geom.specs.Points.{minus};
+ghost use Rattle.tb_geom.specs.Rects.{IsBoxOf, rect_holds};
+ghost use Rattle.tb_geom.specs.Pixels.{holds};
+ghost use Rattle.bit_blit.specs.Draws.{Draws};
+ghost use Rattle.def_iface.specs.Sizes.{is_size};
+ghost use Rattle.def_iface.specs.Canvases.{canvas_holds, canvas_point, SameFrame};
+ghost use Rattle.def_iface.specs.Meaning.{Definition, SameRegions, IsDamage, IsWithin, is_fitting, size_after};
+
+use crate::{Canvas, Size};
+use scan_region::Region;
+use std::alloc::Global;
+use tb_geom::{Rect, Refusal};
+
+/// Where a definition stands in its life. It is Fresh when it is made, Live from `begin` on, and
+/// Closed for good from `dispose` on.
+#[derive(Clone, Copy, Debug, PartialEq, Eq)]
+pub enum Stage {
+    /// Made, and not used yet.
+    Fresh,
+    /// In use: it can be told of changes, and it draws.
+    Live,
+    /// Used up.
+    Closed,
+}
+
+/// What a definition is told of its window.
+#[derive(Clone, Copy, Debug, PartialEq, Eq)]
+pub enum WindowChange {
+    /// The size of the content rectangle.
+    Resized(Size),
+}
+
+/// The regions of a window, local to it.
+#[derive(Drop)]
+pub struct WindowRegions {
+    /// All pixels of the window.
+    pub structure: Region,
+    /// Those in which the application draws. They lie in the structure.
+    pub content: Region,
+}
+
+/// A window's definition (a WDEF: *Inside Macintosh* I, "The Window Manager", "Defining Your Own
+/// Windows"): its regions and what its frame looks like. All points are local to the window.
+pub trait WindowDef: Drop {
+    ghost meaning: { Self → Definition };
+
+    /// Where the definition stands in its life.
+    fn stage(&self) -> Stage
+        ensures { result ≡ (meaning self.now).stage };
+
+    /// Makes a Fresh definition Live.
+    fn begin(&mut self)
+        requires { (meaning self.old).stage ≡ Stage.Fresh }
+        ensures live { (meaning self.new).stage ≡ Stage.Live }
+        ensures regions { SameRegions (meaning self.old) (meaning self.new) };
+
+    /// Tells a Live definition of a change. The answer is the damage: outside it the pictures before
+    /// and after are equal.
+    fn told(&mut self, change: WindowChange) -> Rect
+        requires live { (meaning self.old).stage ≡ Stage.Live }
+        requires fits { is_fitting (meaning self.old) (size_after change (meaning self.old).size) ≡ true }
+        ensures stays { (meaning self.new).stage ≡ Stage.Live }
+        ensures size { (meaning self.new).size ≡ size_after change (meaning self.old).size }
+        ensures regions { SameRegions (meaning self.old) (meaning self.new) }
+        ensures damage { IsDamage result (meaning self.old) (meaning self.new) };
+
+    /// Structure and content of a window of this size. NoMemory is the only refusal.
+    fn regions_for(&self, alloc: Global, size: Size) -> Result<WindowRegions, Refusal>
+        requires { is_fitting (meaning self.now) size ≡ true }
+        ensures structure { IfOk result (λ r. (p : Point)
+            → holds r.structure p ≡ (meaning self.now).structure size p) }
+        ensures content { IfOk result (λ r. (p : Point)
+            → holds r.content p ≡ (meaning self.now).content size p) }
+        ensures within { IfOk result (λ r. IsWithin (holds r.content) (holds r.structure)) }
+        ensures boxed { IfOk result (λ r. IsWithin (holds r.structure) (rect_holds ((meaning self.now).bounds size))) }
+        ensures refused { IfErr result (λ e. e ≡ Refusal.NoMemory) };
+
+    /// The exact box of the structure of a window of this size. It takes no memory.
+    fn bounds(&self, size: Size) -> Rect
+        requires { is_size size ≡ true }
+        ensures value { result ≡ (meaning self.now).bounds size }
+        ensures exact { IsBoxOf result ((meaning self.now).structure size) };
+
+    /// Gives each pixel of the canvas the value that the picture has there.
+    fn draw(&self, canvas: &mut Canvas<'_>)
+        requires live { (meaning self.now).stage ≡ Stage.Live }
+        requires told { is_fitting (meaning self.now) (meaning self.now).size ≡ true }
+        ensures same_map { canvas.new.map.ghost_name ≡ canvas.old.map.ghost_name }
+        ensures same_frame { SameFrame canvas.old canvas.new }
+        ensures drawn { Draws (canvas_holds canvas.old)
+            (λ p _. (meaning self.now).picture (canvas_point canvas.old p))
+            canvas.old.map.now canvas.new.map.now };
+
+    /// Ends a Live definition's use.
+    fn dispose(&mut self)
+        requires { (meaning self.old).stage ≡ Stage.Live }
+        ensures { (meaning self.new).stage ≡ Stage.Closed };
+}

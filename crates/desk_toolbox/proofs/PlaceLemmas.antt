@@ -1,0 +1,53 @@
+-- Regions of a window at its place.
+use Rattle.std.proofs.Common.{◌≡◌, Bool, true, false, ◌&&◌, Result, Ok, Err, Some, ℤ, pos, negsuc, ◌+ℤ◌, ◌≤ℤ◌, ◌<ℤ◌, arith}
+use Rattle.std.specs.Result.{OnOk, IfErr}
+use Rattle.std.proofs.lemmas.Bool.{and_parts}
+use Rattle.std.proofs.lemmas.Int.{ints}
+use Rattle.tb_geom.specs.declared.point.Point.{Point}
+use Rattle.tb_geom.specs.declared.rect.Rect.{Rect}
+use Rattle.tb_geom.specs.declared.refusal.Refusal.{Refusal}
+use Rattle.tb_geom.specs.declared.refusal.Refusal.TheVariants.{OutOfRange}
+use Rattle.tb_geom.specs.Points.{minus}
+use Rattle.tb_geom.specs.Rects.{rect_holds, between, is_in_range, is_coordinate, in_plane, moved}
+use Rattle.tb_geom.specs.Pixels.{Pixels, holds}
+use Rattle.tb_geom.proofs.RectLemmas.{sides_of}
+use Rattle.def_iface.specs.declared.size.Size.{Size}
+use Rattle.def_iface.specs.Sizes.{is_size}
+use Rattle.def_iface.specs.Meaning.{Definition, is_fitting}
+use Rattle.desk_toolbox.specs.Refused.{is_placed}
+use Rattle.scan_region.specs.Moves.{StaysInRange, LeavesRange}
+
+true-false : (b : Bool) → b ≡ true → b ≡ false → ⊥
+true-false true e f = cc
+true-false false e f = cc
+
+-- a region that stays in range is moved
+pub moved_for_certain : (r : Result (Unit {0}) Refusal) (old new : Pixels) (d : Point) → StaysInRange old d → OnOk r ((p : Point) → holds new p ≡ holds old (minus p d)) → IfErr r (λ e. (e ≡ OutOfRange) × LeavesRange old d) → (p : Point) → holds new p ≡ holds old (minus p d)
+moved_for_certain (Ok x) old new d stays moved refused = moved
+moved_for_certain (Err e) old new d stays moved refused = absurd (true-false _ (stays refused.1.0 refused.1.1) refused.1.2)
+
+one_side : (low high d x : ℤ) → is_coordinate (low +ℤ d) ≡ true → is_coordinate (high +ℤ d) ≡ true → low ≤ℤ x → x <ℤ high → between (negsuc 16383) (x +ℤ d) (pos 16383) ≡ true
+one_side low high d x a b l m = grind (arith, ints)
+
+-- what lies in a rectangle that stays in range stays in range
+pub stays_with_box : (s : Pixels) (box : Rect) (d : Point) → ((p : Point) → holds s p ≡ true → rect_holds box p ≡ true) → is_in_range (moved box d.h d.v) ≡ true → StaysInRange s d
+stays_with_box s box d within fits = λ p e.
+    let sides = sides_of box p (within p e) in
+    let l = and_parts (is_coordinate (box.left +ℤ d.h)) _ fits in
+    let t = and_parts (is_coordinate (box.top +ℤ d.v)) _ l.1 in
+    let r = and_parts (is_coordinate (box.right +ℤ d.h)) _ t.1 in
+    λ i. one_side box.left box.right d.h p.h l.0 r.0 sides.left sides.right i && one_side box.top box.bottom d.v p.v t.0 r.1 sides.top sides.bottom i
+
+-- what it says that a window with this definition may be somewhere
+pub record IsPlaced (d : Definition) (place : Point) (size : Size) : Type 0 where
+  pub size_in : is_size size ≡ true
+  pub fits : is_fitting d size ≡ true
+  pub moved : is_in_range (moved (d.bounds size) place.h place.v) ≡ true
+
+pub placed_parts : (d : Definition) (place : Point) (size : Size) → is_placed (Some d) place size ≡ true → IsPlaced d place size
+unfolding is_placed
+placed_parts d place size e =
+    let a = and_parts (in_plane place) _ e in
+    let b = and_parts (is_size size) _ a.1 in
+    let c = and_parts (is_in_range (d.bounds size)) _ b.1 in
+    record { size_in = b.0; fits = λ i. b.0 i && c.0 i; moved = c.1 }

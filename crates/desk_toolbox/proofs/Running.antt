@@ -1,0 +1,140 @@
+-- Steps and runs keep a right state right.
+use Rattle.std.proofs.Common.{◌≡◌, ℕ, ◌+◌, ◌^◌, ◌<◌, nat_lt, Bool, true, false, ◌==◌, if◌then◌else◌, List, [], ◌∷◌, map, Option, None, Some, Result, Ok, Err, refl, sym, ap, ◌∙◌, subst, arith}
+use Rattle.std.proofs.lemmas.Bool.{and_parts}
+use Rattle.std.proofs.lemmas.Bool.Decides.{nat_tests}
+use Rattle.tb_geom.specs.declared.point.Point.{Point}
+use Rattle.tb_geom.specs.declared.refusal.Refusal.{Refusal}
+use Rattle.def_iface.specs.Meaning.{Definition}
+use Rattle.def_iface.specs.Desk as layers
+use Rattle.def_iface.specs.Owner.{Owner, owner, owner_among, is_content}
+use Rattle.def_iface.specs.Owner.Owner.{Bar}
+use Rattle.def_iface.specs.Scratch.{scratch}
+use Rattle.def_iface.specs.Change as plain
+use Rattle.def_iface.proofs.Owning.{is_other, owner_is_other, own_bit-behind, same_owner-true}
+use Rattle.def_iface.proofs.Changing.{stays_right}
+use Rattle.desk_toolbox.specs.declared.call.Call.{Call}
+use Rattle.desk_toolbox.specs.declared.call.Call.TheVariants.{Window}
+use Rattle.desk_toolbox.specs.declared.call.WindowCall.TheVariants.{New}
+use Rattle.desk_toolbox.specs.declared.call.NewWindow.{NewWindow}
+use Rattle.desk_toolbox.specs.declared.call.Reply.{Reply}
+use Rattle.desk_toolbox.specs.declared.call.Reply.TheVariants as reply
+use Rattle.desk_toolbox.specs.FullDesk.{WindowRecord, FullDesk, FullState, IsRight, AreBelow, AreNumbered, plain_window, plain_desk, plain_state}
+use Rattle.desk_toolbox.specs.Step.{IsStep, IsNewWindow, IsUnchanged, new_record, desk_with, unhighlighted}
+use Rattle.desk_toolbox.specs.Run.{IsRun}
+
+-- ---- a window in front of others
+
+plain_window-unhighlighted : (active : Option ℕ) (w : WindowRecord) → plain_window (unhighlighted active w) ≡ plain_window w
+plain_window-unhighlighted None w = refl
+plain_window-unhighlighted (Some s) w = by_test (w.serial == s)
+  where
+    by_test : (b : Bool) → plain_window (if b then record w { highlighted = false } else w) ≡ plain_window w
+    by_test true = refl
+    by_test false = refl
+
+plain_windows-unhighlighted : (active : Option ℕ) (ws : List WindowRecord) → map plain_window (map (unhighlighted active) ws) ≡ map plain_window ws
+plain_windows-unhighlighted active [] = refl
+plain_windows-unhighlighted active (w ∷ ws) = λ i. plain_window-unhighlighted active w i ∷ plain_windows-unhighlighted active ws i
+
+-- as layers, a desk with a new window has just one window more
+pub plain_desk-with : (w : NewWindow) (serial slot : ℕ) (d : Definition) (desk : FullDesk) (stock : _) → plain_desk (record (desk_with w serial slot d desk) { stock = stock }) ≡ record (plain_desk desk) { windows = plain_window (new_record w serial slot d) ∷ map plain_window desk.windows }
+plain_desk-with w serial slot d desk stock =
+    ap (λ ws. record (plain_desk desk) { windows = plain_window (new_record w serial slot d) ∷ ws }) (by_shown w.shown)
+  where
+    by_shown : (b : Bool) → map plain_window (if b then map (unhighlighted desk.active) desk.windows else desk.windows) ≡ map plain_window desk.windows
+    by_shown true = plain_windows-unhighlighted desk.active desk.windows
+    by_shown false = refl
+
+numbered-more : (next : ℕ) (ws : List WindowRecord) → AreBelow next ws → AreBelow (next + 1) ws
+numbered-more next [] h = tt
+numbered-more next (w ∷ ws) h = let below = h.0 in (omega arith, numbered-more next ws h.1)
+
+numbered-unhighlighted : (next : ℕ) (active : Option ℕ) (ws : List WindowRecord) → AreBelow next ws → AreBelow next (map (unhighlighted active) ws)
+numbered-unhighlighted next active [] h = tt
+numbered-unhighlighted next active (w ∷ ws) h = (same active, numbered-unhighlighted next active ws h.1)
+  where
+    by_test : (b : Bool) → (if b then record w { highlighted = false } else w).serial < next
+    by_test true = h.0
+    by_test false = h.0
+
+    same : (active : Option ℕ) → (unhighlighted active w).serial < next
+    same None = h.0
+    same (Some s) = by_test (w.serial == s)
+
+-- the number of the next window is no window's
+pub next_is_free : (next : ℕ) (ws : List WindowRecord) → AreBelow next ws → layers.window_of next (map plain_window ws) ≡ None
+next_is_free next [] h = refl
+next_is_free next (w ∷ ws) h =
+    let below = h.0 in
+    let other : (w.serial == next) ≡ false = grind (arith, nat_tests) in
+    rw other (next_is_free next ws h.1)
+
+-- ---- a new window is a sound change
+
+not_the_bar : (s : ℕ) (b : Bool) (o : Owner) → is_other s o ≡ true → is_other s (if b then Bar else o) ≡ true
+not_the_bar s true o e = refl
+not_the_bar s false o e = e
+
+new_is_sound : (before : plain.State) (w : layers.Window) → layers.IsDesk before.desk → layers.window_of w.serial before.desk.windows ≡ None → layers.AreParts w.layers → plain.IsSound plain.no_change before (record before.desk { windows = w ∷ before.desk.windows })
+new_is_sound before w desk free parts = record {
+  desk = (free, (parts, desk));
+  kept = λ p on content put drawn there.
+      let after = record before.desk { windows = w ∷ before.desk.windows } in
+      let o = owner after p in
+      let was : owner before.desk p ≡ o = same_owner-true (owner before.desk p) o (and_parts _ _ there).1 in
+      let other : is_other w.serial (owner before.desk p) ≡ true = not_the_bar w.serial (layers.in_bar before.desk p) (owner_among before.desk.windows p) (owner_is_other before.desk.windows p w.serial free) in
+      sym (own_bit-behind before.desk w before.desk.windows p o (subst (λ (x : Owner). is_other w.serial x ≡ true) was other));
+  right = λ p on taken. absurd (cc);
+}
+
+new_stays_right : (w : NewWindow) (serial : ℕ) (before after : FullState) → IsRight before → IsNewWindow w serial before after → IsRight after
+new_stays_right w serial before after right new =
+    let new_window = plain_window (new_record w serial new.loan.slot new.begun) in
+    let below : AreBelow serial before.desk.windows = subst (λ (n : Option ℕ). AreNumbered n before.desk.windows) new.numbered right.numbered in
+    let desk : plain_desk after.desk ≡ record (plain_desk before.desk) { windows = new_window ∷ map plain_window before.desk.windows } =
+    ap plain_desk new.desk ∙ plain_desk-with w serial new.loan.slot new.begun before.desk after.desk.stock in
+    let sound = new_is_sound (plain_state before) new_window right.plain.desk (next_is_free serial before.desk.windows below) (refl, tt) in
+    record {
+      plain = stays_right plain.no_change (plain_state before) (plain_state after) right.plain (subst (plain.IsSound plain.no_change (plain_state before)) (sym desk) sound) new.pixels;
+      numbered = subst (λ (d : FullDesk). AreNumbered d.next d.windows) (sym new.desk) (after_number _ (nat_lt (serial + 1) (2 ^ 64)) (omega arith, by_shown below w.shown));
+    }
+  where
+    after_number : (ws : List WindowRecord) (b : Bool) → AreBelow (serial + 1) ws → AreNumbered (if b then Some (serial + 1) else None) ws
+    after_number ws true h = h
+    after_number ws false h = tt
+
+    by_shown : AreBelow serial before.desk.windows → (b : Bool) → AreBelow (serial + 1) (if b then map (unhighlighted before.desk.active) before.desk.windows else before.desk.windows)
+    by_shown below true = numbered-unhighlighted _ before.desk.active before.desk.windows (numbered-more serial before.desk.windows below)
+    by_shown below false = numbered-more serial before.desk.windows below
+
+-- ---- steps and runs
+
+unchanged_stays_right : (before after : FullState) → IsRight before → IsUnchanged before after → IsRight after
+unchanged_stays_right before after right same =
+    let desk = ap plain_desk same.desk in
+    let on_before = λ (p : Point) (on : layers.on_screen (plain_desk after.desk) p ≡ true). subst (λ (d : layers.Desk). layers.on_screen d p ≡ true) desk on in
+    record {
+      plain = record {
+        desk = subst layers.IsDesk (sym desk) right.plain.desk;
+        right = λ p on fresh.
+            let there = on_before p on in
+            same.image p there
+            ∙ right.plain.right p there (sym (same.stale p there) ∙ fresh)
+            ∙ ap (λ (d : layers.Desk). scratch d p) (sym desk);
+        content = λ p on old.
+            let there = on_before p on in
+            subst (λ (d : layers.Desk). is_content (owner d p) ≡ true) (sym desk) (right.plain.content p there (sym (same.stale p there) ∙ old));
+      };
+      numbered = subst (λ (d : FullDesk). AreNumbered d.next d.windows) (sym same.desk) right.numbered;
+    }
+
+pub step_stays_right : (call : Call) (answer : Result Reply Refusal) (before after : FullState) → IsRight before → IsStep call answer before after → IsRight after
+step_stays_right (Window (New w)) (Ok (reply.Window serial)) before after right step = new_stays_right w serial before after right step.1
+step_stays_right call (Err e) before after right step = unchanged_stays_right before after right step.1
+
+pub run_stays_right : (first last : FullState) (calls : List Call) (answers : List (Result Reply Refusal)) → IsRight first → IsRun first calls answers last → IsRight last
+run_stays_right first last [] [] right run = subst IsRight (sym run) right
+run_stays_right first last [] (answer ∷ answers) right run = absurd run
+run_stays_right first last (call ∷ calls) [] right run = absurd run
+run_stays_right first last (call ∷ calls) (answer ∷ answers) right run =
+    run_stays_right run.0 last calls answers (step_stays_right call answer first run.0 right run.1) run.2

@@ -1,0 +1,43 @@
+use Rattle.desk_toolbox.proofs.NewWindowLemmas as adding
+use Rattle.desk_toolbox.proofs.SlotLemmas as slots
+use Rattle.desk_toolbox.proofs.SameDeskLemmas as keeping
+use Rattle.desk_toolbox.proofs.toolbox.Toolbox.new_window.Goals as goal
+
+pub add_window-requires-clause-fits : goal.add_window-requires-clause-fits
+add_window-requires-clause-fits g c =
+    adding.unrefused_fits c.args.window.now _ c.args.self.now.windows.len c.args.self.now.next c.in-Ok-plan_window.ensures.ok.0
+
+pub put_back-requires : goal.put_back-requires
+put_back-requires g c = slots.taken_is_left _ _ _ _ c.in-Ok.ensures.taken
+
+pub returns-in-Err-plan_window-clause-whole : goal.returns-in-Err-plan_window-clause-whole
+returns-in-Err-plan_window-clause-whole g c =
+    keeping.stays_whole _ _ _ _ _ c.plan_window.ensures.same (slots.put_back_is_old _ _ _ _ c.in-Ok.ensures.taken _ c.put_back.ensures) c.requires
+
+pub returns-in-Err-plan_window-clause-step : goal.returns-in-Err-plan_window-clause-step
+returns-in-Err-plan_window-clause-step g c =
+    adding.is_not_made _ c.args.window.now _ _ _ _ _ _ _ c.requires c.in-Ok.ensures.taken c.in-Err-plan_window.ensures.err c.plan_window.ensures.same c.put_back.ensures
+
+pub returns-in-Ok-plan_window-clause-whole : goal.returns-in-Ok-plan_window-clause-whole
+returns-in-Ok-plan_window-clause-whole g c =
+    adding.is_whole _ _ _ _ _ _ _ _ _ _ (record {
+      whole = c.requires;
+      same = c.plan_window.ensures.same;
+      unrefused_is = c.in-Ok-plan_window.ensures.ok.0;
+      front = c.in-Ok-plan_window.ensures.ok.1.area;
+      number = c.add_window.ensures.number;
+      added = c.add_window.ensures.added;
+      took = c.in-Ok.ensures.taken;
+    })
+
+pub returns-in-Ok-plan_window-clause-step : goal.returns-in-Ok-plan_window-clause-step
+returns-in-Ok-plan_window-clause-step g c =
+    adding.is_made _ c.args.window.now _ _ _ _ _ _ _ _ (record {
+      whole = c.requires;
+      same = c.plan_window.ensures.same;
+      unrefused_is = c.in-Ok-plan_window.ensures.ok.0;
+      front = c.in-Ok-plan_window.ensures.ok.1.area;
+      number = c.add_window.ensures.number;
+      added = c.add_window.ensures.added;
+      took = c.in-Ok.ensures.taken;
+    })

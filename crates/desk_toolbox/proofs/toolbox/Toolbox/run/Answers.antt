@@ -1,0 +1,15 @@
+use Rattle.std.proofs.Common.{rules, arith}
+use Rattle.desk_toolbox.proofs.Running.{run_stays_right}
+use Rattle.desk_toolbox.proofs.RunLemmas.{run_step}
+use Rattle.desk_toolbox.proofs.toolbox.Toolbox.run.Goals as goal
+
+pub loop-call-preserved : goal.loop-call-preserved
+loop-call-preserved g c = record {
+  whole = c.call-answer.ensures.whole;
+  run = run_step _ _ _ c.args.calls.now c.loop-call.answers.items _ c.loop-call.call-index _ c.call-answer.result (search rules) c.loop-call.invariant.run (omega arith) c.call-answer.ensures.step;
+  room = search rules;
+  made = search rules;
+}
+
+pub returns-clause-right : goal.returns-clause-right
+returns-clause-right g c right = run_stays_right _ _ _ _ right c.loop-call.invariant.run

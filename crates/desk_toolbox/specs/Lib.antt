@@ -1,0 +1,10 @@
+-- What the contracts speak of: the whole desk, why a call refuses, one step, and a run of steps.
+pub mod FullDesk
+pub mod Records
+pub mod Refused
+pub mod Whole
+pub mod Step
+pub mod Planned
+pub mod Begin
+pub mod Run
+pub mod Closing

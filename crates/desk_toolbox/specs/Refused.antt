@@ -1,0 +1,65 @@
+-- Why a call refuses: the first refusal of the written order whose condition holds.
+use Rattle.std.specs.Prelude.{ℕ, Bool, true, not, ◌&&◌, ◌||◌, if◌then◌else◌, List, [], ◌∷◌, ◌++◌, length, Option, None, Some, is_none, nat_le, nat_lt}
+use Rattle.tb_geom.specs.declared.point.Point.{Point}
+use Rattle.tb_geom.specs.declared.rect.Rect.{Rect}
+use Rattle.tb_geom.specs.declared.refusal.Refusal.{Refusal}
+use Rattle.tb_geom.specs.declared.refusal.Refusal.TheVariants.{NoSuchName, OutOfRange, TooLong, TooMany, NoDefinition}
+use Rattle.tb_geom.specs.Rects.{in_plane, is_in_range, moved}
+use Rattle.def_iface.specs.declared.size.Size.{Size}
+use Rattle.def_iface.specs.Sizes.{is_size, rect_of}
+use Rattle.def_iface.specs.Meaning.{Definition}
+use Rattle.def_iface.specs.Stocked.{has_kind, offered}
+use Rattle.desk_toolbox.specs.declared.call.Call.{Call}
+use Rattle.desk_toolbox.specs.declared.call.Call.TheVariants.{Window}
+use Rattle.desk_toolbox.specs.declared.call.WindowCall.TheVariants.{New}
+use Rattle.desk_toolbox.specs.declared.call.NewWindow.{NewWindow}
+use Rattle.desk_toolbox.specs.FullDesk.{FullDesk}
+
+abbrev pub first_refusal : List (Bool × Refusal) → Option Refusal
+first_refusal [] = None
+first_refusal (c ∷ cs) = if c.0 then Some c.1 else first_refusal cs
+
+-- the rectangle by which a window's place and size are judged: the box of its structure, and without a definition
+-- that of its size
+abbrev pub judged_rect : Option Definition → Size → Rect
+judged_rect None size = rect_of size
+judged_rect (Some d) size = d.bounds size
+
+-- a window may be there: its place is a point and its size lies in the range of sizes, and the rectangle that is judged
+-- lies in the range of coordinates, in the window's own and in those of the screen
+unfoldable pub is_placed : Option Definition → Point → Size → Bool
+is_placed d place size =
+    in_plane place
+    && (is_size size && (is_in_range (judged_rect d size) && is_in_range (moved (judged_rect d size) place.h place.v)))
+
+-- as many windows as there may be
+abbrev pub most_windows : ℕ
+most_windows = 1
+
+-- the longest text
+abbrev pub longest_text : ℕ
+longest_text = 255
+
+-- no window can be added to so many: there are as many as there may be, or no number is left for it
+abbrev pub is_full : ℕ → Option ℕ → Bool
+is_full count next = nat_le most_windows count || is_none next
+
+-- why a window may be refused whatever the stock holds: it may not be where it is to be, its title is too long, or
+-- there are too many
+abbrev pub judged_refusals : NewWindow → Bool → ℕ → Option ℕ → List (Bool × Refusal)
+judged_refusals w placed count next =
+    (not placed, OutOfRange) ∷ (nat_lt longest_text (length w.title.now), TooLong) ∷ (is_full count next, TooMany) ∷ []
+
+abbrev pub new_window_refusals : NewWindow → FullDesk → List (Bool × Refusal)
+new_window_refusals w desk =
+    (not (has_kind w.kind.now desk.stock), NoSuchName)
+    ∷ judged_refusals w (is_placed (offered w.kind.now desk.stock) w.place w.size) (length desk.windows) desk.next
+    ++ (is_none (offered w.kind.now desk.stock), NoDefinition) ∷ []
+
+-- why the call refuses, want of memory aside
+abbrev pub refusal_of : Call → FullDesk → Option Refusal
+refusal_of (Window (New w)) desk = first_refusal (new_window_refusals w desk)
+
+-- the call may ask for memory
+abbrev pub may_grow : Call → Bool
+may_grow (Window (New w)) = true

@@ -1,0 +1,86 @@
+-- One step: what a call leaves, and what it answers.
+use Rattle.std.specs.Prelude.{◌≡◌, ◌⊎◌, ℕ, ◌+◌, ◌^◌, nat_lt, true, false, if◌then◌else◌, ◌==◌, ◌∷◌, map, Option, None, Some, Result, Ok, Err}
+use Rattle.tb_geom.specs.declared.point.Point.{Point}
+use Rattle.tb_geom.specs.declared.refusal.Refusal.{Refusal}
+use Rattle.tb_geom.specs.declared.refusal.Refusal.TheVariants.{NoMemory}
+use Rattle.def_iface.specs.Meaning.{Definition, Loan, IsBegun}
+use Rattle.def_iface.specs.Stocked.{IsTaken}
+use Rattle.def_iface.specs.Desk.{on_screen}
+use Rattle.def_iface.specs.Change.{no_change, IsChanged}
+use Rattle.desk_toolbox.specs.declared.call.Call.{Call}
+use Rattle.desk_toolbox.specs.declared.call.Call.TheVariants.{Window}
+use Rattle.desk_toolbox.specs.declared.call.WindowCall.TheVariants.{New}
+use Rattle.desk_toolbox.specs.declared.call.NewWindow.{NewWindow}
+use Rattle.desk_toolbox.specs.declared.call.Reply.{Reply}
+use Rattle.desk_toolbox.specs.declared.call.Reply.TheVariants as reply
+use Rattle.desk_toolbox.specs.FullDesk.{WindowRecord, FullDesk, FullState, plain_desk, plain_state}
+use Rattle.desk_toolbox.specs.Refused.{refusal_of, may_grow}
+
+-- the record that a new window gets; a visible one is highlighted
+abbrev pub new_record : NewWindow → ℕ → ℕ → Definition → WindowRecord
+new_record w serial slot d = record {
+  serial = serial;
+  place = w.place;
+  size = w.size;
+  shown = w.shown;
+  highlighted = w.shown;
+  title = w.title.now;
+  go_away = w.go_away;
+  definition = d;
+  slot = slot;
+}
+
+-- the window loses its highlighting if it is the one of this serial
+abbrev pub unhighlighted : Option ℕ → WindowRecord → WindowRecord
+unhighlighted None w = w
+unhighlighted (Some s) w = if w.serial == s then record w { highlighted = false } else w
+
+-- the number after this one, of 64 bits
+abbrev pub number_after : ℕ → Option ℕ
+number_after n = if nat_lt (n + 1) (2 ^ 64) then Some (n + 1) else None
+
+-- a new window in front of all: a visible one becomes active, in place of the window that was
+abbrev pub desk_with : NewWindow → ℕ → ℕ → Definition → FullDesk → FullDesk
+desk_with w serial slot d desk = record desk {
+  windows = new_record w serial slot d ∷ (if w.shown then map (unhighlighted desk.active) desk.windows else desk.windows);
+  active = if w.shown then Some serial else desk.active;
+  next = number_after serial;
+}
+
+-- a new window was made, of this number
+pub record IsNewWindow (w : NewWindow) (serial : ℕ) (before after : FullState) : Type 0 where
+  pub loan : Loan
+  pub begun : Definition
+  pub numbered : before.desk.next ≡ Some serial
+  pub taken : IsTaken w.kind.now loan before.desk.stock after.desk.stock
+  pub live : IsBegun w.size loan.definition begun
+  pub desk : after.desk ≡ record (desk_with w serial loan.slot begun before.desk) { stock = after.desk.stock }
+  pub pixels : IsChanged no_change (plain_state before) (plain_state after)
+
+-- what a call that was done leaves, and the value that it answers
+abbrev pub IsDone : Call → Reply → FullState → FullState → Type 0
+IsDone (Window (New w)) (reply.Window serial) before after = IsNewWindow w serial before after
+
+-- nothing changed
+pub record IsUnchanged (before after : FullState) : Type 0 where
+  pub desk : after.desk ≡ before.desk
+  pub stale : (p : Point) → on_screen (plain_desk before.desk) p ≡ true → after.stale p ≡ before.stale p
+  pub image : (p : Point) → on_screen (plain_desk before.desk) p ≡ true → after.image p ≡ before.image p
+
+-- the call is refused for this: the first refusal of the written order whose condition holds, or, where there is none
+-- and the call may grow, want of memory
+abbrev pub IsRefused : Call → Refusal → FullDesk → Type 0
+IsRefused call e desk = (refusal_of call desk ≡ Some e) ⊎ ((refusal_of call desk ≡ None) × ((may_grow call ≡ true) × (e ≡ NoMemory)))
+
+-- one step: a call that nothing refuses is done, and a refused one changes nothing
+abbrev pub IsStep : Call → Result Reply Refusal → FullState → FullState → Type 0
+IsStep call (Ok reply) before after = (refusal_of call before.desk ≡ None) × IsDone call reply before after
+IsStep call (Err e) before after = IsRefused call e before.desk × IsUnchanged before after
+
+-- the call for a new window was done, and answered this number
+abbrev pub IsMade : NewWindow → ℕ → FullState → FullState → Type 0
+IsMade w serial before after = IsStep (Window (New w)) (Ok (reply.Window serial)) before after
+
+-- the call for a new window was refused
+abbrev pub IsNotMade : NewWindow → Refusal → FullState → FullState → Type 0
+IsNotMade w e before after = IsStep (Window (New w)) (Err e) before after

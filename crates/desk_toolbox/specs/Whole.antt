@@ -1,0 +1,92 @@
+-- What holds of a Toolbox and its stock between calls.
+use Rattle.std.specs.Prelude.{◌≡◌, ◌⊎◌, ℕ, ◌≤◌, Bool, true, false, ◌==◌, ◌&&◌, ◌||◌, not, List, [], ◌∷◌, length, map, None, Some, All, AllPairs, Contains, slice_get, ℤ, pos, int_le, int_lt}
+use Rattle.std.specs.Ordering.{int_eq}
+use Rattle.tb_geom.specs.declared.point.Point.{Point}
+use Rattle.tb_geom.specs.Pixels.{Pixels, holds}
+use Rattle.def_iface.specs.declared.taken.Taken.{Taken}
+use Rattle.def_iface.specs.declared.window_def.Stage.TheVariants.{Live}
+use Rattle.def_iface.specs.Meaning.{Loan, is_fitting}
+use Rattle.def_iface.specs.Stocked.{SlotView, IsFull, is_left}
+use Rattle.def_iface.specs.Desk.{Desk, IsDesk, on_screen, in_bar}
+use Rattle.def_iface.specs.Owner.{Owner, owner, own_bit, same_owner, is_content}
+use Rattle.def_iface.specs.Owner.Owner.{Frame, Content}
+use Rattle.desk_toolbox.specs.declared.toolbox.Toolbox.{Toolbox}
+use Rattle.desk_toolbox.specs.declared.toolbox.Area.{Area}
+use Rattle.desk_toolbox.specs.FullDesk.{WindowRecord, FullDesk, FullState, AreNumbered, plain_desk}
+use Rattle.desk_toolbox.specs.Records.{desk_of, state_of}
+use Rattle.desk_toolbox.specs.Refused.{most_windows}
+
+-- the owner is a layer of this window's content
+abbrev pub is_content_of : ℕ → Owner → Bool
+is_content_of s (Content t part) = t == s
+is_content_of s _ = false
+
+-- the regions of a window: what of the screen its content owns, what of that is in its update set, and what its frame owns
+pub record IsArea (desk : Desk) (w : WindowRecord) (a : Area) : Type 0 where
+  pub visible : (p : Point) → holds a.visible p ≡ (on_screen desk p && is_content_of w.serial (owner desk p))
+  pub update : (p : Point) → holds a.update p ≡ true → holds a.visible p ≡ true
+  pub frame : (p : Point) → holds a.frame p ≡ (on_screen desk p && same_owner (owner desk p) (Frame w.serial))
+
+-- each window has its area
+abbrev pub AreAreas : Desk → List WindowRecord → List Area → Type 0
+AreAreas desk [] [] = Unit {0}
+AreAreas desk (w ∷ ws) (a ∷ areas) = IsArea desk w a × AreAreas desk ws areas
+AreAreas desk [] (a ∷ areas) = ⊥
+AreAreas desk (w ∷ ws) [] = ⊥
+
+-- the window's definition is live, and was told the window's size, which fits it
+pub record IsSettled (w : WindowRecord) : Type 0 where
+  pub live : w.definition.stage ≡ Live
+  pub told : w.definition.size ≡ w.size
+  pub fits : is_fitting w.definition w.size ≡ true
+
+-- a slot has its definition back, or belongs to one of these windows and is empty
+abbrev pub IsSlot : List WindowRecord → List SlotView → ℕ → Type 0
+IsSlot windows slots k = (s : SlotView) → slice_get slots k ≡ Some s → IsFull s ⊎ ((s.held ≡ None) × Contains (map (λ w. w.slot) windows) k)
+
+-- the empty slots of the stock are those of the windows' definitions, each of another, and the definitions in the
+-- other slots are fresh or closed
+pub record IsStocked (windows : List WindowRecord) (slots : List SlotView) : Type 0 where
+  pub left : All (λ w. is_left w.slot slots ≡ true) windows
+  pub apart : AllPairs (λ v w. v.slot ≡ w.slot → ⊥) windows
+  pub others : (k : ℕ) → IsSlot windows slots k
+
+-- whether a screen may be so wide or so high
+abbrev pub is_screen_side : ℤ → Bool
+is_screen_side n = int_le (pos 8) n && int_le n (pos 1024)
+
+-- whether a menu bar may have so many rows
+abbrev pub is_bar : ℤ → Bool
+is_bar bar = int_eq bar (pos 0) || int_eq bar (pos 20)
+
+-- whether a screen may have this size and this many rows of menu bar
+abbrev pub is_screen : ℤ → ℤ → ℤ → Bool
+is_screen width height bar =
+    is_screen_side width && (is_screen_side height && (is_bar bar && int_lt bar height))
+
+-- the facts on the desk alone
+pub record IsSound (desk : FullDesk) : Type 0 where
+  pub screen : is_screen desk.width desk.height desk.bar ≡ true
+  pub distinct : IsDesk (plain_desk desk)
+  pub numbered : AreNumbered desk.next desk.windows
+  pub few : length desk.windows ≤ most_windows
+  pub settled : All IsSettled desk.windows
+  pub stocked : IsStocked desk.windows desk.stock
+
+-- the gray region is the screen without the menu bar
+abbrev pub IsGray : Desk → Pixels → Type 0
+IsGray desk gray = (p : Point) → holds gray p ≡ (on_screen desk p && not (in_bar desk p))
+
+-- frames, menu bar and desktop show what they are to show
+abbrev pub IsPlain : FullState → Type 0
+IsPlain s = let desk = plain_desk s.desk in
+    (p : Point) → on_screen desk p ≡ true → is_content (owner desk p) ≡ false → s.image p ≡ own_bit desk (owner desk p) p
+
+-- `loan` says what a definition that was taken means
+module _ {V : Type 0} {H : V → Type 0} (loan : Taken V H → Loan) where
+  -- a Toolbox and the slots of its stock, between calls
+  pub record IsWhole (t : Toolbox V H) (slots : List SlotView) : Type 0 where
+    pub sound : IsSound (desk_of loan t slots)
+    pub gray : IsGray (plain_desk (desk_of loan t slots)) t.gray
+    pub areas : AreAreas (plain_desk (desk_of loan t slots)) (desk_of loan t slots).windows t.areas.items
+    pub plain : IsPlain (state_of loan t slots)

@@ -1,0 +1,70 @@
+//! Where a window may be.
+ghost use Rattle.std.specs.Prelude.{◌≡◌, ◌&&◌, true, Some, None, IfOk, IfErr};
+ghost use Rattle.tb_geom.specs.declared.point.Point.{Point};
+ghost use Rattle.tb_geom.specs.Points.{minus};
+ghost use Rattle.tb_geom.specs.Pixels.{holds};
+ghost use Rattle.scan_region.specs.Moves.{StaysInRange};
+ghost use Rattle.desk_toolbox.specs.Planned.{IsRegionsAt};
+ghost use Rattle.tb_geom.specs.Rects.{is_in_range, moved};
+ghost use Rattle.desk_toolbox.specs.Refused.{is_placed};
+
+use crate::NewWindow;
+use def_iface::{Defined, Taken, WindowRegions};
+use scan_region::Region;
+use std::alloc::Global;
+use tb_geom::{Point, Rect, Refusal};
+
+/// Whether the rectangle, local to a window, and the one moved to the window's place have all sides
+/// in the range of coordinates.
+fn stays_in_range(judged: Rect, place: Point) -> bool
+    ensures { result ≡ (is_in_range judged && is_in_range (moved judged place.h place.v)) }
+{
+    judged.is_in_range() && judged.offset(place.h, place.v).is_ok()
+}
+
+/// Whether the window may be where it is to be, with this definition.
+#[tactic(auto, unfolding(crate::specs::Refused::is_placed))]
+pub fn is_placed_with(window: &NewWindow<'_>, taken: &Taken) -> bool
+    ensures { result ≡ is_placed (Some (⟦<Taken as Defined>⟧.loan taken.now).definition)
+        window.now.place window.now.size }
+{
+    let place = window.place;
+    let size = window.size;
+    place.is_in_range() && (size.is_in_range() && stays_in_range(taken.bounds(size), place))
+}
+
+/// Structure and content of the window with this definition, on the screen. NoMemory is the only
+/// refusal.
+pub fn regions_of(
+    alloc: Global,
+    window: &NewWindow<'_>,
+    taken: &Taken,
+) -> Result<WindowRegions, Refusal>
+    requires { is_placed (Some (⟦<Taken as Defined>⟧.loan taken.now).definition)
+        window.now.place window.now.size ≡ true }
+    ensures regions { IfOk result (IsRegionsAt window.now (⟦<Taken as Defined>⟧.loan taken.now).definition) }
+    ensures refused { IfErr result (λ e. e ≡ Refusal.NoMemory) }
+{
+    let mut regions = taken.regions_for(alloc, window.size)?;
+    move_to(&mut regions.structure, window.place);
+    move_to(&mut regions.content, window.place);
+    Ok(regions)
+}
+
+/// Moves a region from a window's own coordinates to those of the screen.
+fn move_to(region: &mut Region, place: Point)
+    requires { StaysInRange region.old place }
+    ensures { (p : Point) → holds region.new p ≡ holds region.old (minus p place) }
+{
+    let _moved = region.offset(place.h, place.v);
+}
+
+/// Whether the window may be where it is to be, by place and size alone.
+#[tactic(auto, unfolding(crate::specs::Refused::is_placed))]
+pub fn is_placed_alone(window: &NewWindow<'_>) -> bool
+    ensures { result ≡ is_placed None window.now.place window.now.size }
+{
+    let place = window.place;
+    let size = window.size;
+    place.is_in_range() && (size.is_in_range() && stays_in_range(size.rect(), place))
+}

@@ -1,0 +1,59 @@
+//! Calls, one by one and in a row.
+ghost use Rattle.std.specs.Prelude.{◌≡◌, IfOk, IfErr};
+ghost use Rattle.def_iface.specs.Desk.{on_screen};
+ghost use Rattle.desk_toolbox.specs.FullDesk.{IsRight};
+ghost use Rattle.desk_toolbox.specs.Records.{state_of};
+ghost use Rattle.desk_toolbox.specs.Step.{IsStep, IsUnchanged};
+ghost use Rattle.desk_toolbox.specs.Run.{IsRun};
+ghost use Rattle.desk_toolbox.specs.Whole.{IsWhole};
+
+use crate::{Call, Reply, Toolbox, WindowCall};
+use def_iface::{Defined, Stock, Stocked, Taken};
+use tb_geom::Refusal;
+
+impl Toolbox {
+    /// Makes one call, and gives its answer. A refused call changes nothing; which refusal comes
+    /// first where several would do stands with the call.
+    pub fn call(&mut self, call: &Call<'_>, stock: &mut Stock) -> Result<Reply, Refusal>
+        requires { IsWhole ⟦<Taken as Defined>⟧.loan self.old (⟦<Stock as Stocked>⟧.slots stock.old) }
+        ensures whole { IsWhole ⟦<Taken as Defined>⟧.loan self.new (⟦<Stock as Stocked>⟧.slots stock.new) }
+        ensures step { IsStep call.now result
+            (state_of ⟦<Taken as Defined>⟧.loan self.old (⟦<Stock as Stocked>⟧.slots stock.old))
+            (state_of ⟦<Taken as Defined>⟧.loan self.new (⟦<Stock as Stocked>⟧.slots stock.new)) }
+        ensures right { IsRight (state_of ⟦<Taken as Defined>⟧.loan self.old (⟦<Stock as Stocked>⟧.slots stock.old))
+            → IsRight (state_of ⟦<Taken as Defined>⟧.loan self.new (⟦<Stock as Stocked>⟧.slots stock.new)) }
+    {
+        match call {
+            Call::Window(WindowCall::New(window)) => {
+                Ok(Reply::Window(self.new_window(window, stock)?))
+            }
+        }
+    }
+
+    /// Makes the calls one after another, and gives their answers in the same order. Memory for the
+    /// answers is taken first: refused, the answer is NoMemory and no call was made.
+    pub fn run(
+        &mut self,
+        calls: &[Call<'_>],
+        stock: &mut Stock,
+    ) -> Result<Vec<Result<Reply, Refusal>>, Refusal>
+        requires { IsWhole ⟦<Taken as Defined>⟧.loan self.old (⟦<Stock as Stocked>⟧.slots stock.old) }
+        ensures whole { IsWhole ⟦<Taken as Defined>⟧.loan self.new (⟦<Stock as Stocked>⟧.slots stock.new) }
+        ensures run { IfOk result (λ answers. IsRun
+            (state_of ⟦<Taken as Defined>⟧.loan self.old (⟦<Stock as Stocked>⟧.slots stock.old))
+            calls.now answers.items
+            (state_of ⟦<Taken as Defined>⟧.loan self.new (⟦<Stock as Stocked>⟧.slots stock.new))) }
+        ensures refused { IfErr result (λ e. (e ≡ Refusal.NoMemory) × IsUnchanged
+            (state_of ⟦<Taken as Defined>⟧.loan self.old (⟦<Stock as Stocked>⟧.slots stock.old))
+            (state_of ⟦<Taken as Defined>⟧.loan self.new (⟦<Stock as Stocked>⟧.slots stock.new))) }
+        ensures right { IsRight (state_of ⟦<Taken as Defined>⟧.loan self.old (⟦<Stock as Stocked>⟧.slots stock.old))
+            → IsRight (state_of ⟦<Taken as Defined>⟧.loan self.new (⟦<Stock as Stocked>⟧.slots stock.new)) }
+    {
+        let mut answers = Vec::with_capacity(self.alloc, calls.len())?;
+        for call in calls {
+            let answer = self.call(call, stock);
+            answers.push(answer).unwrap();
+        }
+        Ok(answers)
+    }
+}

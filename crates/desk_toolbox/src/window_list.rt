@@ -1,0 +1,48 @@
+//! The records of windows.
+
+ghost use Rattle.std.specs.Prelude.{◌≡◌};
+ghost use Rattle.desk_toolbox.specs.Records.{record_of};
+ghost use Rattle.desk_toolbox.specs.Step.{new_record};
+
+use crate::NewWindow;
+use arrayvec::ArrayVec;
+use def_iface::{Defined, Size, Taken};
+use tb_geom::Point;
+
+/// A window's record.
+#[derive(Drop)]
+pub struct Window {
+    pub(crate) serial: u64,
+    pub(crate) place: Point,
+    pub(crate) size: Size,
+    pub(crate) shown: bool,
+    pub(crate) highlighted: bool,
+    pub(crate) go_away: bool,
+    pub(crate) title: ArrayVec<u8, 255>,
+    pub(crate) taken: Taken,
+}
+
+impl Window {
+    /// The record of a new window, with its definition. A visible one is highlighted.
+    pub(crate) fn new(
+        window: &NewWindow<'_>,
+        serial: u64,
+        title: ArrayVec<u8, 255>,
+        taken: Taken,
+    ) -> Window
+        requires { title.items ≡ window.now.title.now }
+        ensures { record_of ⟦<Taken as Defined>⟧.loan result ≡ new_record window.now serial
+            (⟦<Taken as Defined>⟧.loan taken).slot (⟦<Taken as Defined>⟧.loan taken).definition }
+    {
+        Window {
+            serial,
+            place: window.place,
+            size: window.size,
+            shown: window.shown,
+            highlighted: window.shown,
+            go_away: window.go_away,
+            title,
+            taken,
+        }
+    }
+}
