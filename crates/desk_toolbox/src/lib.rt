@@ -31,3 +31,6 @@ mod window_mgr;
 pub use call::{Call, NewWindow, Reply, WindowCall};
 pub use toolbox::{Area, Toolbox};
 pub use window_list::Window;
+
+#[cfg(test)]
+mod tests;
