@@ -1,7 +1,9 @@
 -- The first slot that passes a test, and what it holds.
-use Rattle.std.proofs.Common.{◌≡◌, ℕ, ◌+◌, ◌<◌, Bool, true, false, not, ltb, cond, List, [], ◌∷◌, length, get_or, map, set, Option, Some, None, refl, sym, ap, ◌∙◌, subst, arith, inl, inr, position}
+use Rattle.std.proofs.Common.{◌≡◌, ℕ, ◌+◌, ◌<◌, Bool, true, false, not, ltb, cond, List, [], ◌∷◌, ◌++◌, length, get_or, map, set, Option, Some, None, refl, sym, ap, ◌∙◌, subst, arith, inl, inr, position}
 use Rattle.std.specs.Option.{option_map, option_map_or, is_none, IfSome, IsSomeAnd}
 use Rattle.std.specs.List.{position_or_len, slice_get}
+use Rattle.std.specs.Prelude.{All}
+use Rattle.std.proofs.lemmas.List.Elements.{All-push}
 use Rattle.std.proofs.lemmas.Bool.{lt-ltb, and_parts, false≢true}
 use Rattle.std.proofs.lemmas.Bool.Decides.{Decides-eqb}
 use Rattle.std.proofs.lemmas.Option.{get_or_from_slice_get, slice_get-get_or, slice_get_within, slice_get-map, slice_get_cases}
@@ -9,7 +11,7 @@ use Rattle.std.proofs.lemmas.Slice.Eq.{slice_eq-Decides}
 use Rattle.def_iface.specs.declared.window_def.Stage.{Stage}
 use Rattle.def_iface.specs.declared.window_def.Stage.TheVariants.{Fresh, Live, Closed}
 use Rattle.def_iface.specs.Meaning.{Definition, Loan}
-use Rattle.def_iface.specs.Stocked.{SlotView, IsTaken, is_kind, is_fresh, holds_fresh, offers, is_left}
+use Rattle.def_iface.specs.Stocked.{SlotView, IsFull, IsTaken, is_kind, is_fresh, holds_fresh, offers, is_left}
 use Rattle.std.proofs.lemmas.List.{length-map, length-set, get_or-set_same, map-set}
 use Rattle.std.proofs.lemmas.List.Sums.{position_or_len_is}
 
@@ -109,3 +111,7 @@ taken_is_left kind loan old new taken =
     let there : slice_get (set old loan.slot emptied) loan.slot ≡ Some emptied =
     slice_get-get_or (set old loan.slot emptied) loan.slot emptied (omega arith) ∙ ap Some (get_or-set_same old loan.slot emptied emptied within) in
     rw (taken.left, there) refl
+
+-- a slot was added with a fresh definition in it
+pub full_added : (old new : List SlotView) (kind : List ℕ) (d : Definition) → d.stage ≡ Fresh → new ≡ old ++ record { kind = kind; held = Some d } ∷ [] → All IsFull old → All IsFull new
+full_added old new kind d fresh added all = subst (All IsFull) (sym added) (All-push IsFull old (record { kind = kind; held = Some d }) all (d, refl, inl fresh))

@@ -1,7 +1,7 @@
 //! Slots of definitions that the program made: taken for use, and put back.
-ghost use Rattle.std.specs.Prelude.{◌≡◌, Some, None, IfOk, IfErr, OnOk, OnErr, IfSome, IsSome, IsSomeAnd, true, List, slice_get, ◌++◌, ◌∷◌, []};
+ghost use Rattle.std.specs.Prelude.{◌≡◌, Some, None, IfOk, IfErr, OnOk, OnErr, IfSome, IsSome, IsSomeAnd, true, List, slice_get, All, ◌++◌, ◌∷◌, []};
 ghost use Rattle.def_iface.specs.Meaning.{Definition};
-ghost use Rattle.def_iface.specs.Stocked.{SlotView, offers, is_kind, has_kind, first_offer, is_left, IsTaken, IsNotTaken, IsPutBack};
+ghost use Rattle.def_iface.specs.Stocked.{SlotView, offers, is_kind, has_kind, first_offer, is_left, IsFull, IsTaken, IsNotTaken, IsPutBack};
 ghost use Rattle.def_iface.specs.Slots.{slot_view, slot_views};
 
 use crate::{Defined, Stage, Taken, WindowDef};
@@ -72,7 +72,8 @@ impl Slot {
 impl Stock {
     /// A stock without a slot.
     pub fn new(alloc: Global) -> Stock
-        ensures { ⟦<Stock as Stocked>⟧.slots result ≡ [] }
+        ensures empty { ⟦<Stock as Stocked>⟧.slots result ≡ [] }
+        ensures full { All IsFull (⟦<Stock as Stocked>⟧.slots result) }
     {
         Stock {
             alloc,
@@ -86,6 +87,8 @@ impl Stock {
         requires { (meaning definition).stage ≡ Stage.Fresh }
         ensures added { OnOk result (⟦<Stock as Stocked>⟧.slots self.new
             ≡ ⟦<Stock as Stocked>⟧.slots self.old ++ record { kind = kind.now; held = Some (meaning definition) } ∷ []) }
+        ensures full { OnOk result (All IsFull (⟦<Stock as Stocked>⟧.slots self.old)
+            → All IsFull (⟦<Stock as Stocked>⟧.slots self.new)) }
         ensures returned { IfErr result (λ e. (e.refusal ≡ Refusal.NoMemory) × (e.definition ≡ definition)) }
         ensures kept { OnErr result (⟦<Stock as Stocked>⟧.slots self.new ≡ ⟦<Stock as Stocked>⟧.slots self.old) }
     {

@@ -44,13 +44,13 @@ between-is_below n (negsuc k) = refl
 -- what it says that a place, a title and the count of windows refuse nothing
 record Unrefused (w : NewWindow) (placed : Bool) (count : ℕ) (next : Option ℕ) : Type 0 where
   placed_is : placed ≡ true
-  title : nat_lt longest_text (length w.title.now) ≡ false
+  title : nat_lt longest_text (length w.title) ≡ false
   room : is_full count next ≡ false
 
 unrefused : (w : NewWindow) (placed : Bool) (count : ℕ) (next : Option ℕ) → first_refusal (judged_refusals w placed count next) ≡ None → Unrefused w placed count next
-unrefused w placed count next e = by_tests placed (nat_lt longest_text (length w.title.now)) (is_full count next) refl refl refl e
+unrefused w placed count next e = by_tests placed (nat_lt longest_text (length w.title)) (is_full count next) refl refl refl e
   where
-    by_tests : (a b c : Bool) → placed ≡ a → nat_lt longest_text (length w.title.now) ≡ b → is_full count next ≡ c → (if not a then Some OutOfRange else (if b then Some TooLong else (if c then Some TooMany else None))) ≡ None → Unrefused w placed count next
+    by_tests : (a b c : Bool) → placed ≡ a → nat_lt longest_text (length w.title) ≡ b → is_full count next ≡ c → (if not a then Some OutOfRange else (if b then Some TooLong else (if c then Some TooMany else None))) ≡ None → Unrefused w placed count next
     by_tests true true c ea eb ec e = absurd (cc)
     by_tests true false true ea eb ec e = absurd (cc)
     by_tests true false false ea eb ec e = record { placed_is = ea; title = eb; room = ec }
@@ -96,7 +96,7 @@ module _ {V : Type 0} {H : V → Type 0} (loan : Taken V H → Loan) where
     pub front : IsFrontArea w taken.definition planned.gray area
     pub number : planned.next ≡ Some n
     pub added : IsAdded loan w n taken area planned new
-    pub took : IsTaken w.kind.now taken slots left
+    pub took : IsTaken w.kind taken slots left
 
   module _ (w : NewWindow) (n : ℕ) (taken : Loan) (area : Area) (t planned new : Toolbox V H) (slots left : List SlotView) (N : IsNew w n taken area t planned new slots left) where
     abbrev before : FullDesk
@@ -185,7 +185,7 @@ module _ {V : Type 0} {H : V → Type 0} (loan : Taken V H → Loan) where
       numbered = below_next n _ refl;
       few = omega arith;
       settled = All-cons IsSettled _ [] settled (All-nil _);
-      stocked = stocked_with w.kind.now taken slots left N.took _ refl (subst (λ (ws : List WindowRecord). IsStocked ws slots) (ap (map (record_of loan)) no_windows) N.whole.sound.stocked);
+      stocked = stocked_with w.kind taken slots left N.took _ refl (subst (λ (ws : List WindowRecord). IsStocked ws slots) (ap (map (record_of loan)) no_windows) N.whole.sound.stocked);
     }
 
     pub is_whole : IsWhole loan new left
@@ -202,8 +202,8 @@ module _ {V : Type 0} {H : V → Type 0} (loan : Taken V H → Loan) where
     is_made = (refusal_is loan w taken t slots left N.took ∙ N.unrefused_is, is_new_window)
 
   -- the call was refused: the definition is back in its slot
-  pub is_not_made : (w : NewWindow) (e : Refusal) (taken : Loan) (t planned : Toolbox V H) (slots left back : List SlotView) → IsWhole loan t slots → IsTaken w.kind.now taken slots left → IsUnplanned w (is_placed (Some taken.definition) w.place w.size) (vec_len t.windows) t.next e → SameDesk t planned → IsPutBack taken left back → IsNotMade w e (state_of loan t slots) (state_of loan planned back)
+  pub is_not_made : (w : NewWindow) (e : Refusal) (taken : Loan) (t planned : Toolbox V H) (slots left back : List SlotView) → IsWhole loan t slots → IsTaken w.kind taken slots left → IsUnplanned w (is_placed (Some taken.definition) w.place w.size) (vec_len t.windows) t.next e → SameDesk t planned → IsPutBack taken left back → IsNotMade w e (state_of loan t slots) (state_of loan planned back)
   is_not_made w e taken t planned slots left back whole took unplanned same back_is = (
     unplanned_is_refused loan w taken t slots left took e unplanned,
-    stays_unchanged loan t planned slots back same (put_back_is_old w.kind.now taken slots left took back back_is),
+    stays_unchanged loan t planned slots back same (put_back_is_old w.kind taken slots left took back back_is),
   )

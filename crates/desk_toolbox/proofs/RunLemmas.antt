@@ -15,6 +15,7 @@ run_more first middle last [] (a ∷ answers) call answer r s = absurd r
 run_more first middle last (c ∷ calls) [] call answer r s = absurd r
 
 -- a run of the calls so far goes on by the next
-pub run_step : (first middle last : FullState) (calls : List Call) (answers more : List (Result Reply Refusal)) (i : ℕ) (d : Call) (answer : Result Reply Refusal) → more ≡ answers ++ answer ∷ [] → IsRun first (take i calls) answers middle → i < length calls → IsStep (get_or calls i d) answer middle last → IsRun first (take (i + 1) calls) more last
-run_step first middle last calls answers more i d answer e r l s =
-    subst (λ (x : List Call × List (Result Reply Refusal)). IsRun first x.0 x.1 last) (λ k. (sym (take_more calls i d l) k, sym e k)) (run_more first middle last (take i calls) answers (get_or calls i d) answer r s)
+pub run_step : (first middle last : FullState) (calls : List Call) (answers more : List (Result Reply Refusal)) (i : ℕ) (call : Call) (answer : Result Reply Refusal) → more ≡ answers ++ answer ∷ [] → call ≡ get_or calls i call → IsRun first (take i calls) answers middle → i < length calls → IsStep call answer middle last → IsRun first (take (i + 1) calls) more last
+run_step first middle last calls answers more i call answer e read r l s =
+    subst (λ (x : List Call × List (Result Reply Refusal)). IsRun first x.0 x.1 last) (λ k. (sym (take_more calls i call l) k, sym e k))
+    (run_more first middle last (take i calls) answers (get_or calls i call) answer r (subst (λ c. IsStep c answer middle last) read s))

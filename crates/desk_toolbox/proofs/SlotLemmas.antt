@@ -71,3 +71,7 @@ module _ (kind : List ℕ) (loan : Loan) (old left : List SlotView) (took : IsTa
           (λ none. absurd (let within = none.1.1 in omega arith))
           (stocked.others k s (sym (get-set_other old loan.slot k emptied away) ∙ ap (λ ss. slice_get ss k) (sym took.left) ∙ e)))
           (cases_eq k loan.slot)
+
+-- the kind goes by the bytes of this text
+pub taken_named : (bytes kind : List ℕ) (loan : Loan) (old new : List SlotView) → bytes ≡ kind → IsTaken bytes loan old new → IsTaken kind loan old new
+taken_named bytes kind loan old new same taken = subst (λ k. IsTaken k loan old new) same taken

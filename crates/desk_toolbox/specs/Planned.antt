@@ -63,7 +63,7 @@ module _ {V : Type 0} {H : V → Type 0} where
   -- the number and the title of the window
   pub record IsTicket (w : NewWindow) (t : Toolbox V H) (ticket : Ticket) : Type 0 where
     pub next : t.next ≡ Some ticket.serial
-    pub title : ticket.title.items ≡ w.title.now
+    pub title : ticket.title.items ≡ w.title
 
   -- nothing refuses the window with this definition any more
   pub record IsPlanned (w : NewWindow) (d : Definition) (t : Toolbox V H) (plan : Plan) : Type 0 where

@@ -48,13 +48,13 @@ is_full count next = nat_le most_windows count || is_none next
 -- there are too many
 abbrev pub judged_refusals : NewWindow → Bool → ℕ → Option ℕ → List (Bool × Refusal)
 judged_refusals w placed count next =
-    (not placed, OutOfRange) ∷ (nat_lt longest_text (length w.title.now), TooLong) ∷ (is_full count next, TooMany) ∷ []
+    (not placed, OutOfRange) ∷ (nat_lt longest_text (length w.title), TooLong) ∷ (is_full count next, TooMany) ∷ []
 
 abbrev pub new_window_refusals : NewWindow → FullDesk → List (Bool × Refusal)
 new_window_refusals w desk =
-    (not (has_kind w.kind.now desk.stock), NoSuchName)
-    ∷ judged_refusals w (is_placed (offered w.kind.now desk.stock) w.place w.size) (length desk.windows) desk.next
-    ++ (is_none (offered w.kind.now desk.stock), NoDefinition) ∷ []
+    (not (has_kind w.kind desk.stock), NoSuchName)
+    ∷ judged_refusals w (is_placed (offered w.kind desk.stock) w.place w.size) (length desk.windows) desk.next
+    ++ (is_none (offered w.kind desk.stock), NoDefinition) ∷ []
 
 -- why the call refuses, want of memory aside
 abbrev pub refusal_of : Call → FullDesk → Option Refusal

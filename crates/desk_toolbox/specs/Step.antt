@@ -24,7 +24,7 @@ new_record w serial slot d = record {
   size = w.size;
   shown = w.shown;
   highlighted = w.shown;
-  title = w.title.now;
+  title = w.title;
   go_away = w.go_away;
   definition = d;
   slot = slot;
@@ -52,7 +52,7 @@ pub record IsNewWindow (w : NewWindow) (serial : ℕ) (before after : FullState)
   pub loan : Loan
   pub begun : Definition
   pub numbered : before.desk.next ≡ Some serial
-  pub taken : IsTaken w.kind.now loan before.desk.stock after.desk.stock
+  pub taken : IsTaken w.kind loan before.desk.stock after.desk.stock
   pub live : IsBegun w.size loan.definition begun
   pub desk : after.desk ≡ record (desk_with w serial loan.slot begun before.desk) { stock = after.desk.stock }
   pub pixels : IsChanged no_change (plain_state before) (plain_state after)

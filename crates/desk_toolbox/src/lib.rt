@@ -24,11 +24,13 @@ mod close;
 pub mod laws;
 mod place;
 mod run;
+mod text;
 mod toolbox;
 mod window_list;
 mod window_mgr;
 
 pub use call::{Call, NewWindow, Reply, WindowCall};
+pub use text::Text;
 pub use toolbox::{Area, Toolbox};
 pub use window_list::Window;
 

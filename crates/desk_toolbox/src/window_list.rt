@@ -30,7 +30,7 @@ impl Window {
         title: ArrayVec<u8, 255>,
         taken: Taken,
     ) -> Window
-        requires { title.items ≡ window.now.title.now }
+        requires { title.items ≡ window.now.title }
         ensures { record_of ⟦<Taken as Defined>⟧.loan result ≡ new_record window.now serial
             (⟦<Taken as Defined>⟧.loan taken).slot (⟦<Taken as Defined>⟧.loan taken).definition }
     {

@@ -49,7 +49,7 @@ impl Toolbox {
             MatchResult result (λ serial. IsMade window.now serial before after)
             (λ e. IsNotMade window.now e before after) }
     {
-        match stock.take(window.kind) {
+        match stock.take(window.kind.bytes()) {
             Ok(taken) => match self.plan_window(window, &taken) {
                 Ok(plan) => Ok(self.add_window(window, plan, taken)),
                 Err(refusal) => {
@@ -94,7 +94,7 @@ impl Toolbox {
             return Err(Refusal::OutOfRange);
         }
         let mut title = ArrayVec::new();
-        if title.try_extend_from_slice(window.title).is_err() {
+        if title.try_extend_from_slice(window.title.bytes()).is_err() {
             return Err(Refusal::TooLong);
         }
         match self.next {

@@ -16,7 +16,7 @@ returns-in-Err-plan_window-clause-whole g c =
 
 pub returns-in-Err-plan_window-clause-step : goal.returns-in-Err-plan_window-clause-step
 returns-in-Err-plan_window-clause-step g c =
-    adding.is_not_made _ c.args.window.now _ _ _ _ _ _ _ c.requires c.in-Ok.ensures.taken c.in-Err-plan_window.ensures.err c.plan_window.ensures.same c.put_back.ensures
+    adding.is_not_made _ c.args.window.now _ _ _ _ _ _ _ c.requires (slots.taken_named _ _ _ _ _ c.bytes.ensures c.in-Ok.ensures.taken) c.in-Err-plan_window.ensures.err c.plan_window.ensures.same c.put_back.ensures
 
 pub returns-in-Ok-plan_window-clause-whole : goal.returns-in-Ok-plan_window-clause-whole
 returns-in-Ok-plan_window-clause-whole g c =
@@ -27,7 +27,7 @@ returns-in-Ok-plan_window-clause-whole g c =
       front = c.in-Ok-plan_window.ensures.ok.1.area;
       number = c.add_window.ensures.number;
       added = c.add_window.ensures.added;
-      took = c.in-Ok.ensures.taken;
+      took = slots.taken_named _ _ _ _ _ c.bytes.ensures c.in-Ok.ensures.taken;
     })
 
 pub returns-in-Ok-plan_window-clause-step : goal.returns-in-Ok-plan_window-clause-step
@@ -39,5 +39,5 @@ returns-in-Ok-plan_window-clause-step g c =
       front = c.in-Ok-plan_window.ensures.ok.1.area;
       number = c.add_window.ensures.number;
       added = c.add_window.ensures.added;
-      took = c.in-Ok.ensures.taken;
+      took = slots.taken_named _ _ _ _ _ c.bytes.ensures c.in-Ok.ensures.taken;
     })

@@ -6,7 +6,7 @@ use Rattle.desk_toolbox.proofs.toolbox.Toolbox.run.Goals as goal
 pub loop-call-preserved : goal.loop-call-preserved
 loop-call-preserved g c = record {
   whole = c.call-answer.ensures.whole;
-  run = run_step _ _ _ c.args.calls.now c.loop-call.answers.items _ c.loop-call.call-index _ c.call-answer.result (search rules) c.loop-call.invariant.run (omega arith) c.call-answer.ensures.step;
+  run = run_step _ _ _ c.args.calls.now c.loop-call.answers.items _ c.loop-call.call-index c.call-item.result c.call-answer.result (search rules) c.call-item.is c.loop-call.invariant.run (omega arith) c.call-answer.ensures.step;
   room = search rules;
   made = search rules;
 }

@@ -1,0 +1,5 @@
+//! Script lines as commands, and replies as lines.
+
+mod command;
+
+pub use command::Command;
