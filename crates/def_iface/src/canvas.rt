@@ -66,7 +66,7 @@ pub struct Canvas<'a> {
     pub cut: &'a Cut<'a>,
 }
 
-impl Canvas<'_> {
+impl<'a> Canvas<'a> {
     /// Puts the pattern, whose origin is the canvas's own, down by the mode on the rectangle.
     pub fn fill(&mut self, rect: Rect, pattern: Pattern, mode: Mode)
         ensures same_map { self.new.map.ghost_name ≡ self.old.map.ghost_name }
@@ -75,15 +75,35 @@ impl Canvas<'_> {
             (λ p old. mode_bit mode (pattern_bit pattern (canvas_point self.old p)) old)
             self.old.map.now self.new.map.now }
     {
-        let rule = Inked {
+        let rule = self.inked(pattern, mode);
+        draw_rect(self.map, placed_within(self.clip, rect, self.origin), &rule);
+    }
+
+    /// Puts the pattern, whose origin is the canvas's own, down by the mode on every pixel of the
+    /// canvas.
+    pub fn fill_all(&mut self, pattern: Pattern, mode: Mode)
+        ensures same_map { self.new.map.ghost_name ≡ self.old.map.ghost_name }
+        ensures same_frame { SameFrame self.old self.new }
+        ensures drawn { Draws (canvas_holds self.old)
+            (λ p old. mode_bit mode (pattern_bit pattern (canvas_point self.old p)) old)
+            self.old.map.now self.new.map.now }
+    {
+        let rule = self.inked(pattern, mode);
+        draw_rect(self.map, self.clip, &rule);
+    }
+
+    /// The pattern, put down by the mode from the canvas's own 0 0 where the cut allows.
+    fn inked(&self, pattern: Pattern, mode: Mode) -> Inked<'a>
+        ensures { result ≡ record { ink = record { pattern = pattern; offset = self.now.origin; mode = mode }; cut = self.now.cut } }
+    {
+        Inked {
             ink: Ink {
                 pattern,
                 offset: self.origin,
                 mode,
             },
             cut: self.cut,
-        };
-        draw_rect(self.map, placed_within(self.clip, rect, self.origin), &rule);
+        }
     }
 }
 

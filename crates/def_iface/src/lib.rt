@@ -24,7 +24,9 @@
 //! the canvas's own 0 0 on the map. The rectangle and the cut are in the coordinates of the map, and
 //! what is drawn is in the canvas's own. A cut holds the pixels that lie in each of up to three regions
 //! and not in a fourth, so that no region has to be made of them in order to draw. A definition gives
-//! each pixel of the canvas its value, also white ones: nothing of what stood there shows through.
+//! each pixel of the canvas its value, also white ones: nothing of what stood there shows through. Of a
+//! definition's picture the desk shows the frame's pixels alone, so a definition may fill all of the
+//! canvas and put the rest on top, whatever that gives to pixels outside its frame.
 //!
 //! Two laws say what all of this is for. The desk as plain data is a stack of layers: the desktop, the
 //! windows from back to front, each a frame and content layers on it, and the menu bar. The first law:

@@ -168,36 +168,54 @@ fn check_regions(
     Ok(())
 }
 
-/// Draws at 3 by 2 on a black map, under a clip and a hole, and looks at each pixel.
-fn check_drawn(
-    rt: &impl Abort,
-    alloc: Global,
-    mut taken: Taken,
-    rows: [&[u8]; 9],
-) -> Result<(), Refusal> {
+/// What a window of 3 by 2 with its content at 2 4 makes of a map, under a clip that ends before the
+/// last column and the last row, and a hole at 3 5. A `-` is a pixel that stays as it was.
+const DRAWN: [&[u8]; 9] = [
+    b"#######-",
+    b"#######-",
+    b"#######-",
+    b"#######-",
+    b"##...##-",
+    b"##.-.##-",
+    b"#######-",
+    b"#######-",
+    b"--------",
+];
+
+/// A map of 8 by 9 pixels of one value.
+fn map_of(alloc: Global, value: bool) -> Result<BitMap, Refusal> {
+    let mut map = BitMap::new(alloc, 8, 9)?;
+    for v in 0..9 {
+        for h in 0..8 {
+            put(&mut map, Point { h, v }, value);
+        }
+    }
+    Ok(map)
+}
+
+/// Draws at 3 by 2 on a white map and on a black one, and looks at each pixel.
+fn check_drawn(rt: &impl Abort, alloc: Global, mut taken: Taken) -> Result<(), Refusal> {
     let size = size(3, 2);
     assert!(rt; size.is_in_range() && taken.bounds(size).is_in_range());
     assert!(rt; taken.definition.stage() == Stage::Fresh);
     taken.begin(size);
     let hole = Region::from_rect(alloc, rect(3, 5, 4, 6))?;
     let cut = cut_of(None, None, None, Some(&hole));
-    let mut map = BitMap::new(alloc, 8, 9)?;
-    for v in 0..9 {
-        for h in 0..8 {
-            put(&mut map, Point { h, v }, true);
-        }
-    }
-    let mut canvas = Canvas {
-        map: &mut map,
-        clip: rect(0, 0, 7, 8),
-        origin: Point { h: 2, v: 4 },
-        cut: &cut,
-    };
-    taken.draw(&mut canvas);
-    for (v, row) in (0..9).zip(rows) {
-        for (h, byte) in (0..8).zip(row) {
-            let bit = bit_at(&map, Point { h, v });
-            assert_eq!(rt; bit, Some(*byte == b'#'), "at {h} {v}");
+    for first in [false, true] {
+        let mut map = map_of(alloc, first)?;
+        let mut canvas = Canvas {
+            map: &mut map,
+            clip: rect(0, 0, 7, 8),
+            origin: Point { h: 2, v: 4 },
+            cut: &cut,
+        };
+        taken.draw(&mut canvas);
+        for (v, row) in (0..9).zip(DRAWN) {
+            for (h, byte) in (0..8).zip(row) {
+                let bit = bit_at(&map, Point { h, v });
+                let is_black = *byte == b'#' || *byte == b'-' && first;
+                assert_eq!(rt; bit, Some(is_black), "{first} at {h} {v}");
+            }
         }
     }
     Ok(())
@@ -211,22 +229,7 @@ fn a_plain_window_is_reached(rt: HostRuntime) -> Result<(), Fail> {
     assert!(rt; stock.add(b"plain", plain).is_ok());
     let taken = stock.take(b"plain")?;
     check_regions(&rt, alloc, &taken, rect(-1, -1, 4, 3))?;
-    check_drawn(
-        &rt,
-        alloc,
-        taken,
-        [
-            b".......#",
-            b".......#",
-            b".......#",
-            b".#####.#",
-            b".#...#.#",
-            b".#.#.#.#",
-            b".#####.#",
-            b".......#",
-            b"########",
-        ],
-    )?;
+    check_drawn(&rt, alloc, taken)?;
     Ok(())
 }
 
@@ -238,21 +241,6 @@ fn a_titled_window_is_reached(rt: HostRuntime) -> Result<(), Fail> {
     assert!(rt; stock.add(b"titled", titled).is_ok());
     let taken = stock.take(b"titled")?;
     check_regions(&rt, alloc, &taken, rect(-1, -4, 4, 3))?;
-    check_drawn(
-        &rt,
-        alloc,
-        taken,
-        [
-            b".#####.#",
-            b".#####.#",
-            b".#####.#",
-            b".#####.#",
-            b".#...#.#",
-            b".#.#.#.#",
-            b".#####.#",
-            b".......#",
-            b"########",
-        ],
-    )?;
+    check_drawn(&rt, alloc, taken)?;
     Ok(())
 }

@@ -1,10 +1,18 @@
-//! What no clause says: that a desk without windows shows what a slow reading of its rules shows, and
-//! that it is made where memory is not refused.
-use crate::Toolbox;
+//! What no clause says: that a desk shows what a slow reading of its rules shows, and that desks and
+//! windows are made where memory is not refused.
+ghost use Rattle.std.specs.Prelude.{All};
+ghost use Rattle.def_iface.specs.Stocked.{IsFull};
+ghost use Rattle.desk_toolbox.specs.Whole.{IsWhole};
+
+use crate::{Call, NewWindow, Reply, Text, Toolbox, WindowCall};
 use bit_map::BitMap;
+use def_iface::{Defined, Size, Stock, Stocked, Taken, WindowDef};
+use frames::Titled;
 use std::process::Abort;
 use std::test::Fail;
 use tb_geom::{Point, Refusal};
+
+mod frames;
 
 /// The bit at a point, where the map has it.
 fn bit_at(map: &BitMap, point: Point) -> Option<bool> {
@@ -62,5 +70,90 @@ fn screens_of_other_sizes_are_refused(rt: HostRuntime) -> Result<(), Fail> {
         assert_eq!(rt; bounds.right, width);
         assert_eq!(rt; bounds.bottom, height);
     }
+    Ok(())
+}
+
+/// The call for a window of 6 by 3 at 5 24, with this width in place of 6.
+fn call_for<'a>(kind: &'a [u8], width: i32, shown: bool, title: &'a [u8]) -> Call<'a> {
+    Call::Window(WindowCall::New(NewWindow {
+        kind: Text::new(kind),
+        place: Point { h: 5, v: 24 },
+        size: Size { width, height: 3 },
+        shown,
+        go_away: false,
+        title: Text::new(title),
+    }))
+}
+
+/// Looks at each pixel of a screen of 24 by 30 with a bar, and with that window on it.
+fn check_window(rt: &impl Abort, screen: &BitMap) {
+    for v in 0..30 {
+        for h in 0..24 {
+            let in_structure = 4 <= h && h < 12 && 20 <= v && v < 28;
+            let in_content = 5 <= h && h < 11 && 24 <= v && v < 27;
+            let black = if in_structure {
+                !in_content
+            } else {
+                is_black(20, h, v)
+            };
+            assert_eq!(rt; bit_at(screen, Point { h, v }), Some(black), "at {h} {v}");
+        }
+    }
+}
+
+#[test]
+fn a_window_is_made_once(rt: HostRuntime) -> Result<(), Fail> {
+    let alloc = rt.alloc();
+    let mut stock = Stock::new(alloc);
+    let titled: Box<dyn WindowDef> = Box::new(alloc, Titled::new())?;
+    let Ok(()) = stock.add(b"titled", titled) else {
+        return Err(Fail::from(Refusal::NoMemory));
+    };
+    let mut desk = Toolbox::new(alloc, 24, 30, 20)?;
+    let unknown = desk.call(&call_for(b"none", 6, true, b""), &mut stock);
+    assert_eq!(rt; unknown, Err(Refusal::NoSuchName));
+    check_screen(&rt, desk.screen(), 20);
+    let made = desk.call(&call_for(b"titled", 6, true, b"One"), &mut stock);
+    assert_eq!(rt; made, Ok(Reply::Window(1)));
+    check_window(&rt, desk.screen());
+    let second = desk.call(&call_for(b"titled", 6, true, b""), &mut stock);
+    assert_eq!(rt; second, Err(Refusal::TooMany));
+    check_window(&rt, desk.screen());
+    desk.close(&mut stock);
+    assert_eq!(rt; stock.take(b"titled").err(), Some(Refusal::NoDefinition));
+    Ok(())
+}
+
+#[test]
+fn calls_in_a_row_are_answered_in_their_order(rt: HostRuntime) -> Result<(), Fail> {
+    let alloc = rt.alloc();
+    let mut stock = Stock::new(alloc);
+    let titled: Box<dyn WindowDef> = Box::new(alloc, Titled::new())?;
+    let Ok(()) = stock.add(b"titled", titled) else {
+        return Err(Fail::from(Refusal::NoMemory));
+    };
+    let mut desk = Toolbox::new(alloc, 24, 30, 20)?;
+    let too_long = [b'x'; 256];
+    let longest = [b'x'; 255];
+    let calls = [
+        call_for(b"titled", 0, true, &too_long),
+        call_for(b"titled", 6, true, &too_long),
+        call_for(b"titled", 16383, true, b""),
+        call_for(b"titled", 6, false, &longest),
+        call_for(b"titled", 0, true, b""),
+        call_for(b"titled", 6, true, b""),
+    ];
+    let answers = desk.run(&calls, &mut stock)?;
+    let expected = [
+        Err(Refusal::OutOfRange),
+        Err(Refusal::TooLong),
+        Err(Refusal::OutOfRange),
+        Ok(Reply::Window(1)),
+        Err(Refusal::OutOfRange),
+        Err(Refusal::TooMany),
+    ];
+    assert_eq!(rt; answers.as_slice(), expected.as_slice());
+    check_screen(&rt, desk.screen(), 20);
+    desk.close(&mut stock);
     Ok(())
 }

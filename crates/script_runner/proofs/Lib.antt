@@ -1,0 +1,9 @@
+mod ChoicesLemmas
+mod Cuts
+mod Ends
+mod Ranges
+mod Rows
+mod Sessions
+mod Spelled
+mod WordLemmas
+mod Written

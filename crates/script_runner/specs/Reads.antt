@@ -1,6 +1,35 @@
--- How often a run may read.
-use Rattle.std.specs.Prelude.{ℕ}
+-- What a read gives, and how many reads a run may make.
+use Rattle.std.specs.Prelude.{◌≡◌, ℕ, ◌+◌, Bool, true, List, length, take, Option, Result, Ok, Err}
+use Rattle.std.specs.Io.KnownBytes.{Consumes, IsAtEnd, Keeps}
+use Rattle.tb_geom.specs.declared.refusal.Refusal.{Refusal}
+use Rattle.tb_geom.specs.declared.refusal.Refusal.TheVariants.{ReadFault}
 
 -- a script's end comes within so many reads
 abbrev pub most_reads : ℕ
 most_reads = 1000000
+
+-- a reader's side of a run: the bytes that reads will give from here on, where they are known, whether one of its reads
+-- failed, and how many there were
+pub record Input : Type 0 where
+  pub remaining : Option (List ℕ)
+  pub has_failed : Bool
+  pub reads : ℕ
+
+-- a read gave these bytes, none at the end alone
+pub record Gave (old new : Input) (bytes : List ℕ) : Type 0 where
+  pub consumed : Consumes old.remaining new.remaining bytes
+  pub none : length bytes ≡ 0 → IsAtEnd new.remaining
+  pub quiet : new.has_failed ≡ old.has_failed
+  pub counted : new.reads ≡ old.reads + 1
+
+-- a read failed, and gave nothing
+pub record Failed (old new : Input) : Type 0 where
+  pub kept : Keeps old.remaining new.remaining
+  pub failed : new.has_failed ≡ true
+  pub counted : new.reads ≡ old.reads + 1
+
+-- a call that reads into a buffer with room: at Ok it gave as many bytes as it says, and Err, which is ReadFault, comes
+-- only of a read that failed
+abbrev pub Reads : Input → Input → Result ℕ Refusal → List ℕ → Type 0
+Reads old new (Ok n) buffer = Gave old new (take n buffer)
+Reads old new (Err e) buffer = (e ≡ ReadFault) × Failed old new

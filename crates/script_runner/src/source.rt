@@ -1,31 +1,24 @@
 //! Where a run reads its script from.
-ghost use Rattle.std.specs.Prelude.{◌≡◌, ◌<◌, ◌+◌, List, ℕ, Option, Bool, true, false, OnOk, OnErr, Err};
-ghost use Rattle.std.specs.Io.KnownBytes.{ReadConsumes};
+ghost use Rattle.std.specs.Prelude.{◌≡◌, ◌<◌, length, false};
 ghost use Rattle.std.specs.Io.{ReadsAtMost};
-ghost use Rattle.tb_geom.specs.declared.refusal.Refusal.TheVariants.{ReadFault};
-ghost use Rattle.script_runner.specs.Reads.{most_reads};
+ghost use Rattle.script_runner.specs.Reads.{Input, Reads, most_reads};
 
 use std::io::Read;
 use tb_geom::Refusal;
 
 /// A reader that tells whether one of its reads failed, and how many there were.
 pub trait Source {
-    // The bytes that reads will give from here on, where they are known.
-    ghost remaining: { Self → Option (List ℕ) };
-
-    ghost has_failed: { Self → Bool };
-
-    ghost reads: { Self → ℕ };
+    // The bytes that reads will give, where they are known, whether a read failed, and how many
+    // there were.
+    ghost input: { Self → Input };
 
     /// Reads some bytes into the front of the buffer, and gives their count: 0 at the end of the
-    /// input alone, where the buffer has room. A read that fails is a ReadFault.
+    /// input alone. A read that fails is a ReadFault. There may be 1,000,000 reads.
     fn read_some(&mut self, buffer: &mut [u8]) -> Result<usize, Refusal>
-        requires { reads self.old < most_reads }
+        requires allowed { (input self.old).reads < most_reads }
+        requires room { 0 < length buffer.old }
         ensures bound { ReadsAtMost result buffer.new }
-        ensures bytes { ReadConsumes (remaining self.old) (remaining self.new) result buffer.new }
-        ensures counted { reads self.new ≡ reads self.old + 1 }
-        ensures ok { OnOk result (has_failed self.new ≡ has_failed self.old) }
-        ensures err { OnErr result ((result ≡ Err ReadFault) × (has_failed self.new ≡ true)) };
+        ensures bytes { Reads (input self.old) (input self.new) result buffer.new };
 }
 
 /// A reader, whether one of its reads failed, and how many there were.
@@ -52,11 +45,7 @@ impl<R: Read> WatchedReader<R> {
 }
 
 impl<R: Read> Source for WatchedReader<R> {
-    ghost remaining = { λ s. R.remaining s.reader };
-
-    ghost has_failed = { λ s. s.has_failed };
-
-    ghost reads = { λ s. s.reads };
+    ghost input = { λ s. record { remaining = R.remaining s.reader; has_failed = s.has_failed; reads = s.reads } };
 
     fn read_some(&mut self, buffer: &mut [u8]) -> Result<usize, Refusal> {
         self.reads += 1;

@@ -47,12 +47,12 @@ fn has(rect: Rect, h: i64, v: i64) -> bool {
         && v < i64::from(rect.bottom)
 }
 
-/// A fill under a cut by rectangles.
+/// A fill of a rectangle, or of all of the canvas, under a cut by rectangles.
 #[derive(Clone, Copy)]
 struct Filling {
     clip: Rect,
     origin: Point,
-    rect: Rect,
+    rect: Option<Rect>,
     inside: [Option<Rect>; 3],
     outside: Option<Rect>,
 }
@@ -63,7 +63,10 @@ impl Filling {
         let own_h = i64::from(h) - i64::from(self.origin.h);
         let own_v = i64::from(v) - i64::from(self.origin.v);
         let (h, v) = (i64::from(h), i64::from(v));
-        let mut reached = has(self.clip, h, v) && has(self.rect, own_h, own_v);
+        let mut reached = has(self.clip, h, v);
+        if let Some(rect) = self.rect {
+            reached = reached && has(rect, own_h, own_v);
+        }
         for part in self.inside {
             if let Some(part) = part {
                 reached = reached && has(part, h, v);
@@ -107,7 +110,10 @@ impl Filling {
             origin: self.origin,
             cut: &cut,
         };
-        canvas.fill(self.rect, MIXED, mode);
+        match self.rect {
+            Some(rect) => canvas.fill(rect, MIXED, mode),
+            None => canvas.fill_all(MIXED, mode),
+        }
         for v in 0..HEIGHT {
             for h in 0..WIDTH {
                 let bit = bit_at(&map, Point { h, v });
@@ -140,7 +146,12 @@ fn fills_as_a_loop_over_all_pixels(rt: HostRuntime) -> Result<(), Fail> {
         (rect(3, 0, 13, 8), 1, 1, [None, None, None], hole),
         (whole, i32::MIN, i32::MAX, [part, None, None], hole),
     ] {
-        for area in [rect(0, 0, 8, 7), rect(-9, -9, 90, 90), rect(3, 2, 3, 9)] {
+        for area in [
+            Some(rect(0, 0, 8, 7)),
+            Some(rect(-9, -9, 90, 90)),
+            Some(rect(3, 2, 3, 9)),
+            None,
+        ] {
             let filling = Filling {
                 clip,
                 origin: Point { h, v },

@@ -1,20 +1,18 @@
 //! Two definitions to test with, made of rectangles: a window with a frame of one pixel, and one whose
-//! frame is four pixels tall on top.
-ghost use Rattle.std.specs.Prelude.{◌≡◌, true, not, ◌&&◌, if◌then◌else◌, ◌+ℤ◌, ◌-ℤ◌, pos, negsuc, int_le, int_lt, IfOk, IfErr};
+//! frame is four pixels tall on top. Their pictures are black wherever the content is not: of those
+//! pixels a desk draws none but the frame's.
+ghost use Rattle.std.specs.Prelude.{◌≡◌, true, not, ◌+ℤ◌, pos, negsuc, IfOk, IfErr};
 ghost use Rattle.tb_geom.specs.declared.point.Point.{Point};
-ghost use Rattle.tb_geom.specs.Points.{minus};
-ghost use Rattle.tb_geom.specs.Rects.{IsBoxOf, between, rect_holds, in_plane};
+ghost use Rattle.tb_geom.specs.Rects.{rect_holds};
 ghost use Rattle.tb_geom.specs.Pixels.{holds};
-ghost use Rattle.bit_blit.specs.Draws.{Draws};
 ghost use Rattle.def_iface.specs.Sizes.{is_size, rect_of};
-ghost use Rattle.def_iface.specs.Canvases.{cut_holds, canvas_holds, canvas_point, SameFrame};
 ghost use Rattle.def_iface.specs.Meaning.{Definition};
 
-use crate::{Canvas, Cut, Size, Stage, WindowChange, WindowDef, WindowRegions};
-use bit_blit::{Rule, draw_rect};
+use crate::{Canvas, Size, Stage, WindowChange, WindowDef, WindowRegions};
+use bit_map::{Mode, Pattern};
 use scan_region::Region;
 use std::alloc::Global;
-use tb_geom::{Point, Rect, Refusal};
+use tb_geom::{Rect, Refusal};
 
 /// A window with a black frame of one pixel around a white content.
 #[derive(Drop)]
@@ -28,76 +26,6 @@ pub struct Plain {
 pub struct Titled {
     pub stage: Stage,
     pub size: Size,
-}
-
-/// What is black within `outer` and not within `inner`, both moved to the origin.
-#[derive(Clone, Copy)]
-struct Frame<'a> {
-    outer: Rect,
-    inner: Rect,
-    origin: Point,
-    cut: &'a Cut<'a>,
-}
-
-impl Rule for Frame<'_> {
-    ghost value = { λ r p old. if cut_holds r.cut.now p then rect_holds r.outer (minus p r.origin) && not (rect_holds r.inner (minus p r.origin)) else old };
-
-    fn value(&self, point: Point, old: bool) -> bool {
-        if self.cut.holds(point) {
-            is_in(self.outer, point, self.origin) && !is_in(self.inner, point, self.origin)
-        } else {
-            old
-        }
-    }
-}
-
-/// Whether the rectangle, moved to the origin, has the point.
-fn is_in(rect: Rect, point: Point, origin: Point) -> bool
-    ensures { result ≡ rect_holds rect (minus point origin) }
-{
-    is_between(rect.left, point.h, origin.h, rect.right)
-        && is_between(rect.top, point.v, origin.v, rect.bottom)
-}
-
-fn is_between(low: i32, x: i32, origin: i32, high: i32) -> bool
-    ensures { result ≡ between low (x -ℤ origin) high }
-{
-    let there = difference(x, origin);
-    is_at_least(there, low) && is_below(there, high)
-}
-
-fn difference(x: i32, origin: i32) -> i64
-    ensures { result ≡ x -ℤ origin }
-{
-    i64::from(x) - i64::from(origin)
-}
-
-fn is_at_least(x: i64, low: i32) -> bool
-    ensures { result ≡ int_le low x }
-{
-    i64::from(low) <= x
-}
-
-fn is_below(x: i64, high: i32) -> bool
-    ensures { result ≡ int_lt x high }
-{
-    x < i64::from(high)
-}
-
-fn draw_frame(canvas: &mut Canvas<'_>, outer: Rect, inner: Rect)
-    ensures same_map { canvas.new.map.ghost_name ≡ canvas.old.map.ghost_name }
-    ensures same_frame { SameFrame canvas.old canvas.new }
-    ensures drawn { Draws (canvas_holds canvas.old)
-        (λ p _. rect_holds outer (canvas_point canvas.old p) && not (rect_holds inner (canvas_point canvas.old p)))
-        canvas.old.map.now canvas.new.map.now }
-{
-    let frame = Frame {
-        outer,
-        inner,
-        origin: canvas.origin,
-        cut: canvas.cut,
-    };
-    draw_rect(canvas.map, canvas.clip, &frame);
 }
 
 fn regions(alloc: Global, outer: Rect, inner: Rect) -> Result<WindowRegions, Refusal>
@@ -173,7 +101,7 @@ impl WindowDef for Plain {
       structure = λ s. rect_holds (record { left = negsuc 0; top = negsuc 0; right = s.width +ℤ pos 1; bottom = s.height +ℤ pos 1 });
       content = λ s. rect_holds (rect_of s);
       bounds = λ s. record { left = negsuc 0; top = negsuc 0; right = s.width +ℤ pos 1; bottom = s.height +ℤ pos 1 };
-      picture = λ p. rect_holds (record { left = negsuc 0; top = negsuc 0; right = w.size.width +ℤ pos 1; bottom = w.size.height +ℤ pos 1 }) p && not (rect_holds (rect_of w.size) p);
+      picture = λ p. not (rect_holds (rect_of w.size) p);
     } };
 
     fn stage(&self) -> Stage {
@@ -199,7 +127,8 @@ impl WindowDef for Plain {
     }
 
     fn draw(&self, canvas: &mut Canvas<'_>) {
-        draw_frame(canvas, plain_box(self.size), self.size.rect());
+        canvas.fill_all(Pattern::BLACK, Mode::Copy);
+        canvas.fill(self.size.rect(), Pattern::WHITE, Mode::Copy);
     }
 
     fn dispose(&mut self) {
@@ -228,7 +157,7 @@ impl WindowDef for Titled {
       structure = λ s. rect_holds (record { left = negsuc 0; top = negsuc 3; right = s.width +ℤ pos 1; bottom = s.height +ℤ pos 1 });
       content = λ s. rect_holds (rect_of s);
       bounds = λ s. record { left = negsuc 0; top = negsuc 3; right = s.width +ℤ pos 1; bottom = s.height +ℤ pos 1 };
-      picture = λ p. rect_holds (record { left = negsuc 0; top = negsuc 3; right = w.size.width +ℤ pos 1; bottom = w.size.height +ℤ pos 1 }) p && not (rect_holds (rect_of w.size) p);
+      picture = λ p. not (rect_holds (rect_of w.size) p);
     } };
 
     fn stage(&self) -> Stage {
@@ -254,7 +183,8 @@ impl WindowDef for Titled {
     }
 
     fn draw(&self, canvas: &mut Canvas<'_>) {
-        draw_frame(canvas, titled_box(self.size), self.size.rect());
+        canvas.fill_all(Pattern::BLACK, Mode::Copy);
+        canvas.fill(self.size.rect(), Pattern::WHITE, Mode::Copy);
     }
 
     fn dispose(&mut self) {

@@ -2,11 +2,22 @@
 
 use desk_toolbox::Call;
 
+/// The size of a desk: the screen's width and height, and the rows of its menu bar.
+#[derive(Clone, Copy, Debug, PartialEq, Eq)]
+pub struct DeskSize {
+    /// In columns.
+    pub width: i32,
+    /// In rows.
+    pub height: i32,
+    /// In rows.
+    pub bar: i32,
+}
+
 /// A command of a script.
 #[derive(Debug, Drop)]
 pub enum Command<'a> {
-    /// Makes the desk: the screen's width and height, and the rows of its menu bar.
-    Desk { width: i32, height: i32, bar: i32 },
+    /// Makes the desk.
+    Desk(DeskSize),
     /// Shows the screen, in place of a reply.
     Image,
     /// Asks the Toolbox.

@@ -1,0 +1,51 @@
+-- The first command of a script.
+use Rattle.std.proofs.Common.{◌≡◌, ◌≢◌, ℕ, inl, inr, true, cond, List, get_or, Some, None, Result, refl, sym, ◌∙◌, subst}
+use Rattle.std.specs.Prelude.{All, slice_get}
+use Rattle.std.proofs.lemmas.Bool.{cases_Bool}
+use Rattle.std.proofs.lemmas.Option.{slice_get-get_or}
+use Rattle.tb_geom.specs.declared.refusal.Refusal.{Refusal}
+use Rattle.tb_geom.specs.declared.refusal.Refusal.TheVariants.{NoMemory, OutOfRange}
+use Rattle.def_iface.specs.declared.taken.Taken.{Taken}
+use Rattle.def_iface.specs.Meaning.{Loan}
+use Rattle.def_iface.specs.Stocked.{SlotView}
+use Rattle.desk_toolbox.specs.declared.toolbox.Toolbox.{Toolbox}
+use Rattle.desk_toolbox.specs.Begin.{IsEmptyDesk}
+use Rattle.desk_toolbox.specs.Records.{state_of}
+use Rattle.desk_toolbox.specs.FullDesk.{FullState}
+use Rattle.script_runner.specs.declared.script_text.command.Command.{Command}
+use Rattle.script_runner.specs.declared.script_text.command.DeskSize.{DeskSize}
+use Rattle.script_runner.specs.Session.{unmade, made, IsNewDesk, Opens, first_size, is_known, may_be, why_unmade}
+use Rattle.script_runner.specs.Endings.{IsFirstAnswered, CommandEnds}
+use Rattle.script_runner.specs.Replies.{refused_text}
+use Rattle.script_runner.specs.Writes.{Output, Sends}
+
+-- what holds wherever an element is, holds of all
+pub all_there : {X : Type 0} (P : X → Type 0) (xs : List X) → ((k : ℕ) (x : X) → slice_get xs k ≡ Some x → P x) → All P xs
+all_there P xs at = λ k d within. at k (get_or xs k d) (slice_get-get_or xs k d within)
+
+-- the desk that the Toolbox made
+pub new_desk : {V : Type 0} {H : V → Type 0} (loan : Taken V H → Loan) (t : Toolbox V H) (slots : List SlotView) (size wanted : DeskSize) → size ≡ wanted
+    → IsEmptyDesk loan size.width size.height size.bar t slots → IsNewDesk wanted slots (state_of loan t slots)
+new_desk loan t slots size wanted same empty =
+    subst (λ s. IsNewDesk s slots (state_of loan t slots)) same (record { desk = empty.desk; drawn = empty.drawn; right = empty.right })
+
+-- the desk was made, and the command answered on it
+pub opened : {X : Type 0} (slots : List SlotView) (command : Command) (first after : FullState) (old new : Output) (r : Result X Refusal)
+    → is_known command slots ≡ true → may_be (first_size command) ≡ true → IsNewDesk (first_size command) slots first
+    → IsFirstAnswered first command after old new r → CommandEnds (unmade slots) command (made after) old new r
+opened slots command first after old new r known fits fresh answered =
+    let none : why_unmade command slots ≡ None = rw (known, fits) refl in
+    inl (answered.0, subst (λ why. Opens why slots command answered.0 (made after)) (sym none) (first, after, fresh, answered.1, refl), answered.2)
+
+-- a screen may not have the size
+pub size_refused : {X : Type 0} (slots : List SlotView) (command : Command) (e : Refusal) (old new : Output) (r : Result X Refusal)
+    → is_known command slots ≡ true → e ≡ cond (may_be (first_size command)) NoMemory OutOfRange → e ≢ NoMemory
+    → Sends old new r (refused_text e) → CommandEnds (unmade slots) command (unmade slots) old new r
+size_refused slots command e old new r known why other sent =
+    elim (cases_Bool (may_be (first_size command))) [
+      | inl fits ↦ absurd (other (why ∙ rw fits refl))
+      | inr off ↦
+          let out : e ≡ OutOfRange = why ∙ rw off refl in
+          let some : why_unmade command slots ≡ Some OutOfRange = rw (known, off) refl in
+          inl (refused_text e, subst (λ w. Opens w slots command (refused_text e) (unmade slots)) (sym some) (rw out (refl, refl)), sent)
+    ]

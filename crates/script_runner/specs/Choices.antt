@@ -1,0 +1,32 @@
+-- The command line: what its words choose, and when they are refused.
+use Rattle.std.specs.Prelude.{◌≡◌, ⊤, List, Option, Some, codes, option_map}
+use Rattle.clap.specs.Words.{App, Rule, Text, Kinds, IsAmong, new_app, new_rule, with_rule, first_of, matches_of, fault_of, kind_of}
+use Rattle.clap.specs.declared.builder.action.ArgAction.TheVariants.{Set}
+use Rattle.script_runner.specs.declared.command_line.Choices.{Choices}
+use Rattle.script_runner.specs.declared.command_line.OptionsError.{OptionsError}
+use Rattle.script_runner.specs.declared.command_line.OptionsError.TheVariants.{Words, Memory}
+
+-- a word that stands by itself
+abbrev pub word_rule : Text → Rule
+word_rule name = record (new_rule name) { action = Some Set }
+
+-- desk [SCRIPT]
+abbrev pub desk_app : App
+desk_app = with_rule (new_app (codes "desk")) (word_rule (codes "SCRIPT"))
+
+-- the script that the words name, of which the first is the program's name
+abbrev pub script_in : List Text → Option Text
+script_in words = first_of (codes "SCRIPT") (matches_of desk_app words)
+
+-- what is wrong with the words; nothing where the program takes them
+abbrev pub faults_in : List Text → Kinds
+faults_in words = fault_of desk_app words
+
+-- these choices are what the words say
+pub record IsChosen (words : List Text) (choices : Choices) : Type 0 where
+  pub script : option_map (λ s. s.now) choices.script ≡ script_in words
+
+-- something is wrong with the words, and it is among what the error says; or there was no memory
+abbrev pub IsRefused : List Text → OptionsError → Type 0
+IsRefused words (Words e) = IsAmong (kind_of e) (faults_in words)
+IsRefused words (Memory e) = ⊤

@@ -1,0 +1,32 @@
+-- The bytes of an image, by the Netpbm PBM format: a head, then each row in lines of at most 70 characters.
+use Rattle.std.specs.Prelude.{ℕ, pos, ◌+◌, ◌*◌, ◌/◌, Bool, List, [], ◌∷◌, ◌++◌, map, take, drop, codes, decimal, if◌then◌else◌}
+use Rattle.std.specs.List.{flat_map, range_with_len}
+use Rattle.tb_geom.specs.Points.{PixelSet}
+
+-- the character of a pixel: 1 is black, 0 is white
+abbrev pub digit_of : Bool → ℕ
+digit_of is_black = if is_black then 49 else 48
+
+-- the characters of row v, from left to right
+unfoldable pub row_digits : ℕ → PixelSet → ℕ → List ℕ
+row_digits width black v = map (λ h. digit_of (black (record { h = pos h; v = pos v }))) (range_with_len 0 width)
+
+-- how many lines of 70 a row of this width takes
+abbrev pub line_count : ℕ → ℕ
+line_count width = (width + 69) / 70
+
+-- line k of a row: 70 of its characters from the (70 * k)-th on, or as many as are left, and a newline
+unfoldable pub line_text : List ℕ → ℕ → List ℕ
+line_text digits k = take 70 (drop (70 * k) digits) ++ 10 ∷ []
+
+-- row v, line by line
+unfoldable pub row_text : ℕ → PixelSet → ℕ → List ℕ
+row_text width black v = flat_map (line_text (row_digits width black v)) (range_with_len 0 (line_count width))
+
+-- the format's name, the width and the height
+abbrev pub head_text : ℕ → ℕ → List ℕ
+head_text width height = codes "P1\n" ++ (decimal width ++ (codes " " ++ (decimal height ++ codes "\n")))
+
+-- an image of a character for each pixel, the top row first
+unfoldable pub p1 : ℕ → ℕ → PixelSet → List ℕ
+p1 width height black = head_text width height ++ flat_map (row_text width black) (range_with_len 0 height)

@@ -1,0 +1,28 @@
+-- The plain window: a frame of one pixel around its content, and what it looks like.
+use Rattle.std.specs.Prelude.{pos, negsuc, not, ◌+ℤ◌}
+use Rattle.tb_geom.specs.declared.rect.Rect.{Rect}
+use Rattle.tb_geom.specs.Points.{PixelSet}
+use Rattle.tb_geom.specs.Rects.{rect_holds}
+use Rattle.def_iface.specs.declared.size.Size.{Size}
+use Rattle.def_iface.specs.declared.window_def.Stage.{Stage}
+use Rattle.def_iface.specs.Sizes.{rect_of}
+use Rattle.def_iface.specs.Meaning.{Definition}
+
+-- the sides of the structure: one pixel out from the content's on every side
+abbrev pub plain_box : Size → Rect
+plain_box s = record { left = negsuc 0; top = negsuc 0; right = s.width +ℤ pos 1; bottom = s.height +ℤ pos 1 }
+
+-- black wherever the content is not; of that the frame's pixels alone are ever shown
+abbrev pub plain_picture : Size → PixelSet
+plain_picture s p = not (rect_holds (rect_of s) p)
+
+-- a plain window's definition as a value
+abbrev pub plain_window : Stage → Size → Definition
+plain_window stage size = record {
+  stage = stage;
+  size = size;
+  structure = λ s. rect_holds (plain_box s);
+  content = λ s. rect_holds (rect_of s);
+  bounds = plain_box;
+  picture = plain_picture size;
+}

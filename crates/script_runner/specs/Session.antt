@@ -1,0 +1,93 @@
+-- What the lines of a script do to its desk, and what they answer.
+use Rattle.std.specs.Prelude.{◌≡◌, ℕ, pos, nat_abs, Bool, true, false, List, [], ◌∷◌, ◌++◌, Option, None, Some, is_none, Result, Ok, Err, if◌then◌else◌}
+use Rattle.tb_geom.specs.declared.point.Point.{Point}
+use Rattle.tb_geom.specs.declared.refusal.Refusal.{Refusal}
+use Rattle.tb_geom.specs.declared.refusal.Refusal.TheVariants.{NoSuchName, OutOfRange, Busy}
+use Rattle.def_iface.specs.Stocked.{SlotView, has_kind}
+use Rattle.desk_toolbox.specs.declared.call.Call.TheVariants.{Window}
+use Rattle.desk_toolbox.specs.declared.call.WindowCall.TheVariants.{New}
+use Rattle.desk_toolbox.specs.declared.call.Reply.{Reply}
+use Rattle.desk_toolbox.specs.FullDesk.{FullState, IsRight}
+use Rattle.desk_toolbox.specs.Begin.{empty_desk}
+use Rattle.desk_toolbox.specs.Step.{IsStep}
+use Rattle.desk_toolbox.specs.Whole.{is_screen}
+use Rattle.script_runner.specs.declared.script_text.command.Command.{Command}
+use Rattle.script_runner.specs.declared.script_text.command.DeskSize.{DeskSize}
+use Rattle.script_runner.specs.declared.script_text.command.Command.TheVariants.{Desk, Image, Call}
+use Rattle.script_runner.specs.Lines.{said}
+use Rattle.script_runner.specs.Pbm.{p1}
+use Rattle.script_runner.specs.Replies.{done_text, refused_text, reply_text}
+
+-- the desk of a script: none so far, over these slots of the stock, or one in this state
+pub data SessionState : Type 0 where
+  unmade : List SlotView → SessionState
+  made : FullState → SessionState
+
+-- a new desk of this size: it has no windows, nothing of it is to be redrawn, and it is right
+pub record IsNewDesk (size : DeskSize) (slots : List SlotView) (s : FullState) : Type 0 where
+  pub desk : s.desk ≡ empty_desk size.width size.height size.bar slots
+  pub drawn : (p : Point) → s.stale p ≡ false
+  pub right : IsRight s
+
+-- the bytes of the screen as an image
+abbrev pub image_text : FullState → List ℕ
+image_text s = p1 (nat_abs s.desk.width) (nat_abs s.desk.height) s.image
+
+-- with a desk, the command may be answered so and leave this state
+abbrev pub Answers : FullState → Command → List ℕ → FullState → Type 0
+Answers s (Desk size) text after = (text ≡ refused_text Busy) × (after ≡ s)
+Answers s Image text after = (text ≡ image_text s) × (after ≡ s)
+Answers s (Call call) text after = (answer : Result Reply Refusal) × IsStep call answer s after × (text ≡ reply_text answer)
+
+-- the answer of the command that made the desk: `ok` where it asked for nothing else
+abbrev pub FirstAnswers : FullState → Command → List ℕ → FullState → Type 0
+FirstAnswers s (Desk size) text after = (text ≡ done_text) × (after ≡ s)
+FirstAnswers s Image text after = Answers s Image text after
+FirstAnswers s (Call call) text after = Answers s (Call call) text after
+
+-- the desk that the first command makes: of the size that it asks for, and else of 512 by 342 with a menu bar of 20 rows
+abbrev pub first_size : Command → DeskSize
+first_size (Desk size) = size
+first_size Image = record { width = pos 512; height = pos 342; bar = pos 20 }
+first_size (Call call) = record { width = pos 512; height = pos 342; bar = pos 20 }
+
+-- whether the stock has a slot of the kind that a command names, if it names one
+abbrev pub is_known : Command → List SlotView → Bool
+is_known (Desk size) slots = true
+is_known Image slots = true
+is_known (Call (Window (New w))) slots = has_kind w.kind slots
+
+-- whether a screen may have this size
+abbrev pub may_be : DeskSize → Bool
+may_be size = is_screen size.width size.height size.bar
+
+-- why the first command makes no desk, want of memory aside
+abbrev pub why_unmade : Command → List SlotView → Option Refusal
+why_unmade command slots = if is_known command slots then (if may_be (first_size command) then None else Some OutOfRange) else Some NoSuchName
+
+-- without a desk, the command is refused, or makes the desk and is then answered
+abbrev pub Opens : Option Refusal → List SlotView → Command → List ℕ → SessionState → Type 0
+Opens (Some e) slots command text new = (text ≡ refused_text e) × (new ≡ unmade slots)
+Opens None slots command text new = (first : FullState) × (after : FullState) × IsNewDesk (first_size command) slots first × FirstAnswers first command text after × (new ≡ made after)
+
+-- the command may be answered so, and leave this
+abbrev pub Obeys : SessionState → Command → List ℕ → SessionState → Type 0
+Obeys (unmade slots) command text new = Opens (why_unmade command slots) slots command text new
+Obeys (made s) command text new = (after : FullState) × Answers s command text after × (new ≡ made after)
+
+-- whether the command is the one that makes the desk
+abbrev pub makes_desk : SessionState → Command → Bool
+makes_desk (unmade slots) command = is_none (why_unmade command slots)
+makes_desk (made s) command = false
+
+-- what a line says may be answered so, and leave this: a line that says nothing is not answered
+abbrev pub SaidAnswers : SessionState → Option (Result Command Refusal) → List ℕ → SessionState → Type 0
+SaidAnswers old None text new = (text ≡ []) × (new ≡ old)
+SaidAnswers old (Some (Err e)) text new = (text ≡ refused_text e) × (new ≡ old)
+SaidAnswers old (Some (Ok command)) text new = Obeys old command text new
+
+-- the lines, one after another, may be answered by this text, and leave this
+abbrev pub Written : SessionState → List (List ℕ) → List ℕ → SessionState → Type 0
+Written old [] text new = (text ≡ []) × (new ≡ old)
+Written old (line ∷ lines) text new = (middle : SessionState) × (first : List ℕ) × (others : List ℕ)
+    × SaidAnswers old (said line) first middle × Written middle lines others new × (text ≡ first ++ others)

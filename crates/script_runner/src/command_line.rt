@@ -1,0 +1,85 @@
+//! The command line: `desk [SCRIPT]`.
+ghost use Rattle.std.specs.Prelude.{◌≡◌, IfOk, IfErr, OnOk, map, false, option_map, codes, []};
+ghost use Rattle.clap.specs.Words.{HasKind, app_of, rule_of, first_value, found_of};
+ghost use Rattle.script_runner.specs.Choices.{desk_app, word_rule, faults_in, IsChosen, IsRefused};
+
+use clap::error::ErrorKind;
+use clap::{Arg, ArgAction, ArgMatches, Command};
+use std::alloc::{AllocError, Global};
+use std::convert::AsStr;
+use thiserror::Error;
+
+#[cfg(test)]
+mod tests;
+
+/// What the command line chose.
+#[derive(Debug, Drop)]
+pub struct Choices<'a> {
+    /// The path of the script; standard input where there is none.
+    pub script: Option<&'a str>,
+}
+
+/// Why a command line is refused. Displayed, it is what to print on standard error.
+#[derive(Debug, Drop, Error)]
+pub enum OptionsError {
+    /// Something is wrong with the words, or they ask for help.
+    #[error("{0}")]
+    Words(clap::Error),
+    /// There was no memory to read them.
+    #[error("desk: no memory for the command line")]
+    Memory(AllocError),
+}
+
+/// A word that stands by itself.
+fn positional<'a>(alloc: Global, name: &'a str) -> Arg<'a>
+    ensures rule { rule_of result ≡ word_rule name.entry.now }
+    ensures local { result.global ≡ false }
+{
+    Arg::new(alloc, name).action(ArgAction::Set)
+}
+
+/// What the program takes: one SCRIPT, or none.
+fn desk_command<'a>(alloc: Global) -> Result<Command<'a>, AllocError>
+    ensures { IfOk result (λ c. app_of c ≡ desk_app) }
+{
+    let command = Command::new(alloc, "desk").arg(positional(alloc, "SCRIPT"))?;
+    Ok(command)
+}
+
+/// What the matches hold.
+fn chosen<'a>(matches: &ArgMatches<'a>) -> Choices<'a>
+    ensures { option_map (λ s. s.now) result.script ≡ first_value (found_of matches.now) (codes "SCRIPT") }
+{
+    Choices {
+        script: matches.get_str("SCRIPT"),
+    }
+}
+
+/// The error of a parse: want of memory by its own name, and all else as it is.
+fn refused(error: clap::Error) -> OptionsError
+    ensures { (words : _) → HasKind (faults_in words) error → IsRefused words result }
+{
+    if error.kind() == ErrorKind::OutOfMemory {
+        OptionsError::Memory(AllocError)
+    } else {
+        OptionsError::Words(error)
+    }
+}
+
+/// What the words of a command line choose; the first of them is the program's name. They are taken
+/// where nothing is wrong with them. An error of their own says what is, and Memory says that there
+/// was none to read them.
+pub fn options<'a, S: AsStr>(alloc: Global, words: &'a [S]) -> Result<Choices<'a>, OptionsError>
+    ensures chosen { IfOk result (IsChosen (map S.text words.entry.now)) }
+    ensures taken { OnOk result (faults_in (map S.text words.entry.now) ≡ []) }
+    ensures refused { IfErr result (IsRefused (map S.text words.entry.now)) }
+{
+    let command = match desk_command(alloc) {
+        Ok(command) => command,
+        Err(error) => return Err(OptionsError::Memory(error)),
+    };
+    match command.try_get_matches_from(words) {
+        Ok(matches) => Ok(chosen(&matches)),
+        Err(error) => Err(refused(error)),
+    }
+}

@@ -1,0 +1,101 @@
+//! A run: the lines of a script, from a reader, and what each answers, to a writer.
+ghost use Rattle.std.specs.Prelude.{◌≡◌, ◌≢◌, Some, IsOk, OnOk, All, []};
+ghost use Rattle.def_iface.specs.Stocked.{IsFull};
+ghost use Rattle.script_runner.specs.Held.{pushed, said_held};
+ghost use Rattle.script_runner.specs.SessionViews.{session_of, IsReady};
+ghost use Rattle.script_runner.specs.Session.{unmade};
+ghost use Rattle.script_runner.specs.Endings.{LineEnds};
+ghost use Rattle.script_runner.specs.Runs.{RunEnds};
+
+use crate::script_text::LineBuffer;
+use crate::session::Session;
+use crate::sink::Sink;
+use crate::source::Source;
+use def_iface::{Defined, Stock, Stocked, Taken};
+use std::alloc::Global;
+use tb_geom::Refusal;
+
+/// How many reads a run makes at most.
+const MOST_READS: u32 = 1_000_000;
+
+/// Answers each line of the script that the source gives, in bytes to the sink, and writes nothing
+/// else. What a line answers is written before the next read. ReadFault where a read failed or
+/// 1,000,000 came without the end of the input, WriteFault where a write failed, and NoMemory where
+/// there was none for the desk, which the first command makes. However the run ends, each definition
+/// of the stock is back in its slot.
+pub fn run<R: Source, W: Sink>(
+    alloc: Global,
+    source: &mut R,
+    sink: &mut W,
+    stock: &mut Stock,
+) -> Result<(), Refusal>
+    requires full { All IsFull (⟦<Stock as Stocked>⟧.slots stock.old) }
+    requires unread { (R.input source.old).reads ≡ 0 }
+    ensures full { All IsFull (⟦<Stock as Stocked>⟧.slots stock.new) }
+    ensures ends { RunEnds (⟦<Stock as Stocked>⟧.slots stock.old) (R.input source.old) (R.input source.new)
+        (W.output sink.old) (W.output sink.new) result }
+{
+    let mut session = Session::new(alloc);
+    let outcome = answer_all(&mut session, source, sink, stock);
+    session.close(stock);
+    outcome
+}
+
+/// Answers each line of the script.
+fn answer_all<R: Source, W: Sink>(
+    session: &mut Session,
+    source: &mut R,
+    sink: &mut W,
+    stock: &mut Stock,
+) -> Result<(), Refusal>
+    requires ready { IsReady ⟦<Taken as Defined>⟧.loan session.old (⟦<Stock as Stocked>⟧.slots stock.old) }
+    requires unmade { session_of ⟦<Taken as Defined>⟧.loan session.old (⟦<Stock as Stocked>⟧.slots stock.old)
+        ≡ unmade (⟦<Stock as Stocked>⟧.slots stock.old) }
+    requires unread { (R.input source.old).reads ≡ 0 }
+    ensures ready { IsReady ⟦<Taken as Defined>⟧.loan session.new (⟦<Stock as Stocked>⟧.slots stock.new) }
+    ensures ends { RunEnds (⟦<Stock as Stocked>⟧.slots stock.old) (R.input source.old) (R.input source.new)
+        (W.output sink.old) (W.output sink.new) result }
+{
+    let mut line = LineBuffer::new();
+    let mut buffer = [0u8; 4096];
+    for read in 0..MOST_READS {
+        let count = source.read_some(&mut buffer)?;
+        if count == 0 {
+            return session.answer(line.read_last(), stock, sink);
+        }
+        let chunk = &buffer[..count];
+        for byte in chunk {
+            take(session, &mut line, *byte, stock, sink)?;
+        }
+    }
+    Err(Refusal::ReadFault)
+}
+
+/// Takes the next byte of the script.
+fn take<W: Sink>(
+    session: &mut Session,
+    line: &mut LineBuffer,
+    byte: u8,
+    stock: &mut Stock,
+    sink: &mut W,
+) -> Result<(), Refusal>
+    requires { IsReady ⟦<Taken as Defined>⟧.loan session.old (⟦<Stock as Stocked>⟧.slots stock.old) }
+    ensures ready { IsReady ⟦<Taken as Defined>⟧.loan session.new (⟦<Stock as Stocked>⟧.slots stock.new) }
+    ensures newline { byte ≡ 10 → LineEnds
+        (session_of ⟦<Taken as Defined>⟧.loan session.old (⟦<Stock as Stocked>⟧.slots stock.old)) (said_held line.old)
+        (session_of ⟦<Taken as Defined>⟧.loan session.new (⟦<Stock as Stocked>⟧.slots stock.new))
+        (W.output sink.old) (W.output sink.new) result }
+    ensures cleared { byte ≡ 10 → OnOk result (line.new ≡ Some []) }
+    ensures other { byte ≢ 10 → IsOk result × (line.new ≡ pushed line.old byte)
+        × (session_of ⟦<Taken as Defined>⟧.loan session.new (⟦<Stock as Stocked>⟧.slots stock.new)
+        ≡ session_of ⟦<Taken as Defined>⟧.loan session.old (⟦<Stock as Stocked>⟧.slots stock.old))
+        × (W.output sink.new ≡ W.output sink.old) }
+{
+    if byte != b'\n' {
+        line.push(byte);
+        return Ok(());
+    }
+    session.answer(line.read(), stock, sink)?;
+    line.clear();
+    Ok(())
+}

@@ -1,0 +1,101 @@
+//! Lines as commands.
+//!
+//! A line is a verb and the words that its shape asks for (`specs/Commands.antt`). So a command takes one line
+//! among the shapes, one in the table of verbs, one arm in `command`, and a function here that reads its words.
+//! The form of a whole line is judged here, and nothing else: no range of a number, and no name.
+ghost use Rattle.std.specs.Prelude.{◌≡◌, ◌⊎◌, Result, Err};
+ghost use Rattle.tb_geom.specs.declared.refusal.Refusal.{Refusal};
+ghost use Rattle.tb_geom.specs.declared.refusal.Refusal.TheVariants.{BadSyntax};
+ghost use Rattle.script_runner.specs.declared.script_text.command.Command.{Command};
+ghost use Rattle.script_runner.specs.Grammar.{reading};
+ghost use Rattle.script_runner.specs.Commands.{command_of, shape_of, desk_shape, image_shape, window_shape};
+ghost use Rattle.script_runner.specs.Spelling.{IsLine};
+
+use crate::script_text::command::{Command, DeskSize};
+use crate::script_text::verb::{Verb, verb_of};
+use crate::script_text::words::Words;
+use def_iface::Size;
+use desk_toolbox::{Call, NewWindow, WindowCall};
+use tb_geom::{Point, Refusal};
+
+/// The words after `desk`: the screen's width and height, and the rows of its menu bar.
+fn desk<'a>(words: Words<'a>) -> Result<Command<'a>, Refusal>
+    ensures { result ≡ reading desk_shape words.entry }
+{
+    let (width, words) = words.number()?;
+    let (height, words) = words.number()?;
+    let (bar, words) = words.number()?;
+    words.end()?;
+    Ok(Command::Desk(DeskSize { width, height, bar }))
+}
+
+/// Nothing follows `image`.
+fn image<'a>(words: Words<'a>) -> Result<Command<'a>, Refusal>
+    ensures { result ≡ reading image_shape words.entry }
+{
+    words.end()?;
+    Ok(Command::Image)
+}
+
+/// The words after `window`: the kind, the place and size of the content on the screen, whether it is shown,
+/// whether it has a go-away box, and the title.
+fn window<'a>(words: Words<'a>) -> Result<Command<'a>, Refusal>
+    ensures { result ≡ reading window_shape words.entry }
+{
+    let (kind, words) = words.name()?;
+    let (h, words) = words.number()?;
+    let (v, words) = words.number()?;
+    let (width, words) = words.number()?;
+    let (height, words) = words.number()?;
+    let (shown, words) = words.flag()?;
+    let (go_away, words) = words.flag()?;
+    let (title, words) = words.text()?;
+    words.end()?;
+    let place = Point { h, v };
+    let size = Size { width, height };
+    let window = NewWindow {
+        kind,
+        place,
+        size,
+        shown,
+        go_away,
+        title,
+    };
+    Ok(Command::Call(Call::Window(WindowCall::New(window))))
+}
+
+/// The words after a verb.
+fn command<'a>(verb: Verb, words: Words<'a>) -> Result<Command<'a>, Refusal>
+    ensures { result ≡ reading (shape_of verb) words.entry }
+{
+    match verb {
+        Verb::Desk => desk(words),
+        Verb::Image => image(words),
+        Verb::Window => window(words),
+    }
+}
+
+/// The verb of a line, and the words after it.
+#[tactic(auto, unfolding(crate::specs::Commands::command_of))]
+fn read<'a>(line: &'a [u8]) -> Result<Command<'a>, Refusal>
+    ensures { result ≡ command_of line.entry.now }
+{
+    let (name, words) = Words::new(line).word()?;
+    match verb_of(name.bytes()) {
+        Some(verb) => command(verb, words),
+        None => Err(Refusal::BadSyntax),
+    }
+}
+
+/// The command that a line says: a line without its ending, neither empty nor a comment. A line that says none is
+/// BadSyntax.
+pub fn parse<'a>(line: &'a [u8]) -> Result<Command<'a>, Refusal>
+    // The line says what is answered, or the answer is BadSyntax.
+    ensures found { IsLine line.entry.now result ⊎ (result ≡ Err BadSyntax) }
+    // What a line says is what is answered: a line says one thing at most, and a line that says something is not BadSyntax.
+    ensures only { (said : Result Command Refusal) → IsLine line.entry.now said → result ≡ said }
+    // The answer as a function of the line.
+    ensures exact { result ≡ command_of line.entry.now }
+{
+    read(line)
+}

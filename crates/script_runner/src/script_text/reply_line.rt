@@ -1,0 +1,42 @@
+//! Replies as lines.
+ghost use Rattle.script_runner.specs.Writes.{Sends};
+ghost use Rattle.script_runner.specs.Replies.{done_text, reply_text};
+
+use crate::sink::{Sink, send, send_all};
+use desk_toolbox::Reply;
+use itoa::Buffer;
+use tb_geom::Refusal;
+
+/// Writes the line of a command that was done and has no value: `ok`.
+pub fn write_done<S: Sink>(sink: &mut S) -> Result<(), Refusal>
+    ensures { Sends (S.output sink.old) (S.output sink.new) result done_text }
+{
+    send(sink, b"ok\n")
+}
+
+/// Writes the line of what a call answered: `ok` and its value, or `refused` with the refusal's
+/// number and name.
+pub fn write_reply<S: Sink>(sink: &mut S, reply: &Result<Reply, Refusal>) -> Result<(), Refusal>
+    ensures { Sends (S.output sink.old) (S.output sink.new) result (reply_text reply.now) }
+{
+    let mut number = Buffer::new();
+    match *reply {
+        Ok(Reply::Window(window)) => {
+            let pieces: [&[u8]; 3] = [b"ok ", number.format(window).as_bytes(), b"\n"];
+            send_all(sink, &pieces)
+        }
+        Err(refusal) => {
+            let pieces: [&[u8]; 5] = [
+                b"refused ",
+                number.format(refusal.number()).as_bytes(),
+                b" ",
+                refusal.name().as_bytes(),
+                b"\n",
+            ];
+            send_all(sink, &pieces)
+        }
+    }
+}
+
+#[cfg(test)]
+mod tests;

@@ -1,0 +1,190 @@
+//! The desk of a script: none, until the first command makes it.
+ghost use Rattle.std.specs.Prelude.{◌≡◌, true, All, None};
+ghost use Rattle.def_iface.specs.Stocked.{IsFull};
+ghost use Rattle.desk_toolbox.specs.Records.{state_of};
+ghost use Rattle.desk_toolbox.specs.Whole.{IsWhole};
+ghost use Rattle.script_runner.specs.Session.{first_size, is_known};
+ghost use Rattle.script_runner.specs.SessionViews.{session_of, IsReady};
+ghost use Rattle.script_runner.specs.Endings.{IsAnswered, IsFirstAnswered, CommandEnds, LineEnds};
+
+use crate::screen_pbm::write_p1;
+use crate::script_text::{Command, DeskSize, write_done, write_reply};
+use crate::sink::Sink;
+use def_iface::{Defined, Stock, Stocked, Taken};
+use desk_toolbox::{Call, Toolbox, WindowCall};
+use std::alloc::Global;
+use tb_geom::Refusal;
+
+/// The desk that is made where the first command asks for no other.
+const USUAL_DESK: DeskSize = DeskSize {
+    width: 512,
+    height: 342,
+    bar: 20,
+};
+
+/// A script's desk, once a command has made it.
+#[derive(Drop)]
+pub struct Session {
+    alloc: Global,
+    desk: Option<Toolbox>,
+}
+
+impl Session {
+    /// Without a desk.
+    pub fn new(alloc: Global) -> Session
+        ensures { result.desk ≡ None }
+    {
+        Session { alloc, desk: None }
+    }
+
+    /// Answers what a line says, in bytes to the sink: a reply line, or an image. Nothing is written
+    /// for a line that says nothing. The first command makes the desk: where there is no memory for
+    /// that, the answer is NoMemory and nothing is written. Else WriteFault is the only error.
+    pub fn answer<S: Sink>(
+        &mut self,
+        said: Option<Result<Command<'_>, Refusal>>,
+        stock: &mut Stock,
+        sink: &mut S,
+    ) -> Result<(), Refusal>
+        requires { IsReady ⟦<Taken as Defined>⟧.loan self.old (⟦<Stock as Stocked>⟧.slots stock.old) }
+        ensures ready { IsReady ⟦<Taken as Defined>⟧.loan self.new (⟦<Stock as Stocked>⟧.slots stock.new) }
+        ensures ends { LineEnds
+            (session_of ⟦<Taken as Defined>⟧.loan self.old (⟦<Stock as Stocked>⟧.slots stock.old)) said.entry
+            (session_of ⟦<Taken as Defined>⟧.loan self.new (⟦<Stock as Stocked>⟧.slots stock.new))
+            (S.output sink.old) (S.output sink.new) result }
+    {
+        match said {
+            None => Ok(()),
+            Some(Err(refusal)) => write_reply(sink, &Err(refusal)),
+            Some(Ok(command)) => self.obey(&command, stock, sink),
+        }
+    }
+
+    /// Answers a command.
+    fn obey<S: Sink>(
+        &mut self,
+        command: &Command<'_>,
+        stock: &mut Stock,
+        sink: &mut S,
+    ) -> Result<(), Refusal>
+        requires { IsReady ⟦<Taken as Defined>⟧.loan self.old (⟦<Stock as Stocked>⟧.slots stock.old) }
+        ensures ready { IsReady ⟦<Taken as Defined>⟧.loan self.new (⟦<Stock as Stocked>⟧.slots stock.new) }
+        ensures ends { CommandEnds
+            (session_of ⟦<Taken as Defined>⟧.loan self.old (⟦<Stock as Stocked>⟧.slots stock.old)) command.now
+            (session_of ⟦<Taken as Defined>⟧.loan self.new (⟦<Stock as Stocked>⟧.slots stock.new))
+            (S.output sink.old) (S.output sink.new) result }
+    {
+        match &mut self.desk {
+            Some(desk) => answer_on(desk, command, stock, sink),
+            None if is_known(command, stock) => self.open(command, stock, sink),
+            None => write_reply(sink, &Err(Refusal::NoSuchName)),
+        }
+    }
+
+    /// Makes the desk for the first command, and answers that.
+    fn open<S: Sink>(
+        &mut self,
+        command: &Command<'_>,
+        stock: &mut Stock,
+        sink: &mut S,
+    ) -> Result<(), Refusal>
+        requires unmade { self.old.desk ≡ None }
+        requires full { All IsFull (⟦<Stock as Stocked>⟧.slots stock.old) }
+        requires known { is_known command.now (⟦<Stock as Stocked>⟧.slots stock.old) ≡ true }
+        ensures ready { IsReady ⟦<Taken as Defined>⟧.loan self.new (⟦<Stock as Stocked>⟧.slots stock.new) }
+        ensures ends { CommandEnds
+            (session_of ⟦<Taken as Defined>⟧.loan self.old (⟦<Stock as Stocked>⟧.slots stock.old)) command.now
+            (session_of ⟦<Taken as Defined>⟧.loan self.new (⟦<Stock as Stocked>⟧.slots stock.new))
+            (S.output sink.old) (S.output sink.new) result }
+    {
+        let size = first_size(command);
+        match Toolbox::new(self.alloc, size.width, size.height, size.bar) {
+            Ok(desk) => {
+                let mut desk = desk;
+                let outcome = first_answer(&mut desk, command, stock, sink);
+                self.desk = Some(desk);
+                outcome
+            }
+            Err(Refusal::NoMemory) => Err(Refusal::NoMemory),
+            Err(refusal) => write_reply(sink, &Err(refusal)),
+        }
+    }
+
+    /// Ends the session: every window's definition is disposed of, and put back Closed into its slot.
+    pub fn close(self, stock: &mut Stock)
+        requires { IsReady ⟦<Taken as Defined>⟧.loan self (⟦<Stock as Stocked>⟧.slots stock.old) }
+        ensures { All IsFull (⟦<Stock as Stocked>⟧.slots stock.new) }
+    {
+        let Session { desk, .. } = self;
+        if let Some(desk) = desk {
+            desk.close(stock);
+        }
+    }
+}
+
+/// The size of the desk that a command makes, where it is the first.
+fn first_size(command: &Command<'_>) -> DeskSize
+    ensures { result ≡ first_size command.now }
+{
+    match command {
+        Command::Desk(size) => *size,
+        Command::Image => USUAL_DESK,
+        Command::Call(_) => USUAL_DESK,
+    }
+}
+
+/// Whether the stock has a slot of the kind that a command names, if it names one.
+fn is_known(command: &Command<'_>, stock: &Stock) -> bool
+    ensures { result ≡ is_known command.now (⟦<Stock as Stocked>⟧.slots stock.now) }
+{
+    match command {
+        Command::Call(Call::Window(WindowCall::New(window))) => stock.has(window.kind.bytes()),
+        Command::Desk(_) => true,
+        Command::Image => true,
+    }
+}
+
+/// Answers the command that made the desk.
+fn first_answer<S: Sink>(
+    desk: &mut Toolbox,
+    command: &Command<'_>,
+    stock: &mut Stock,
+    sink: &mut S,
+) -> Result<(), Refusal>
+    requires { IsWhole ⟦<Taken as Defined>⟧.loan desk.old (⟦<Stock as Stocked>⟧.slots stock.old) }
+    ensures whole { IsWhole ⟦<Taken as Defined>⟧.loan desk.new (⟦<Stock as Stocked>⟧.slots stock.new) }
+    ensures answered { IsFirstAnswered
+        (state_of ⟦<Taken as Defined>⟧.loan desk.old (⟦<Stock as Stocked>⟧.slots stock.old)) command.now
+        (state_of ⟦<Taken as Defined>⟧.loan desk.new (⟦<Stock as Stocked>⟧.slots stock.new))
+        (S.output sink.old) (S.output sink.new) result }
+{
+    match command {
+        Command::Desk(_) => write_done(sink),
+        Command::Image => answer_on(desk, command, stock, sink),
+        Command::Call(_) => answer_on(desk, command, stock, sink),
+    }
+}
+
+/// Answers a command on a desk.
+fn answer_on<S: Sink>(
+    desk: &mut Toolbox,
+    command: &Command<'_>,
+    stock: &mut Stock,
+    sink: &mut S,
+) -> Result<(), Refusal>
+    requires { IsWhole ⟦<Taken as Defined>⟧.loan desk.old (⟦<Stock as Stocked>⟧.slots stock.old) }
+    ensures whole { IsWhole ⟦<Taken as Defined>⟧.loan desk.new (⟦<Stock as Stocked>⟧.slots stock.new) }
+    ensures answered { IsAnswered
+        (state_of ⟦<Taken as Defined>⟧.loan desk.old (⟦<Stock as Stocked>⟧.slots stock.old)) command.now
+        (state_of ⟦<Taken as Defined>⟧.loan desk.new (⟦<Stock as Stocked>⟧.slots stock.new))
+        (S.output sink.old) (S.output sink.new) result }
+{
+    match command {
+        Command::Desk(_) => write_reply(sink, &Err(Refusal::Busy)),
+        Command::Image => write_p1(sink, desk.screen()),
+        Command::Call(call) => {
+            let answer = desk.call(call, stock);
+            write_reply(sink, &answer)
+        }
+    }
+}
