@@ -49,9 +49,7 @@ pub record FullState : Type 0 where
 abbrev pub bar_picture : PixelSet
 bar_picture p = int_eq p.v (pos 19)
 
--- the pattern of the desktop, which is gray: black where row and column are both even or both odd
-
--- the pattern of the desktop
+-- the pattern of the desktop: black where row and column are both even or both odd
 abbrev pub gray : Pattern
 gray = record { rows = 0xAA ∷ 0x55 ∷ 0xAA ∷ 0x55 ∷ 0xAA ∷ 0x55 ∷ 0xAA ∷ 0x55 ∷ [] }
 
