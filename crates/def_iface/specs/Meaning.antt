@@ -7,12 +7,13 @@ use Rattle.tb_geom.specs.Rects.{rect_holds, in_plane, is_in_range}
 use Rattle.def_iface.specs.declared.size.Size.{Size}
 use Rattle.def_iface.specs.declared.window_def.Stage.{Stage}
 use Rattle.def_iface.specs.declared.window_def.Stage.TheVariants.{Live}
+use Rattle.def_iface.specs.declared.window_def.Hit.{Hit}
 use Rattle.def_iface.specs.declared.window_def.WindowChange.{WindowChange}
 use Rattle.def_iface.specs.declared.window_def.WindowChange.TheVariants.{Resized}
 use Rattle.def_iface.specs.Sizes.{is_size}
 
 -- A definition as a value: its stage, the size that it was told, its regions and their box as functions of the size
--- alone, and its picture; points are local to the window.
+-- alone, its picture, and which part of the window a point of the structure lies in; points are local to the window.
 pub record Definition : Type 0 where
   pub stage : Stage
   pub size : Size
@@ -20,6 +21,7 @@ pub record Definition : Type 0 where
   pub content : Size → PixelSet
   pub bounds : Size → Rect
   pub picture : PixelSet
+  pub hit : Point → Hit
 
 -- a definition that is out of its slot, and the number of that slot
 pub record Loan : Type 0 where

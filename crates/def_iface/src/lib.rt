@@ -50,7 +50,7 @@ pub use canvas::{Canvas, Cut};
 pub use size::Size;
 pub use stock::{Returned, Stock, Stocked};
 pub use taken::{Defined, Taken};
-pub use window_def::{Stage, WindowChange, WindowDef, WindowRegions};
+pub use window_def::{Hit, Stage, WindowChange, WindowDef, WindowRegions};
 
 #[cfg(test)]
 mod tests;

@@ -8,9 +8,9 @@ ghost use Rattle.def_iface.specs.Sizes.{is_size};
 ghost use Rattle.def_iface.specs.Canvases.{canvas_holds, canvas_point, SameFrame};
 ghost use Rattle.def_iface.specs.Meaning.{Loan, IsWithin, IsBegun, is_fitting};
 
-use crate::{Canvas, Size, Stage, WindowChange, WindowDef, WindowRegions};
+use crate::{Canvas, Hit, Size, Stage, WindowChange, WindowDef, WindowRegions};
 use std::alloc::Global;
-use tb_geom::{Rect, Refusal};
+use tb_geom::{Point, Rect, Refusal};
 
 /// A definition that was taken out of a stock, and the number of its slot there. The two travel
 /// together until they are put back.
@@ -67,6 +67,16 @@ impl Taken {
     {
         self.definition.begin();
         let _damage = self.definition.told(WindowChange::Resized(size));
+    }
+
+    /// The part of the window that the point, local to it, lies in.
+    pub fn hit(&self, point: Point) -> Hit
+        requires live { (⟦<Taken as Defined>⟧.loan self.now).definition.stage ≡ Stage.Live }
+        requires told { is_fitting (⟦<Taken as Defined>⟧.loan self.now).definition
+            (⟦<Taken as Defined>⟧.loan self.now).definition.size ≡ true }
+        ensures { result ≡ (⟦<Taken as Defined>⟧.loan self.now).definition.hit point }
+    {
+        self.definition.hit(point)
     }
 
     /// Gives each pixel of the canvas the value that the definition's picture has there.

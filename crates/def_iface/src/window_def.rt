@@ -12,7 +12,7 @@ ghost use Rattle.def_iface.specs.Meaning.{Definition, SameRegions, IsDamage, IsW
 use crate::{Canvas, Size};
 use scan_region::Region;
 use std::alloc::Global;
-use tb_geom::{Rect, Refusal};
+use tb_geom::{Point, Rect, Refusal};
 
 /// Where a definition stands in its life. It is Fresh when it is made, Live from `begin` on, and
 /// Closed for good from `dispose` on.
@@ -31,6 +31,25 @@ pub enum Stage {
 pub enum WindowChange {
     /// The size of the content rectangle.
     Resized(Size),
+}
+
+/// The part of a window that a point lies in, as its definition tells (the codes of the message
+/// wHit: *Inside Macintosh* I, "The Window Manager", "Defining Your Own Windows").
+#[derive(Clone, Copy, Debug, PartialEq, Eq)]
+pub enum Hit {
+    /// A part in which a click means nothing.
+    NoHit = 0,
+    InContent = 1,
+    /// Where the window can be dragged.
+    InDrag = 2,
+    /// Where its size can be changed.
+    InGrow = 3,
+    /// The box that closes it.
+    InGoAway = 4,
+    /// The box that gives a zoomed window its own size back.
+    InZoomIn = 5,
+    /// The box that zooms it.
+    InZoomOut = 6,
 }
 
 /// The regions of a window, local to it.
@@ -83,6 +102,12 @@ pub trait WindowDef: Drop {
         requires { is_size size ≡ true }
         ensures value { result ≡ (meaning self.now).bounds size }
         ensures exact { IsBoxOf result ((meaning self.now).structure size) };
+
+    /// The part of the window that the point lies in. It is asked of points of the structure.
+    fn hit(&self, point: Point) -> Hit
+        requires live { (meaning self.now).stage ≡ Stage.Live }
+        requires told { is_fitting (meaning self.now) (meaning self.now).size ≡ true }
+        ensures { result ≡ (meaning self.now).hit point };
 
     /// Gives each pixel of the canvas the value that the picture has there.
     fn draw(&self, canvas: &mut Canvas<'_>)

@@ -1,6 +1,7 @@
--- A window that is added to an empty desk.
-use Rattle.std.proofs.Common.{◌≡◌, ℕ, Bool, true, false, not, ◌&&◌, if◌then◌else◌, [], ◌∷◌, map, refl, sym, ap, ◌∙◌}
+-- A window that is put in front of others: the desk before and after, pixel by pixel.
+use Rattle.std.proofs.Common.{◌≡◌, ℕ, Bool, true, false, not, ◌&&◌, ◌||◌, ◌==◌, if◌then◌else◌, List, [], ◌∷◌, None, refl, sym, ap, ◌∙◌, arith}
 use Rattle.std.proofs.lemmas.Bool.{false≢true}
+use Rattle.std.proofs.lemmas.Bool.Decides.{nat_tests}
 use Rattle.tb_geom.specs.declared.point.Point.{Point}
 use Rattle.tb_geom.specs.Points.{PixelSet, minus}
 use Rattle.tb_geom.specs.Pixels.{Pixels, holds}
@@ -13,153 +14,100 @@ use Rattle.def_iface.specs.Owner.{Owner, owner, owner_among, own_bit, same_owner
 use Rattle.def_iface.specs.Owner.Owner.{Desktop, Bar, Frame, Content}
 use Rattle.def_iface.specs.Scratch.{scratch}
 use Rattle.def_iface.specs.Change as plain
-use Rattle.def_iface.proofs.Owning.{same_number}
+use Rattle.def_iface.proofs.Owning.{same_number, is_other, owner_is_other, own_bit-behind}
 use Rattle.def_iface.proofs.Painting.{scratch_is_owners}
 use Rattle.desk_toolbox.specs.declared.call.NewWindow.{NewWindow}
 use Rattle.desk_toolbox.specs.declared.toolbox.Area.{Area}
-use Rattle.desk_toolbox.specs.FullDesk.{FullDesk, plain_window, plain_desk}
+use Rattle.desk_toolbox.specs.FullDesk.{WindowRecord, FullDesk, AreBelow, plain_window, plain_desk}
+use Rattle.desk_toolbox.specs.Records.{stale_in}
 use Rattle.desk_toolbox.specs.Step.{new_record}
-use Rattle.desk_toolbox.specs.Planned.{IsFrontArea, IsPainted}
-use Rattle.desk_toolbox.specs.Whole.{IsArea, IsGray, is_content_of}
+use Rattle.desk_toolbox.specs.Planned.{IsFrontArea, IsCover, IsUnder, AreUnder, IsPainted}
+use Rattle.desk_toolbox.specs.Whole.{IsArea, AreAreas, IsGray, is_content_of}
+use Rattle.desk_toolbox.proofs.Running.{next_is_free}
+use Rattle.desk_toolbox.proofs.Covering.{owner_over, owner_under, IsSeen, Seen, case_of, stale_seen, content_seen, frame_seen, kept_seen, plain_seen, image_seen}
 
--- ---- whose a pixel is, by what holds there: the bar b, the window's structure x where it is shown s, its content c
-
-owner_over : Bool → Bool → Bool → Bool → ℕ → Owner
-owner_over b s x c n = if b then Bar else (if s && x then (if c then Content n Picture else Frame n) else Desktop)
-
-owner_under : Bool → Owner
-owner_under b = if b then Bar else Desktop
-
--- what is known of a pixel of the screen
-record IsSeen (s x c b v f : Bool) : Type 0 where
-  within : c ≡ true → x ≡ true
-  visible : v ≡ (c && (s && not b))
-  frame : f ≡ ((x && not c) && (s && not b))
-
--- a window's content is stale
-stale_seen : (n : ℕ) (b s x c v f stale : Bool) → IsSeen s x c b v f
-    → v ≡ (if not (is_content (owner_over b s x c n)) then false else (if true && same_owner (owner_under b) (owner_over b s x c n) then stale else true))
-unfolding owner_over owner_under
-stale_seen n true s x c v f stale seen = seen.visible ∙ by_bools c s
-  where
-    by_bools : (c s : Bool) → (c && (s && false)) ≡ false
-    by_bools true true = refl
-    by_bools true false = refl
-    by_bools false s = refl
-stale_seen n false true true true v f stale seen = seen.visible
-stale_seen n false true true false v f stale seen = seen.visible
-stale_seen n false true false true v f stale seen = absurd (false≢true (seen.within refl))
-stale_seen n false true false false v f stale seen = seen.visible
-stale_seen n false false x true v f stale seen = seen.visible
-stale_seen n false false x false v f stale seen = seen.visible
-
--- content is visible, and frame is frame
-content_seen : (n : ℕ) (b s x c v f : Bool) → IsSeen s x c b v f → v ≡ (true && is_content_of n (owner_over b s x c n))
-unfolding owner_over
-content_seen n true s x c v f seen = seen.visible ∙ by_bools c s
-  where
-    by_bools : (c s : Bool) → (c && (s && false)) ≡ false
-    by_bools true true = refl
-    by_bools true false = refl
-    by_bools false s = refl
-content_seen n false true true true v f seen = seen.visible ∙ sym (same_number n)
-content_seen n false true true false v f seen = seen.visible
-content_seen n false true false true v f seen = absurd (false≢true (seen.within refl))
-content_seen n false true false false v f seen = seen.visible
-content_seen n false false x true v f seen = seen.visible
-content_seen n false false x false v f seen = seen.visible
-
-frame_seen : (n : ℕ) (b s x c v f : Bool) → IsSeen s x c b v f → f ≡ (true && same_owner (owner_over b s x c n) (Frame n))
-unfolding owner_over
-frame_seen n true s x c v f seen = seen.frame ∙ by_bools x c s
-  where
-    by_bools : (x c s : Bool) → ((x && not c) && (s && false)) ≡ false
-    by_bools true true s = refl
-    by_bools true false true = refl
-    by_bools true false false = refl
-    by_bools false c s = refl
-frame_seen n false true true true v f seen = seen.frame
-frame_seen n false true true false v f seen = seen.frame ∙ sym (same_number n)
-frame_seen n false true false true v f seen = absurd (false≢true (seen.within refl))
-frame_seen n false true false false v f seen = seen.frame
-frame_seen n false false true true v f seen = seen.frame
-frame_seen n false false true false v f seen = seen.frame
-frame_seen n false false false c v f seen = seen.frame
-
--- the value of a pixel that is no content is its owner's: the frame's picture, or what stood there
-plain_seen : (n : ℕ) (b s x c v f picture old : Bool) (value : Owner → Bool) → IsSeen s x c b v f
-    → old ≡ value (owner_under b) → picture ≡ value (Frame n)
-    → is_content (owner_over b s x c n) ≡ false
-    → (if f then picture else (if v then false else old)) ≡ value (owner_over b s x c n)
-unfolding owner_over owner_under
-plain_seen n true s x c v f picture old value seen under frame e = rw (seen.frame, seen.visible) (by_bools x c s)
-  where
-    by_bools : (x c s : Bool) → (if (x && not c) && (s && false) then picture else (if c && (s && false) then false else old)) ≡ value Bar
-    by_bools true true true = under
-    by_bools true true false = under
-    by_bools true false true = under
-    by_bools true false false = under
-    by_bools false true true = under
-    by_bools false true false = under
-    by_bools false false s = under
-plain_seen n false true true true v f picture old value seen under frame e = absurd (cc)
-plain_seen n false true true false v f picture old value seen under frame e = rw seen.frame frame
-plain_seen n false true false true v f picture old value seen under frame e = absurd (false≢true (seen.within refl))
-plain_seen n false true false false v f picture old value seen under frame e = rw (seen.frame, seen.visible) under
-plain_seen n false false x true v f picture old value seen under frame e = rw (seen.frame, seen.visible) (by_bool x)
-  where
-    by_bool : (x : Bool) → (if (x && false) && false then picture else old) ≡ value Desktop
-    by_bool true = under
-    by_bool false = under
-plain_seen n false false x false v f picture old value seen under frame e = rw (seen.frame, seen.visible) (by_bool x)
-  where
-    by_bool : (x : Bool) → (if (x && true) && false then picture else old) ≡ value Desktop
-    by_bool true = under
-    by_bool false = under
-
--- content is white
-white_seen : (n : ℕ) (b s x c v f picture old : Bool) → IsSeen s x c b v f
-    → is_content (owner_over b s x c n) ≡ true
-    → (if f then picture else (if v then false else old)) ≡ false
-unfolding owner_over
-white_seen n true s x c v f picture old seen e = absurd (cc)
-white_seen n false true true true v f picture old seen e = rw (seen.frame, seen.visible) refl
-white_seen n false true true false v f picture old seen e = absurd (cc)
-white_seen n false true false c v f picture old seen e = absurd (cc)
-white_seen n false false x c v f picture old seen e = absurd (cc)
-
--- ---- the desk before and after
-
--- what is known where a window is added to a desk that has none
-pub record Added (w : NewWindow) (d begun : Definition) (desk : FullDesk) (gray : Pixels) (area : Area) (old new : Bits) : Type 0 where
-  pub none : desk.windows ≡ []
+-- what is known where a window of number n is added to a desk
+pub record Added (w : NewWindow) (n : ℕ) (d begun : Definition) (desk : FullDesk) (gray cover : Pixels) (area : Area) (areas others : List Area) (old new : Bits) : Type 0 where
+  pub distinct : layers.IsDesk (plain_desk desk)
+  pub below : AreBelow n desk.windows
   pub regions : SameRegions d begun
   pub front : IsFrontArea w d gray area
+  pub covers : IsCover w d gray cover
+  pub behind : AreUnder cover areas others
+  pub areas_are : AreAreas (plain_desk desk) desk.windows areas
   pub painted : IsPainted area w.place begun old new
   pub gray_is : IsGray (plain_desk desk) gray
   pub on : (p : Point) → layers.on_screen (plain_desk desk) p ≡ on_map old p
   pub plain : (p : Point) → layers.on_screen (plain_desk desk) p ≡ true → is_content (owner (plain_desk desk) p) ≡ false → bit old p ≡ own_bit (plain_desk desk) (owner (plain_desk desk) p) p
 
--- the desk as layers, with this window alone
-abbrev pub with_one : Desk → layers.Window → Desk
-with_one desk w = record desk { windows = w ∷ [] }
+-- the desk as layers, with this window in front
+abbrev pub with_front : Desk → layers.Window → Desk
+with_front desk w = record desk { windows = w ∷ desk.windows }
 
-module _ (w : NewWindow) (n slot : ℕ) (d begun : Definition) (desk : FullDesk) (gray : Pixels) (area : Area) (old new : Bits) (A : Added w d begun desk gray area old new) where
+-- what is in an update region is content that its window owns
+stale_owned : (desk : Desk) (ws : List WindowRecord) (areas : List Area) (p : Point) → AreAreas desk ws areas → is_content (owner desk p) ≡ false → stale_in areas p ≡ false
+stale_owned desk [] [] p h e = refl
+stale_owned desk (w ∷ ws) (a ∷ areas) p h e = (λ i. fresh (holds a.update p) refl i || stale_owned desk ws areas p h.1 e i)
+  where
+    not_its : (o : Owner) → is_content o ≡ false → is_content_of w.serial o ≡ false
+    not_its Desktop f = refl
+    not_its Bar f = refl
+    not_its (Frame s) f = refl
+    not_its (Content s part) f = absurd (cc)
+
+    off : (b : Bool) → (b && false) ≡ false
+    off true = refl
+    off false = refl
+
+    fresh : (b : Bool) → holds a.update p ≡ b → holds a.update p ≡ false
+    fresh true u =
+        let seen : holds a.visible p ≡ true = h.0.update p u in
+        let none : holds a.visible p ≡ false = h.0.visible p ∙ ap (λ c. layers.on_screen desk p && c) (not_its (owner desk p) e) ∙ off (layers.on_screen desk p) in
+        absurd (false≢true (sym none ∙ seen))
+    fresh false u = u
+stale_owned desk [] (a ∷ areas) p h e = absurd h
+stale_owned desk (w ∷ ws) [] p h e = absurd h
+
+-- of the pixels of the update regions those that are covered are left out
+stale_under : (cover : Pixels) (areas others : List Area) (p : Point) → AreUnder cover areas others → stale_in others p ≡ (stale_in areas p && not (holds cover p))
+stale_under cover [] [] p h = refl
+stale_under cover (a ∷ areas) (b ∷ others) p h =
+    (λ i. h.0.update p i || stale_under cover areas others p h.1 i) ∙ shared (holds a.update p) (stale_in areas p) (not (holds cover p))
+  where
+    shared : (x y k : Bool) → ((x && k) || (y && k)) ≡ ((x || y) && k)
+    shared true true true = refl
+    shared true false true = refl
+    shared false y true = refl
+    shared true true false = refl
+    shared true false false = refl
+    shared false true false = refl
+    shared false false false = refl
+stale_under cover [] (b ∷ others) p h = absurd h
+stale_under cover (a ∷ areas) [] p h = absurd h
+
+module _ (w : NewWindow) (n slot : ℕ) (d begun : Definition) (desk : FullDesk) (gray cover : Pixels) (area : Area) (areas others : List Area) (old new : Bits) (A : Added w n d begun desk gray cover area areas others old new) where
   abbrev before : Desk
   before = plain_desk desk
 
   abbrev after : Desk
-  after = with_one (plain_desk desk) (plain_window (new_record w n slot begun))
+  after = with_front (plain_desk desk) (plain_window (new_record w n slot begun))
 
-  owner-after : (p : Point) → owner after p ≡ owner_over (layers.in_bar before p) w.shown (begun.structure w.size (minus p w.place)) (begun.content w.size (minus p w.place)) n
-  unfolding owner_over
+  abbrev behind_at : Point → Owner
+  behind_at p = owner_among before.windows p
+
+  free : layers.window_of n before.windows ≡ None
+  free = next_is_free n desk.windows A.below
+
+  other_at : (p : Point) → is_other n (behind_at p) ≡ true
+  other_at p = owner_is_other before.windows p n free
+
+  owner-after : (p : Point) → owner after p ≡ owner_over (layers.in_bar before p) w.shown (begun.structure w.size (minus p w.place)) (begun.content w.size (minus p w.place)) n (behind_at p)
   owner-after p = refl
 
-  owner-before : (p : Point) → owner before p ≡ owner_under (layers.in_bar before p)
-  unfolding owner_under
-  owner-before p = ap (λ ws. if layers.in_bar before p then Bar else owner_among (map plain_window ws) p) A.none
+  owner-before : (p : Point) → owner before p ≡ owner_under (layers.in_bar before p) (behind_at p)
+  owner-before p = refl
 
-  seen : (p : Point) → layers.on_screen before p ≡ true → IsSeen w.shown (begun.structure w.size (minus p w.place)) (begun.content w.size (minus p w.place)) (layers.in_bar before p) (holds area.visible p) (holds area.frame p)
+  seen : (p : Point) → layers.on_screen before p ≡ true → IsSeen w.shown (begun.structure w.size (minus p w.place)) (begun.content w.size (minus p w.place)) (layers.in_bar before p) (holds area.visible p) (holds area.frame p) (holds cover p)
   seen p on =
       let q = minus p w.place in
       let content : begun.content w.size q ≡ d.content w.size q = ap (λ f. f w.size q) A.regions.content in
@@ -169,7 +117,13 @@ module _ (w : NewWindow) (n slot : ℕ) (d begun : Definition) (desk : FullDesk)
         within = λ e. structure ∙ A.front.within q (sym content ∙ e);
         visible = A.front.visible p ∙ (λ i. sym content i && (w.shown && room i));
         frame = A.front.frame p ∙ (λ i. (sym structure i && not (sym content i)) && (w.shown && room i));
+        covered = A.covers p ∙ (λ i. sym structure i && (w.shown && room i));
       }
+
+  case_at : (p : Point) → layers.on_screen before p ≡ true → Seen (layers.in_bar before p) w.shown (begun.structure w.size (minus p w.place)) (begun.content w.size (minus p w.place)) (holds area.visible p) (holds area.frame p) (holds cover p)
+  case_at p on = case_of _ _ _ _ _ _ _ (seen p on)
+
+  -- ---- the regions of the new window, and of those behind it
 
   off_screen : (c s : Bool) → (c && (s && false)) ≡ false
   off_screen true true = refl
@@ -180,61 +134,85 @@ module _ (w : NewWindow) (n slot : ℕ) (d begun : Definition) (desk : FullDesk)
   no_gray p off = A.gray_is p ∙ ap (λ b. b && not (layers.in_bar before p)) off
 
   visible_is : (p : Point) (b : Bool) → layers.on_screen before p ≡ b → holds area.visible p ≡ (b && is_content_of n (owner after p))
-  visible_is p true on = content_seen n _ _ _ _ _ _ (seen p on) ∙ ap (λ o. true && is_content_of n o) (sym (owner-after p))
+  visible_is p true on = content_seen n _ _ _ _ _ _ _ _ (case_at p on) (other_at p)
   visible_is p false off = A.front.visible p ∙ ap (λ g. d.content w.size (minus p w.place) && (w.shown && g)) (no_gray p off) ∙ off_screen _ w.shown
 
   frame_is : (p : Point) (b : Bool) → layers.on_screen before p ≡ b → holds area.frame p ≡ (b && same_owner (owner after p) (Frame n))
-  frame_is p true on = frame_seen n _ _ _ _ _ _ (seen p on) ∙ ap (λ o. true && same_owner o (Frame n)) (sym (owner-after p))
+  frame_is p true on = frame_seen n _ _ _ _ _ _ _ _ (case_at p on) (other_at p)
   frame_is p false off = A.front.frame p ∙ ap (λ g. (d.structure w.size (minus p w.place) && not (d.content w.size (minus p w.place))) && (w.shown && g)) (no_gray p off) ∙ off_screen _ w.shown
 
-  pub area_is : IsArea after (new_record w n slot begun) area
+  area_is : IsArea after (new_record w n slot begun) area
   area_is = record {
     visible = λ p. visible_is p (layers.on_screen before p) refl;
     update = λ p e. A.front.visible p ∙ sym (A.front.update p) ∙ e;
     frame = λ p. frame_is p (layers.on_screen before p) refl;
   }
 
-  -- its content is stale, and nothing else
-  pub stale_is : (stale image : PixelSet) (p : Point) → layers.on_screen before p ≡ true → holds area.update p ≡ plain.stale_by plain.no_change (record { desk = before; stale = stale; image = image }) (owner after p) p
-  stale_is stale image p on =
-      let by = λ (o u : Owner) (t : Bool). if not (is_content o) then false else (if t && same_owner u o then stale p else true) in
-      A.front.update p ∙ sym (A.front.visible p)
-      ∙ stale_seen n _ _ _ _ _ _ (stale p) (seen p on)
-      ∙ (λ i. by (sym (owner-after p) i) (sym (owner-before p) i) (sym on i))
+  -- what a window behind keeps of what one kind of its layers owns
+  kept_is : (is_its : Owner → Bool) → is_its (Content n Picture) ≡ false → is_its (Frame n) ≡ false → (p : Point) (b : Bool) → layers.on_screen before p ≡ b
+      → ((b && is_its (owner before p)) && not (holds cover p)) ≡ (b && is_its (owner after p))
+  kept_is is_its content frame p true on = kept_seen n _ _ _ _ _ _ _ _ is_its content frame (case_at p on)
+  kept_is is_its content frame p false off = refl
 
-  after_is_desk : layers.IsDesk after
-  after_is_desk = (refl, ((refl, tt), tt))
+  behind_is : (v : WindowRecord) (a b : Area) → (v.serial == n) ≡ false → (n == v.serial) ≡ false → IsArea before v a → IsUnder cover a b → IsArea after v b
+  behind_is v a b other rehto its under = record {
+    visible = λ p. under.visible p ∙ ap (λ x. x && not (holds cover p)) (its.visible p) ∙ kept_is (is_content_of v.serial) rehto refl p _ refl;
+    update = λ p e.
+        let both = parts (holds a.update p) (not (holds cover p)) (sym (under.update p) ∙ e) in
+        under.visible p ∙ (λ i. its.update p both.0 i && both.1 i);
+    frame = λ p. under.frame p ∙ ap (λ x. x && not (holds cover p)) (its.frame p) ∙ kept_is (λ o. same_owner o (Frame v.serial)) refl rehto p _ refl;
+  }
+    where
+      parts : (x y : Bool) → (x && y) ≡ true → (x ≡ true) × (y ≡ true)
+      parts true y e = (refl, e)
+      parts false y e = absurd (cc)
 
-  under_is_plain : (b : Bool) → is_content (owner_under b) ≡ false
-  unfolding owner_under
-  under_is_plain true = refl
-  under_is_plain false = refl
+  all_behind : (ws : List WindowRecord) (olds news : List Area) → AreBelow n ws → AreAreas before ws olds → AreUnder cover olds news → AreAreas after ws news
+  all_behind [] [] [] h its under = tt
+  all_behind (v ∷ ws) (a ∷ olds) (b ∷ news) h its under =
+      let lower = h.0 in
+      let other : (v.serial == n) ≡ false = grind (arith, nat_tests) in
+      let rehto : (n == v.serial) ≡ false = grind (arith, nat_tests) in
+      (behind_is v a b other rehto its.0 under.0, all_behind ws olds news h.1 its.1 under.1)
+  all_behind [] [] (b ∷ news) h its under = absurd under
+  all_behind [] (a ∷ olds) news h its under = absurd its
+  all_behind (v ∷ ws) [] news h its under = absurd its
+  all_behind (v ∷ ws) (a ∷ olds) [] h its under = absurd under
 
-  under_stays : (b : Bool) (p : Point) → own_bit before (owner_under b) p ≡ own_bit after (owner_under b) p
-  unfolding owner_under
-  under_stays true p = refl
-  under_stays false p = refl
+  -- the areas of all windows
+  pub areas_after : AreAreas after (new_record w n slot begun ∷ desk.windows) (area ∷ others)
+  areas_after = (area_is, all_behind desk.windows areas others A.below A.areas_are A.behind)
+
+  -- ---- what is stale, and what is shown
+
+  -- the new window's content is stale, and of the others what was and is not covered
+  pub stale_is : (image : PixelSet) (p : Point) → layers.on_screen before p ≡ true → stale_in (area ∷ others) p ≡ plain.stale_by plain.no_change (record { desk = before; stale = stale_in areas; image = image }) (owner after p) p
+  stale_is image p on =
+      (λ i. (A.front.update p ∙ sym (A.front.visible p)) i || stale_under cover areas others p A.behind i)
+      ∙ stale_seen n _ _ _ _ _ _ _ _ (stale_in areas p) (case_at p on) (other_at p) (stale_owned before desk.windows areas p A.areas_are)
+      ∙ (λ i. if not (is_content (owner after p)) then false else (if sym on i && same_owner (owner before p) (owner after p) then stale_in areas p else true))
+
+  pub after_is_desk : layers.IsDesk after
+  after_is_desk = (free, ((refl, tt), A.distinct))
+
+  -- a value that is not the new window's
+  stays : (o : Owner) (p : Point) → is_other n o ≡ true → own_bit before o p ≡ own_bit after o p
+  stays o p other = sym (own_bit-behind before (plain_window (new_record w n slot begun)) before.windows p o other)
+
+  under_is_other : (b : Bool) (u : Owner) → is_other n u ≡ true → is_other n (owner_under b u) ≡ true
+  under_is_other true u e = refl
+  under_is_other false u e = e
 
   -- what is no content shows what it is to show
   pub plain_is : (p : Point) → layers.on_screen before p ≡ true → is_content (owner after p) ≡ false → bit new p ≡ own_bit after (owner after p) p
   plain_is p on e =
-      let under : bit old p ≡ own_bit before (owner before p) p = A.plain p on (ap is_content (owner-before p) ∙ under_is_plain (layers.in_bar before p)) in
       A.painted.pixels p (sym (A.on p) ∙ on)
-      ∙ plain_seen n (layers.in_bar before p) w.shown (begun.structure w.size (minus p w.place)) (begun.content w.size (minus p w.place)) (holds area.visible p) (holds area.frame p) (begun.picture (minus p w.place)) (bit old p) (λ o. own_bit after o p) (seen p on)
-      (under ∙ ap (λ o. own_bit before o p) (owner-before p) ∙ under_stays (layers.in_bar before p) p)
+      ∙ plain_seen n _ _ _ _ _ _ _ _ (begun.picture (minus p w.place)) (bit old p) (λ o. own_bit after o p) (case_at p on)
+      (λ f. A.plain p on f ∙ stays (owner before p) p (under_is_other (layers.in_bar before p) (behind_at p) (other_at p)))
       (rw (same_number n) refl)
-      (ap is_content (sym (owner-after p)) ∙ e)
-      ∙ ap (λ o. own_bit after o p) (sym (owner-after p))
+      e
 
-  not_had : (b : Bool) (o : Owner) → is_content o ≡ true → same_owner (owner_under b) o ≡ false
-  unfolding owner_under
-  not_had b Desktop e = absurd (cc)
-  not_had b Bar e = absurd (cc)
-  not_had b (Frame s) e = absurd (cc)
-  not_had true (Content s part) e = refl
-  not_had false (Content s part) e = refl
-
-  -- its content is white, and the rest shows what it is to show
+  -- the new content is white, other content stays, and the rest shows what it is to show
   pub image_is : (stale : PixelSet) (p : Point) → layers.on_screen before p ≡ true → bit new p ≡ plain.image_by plain.no_change (record { desk = before; stale = stale; image = bit old }) after (owner after p) p
   image_is stale p on = by_content (is_content (owner after p)) refl
     where
@@ -242,5 +220,5 @@ module _ (w : NewWindow) (n slot : ℕ) (d begun : Definition) (desk : FullDesk)
       by_content false e = plain_is p on e ∙ sym (scratch_is_owners after p after_is_desk)
       by_content true e =
           A.painted.pixels p (sym (A.on p) ∙ on)
-          ∙ white_seen n _ _ _ _ _ _ (begun.picture (minus p w.place)) (bit old p) (seen p on) (ap is_content (sym (owner-after p)) ∙ e)
-          ∙ (λ i. if not (sym on i && sym (ap (λ u. same_owner u (owner after p)) (owner-before p) ∙ not_had (layers.in_bar before p) (owner after p) e) i) then false else bit old p)
+          ∙ image_seen n _ _ _ _ _ _ _ _ (begun.picture (minus p w.place)) (bit old p) (case_at p on) (other_at p) e
+          ∙ (λ i. if not (sym on i && same_owner (owner before p) (owner after p)) then false else bit old p)

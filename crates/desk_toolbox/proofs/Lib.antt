@@ -8,6 +8,10 @@ pub mod SlotLemmas
 pub mod RefusalLemmas
 pub mod SameDeskLemmas
 pub mod NewWindowLemmas
-pub mod EmptyLemmas
+pub mod CoverLemmas
+pub mod Covering
+pub mod DimLemmas
+mod EmptyLemmas
+pub mod FindLemmas
 pub mod ClosingLemmas
 pub mod RunLemmas

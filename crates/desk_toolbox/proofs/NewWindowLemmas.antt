@@ -1,40 +1,43 @@
 -- The step of a new window.
-use Rattle.std.proofs.Common.{◌≡◌, ℕ, zero, suc, ◌+◌, ◌^◌, nat_lt, nat_le, Bool, true, false, not, ◌&&◌, ◌||◌, if◌then◌else◌, List, [], ◌∷◌, length, map, Option, None, Some, ℤ, pos, negsuc, refl, sym, ap, ◌∙◌, subst, arith}
-use Rattle.std.specs.Prelude.{vec_len}
-use Rattle.std.proofs.lemmas.Bool.{false≢true}
+use Rattle.std.proofs.Common.{◌≡◌, ℕ, ◌<◌, ◌≤◌, nat_lt, nat_le, Bool, true, false, not, ◌&&◌, ◌||◌, if◌then◌else◌, List, ◌∷◌, length, map, Option, None, Some, ℤ, pos, negsuc, refl, sym, ap, ◌∙◌, subst, arith}
+use Rattle.std.specs.Prelude.{vec_len, is_none}
 use Rattle.std.proofs.lemmas.Bool.Decides.{nat_tests}
 use Rattle.std.proofs.lemmas.Int.{ints}
-use Rattle.std.proofs.lemmas.List.{nil_from_length}
-use Rattle.std.proofs.lemmas.List.Elements.{All-nil, All-cons}
+use Rattle.std.proofs.lemmas.List.{length-map}
+use Rattle.std.proofs.lemmas.List.Elements.{All-cons}
 use Rattle.tb_geom.specs.declared.point.Point.{Point}
 use Rattle.tb_geom.specs.declared.refusal.Refusal.{Refusal}
 use Rattle.tb_geom.specs.declared.refusal.Refusal.TheVariants.{OutOfRange, TooLong, TooMany}
 use Rattle.tb_geom.specs.declared.rect.Rect.{Rect}
-use Rattle.tb_geom.specs.Rects.{between, is_in_range}
-use Rattle.tb_geom.specs.Pixels.{Pixels, holds}
+use Rattle.tb_geom.specs.Rects.{between, in_plane, is_in_range}
+use Rattle.tb_geom.specs.Pixels.{Pixels}
 use Rattle.bit_map.specs.Bits.{Bits, on_map, bit, is_below}
 use Rattle.def_iface.specs.declared.taken.Taken.{Taken}
 use Rattle.def_iface.specs.declared.size.Size.{Size}
 use Rattle.def_iface.specs.Sizes.{is_size}
 use Rattle.def_iface.specs.Meaning.{Definition, Loan, is_fitting}
 use Rattle.def_iface.specs.Stocked.{SlotView, IsTaken, IsPutBack}
+use Rattle.def_iface.specs.Desk as layers
 use Rattle.def_iface.specs.Desk.{Desk, on_screen}
 use Rattle.def_iface.specs.Owner.{owner, own_bit, is_content}
 use Rattle.def_iface.specs.Change as plain
 use Rattle.desk_toolbox.specs.declared.call.NewWindow.{NewWindow}
 use Rattle.desk_toolbox.specs.declared.toolbox.Toolbox.{Toolbox}
 use Rattle.desk_toolbox.specs.declared.toolbox.Area.{Area}
-use Rattle.desk_toolbox.specs.FullDesk.{WindowRecord, FullDesk, AreNumbered, plain_desk, plain_state}
+use Rattle.desk_toolbox.specs.FullDesk.{WindowRecord, FullDesk, AreBelow, AreNumbered, plain_window, plain_desk, plain_state}
 use Rattle.desk_toolbox.specs.Records.{record_of, desk_of, state_of, stale_in}
 use Rattle.desk_toolbox.specs.Refused.{first_refusal, judged_refusals, is_placed, is_full, longest_text, most_windows}
-use Rattle.desk_toolbox.specs.Step.{IsMade, IsNotMade, IsNewWindow, new_record, desk_with, unhighlighted, number_after}
-use Rattle.desk_toolbox.specs.Planned.{IsFrontArea, IsPainted, IsAdded, IsUnplanned, SameDesk}
-use Rattle.desk_toolbox.specs.Whole.{IsWhole, AreAreas, IsSound, IsSettled, IsStocked, IsGray}
+use Rattle.desk_toolbox.specs.Step.{IsMade, IsNotMade, IsNewWindow, new_record, desk_with, unhighlighted}
+use Rattle.desk_toolbox.specs.declared.window_mgr.Front.{Front}
+use Rattle.desk_toolbox.specs.Planned.{IsFront, IsFrontArea, IsCover, AreUnder, IsPainted, IsAdded, IsUnplanned, SameDesk, dimmed}
+use Rattle.desk_toolbox.specs.Whole.{IsWhole, AreAreas, IsSound, IsSettled, IsGray}
 use Rattle.desk_toolbox.proofs.SlotLemmas.{stocked_with, put_back_is_old}
 use Rattle.desk_toolbox.proofs.RefusalLemmas.{refusal_is, unplanned_is_refused}
 use Rattle.desk_toolbox.proofs.SameDeskLemmas.{stays_unchanged}
 use Rattle.desk_toolbox.proofs.PlaceLemmas.{placed_parts}
-use Rattle.desk_toolbox.proofs.Adding.{Added, area_is, stale_is, image_is, plain_is}
+use Rattle.desk_toolbox.proofs.Adding.{Added, with_front, areas_after, stale_is, image_is, plain_is, after_is_desk}
+use Rattle.desk_toolbox.proofs.DimLemmas.{windows_behind, settled_behind, areas_behind, stocked_behind, records_behind}
+use Rattle.desk_toolbox.proofs.Running.{plain_desk-with, numbered_with}
 
 -- two words for a column or a row of the screen
 pub between-is_below : (n : ℕ) (x : ℤ) → between (pos 0) x (pos n) ≡ is_below n x
@@ -60,141 +63,144 @@ unrefused w placed count next e = by_tests placed (nat_lt longest_text (length w
 pub unrefused_fits : (w : NewWindow) (d : Definition) (count : ℕ) (next : Option ℕ) → first_refusal (judged_refusals w (is_placed (Some d) w.place w.size) count next) ≡ None → is_fitting d w.size ≡ true
 unrefused_fits w d count next e = (placed_parts d w.place w.size (unrefused w _ count next e).placed_is).fits
 
--- a desk that may get one more window has none
-none_before : (count : ℕ) (next : Option ℕ) → is_full count next ≡ false → count ≡ 0
-none_before zero next e = refl
-none_before (suc count) next e = absurd (false≢true (sym e ∙ rw (le-one count) refl))
+-- and its place is a point
+pub unrefused_place : (w : NewWindow) (d : Definition) (count : ℕ) (next : Option ℕ) → first_refusal (judged_refusals w (is_placed (Some d) w.place w.size) count next) ≡ None → in_plane w.place ≡ true
+unrefused_place w d count next e = (placed_parts d w.place w.size (unrefused w _ count next e).placed_is).place_in
+
+-- a desk that may get one more window has less than there may be
+fewer_before : (count : ℕ) (next : Option ℕ) → is_full count next ≡ false → count < most_windows
+fewer_before count next e = by_test (nat_le most_windows count) refl e
   where
-    le-one : (n : ℕ) → nat_le most_windows (suc n) ≡ true
-    le-one n = grind (arith, nat_tests)
+    by_test : (b : Bool) → nat_le most_windows count ≡ b → (b || is_none next) ≡ false → count < most_windows
+    by_test true t e = absurd (cc)
+    by_test false t e = grind (arith, nat_tests)
 
-no_areas : (desk : Desk) (areas : List Area) → AreAreas desk [] areas → areas ≡ []
-no_areas desk [] h = refl
-no_areas desk (a ∷ areas) h = absurd h
-
-below_next : (n : ℕ) (w : WindowRecord) → w.serial ≡ n → AreNumbered (number_after n) (w ∷ [])
-below_next n w e = by_test (nat_lt (n + 1) (2 ^ 64))
-  where
-    by_test : (b : Bool) → AreNumbered (if b then Some (n + 1) else None) (w ∷ [])
-    by_test true = (omega arith, tt)
-    by_test false = tt
-
-or-false : (b : Bool) → (b || false) ≡ b
-or-false true = refl
-or-false false = refl
-
-same_shown : (b : Bool) (active : Option ℕ) → [] ≡ (if b then map (unhighlighted active) [] else [])
-same_shown true active = refl
-same_shown false active = refl
+length_behind : (active : Option ℕ) (b : Bool) (ws : List WindowRecord) → length (windows_behind active b ws) ≡ length ws
+length_behind active true ws = length-map ws (unhighlighted active)
+length_behind active false ws = refl
 
 module _ {V : Type 0} {H : V → Type 0} (loan : Taken V H → Loan) where
   -- all that is known where a window was added
-  pub record IsNew (w : NewWindow) (n : ℕ) (taken : Loan) (area : Area) (t planned new : Toolbox V H) (slots left : List SlotView) : Type 0 where
+  pub record IsNew (w : NewWindow) (n : ℕ) (taken : Loan) (front : Front) (others : List Area) (t planned new : Toolbox V H) (slots left : List SlotView) : Type 0 where
     pub whole : IsWhole loan t slots
     pub same : SameDesk t planned
     pub unrefused_is : first_refusal (judged_refusals w (is_placed (Some taken.definition) w.place w.size) (vec_len t.windows) t.next) ≡ None
-    pub front : IsFrontArea w taken.definition planned.gray area
+    pub front_is : IsFront w taken.definition planned.gray front
+    pub behind : AreUnder front.cover planned.areas.items others
     pub number : planned.next ≡ Some n
-    pub added : IsAdded loan w n taken area planned new
+    pub added : IsAdded loan w n taken front.area others planned new
     pub took : IsTaken w.kind taken slots left
 
-  module _ (w : NewWindow) (n : ℕ) (taken : Loan) (area : Area) (t planned new : Toolbox V H) (slots left : List SlotView) (N : IsNew w n taken area t planned new slots left) where
+  module _ (w : NewWindow) (n : ℕ) (taken : Loan) (front : Front) (others : List Area) (t planned new : Toolbox V H) (slots left : List SlotView) (N : IsNew w n taken front others t planned new slots left) where
     abbrev before : FullDesk
     before = desk_of loan t slots
 
-    -- the desk with the new window alone
+    -- the desk with the new window in front
     abbrev after : FullDesk
-    after = record before {
-      windows = new_record w n taken.slot N.added.begun ∷ [];
-      active = if w.shown then Some n else t.active;
-      next = number_after n;
-      stock = left;
-    }
+    after = record (desk_with w n taken.slot N.added.begun before) { stock = left }
 
-    no_windows : t.windows.items ≡ []
-    no_windows =
-        let u = unrefused w _ (vec_len t.windows) t.next N.unrefused_is in
-        let none : vec_len t.windows ≡ 0 = none_before _ t.next u.room in
-        nil_from_length _ (sym t.windows.ok.0 ∙ none)
+    next_is : t.next ≡ Some n
+    next_is = sym N.same.next ∙ N.number
+
+    below : AreBelow n before.windows
+    below = subst (λ (k : Option ℕ). AreNumbered k before.windows) next_is N.whole.sound.numbered
 
     on_before : (p : Point) → on_screen (plain_desk before) p ≡ on_map t.screen p
     unfolding on_map
     on_before p = λ i. between-is_below t.screen.width p.h i && between-is_below t.screen.height p.v i
 
-    added_facts : Added w taken.definition N.added.begun before t.gray area t.screen new.screen
+    added_facts : Added w n taken.definition N.added.begun before t.gray front.cover front.area t.areas.items others t.screen new.screen
     added_facts = record {
-      none = ap (map (record_of loan)) no_windows;
+      distinct = N.whole.sound.distinct;
+      below = below;
       regions = N.added.live.regions;
-      front = subst (λ g. IsFrontArea w taken.definition g area) N.same.gray N.front;
-      painted = subst (λ s. IsPainted area w.place N.added.begun s new.screen) N.same.screen N.added.painted;
+      front = subst (λ g. IsFrontArea w taken.definition g front.area) N.same.gray N.front_is.area;
+      covers = subst (λ g. IsCover w taken.definition g front.cover) N.same.gray N.front_is.cover;
+      behind = subst (λ a. AreUnder front.cover a others) N.same.areas N.behind;
+      areas_are = N.whole.areas;
+      painted = subst (λ s. IsPainted front.area w.place N.added.begun s new.screen) N.same.screen N.added.painted;
       gray_is = N.whole.gray;
       on = on_before;
       plain = N.whole.plain;
     }
+
+    windows_are : map (record_of loan) new.windows.items ≡ after.windows
+    windows_are =
+        ap (map (record_of loan)) N.added.windows
+        ∙ (λ i. N.added.seen i ∷ map (record_of loan) (if w.shown then map (dimmed (N.same.active i)) (N.same.windows i) else N.same.windows i))
+        ∙ ap (λ (ws : List WindowRecord). new_record w n taken.slot N.added.begun ∷ ws) (records_behind loan t.active w.shown t.windows.items)
 
     desk_is : desk_of loan new left ≡ after
     desk_is = λ i. record {
       width = pos ((N.added.painted.width ∙ ap (λ (s : Bits). s.width) N.same.screen) i);
       height = pos ((N.added.painted.height ∙ ap (λ (s : Bits). s.height) N.same.screen) i);
       bar = (N.added.bar ∙ N.same.bar) i;
-      windows = (ap (map (record_of loan)) (N.added.windows ∙ ap (λ ws. N.added.record_is ∷ ws) (N.same.windows ∙ no_windows)) ∙ ap (λ r. r ∷ []) N.added.seen) i;
+      windows = windows_are i;
       active = (N.added.active ∙ ap (λ a. if w.shown then Some n else a) N.same.active) i;
       next = N.added.next i;
       stock = left;
     }
 
-    desk_with_is : after ≡ record (desk_with w n taken.slot N.added.begun before) { stock = left }
-    desk_with_is = ap (λ (ws : List WindowRecord). record after { windows = new_record w n taken.slot N.added.begun ∷ ws })
-        (same_shown w.shown t.active ∙ ap (λ (ws : List WindowRecord). if w.shown then map (unhighlighted t.active) ws else ws) (sym (ap (map (record_of loan)) no_windows)))
+    -- as layers, the desk after is the desk before with one more window
+    layers_are : plain_desk after ≡ with_front (plain_desk before) (plain_window (new_record w n taken.slot N.added.begun))
+    layers_are = plain_desk-with w n taken.slot N.added.begun before left
 
-    areas_are : new.areas.items ≡ area ∷ []
-    areas_are =
-        let none : t.areas.items ≡ [] = no_areas (plain_desk before) _ (subst (λ (ws : List WindowRecord). AreAreas (plain_desk before) ws t.areas.items) (ap (map (record_of loan)) no_windows) N.whole.areas) in
-        N.added.areas ∙ ap (λ a. area ∷ a) (N.same.areas ∙ none)
-
-    stale_are : (p : Point) → stale_in new.areas.items p ≡ holds area.update p
-    stale_are p = ap (λ a. stale_in a p) areas_are ∙ or-false _
+    new_layers : plain_desk (desk_of loan new left) ≡ with_front (plain_desk before) (plain_window (new_record w n taken.slot N.added.begun))
+    new_layers = ap plain_desk desk_is ∙ layers_are
 
     pub is_new_window : IsNewWindow w n (state_of loan t slots) (state_of loan new left)
     is_new_window = record {
       loan = taken;
       begun = N.added.begun;
-      numbered = sym N.same.next ∙ N.number;
+      numbered = next_is;
       taken = N.took;
       live = N.added.live;
-      desk = desk_is ∙ desk_with_is;
+      desk = desk_is;
       pixels = record {
-        stale = subst (λ (d : FullDesk). (p : Point) → on_screen (plain_desk d) p ≡ true → stale_in new.areas.items p ≡ plain.stale_by plain.no_change (plain_state (state_of loan t slots)) (owner (plain_desk d) p) p) (sym desk_is)
-            (λ p on. stale_are p ∙ stale_is w n taken.slot taken.definition N.added.begun before t.gray area t.screen new.screen added_facts (stale_in t.areas.items) (bit t.screen) p on);
-        image = subst (λ (d : FullDesk). (p : Point) → on_screen (plain_desk d) p ≡ true → bit new.screen p ≡ plain.image_by plain.no_change (plain_state (state_of loan t slots)) (plain_desk d) (owner (plain_desk d) p) p) (sym desk_is)
-            (λ p on. image_is w n taken.slot taken.definition N.added.begun before t.gray area t.screen new.screen added_facts (stale_in t.areas.items) p on);
+        stale = subst (λ (d : Desk). (p : Point) → on_screen d p ≡ true → stale_in new.areas.items p ≡ plain.stale_by plain.no_change (plain_state (state_of loan t slots)) (owner d p) p) (sym new_layers)
+            (λ p on. ap (λ a. stale_in a p) N.added.areas ∙ stale_is w n taken.slot taken.definition N.added.begun before t.gray front.cover front.area t.areas.items others t.screen new.screen added_facts (bit t.screen) p on);
+        image = subst (λ (d : Desk). (p : Point) → on_screen d p ≡ true → bit new.screen p ≡ plain.image_by plain.no_change (plain_state (state_of loan t slots)) d (owner d p) p) (sym new_layers)
+            (λ p on. image_is w n taken.slot taken.definition N.added.begun before t.gray front.cover front.area t.areas.items others t.screen new.screen added_facts (stale_in t.areas.items) p on);
       };
     }
 
     settled : IsSettled (new_record w n taken.slot N.added.begun)
     settled = record {
+      placed = unrefused_place w _ _ _ N.unrefused_is;
       live = N.added.live.live;
       told = N.added.live.told;
       fits = ap (λ (b : Size → Rect). is_size w.size && is_in_range (b w.size)) N.added.live.regions.bounds ∙ unrefused_fits w _ _ _ N.unrefused_is;
     }
 
+    few_after : length after.windows ≤ most_windows
+    few_after =
+        let fewer : vec_len t.windows < most_windows = fewer_before _ t.next (unrefused w _ (vec_len t.windows) t.next N.unrefused_is).room in
+        let records : length before.windows ≡ vec_len t.windows = length-map t.windows.items (record_of loan) ∙ sym t.windows.ok.0 in
+        let same : length (windows_behind t.active w.shown before.windows) ≡ length before.windows = length_behind t.active w.shown before.windows in
+        omega arith
+
     sound_after : IsSound after
     sound_after = record {
       screen = N.whole.sound.screen;
-      distinct = (refl, ((refl, tt), tt));
-      numbered = below_next n _ refl;
-      few = omega arith;
-      settled = All-cons IsSettled _ [] settled (All-nil _);
-      stocked = stocked_with w.kind taken slots left N.took _ refl (subst (λ (ws : List WindowRecord). IsStocked ws slots) (ap (map (record_of loan)) no_windows) N.whole.sound.stocked);
+      distinct = subst layers.IsDesk (sym layers_are) (after_is_desk w n taken.slot taken.definition N.added.begun before t.gray front.cover front.area t.areas.items others t.screen new.screen added_facts);
+      numbered = numbered_with w n taken.slot N.added.begun before below;
+      few = few_after;
+      settled = All-cons IsSettled _ _ settled (settled_behind t.active w.shown before.windows N.whole.sound.settled);
+      stocked = stocked_with w.kind taken slots left N.took _ _ refl (stocked_behind t.active w.shown before.windows slots N.whole.sound.stocked);
     }
+
+    areas_are : AreAreas (plain_desk after) after.windows (front.area ∷ others)
+    areas_are =
+        let all = areas_after w n taken.slot taken.definition N.added.begun before t.gray front.cover front.area t.areas.items others t.screen new.screen added_facts in
+        subst (λ d. AreAreas d after.windows (front.area ∷ others)) (sym layers_are) (all.0, areas_behind t.active w.shown _ before.windows others all.1)
 
     pub is_whole : IsWhole loan new left
     is_whole = record {
       sound = subst IsSound (sym desk_is) sound_after;
       gray = subst (λ (x : FullDesk × Pixels). IsGray (plain_desk x.0) x.1) (λ i. (sym desk_is i, sym (N.added.gray ∙ N.same.gray) i)) N.whole.gray;
-      areas = subst (λ (x : FullDesk × List Area). AreAreas (plain_desk x.0) x.0.windows x.1) (λ i. (sym desk_is i, sym areas_are i)) (area_is w n taken.slot taken.definition N.added.begun before t.gray area t.screen new.screen added_facts, tt);
-      plain = subst (λ (d : FullDesk). (p : Point) → on_screen (plain_desk d) p ≡ true → is_content (owner (plain_desk d) p) ≡ false → bit new.screen p ≡ own_bit (plain_desk d) (owner (plain_desk d) p) p) (sym desk_is)
-          (plain_is w n taken.slot taken.definition N.added.begun before t.gray area t.screen new.screen added_facts);
+      areas = subst (λ (x : FullDesk × List Area). AreAreas (plain_desk x.0) x.0.windows x.1) (λ i. (sym desk_is i, sym N.added.areas i)) areas_are;
+      plain = subst (λ (d : Desk). (p : Point) → on_screen d p ≡ true → is_content (owner d p) ≡ false → bit new.screen p ≡ own_bit d (owner d p) p) (sym new_layers)
+          (plain_is w n taken.slot taken.definition N.added.begun before t.gray front.cover front.area t.areas.items others t.screen new.screen added_facts);
     }
 
     -- the call was done

@@ -40,6 +40,7 @@ stays_with_box s box d within fits = λ p e.
 
 -- what it says that a window with this definition may be somewhere
 pub record IsPlaced (d : Definition) (place : Point) (size : Size) : Type 0 where
+  pub place_in : in_plane place ≡ true
   pub size_in : is_size size ≡ true
   pub fits : is_fitting d size ≡ true
   pub moved : is_in_range (moved (d.bounds size) place.h place.v) ≡ true
@@ -50,4 +51,4 @@ placed_parts d place size e =
     let a = and_parts (in_plane place) _ e in
     let b = and_parts (is_size size) _ a.1 in
     let c = and_parts (is_in_range (d.bounds size)) _ b.1 in
-    record { size_in = b.0; fits = λ i. b.0 i && c.0 i; moved = c.1 }
+    record { place_in = a.0; size_in = b.0; fits = λ i. b.0 i && c.0 i; moved = c.1 }

@@ -14,7 +14,7 @@ use Rattle.def_iface.proofs.Owning.{is_other, owner_is_other, own_bit-behind, sa
 use Rattle.def_iface.proofs.Changing.{stays_right}
 use Rattle.desk_toolbox.specs.declared.call.Call.{Call}
 use Rattle.desk_toolbox.specs.declared.call.Call.TheVariants.{Window}
-use Rattle.desk_toolbox.specs.declared.call.WindowCall.TheVariants.{New}
+use Rattle.desk_toolbox.specs.declared.call.WindowCall.TheVariants.{New, Find, Front}
 use Rattle.desk_toolbox.specs.declared.call.NewWindow.{NewWindow}
 use Rattle.desk_toolbox.specs.declared.call.Reply.{Reply}
 use Rattle.desk_toolbox.specs.declared.call.Reply.TheVariants as reply
@@ -87,6 +87,18 @@ new_is_sound before w desk free parts = record {
   right = λ p on taken. absurd (cc);
 }
 
+-- the windows of a desk with a new window are numbered, it by the last number
+pub numbered_with : (w : NewWindow) (serial slot : ℕ) (d : Definition) (desk : FullDesk) → AreBelow serial desk.windows → AreNumbered (desk_with w serial slot d desk).next (desk_with w serial slot d desk).windows
+numbered_with w serial slot d desk below = after_number _ (nat_lt (serial + 1) (2 ^ 64)) (omega arith, by_shown w.shown)
+  where
+    after_number : (ws : List WindowRecord) (b : Bool) → AreBelow (serial + 1) ws → AreNumbered (if b then Some (serial + 1) else None) ws
+    after_number ws true h = h
+    after_number ws false h = tt
+
+    by_shown : (b : Bool) → AreBelow (serial + 1) (if b then map (unhighlighted desk.active) desk.windows else desk.windows)
+    by_shown true = numbered-unhighlighted _ desk.active desk.windows (numbered-more serial desk.windows below)
+    by_shown false = numbered-more serial desk.windows below
+
 new_stays_right : (w : NewWindow) (serial : ℕ) (before after : FullState) → IsRight before → IsNewWindow w serial before after → IsRight after
 new_stays_right w serial before after right new =
     let new_window = plain_window (new_record w serial new.loan.slot new.begun) in
@@ -96,16 +108,8 @@ new_stays_right w serial before after right new =
     let sound = new_is_sound (plain_state before) new_window right.plain.desk (next_is_free serial before.desk.windows below) (refl, tt) in
     record {
       plain = stays_right plain.no_change (plain_state before) (plain_state after) right.plain (subst (plain.IsSound plain.no_change (plain_state before)) (sym desk) sound) new.pixels;
-      numbered = subst (λ (d : FullDesk). AreNumbered d.next d.windows) (sym new.desk) (after_number _ (nat_lt (serial + 1) (2 ^ 64)) (omega arith, by_shown below w.shown));
+      numbered = subst (λ (d : FullDesk). AreNumbered d.next d.windows) (sym new.desk) (numbered_with w serial new.loan.slot new.begun before.desk below);
     }
-  where
-    after_number : (ws : List WindowRecord) (b : Bool) → AreBelow (serial + 1) ws → AreNumbered (if b then Some (serial + 1) else None) ws
-    after_number ws true h = h
-    after_number ws false h = tt
-
-    by_shown : AreBelow serial before.desk.windows → (b : Bool) → AreBelow (serial + 1) (if b then map (unhighlighted before.desk.active) before.desk.windows else before.desk.windows)
-    by_shown below true = numbered-unhighlighted _ before.desk.active before.desk.windows (numbered-more serial before.desk.windows below)
-    by_shown below false = numbered-more serial before.desk.windows below
 
 -- ---- steps and runs
 
@@ -130,6 +134,14 @@ unchanged_stays_right before after right same =
 
 pub step_stays_right : (call : Call) (answer : Result Reply Refusal) (before after : FullState) → IsRight before → IsStep call answer before after → IsRight after
 step_stays_right (Window (New w)) (Ok (reply.Window serial)) before after right step = new_stays_right w serial before after right step.1
+step_stays_right (Window (Find p)) (Ok (reply.Found found)) before after right step = unchanged_stays_right before after right step.1.1
+step_stays_right (Window Front) (Ok (reply.Front window)) before after right step = unchanged_stays_right before after right step.1.1
+step_stays_right (Window (New w)) (Ok (reply.Found found)) before after right step = absurd step.1
+step_stays_right (Window (New w)) (Ok (reply.Front window)) before after right step = absurd step.1
+step_stays_right (Window (Find p)) (Ok (reply.Window serial)) before after right step = absurd step.1
+step_stays_right (Window (Find p)) (Ok (reply.Front window)) before after right step = absurd step.1
+step_stays_right (Window Front) (Ok (reply.Window serial)) before after right step = absurd step.1
+step_stays_right (Window Front) (Ok (reply.Found found)) before after right step = absurd step.1
 step_stays_right call (Err e) before after right step = unchanged_stays_right before after right step.1
 
 pub run_stays_right : (first last : FullState) (calls : List Call) (answers : List (Result Reply Refusal)) → IsRight first → IsRun first calls answers last → IsRight last

@@ -1,9 +1,10 @@
 -- A slot that is emptied and filled again.
-use Rattle.std.proofs.Common.{◌≡◌, ⊎_elim, inl, inr, ℕ, zero, suc, true, false, List, [], ◌∷◌, Some, None, refl, sym, ap, ◌∙◌, subst, arith}
+use Rattle.std.proofs.Common.{◌≡◌, ⊎_elim, inl, inr, ℕ, zero, suc, true, false, List, [], ◌∷◌, map, Some, None, refl, sym, ap, ◌∙◌, subst, arith}
 use Rattle.std.specs.Prelude.{slice_get, slice_set, is_none, IfSome}
 use Rattle.std.specs.Option.{option_map_or}
-use Rattle.std.proofs.lemmas.Bool.{cases_eq}
-use Rattle.std.proofs.lemmas.List.Elements.{All-nil, All-cons}
+use Rattle.std.proofs.lemmas.Bool.{cases_eq, false≢true}
+use Rattle.std.proofs.lemmas.List.Elements.{All-cons, All-weaker, Contains-append_right}
+use Rattle.std.proofs.lemmas.List.Kept.{AllPairs-cons}
 use Rattle.def_iface.specs.Meaning.{Loan}
 use Rattle.def_iface.specs.Stocked.{SlotView, IsTaken, IsPutBack, is_left, holding}
 use Rattle.desk_toolbox.specs.FullDesk.{WindowRecord}
@@ -50,15 +51,21 @@ module _ (kind : List ℕ) (loan : Loan) (old left : List SlotView) (took : IsTa
       let set_is : new ≡ slice_set left loan.slot filled = subst (λ o. IfSome o (λ s. new ≡ slice_set left loan.slot (holding (Some loan.definition) s))) found back in
       set_is ∙ ap (λ ss. slice_set ss loan.slot filled) took.left ∙ set-set_back old loan.slot filled emptied took.held
 
-  -- where no slot was empty, the one that is empty now is the window's
-  pub stocked_with : (w : WindowRecord) → w.slot ≡ loan.slot → IsStocked [] old → IsStocked (w ∷ []) left
-  stocked_with w slot_is stocked = record {
-    left = All-cons (λ v. is_left v.slot left ≡ true) w [] (ap (λ k. is_left k left) slot_is ∙ taken_is_left) (All-nil _);
-    apart = λ i j d low within. absurd (omega arith);
+  -- another window's slot, which was empty before, is still
+  still_left : (k : ℕ) → is_left k old ≡ true → (k ≡ loan.slot → ⊥) × (is_left k left ≡ true)
+  still_left k e =
+      let away : k ≡ loan.slot → ⊥ = λ same. false≢true (sym (ap (λ o. option_map_or (λ (s : SlotView). is_none s.held) o false) (ap (slice_get old) same ∙ took.held)) ∙ e) in
+      (away, ap (λ o. option_map_or (λ (s : SlotView). is_none s.held) o false) (ap (λ ss. slice_get ss k) took.left ∙ get-set_other old loan.slot k emptied away) ∙ e)
+
+  -- the slot that is empty now is the new window's
+  pub stocked_with : (w : WindowRecord) (ws : List WindowRecord) → w.slot ≡ loan.slot → IsStocked ws old → IsStocked (w ∷ ws) left
+  stocked_with w ws slot_is stocked = record {
+    left = All-cons (λ v. is_left v.slot left ≡ true) w ws (ap (λ k. is_left k left) slot_is ∙ taken_is_left) (All-weaker (λ v. is_left v.slot old ≡ true) (λ v. is_left v.slot left ≡ true) (λ v e. (still_left v.slot e).1) ws stocked.left);
+    apart = AllPairs-cons (λ v u. v.slot ≡ u.slot → ⊥) w ws (All-weaker (λ v. is_left v.slot old ≡ true) (λ v. w.slot ≡ v.slot → ⊥) (λ v e same. (still_left v.slot e).0 (sym same ∙ slot_is)) ws stocked.left) stocked.apart;
     others = others;
   }
     where
-      others : (k : ℕ) → IsSlot (w ∷ []) left k
+      others : (k : ℕ) → IsSlot (w ∷ ws) left k
       others k s e = ⊎_elim
           (λ here. inr (
             (let got : Some emptied ≡ Some s = sym found ∙ ap (slice_get left) (sym here) ∙ e in
@@ -68,7 +75,7 @@ module _ (kind : List ℕ) (loan : Loan) (old left : List SlotView) (took : IsTa
           ))
           (λ away. ⊎_elim
           (λ full. inl full)
-          (λ none. absurd (let within = none.1.1 in omega arith))
+          (λ none. inr (none.0, Contains-append_right (w.slot ∷ []) (map (λ (v : WindowRecord). v.slot) ws) k none.1))
           (stocked.others k s (sym (get-set_other old loan.slot k emptied away) ∙ ap (λ ss. slice_get ss k) (sym took.left) ∙ e)))
           (cases_eq k loan.slot)
 

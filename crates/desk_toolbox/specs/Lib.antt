@@ -1,6 +1,8 @@
 -- What the contracts speak of: the whole desk, why a call refuses, one step, and a run of steps.
 pub mod FullDesk
 pub mod Records
+pub mod Finding
+pub mod Asking
 pub mod Refused
 pub mod Whole
 pub mod Step

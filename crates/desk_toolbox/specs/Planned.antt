@@ -1,5 +1,5 @@
 -- A window that is planned, and one that was added.
-use Rattle.std.specs.Prelude.{◌≡◌, ◌⊎◌, ℕ, ◌<◌, Bool, true, false, not, ◌&&◌, if◌then◌else◌, ◌∷◌, Option, None, Some, vec_len, vec_capacity}
+use Rattle.std.specs.Prelude.{◌≡◌, ◌⊎◌, ℕ, ◌<◌, Bool, true, false, not, ◌&&◌, ◌==◌, if◌then◌else◌, List, [], ◌∷◌, map, Option, None, Some, vec_len, vec_capacity}
 use Rattle.tb_geom.specs.declared.point.Point.{Point}
 use Rattle.tb_geom.specs.declared.refusal.Refusal.{Refusal}
 use Rattle.tb_geom.specs.declared.refusal.Refusal.TheVariants.{NoMemory}
@@ -13,6 +13,7 @@ use Rattle.desk_toolbox.specs.declared.call.NewWindow.{NewWindow}
 use Rattle.desk_toolbox.specs.declared.toolbox.Toolbox.{Toolbox}
 use Rattle.desk_toolbox.specs.declared.toolbox.Area.{Area}
 use Rattle.desk_toolbox.specs.declared.window_list.Window.{Window}
+use Rattle.desk_toolbox.specs.declared.window_mgr.Front.{Front}
 use Rattle.desk_toolbox.specs.declared.window_mgr.Plan.{Plan}
 use Rattle.desk_toolbox.specs.declared.window_mgr.Ticket.{Ticket}
 use Rattle.desk_toolbox.specs.Records.{record_of}
@@ -31,6 +32,28 @@ pub record IsFrontArea (w : NewWindow) (d : Definition) (gray : Pixels) (a : Are
   pub update : (p : Point) → holds a.update p ≡ (d.content w.size (minus p w.place) && (w.shown && holds gray p))
   pub frame : (p : Point) → holds a.frame p ≡ ((d.structure w.size (minus p w.place) && not (d.content w.size (minus p w.place))) && (w.shown && holds gray p))
   pub within : IsWithin (d.content w.size) (d.structure w.size)
+
+-- what a window with this definition covers of the screen, in front of all others
+abbrev pub IsCover : NewWindow → Definition → Pixels → Pixels → Type 0
+IsCover w d gray cover = (p : Point) → holds cover p ≡ (d.structure w.size (minus p w.place) && (w.shown && holds gray p))
+
+-- the area of a window, and what it covers
+pub record IsFront (w : NewWindow) (d : Definition) (gray : Pixels) (front : Front) : Type 0 where
+  pub area : IsFrontArea w d gray front.area
+  pub cover : IsCover w d gray front.cover
+
+-- what of a window's area is not covered
+pub record IsUnder (cover : Pixels) (old new : Area) : Type 0 where
+  pub visible : (p : Point) → holds new.visible p ≡ (holds old.visible p && not (holds cover p))
+  pub update : (p : Point) → holds new.update p ≡ (holds old.update p && not (holds cover p))
+  pub frame : (p : Point) → holds new.frame p ≡ (holds old.frame p && not (holds cover p))
+
+-- of each window's area
+abbrev pub AreUnder : Pixels → List Area → List Area → Type 0
+AreUnder cover [] [] = Unit {0}
+AreUnder cover (a ∷ areas) (b ∷ others) = IsUnder cover a b × AreUnder cover areas others
+AreUnder cover [] (b ∷ others) = ⊥
+AreUnder cover (a ∷ areas) [] = ⊥
 
 -- a window's frame was drawn, and its content made white
 pub record IsPainted (a : Area) (place : Point) (d : Definition) (old new : Bits) : Type 0 where
@@ -60,6 +83,11 @@ module _ {V : Type 0} {H : V → Type 0} where
     pub windows : vec_len t.windows < vec_capacity t.windows
     pub areas : vec_len t.areas < vec_capacity t.areas
 
+  -- the window, without its highlighting if it is the one of this serial
+  abbrev pub dimmed : Option ℕ → Window V H → Window V H
+  dimmed None w = w
+  dimmed (Some s) w = if w.serial == s then record w { highlighted = false } else w
+
   -- the number and the title of the window
   pub record IsTicket (w : NewWindow) (t : Toolbox V H) (ticket : Ticket) : Type 0 where
     pub next : t.next ≡ Some ticket.serial
@@ -68,19 +96,21 @@ module _ {V : Type 0} {H : V → Type 0} where
   -- nothing refuses the window with this definition any more
   pub record IsPlanned (w : NewWindow) (d : Definition) (t : Toolbox V H) (plan : Plan) : Type 0 where
     pub ticket : IsTicket w t plan.ticket
-    pub area : IsFrontArea w d t.gray plan.area
-    pub room : HasRoom t
+    pub front : IsFront w d t.gray plan.front
+    pub others : AreUnder plan.front.cover t.areas.items plan.others.items
+    pub windows_room : vec_len t.windows < vec_capacity t.windows
+    pub others_room : vec_len plan.others < vec_capacity plan.others
 
 -- `loan` says what a definition that was taken means
 module _ {V : Type 0} {H : V → Type 0} (loan : Taken V H → Loan) where
-  -- the window was put in front of all others, and drawn
-  pub record IsAdded (w : NewWindow) (serial : ℕ) (taken : Loan) (area : Area) (old new : Toolbox V H) : Type 0 where
+  -- the window was put in front of all others, which have these areas now, and drawn
+  pub record IsAdded (w : NewWindow) (serial : ℕ) (taken : Loan) (area : Area) (others : List Area) (old new : Toolbox V H) : Type 0 where
     pub record_is : Window V H
     pub begun : Definition
     pub live : IsBegun w.size taken.definition begun
     pub seen : record_of loan record_is ≡ new_record w serial taken.slot begun
-    pub windows : new.windows.items ≡ record_is ∷ old.windows.items
-    pub areas : new.areas.items ≡ area ∷ old.areas.items
+    pub windows : new.windows.items ≡ record_is ∷ (if w.shown then map (dimmed old.active) old.windows.items else old.windows.items)
+    pub areas : new.areas.items ≡ area ∷ others
     pub painted : IsPainted area w.place begun old.screen new.screen
     pub bar : new.bar ≡ old.bar
     pub gray : new.gray ≡ old.gray

@@ -1,5 +1,5 @@
 -- Why a call refuses: the first refusal of the written order whose condition holds.
-use Rattle.std.specs.Prelude.{ℕ, Bool, true, not, ◌&&◌, ◌||◌, if◌then◌else◌, List, [], ◌∷◌, ◌++◌, length, Option, None, Some, is_none, nat_le, nat_lt}
+use Rattle.std.specs.Prelude.{ℕ, Bool, true, false, not, ◌&&◌, ◌||◌, if◌then◌else◌, List, [], ◌∷◌, ◌++◌, length, Option, None, Some, is_none, nat_le, nat_lt}
 use Rattle.tb_geom.specs.declared.point.Point.{Point}
 use Rattle.tb_geom.specs.declared.rect.Rect.{Rect}
 use Rattle.tb_geom.specs.declared.refusal.Refusal.{Refusal}
@@ -11,7 +11,7 @@ use Rattle.def_iface.specs.Meaning.{Definition}
 use Rattle.def_iface.specs.Stocked.{has_kind, offered}
 use Rattle.desk_toolbox.specs.declared.call.Call.{Call}
 use Rattle.desk_toolbox.specs.declared.call.Call.TheVariants.{Window}
-use Rattle.desk_toolbox.specs.declared.call.WindowCall.TheVariants.{New}
+use Rattle.desk_toolbox.specs.declared.call.WindowCall.TheVariants.{New, Find, Front}
 use Rattle.desk_toolbox.specs.declared.call.NewWindow.{NewWindow}
 use Rattle.desk_toolbox.specs.FullDesk.{FullDesk}
 
@@ -34,7 +34,7 @@ is_placed d place size =
 
 -- as many windows as there may be
 abbrev pub most_windows : ℕ
-most_windows = 1
+most_windows = 64
 
 -- the longest text
 abbrev pub longest_text : ℕ
@@ -59,7 +59,11 @@ new_window_refusals w desk =
 -- why the call refuses, want of memory aside
 abbrev pub refusal_of : Call → FullDesk → Option Refusal
 refusal_of (Window (New w)) desk = first_refusal (new_window_refusals w desk)
+refusal_of (Window (Find p)) desk = first_refusal ((not (in_plane p), OutOfRange) ∷ [])
+refusal_of (Window Front) desk = None
 
 -- the call may ask for memory
 abbrev pub may_grow : Call → Bool
 may_grow (Window (New w)) = true
+may_grow (Window (Find p)) = false
+may_grow (Window Front) = false

@@ -9,11 +9,12 @@ use Rattle.def_iface.specs.Desk.{on_screen}
 use Rattle.def_iface.specs.Change.{no_change, IsChanged}
 use Rattle.desk_toolbox.specs.declared.call.Call.{Call}
 use Rattle.desk_toolbox.specs.declared.call.Call.TheVariants.{Window}
-use Rattle.desk_toolbox.specs.declared.call.WindowCall.TheVariants.{New}
+use Rattle.desk_toolbox.specs.declared.call.WindowCall.TheVariants.{New, Find, Front}
 use Rattle.desk_toolbox.specs.declared.call.NewWindow.{NewWindow}
 use Rattle.desk_toolbox.specs.declared.call.Reply.{Reply}
 use Rattle.desk_toolbox.specs.declared.call.Reply.TheVariants as reply
 use Rattle.desk_toolbox.specs.FullDesk.{WindowRecord, FullDesk, FullState, plain_desk, plain_state}
+use Rattle.desk_toolbox.specs.Finding.{found_at, front_of}
 use Rattle.desk_toolbox.specs.Refused.{refusal_of, may_grow}
 
 -- the record that a new window gets; a visible one is highlighted
@@ -57,15 +58,18 @@ pub record IsNewWindow (w : NewWindow) (serial : ℕ) (before after : FullState)
   pub desk : after.desk ≡ record (desk_with w serial loan.slot begun before.desk) { stock = after.desk.stock }
   pub pixels : IsChanged no_change (plain_state before) (plain_state after)
 
--- what a call that was done leaves, and the value that it answers
-abbrev pub IsDone : Call → Reply → FullState → FullState → Type 0
-IsDone (Window (New w)) (reply.Window serial) before after = IsNewWindow w serial before after
-
 -- nothing changed
 pub record IsUnchanged (before after : FullState) : Type 0 where
   pub desk : after.desk ≡ before.desk
   pub stale : (p : Point) → on_screen (plain_desk before.desk) p ≡ true → after.stale p ≡ before.stale p
   pub image : (p : Point) → on_screen (plain_desk before.desk) p ≡ true → after.image p ≡ before.image p
+
+-- what a call that was done leaves, and the value that it answers: a call that asks changes nothing
+abbrev pub IsDone : Call → Reply → FullState → FullState → Type 0
+IsDone (Window (New w)) (reply.Window serial) before after = IsNewWindow w serial before after
+IsDone (Window (Find p)) (reply.Found found) before after = (found ≡ found_at before.desk p) × IsUnchanged before after
+IsDone (Window Front) (reply.Front window) before after = (window ≡ front_of before.desk.windows) × IsUnchanged before after
+IsDone _ _ before after = ⊥
 
 -- the call is refused for this: the first refusal of the written order whose condition holds, or, where there is none
 -- and the call may grow, want of memory

@@ -3,6 +3,7 @@ use Rattle.std.specs.Prelude.{◌≡◌, ◌⊎◌, ℕ, ◌≤◌, Bool, true, 
 use Rattle.std.specs.Ordering.{int_eq}
 use Rattle.tb_geom.specs.declared.point.Point.{Point}
 use Rattle.tb_geom.specs.Pixels.{Pixels, holds}
+use Rattle.tb_geom.specs.Rects.{in_plane}
 use Rattle.def_iface.specs.declared.taken.Taken.{Taken}
 use Rattle.def_iface.specs.declared.window_def.Stage.TheVariants.{Live}
 use Rattle.def_iface.specs.Meaning.{Loan, is_fitting}
@@ -34,8 +35,9 @@ AreAreas desk (w ∷ ws) (a ∷ areas) = IsArea desk w a × AreAreas desk ws are
 AreAreas desk [] (a ∷ areas) = ⊥
 AreAreas desk (w ∷ ws) [] = ⊥
 
--- the window's definition is live, and was told the window's size, which fits it
+-- the window's definition is live, and was told the window's size, which fits it; its place is a point
 pub record IsSettled (w : WindowRecord) : Type 0 where
+  pub placed : in_plane w.place ≡ true
   pub live : w.definition.stage ≡ Live
   pub told : w.definition.size ≡ w.size
   pub fits : is_fitting w.definition w.size ≡ true

@@ -21,6 +21,7 @@
 
 mod call;
 mod close;
+mod find;
 pub mod laws;
 mod place;
 mod run;
@@ -29,7 +30,7 @@ mod toolbox;
 mod window_list;
 mod window_mgr;
 
-pub use call::{Call, NewWindow, Reply, WindowCall};
+pub use call::{Call, Found, NewWindow, Reply, WindowCall, WindowPart};
 pub use text::Text;
 pub use toolbox::{Area, Toolbox};
 pub use window_list::Window;

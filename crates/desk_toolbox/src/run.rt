@@ -1,15 +1,17 @@
 //! Calls, one by one and in a row.
 ghost use Rattle.std.specs.Prelude.{◌≡◌, IfOk, IfErr};
 ghost use Rattle.def_iface.specs.Desk.{on_screen};
+ghost use Rattle.desk_toolbox.specs.declared.call.Call.TheVariants as asks;
+ghost use Rattle.desk_toolbox.specs.declared.call.WindowCall.TheVariants.{New, Find, Front};
 ghost use Rattle.desk_toolbox.specs.FullDesk.{IsRight};
 ghost use Rattle.desk_toolbox.specs.Records.{state_of};
 ghost use Rattle.desk_toolbox.specs.Step.{IsStep, IsUnchanged};
 ghost use Rattle.desk_toolbox.specs.Run.{IsRun};
 ghost use Rattle.desk_toolbox.specs.Whole.{IsWhole};
 
-use crate::{Call, Reply, Toolbox, WindowCall};
+use crate::{Call, NewWindow, Reply, Toolbox, WindowCall};
 use def_iface::{Defined, Stock, Stocked, Taken};
-use tb_geom::Refusal;
+use tb_geom::{Point, Refusal};
 
 impl Toolbox {
     /// Makes one call, and gives its answer. A refused call changes nothing; which refusal comes
@@ -24,10 +26,40 @@ impl Toolbox {
             → IsRight (state_of ⟦<Taken as Defined>⟧.loan self.new (⟦<Stock as Stocked>⟧.slots stock.new)) }
     {
         match call {
-            Call::Window(WindowCall::New(window)) => {
-                Ok(Reply::Window(self.new_window(window, stock)?))
-            }
+            Call::Window(WindowCall::New(window)) => self.answer_new(window, stock),
+            Call::Window(WindowCall::Find(point)) => self.answer_find(*point, stock),
+            Call::Window(WindowCall::Front) => self.answer_front(stock),
         }
+    }
+
+    /// Makes a window, and answers its number.
+    fn answer_new(&mut self, window: &NewWindow<'_>, stock: &mut Stock) -> Result<Reply, Refusal>
+        requires { IsWhole ⟦<Taken as Defined>⟧.loan self.old (⟦<Stock as Stocked>⟧.slots stock.old) }
+        ensures whole { IsWhole ⟦<Taken as Defined>⟧.loan self.new (⟦<Stock as Stocked>⟧.slots stock.new) }
+        ensures step { IsStep (asks.Window (New window.now)) result
+            (state_of ⟦<Taken as Defined>⟧.loan self.old (⟦<Stock as Stocked>⟧.slots stock.old))
+            (state_of ⟦<Taken as Defined>⟧.loan self.new (⟦<Stock as Stocked>⟧.slots stock.new)) }
+    {
+        Ok(Reply::Window(self.new_window(window, stock)?))
+    }
+
+    /// Answers whose a point of the screen is.
+    fn answer_find(&self, point: Point, _stock: &Stock) -> Result<Reply, Refusal>
+        requires { IsWhole ⟦<Taken as Defined>⟧.loan self.now (⟦<Stock as Stocked>⟧.slots _stock.now) }
+        ensures { IsStep (asks.Window (Find point)) result
+            (state_of ⟦<Taken as Defined>⟧.loan self.now (⟦<Stock as Stocked>⟧.slots _stock.now))
+            (state_of ⟦<Taken as Defined>⟧.loan self.now (⟦<Stock as Stocked>⟧.slots _stock.now)) }
+    {
+        Ok(Reply::Found(self.find_window(point)?))
+    }
+
+    /// Answers which window is the first visible one.
+    fn answer_front(&self, _stock: &Stock) -> Result<Reply, Refusal>
+        ensures { IsStep (asks.Window Front) result
+            (state_of ⟦<Taken as Defined>⟧.loan self.now (⟦<Stock as Stocked>⟧.slots _stock.now))
+            (state_of ⟦<Taken as Defined>⟧.loan self.now (⟦<Stock as Stocked>⟧.slots _stock.now)) }
+    {
+        Ok(Reply::Front(self.front_window()))
     }
 
     /// Makes the calls one after another, and gives their answers in the same order. Memory for the

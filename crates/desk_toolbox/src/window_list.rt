@@ -2,6 +2,7 @@
 
 ghost use Rattle.std.specs.Prelude.{◌≡◌};
 ghost use Rattle.desk_toolbox.specs.Records.{record_of};
+ghost use Rattle.desk_toolbox.specs.Planned.{dimmed};
 ghost use Rattle.desk_toolbox.specs.Step.{new_record};
 
 use crate::NewWindow;
@@ -43,6 +44,15 @@ impl Window {
             go_away: window.go_away,
             title,
             taken,
+        }
+    }
+
+    /// Takes the highlighting away, if this is the active window.
+    pub(crate) fn dim(&mut self, active: Option<u64>)
+        ensures { self.new ≡ dimmed active self.old }
+    {
+        if active == Some(self.serial) {
+            self.highlighted = false;
         }
     }
 }

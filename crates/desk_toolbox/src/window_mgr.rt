@@ -1,11 +1,11 @@
 //! The calls of the Window Manager.
-ghost use Rattle.std.specs.Prelude.{◌≡◌, true, ◌&&◌, ◌∷◌, if◌then◌else◌, Some, None, IfOk, IfErr, MatchResult, vec_len};
+ghost use Rattle.std.specs.Prelude.{◌≡◌, ◌<◌, true, ◌&&◌, ◌∷◌, map, if◌then◌else◌, Some, None, IfOk, IfErr, MatchResult, vec_len, vec_capacity};
 ghost use Rattle.tb_geom.specs.declared.point.Point.{Point};
 ghost use Rattle.tb_geom.specs.Pixels.{holds};
 ghost use Rattle.def_iface.specs.Meaning.{is_fitting, IsBegun};
 ghost use Rattle.desk_toolbox.specs.Records.{state_of};
 ghost use Rattle.desk_toolbox.specs.Refused.{first_refusal, judged_refusals, is_placed};
-ghost use Rattle.desk_toolbox.specs.Planned.{IsFrontArea, IsPainted, IsUnplanned, SameDesk, HasRoom, IsTicket, IsPlanned, IsAdded};
+ghost use Rattle.desk_toolbox.specs.Planned.{IsFront, IsUnder, AreUnder, IsPainted, IsUnplanned, SameDesk, HasRoom, IsTicket, IsPlanned, IsAdded, dimmed};
 ghost use Rattle.desk_toolbox.specs.Step.{IsMade, IsNotMade, number_after};
 ghost use Rattle.desk_toolbox.specs.Whole.{IsWhole};
 
@@ -16,10 +16,11 @@ use bit_blit::fill;
 use bit_map::{BitMap, Mode, Pattern};
 use def_iface::{Canvas, Cut, Defined, Stage, Stock, Stocked, Taken};
 use scan_region::Region;
+use std::alloc::Global;
 use tb_geom::{Point, Refusal};
 
 /// As many windows as there may be.
-const MOST_WINDOWS: usize = 1;
+const MOST_WINDOWS: usize = 64;
 
 /// What a new window gets where its place, its title and the count of windows allow it.
 #[derive(Drop)]
@@ -28,11 +29,21 @@ struct Ticket {
     title: ArrayVec<u8, 255>,
 }
 
+/// The regions of a window in front of all others.
+#[derive(Drop)]
+struct Front {
+    area: Area,
+    /// What it covers of the screen.
+    cover: Region,
+}
+
 /// What a new window gets, with all the memory that it needs.
 #[derive(Drop)]
 struct Plan {
     ticket: Ticket,
-    area: Area,
+    front: Front,
+    /// The areas of the windows behind it, with room for one more.
+    others: Vec<Area>,
 }
 
 impl Toolbox {
@@ -77,10 +88,14 @@ impl Toolbox {
             (vec_len self.old.windows) self.old.next) }
     {
         let ticket = self.judge(window, is_placed_with(window, taken))?;
-        let area = self.front_area(window, taken)?;
+        let front = self.front(window, taken)?;
+        let others = self.areas_under(&front.cover)?;
         self.windows.reserve(1)?;
-        self.areas.reserve(1)?;
-        Ok(Plan { ticket, area })
+        Ok(Plan {
+            ticket,
+            front,
+            others,
+        })
     }
 
     /// The ticket of a new window, where nothing but its definition and memory can refuse it.
@@ -104,11 +119,11 @@ impl Toolbox {
     }
 
     /// The regions of a window in front of all others.
-    fn front_area(&self, window: &NewWindow<'_>, taken: &Taken) -> Result<Area, Refusal>
+    fn front(&self, window: &NewWindow<'_>, taken: &Taken) -> Result<Front, Refusal>
         requires { is_placed (Some (⟦<Taken as Defined>⟧.loan taken.now).definition)
             window.now.place window.now.size ≡ true }
-        ensures area { IfOk result (
-            IsFrontArea window.now (⟦<Taken as Defined>⟧.loan taken.now).definition self.now.gray) }
+        ensures front { IfOk result (
+            IsFront window.now (⟦<Taken as Defined>⟧.loan taken.now).definition self.now.gray) }
         ensures refused { IfErr result (λ e. e ≡ Refusal.NoMemory) }
     {
         let regions = regions_of(self.alloc, window, taken)?;
@@ -119,11 +134,28 @@ impl Toolbox {
             .structure
             .diff(self.alloc, &regions.content)?
             .sect(self.alloc, &room)?;
-        Ok(Area {
-            visible,
-            update,
-            frame,
+        let cover = regions.structure.sect(self.alloc, &room)?;
+        Ok(Front {
+            area: Area {
+                visible,
+                update,
+                frame,
+            },
+            cover,
         })
+    }
+
+    /// The areas of all windows, less what is covered, with room for one more.
+    fn areas_under(&self, cover: &Region) -> Result<Vec<Area>, Refusal>
+        ensures under { IfOk result (λ areas. AreUnder cover.now self.now.areas.items areas.items) }
+        ensures room { IfOk result (λ areas. vec_len areas < vec_capacity areas) }
+        ensures refused { IfErr result (λ e. e ≡ Refusal.NoMemory) }
+    {
+        let mut areas = Vec::with_capacity(self.alloc, self.areas.len() + 1)?;
+        for area in &self.areas {
+            areas.push(area_under(self.alloc, area, cover)?).unwrap();
+        }
+        Ok(areas)
     }
 
     /// The part of the screen that a window may have: the gray region, and nothing where it is hidden.
@@ -146,18 +178,39 @@ impl Toolbox {
         requires planned { IsPlanned window.now (⟦<Taken as Defined>⟧.loan taken).definition self.old plan }
         ensures number { self.old.next ≡ Some result }
         ensures added { IsAdded ⟦<Taken as Defined>⟧.loan window.now result (⟦<Taken as Defined>⟧.loan taken)
-            plan.area self.old self.new }
+            plan.front.area plan.others.items self.old self.new }
     {
-        let Plan { ticket, area } = plan;
+        let Plan {
+            ticket,
+            front,
+            others,
+        } = plan;
+        let Front { area, .. } = front;
         let Ticket { serial, title } = ticket;
         let mut taken = taken;
         taken.begin(window.size);
         paint(&mut self.screen, &area, &taken, window.place);
         let added = Window::new(window, serial, title, taken);
+        self.dim_behind(window.shown);
+        self.areas = others;
         self.put_in_front(added, area);
         self.active = active_after(window.shown, serial, self.active);
         self.next = number_after(serial);
         serial
+    }
+
+    /// Takes the highlighting from the active window where one in front of it is visible, and so is
+    /// to be the active one.
+    fn dim_behind(&mut self, shown: bool)
+        ensures windows { self.new.windows.items
+            ≡ (if shown then map (dimmed self.old.active) self.old.windows.items else self.old.windows.items) }
+        ensures len { vec_len self.new.windows ≡ vec_len self.old.windows }
+        ensures room { vec_capacity self.new.windows ≡ vec_capacity self.old.windows }
+        ensures others { self.new ≡ record self.old { windows = self.new.windows } }
+    {
+        if shown {
+            dim_all(self.windows.as_mut_slice(), self.active);
+        }
     }
 
     /// Puts a window and its area in front of all others, where there is room for them.
@@ -169,6 +222,30 @@ impl Toolbox {
     {
         self.windows.insert(0, added).unwrap();
         self.areas.insert(0, area).unwrap();
+    }
+}
+
+/// What of a window's area is not covered.
+fn area_under(alloc: Global, area: &Area, cover: &Region) -> Result<Area, Refusal>
+    ensures under { IfOk result (IsUnder cover.now area.now) }
+    ensures refused { IfErr result (λ e. e ≡ Refusal.NoMemory) }
+{
+    let visible = area.visible.diff(alloc, cover)?;
+    let update = area.update.diff(alloc, cover)?;
+    let frame = area.frame.diff(alloc, cover)?;
+    Ok(Area {
+        visible,
+        update,
+        frame,
+    })
+}
+
+/// Takes the highlighting from the active window.
+fn dim_all(windows: &mut [Window], active: Option<u64>)
+    ensures { windows.new ≡ map (dimmed active) windows.old }
+{
+    for window in windows.iter_mut() {
+        window.dim(active);
     }
 }
 

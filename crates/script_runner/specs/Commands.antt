@@ -4,7 +4,7 @@ use Rattle.std.specs.Str.{bytes_eq}
 use Rattle.tb_geom.specs.declared.refusal.Refusal.{Refusal}
 use Rattle.tb_geom.specs.declared.refusal.Refusal.TheVariants.{BadSyntax}
 use Rattle.desk_toolbox.specs.declared.call.Call.TheVariants.{Window}
-use Rattle.desk_toolbox.specs.declared.call.WindowCall.TheVariants.{New}
+use Rattle.desk_toolbox.specs.declared.call.WindowCall.TheVariants.{New, Find, Front}
 use Rattle.desk_toolbox.specs.declared.call.NewWindow.{NewWindow}
 use Rattle.script_runner.specs.declared.script_text.command.Command.{Command}
 use Rattle.script_runner.specs.declared.script_text.command.Command.TheVariants.{Desk, Image, Call}
@@ -37,12 +37,22 @@ abbrev pub window_shape : Shape
 window_shape = name (λ kind. number (λ h. number (λ v. number (λ width. number (λ height. flag (λ shown. flag (λ go_away. text (λ title.
     done (Ok (Call (Window (New (window_of kind h v width height shown go_away title)))))))))))))
 
+-- find h v
+abbrev pub find_shape : Shape
+find_shape = number (λ h. number (λ v. done (Ok (Call (Window (Find (record { h = h; v = v })))))))
+
+-- frontwin
+abbrev pub frontwin_shape : Shape
+frontwin_shape = done (Ok (Call (Window Front)))
+
 -- the first words of commands
 abbrev pub verbs : List (List ℕ × Verb)
 verbs =
     (codes "desk", words.Desk)
     ∷ (codes "image", words.Image)
     ∷ (codes "window", words.Window)
+    ∷ (codes "find", words.Find)
+    ∷ (codes "frontwin", words.FrontWindow)
     ∷ []
 
 -- what the first entry with a word stands for
@@ -55,6 +65,8 @@ abbrev pub shape_of : Verb → Shape
 shape_of words.Desk = desk_shape
 shape_of words.Image = image_shape
 shape_of words.Window = window_shape
+shape_of words.Find = find_shape
+shape_of words.FrontWindow = frontwin_shape
 
 -- what is read after a first word that stands for a verb, or for none
 abbrev pub read_with : Option Verb → Option (List ℕ) → Result Command Refusal

@@ -4,10 +4,10 @@ ghost use Rattle.def_iface.specs.Sizes.{is_size};
 ghost use Rattle.script_runner.specs.PlainWindows.{plain_box, plain_window};
 
 use bit_map::{Mode, Pattern};
-use def_iface::{Canvas, Size, Stage, WindowChange, WindowDef, WindowRegions};
+use def_iface::{Canvas, Hit, Size, Stage, WindowChange, WindowDef, WindowRegions};
 use scan_region::Region;
 use std::alloc::Global;
-use tb_geom::{Rect, Refusal};
+use tb_geom::{Point, Rect, Refusal};
 
 #[cfg(test)]
 mod tests;
@@ -74,6 +74,14 @@ impl WindowDef for PlainWindow {
 
     fn bounds(&self, size: Size) -> Rect {
         plain_box(size)
+    }
+
+    fn hit(&self, point: Point) -> Hit {
+        if self.size.rect().contains(point) {
+            Hit::InContent
+        } else {
+            Hit::NoHit
+        }
     }
 
     fn draw(&self, canvas: &mut Canvas<'_>) {

@@ -1,6 +1,7 @@
 //! The desk of a script: none, until the first command makes it.
 ghost use Rattle.std.specs.Prelude.{◌≡◌, true, All, None};
 ghost use Rattle.def_iface.specs.Stocked.{IsFull};
+ghost use Rattle.desk_toolbox.specs.declared.call.Call.TheVariants as asks;
 ghost use Rattle.desk_toolbox.specs.Records.{state_of};
 ghost use Rattle.desk_toolbox.specs.Whole.{IsWhole};
 ghost use Rattle.script_runner.specs.Session.{first_size, is_known};
@@ -138,9 +139,20 @@ fn is_known(command: &Command<'_>, stock: &Stock) -> bool
     ensures { result ≡ is_known command.now (⟦<Stock as Stocked>⟧.slots stock.now) }
 {
     match command {
-        Command::Call(Call::Window(WindowCall::New(window))) => stock.has(window.kind.bytes()),
+        Command::Call(Call::Window(call)) => is_known_call(call, stock),
         Command::Desk(_) => true,
         Command::Image => true,
+    }
+}
+
+/// Whether the stock has a slot of the kind that a call names, if it names one.
+fn is_known_call(call: &WindowCall<'_>, stock: &Stock) -> bool
+    ensures { result ≡ is_known (Command.Call (asks.Window call.now)) (⟦<Stock as Stocked>⟧.slots stock.now) }
+{
+    match call {
+        WindowCall::New(window) => stock.has(window.kind.bytes()),
+        WindowCall::Find(_) => true,
+        WindowCall::Front => true,
     }
 }
 

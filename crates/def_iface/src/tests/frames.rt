@@ -1,18 +1,18 @@
 //! Two definitions to test with, made of rectangles: a window with a frame of one pixel, and one whose
 //! frame is four pixels tall on top. Their pictures are black wherever the content is not: of those
 //! pixels a desk draws none but the frame's.
-ghost use Rattle.std.specs.Prelude.{◌≡◌, true, not, ◌+ℤ◌, pos, negsuc, IfOk, IfErr};
+ghost use Rattle.std.specs.Prelude.{◌≡◌, true, not, if◌then◌else◌, ◌+ℤ◌, pos, negsuc, IfOk, IfErr};
 ghost use Rattle.tb_geom.specs.declared.point.Point.{Point};
 ghost use Rattle.tb_geom.specs.Rects.{rect_holds};
 ghost use Rattle.tb_geom.specs.Pixels.{holds};
 ghost use Rattle.def_iface.specs.Sizes.{is_size, rect_of};
 ghost use Rattle.def_iface.specs.Meaning.{Definition};
 
-use crate::{Canvas, Size, Stage, WindowChange, WindowDef, WindowRegions};
+use crate::{Canvas, Hit, Size, Stage, WindowChange, WindowDef, WindowRegions};
 use bit_map::{Mode, Pattern};
 use scan_region::Region;
 use std::alloc::Global;
-use tb_geom::{Rect, Refusal};
+use tb_geom::{Point, Rect, Refusal};
 
 /// A window with a black frame of one pixel around a white content.
 #[derive(Drop)]
@@ -102,6 +102,7 @@ impl WindowDef for Plain {
       content = λ s. rect_holds (rect_of s);
       bounds = λ s. record { left = negsuc 0; top = negsuc 0; right = s.width +ℤ pos 1; bottom = s.height +ℤ pos 1 };
       picture = λ p. not (rect_holds (rect_of w.size) p);
+      hit = λ p. if rect_holds (rect_of w.size) p then Hit.InContent else Hit.InDrag;
     } };
 
     fn stage(&self) -> Stage {
@@ -124,6 +125,14 @@ impl WindowDef for Plain {
 
     fn bounds(&self, size: Size) -> Rect {
         plain_box(size)
+    }
+
+    fn hit(&self, point: Point) -> Hit {
+        if self.size.rect().contains(point) {
+            Hit::InContent
+        } else {
+            Hit::InDrag
+        }
     }
 
     fn draw(&self, canvas: &mut Canvas<'_>) {
@@ -158,6 +167,7 @@ impl WindowDef for Titled {
       content = λ s. rect_holds (rect_of s);
       bounds = λ s. record { left = negsuc 0; top = negsuc 3; right = s.width +ℤ pos 1; bottom = s.height +ℤ pos 1 };
       picture = λ p. not (rect_holds (rect_of w.size) p);
+      hit = λ p. if rect_holds (rect_of w.size) p then Hit.InContent else Hit.InDrag;
     } };
 
     fn stage(&self) -> Stage {
@@ -180,6 +190,14 @@ impl WindowDef for Titled {
 
     fn bounds(&self, size: Size) -> Rect {
         titled_box(size)
+    }
+
+    fn hit(&self, point: Point) -> Hit {
+        if self.size.rect().contains(point) {
+            Hit::InContent
+        } else {
+            Hit::InDrag
+        }
     }
 
     fn draw(&self, canvas: &mut Canvas<'_>) {

@@ -1,7 +1,7 @@
 //! A definition to test with: a window whose black frame is four pixels tall on top, and one elsewhere.
 //! Its picture is black wherever the content is not: of those pixels a desk draws none but the
 //! frame's.
-ghost use Rattle.std.specs.Prelude.{◌≡◌, true, not, ◌+ℤ◌, pos, negsuc, IfOk, IfErr};
+ghost use Rattle.std.specs.Prelude.{◌≡◌, true, not, if◌then◌else◌, ◌+ℤ◌, pos, negsuc, IfOk, IfErr};
 ghost use Rattle.tb_geom.specs.declared.point.Point.{Point};
 ghost use Rattle.tb_geom.specs.Rects.{rect_holds};
 ghost use Rattle.tb_geom.specs.Pixels.{holds};
@@ -9,10 +9,10 @@ ghost use Rattle.def_iface.specs.Sizes.{is_size, rect_of};
 ghost use Rattle.def_iface.specs.Meaning.{Definition};
 
 use bit_map::{Mode, Pattern};
-use def_iface::{Canvas, Size, Stage, WindowChange, WindowDef, WindowRegions};
+use def_iface::{Canvas, Hit, Size, Stage, WindowChange, WindowDef, WindowRegions};
 use scan_region::Region;
 use std::alloc::Global;
-use tb_geom::{Rect, Refusal};
+use tb_geom::{Point, Rect, Refusal};
 
 /// A window with a black frame around a white content: of four pixels on top, and of one elsewhere.
 #[derive(Drop)]
@@ -82,6 +82,7 @@ impl WindowDef for Titled {
       content = λ s. rect_holds (rect_of s);
       bounds = λ s. record { left = negsuc 0; top = negsuc 3; right = s.width +ℤ pos 1; bottom = s.height +ℤ pos 1 };
       picture = λ p. not (rect_holds (rect_of w.size) p);
+      hit = λ p. if rect_holds (rect_of w.size) p then Hit.InContent else Hit.InDrag;
     } };
 
     fn stage(&self) -> Stage {
@@ -104,6 +105,14 @@ impl WindowDef for Titled {
 
     fn bounds(&self, size: Size) -> Rect {
         titled_box(size)
+    }
+
+    fn hit(&self, point: Point) -> Hit {
+        if self.size.rect().contains(point) {
+            Hit::InContent
+        } else {
+            Hit::InDrag
+        }
     }
 
     fn draw(&self, canvas: &mut Canvas<'_>) {

@@ -8,7 +8,7 @@ ghost use Rattle.tb_geom.specs.declared.refusal.Refusal.{Refusal};
 ghost use Rattle.tb_geom.specs.declared.refusal.Refusal.TheVariants.{BadSyntax};
 ghost use Rattle.script_runner.specs.declared.script_text.command.Command.{Command};
 ghost use Rattle.script_runner.specs.Grammar.{reading};
-ghost use Rattle.script_runner.specs.Commands.{command_of, shape_of, desk_shape, image_shape, window_shape};
+ghost use Rattle.script_runner.specs.Commands.{command_of, shape_of, desk_shape, image_shape, window_shape, find_shape, frontwin_shape};
 ghost use Rattle.script_runner.specs.Spelling.{IsLine};
 
 use crate::script_text::command::{Command, DeskSize};
@@ -64,6 +64,24 @@ fn window<'a>(words: Words<'a>) -> Result<Command<'a>, Refusal>
     Ok(Command::Call(Call::Window(WindowCall::New(window))))
 }
 
+/// The words after `find`: a point of the screen.
+fn find<'a>(words: Words<'a>) -> Result<Command<'a>, Refusal>
+    ensures { result ≡ reading find_shape words.entry }
+{
+    let (h, words) = words.number()?;
+    let (v, words) = words.number()?;
+    words.end()?;
+    Ok(Command::Call(Call::Window(WindowCall::Find(Point { h, v }))))
+}
+
+/// Nothing follows `frontwin`.
+fn frontwin<'a>(words: Words<'a>) -> Result<Command<'a>, Refusal>
+    ensures { result ≡ reading frontwin_shape words.entry }
+{
+    words.end()?;
+    Ok(Command::Call(Call::Window(WindowCall::Front)))
+}
+
 /// The words after a verb.
 fn command<'a>(verb: Verb, words: Words<'a>) -> Result<Command<'a>, Refusal>
     ensures { result ≡ reading (shape_of verb) words.entry }
@@ -72,6 +90,8 @@ fn command<'a>(verb: Verb, words: Words<'a>) -> Result<Command<'a>, Refusal>
         Verb::Desk => desk(words),
         Verb::Image => image(words),
         Verb::Window => window(words),
+        Verb::Find => find(words),
+        Verb::FrontWindow => frontwin(words),
     }
 }
 

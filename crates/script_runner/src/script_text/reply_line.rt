@@ -1,6 +1,7 @@
 //! Replies as lines.
 ghost use Rattle.script_runner.specs.Writes.{Sends};
-ghost use Rattle.script_runner.specs.Replies.{done_text, reply_text};
+ghost use Rattle.std.specs.Prelude.{◌≡◌};
+ghost use Rattle.script_runner.specs.Replies.{done_text, reply_text, window_number};
 
 use crate::sink::{Sink, send, send_all};
 use desk_toolbox::Reply;
@@ -14,7 +15,7 @@ pub fn write_done<S: Sink>(sink: &mut S) -> Result<(), Refusal>
     send(sink, b"ok\n")
 }
 
-/// Writes the line of what a call answered: `ok` and its value, or `refused` with the refusal's
+/// Writes the line of what a call answered: `ok` and its values, or `refused` with the refusal's
 /// number and name.
 pub fn write_reply<S: Sink>(sink: &mut S, reply: &Result<Reply, Refusal>) -> Result<(), Refusal>
     ensures { Sends (S.output sink.old) (S.output sink.new) result (reply_text reply.now) }
@@ -22,6 +23,22 @@ pub fn write_reply<S: Sink>(sink: &mut S, reply: &Result<Reply, Refusal>) -> Res
     let mut number = Buffer::new();
     match *reply {
         Ok(Reply::Window(window)) => {
+            let pieces: [&[u8]; 3] = [b"ok ", number.format(window).as_bytes(), b"\n"];
+            send_all(sink, &pieces)
+        }
+        Ok(Reply::Found(found)) => {
+            let mut window = Buffer::new();
+            let pieces: [&[u8]; 5] = [
+                b"ok ",
+                number.format(found.part.number()).as_bytes(),
+                b" ",
+                window.format(window_number(found.window)).as_bytes(),
+                b"\n",
+            ];
+            send_all(sink, &pieces)
+        }
+        Ok(Reply::Front(window)) => {
+            let window = window_number(window);
             let pieces: [&[u8]; 3] = [b"ok ", number.format(window).as_bytes(), b"\n"];
             send_all(sink, &pieces)
         }
@@ -35,6 +52,16 @@ pub fn write_reply<S: Sink>(sink: &mut S, reply: &Result<Reply, Refusal>) -> Res
             ];
             send_all(sink, &pieces)
         }
+    }
+}
+
+/// A window by its number, and none by 0.
+fn window_number(window: Option<u64>) -> u64
+    ensures { result ≡ window_number window }
+{
+    match window {
+        Some(number) => number,
+        None => 0,
     }
 }
 

@@ -8,13 +8,17 @@ pub enum Verb {
     Desk,
     Image,
     Window,
+    Find,
+    FrontWindow,
 }
 
 /// Each first word, and what it stands for.
-static VERBS: [(&[u8], Verb); 3] = [
+static VERBS: [(&[u8], Verb); 5] = [
     (b"desk", Verb::Desk),
     (b"image", Verb::Image),
     (b"window", Verb::Window),
+    (b"find", Verb::Find),
+    (b"frontwin", Verb::FrontWindow),
 ];
 
 /// What the first entry with this word stands for, if there is one.

@@ -1,7 +1,7 @@
-use Rattle.std.proofs.Common.{Ok, rules}
-use Rattle.desk_toolbox.specs.declared.call.Reply.TheVariants as reply
+use Rattle.desk_toolbox.specs.declared.call.Call.TheVariants.{Window}
+use Rattle.desk_toolbox.specs.declared.call.WindowCall.TheVariants.{New}
 use Rattle.desk_toolbox.proofs.Running.{step_stays_right}
 use Rattle.desk_toolbox.proofs.toolbox.Toolbox.call.Goals as goal
 
-pub returns-clause-right : goal.returns-clause-right
-returns-clause-right g c right = step_stays_right c.args.call.now (Ok (reply.Window c.in_ok-new_window.field-0)) _ _ right (search rules)
+pub returns-in-Window-New-clause-right : goal.returns-in-Window-New-clause-right
+returns-in-Window-New-clause-right g c right = step_stays_right (Window (New c.in-Window-New.window)) c.answer_new.result _ _ right c.answer_new.ensures.step

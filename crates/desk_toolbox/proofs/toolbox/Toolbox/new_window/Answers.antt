@@ -20,11 +20,12 @@ returns-in-Err-plan_window-clause-step g c =
 
 pub returns-in-Ok-plan_window-clause-whole : goal.returns-in-Ok-plan_window-clause-whole
 returns-in-Ok-plan_window-clause-whole g c =
-    adding.is_whole _ _ _ _ _ _ _ _ _ _ (record {
+    adding.is_whole _ _ _ _ _ _ _ _ _ _ _ (record {
       whole = c.requires;
       same = c.plan_window.ensures.same;
       unrefused_is = c.in-Ok-plan_window.ensures.ok.0;
-      front = c.in-Ok-plan_window.ensures.ok.1.area;
+      front_is = c.in-Ok-plan_window.ensures.ok.1.front;
+      behind = c.in-Ok-plan_window.ensures.ok.1.others;
       number = c.add_window.ensures.number;
       added = c.add_window.ensures.added;
       took = slots.taken_named _ _ _ _ _ c.bytes.ensures c.in-Ok.ensures.taken;
@@ -32,11 +33,12 @@ returns-in-Ok-plan_window-clause-whole g c =
 
 pub returns-in-Ok-plan_window-clause-step : goal.returns-in-Ok-plan_window-clause-step
 returns-in-Ok-plan_window-clause-step g c =
-    adding.is_made _ c.args.window.now _ _ _ _ _ _ _ _ (record {
+    adding.is_made _ c.args.window.now _ _ _ _ _ _ _ _ _ (record {
       whole = c.requires;
       same = c.plan_window.ensures.same;
       unrefused_is = c.in-Ok-plan_window.ensures.ok.0;
-      front = c.in-Ok-plan_window.ensures.ok.1.area;
+      front_is = c.in-Ok-plan_window.ensures.ok.1.front;
+      behind = c.in-Ok-plan_window.ensures.ok.1.others;
       number = c.add_window.ensures.number;
       added = c.add_window.ensures.added;
       took = slots.taken_named _ _ _ _ _ c.bytes.ensures c.in-Ok.ensures.taken;
