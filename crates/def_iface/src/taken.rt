@@ -6,7 +6,7 @@ ghost use Rattle.tb_geom.specs.Pixels.{holds};
 ghost use Rattle.bit_blit.specs.Draws.{Draws};
 ghost use Rattle.def_iface.specs.Sizes.{is_size};
 ghost use Rattle.def_iface.specs.Canvases.{canvas_holds, canvas_point, SameFrame};
-ghost use Rattle.def_iface.specs.Meaning.{Loan, IsWithin, IsBegun, is_fitting};
+ghost use Rattle.def_iface.specs.Meaning.{Loan, SameRegions, IsWithin, IsBegun, is_fitting};
 
 use crate::{Canvas, Hit, Size, Stage, WindowChange, WindowDef, WindowRegions};
 use std::alloc::Global;
@@ -97,6 +97,8 @@ impl Taken {
     pub fn dispose(&mut self)
         requires { (⟦<Taken as Defined>⟧.loan self.old).definition.stage ≡ Stage.Live }
         ensures closed { (⟦<Taken as Defined>⟧.loan self.new).definition.stage ≡ Stage.Closed }
+        ensures regions { SameRegions (⟦<Taken as Defined>⟧.loan self.old).definition
+            (⟦<Taken as Defined>⟧.loan self.new).definition }
         ensures slot { (⟦<Taken as Defined>⟧.loan self.new).slot ≡ (⟦<Taken as Defined>⟧.loan self.old).slot }
     {
         self.definition.dispose();

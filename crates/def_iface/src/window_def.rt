@@ -122,5 +122,6 @@ pub trait WindowDef: Drop {
     /// Ends a Live definition's use.
     fn dispose(&mut self)
         requires { (meaning self.old).stage ≡ Stage.Live }
-        ensures { (meaning self.new).stage ≡ Stage.Closed };
+        ensures closed { (meaning self.new).stage ≡ Stage.Closed }
+        ensures regions { SameRegions (meaning self.old) (meaning self.new) };
 }

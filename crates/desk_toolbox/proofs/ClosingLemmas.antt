@@ -9,7 +9,7 @@ use Rattle.std.proofs.lemmas.List.{map-append}
 use Rattle.std.proofs.lemmas.List.Elements.{All-nil, All-pop, All-push}
 use Rattle.def_iface.specs.declared.taken.Taken.{Taken}
 use Rattle.def_iface.specs.declared.window_def.Stage.TheVariants.{Live, Closed}
-use Rattle.def_iface.specs.Meaning.{Definition, Loan}
+use Rattle.def_iface.specs.Meaning.{Definition, Loan, SameRegions}
 use Rattle.def_iface.specs.Stocked.{SlotView, IsFull, is_left, holding}
 use Rattle.desk_toolbox.specs.declared.window_list.Window.{Window}
 use Rattle.desk_toolbox.specs.FullDesk.{WindowRecord}
@@ -56,22 +56,23 @@ module _ {X : Type 0} where
   map-set f (z ∷ xs) (suc i) x y e same = ap (λ ws. f z ∷ ws) (map-set f xs i x y e same)
 
 -- an empty slot got a closed definition
-record Shut (slot : ℕ) (old new : List SlotView) : Type 0 where
+record Shut (loan : Loan) (old new : List SlotView) : Type 0 where
   view : SlotView
   definition : Definition
-  found : slice_get old slot ≡ Some view
+  found : slice_get old loan.slot ≡ Some view
   empty : view.held ≡ None
   closed : definition.stage ≡ Closed
-  back : new ≡ slice_set old slot (holding (Some definition) view)
+  regions : SameRegions loan.definition definition
+  back : new ≡ slice_set old loan.slot (holding (Some definition) view)
 
-shut_facts : (slot : ℕ) (old new : List SlotView) → is_left slot old ≡ true → IsShut slot old new → Shut slot old new
-shut_facts slot old new left shut = by_cases (slice_get old slot) refl left shut.back
+shut_facts : (loan : Loan) (old new : List SlotView) → is_left loan.slot old ≡ true → IsShut loan old new → Shut loan old new
+shut_facts loan old new left shut = by_cases (slice_get old loan.slot) refl left shut.back
   where
     held_none : (o : Option Definition) → is_none o ≡ true → o ≡ None
     held_none None e = refl
     held_none (Some d) e = absurd (cc)
 
-    by_cases : (o : Option SlotView) → slice_get old slot ≡ o → option_map_or (λ (s : SlotView). is_none s.held) o false ≡ true → IfSome o (λ s. new ≡ slice_set old slot (holding (Some shut.definition) s)) → Shut slot old new
+    by_cases : (o : Option SlotView) → slice_get old loan.slot ≡ o → option_map_or (λ (s : SlotView). is_none s.held) o false ≡ true → IfSome o (λ s. new ≡ slice_set old loan.slot (holding (Some shut.definition) s)) → Shut loan old new
     by_cases None at e back = absurd (cc)
     by_cases (Some s) at e back = record {
       view = s;
@@ -79,15 +80,20 @@ shut_facts slot old new left shut = by_cases (slice_get old slot) refl left shut
       found = at;
       empty = held_none s.held e;
       closed = shut.closed;
+      regions = shut.regions;
       back = back;
     }
+
+-- a window's definition, and its slot
+abbrev loan_of : WindowRecord → Loan
+loan_of w = record { definition = w.definition; slot = w.slot }
 
 left_parts : (ws : List WindowRecord) (w : WindowRecord) (slots : List SlotView) → IsStocked (ws ++ w ∷ []) slots → All (λ v. is_left v.slot slots ≡ true) ws × (is_left w.slot slots ≡ true)
 left_parts ws w slots stocked = All-pop (λ v. is_left v.slot slots ≡ true) (ws ++ w ∷ []) ws (Some w) refl stocked.left
 
-module _ (ws : List WindowRecord) (w : WindowRecord) (old new : List SlotView) (stocked : IsStocked (ws ++ w ∷ []) old) (is_shut : IsShut w.slot old new) where
-  shut : Shut w.slot old new
-  shut = shut_facts w.slot old new (left_parts ws w old stocked).1 is_shut
+module _ (ws : List WindowRecord) (w : WindowRecord) (old new : List SlotView) (stocked : IsStocked (ws ++ w ∷ []) old) (is_shut : IsShut (loan_of w) old new) where
+  shut : Shut (loan_of w) old new
+  shut = shut_facts (loan_of w) old new (left_parts ws w old stocked).1 is_shut
 
   here : slice_get new w.slot ≡ Some (holding (Some shut.definition) shut.view)
   here = ap (λ ss. slice_get ss w.slot) shut.back ∙ get-set_same old w.slot shut.view _ shut.found
@@ -123,7 +129,7 @@ module _ (ws : List WindowRecord) (w : WindowRecord) (old new : List SlotView) (
     kinds = rest.kinds ∙ ap (map (λ s. s.kind)) shut.back ∙ map-set (λ (s : SlotView). s.kind) old w.slot shut.view _ shut.found refl;
     full = rest.full;
     others = others;
-    closed = All-push (λ v. IsClosedAt final v.slot) ws w rest.closed (_, rest.others w.slot _ here here_full, (shut.definition, refl, shut.closed));
+    closed = All-push (IsClosedAt final) ws w rest.closed (_, rest.others w.slot _ here here_full, (shut.definition, refl, shut.closed, shut.regions));
   }
     where
       others : (k : ℕ) (s : SlotView) → slice_get old k ≡ Some s → IsFull s → slice_get final k ≡ Some s
@@ -180,7 +186,7 @@ module _ {V : Type 0} {H : V → Type 0} (loan : Taken V H → Loan) (all : List
   last_is_left = (left_parts (map (record_of loan) vs) (record_of loan v) now before_last.stocked).1
 
   -- once it is put away, the windows before it are left
-  pub goes_on : (new : List SlotView) → IsShut (loan v.taken).slot now new → IsUnderWay all (map (record_of loan) vs) old new
+  pub goes_on : (new : List SlotView) → IsShut (loan v.taken) now new → IsUnderWay all (map (record_of loan) vs) old new
   goes_on new is_shut = record {
     settled = settled_parts.0;
     stocked = stocked_front (map (record_of loan) vs) (record_of loan v) now new before_last.stocked is_shut;

@@ -39,7 +39,7 @@ fn put_all_away(windows: Vec<Window>, stock: &mut Stock)
 fn put_away(window: Window, stock: &mut Stock)
     requires live { (⟦<Taken as Defined>⟧.loan window.taken).definition.stage ≡ Stage.Live }
     requires left { is_left (⟦<Taken as Defined>⟧.loan window.taken).slot (⟦<Stock as Stocked>⟧.slots stock.old) ≡ true }
-    ensures { IsShut (⟦<Taken as Defined>⟧.loan window.taken).slot
+    ensures { IsShut (⟦<Taken as Defined>⟧.loan window.taken)
         (⟦<Stock as Stocked>⟧.slots stock.old) (⟦<Stock as Stocked>⟧.slots stock.new) }
 {
     let Window { taken, .. } = window;

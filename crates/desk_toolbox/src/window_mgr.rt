@@ -165,9 +165,9 @@ impl Toolbox {
         ensures refused { IfErr result (λ e. e ≡ Refusal.NoMemory) }
     {
         if shown {
-            self.gray.sect(self.alloc, &self.gray)
+            self.gray.copy(self.alloc)
         } else {
-            self.gray.diff(self.alloc, &self.gray)
+            Ok(Region::empty(self.alloc))
         }
     }
 

@@ -7,3 +7,6 @@ pub mod InPlace
 pub mod MovedRows
 pub mod RectRows
 pub mod SpanRuns
+pub mod OneList
+pub mod Shared
+pub mod Around

@@ -54,7 +54,7 @@ IsRising-moved xs d r =
     }
 
 -- all edges lie from the first to the last one
-edge_bounds : (xs : List ℤ) (k : ℕ) → IsRising xs → k < length xs → (get_or xs 0 (pos 0) ≤ℤ get_or xs k (pos 0)) × (get_or xs k (pos 0) ≤ℤ get_or xs (length xs - 1) (pos 0))
+pub edge_bounds : (xs : List ℤ) (k : ℕ) → IsRising xs → k < length xs → (get_or xs 0 (pos 0) ≤ℤ get_or xs k (pos 0)) × (get_or xs k (pos 0) ≤ℤ get_or xs (length xs - 1) (pos 0))
 edge_bounds xs k r l = (
   elim (cases_lt 0 k) [ inl m ↦ (let up = r.rises 0 k m l in omega (arith, ints)) | inr m ↦ (let e : k ≡ 0 = omega arith in rw e (omega (arith, ints))) ],
   elim (cases_lt k (length xs - 1)) [ inl m ↦ (let up = r.rises k (length xs - 1) m (omega arith) in omega (arith, ints)) | inr m ↦ (let e : k ≡ length xs - 1 = omega arith in rw e (omega (arith, ints))) ],

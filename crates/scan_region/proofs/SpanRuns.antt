@@ -63,7 +63,7 @@ and_or true a z = refl
 and_or false a z = refl
 
 -- what rises without its first number
-rising_tail : (x : ℤ) (xs : List ℤ) → IsRising (x ∷ xs) → IsRising xs
+pub rising_tail : (x : ℤ) (xs : List ℤ) → IsRising (x ∷ xs) → IsRising xs
 rising_tail x xs r = record { rises = λ i j m n. r.rises (suc i) (suc j) (omega arith) (omega arith) }
 
 even_rest : (b : Bool) → not (not b) ≡ false → b ≡ false

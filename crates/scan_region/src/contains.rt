@@ -18,7 +18,7 @@ pub fn rows_contain(rows: &[Row], h: i32, v: i32) -> bool
 }
 
 /// Whether a row has the pixel at the column `h`.
-fn is_inside(edges: &[i32], h: i32) -> bool
+pub fn is_inside(edges: &[i32], h: i32) -> bool
     ensures { result ≡ inside edges.now h }
 {
     let mut within = false;

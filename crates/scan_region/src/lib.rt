@@ -8,18 +8,29 @@
 //! pixel are coordinates.
 //!
 //! One kernel, `combine_rows`, combines two rows under an `Operator`, by one sweep over the edges of
-//! both; one merge of the rows does so for regions; `union`, `sect` and `diff` differ in the operator
-//! alone. Contracts see a `Region` as a finite set of pixels and say, for each point, whether it is
-//! in. A region has no coordinate space of its own: it is that of the call.
+//! both; one merge of the rows does so for regions; `union`, `sect`, `diff` and `xor` differ in the
+//! operator alone. Contracts see a `Region` as a finite set of pixels and say, for each point, whether
+//! it is in. A region has no coordinate space of its own: it is that of the call.
+//!
+//! `empty`, `from_rect` and `copy` begin a region, and `offset` moves it. `contains`, `is_empty`,
+//! `equals`, `meets_rect` and `bbox` answer from the rows and take no memory: `meets_rect` looks at
+//! pixels, not at bounds, and `bbox` is the rectangle around them. A set of pixels is kept in one list
+//! of rows alone (`laws::one_list_of_rows`), so that `equals`, which compares the lists, compares the
+//! sets.
 #![tactic(auto)]
 
+mod bounds;
 mod contains;
+mod copy;
 mod kernel;
+pub mod laws;
+mod meets;
 mod merge;
 mod offset;
 mod rect;
 mod region;
 mod row;
+mod same;
 mod spans;
 
 pub use region::Region;

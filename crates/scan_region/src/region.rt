@@ -1,17 +1,21 @@
 //! The public calls: each wraps a function of the rows.
-ghost use Rattle.std.specs.Prelude.{◌≡◌, true, false, ◌&&◌, ◌||◌, not, IfOk, IfErr, OnOk, OnErr};
+ghost use Rattle.std.specs.Prelude.{◌≡◌, true, false, ◌&&◌, ◌||◌, not, ◌↔◌, IsTrue, IfOk, IfErr, OnOk, OnErr};
 ghost use Rattle.tb_geom.specs.declared.point.Point.{Point};
 ghost use Rattle.tb_geom.specs.Points.{minus};
-ghost use Rattle.tb_geom.specs.Rects.{rect_holds, is_in_range};
+ghost use Rattle.tb_geom.specs.Rects.{rect_holds, is_in_range, IsBoxOf, empty_rect};
 ghost use Rattle.tb_geom.specs.Pixels.{holds};
-ghost use Rattle.scan_region.specs.Edges.{applied};
+ghost use Rattle.scan_region.specs.Edges.{applied, differ};
 
+use crate::bounds::rows_bounds;
 use crate::contains::rows_contain;
+use crate::copy::copy_rows;
 use crate::kernel::Operator;
+use crate::meets::rows_meet;
 use crate::merge::merge_rows;
 use crate::offset::{move_rows, rows_stay};
 use crate::rect::rect_rows;
 use crate::row::Row;
+use crate::same::same_rows;
 use crate::spans::Spans;
 use std::alloc::{AllocError, Global};
 use std::marker::Model;
@@ -41,6 +45,16 @@ impl Region {
     ghost use Rattle.scan_region.specs.Moves.{StaysInRange, LeavesRange};
     ghost use Rattle.scan_region.specs.Scan.{IsScan};
 
+    /// The region of no pixel (*Inside Macintosh* I, "QuickDraw": `NewRgn`), in any coordinate space.
+    /// It takes no memory.
+    pub fn empty(alloc: Global) -> Region
+        ensures { (p : Point) → holds result p ≡ false }
+    {
+        Region {
+            rows: Vec::new(alloc),
+        }
+    }
+
     /// The pixels of a rectangle. OutOfRange exactly where one of its sides lies outside
     /// -16384..=16383, also of an empty rectangle; else it refuses only for want of memory.
     pub fn from_rect(alloc: Global, rect: Rect) -> Result<Region, Refusal>
@@ -52,6 +66,16 @@ impl Region {
             return Err(Refusal::OutOfRange);
         }
         let rows = rect_rows(alloc, rect)?;
+        Ok(Region { rows })
+    }
+
+    /// A region of the same pixels (*Inside Macintosh* I, "QuickDraw": `CopyRgn`), in the same
+    /// coordinate space. It refuses only for want of memory.
+    pub fn copy(&self, alloc: Global) -> Result<Region, Refusal>
+        ensures same { IfOk result (λ region. region ≡ self.now) }
+        ensures refused { IfErr result (λ e. e ≡ Refusal.NoMemory) }
+    {
+        let rows = copy_rows(alloc, self.rows.as_slice())?;
         Ok(Region { rows })
     }
 
@@ -82,6 +106,16 @@ impl Region {
         Ok(self.combined(alloc, other, Operator::Difference)?)
     }
 
+    /// The pixels of one of the two regions alone, in the coordinate space of both (*Inside Macintosh*
+    /// I, "QuickDraw": `XorRgn`). It refuses only for want of memory.
+    pub fn xor(&self, alloc: Global, other: &Region) -> Result<Region, Refusal>
+        ensures pixels { IfOk result (λ region. (p : Point)
+            → holds region p ≡ differ (holds self.now p) (holds other.now p)) }
+        ensures refused { IfErr result (λ e. e ≡ Refusal.NoMemory) }
+    {
+        Ok(self.combined(alloc, other, Operator::SymmetricDifference)?)
+    }
+
     /// Moves the region `dh` columns to the right and `dv` rows down, taking no memory. OutOfRange,
     /// with nothing changed, exactly where a moved pixel lies outside -16384..=16382 in `h` or `v`.
     pub fn offset(&mut self, dh: i32, dv: i32) -> Result<(), Refusal>
@@ -104,6 +138,40 @@ impl Region {
         ensures { result ≡ holds self.now point }
     {
         rows_contain(self.rows.as_slice(), point.h, point.v)
+    }
+
+    /// Whether the region has no pixel (*Inside Macintosh* I, "QuickDraw": `EmptyRgn`).
+    pub fn is_empty(&self) -> bool
+        ensures { IsTrue result ↔ ((p : Point) → holds self.now p ≡ false) }
+    {
+        self.rows.is_empty()
+    }
+
+    /// Whether the two regions, in one coordinate space, have the same pixels (*Inside Macintosh* I,
+    /// "QuickDraw": `EqualRgn`).
+    pub fn equals(&self, other: &Region) -> bool
+        ensures { IsTrue result ↔ (self.now ≡ other.now) }
+    {
+        same_rows(self.rows.as_slice(), other.rows.as_slice())
+    }
+
+    /// Whether the region has a pixel of `rect`, whose sides are in the region's coordinate space and
+    /// may be any (*Inside Macintosh* I, "QuickDraw": `RectInRgn`). A rectangle that lies in a hole or
+    /// beside an arm of the region, within its bounds, has none.
+    pub fn meets_rect(&self, rect: Rect) -> bool
+        ensures { IsTrue result
+            ↔ ((p : Point) × (holds self.now p ≡ true) × (rect_holds rect p ≡ true)) }
+    {
+        rows_meet(self.rows.as_slice(), rect)
+    }
+
+    /// The smallest rectangle around the pixels of the region, in its coordinate space, 0 0 0 0 where
+    /// it has none (*Inside Macintosh* I, "QuickDraw": the field `rgnBBox`).
+    pub fn bbox(&self) -> Rect
+        ensures exact { IsBoxOf result (holds self.now) }
+        ensures none { ((p : Point) → holds self.now p ≡ false) → result ≡ empty_rect }
+    {
+        rows_bounds(self.rows.as_slice())
     }
 
     /// The spans of the region, by rising rows and columns: its maximal runs of pixels in a row.

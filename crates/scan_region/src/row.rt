@@ -1,12 +1,14 @@
 //! One row of a region.
-ghost use Rattle.std.specs.Prelude.{◌≡◌, ◌&&◌, ℤ, List, map, ◌+ℤ◌, ◌<ℤ◌, IfOk, All};
-ghost use Rattle.tb_geom.specs.Rects.{between};
+ghost use Rattle.std.specs.Prelude.{◌≡◌, ◌↔◌, ◌&&◌, ℤ, List, map, ◌+ℤ◌, ◌<ℤ◌, IsTrue, IfOk, All};
+ghost use Rattle.std.specs.Ordering.{int_eq};
+ghost use Rattle.tb_geom.specs.Rects.{IsBoxOf, between};
 ghost use Rattle.scan_region.specs.Edges.{inside, IsCoordinate};
 ghost use Rattle.scan_region.specs.Rows.{IsTop, IsGoodRow};
 ghost use Rattle.scan_region.specs.Moves.{moved_row};
 
 use std::alloc::{AllocError, Global};
 use std::marker::Model;
+use tb_geom::Rect;
 
 /// The row `v` of a region with its edges, seen as these two.
 #[derive(Drop)]
@@ -45,6 +47,37 @@ impl Row {
         edges.push(left)?;
         edges.push(right)?;
         Ok(Row { v, edges })
+    }
+
+    /// A copy of the row.
+    pub fn copy(&self, alloc: Global) -> Result<Row, AllocError>
+        ensures { IfOk result (λ row. row ≡ self.now) }
+    {
+        let edges = self.edges.as_slice().to_vec(alloc)?;
+        Ok(Row { v: self.v, edges })
+    }
+
+    /// Whether the two rows are the same.
+    pub fn is_same(&self, other: &Row) -> bool
+        ensures { IsTrue result ↔ (self.now ≡ other.now) }
+    {
+        self.v == other.v && self.edges.as_slice() == other.edges.as_slice()
+    }
+
+    /// The smallest rectangle around the pixels of the row.
+    pub fn bounds(&self) -> Rect
+        requires { IsGoodRow self.now }
+        ensures { IsBoxOf result (λ p. int_eq self.now.0 p.v && inside self.now.1 p.h) }
+    {
+        match self.edges.as_slice() {
+            [first, .., last] => Rect {
+                left: *first,
+                top: self.v,
+                right: *last,
+                bottom: self.v + 1,
+            },
+            _ => unreachable!(),
+        }
     }
 
     /// Its place.

@@ -6,6 +6,8 @@ use std::process::Abort;
 use std::test::Fail;
 use tb_geom::{Point, Rect, Refusal};
 
+mod queries;
+
 /// The pixels looked at: all of the shapes, moved too, and a border around them.
 const LOW: i32 = -4;
 
@@ -89,6 +91,8 @@ fn agrees_with_single_pixels(rt: HostRuntime) -> Result<(), Fail> {
                 &diff,
                 &|h, v| is_in_any(a, h, v) && !is_in_any(b, h, v),
             );
+            let xor = one.xor(rt.alloc(), &two)?;
+            assert_same(&rt, &xor, &|h, v| is_in_any(a, h, v) != is_in_any(b, h, v));
         }
         one.offset(3, -2)?;
         assert_same(
@@ -239,13 +243,21 @@ fn assert_pair(rt: &impl Abort, alloc: Global, a: &Sample, b: &Sample) -> Result
     Ok(())
 }
 
+/// The regions of all sets of the nine pixels.
+fn all_samples(alloc: Global) -> Result<Vec<Sample>, Refusal> {
+    let mut samples = Vec::new(alloc);
+    for mask in 0..512 {
+        let region = region_of_mask(alloc, mask)?;
+        samples.push(Sample { mask, region })?;
+    }
+    Ok(samples)
+}
+
 #[test]
 fn agrees_on_all_pairs_within_three_by_three(rt: HostRuntime) -> Result<(), Fail> {
-    let mut samples = Vec::new(rt.alloc());
-    for mask in 0..512 {
-        let region = region_of_mask(rt.alloc(), mask)?;
-        assert_mask(&rt, &region, mask);
-        samples.push(Sample { mask, region })?;
+    let samples = all_samples(rt.alloc())?;
+    for a in samples.as_slice() {
+        assert_mask(&rt, &a.region, a.mask);
     }
     for a in samples.as_slice() {
         for b in samples.as_slice() {

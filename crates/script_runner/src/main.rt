@@ -113,3 +113,5 @@ fn main(rt: HostRuntime) -> ExitCode {
 
 #[cfg(test)]
 mod paper;
+#[cfg(test)]
+mod script;

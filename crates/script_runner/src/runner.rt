@@ -99,3 +99,6 @@ fn take<W: Sink>(
     line.clear();
     Ok(())
 }
+
+#[cfg(test)]
+mod tests;

@@ -6,6 +6,7 @@ ghost use Rattle.tb_geom.specs.declared.point.Point.{Point};
 ghost use Rattle.tb_geom.specs.Rects.{rect_holds};
 ghost use Rattle.tb_geom.specs.Pixels.{holds};
 ghost use Rattle.def_iface.specs.Sizes.{is_size, rect_of};
+ghost use Rattle.def_iface.specs.declared.window_def.Hit.TheVariants.{InContent, InDrag};
 ghost use Rattle.def_iface.specs.Meaning.{Definition};
 
 use bit_map::{Mode, Pattern};
@@ -82,7 +83,7 @@ impl WindowDef for Titled {
       content = λ s. rect_holds (rect_of s);
       bounds = λ s. record { left = negsuc 0; top = negsuc 3; right = s.width +ℤ pos 1; bottom = s.height +ℤ pos 1 };
       picture = λ p. not (rect_holds (rect_of w.size) p);
-      hit = λ p. if rect_holds (rect_of w.size) p then Hit.InContent else Hit.InDrag;
+      hit = λ p. if rect_holds (rect_of w.size) p then InContent else InDrag;
     } };
 
     fn stage(&self) -> Stage {

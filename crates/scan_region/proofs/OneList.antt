@@ -1,0 +1,140 @@
+-- Each set of pixels has one list of rows.
+use Rattle.std.proofs.Common.{◌≡◌, ℕ, zero, suc, ◌<◌, Bool, true, false, ◌&&◌, ◌||◌, List, [], ◌∷◌, length, get_or, map, ℤ, pos, ◌<ℤ◌, ◌≤ℤ◌, refl, sym, ap, ◌∙◌, subst, arith}
+use Rattle.std.specs.Prelude.{int_le}
+use Rattle.std.proofs.Math.Bool.{or-false}
+use Rattle.std.proofs.lemmas.Int.{ints, by_lt_z}
+use Rattle.std.proofs.lemmas.Bool.{true≢false, false≢true}
+use Rattle.std.proofs.lemmas.List.Elements.{All-head, All-tail}
+use Rattle.tb_geom.specs.declared.point.Point.{Point}
+use Rattle.tb_geom.specs.Pixels.{Pixels, has, holds, pixels_where}
+use Rattle.scan_region.specs.Edges.{differ, inside, IsRising}
+use Rattle.scan_region.specs.Rows.{EdgeRow, has_in_rows, top_of, AreRows, IsGoodRow}
+use Rattle.scan_region.proofs.Edges.{inside_left, inside-nil}
+use Rattle.scan_region.proofs.Merged.{has_in_rows-nil, int_eq-same, int_eq-apart}
+use Rattle.scan_region.proofs.Plane.{has_view, has_viewed}
+use Rattle.scan_region.proofs.SpanRuns.{rising_tail}
+
+pub int_le-true : (x h : ℤ) → x ≤ℤ h → int_le x h ≡ true
+int_le-true x h l = grind (arith, ints)
+
+pub int_le-false : (x h : ℤ) → h <ℤ x → int_le x h ≡ false
+int_le-false x h l = grind (arith, ints)
+
+pub rising_head : (x : ℤ) (xs : List ℤ) → IsRising (x ∷ xs) → (k : ℕ) → k < length xs → x <ℤ get_or xs k (pos 0)
+rising_head x xs r k n = r.rises zero (suc k) (omega arith) (omega arith)
+
+-- ---- the edges of a row
+
+-- at its first edge a row is in
+first_in : (x : ℤ) (xs : List ℤ) → IsRising (x ∷ xs) → inside (x ∷ xs) x ≡ true
+unfolding inside
+first_in x xs r = (λ i. differ (int_le-true x x (omega (arith, ints)) i) (inside_left xs x (rising_head x xs r) i))
+
+-- left of it the row is out
+left_out : (x h : ℤ) (xs : List ℤ) → IsRising (x ∷ xs) → h <ℤ x → inside (x ∷ xs) h ≡ false
+unfolding inside
+left_out x h xs r l = (λ i. differ (int_le-false x h l i) (inside_left xs h (λ k n. let f = rising_head x xs r k n in omega (arith, ints)) i))
+
+differ_cancel : (b c d : Bool) → differ b c ≡ differ b d → c ≡ d
+differ_cancel true true true e = refl
+differ_cancel true true false e = sym e
+differ_cancel true false true e = sym e
+differ_cancel true false false e = refl
+differ_cancel false c d e = e
+
+edge_tails : (x : ℤ) (xs ys : List ℤ) → ((h : ℤ) → inside (x ∷ xs) h ≡ inside (x ∷ ys) h) → (h : ℤ) → inside xs h ≡ inside ys h
+unfolding inside
+edge_tails x xs ys e h = differ_cancel (int_le x h) _ _ (e h)
+
+-- rows with the same pixels have the same edges
+same_edges : (xs ys : List ℤ) → IsRising xs → IsRising ys → ((h : ℤ) → inside xs h ≡ inside ys h) → xs ≡ ys
+same_edges [] [] r s e = refl
+same_edges [] (y ∷ ys) r s e = absurd (false≢true (sym (inside-nil y) ∙ e y ∙ first_in y ys s))
+same_edges (x ∷ xs) [] r s e = absurd (true≢false (sym (first_in x xs r) ∙ e x ∙ inside-nil x))
+same_edges (x ∷ xs) (y ∷ ys) r s e =
+    let same : x ≡ y = by_lt_z x y
+    (λ l. absurd (true≢false (sym (first_in x xs r) ∙ e x ∙ left_out y x ys s l)))
+    (λ l. by_lt_z y x
+    (λ m. absurd (false≢true (sym (left_out x y xs r m) ∙ e y ∙ first_in y ys s)))
+    (λ m. omega (arith, ints))) in
+    let rest = same_edges xs ys (rising_tail x xs r) (rising_tail y ys s) (edge_tails x xs ys (λ h. e h ∙ ap (λ z. inside (z ∷ ys) h) (sym same))) in
+    λ i. same i ∷ rest i
+
+-- ---- the rows
+
+tail_rows : (row : EdgeRow) (rows : List EdgeRow) → AreRows (row ∷ rows) → AreRows rows
+tail_rows row rows c = record { rising = rising_tail row.0 (map top_of rows) c.rising; each = All-tail IsGoodRow row rows c.each }
+
+-- up to a row above all of them, rows have no pixel
+above_out : (rows : List EdgeRow) (h v : ℤ) → ((k : ℕ) → k < length (map top_of rows) → v <ℤ get_or (map top_of rows) k (pos 0)) → has_in_rows rows h v ≡ false
+unfolding has_in_rows
+above_out [] h v all = refl
+above_out (row ∷ rows) h v all =
+    let first = all zero (omega arith) in
+    (λ i. (int_eq-apart row.0 v (λ same. omega (arith, ints)) i && inside row.1 h) || above_out rows h v (λ k l. all (suc k) (omega arith)) i)
+
+-- at its first row a region has the pixels of that row, and above it none
+first_row : (row : EdgeRow) (rows : List EdgeRow) (h : ℤ) → AreRows (row ∷ rows) → has_in_rows (row ∷ rows) h row.0 ≡ inside row.1 h
+unfolding has_in_rows
+first_row row rows h c =
+    (λ i. (int_eq-same row.0 i && inside row.1 h) || above_out rows h row.0 (rising_head row.0 (map top_of rows) c.rising) i) ∙ or-false _
+
+above_first : (row : EdgeRow) (rows : List EdgeRow) (h v : ℤ) → AreRows (row ∷ rows) → v <ℤ row.0 → has_in_rows (row ∷ rows) h v ≡ false
+unfolding has_in_rows
+above_first row rows h v c l =
+    (λ i. (int_eq-apart row.0 v (λ same. omega (arith, ints)) i && inside row.1 h) || above_out rows h v (λ k n. let f = rising_head row.0 (map top_of rows) c.rising k n in omega (arith, ints)) i)
+
+-- the pixels of the rows below the first one
+rest_at : (row : EdgeRow) (rows : List EdgeRow) (h v : ℤ) → AreRows (row ∷ rows) → (row.0 <ℤ v → has_in_rows (row ∷ rows) h v ≡ has_in_rows rows h v) × (v ≤ℤ row.0 → has_in_rows rows h v ≡ false)
+unfolding has_in_rows
+rest_at row rows h v c = (
+  λ l. (λ i. (int_eq-apart row.0 v (λ same. omega (arith, ints)) i && inside row.1 h) || has_in_rows rows h v),
+  λ l. above_out rows h v (λ k n. let f = rising_head row.0 (map top_of rows) c.rising k n in omega (arith, ints)),
+)
+
+row_tails : (row : EdgeRow) (a b : List EdgeRow) → AreRows (row ∷ a) → AreRows (row ∷ b) → ((h v : ℤ) → has_in_rows (row ∷ a) h v ≡ has_in_rows (row ∷ b) h v) → (h v : ℤ) → has_in_rows a h v ≡ has_in_rows b h v
+row_tails row a b c d e h v =
+    let in_a = rest_at row a h v c in
+    let in_b = rest_at row b h v d in
+    by_lt_z row.0 v (λ l. sym (in_a.0 l) ∙ e h v ∙ in_b.0 l) (λ l. in_a.1 l ∙ sym (in_b.1 l))
+
+-- a good row has a pixel
+some_pixel : (row : EdgeRow) → IsGoodRow row → ((h : ℤ) → inside row.1 h ≡ false) → ⊥
+some_pixel (v, []) g e = absurd (omega (arith, g.2))
+some_pixel (v, x ∷ xs) g e = true≢false (sym (first_in x xs g.1.rising) ∙ e x)
+
+-- rows without a pixel are none
+pub no_rows : (rows : List EdgeRow) → AreRows rows → ((h v : ℤ) → has_in_rows rows h v ≡ false) → rows ≡ []
+no_rows [] c e = refl
+no_rows (row ∷ rows) c e = absurd (some_pixel row (All-head IsGoodRow row rows c.each) (λ h. sym (first_row row rows h c) ∙ e h row.0))
+
+-- rows with the same pixels are the same
+pub same_list : (a b : List EdgeRow) → AreRows a → AreRows b → ((h v : ℤ) → has_in_rows a h v ≡ has_in_rows b h v) → a ≡ b
+same_list [] b c d e = sym (no_rows b d (λ h v. sym (e h v) ∙ has_in_rows-nil h v))
+same_list (r ∷ a) [] c d e = no_rows (r ∷ a) c (λ h v. e h v ∙ has_in_rows-nil h v)
+same_list (r ∷ a) (s ∷ b) c d e =
+    let good_r = All-head IsGoodRow r a c.each in
+    let good_s = All-head IsGoodRow s b d.each in
+    let top : r.0 ≡ s.0 = by_lt_z r.0 s.0
+    (λ l. absurd (some_pixel r good_r (λ h. sym (first_row r a h c) ∙ e h r.0 ∙ above_first s b h r.0 d l)))
+    (λ l. by_lt_z s.0 r.0
+    (λ m. absurd (some_pixel s good_s (λ h. sym (first_row s b h d) ∙ sym (e h s.0) ∙ above_first r a h s.0 c m)))
+    (λ m. omega (arith, ints))) in
+    let edges : r.1 ≡ s.1 = same_edges r.1 s.1 good_r.1.rising good_s.1.rising
+    (λ h. sym (first_row r a h c) ∙ e h r.0 ∙ ap (has_in_rows (s ∷ b) h) top ∙ first_row s b h d) in
+    let row : s ≡ r = sym (λ i. (top i, edges i)) in
+    let same : r ∷ b ≡ s ∷ b = ap (λ z. z ∷ b) (sym row) in
+    let rest = same_list a b (tail_rows r a c) (tail_rows s b d) (row_tails r a b c (subst AreRows (sym same) d) (λ h v. e h v ∙ ap (λ z. has_in_rows z h v) (sym same))) in
+    λ i. sym row i ∷ rest i
+
+-- rows with the same view are the same
+pub same_views : (a b : List EdgeRow) → AreRows a → AreRows b → pixels_where (has_in_rows a) ≡ pixels_where (has_in_rows b) → a ≡ b
+same_views a b c d e = same_list a b c d (λ h v. sym (has_view a c h v) ∙ ap (λ s. has s h v) e ∙ has_view b d h v)
+
+-- a set without a pixel has no rows
+pub no_rows-viewed : (rows : List EdgeRow) (s : Pixels) → AreRows rows → pixels_where (has_in_rows rows) ≡ s → ((p : Point) → holds s p ≡ false) → rows ≡ []
+no_rows-viewed rows s c e none = no_rows rows c (λ h v. sym (has_viewed rows s e c h v) ∙ none (record { h = h; v = v }))
+
+-- and one without rows no pixel
+pub no_pixel-viewed : (rows : List EdgeRow) (s : Pixels) → AreRows rows → pixels_where (has_in_rows rows) ≡ s → rows ≡ [] → (p : Point) → holds s p ≡ false
+no_pixel-viewed rows s c e none p = has_viewed rows s e c p.h p.v ∙ ap (λ l. has_in_rows l p.h p.v) none ∙ has_in_rows-nil p.h p.v

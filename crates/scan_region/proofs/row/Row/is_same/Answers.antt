@@ -1,0 +1,31 @@
+use Rattle.std.proofs.Common.{◌≡◌, ℤ, List, [], ◌∷◌, true, ◌&&◌, refl, sym, ap, ◌∙◌, rules, SFits, w32}
+use lib.Pointwise.{pointwise}
+use Rattle.std.specs.Ordering.{int_eq}
+use Rattle.std.proofs.lemmas.Int.{ints}
+use Rattle.std.proofs.lemmas.Bool.{and_parts, false≢true}
+use Rattle.std.proofs.lemmas.Bool.Decides.{Decides-int_eq}
+use Rattle.scan_region.proofs.row.Row.is_same.Goals as goal
+
+same_from_test : (xs ys : List ℤ) → pointwise int_eq xs ys ≡ true → xs ≡ ys
+same_from_test [] [] e = refl
+same_from_test [] (y ∷ ys) e = absurd (false≢true e)
+same_from_test (x ∷ xs) [] e = absurd (false≢true e)
+same_from_test (x ∷ xs) (y ∷ ys) e =
+    let p = and_parts (int_eq x y) (pointwise int_eq xs ys) e in
+    λ i. (Decides-int_eq x y).0 p.0 i ∷ same_from_test xs ys p.1 i
+
+test_itself : (xs : List ℤ) → pointwise int_eq xs xs ≡ true
+test_itself [] = refl
+test_itself (x ∷ xs) = λ i. (Decides-int_eq x x).1 refl i && test_itself xs i
+
+pub returns-then-self-other : goal.returns-then-self-other
+returns-then-self-other c =
+    let p = c.self.inside in
+    let q = c.other.inside in
+    let fits_p : SFits w32 p.v = search rules in
+    let fits_q : SFits w32 q.v = search rules in
+    let v : p.v ≡ q.v = search (rules, ints) in
+    let test = simp (c.as_slice.ensures.value, c.as_slice-then-self-other.ensures.value) at c.eq.ensures in (
+      λ t. sym c.self.view_is ∙ (λ i. (v i, same_from_test p.edges.items q.edges.items (sym test ∙ t) i)) ∙ c.other.view_is,
+      λ e. test ∙ ap (λ xs. pointwise int_eq p.edges.items xs) (sym (ap (λ r. r.1) (c.self.view_is ∙ e ∙ sym c.other.view_is))) ∙ test_itself p.edges.items,
+    )
