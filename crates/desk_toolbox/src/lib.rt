@@ -16,11 +16,11 @@
 //! with the number of the slot that it came from, until `Toolbox::close` puts it back Closed.
 //!
 //! A call is judged and takes all its memory before the first change: see `Toolbox::plan_window` for a new window.
-//! It goes in front of all others, so each region of theirs loses what it covers (`areas_under`), and
-//! nothing of theirs is drawn again.
+//! It goes in front of all others, so each region of theirs loses what it covers (`areas_under`), and nothing of
+//! theirs is drawn again.
 //!
-//! Whose a pixel is, the calls that ask (`find`) read off the same regions: the window whose visible content or
-//! frame has it owns it. There may be 64 windows.
+//! Whose a pixel is, the calls that ask (`find`) read off the same regions: the window whose visible content or frame
+//! has it owns it. There may be 64 windows.
 #![tactic(auto)]
 
 mod call;
