@@ -6,14 +6,12 @@ use Rattle.std.proofs.lemmas.List.Kept.{AllPairs-cons}
 use Rattle.def_iface.specs.declared.taken.Taken.{Taken}
 use Rattle.def_iface.specs.Meaning.{Loan}
 use Rattle.def_iface.specs.Stocked.{SlotView, is_left}
-use Rattle.def_iface.specs.Desk.{Desk}
-use Rattle.desk_toolbox.specs.declared.toolbox.Area.{Area}
 use Rattle.desk_toolbox.specs.declared.window_list.Window.{Window}
 use Rattle.desk_toolbox.specs.FullDesk.{WindowRecord}
 use Rattle.desk_toolbox.specs.Records.{record_of}
 use Rattle.desk_toolbox.specs.Step.{unhighlighted}
 use Rattle.desk_toolbox.specs.Planned.{dimmed}
-use Rattle.desk_toolbox.specs.Whole.{IsArea, AreAreas, IsSettled, IsStocked}
+use Rattle.desk_toolbox.specs.Whole.{IsSettled, IsStocked}
 
 -- ---- pairs of a list
 
@@ -55,19 +53,8 @@ module _ (active : Option ℕ) where
   windows_behind b ws = if b then map (unhighlighted active) ws else ws
 
   pub settled_behind : (b : Bool) (ws : List WindowRecord) → All IsSettled ws → All IsSettled (windows_behind b ws)
-  settled_behind true ws h = All-map IsSettled (unhighlighted active) ws (All-weaker IsSettled (λ w. IsSettled (unhighlighted active w)) (λ w its. either IsSettled w its (record { placed = its.placed; live = its.live; told = its.told; fits = its.fits })) ws h)
+  settled_behind true ws h = All-map IsSettled (unhighlighted active) ws (All-weaker IsSettled (λ w. IsSettled (unhighlighted active w)) (λ w its. either IsSettled w its (record { placed = its.placed; live = its.live; told = its.told; fits = its.fits; inside = its.inside })) ws h)
   settled_behind false ws h = h
-
-  areas_dimmed : (desk : Desk) (ws : List WindowRecord) (areas : List Area) → AreAreas desk ws areas → AreAreas desk (map (unhighlighted active) ws) areas
-  areas_dimmed desk [] [] h = tt
-  areas_dimmed desk (w ∷ ws) (a ∷ areas) h =
-      (either (λ v. IsArea desk v a) w h.0 (record { visible = h.0.visible; update = h.0.update; frame = h.0.frame }), areas_dimmed desk ws areas h.1)
-  areas_dimmed desk [] (a ∷ areas) h = absurd h
-  areas_dimmed desk (w ∷ ws) [] h = absurd h
-
-  pub areas_behind : (b : Bool) (desk : Desk) (ws : List WindowRecord) (areas : List Area) → AreAreas desk ws areas → AreAreas desk (windows_behind b ws) areas
-  areas_behind true desk ws areas h = areas_dimmed desk ws areas h
-  areas_behind false desk ws areas h = h
 
   same_slots : (ws : List WindowRecord) → map (λ (w : WindowRecord). w.slot) (map (unhighlighted active) ws) ≡ map (λ (w : WindowRecord). w.slot) ws
   same_slots ws = map-map (λ (w : WindowRecord). w.slot) (unhighlighted active) (λ (w : WindowRecord). w.slot) same_slot ws

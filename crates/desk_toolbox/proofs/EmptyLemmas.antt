@@ -20,7 +20,7 @@ use Rattle.def_iface.specs.Owner.{owner, own_bit, is_content}
 use Rattle.def_iface.specs.Scratch.{scratch}
 use Rattle.def_iface.proofs.Painting.{scratch_is_owners}
 use Rattle.desk_toolbox.specs.declared.toolbox.Toolbox.{Toolbox}
-use Rattle.desk_toolbox.specs.declared.toolbox.Area.{Area}
+use Rattle.desk_toolbox.specs.declared.vis_update.Area.{Area}
 use Rattle.desk_toolbox.specs.FullDesk.{FullDesk, gray, plain_desk}
 use Rattle.desk_toolbox.specs.Records.{record_of, desk_of, stale_in}
 use Rattle.desk_toolbox.specs.Begin.{IsEmptyPainted, IsEmptyDesk, empty_desk}

@@ -23,16 +23,15 @@ use Rattle.def_iface.specs.Desk.Part.{Picture}
 use Rattle.def_iface.specs.Owner.{Owner, owner, owner_among, same_owner}
 use Rattle.def_iface.specs.Owner.Owner.{Desktop, Bar, Frame, Content}
 use Rattle.def_iface.proofs.Owning.{same_number, same_owner-true, not_first}
-use Rattle.desk_toolbox.specs.declared.toolbox.Area.{Area}
+use Rattle.desk_toolbox.specs.declared.vis_update.Area.{Area}
 use Rattle.desk_toolbox.specs.declared.toolbox.Toolbox.{Toolbox}
 use Rattle.desk_toolbox.specs.declared.window_list.Window.{Window}
 use Rattle.desk_toolbox.specs.FullDesk.{WindowRecord, plain_window, plain_desk}
 use Rattle.desk_toolbox.specs.Records.{record_of, desk_of}
-use Rattle.desk_toolbox.specs.Asking.{IsAsked, area_has}
+use Rattle.desk_toolbox.specs.Kept.{IsKept, area_has}
 use Rattle.desk_toolbox.specs.declared.call.WindowPart.TheVariants as part
 use Rattle.desk_toolbox.specs.Finding.{record_with, found_by, found_none, found_window, found_at, part_at, part_of_hit}
-use Rattle.desk_toolbox.specs.Whole.{IsWhole, IsArea, AreAreas, IsSettled, is_content_of}
-use Rattle.def_iface.specs.Stocked.{SlotView}
+use Rattle.desk_toolbox.specs.Whole.{IsArea, AreAreas, IsSettled, is_content_of}
 
 -- a difference of two coordinates is a number of 32 bits
 pub difference_fits : (a b : ℤ) → is_coordinate a ≡ true → is_coordinate b ≡ true → SFits w32 (a -ℤ b)
@@ -127,13 +126,9 @@ none_has desk (w ∷ ws) (a ∷ areas) p on h none = (here, none_has desk ws are
 none_has desk [] (a ∷ areas) p on h none = absurd h
 none_has desk (w ∷ ws) [] p on h none = absurd h
 
--- a whole Toolbox can be asked
-pub asked : {V : Type 0} {H : V → Type 0} (loan : Taken V H → Loan) (t : Toolbox V H) (slots : List SlotView) → IsWhole loan t slots → IsAsked loan t
-asked loan t slots whole = record { distinct = whole.sound.distinct; settled = whole.sound.settled; areas = whole.areas }
-
 -- ---- what is found on a Toolbox
 
-module _ {V : Type 0} {H : V → Type 0} (loan : Taken V H → Loan) (t : Toolbox V H) (A : IsAsked loan t) (p : Point) where
+module _ {V : Type 0} {H : V → Type 0} (loan : Taken V H → Loan) (t : Toolbox V H) (A : IsKept loan t) (p : Point) where
   abbrev desk : Desk
   desk = plain_desk (desk_of loan t [])
 

@@ -8,8 +8,11 @@ pub mod SlotLemmas
 pub mod RefusalLemmas
 pub mod SameDeskLemmas
 pub mod NewWindowLemmas
-pub mod CoverLemmas
-pub mod Covering
+pub mod Others
+pub mod Sweeping
+pub mod Staying
+pub mod Arranging
+pub mod KeptLemmas
 pub mod DimLemmas
 mod EmptyLemmas
 pub mod FindLemmas

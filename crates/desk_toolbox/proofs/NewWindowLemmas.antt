@@ -1,6 +1,6 @@
 -- The step of a new window.
-use Rattle.std.proofs.Common.{◌≡◌, ℕ, ◌<◌, ◌≤◌, nat_lt, nat_le, Bool, true, false, not, ◌&&◌, ◌||◌, if◌then◌else◌, List, ◌∷◌, length, map, Option, None, Some, ℤ, pos, negsuc, refl, sym, ap, ◌∙◌, subst, arith}
-use Rattle.std.specs.Prelude.{vec_len, is_none}
+use Rattle.std.proofs.Common.{◌≡◌, ℕ, ◌<◌, ◌≤◌, nat_lt, nat_le, Bool, true, false, not, ◌&&◌, ◌||◌, if◌then◌else◌, List, [], ◌∷◌, length, map, Option, None, Some, ℤ, pos, negsuc, refl, sym, ap, ◌∙◌, subst, arith}
+use Rattle.std.specs.Prelude.{vec_len, is_none, slice_get, IsSomeAnd}
 use Rattle.std.proofs.lemmas.Bool.Decides.{nat_tests}
 use Rattle.std.proofs.lemmas.Int.{ints}
 use Rattle.std.proofs.lemmas.List.{length-map}
@@ -9,9 +9,9 @@ use Rattle.tb_geom.specs.declared.point.Point.{Point}
 use Rattle.tb_geom.specs.declared.refusal.Refusal.{Refusal}
 use Rattle.tb_geom.specs.declared.refusal.Refusal.TheVariants.{OutOfRange, TooLong, TooMany}
 use Rattle.tb_geom.specs.declared.rect.Rect.{Rect}
-use Rattle.tb_geom.specs.Rects.{between, in_plane, is_in_range}
+use Rattle.tb_geom.specs.Rects.{between, in_plane, is_in_range, moved}
 use Rattle.tb_geom.specs.Pixels.{Pixels}
-use Rattle.bit_map.specs.Bits.{Bits, on_map, bit, is_below}
+use Rattle.bit_map.specs.Bits.{on_map, bit, is_below}
 use Rattle.def_iface.specs.declared.taken.Taken.{Taken}
 use Rattle.def_iface.specs.declared.size.Size.{Size}
 use Rattle.def_iface.specs.Sizes.{is_size}
@@ -23,20 +23,21 @@ use Rattle.def_iface.specs.Owner.{owner, own_bit, is_content}
 use Rattle.def_iface.specs.Change as plain
 use Rattle.desk_toolbox.specs.declared.call.NewWindow.{NewWindow}
 use Rattle.desk_toolbox.specs.declared.toolbox.Toolbox.{Toolbox}
-use Rattle.desk_toolbox.specs.declared.toolbox.Area.{Area}
+use Rattle.desk_toolbox.specs.declared.vis_update.Area.{Area}
 use Rattle.desk_toolbox.specs.FullDesk.{WindowRecord, FullDesk, AreBelow, AreNumbered, plain_window, plain_desk, plain_state}
 use Rattle.desk_toolbox.specs.Records.{record_of, desk_of, state_of, stale_in}
 use Rattle.desk_toolbox.specs.Refused.{first_refusal, judged_refusals, is_placed, is_full, longest_text, most_windows}
 use Rattle.desk_toolbox.specs.Step.{IsMade, IsNotMade, IsNewWindow, new_record, desk_with, unhighlighted}
-use Rattle.desk_toolbox.specs.declared.window_mgr.Front.{Front}
-use Rattle.desk_toolbox.specs.Planned.{IsFront, IsFrontArea, IsCover, AreUnder, IsPainted, IsAdded, IsUnplanned, SameDesk, dimmed}
+use Rattle.desk_toolbox.specs.Planned.{AreAreasWith, IsPainted, IsAdded, IsUnplanned, SameDesk, dimmed}
+use Rattle.desk_toolbox.specs.Seats.{IsAreaAfter, AreAreasAfter}
 use Rattle.desk_toolbox.specs.Whole.{IsWhole, AreAreas, IsSound, IsSettled, IsGray}
 use Rattle.desk_toolbox.proofs.SlotLemmas.{stocked_with, put_back_is_old}
 use Rattle.desk_toolbox.proofs.RefusalLemmas.{refusal_is, unplanned_is_refused}
-use Rattle.desk_toolbox.proofs.SameDeskLemmas.{stays_unchanged}
+use Rattle.desk_toolbox.proofs.SameDeskLemmas.{areas_stay, stays_unchanged}
 use Rattle.desk_toolbox.proofs.PlaceLemmas.{placed_parts}
-use Rattle.desk_toolbox.proofs.Adding.{Added, with_front, areas_after, stale_is, image_is, plain_is, after_is_desk}
-use Rattle.desk_toolbox.proofs.DimLemmas.{windows_behind, settled_behind, areas_behind, stocked_behind, records_behind}
+use Rattle.desk_toolbox.proofs.Adding.{Added, with_front, image_is, plain_is, after_is_desk}
+use Rattle.desk_toolbox.proofs.Staying.{areas_are, stale_after}
+use Rattle.desk_toolbox.proofs.DimLemmas.{windows_behind, settled_behind, stocked_behind, records_behind}
 use Rattle.desk_toolbox.proofs.Running.{plain_desk-with, numbered_with}
 
 -- two words for a column or a row of the screen
@@ -67,6 +68,10 @@ unrefused_fits w d count next e = (placed_parts d w.place w.size (unrefused w _ 
 pub unrefused_place : (w : NewWindow) (d : Definition) (count : ℕ) (next : Option ℕ) → first_refusal (judged_refusals w (is_placed (Some d) w.place w.size) count next) ≡ None → in_plane w.place ≡ true
 unrefused_place w d count next e = (placed_parts d w.place w.size (unrefused w _ count next e).placed_is).place_in
 
+-- and its structure there lies in the range of coordinates
+pub unrefused_inside : (w : NewWindow) (d : Definition) (count : ℕ) (next : Option ℕ) → first_refusal (judged_refusals w (is_placed (Some d) w.place w.size) count next) ≡ None → is_in_range (moved (d.bounds w.size) w.place.h w.place.v) ≡ true
+unrefused_inside w d count next e = (placed_parts d w.place w.size (unrefused w _ count next e).placed_is).moved
+
 -- a desk that may get one more window has less than there may be
 fewer_before : (count : ℕ) (next : Option ℕ) → is_full count next ≡ false → count < most_windows
 fewer_before count next e = by_test (nat_le most_windows count) refl e
@@ -81,17 +86,16 @@ length_behind active false ws = refl
 
 module _ {V : Type 0} {H : V → Type 0} (loan : Taken V H → Loan) where
   -- all that is known where a window was added
-  pub record IsNew (w : NewWindow) (n : ℕ) (taken : Loan) (front : Front) (others : List Area) (t planned new : Toolbox V H) (slots left : List SlotView) : Type 0 where
+  pub record IsNew (w : NewWindow) (n : ℕ) (taken : Loan) (areas : List Area) (t planned new : Toolbox V H) (slots left : List SlotView) : Type 0 where
     pub whole : IsWhole loan t slots
     pub same : SameDesk t planned
     pub unrefused_is : first_refusal (judged_refusals w (is_placed (Some taken.definition) w.place w.size) (vec_len t.windows) t.next) ≡ None
-    pub front_is : IsFront w taken.definition planned.gray front
-    pub behind : AreUnder front.cover planned.areas.items others
+    pub areas_with : AreAreasWith loan w n taken.definition planned areas
     pub number : planned.next ≡ Some n
-    pub added : IsAdded loan w n taken front.area others planned new
+    pub added : IsAdded loan w n taken areas planned new
     pub took : IsTaken w.kind taken slots left
 
-  module _ (w : NewWindow) (n : ℕ) (taken : Loan) (front : Front) (others : List Area) (t planned new : Toolbox V H) (slots left : List SlotView) (N : IsNew w n taken front others t planned new slots left) where
+  module _ (w : NewWindow) (n : ℕ) (taken : Loan) (areas : List Area) (t planned new : Toolbox V H) (slots left : List SlotView) (N : IsNew w n taken areas t planned new slots left) where
     abbrev before : FullDesk
     before = desk_of loan t slots
 
@@ -109,17 +113,33 @@ module _ {V : Type 0} {H : V → Type 0} (loan : Taken V H → Loan) where
     unfolding on_map
     on_before p = λ i. between-is_below t.screen.width p.h i && between-is_below t.screen.height p.v i
 
-    added_facts : Added w n taken.definition N.added.begun before t.gray front.cover front.area t.areas.items others t.screen new.screen
+    -- the areas, said of the desk before the call
+    areas_after : AreAreasAfter (plain_state (state_of loan t slots)) (plain_desk after) after.windows areas
+    areas_after =
+        let back : SameDesk planned t = record { screen = sym N.same.screen; bar = sym N.same.bar; gray = sym N.same.gray; windows = sym N.same.windows; areas = sym N.same.areas; active = sym N.same.active; next = sym N.same.next } in
+        areas_stay loan planned t [] [] back refl w n taken.definition areas N.areas_with taken.slot N.added.begun N.added.live.regions
+
+    -- as layers, the desk after is the desk before with one more window
+    layers_are : plain_desk after ≡ with_front (plain_desk before) (plain_window (new_record w n taken.slot N.added.begun))
+    layers_are = plain_desk-with w n taken.slot N.added.begun before left
+
+    -- the new window's area, and what was drawn of it
+    abbrev IsFirst : Area → Type 0
+    IsFirst a = IsAreaAfter (plain_state (state_of loan t slots)) (with_front (plain_desk before) (plain_window (new_record w n taken.slot N.added.begun))) n a × IsPainted a w.place N.added.begun t.screen new.screen
+
+    first : (a : Area) × IsFirst a
+    first = by_areas areas areas_after N.added.painted
+      where
+        by_areas : (xs : List Area) → AreAreasAfter (plain_state (state_of loan t slots)) (plain_desk after) after.windows xs → IsSomeAnd (slice_get xs 0) (λ a. IsPainted a w.place N.added.begun planned.screen new.screen) → (a : Area) × IsFirst a
+        by_areas (a ∷ xs) its painted = (a, (subst (λ d. IsAreaAfter (plain_state (state_of loan t slots)) d n a) layers_are its.0, subst (λ s. IsPainted a w.place N.added.begun s new.screen) N.same.screen painted))
+        by_areas [] its painted = absurd its
+
+    added_facts : Added w n taken.slot N.added.begun before (stale_in t.areas.items) first.0 t.screen new.screen
     added_facts = record {
       distinct = N.whole.sound.distinct;
       below = below;
-      regions = N.added.live.regions;
-      front = subst (λ g. IsFrontArea w taken.definition g front.area) N.same.gray N.front_is.area;
-      covers = subst (λ g. IsCover w taken.definition g front.cover) N.same.gray N.front_is.cover;
-      behind = subst (λ a. AreUnder front.cover a others) N.same.areas N.behind;
-      areas_are = N.whole.areas;
-      painted = subst (λ s. IsPainted front.area w.place N.added.begun s new.screen) N.same.screen N.added.painted;
-      gray_is = N.whole.gray;
+      area = first.1.0;
+      painted = first.1.1;
       on = on_before;
       plain = N.whole.plain;
     }
@@ -132,18 +152,14 @@ module _ {V : Type 0} {H : V → Type 0} (loan : Taken V H → Loan) where
 
     desk_is : desk_of loan new left ≡ after
     desk_is = λ i. record {
-      width = pos ((N.added.painted.width ∙ ap (λ (s : Bits). s.width) N.same.screen) i);
-      height = pos ((N.added.painted.height ∙ ap (λ (s : Bits). s.height) N.same.screen) i);
+      width = pos (first.1.1.width i);
+      height = pos (first.1.1.height i);
       bar = (N.added.bar ∙ N.same.bar) i;
       windows = windows_are i;
       active = (N.added.active ∙ ap (λ a. if w.shown then Some n else a) N.same.active) i;
       next = N.added.next i;
       stock = left;
     }
-
-    -- as layers, the desk after is the desk before with one more window
-    layers_are : plain_desk after ≡ with_front (plain_desk before) (plain_window (new_record w n taken.slot N.added.begun))
-    layers_are = plain_desk-with w n taken.slot N.added.begun before left
 
     new_layers : plain_desk (desk_of loan new left) ≡ with_front (plain_desk before) (plain_window (new_record w n taken.slot N.added.begun))
     new_layers = ap plain_desk desk_is ∙ layers_are
@@ -157,10 +173,10 @@ module _ {V : Type 0} {H : V → Type 0} (loan : Taken V H → Loan) where
       live = N.added.live;
       desk = desk_is;
       pixels = record {
-        stale = subst (λ (d : Desk). (p : Point) → on_screen d p ≡ true → stale_in new.areas.items p ≡ plain.stale_by plain.no_change (plain_state (state_of loan t slots)) (owner d p) p) (sym new_layers)
-            (λ p on. ap (λ a. stale_in a p) N.added.areas ∙ stale_is w n taken.slot taken.definition N.added.begun before t.gray front.cover front.area t.areas.items others t.screen new.screen added_facts (bit t.screen) p on);
+        stale = subst (λ (d : Desk). (p : Point) → on_screen d p ≡ true → stale_in new.areas.items p ≡ plain.stale_by plain.no_change (plain_state (state_of loan t slots)) (owner d p) p) (sym (ap plain_desk desk_is))
+            (λ p on. ap (λ a. stale_in a p) N.added.areas ∙ stale_after (plain_state (state_of loan t slots)) (plain_desk after) after.windows areas p refl areas_after on);
         image = subst (λ (d : Desk). (p : Point) → on_screen d p ≡ true → bit new.screen p ≡ plain.image_by plain.no_change (plain_state (state_of loan t slots)) d (owner d p) p) (sym new_layers)
-            (λ p on. image_is w n taken.slot taken.definition N.added.begun before t.gray front.cover front.area t.areas.items others t.screen new.screen added_facts (stale_in t.areas.items) p on);
+            (image_is w n taken.slot N.added.begun before (stale_in t.areas.items) first.0 t.screen new.screen added_facts);
       };
     }
 
@@ -170,6 +186,7 @@ module _ {V : Type 0} {H : V → Type 0} (loan : Taken V H → Loan) where
       live = N.added.live.live;
       told = N.added.live.told;
       fits = ap (λ (b : Size → Rect). is_size w.size && is_in_range (b w.size)) N.added.live.regions.bounds ∙ unrefused_fits w _ _ _ N.unrefused_is;
+      inside = ap (λ (b : Size → Rect). is_in_range (moved (b w.size) w.place.h w.place.v)) N.added.live.regions.bounds ∙ unrefused_inside w _ _ _ N.unrefused_is;
     }
 
     few_after : length after.windows ≤ most_windows
@@ -182,25 +199,20 @@ module _ {V : Type 0} {H : V → Type 0} (loan : Taken V H → Loan) where
     sound_after : IsSound after
     sound_after = record {
       screen = N.whole.sound.screen;
-      distinct = subst layers.IsDesk (sym layers_are) (after_is_desk w n taken.slot taken.definition N.added.begun before t.gray front.cover front.area t.areas.items others t.screen new.screen added_facts);
+      distinct = subst layers.IsDesk (sym layers_are) (after_is_desk w n taken.slot N.added.begun before (stale_in t.areas.items) first.0 t.screen new.screen added_facts);
       numbered = numbered_with w n taken.slot N.added.begun before below;
       few = few_after;
       settled = All-cons IsSettled _ _ settled (settled_behind t.active w.shown before.windows N.whole.sound.settled);
       stocked = stocked_with w.kind taken slots left N.took _ _ refl (stocked_behind t.active w.shown before.windows slots N.whole.sound.stocked);
     }
 
-    areas_are : AreAreas (plain_desk after) after.windows (front.area ∷ others)
-    areas_are =
-        let all = areas_after w n taken.slot taken.definition N.added.begun before t.gray front.cover front.area t.areas.items others t.screen new.screen added_facts in
-        subst (λ d. AreAreas d after.windows (front.area ∷ others)) (sym layers_are) (all.0, areas_behind t.active w.shown _ before.windows others all.1)
-
     pub is_whole : IsWhole loan new left
     is_whole = record {
       sound = subst IsSound (sym desk_is) sound_after;
       gray = subst (λ (x : FullDesk × Pixels). IsGray (plain_desk x.0) x.1) (λ i. (sym desk_is i, sym (N.added.gray ∙ N.same.gray) i)) N.whole.gray;
-      areas = subst (λ (x : FullDesk × List Area). AreAreas (plain_desk x.0) x.0.windows x.1) (λ i. (sym desk_is i, sym N.added.areas i)) areas_are;
+      areas = subst (λ (x : FullDesk × List Area). AreAreas (plain_desk x.0) x.0.windows x.1) (λ i. (sym desk_is i, sym N.added.areas i)) (areas_are (plain_state (state_of loan t slots)) (plain_desk after) after.windows areas areas_after);
       plain = subst (λ (d : Desk). (p : Point) → on_screen d p ≡ true → is_content (owner d p) ≡ false → bit new.screen p ≡ own_bit d (owner d p) p) (sym new_layers)
-          (plain_is w n taken.slot taken.definition N.added.begun before t.gray front.cover front.area t.areas.items others t.screen new.screen added_facts);
+          (plain_is w n taken.slot N.added.begun before (stale_in t.areas.items) first.0 t.screen new.screen added_facts);
     }
 
     -- the call was done

@@ -52,3 +52,10 @@ placed_parts d place size e =
     let b = and_parts (is_size size) _ a.1 in
     let c = and_parts (is_in_range (d.bounds size)) _ b.1 in
     record { place_in = a.0; size_in = b.0; fits = λ i. b.0 i && c.0 i; moved = c.1 }
+
+-- and what is enough for it
+pub placed_from : (d : Definition) (place : Point) (size : Size) → in_plane place ≡ true → is_fitting d size ≡ true → is_in_range (moved (d.bounds size) place.h place.v) ≡ true → is_placed (Some d) place size ≡ true
+unfolding is_placed
+placed_from d place size here fits inside =
+    let parts = and_parts (is_size size) _ fits in
+    λ i. here i && (parts.0 i && (parts.1 i && inside i))

@@ -2,10 +2,11 @@
 pub mod FullDesk
 pub mod Records
 pub mod Finding
-pub mod Asking
+pub mod Kept
 pub mod Refused
 pub mod Whole
 pub mod Step
+pub mod Seats
 pub mod Planned
 pub mod Begin
 pub mod Run

@@ -9,7 +9,7 @@ use Rattle.def_iface.specs.Meaning.{Loan}
 use Rattle.def_iface.specs.Stocked.{SlotView}
 use Rattle.desk_toolbox.specs.declared.window_list.Window.{Window}
 use Rattle.desk_toolbox.specs.declared.toolbox.Toolbox.{Toolbox}
-use Rattle.desk_toolbox.specs.declared.toolbox.Area.{Area}
+use Rattle.desk_toolbox.specs.declared.vis_update.Area.{Area}
 use Rattle.desk_toolbox.specs.FullDesk.{WindowRecord, FullDesk, FullState}
 
 -- the pixels of the update regions

@@ -3,7 +3,7 @@ use Rattle.std.specs.Prelude.{◌≡◌, ◌⊎◌, ℕ, ◌≤◌, Bool, true, 
 use Rattle.std.specs.Ordering.{int_eq}
 use Rattle.tb_geom.specs.declared.point.Point.{Point}
 use Rattle.tb_geom.specs.Pixels.{Pixels, holds}
-use Rattle.tb_geom.specs.Rects.{in_plane}
+use Rattle.tb_geom.specs.Rects.{in_plane, is_in_range, moved}
 use Rattle.def_iface.specs.declared.taken.Taken.{Taken}
 use Rattle.def_iface.specs.declared.window_def.Stage.TheVariants.{Live}
 use Rattle.def_iface.specs.Meaning.{Loan, is_fitting}
@@ -12,7 +12,7 @@ use Rattle.def_iface.specs.Desk.{Desk, IsDesk, on_screen, in_bar}
 use Rattle.def_iface.specs.Owner.{Owner, owner, own_bit, same_owner, is_content}
 use Rattle.def_iface.specs.Owner.Owner.{Frame, Content}
 use Rattle.desk_toolbox.specs.declared.toolbox.Toolbox.{Toolbox}
-use Rattle.desk_toolbox.specs.declared.toolbox.Area.{Area}
+use Rattle.desk_toolbox.specs.declared.vis_update.Area.{Area}
 use Rattle.desk_toolbox.specs.FullDesk.{WindowRecord, FullDesk, FullState, AreNumbered, plain_desk}
 use Rattle.desk_toolbox.specs.Records.{desk_of, state_of}
 use Rattle.desk_toolbox.specs.Refused.{most_windows}
@@ -35,12 +35,14 @@ AreAreas desk (w ∷ ws) (a ∷ areas) = IsArea desk w a × AreAreas desk ws are
 AreAreas desk [] (a ∷ areas) = ⊥
 AreAreas desk (w ∷ ws) [] = ⊥
 
--- the window's definition is live, and was told the window's size, which fits it; its place is a point
+-- the window's definition is live, and was told the window's size, which fits it; its place is a point, and its
+-- structure lies in the range of coordinates there
 pub record IsSettled (w : WindowRecord) : Type 0 where
   pub placed : in_plane w.place ≡ true
   pub live : w.definition.stage ≡ Live
   pub told : w.definition.size ≡ w.size
   pub fits : is_fitting w.definition w.size ≡ true
+  pub inside : is_in_range (moved (w.definition.bounds w.size) w.place.h w.place.v) ≡ true
 
 -- a slot has its definition back, or belongs to one of these windows and is empty
 abbrev pub IsSlot : List WindowRecord → List SlotView → ℕ → Type 0

@@ -5,19 +5,19 @@ ghost use Rattle.tb_geom.specs.Points.{minus};
 ghost use Rattle.tb_geom.specs.Rects.{in_plane, is_coordinate};
 ghost use Rattle.def_iface.specs.Desk.{on_screen, in_bar};
 ghost use Rattle.desk_toolbox.specs.FullDesk.{plain_desk};
-ghost use Rattle.desk_toolbox.specs.Asking.{IsAsked, area_has};
+ghost use Rattle.desk_toolbox.specs.Kept.{IsKept, area_has};
 ghost use Rattle.desk_toolbox.specs.Finding.{found_at, found_none, part_of_hit, front_of};
 ghost use Rattle.desk_toolbox.specs.Records.{record_of, desk_of};
 ghost use Rattle.desk_toolbox.specs.Whole.{IsSettled};
 
-use crate::{Area, Found, Toolbox, Window, WindowPart};
+use crate::{Found, Toolbox, Window, WindowPart};
 use def_iface::{Defined, Hit, Taken};
 use tb_geom::{Point, Refusal};
 
 impl Toolbox {
     /// Whose the point of the screen is. OutOfRange where it lies outside the range of coordinates.
     pub(crate) fn find_window(&self, point: Point) -> Result<Found, Refusal>
-        requires { IsAsked ⟦<Taken as Defined>⟧.loan self.now }
+        requires { IsKept ⟦<Taken as Defined>⟧.loan self.now }
         ensures { result ≡ (if in_plane point
             then Ok (found_at (desk_of ⟦<Taken as Defined>⟧.loan self.now []) point)
             else Err OutOfRange) }
@@ -31,7 +31,7 @@ impl Toolbox {
 
     /// Whose the point is.
     fn found_at(&self, point: Point) -> Found
-        requires asked { IsAsked ⟦<Taken as Defined>⟧.loan self.now }
+        requires asked { IsKept ⟦<Taken as Defined>⟧.loan self.now }
         requires in_plane { in_plane point ≡ true }
         ensures { result ≡ found_at (desk_of ⟦<Taken as Defined>⟧.loan self.now []) point }
     {
@@ -78,15 +78,6 @@ impl Toolbox {
             }
         }
         None
-    }
-}
-
-impl Area {
-    /// Whether the pixel is the window's.
-    fn has(&self, point: Point) -> bool
-        ensures { result ≡ area_has point self.now }
-    {
-        self.visible.contains(point) || self.frame.contains(point)
     }
 }
 

@@ -16,8 +16,7 @@
 //! with the number of the slot that it came from, until `Toolbox::close` puts it back Closed.
 //!
 //! A call is judged and takes all its memory before the first change: see `Toolbox::plan_window` for a new window.
-//! It goes in front of all others, so each region of theirs loses what it covers (`areas_under`), and nothing of
-//! theirs is drawn again.
+//! What each window owns then, and what of that is to be drawn, one sweep from front to back answers (`vis_update`).
 //!
 //! Whose a pixel is, the calls that ask (`find`) read off the same regions: the window whose visible content or frame
 //! has it owns it. There may be 64 windows.
@@ -31,12 +30,14 @@ mod place;
 mod run;
 mod text;
 mod toolbox;
+mod vis_update;
 mod window_list;
 mod window_mgr;
 
 pub use call::{Call, Found, NewWindow, Reply, WindowCall, WindowPart};
 pub use text::Text;
-pub use toolbox::{Area, Toolbox};
+pub use toolbox::Toolbox;
+pub use vis_update::Area;
 pub use window_list::Window;
 
 #[cfg(test)]

@@ -9,7 +9,7 @@ ghost use Rattle.tb_geom.specs.Rects.{is_in_range, moved};
 ghost use Rattle.desk_toolbox.specs.Refused.{is_placed};
 
 use crate::NewWindow;
-use def_iface::{Defined, Taken, WindowRegions};
+use def_iface::{Defined, Size, Taken, WindowRegions};
 use scan_region::Region;
 use std::alloc::Global;
 use tb_geom::{Point, Rect, Refusal};
@@ -33,21 +33,21 @@ pub fn is_placed_with(window: &NewWindow<'_>, taken: &Taken) -> bool
     place.is_in_range() && (size.is_in_range() && stays_in_range(taken.bounds(size), place))
 }
 
-/// Structure and content of the window with this definition, on the screen. NoMemory is the only
-/// refusal.
+/// Structure and content of a window with this place, size and definition, on the screen. NoMemory
+/// is the only refusal.
 pub fn regions_of(
     alloc: Global,
-    window: &NewWindow<'_>,
+    place: Point,
+    size: Size,
     taken: &Taken,
 ) -> Result<WindowRegions, Refusal>
-    requires { is_placed (Some (⟦<Taken as Defined>⟧.loan taken.now).definition)
-        window.now.place window.now.size ≡ true }
-    ensures regions { IfOk result (IsRegionsAt window.now (⟦<Taken as Defined>⟧.loan taken.now).definition) }
+    requires { is_placed (Some (⟦<Taken as Defined>⟧.loan taken.now).definition) place size ≡ true }
+    ensures regions { IfOk result (IsRegionsAt place size (⟦<Taken as Defined>⟧.loan taken.now).definition) }
     ensures refused { IfErr result (λ e. e ≡ Refusal.NoMemory) }
 {
-    let mut regions = taken.regions_for(alloc, window.size)?;
-    move_to(&mut regions.structure, window.place);
-    move_to(&mut regions.content, window.place);
+    let mut regions = taken.regions_for(alloc, size)?;
+    move_to(&mut regions.structure, place);
+    move_to(&mut regions.content, place);
     Ok(regions)
 }
 

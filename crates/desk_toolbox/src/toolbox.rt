@@ -4,24 +4,13 @@ ghost use Rattle.def_iface.specs.Stocked.{SlotView, IsFull};
 ghost use Rattle.desk_toolbox.specs.Begin.{IsEmptyDesk, IsEmptyPainted, last_row};
 ghost use Rattle.desk_toolbox.specs.Whole as whole;
 
-use crate::Window;
+use crate::{Area, Window};
 use bit_blit::{Ink, draw_rect, fill};
 use bit_map::{BitMap, Mode, Pattern};
 use def_iface::{Defined, Taken};
 use scan_region::Region;
 use std::alloc::Global;
 use tb_geom::{Point, Rect, Refusal};
-
-/// The regions of a window, on the screen.
-#[derive(Drop)]
-pub struct Area {
-    /// Its content, less what is in front of it.
-    pub(crate) visible: Region,
-    /// What of that is not yet drawn.
-    pub(crate) update: Region,
-    /// Its frame, less what is in front of it.
-    pub(crate) frame: Region,
-}
 
 /// A desk: its screen, its windows, and what of them has to be drawn.
 #[derive(Drop)]

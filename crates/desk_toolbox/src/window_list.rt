@@ -3,9 +3,11 @@
 ghost use Rattle.std.specs.Prelude.{◌≡◌};
 ghost use Rattle.desk_toolbox.specs.Records.{record_of};
 ghost use Rattle.desk_toolbox.specs.Planned.{dimmed};
+ghost use Rattle.desk_toolbox.specs.Seats.{IsSeatOf};
 ghost use Rattle.desk_toolbox.specs.Step.{new_record};
 
-use crate::NewWindow;
+use crate::vis_update::Seat;
+use crate::{Area, NewWindow};
 use arrayvec::ArrayVec;
 use def_iface::{Defined, Size, Taken};
 use tb_geom::Point;
@@ -44,6 +46,20 @@ impl Window {
             go_away: window.go_away,
             title,
             taken,
+        }
+    }
+
+    /// The seat of the window, where it stays as it is.
+    pub(crate) fn seat<'a>(&'a self, area: &'a Area) -> Seat<'a>
+        ensures { IsSeatOf self.now area.now result }
+    {
+        Seat {
+            serial: self.serial,
+            place: self.place,
+            size: self.size,
+            shown: self.shown,
+            taken: &self.taken,
+            area,
         }
     }
 

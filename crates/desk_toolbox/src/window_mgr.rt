@@ -1,22 +1,23 @@
 //! The calls of the Window Manager.
-ghost use Rattle.std.specs.Prelude.{◌≡◌, ◌<◌, true, ◌&&◌, ◌∷◌, map, if◌then◌else◌, Some, None, IfOk, IfErr, MatchResult, vec_len, vec_capacity};
+ghost use Rattle.std.specs.Prelude.{◌≡◌, ◌+◌, ◌<◌, true, ◌∷◌, map, if◌then◌else◌, Some, None, IfOk, IfErr, MatchResult, length, vec_len, vec_capacity};
 ghost use Rattle.tb_geom.specs.declared.point.Point.{Point};
 ghost use Rattle.tb_geom.specs.Pixels.{holds};
 ghost use Rattle.def_iface.specs.Meaning.{is_fitting, IsBegun};
 ghost use Rattle.desk_toolbox.specs.Records.{state_of};
 ghost use Rattle.desk_toolbox.specs.Refused.{first_refusal, judged_refusals, is_placed};
-ghost use Rattle.desk_toolbox.specs.Planned.{IsFront, IsUnder, AreUnder, IsPainted, IsUnplanned, SameDesk, HasRoom, IsTicket, IsPlanned, IsAdded, dimmed};
+ghost use Rattle.desk_toolbox.specs.Kept.{IsKept};
+ghost use Rattle.desk_toolbox.specs.Planned.{AreAreasWith, IsPainted, IsUnplanned, SameDesk, IsTicket, IsPlanned, IsAdded, dimmed};
+ghost use Rattle.desk_toolbox.specs.Seats.{AreSeatsBehind};
 ghost use Rattle.desk_toolbox.specs.Step.{IsMade, IsNotMade, number_after};
 ghost use Rattle.desk_toolbox.specs.Whole.{IsWhole};
 
-use crate::place::{is_placed_alone, is_placed_with, regions_of};
+use crate::place::{is_placed_alone, is_placed_with};
+use crate::vis_update::{Seat, areas_of};
 use crate::{Area, NewWindow, Toolbox, Window};
 use arrayvec::ArrayVec;
 use bit_blit::fill;
 use bit_map::{BitMap, Mode, Pattern};
 use def_iface::{Canvas, Cut, Defined, Stage, Stock, Stocked, Taken};
-use scan_region::Region;
-use std::alloc::Global;
 use tb_geom::{Point, Refusal};
 
 /// As many windows as there may be.
@@ -29,21 +30,12 @@ struct Ticket {
     title: ArrayVec<u8, 255>,
 }
 
-/// The regions of a window in front of all others.
-#[derive(Drop)]
-struct Front {
-    area: Area,
-    /// What it covers of the screen.
-    cover: Region,
-}
-
 /// What a new window gets, with all the memory that it needs.
 #[derive(Drop)]
 struct Plan {
     ticket: Ticket,
-    front: Front,
-    /// The areas of the windows behind it, with room for one more.
-    others: Vec<Area>,
+    /// The areas of all windows, of the new one first.
+    areas: Vec<Area>,
 }
 
 impl Toolbox {
@@ -62,7 +54,11 @@ impl Toolbox {
     {
         match stock.take(window.kind.bytes()) {
             Ok(taken) => match self.plan_window(window, &taken) {
-                Ok(plan) => Ok(self.add_window(window, plan, taken)),
+                Ok(plan) => {
+                    let serial = plan.ticket.serial;
+                    self.add_window(window, plan, taken);
+                    Ok(serial)
+                }
                 Err(refusal) => {
                     stock.put_back(taken);
                     Err(refusal)
@@ -78,24 +74,20 @@ impl Toolbox {
 
     /// All that can be refused of a window with this definition, and all growth.
     fn plan_window(&mut self, window: &NewWindow<'_>, taken: &Taken) -> Result<Plan, Refusal>
+        requires { IsKept ⟦<Taken as Defined>⟧.loan self.old }
         ensures same { SameDesk self.old self.new }
         ensures ok { let d = (⟦<Taken as Defined>⟧.loan taken.now).definition in IfOk result (λ plan.
             (first_refusal (judged_refusals window.now (is_placed (Some d) window.now.place window.now.size)
             (vec_len self.old.windows) self.old.next) ≡ None)
-            × IsPlanned window.now d self.new plan) }
+            × IsPlanned ⟦<Taken as Defined>⟧.loan window.now d self.new plan) }
         ensures err { let d = (⟦<Taken as Defined>⟧.loan taken.now).definition in IfErr result (
             IsUnplanned window.now (is_placed (Some d) window.now.place window.now.size)
             (vec_len self.old.windows) self.old.next) }
     {
         let ticket = self.judge(window, is_placed_with(window, taken))?;
-        let front = self.front(window, taken)?;
-        let others = self.areas_under(&front.cover)?;
+        let areas = self.areas_with(window, taken, ticket.serial)?;
         self.windows.reserve(1)?;
-        Ok(Plan {
-            ticket,
-            front,
-            others,
-        })
+        Ok(Plan { ticket, areas })
     }
 
     /// The ticket of a new window, where nothing but its definition and memory can refuse it.
@@ -118,85 +110,72 @@ impl Toolbox {
         }
     }
 
-    /// The regions of a window in front of all others.
-    fn front(&self, window: &NewWindow<'_>, taken: &Taken) -> Result<Front, Refusal>
-        requires { is_placed (Some (⟦<Taken as Defined>⟧.loan taken.now).definition)
+    /// The areas of all windows, with a new one of this number in front.
+    fn areas_with(
+        &self,
+        window: &NewWindow<'_>,
+        taken: &Taken,
+        serial: u64,
+    ) -> Result<Vec<Area>, Refusal>
+        requires kept { IsKept ⟦<Taken as Defined>⟧.loan self.now }
+        requires placed { is_placed (Some (⟦<Taken as Defined>⟧.loan taken.now).definition)
             window.now.place window.now.size ≡ true }
-        ensures front { IfOk result (
-            IsFront window.now (⟦<Taken as Defined>⟧.loan taken.now).definition self.now.gray) }
+        requires number { self.now.next ≡ Some serial }
+        ensures areas { IfOk result (λ areas. AreAreasWith ⟦<Taken as Defined>⟧.loan window.now serial
+            (⟦<Taken as Defined>⟧.loan taken.now).definition self.now areas.items) }
+        ensures some { IfOk result (λ areas. vec_len areas ≡ vec_len self.now.windows + 1) }
         ensures refused { IfErr result (λ e. e ≡ Refusal.NoMemory) }
     {
-        let regions = regions_of(self.alloc, window, taken)?;
-        let room = self.room(window.shown)?;
-        let visible = regions.content.sect(self.alloc, &room)?;
-        let update = regions.content.sect(self.alloc, &room)?;
-        let frame = regions
-            .structure
-            .diff(self.alloc, &regions.content)?
-            .sect(self.alloc, &room)?;
-        let cover = regions.structure.sect(self.alloc, &room)?;
-        Ok(Front {
-            area: Area {
-                visible,
-                update,
-                frame,
-            },
-            cover,
-        })
-    }
-
-    /// The areas of all windows, less what is covered, with room for one more.
-    fn areas_under(&self, cover: &Region) -> Result<Vec<Area>, Refusal>
-        ensures under { IfOk result (λ areas. AreUnder cover.now self.now.areas.items areas.items) }
-        ensures room { IfOk result (λ areas. vec_len areas < vec_capacity areas) }
-        ensures refused { IfErr result (λ e. e ≡ Refusal.NoMemory) }
-    {
-        let mut areas = Vec::with_capacity(self.alloc, self.areas.len() + 1)?;
-        for area in &self.areas {
-            areas.push(area_under(self.alloc, area, cover)?).unwrap();
-        }
+        let nothing = Area::empty(self.alloc);
+        let front = Seat {
+            serial,
+            place: window.place,
+            size: window.size,
+            shown: window.shown,
+            taken,
+            area: &nothing,
+        };
+        let seats = self.seats_behind(front)?;
+        let areas = areas_of(self.alloc, &self.gray, &seats)?;
         Ok(areas)
     }
 
-    /// The part of the screen that a window may have: the gray region, and nothing where it is hidden.
-    fn room(&self, shown: bool) -> Result<Region, Refusal>
-        ensures pixels { IfOk result (λ room. (p : Point)
-            → holds room p ≡ (shown && holds self.now.gray p)) }
+    /// The windows as they are, behind a new one.
+    fn seats_behind<'a>(&'a self, front: Seat<'a>) -> Result<Vec<Seat<'a>>, Refusal>
+        requires { length self.now.areas.items ≡ length self.now.windows.items }
+        ensures seats { IfOk result (λ seats. AreSeatsBehind front.entry
+            self.now.windows.items self.now.areas.items seats.items) }
         ensures refused { IfErr result (λ e. e ≡ Refusal.NoMemory) }
     {
-        if shown {
-            self.gray.copy(self.alloc)
-        } else {
-            Ok(Region::empty(self.alloc))
+        let mut seats = Vec::with_capacity(self.alloc, self.windows.len() + 1)?;
+        seats.push(front).unwrap();
+        for at in 0..self.windows.len() {
+            let seat = self.windows[at].seat(&self.areas[at]);
+            seats.push(seat).unwrap();
         }
+        Ok(seats)
     }
 
     /// Puts a planned window in front of all others, and draws it.
-    fn add_window(&mut self, window: &NewWindow<'_>, plan: Plan, taken: Taken) -> u64
+    fn add_window(&mut self, window: &NewWindow<'_>, plan: Plan, taken: Taken)
         requires fresh { (⟦<Taken as Defined>⟧.loan taken).definition.stage ≡ Stage.Fresh }
         requires fits { is_fitting (⟦<Taken as Defined>⟧.loan taken).definition window.now.size ≡ true }
-        requires planned { IsPlanned window.now (⟦<Taken as Defined>⟧.loan taken).definition self.old plan }
-        ensures number { self.old.next ≡ Some result }
-        ensures added { IsAdded ⟦<Taken as Defined>⟧.loan window.now result (⟦<Taken as Defined>⟧.loan taken)
-            plan.front.area plan.others.items self.old self.new }
+        requires planned { IsPlanned ⟦<Taken as Defined>⟧.loan window.now
+            (⟦<Taken as Defined>⟧.loan taken).definition self.old plan }
+        ensures { IsAdded ⟦<Taken as Defined>⟧.loan window.now plan.ticket.serial (⟦<Taken as Defined>⟧.loan taken)
+            plan.areas.items self.old self.new }
     {
-        let Plan {
-            ticket,
-            front,
-            others,
-        } = plan;
-        let Front { area, .. } = front;
+        let Plan { ticket, areas } = plan;
         let Ticket { serial, title } = ticket;
         let mut taken = taken;
         taken.begin(window.size);
-        paint(&mut self.screen, &area, &taken, window.place);
+        paint(&mut self.screen, &areas[0], &taken, window.place);
         let added = Window::new(window, serial, title, taken);
         self.dim_behind(window.shown);
-        self.areas = others;
-        self.put_in_front(added, area);
+        self.put_in_front(added);
+        self.areas = areas;
         self.active = active_after(window.shown, serial, self.active);
         self.next = number_after(serial);
-        serial
     }
 
     /// Takes the highlighting from the active window where one in front of it is visible, and so is
@@ -213,31 +192,14 @@ impl Toolbox {
         }
     }
 
-    /// Puts a window and its area in front of all others, where there is room for them.
-    fn put_in_front(&mut self, added: Window, area: Area)
-        requires { HasRoom self.old }
+    /// Puts a window in front of all others, where there is room for it.
+    fn put_in_front(&mut self, added: Window)
+        requires { vec_len self.old.windows < vec_capacity self.old.windows }
         ensures windows { self.new.windows.items ≡ added ∷ self.old.windows.items }
-        ensures areas { self.new.areas.items ≡ area ∷ self.old.areas.items }
-        ensures others { self.new ≡ record self.old { windows = self.new.windows; areas = self.new.areas } }
+        ensures others { self.new ≡ record self.old { windows = self.new.windows } }
     {
         self.windows.insert(0, added).unwrap();
-        self.areas.insert(0, area).unwrap();
     }
-}
-
-/// What of a window's area is not covered.
-fn area_under(alloc: Global, area: &Area, cover: &Region) -> Result<Area, Refusal>
-    ensures under { IfOk result (IsUnder cover.now area.now) }
-    ensures refused { IfErr result (λ e. e ≡ Refusal.NoMemory) }
-{
-    let visible = area.visible.diff(alloc, cover)?;
-    let update = area.update.diff(alloc, cover)?;
-    let frame = area.frame.diff(alloc, cover)?;
-    Ok(Area {
-        visible,
-        update,
-        frame,
-    })
 }
 
 /// Takes the highlighting from the active window.
@@ -276,7 +238,7 @@ fn paint(screen: &mut BitMap, area: &Area, taken: &Taken, place: Point)
         inside: [Some(&area.frame), None, None],
         outside: None,
     };
-    let clip = screen.bounds();
+    let clip = area.frame.bbox();
     let mut canvas = Canvas {
         map: screen,
         clip,

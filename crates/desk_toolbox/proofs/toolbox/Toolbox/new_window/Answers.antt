@@ -1,7 +1,11 @@
 use Rattle.desk_toolbox.proofs.NewWindowLemmas as adding
 use Rattle.desk_toolbox.proofs.SlotLemmas as slots
 use Rattle.desk_toolbox.proofs.SameDeskLemmas as keeping
+use Rattle.desk_toolbox.proofs.KeptLemmas.{kept}
 use Rattle.desk_toolbox.proofs.toolbox.Toolbox.new_window.Goals as goal
+
+pub plan_window-requires : goal.plan_window-requires
+plan_window-requires g c = kept _ c.args.self.now _ c.requires
 
 pub add_window-requires-clause-fits : goal.add_window-requires-clause-fits
 add_window-requires-clause-fits g c =
@@ -20,26 +24,24 @@ returns-in-Err-plan_window-clause-step g c =
 
 pub returns-in-Ok-plan_window-clause-whole : goal.returns-in-Ok-plan_window-clause-whole
 returns-in-Ok-plan_window-clause-whole g c =
-    adding.is_whole _ _ _ _ _ _ _ _ _ _ _ (record {
+    adding.is_whole _ _ _ _ _ _ _ _ _ _ (record {
       whole = c.requires;
       same = c.plan_window.ensures.same;
       unrefused_is = c.in-Ok-plan_window.ensures.ok.0;
-      front_is = c.in-Ok-plan_window.ensures.ok.1.front;
-      behind = c.in-Ok-plan_window.ensures.ok.1.others;
-      number = c.add_window.ensures.number;
-      added = c.add_window.ensures.added;
+      areas_with = c.in-Ok-plan_window.ensures.ok.1.areas;
+      number = c.in-Ok-plan_window.ensures.ok.1.ticket.next;
+      added = c.add_window.ensures;
       took = slots.taken_named _ _ _ _ _ c.bytes.ensures c.in-Ok.ensures.taken;
     })
 
 pub returns-in-Ok-plan_window-clause-step : goal.returns-in-Ok-plan_window-clause-step
 returns-in-Ok-plan_window-clause-step g c =
-    adding.is_made _ c.args.window.now _ _ _ _ _ _ _ _ _ (record {
+    adding.is_made _ c.args.window.now _ _ _ _ _ _ _ _ (record {
       whole = c.requires;
       same = c.plan_window.ensures.same;
       unrefused_is = c.in-Ok-plan_window.ensures.ok.0;
-      front_is = c.in-Ok-plan_window.ensures.ok.1.front;
-      behind = c.in-Ok-plan_window.ensures.ok.1.others;
-      number = c.add_window.ensures.number;
-      added = c.add_window.ensures.added;
+      areas_with = c.in-Ok-plan_window.ensures.ok.1.areas;
+      number = c.in-Ok-plan_window.ensures.ok.1.ticket.next;
+      added = c.add_window.ensures;
       took = slots.taken_named _ _ _ _ _ c.bytes.ensures c.in-Ok.ensures.taken;
     })
