@@ -20,8 +20,7 @@ use Rattle.desk_toolbox.specs.declared.vis_update.Area.{Area}
 use Rattle.desk_toolbox.specs.FullDesk.{FullDesk, AreBelow, plain_window, plain_desk}
 use Rattle.desk_toolbox.specs.Step.{new_record}
 use Rattle.desk_toolbox.specs.Planned.{IsPainted}
-use Rattle.desk_toolbox.specs.Seats.{IsAreaAfter}
-use Rattle.desk_toolbox.specs.Whole.{is_content_of}
+use Rattle.desk_toolbox.specs.Whole.{IsArea, is_content_of}
 use Rattle.desk_toolbox.proofs.Running.{next_is_free}
 use Rattle.desk_toolbox.proofs.Others.{not_content, not_same_content, not_same_frame}
 
@@ -29,11 +28,11 @@ use Rattle.desk_toolbox.proofs.Others.{not_content, not_same_content, not_same_f
 abbrev pub with_front : Desk → layers.Window → Desk
 with_front desk w = record desk { windows = w ∷ desk.windows }
 
--- what is known where a window of number n is added to a desk: front is its area
-pub record Added (w : NewWindow) (n slot : ℕ) (begun : Definition) (desk : FullDesk) (stale : PixelSet) (front : Area) (old new : Bits) : Type 0 where
+-- what is known where a window of number n is added to a desk: front is its area, and redrawn what is stale then
+pub record Added (w : NewWindow) (n slot : ℕ) (begun : Definition) (desk : FullDesk) (redrawn : PixelSet) (front : Area) (old new : Bits) : Type 0 where
   pub distinct : layers.IsDesk (plain_desk desk)
   pub below : AreBelow n desk.windows
-  pub area : IsAreaAfter (record { desk = plain_desk desk; stale = stale; image = bit old }) (with_front (plain_desk desk) (plain_window (new_record w n slot begun))) n front
+  pub area : IsArea (with_front (plain_desk desk) (plain_window (new_record w n slot begun))) redrawn n front
   pub painted : IsPainted front w.place begun old new
   pub on : (p : Point) → layers.on_screen (plain_desk desk) p ≡ on_map old p
   pub plain : (p : Point) → layers.on_screen (plain_desk desk) p ≡ true → is_content (owner (plain_desk desk) p) ≡ false → bit old p ≡ own_bit (plain_desk desk) (owner (plain_desk desk) p) p
@@ -51,7 +50,7 @@ whose_is n false true true u = its_content refl
 whose_is n false true false u = its_frame refl
 whose_is n false false c u = same refl
 
-module _ (w : NewWindow) (n slot : ℕ) (begun : Definition) (desk : FullDesk) (stale : PixelSet) (front : Area) (old new : Bits) (A : Added w n slot begun desk stale front old new) where
+module _ (w : NewWindow) (n slot : ℕ) (begun : Definition) (desk : FullDesk) (redrawn : PixelSet) (front : Area) (old new : Bits) (A : Added w n slot begun desk redrawn front old new) where
   abbrev before : Desk
   before = plain_desk desk
 
@@ -112,8 +111,8 @@ module _ (w : NewWindow) (n slot : ℕ) (begun : Definition) (desk : FullDesk) (
       by_owner (same o) = bit_same p on o ∙ A.plain p on (sym (ap is_content o) ∙ e) ∙ stays (owner before p) p (other p) ∙ sym (ap (λ q. own_bit after q p) o)
 
   -- the new content is white, other content stays, and the rest shows what it is to show
-  pub image_is : (p : Point) → layers.on_screen before p ≡ true → bit new p ≡ plain.image_by plain.no_change (record { desk = before; stale = stale; image = bit old }) after (owner after p) p
-  image_is p on = by_content (is_content (owner after p)) refl
+  pub image_is : (stale : PixelSet) (p : Point) → layers.on_screen before p ≡ true → bit new p ≡ plain.image_by plain.no_change (record { desk = before; stale = stale; image = bit old }) after (owner after p) p
+  image_is stale p on = by_content (is_content (owner after p)) refl
     where
       had_is : (b : Bool) → same_owner (owner before p) (owner after p) ≡ b → (if not b then false else bit old p) ≡ (if not (layers.on_screen before p && same_owner (owner before p) (owner after p)) then false else bit old p)
       had_is b e = λ i. if not (sym on i && sym e i) then false else bit old p

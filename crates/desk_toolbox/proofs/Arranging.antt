@@ -5,12 +5,11 @@ use Rattle.std.proofs.Math.Seq.{take-length}
 use Rattle.std.proofs.lemmas.List.{take_more, length-map}
 use Rattle.std.proofs.lemmas.List.Elements.{All-nil, All-cons, All-head, All-tail}
 use Rattle.tb_geom.specs.declared.point.Point.{Point}
-use Rattle.bit_map.specs.Bits.{bit}
 use Rattle.def_iface.specs.declared.taken.Taken.{Taken}
 use Rattle.def_iface.specs.Meaning.{Definition, Loan, SameRegions}
 use Rattle.def_iface.specs.Desk as layers
-use Rattle.def_iface.specs.Owner.{Owner, owner, owner_among}
-use Rattle.def_iface.specs.Owner.Owner.{Bar}
+use Rattle.def_iface.specs.Owner.{Owner, owner, owner_among, same_owner}
+use Rattle.def_iface.specs.Owner.Owner.{Bar, Frame}
 use Rattle.def_iface.specs.Change.{State}
 use Rattle.def_iface.proofs.Owning.{is_other, owner_is_other}
 use Rattle.desk_toolbox.specs.declared.call.NewWindow.{NewWindow}
@@ -20,15 +19,14 @@ use Rattle.desk_toolbox.specs.declared.vis_update.Seat.{Seat}
 use Rattle.desk_toolbox.specs.declared.window_list.Window.{Window}
 use Rattle.desk_toolbox.specs.FullDesk.{WindowRecord, FullDesk, AreNumbered, plain_desk, plain_state}
 use Rattle.desk_toolbox.specs.Kept.{IsKept}
-use Rattle.desk_toolbox.specs.Records.{record_of, desk_of, state_of}
+use Rattle.desk_toolbox.specs.Records.{record_of, desk_of, state_of, stale_in}
 use Rattle.desk_toolbox.specs.Refused.{is_placed}
-use Rattle.desk_toolbox.specs.Seats.{stand_of, seat_stand, IsNowhere, IsPlacedSeat, IsSeatOf, AreSeatsOf, AreSeatsBehind, IsAreaBefore, IsArranged}
+use Rattle.desk_toolbox.specs.Seats.{stand_of, seat_stand, IsNowhere, IsPlacedSeat, IsSeatOf, AreSeatsOf, AreSeatsBehind, IsArranged}
 use Rattle.desk_toolbox.specs.Step.{new_record, desk_with, unhighlighted}
-use Rattle.desk_toolbox.specs.Whole.{AreAreas, IsSettled, is_content_of}
-use Rattle.desk_toolbox.proofs.Others.{not_content}
+use Rattle.desk_toolbox.specs.Whole.{IsArea, AreAreas, IsSettled, is_content_of}
+use Rattle.desk_toolbox.proofs.Others.{not_content, not_same_frame}
 use Rattle.desk_toolbox.proofs.PlaceLemmas.{placed_from}
 use Rattle.desk_toolbox.proofs.Running.{plain_desk-with, next_is_free}
-use Rattle.desk_toolbox.proofs.Staying.{AreAreasBefore, had_areas}
 
 -- a window that loses its highlighting stands where it stood
 stand-unhighlighted : (active : Option ℕ) (w : WindowRecord) → stand_of (unhighlighted active w) ≡ stand_of w
@@ -84,7 +82,7 @@ module _ {V : Type 0} {H : V → Type 0} where
 pub as_many : {V : Type 0} {H : V → Type 0} (loan : Taken V H → Loan) (t : Toolbox V H) → IsKept loan t → length t.areas.items ≡ length t.windows.items
 as_many loan t kept = by_lists (desk_of loan t []).windows t.areas.items kept.areas ∙ length-map t.windows.items (record_of loan)
   where
-    by_lists : (ws : List WindowRecord) (areas : List Area) → AreAreas (plain_desk (desk_of loan t [])) ws areas → length areas ≡ length ws
+    by_lists : (ws : List WindowRecord) (areas : List Area) → AreAreas (plain_desk (desk_of loan t [])) (stale_in t.areas.items) ws areas → length areas ≡ length ws
     by_lists [] [] its = refl
     by_lists (w ∷ ws) (a ∷ areas) its = ap suc (by_lists ws areas its.1)
     by_lists [] (a ∷ areas) its = absurd its
@@ -110,11 +108,11 @@ module _ {V : Type 0} {H : V → Type 0} (loan : Taken V H → Loan) where
   seats_stand (w ∷ ws) [] seats its = absurd its
   seats_stand (w ∷ ws) (a ∷ areas) [] its = absurd its
 
-  seats_had : (before : State) (ws : List (Window V H)) (areas : List Area) (seats : List (Seat V H)) → AreSeatsOf ws areas seats → AreAreasBefore before (map (record_of loan) ws) areas → All (λ s. IsAreaBefore before s.serial s.area.now) seats
-  seats_had before [] [] [] its had = All-nil (λ s. IsAreaBefore before s.serial s.area.now)
+  seats_had : (before : State) (ws : List (Window V H)) (areas : List Area) (seats : List (Seat V H)) → AreSeatsOf ws areas seats → AreAreas before.desk before.stale (map (record_of loan) ws) areas → All (λ s. IsArea before.desk before.stale s.serial s.area.now) seats
+  seats_had before [] [] [] its had = All-nil (λ s. IsArea before.desk before.stale s.serial s.area.now)
   seats_had before (w ∷ ws) (a ∷ areas) (s ∷ seats) its had =
-      All-cons (λ s. IsAreaBefore before s.serial s.area.now) s seats
-      (subst (λ (x : ℕ × Area). IsAreaBefore before x.0 x.1) (λ i. (sym its.0.serial i, sym its.0.area i)) had.0)
+      All-cons (λ s. IsArea before.desk before.stale s.serial s.area.now) s seats
+      (subst (λ (x : ℕ × Area). IsArea before.desk before.stale x.0 x.1) (λ i. (sym its.0.serial i, sym its.0.area i)) had.0)
       (seats_had before ws areas seats its.1 had.1)
   seats_had before [] [] (s ∷ seats) its had = absurd its
   seats_had before [] (a ∷ areas) seats its had = absurd its
@@ -176,10 +174,11 @@ module _ {V : Type 0} {H : V → Type 0} (loan : Taken V H → Loan) where
         ∙ (λ i. record { serial = n; place = w.place; shown = w.shown; structure = sym regions.structure i w.size; content = sym regions.content i w.size })
 
     -- a window that was not there had no pixel
-    front_had : IsAreaBefore before front.serial front.area.now
+    front_had : IsArea before.desk before.stale front.serial front.area.now
     front_had = record {
       visible = λ p. new.nowhere.visible p ∙ sym (off (layers.on_screen before.desk p) _ (ap (λ k. is_content_of k (owner before.desk p)) new.serial ∙ not_content n (owner before.desk p) (other p)));
       update = λ p. new.nowhere.update p ∙ sym (ap (λ b. b && before.stale p) (new.nowhere.visible p));
+      frame = λ p. new.nowhere.frame p ∙ sym (off (layers.on_screen before.desk p) _ (ap (λ k. same_owner (owner before.desk p) (Frame k)) new.serial ∙ not_same_frame n (owner before.desk p) (other p)));
     }
       where
         off : (x y : Bool) → y ≡ false → (x && y) ≡ false
@@ -199,8 +198,8 @@ module _ {V : Type 0} {H : V → Type 0} (loan : Taken V H → Loan) where
       distinct = distinct;
       gray_is = kept.gray;
       stands = (λ i. (ap (seat_stand loan) its.0 ∙ front_stand) i ∷ (seats_stand t.windows.items t.areas.items seats its.1 ∙ sym (stands-behind t.active w.shown (desk_of loan t []).windows)) i);
-      areas = All-cons (λ s. IsAreaBefore before s.serial s.area.now) s seats
-          (subst (λ (x : Seat V H). IsAreaBefore before x.serial x.area.now) (sym its.0) front_had)
-          (seats_had before t.windows.items t.areas.items seats its.1 (had_areas before.desk (bit t.screen) (desk_of loan t []).windows t.areas.items kept.areas kept.distinct));
+      areas = All-cons (λ s. IsArea before.desk before.stale s.serial s.area.now) s seats
+          (subst (λ (x : Seat V H). IsArea before.desk before.stale x.serial x.area.now) (sym its.0) front_had)
+          (seats_had before t.windows.items t.areas.items seats its.1 kept.areas);
     }
     arranged [] its = absurd its

@@ -130,7 +130,7 @@ module _ {V : Type 0} {H : V → Type 0} (loan : Taken V H → Loan) (width heig
   empty_is_whole = record {
     sound = subst IsSound (sym desk_is) sound;
     gray = subst (λ (d : FullDesk). IsGray (plain_desk d) t.gray) (sym desk_is) gray_is;
-    areas = subst (λ (x : FullDesk × List Area). AreAreas (plain_desk x.0) x.0.windows x.1) (λ i. (sym desk_is i, sym B.areas i)) tt;
+    areas = subst (λ (x : FullDesk × List Area). AreAreas (plain_desk x.0) (stale_in x.1) x.0.windows x.1) (λ i. (sym desk_is i, sym B.areas i)) tt;
     plain = subst (λ (d : FullDesk). (p : Point) → layers.on_screen (plain_desk d) p ≡ true → is_content (owner (plain_desk d) p) ≡ false → bit t.screen p ≡ own_bit (plain_desk d) (owner (plain_desk d) p) p) (sym desk_is)
         (λ p on content. plain_is p on);
   }

@@ -12,7 +12,7 @@ use Rattle.std.specs.List.{position_or_len}
 use Rattle.std.specs.Option.{option_map}
 use Rattle.std.proofs.lemmas.List.Quantifiers.{position-Some}
 use Rattle.tb_geom.specs.declared.point.Point.{Point}
-use Rattle.tb_geom.specs.Points.{minus}
+use Rattle.tb_geom.specs.Points.{PixelSet, minus}
 use Rattle.tb_geom.specs.Pixels.{holds}
 use Rattle.tb_geom.specs.Rects.{is_coordinate}
 use Rattle.def_iface.specs.declared.taken.Taken.{Taken}
@@ -27,7 +27,7 @@ use Rattle.desk_toolbox.specs.declared.vis_update.Area.{Area}
 use Rattle.desk_toolbox.specs.declared.toolbox.Toolbox.{Toolbox}
 use Rattle.desk_toolbox.specs.declared.window_list.Window.{Window}
 use Rattle.desk_toolbox.specs.FullDesk.{WindowRecord, plain_window, plain_desk}
-use Rattle.desk_toolbox.specs.Records.{record_of, desk_of}
+use Rattle.desk_toolbox.specs.Records.{record_of, desk_of, stale_in}
 use Rattle.desk_toolbox.specs.Kept.{IsKept, area_has}
 use Rattle.desk_toolbox.specs.declared.call.WindowPart.TheVariants as part
 use Rattle.desk_toolbox.specs.Finding.{record_with, found_by, found_none, found_window, found_at, part_at, part_of_hit}
@@ -46,12 +46,12 @@ position-None f xs e i d within =
 -- ---- the window at a place of the list
 
 -- each area is its window's
-area_at : (desk : Desk) (ws : List WindowRecord) (areas : List Area) (i : ℕ) (d : Area) → AreAreas desk ws areas → i < length areas → (v : WindowRecord) × (slice_get ws i ≡ Some v) × IsArea desk v (get_or areas i d)
-area_at desk [] [] i d h within = absurd (omega arith)
-area_at desk (w ∷ ws) (a ∷ areas) zero d h within = (w, refl, h.0)
-area_at desk (w ∷ ws) (a ∷ areas) (suc i) d h within = area_at desk ws areas i d h.1 (omega arith)
-area_at desk [] (a ∷ areas) i d h within = absurd h
-area_at desk (w ∷ ws) [] i d h within = absurd h
+area_at : (desk : Desk) (stale : PixelSet) (ws : List WindowRecord) (areas : List Area) (i : ℕ) (d : Area) → AreAreas desk stale ws areas → i < length areas → (v : WindowRecord) × (slice_get ws i ≡ Some v) × IsArea desk stale v.serial (get_or areas i d)
+area_at desk stale [] [] i d h within = absurd (omega arith)
+area_at desk stale (w ∷ ws) (a ∷ areas) zero d h within = (w, refl, h.0)
+area_at desk stale (w ∷ ws) (a ∷ areas) (suc i) d h within = area_at desk stale ws areas i d h.1 (omega arith)
+area_at desk stale [] (a ∷ areas) i d h within = absurd h
+area_at desk stale (w ∷ ws) [] i d h within = absurd h
 
 -- a number that no window has is not this window's
 not_among : (s : ℕ) (ws : List WindowRecord) (i : ℕ) (v : WindowRecord) → layers.window_of s (map plain_window ws) ≡ None → slice_get ws i ≡ Some v → (s == v.serial) ≡ false
@@ -74,8 +74,8 @@ record_at (w ∷ ws) (suc i) v distinct e = rw (not_among w.serial ws i v distin
 -- ---- whose the pixel is
 
 -- a window whose area has the pixel is its owner's
-found_there : (desk : Desk) (ws : List WindowRecord) (v : WindowRecord) (a : Area) (p : Point) → IsArea desk v a → area_has p a ≡ true → found_by ws (owner desk p) p ≡ found_window v.serial ws p
-found_there desk ws v a p its has = by_visible (holds a.visible p) refl
+found_there : (desk : Desk) (stale : PixelSet) (ws : List WindowRecord) (v : WindowRecord) (a : Area) (p : Point) → IsArea desk stale v.serial a → area_has p a ≡ true → found_by ws (owner desk p) p ≡ found_window v.serial ws p
+found_there desk stale ws v a p its has = by_visible (holds a.visible p) refl
   where
     content_is : (o : Owner) → is_content_of v.serial o ≡ true → found_by ws o p ≡ found_window v.serial ws p
     content_is Desktop e = absurd (cc)
@@ -111,9 +111,9 @@ nowhere (w ∷ ws) p none = by_structure (nowhere ws p) (layers.in_structure (pl
         behind ∙ rest (subst (λ o. NoneHas ws o) behind none.1)
 
 -- where no area has a pixel of the screen, no window has it
-none_has : (desk : Desk) (ws : List WindowRecord) (areas : List Area) (p : Point) → layers.on_screen desk p ≡ true → AreAreas desk ws areas → ((i : ℕ) (d : Area) → i < length areas → area_has p (get_or areas i d) ≡ false) → NoneHas ws (owner desk p)
-none_has desk [] [] p on h none = tt
-none_has desk (w ∷ ws) (a ∷ areas) p on h none = (here, none_has desk ws areas p on h.1 (λ i d within. none (suc i) d (omega arith)))
+none_has : (desk : Desk) (stale : PixelSet) (ws : List WindowRecord) (areas : List Area) (p : Point) → layers.on_screen desk p ≡ true → AreAreas desk stale ws areas → ((i : ℕ) (d : Area) → i < length areas → area_has p (get_or areas i d) ≡ false) → NoneHas ws (owner desk p)
+none_has desk stale [] [] p on h none = tt
+none_has desk stale (w ∷ ws) (a ∷ areas) p on h none = (here, none_has desk stale ws areas p on h.1 (λ i d within. none (suc i) d (omega arith)))
   where
     or_parts : (x y : Bool) → (x || y) ≡ false → (x ≡ false) × (y ≡ false)
     or_parts true y e = absurd (cc)
@@ -123,8 +123,8 @@ none_has desk (w ∷ ws) (a ∷ areas) p on h none = (here, none_has desk ws are
     here =
         let parts = or_parts (holds a.visible p) (holds a.frame p) (none 0 a (omega arith)) in
         (ap (λ b. b && is_content_of w.serial (owner desk p)) (sym on) ∙ sym (h.0.visible p) ∙ parts.0, ap (λ b. b && same_owner (owner desk p) (Frame w.serial)) (sym on) ∙ sym (h.0.frame p) ∙ parts.1)
-none_has desk [] (a ∷ areas) p on h none = absurd h
-none_has desk (w ∷ ws) [] p on h none = absurd h
+none_has desk stale [] (a ∷ areas) p on h none = absurd h
+none_has desk stale (w ∷ ws) [] p on h none = absurd h
 
 -- ---- what is found on a Toolbox
 
@@ -139,10 +139,10 @@ module _ {V : Type 0} {H : V → Type 0} (loan : Taken V H → Loan) (t : Toolbo
   pub within : (i : ℕ) → position (area_has p) t.areas.items ≡ Some i → i < length t.windows.items
   within i e = by_areas t.areas.items A.areas e
     where
-      by_areas : (areas : List Area) → AreAreas desk windows areas → position (area_has p) areas ≡ Some i → i < length t.windows.items
+      by_areas : (areas : List Area) → AreAreas desk (stale_in t.areas.items) windows areas → position (area_has p) areas ≡ Some i → i < length t.windows.items
       by_areas [] its e = absurd (cc)
       by_areas (a ∷ areas) its e =
-          let found = area_at desk windows (a ∷ areas) i a its (position-Some (area_has p) (a ∷ areas) i a e).0 in
+          let found = area_at desk (stale_in t.areas.items) windows (a ∷ areas) i a its (position-Some (area_has p) (a ∷ areas) i a e).0 in
           let there : i < length windows = slice_get_within windows i found.0 found.1 in
           let long : length windows ≡ length t.windows.items = length-map t.windows.items (record_of loan) in
           omega arith
@@ -164,20 +164,20 @@ module _ {V : Type 0} {H : V → Type 0} (loan : Taken V H → Loan) (t : Toolbo
       there : slice_get windows i ≡ Some (record_of loan x)
       there = slice_get-map (record_of loan) t.windows.items i ∙ ap (option_map (record_of loan)) (slice_get-get_or t.windows.items i x low ∙ ap Some (sym read))
 
-      by_areas : (areas : List Area) → AreAreas desk windows areas → position (area_has p) areas ≡ Some i → found_at (desk_of loan t []) p ≡ record { part = part_of_hit ((loan x.taken).definition.hit (minus p x.place)); window = Some x.serial }
+      by_areas : (areas : List Area) → AreAreas desk (stale_in t.areas.items) windows areas → position (area_has p) areas ≡ Some i → found_at (desk_of loan t []) p ≡ record { part = part_of_hit ((loan x.taken).definition.hit (minus p x.place)); window = Some x.serial }
       by_areas [] its e = absurd (cc)
       by_areas (a ∷ areas) its e =
           let first = position-Some (area_has p) (a ∷ areas) i a e in
-          let found = area_at desk windows (a ∷ areas) i a its first.0 in
+          let found = area_at desk (stale_in t.areas.items) windows (a ∷ areas) i a its first.0 in
           let same : found.0 ≡ record_of loan x = let both : Some found.0 ≡ Some (record_of loan x) = sym found.1 ∙ there in cc in
-          let owned : found_by windows (owner desk p) p ≡ found_window found.0.serial windows p = found_there desk windows found.0 _ p found.2 first.1 in
+          let owned : found_by windows (owner desk p) p ≡ found_window found.0.serial windows p = found_there desk (stale_in t.areas.items) windows found.0 _ p found.2 first.1 in
           let its_record : record_with x.serial windows ≡ Some (record_of loan x) = record_at windows i (record_of loan x) A.distinct there in
           rw on (owned ∙ ap (λ (v : WindowRecord). found_window v.serial windows p) same ∙ ap (λ r. record { part = part_at r p; window = Some x.serial }) its_record)
 
   -- where no area has it, it is the desktop's
   pub found_desk_is : layers.on_screen desk p ≡ true → layers.in_bar desk p ≡ false → position (area_has p) t.areas.items ≡ None → found_at (desk_of loan t []) p ≡ found_none part.InDesk
   found_desk_is on low e =
-      let none = none_has desk windows t.areas.items p on A.areas (λ i d within. position-None (area_has p) t.areas.items e i d within) in
+      let none = none_has desk (stale_in t.areas.items) windows t.areas.items p on A.areas (λ i d within. position-None (area_has p) t.areas.items e i d within) in
       let among : owner desk p ≡ owner_among (map plain_window windows) p = rw low refl in
       let its : owner desk p ≡ Desktop = among ∙ nowhere windows p (subst (λ o. NoneHas windows o) among none) in
       rw on (ap (λ o. found_by windows o p) its)

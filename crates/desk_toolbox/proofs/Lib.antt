@@ -18,3 +18,4 @@ mod EmptyLemmas
 pub mod FindLemmas
 pub mod ClosingLemmas
 pub mod RunLemmas
+pub mod Sayings

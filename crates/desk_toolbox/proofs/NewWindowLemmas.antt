@@ -29,14 +29,14 @@ use Rattle.desk_toolbox.specs.Records.{record_of, desk_of, state_of, stale_in}
 use Rattle.desk_toolbox.specs.Refused.{first_refusal, judged_refusals, is_placed, is_full, longest_text, most_windows}
 use Rattle.desk_toolbox.specs.Step.{IsMade, IsNotMade, IsNewWindow, new_record, desk_with, unhighlighted}
 use Rattle.desk_toolbox.specs.Planned.{AreAreasWith, IsPainted, IsAdded, IsUnplanned, SameDesk, dimmed}
-use Rattle.desk_toolbox.specs.Seats.{IsAreaAfter, AreAreasAfter}
-use Rattle.desk_toolbox.specs.Whole.{IsWhole, AreAreas, IsSound, IsSettled, IsGray}
+use Rattle.desk_toolbox.specs.Seats.{stale_after, AreAreasAfter}
+use Rattle.desk_toolbox.specs.Whole.{IsWhole, IsArea, AreAreas, IsSound, IsSettled, IsGray}
 use Rattle.desk_toolbox.proofs.SlotLemmas.{stocked_with, put_back_is_old}
 use Rattle.desk_toolbox.proofs.RefusalLemmas.{refusal_is, unplanned_is_refused}
 use Rattle.desk_toolbox.proofs.SameDeskLemmas.{areas_stay, stays_unchanged}
 use Rattle.desk_toolbox.proofs.PlaceLemmas.{placed_parts}
 use Rattle.desk_toolbox.proofs.Adding.{Added, with_front, image_is, plain_is, after_is_desk}
-use Rattle.desk_toolbox.proofs.Staying.{areas_are, stale_after}
+use Rattle.desk_toolbox.proofs.Staying.{areas_are, updated_is_stale}
 use Rattle.desk_toolbox.proofs.DimLemmas.{windows_behind, settled_behind, stocked_behind, records_behind}
 use Rattle.desk_toolbox.proofs.Running.{plain_desk-with, numbered_with}
 
@@ -125,16 +125,16 @@ module _ {V : Type 0} {H : V → Type 0} (loan : Taken V H → Loan) where
 
     -- the new window's area, and what was drawn of it
     abbrev IsFirst : Area → Type 0
-    IsFirst a = IsAreaAfter (plain_state (state_of loan t slots)) (with_front (plain_desk before) (plain_window (new_record w n taken.slot N.added.begun))) n a × IsPainted a w.place N.added.begun t.screen new.screen
+    IsFirst a = IsArea (with_front (plain_desk before) (plain_window (new_record w n taken.slot N.added.begun))) (stale_after (plain_state (state_of loan t slots)) (plain_desk after)) n a × IsPainted a w.place N.added.begun t.screen new.screen
 
     first : (a : Area) × IsFirst a
     first = by_areas areas areas_after N.added.painted
       where
         by_areas : (xs : List Area) → AreAreasAfter (plain_state (state_of loan t slots)) (plain_desk after) after.windows xs → IsSomeAnd (slice_get xs 0) (λ a. IsPainted a w.place N.added.begun planned.screen new.screen) → (a : Area) × IsFirst a
-        by_areas (a ∷ xs) its painted = (a, (subst (λ d. IsAreaAfter (plain_state (state_of loan t slots)) d n a) layers_are its.0, subst (λ s. IsPainted a w.place N.added.begun s new.screen) N.same.screen painted))
+        by_areas (a ∷ xs) its painted = (a, (subst (λ d. IsArea d (stale_after (plain_state (state_of loan t slots)) (plain_desk after)) n a) layers_are its.0, subst (λ s. IsPainted a w.place N.added.begun s new.screen) N.same.screen painted))
         by_areas [] its painted = absurd its
 
-    added_facts : Added w n taken.slot N.added.begun before (stale_in t.areas.items) first.0 t.screen new.screen
+    added_facts : Added w n taken.slot N.added.begun before (stale_after (plain_state (state_of loan t slots)) (plain_desk after)) first.0 t.screen new.screen
     added_facts = record {
       distinct = N.whole.sound.distinct;
       below = below;
@@ -174,9 +174,9 @@ module _ {V : Type 0} {H : V → Type 0} (loan : Taken V H → Loan) where
       desk = desk_is;
       pixels = record {
         stale = subst (λ (d : Desk). (p : Point) → on_screen d p ≡ true → stale_in new.areas.items p ≡ plain.stale_by plain.no_change (plain_state (state_of loan t slots)) (owner d p) p) (sym (ap plain_desk desk_is))
-            (λ p on. ap (λ a. stale_in a p) N.added.areas ∙ stale_after (plain_state (state_of loan t slots)) (plain_desk after) after.windows areas p refl areas_after on);
+            (λ p on. ap (λ a. stale_in a p) N.added.areas ∙ updated_is_stale (plain_state (state_of loan t slots)) (plain_desk after) after.windows areas p refl areas_after on);
         image = subst (λ (d : Desk). (p : Point) → on_screen d p ≡ true → bit new.screen p ≡ plain.image_by plain.no_change (plain_state (state_of loan t slots)) d (owner d p) p) (sym new_layers)
-            (image_is w n taken.slot N.added.begun before (stale_in t.areas.items) first.0 t.screen new.screen added_facts);
+            (image_is w n taken.slot N.added.begun before (stale_after (plain_state (state_of loan t slots)) (plain_desk after)) first.0 t.screen new.screen added_facts (stale_in t.areas.items));
       };
     }
 
@@ -199,7 +199,7 @@ module _ {V : Type 0} {H : V → Type 0} (loan : Taken V H → Loan) where
     sound_after : IsSound after
     sound_after = record {
       screen = N.whole.sound.screen;
-      distinct = subst layers.IsDesk (sym layers_are) (after_is_desk w n taken.slot N.added.begun before (stale_in t.areas.items) first.0 t.screen new.screen added_facts);
+      distinct = subst layers.IsDesk (sym layers_are) (after_is_desk w n taken.slot N.added.begun before (stale_after (plain_state (state_of loan t slots)) (plain_desk after)) first.0 t.screen new.screen added_facts);
       numbered = numbered_with w n taken.slot N.added.begun before below;
       few = few_after;
       settled = All-cons IsSettled _ _ settled (settled_behind t.active w.shown before.windows N.whole.sound.settled);
@@ -210,9 +210,9 @@ module _ {V : Type 0} {H : V → Type 0} (loan : Taken V H → Loan) where
     is_whole = record {
       sound = subst IsSound (sym desk_is) sound_after;
       gray = subst (λ (x : FullDesk × Pixels). IsGray (plain_desk x.0) x.1) (λ i. (sym desk_is i, sym (N.added.gray ∙ N.same.gray) i)) N.whole.gray;
-      areas = subst (λ (x : FullDesk × List Area). AreAreas (plain_desk x.0) x.0.windows x.1) (λ i. (sym desk_is i, sym N.added.areas i)) (areas_are (plain_state (state_of loan t slots)) (plain_desk after) after.windows areas areas_after);
+      areas = subst (λ (x : FullDesk × List Area). AreAreas (plain_desk x.0) (stale_in x.1) x.0.windows x.1) (λ i. (sym desk_is i, sym N.added.areas i)) (areas_are (plain_state (state_of loan t slots)) (plain_desk after) after.windows areas refl areas_after);
       plain = subst (λ (d : Desk). (p : Point) → on_screen d p ≡ true → is_content (owner d p) ≡ false → bit new.screen p ≡ own_bit d (owner d p) p) (sym new_layers)
-          (plain_is w n taken.slot N.added.begun before (stale_in t.areas.items) first.0 t.screen new.screen added_facts);
+          (plain_is w n taken.slot N.added.begun before (stale_after (plain_state (state_of loan t slots)) (plain_desk after)) first.0 t.screen new.screen added_facts);
     }
 
     -- the call was done

@@ -43,7 +43,7 @@ module _ {V : Type 0} {H : V → Type 0} (loan : Taken V H → Loan) (t u : Tool
   stays_whole whole = record {
     sound = subst IsSound (sym desk_stays) whole.sound;
     gray = subst (λ (x : FullDesk × Pixels). IsGray (plain_desk x.0) x.1) (λ i. (sym desk_stays i, sym same.gray i)) whole.gray;
-    areas = subst (λ (x : FullDesk × List Area). AreAreas (plain_desk x.0) x.0.windows x.1) (λ i. (sym desk_stays i, sym same.areas i)) whole.areas;
+    areas = subst (λ (x : FullDesk × List Area). AreAreas (plain_desk x.0) (stale_in x.1) x.0.windows x.1) (λ i. (sym desk_stays i, sym same.areas i)) whole.areas;
     plain = subst IsPlain (sym state_stays) whole.plain;
   }
 

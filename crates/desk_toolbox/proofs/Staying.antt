@@ -1,7 +1,7 @@
--- What areas say of the update sets: before a call by what is stale, and after it.
-use Rattle.std.proofs.Common.{◌≡◌, ◌⊎◌, inl, inr, ℕ, ◌==◌, Bool, true, false, not, ◌&&◌, ◌||◌, if◌then◌else◌, List, [], ◌∷◌, map, refl, sym, ap, ◌∙◌, subst}
+-- The update regions after a call are what it makes stale.
+use Rattle.std.proofs.Common.{◌≡◌, ℕ, ◌==◌, Bool, true, false, not, ◌&&◌, ◌||◌, if◌then◌else◌, List, [], ◌∷◌, map, refl, sym, ap, ◌∙◌, subst}
 use Rattle.std.specs.List.{list_any}
-use Rattle.std.proofs.lemmas.Bool.{false≢true, and_parts}
+use Rattle.std.proofs.lemmas.Bool.{and_parts}
 use Rattle.tb_geom.specs.declared.point.Point.{Point}
 use Rattle.tb_geom.specs.Points.{PixelSet, minus}
 use Rattle.tb_geom.specs.Pixels.{holds}
@@ -15,112 +15,8 @@ use Rattle.def_iface.proofs.Owning.{same_number}
 use Rattle.desk_toolbox.specs.declared.vis_update.Area.{Area}
 use Rattle.desk_toolbox.specs.FullDesk.{WindowRecord, plain_window}
 use Rattle.desk_toolbox.specs.Records.{stale_in}
-use Rattle.desk_toolbox.specs.Whole.{IsArea, AreAreas, is_content_of}
-use Rattle.desk_toolbox.specs.Seats.{IsAreaBefore, AreAreasAfter}
-use Rattle.desk_toolbox.proofs.Others.{not_content, same_content, AreOthers, others_of}
-
--- ---- before a call
-
--- what a window's update region has, its content owns
-updated_is_content : (desk : Desk) (w : WindowRecord) (a : Area) (p : Point) → IsArea desk w a → holds a.update p ≡ true → is_content_of w.serial (owner desk p) ≡ true
-updated_is_content desk w a p its e = (and_parts _ _ (sym (its.visible p) ∙ its.update p e)).1
-
-not_updated : (desk : Desk) (w : WindowRecord) (a : Area) (p : Point) → IsArea desk w a → is_content_of w.serial (owner desk p) ≡ false → (b : Bool) → holds a.update p ≡ b → holds a.update p ≡ false
-not_updated desk w a p its e true u = absurd (false≢true (sym e ∙ updated_is_content desk w a p its u))
-not_updated desk w a p its e false u = u
-
--- a pixel of other windows is in no update region of these
-quiet : (desk : Desk) (ws : List WindowRecord) (areas : List Area) (p : Point) → AreAreas desk ws areas → AreOthers ws (owner desk p) → stale_in areas p ≡ false
-quiet desk [] [] p its others = refl
-quiet desk (w ∷ ws) (a ∷ areas) p its others = λ i. not_updated desk w a p its.0 (not_content w.serial (owner desk p) others.0) (holds a.update p) refl i || quiet desk ws areas p its.1 others.1 i
-quiet desk [] (a ∷ areas) p its others = absurd its
-quiet desk (w ∷ ws) [] p its others = absurd its
-
--- of the content of each window just what its update region has is stale
-abbrev AreOwn : PixelSet → List WindowRecord → List Area → Type 0
-AreOwn stale [] [] = Unit {0}
-AreOwn stale (w ∷ ws) (a ∷ areas) = ((p : Point) → holds a.visible p ≡ true → stale p ≡ holds a.update p) × AreOwn stale ws areas
-AreOwn stale [] (a ∷ areas) = ⊥
-AreOwn stale (w ∷ ws) [] = ⊥
-
--- first: what the update regions of windows in front have, which is none of these windows'
-own : (desk : Desk) (ws : List WindowRecord) (areas : List Area) (first stale : PixelSet) → AreAreas desk ws areas → layers.AreWindows (map plain_window ws) → ((p : Point) → AreOthers ws (owner desk p) ⊎ (first p ≡ false)) → ((p : Point) → stale p ≡ (first p || stale_in areas p)) → AreOwn stale ws areas
-own desk [] [] first stale its distinct apart is = tt
-own desk (w ∷ ws) (a ∷ areas) first stale its distinct apart is = (here, own desk ws areas (λ p. first p || holds a.update p) stale its.1 distinct.1.1 behind (λ p. is p ∙ or_or (first p) (holds a.update p) (stale_in areas p)))
-  where
-    or_or : (x y z : Bool) → (x || (y || z)) ≡ ((x || y) || z)
-    or_or true y z = refl
-    or_or false y z = refl
-
-    or_false : (y z : Bool) → z ≡ false → (false || (y || z)) ≡ y
-    or_false true z e = refl
-    or_false false z e = e
-
-    here : (p : Point) → holds a.visible p ≡ true → stale p ≡ holds a.update p
-    here p e = by_apart (apart p)
-      where
-        its_content : is_content_of w.serial (owner desk p) ≡ true
-        its_content = (and_parts (layers.on_screen desk p) (is_content_of w.serial (owner desk p)) (sym (its.0.visible p) ∙ e)).1
-
-        by_apart : AreOthers (w ∷ ws) (owner desk p) ⊎ (first p ≡ false) → stale p ≡ holds a.update p
-        by_apart (inl others) = absurd (false≢true (sym (not_content w.serial (owner desk p) others.0) ∙ its_content))
-        by_apart (inr none) =
-            let others = subst (λ o. AreOthers ws o) (sym (same_content w.serial (owner desk p) its_content)) (others_of w.serial ws distinct.0).0 in
-            is p ∙ ap (λ b. b || (holds a.update p || stale_in areas p)) none ∙ or_false (holds a.update p) (stale_in areas p) (quiet desk ws areas p its.1 others)
-
-    behind : (p : Point) → AreOthers ws (owner desk p) ⊎ ((first p || holds a.update p) ≡ false)
-    behind p = by_apart (apart p) (holds a.update p) refl
-      where
-        by_apart : AreOthers (w ∷ ws) (owner desk p) ⊎ (first p ≡ false) → (b : Bool) → holds a.update p ≡ b → AreOthers ws (owner desk p) ⊎ ((first p || holds a.update p) ≡ false)
-        by_apart (inl others) b u = inl others.1
-        by_apart (inr none) true u = inl (subst (λ o. AreOthers ws o) (sym (same_content w.serial (owner desk p) (updated_is_content desk w a p its.0 u))) (others_of w.serial ws distinct.0).0)
-        by_apart (inr none) false u = inr (λ i. none i || u i)
-own desk [] (a ∷ areas) first stale its distinct apart is = absurd its
-own desk (w ∷ ws) [] first stale its distinct apart is = absurd its
-
--- the area that one window had
-area_before : (before : State) (w : WindowRecord) (a : Area) → IsArea before.desk w a → ((p : Point) → holds a.visible p ≡ true → before.stale p ≡ holds a.update p) → IsAreaBefore before w.serial a
-area_before before w a its own_is = record { visible = its.visible; update = λ p. by_visible p (holds a.visible p) refl }
-  where
-    by_visible : (p : Point) (b : Bool) → holds a.visible p ≡ b → holds a.update p ≡ (b && before.stale p)
-    by_visible p true e = sym (own_is p e)
-    by_visible p false e = by_update (holds a.update p) refl
-      where
-        by_update : (b : Bool) → holds a.update p ≡ b → holds a.update p ≡ false
-        by_update true u = absurd (false≢true (sym e ∙ its.update p u))
-        by_update false u = u
-
--- each window had its area
-abbrev pub AreAreasBefore : State → List WindowRecord → List Area → Type 0
-AreAreasBefore before [] [] = Unit {0}
-AreAreasBefore before (w ∷ ws) (a ∷ areas) = IsAreaBefore before w.serial a × AreAreasBefore before ws areas
-AreAreasBefore before [] (a ∷ areas) = ⊥
-AreAreasBefore before (w ∷ ws) [] = ⊥
-
-areas_before : (before : State) (ws : List WindowRecord) (areas : List Area) → AreAreas before.desk ws areas → AreOwn before.stale ws areas → AreAreasBefore before ws areas
-areas_before before [] [] its owns = tt
-areas_before before (w ∷ ws) (a ∷ areas) its owns = (area_before before w a its.0 owns.0, areas_before before ws areas its.1 owns.1)
-areas_before before [] (a ∷ areas) its owns = absurd its
-areas_before before (w ∷ ws) [] its owns = absurd its
-
-pub had_areas : (desk : Desk) (image : PixelSet) (ws : List WindowRecord) (areas : List Area) → AreAreas desk ws areas → layers.AreWindows (map plain_window ws) → AreAreasBefore (record { desk = desk; stale = stale_in areas; image = image }) ws areas
-had_areas desk image ws areas its distinct = areas_before _ ws areas its (own desk ws areas (λ p. false) (stale_in areas) its distinct (λ p. inr refl) (λ p. refl))
-
--- ---- after a call
-
--- each window's area is what it is to be
-pub areas_are : (before : State) (after : Desk) (ws : List WindowRecord) (areas : List Area) → AreAreasAfter before after ws areas → AreAreas after ws areas
-areas_are before after [] [] its = tt
-areas_are before after (w ∷ ws) (a ∷ areas) its = (
-  record {
-    visible = its.0.visible;
-    update = λ p e. (and_parts _ _ (sym (its.0.update p) ∙ e)).0;
-    frame = its.0.frame;
-  },
-  areas_are before after ws areas its.1,
-)
-areas_are before after [] (a ∷ areas) its = absurd its
-areas_are before after (w ∷ ws) [] its = absurd its
+use Rattle.desk_toolbox.specs.Whole.{AreAreas, is_content_of}
+use Rattle.desk_toolbox.specs.Seats.{AreAreasAfter}
 
 -- the owner is content of one of these windows
 abbrev is_content_among : List WindowRecord → Owner → Bool
@@ -172,8 +68,8 @@ stale_among before after [] (a ∷ areas) p its on = absurd its
 stale_among before after (w ∷ ws) [] p its on = absurd its
 
 -- the update regions are what the change of a call that moves no pixel makes stale
-pub stale_after : (before : State) (after : Desk) (ws : List WindowRecord) (areas : List Area) (p : Point) → after.windows ≡ map plain_window ws → AreAreasAfter before after ws areas → layers.on_screen after p ≡ true → stale_in areas p ≡ stale_by no_change before (owner after p) p
-stale_after before after ws areas p windows its on =
+pub updated_is_stale : (before : State) (after : Desk) (ws : List WindowRecord) (areas : List Area) (p : Point) → after.windows ≡ map plain_window ws → AreAreasAfter before after ws areas → layers.on_screen after p ≡ true → stale_in areas p ≡ stale_by no_change before (owner after p) p
+updated_is_stale before after ws areas p windows its on =
     stale_among before after ws areas p its on
     ∙ ap (λ b. b && stale_by no_change before (owner after p) p) (among (layers.in_bar after p))
     ∙ content_only (is_content (owner after p)) _
@@ -185,3 +81,24 @@ stale_after before after ws areas p windows its on =
     content_only : (c t : Bool) → (c && (if not c then false else t)) ≡ (if not c then false else t)
     content_only true t = refl
     content_only false t = refl
+
+-- each window's area is right of what is in the update regions
+areas_right : (before : State) (after : Desk) (stale : PixelSet) (ws : List WindowRecord) (areas : List Area) → ((p : Point) → layers.on_screen after p ≡ true → stale p ≡ stale_by no_change before (owner after p) p) → AreAreasAfter before after ws areas → AreAreas after stale ws areas
+areas_right before after stale [] [] same its = tt
+areas_right before after stale (w ∷ ws) (a ∷ areas) same its = (
+  record {
+    visible = its.0.visible;
+    update = λ p. its.0.update p ∙ by_visible p (holds a.visible p) refl;
+    frame = its.0.frame;
+  },
+  areas_right before after stale ws areas same its.1,
+)
+  where
+    by_visible : (p : Point) (b : Bool) → holds a.visible p ≡ b → (b && stale_by no_change before (owner after p) p) ≡ (b && stale p)
+    by_visible p true e = sym (same p (and_parts (layers.on_screen after p) (is_content_of w.serial (owner after p)) (sym (its.0.visible p) ∙ e)).0)
+    by_visible p false e = refl
+areas_right before after stale [] (a ∷ areas) same its = absurd its
+areas_right before after stale (w ∷ ws) [] same its = absurd its
+
+pub areas_are : (before : State) (after : Desk) (ws : List WindowRecord) (areas : List Area) → after.windows ≡ map plain_window ws → AreAreasAfter before after ws areas → AreAreas after (stale_in areas) ws areas
+areas_are before after ws areas windows its = areas_right before after (stale_in areas) ws areas (λ p on. updated_is_stale before after ws areas p windows its on) its

@@ -20,8 +20,8 @@ use Rattle.def_iface.proofs.Owning.{same_number, is_other, owner_is_other}
 use Rattle.desk_toolbox.specs.declared.vis_update.Area.{Area}
 use Rattle.desk_toolbox.specs.declared.vis_update.Seat.{Seat}
 use Rattle.desk_toolbox.specs.FullDesk.{WindowRecord, plain_window}
-use Rattle.desk_toolbox.specs.Whole.{is_content_of}
-use Rattle.desk_toolbox.specs.Seats.{Stand, stand_of, seat_stand, IsSwept, IsAreaBefore, IsAreaAfter, AreAreasAfter, IsArranged}
+use Rattle.desk_toolbox.specs.Whole.{IsArea, is_content_of}
+use Rattle.desk_toolbox.specs.Seats.{Stand, stand_of, seat_stand, IsSwept, stale_after, AreAreasAfter, IsArranged}
 use Rattle.desk_toolbox.proofs.Others.{not_content, not_same_frame, same_content, AreOthers, others_of}
 
 -- ---- the sweep, window by window
@@ -184,7 +184,7 @@ stale_is n before after p true e = by_owner (owner before.desk p) ∙ sym (ap (�
 
 module _ {V : Type 0} {H : V → Type 0} (loan : Taken V H → Loan) (before : State) (after : Desk) where
   -- what one window takes, where the windows in front left what they should
-  area_is : (first middle : PixelSet) (w : WindowRecord) (ws : List WindowRecord) (s : Seat V H) (a : Area) → seat_stand loan s ≡ stand_of w → layers.AreWindows (map plain_window (w ∷ ws)) → Reaches after (w ∷ ws) first → IsAreaBefore before s.serial s.area.now → IsSwept loan first s a middle → IsAreaAfter before after w.serial a × Reaches after ws middle
+  area_is : (first middle : PixelSet) (w : WindowRecord) (ws : List WindowRecord) (s : Seat V H) (a : Area) → seat_stand loan s ≡ stand_of w → layers.AreWindows (map plain_window (w ∷ ws)) → Reaches after (w ∷ ws) first → IsArea before.desk before.stale s.serial s.area.now → IsSwept loan first s a middle → IsArea after (stale_after before after) w.serial a × Reaches after ws middle
   area_is first middle w ws s a same distinct reach was swept = (
     record {
       visible = visible_is after w ws first middle a distinct reach takes;
@@ -212,12 +212,12 @@ module _ {V : Type 0} {H : V → Type 0} (loan : Taken V H → Loan) (before : S
   stands_first : (s : Seat V H) (seats : List (Seat V H)) (w : WindowRecord) (ws : List WindowRecord) → map (seat_stand loan) (s ∷ seats) ≡ map stand_of (w ∷ ws) → (seat_stand loan s ≡ stand_of w) × (map (seat_stand loan) seats ≡ map stand_of ws)
   stands_first s seats w ws e = (cc, cc)
 
-  all_areas : (first last : PixelSet) (ws : List WindowRecord) (seats : List (Seat V H)) (areas : List Area) → map (seat_stand loan) seats ≡ map stand_of ws → layers.AreWindows (map plain_window ws) → Reaches after ws first → All (λ s. IsAreaBefore before s.serial s.area.now) seats → AreSwept loan first seats areas last → AreAreasAfter before after ws areas
+  all_areas : (first last : PixelSet) (ws : List WindowRecord) (seats : List (Seat V H)) (areas : List Area) → map (seat_stand loan) seats ≡ map stand_of ws → layers.AreWindows (map plain_window ws) → Reaches after ws first → All (λ s. IsArea before.desk before.stale s.serial s.area.now) seats → AreSwept loan first seats areas last → AreAreasAfter before after ws areas
   all_areas first last [] [] [] same distinct reach was swept = tt
   all_areas first last (w ∷ ws) (s ∷ seats) (a ∷ areas) same distinct reach was swept =
       let parts = stands_first s seats w ws same in
-      let one = area_is first swept.0 w ws s a parts.0 distinct reach (All-head (λ (t : Seat V H). IsAreaBefore before t.serial t.area.now) s seats was) swept.1 in
-      (one.0, all_areas swept.0 last ws seats areas parts.1 distinct.1.1 one.1 (All-tail (λ (t : Seat V H). IsAreaBefore before t.serial t.area.now) s seats was) swept.2)
+      let one = area_is first swept.0 w ws s a parts.0 distinct reach (All-head (λ (t : Seat V H). IsArea before.desk before.stale t.serial t.area.now) s seats was) swept.1 in
+      (one.0, all_areas swept.0 last ws seats areas parts.1 distinct.1.1 one.1 (All-tail (λ (t : Seat V H). IsArea before.desk before.stale t.serial t.area.now) s seats was) swept.2)
   all_areas first last ws [] (a ∷ areas) same distinct reach was swept = absurd swept
   all_areas first last ws (s ∷ seats) [] same distinct reach was swept = absurd swept
   all_areas first last (w ∷ ws) [] [] same distinct reach was swept = absurd (cc)

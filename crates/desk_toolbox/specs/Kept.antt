@@ -8,7 +8,7 @@ use Rattle.def_iface.specs.Desk.{IsDesk}
 use Rattle.desk_toolbox.specs.declared.toolbox.Toolbox.{Toolbox}
 use Rattle.desk_toolbox.specs.declared.vis_update.Area.{Area}
 use Rattle.desk_toolbox.specs.FullDesk.{AreNumbered, plain_desk}
-use Rattle.desk_toolbox.specs.Records.{desk_of}
+use Rattle.desk_toolbox.specs.Records.{desk_of, stale_in}
 use Rattle.desk_toolbox.specs.Whole.{AreAreas, IsGray, IsSettled}
 
 -- the point is the window's
@@ -23,4 +23,4 @@ module _ {V : Type 0} {H : V → Type 0} (loan : Taken V H → Loan) where
     pub numbered : AreNumbered t.next (desk_of loan t []).windows
     pub settled : All IsSettled (desk_of loan t []).windows
     pub gray : IsGray (plain_desk (desk_of loan t [])) t.gray
-    pub areas : AreAreas (plain_desk (desk_of loan t [])) (desk_of loan t []).windows t.areas.items
+    pub areas : AreAreas (plain_desk (desk_of loan t [])) (stale_in t.areas.items) (desk_of loan t []).windows t.areas.items

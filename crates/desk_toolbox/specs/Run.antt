@@ -1,10 +1,11 @@
 -- A run of steps.
-use Rattle.std.specs.Prelude.{◌≡◌, List, [], ◌∷◌, Result}
+use Rattle.std.specs.Prelude.{◌≡◌, ℕ, List, [], ◌∷◌, Option, Some, Result, Ok, Err}
 use Rattle.tb_geom.specs.declared.refusal.Refusal.{Refusal}
 use Rattle.desk_toolbox.specs.declared.call.Call.{Call}
 use Rattle.desk_toolbox.specs.declared.call.Reply.{Reply}
+use Rattle.desk_toolbox.specs.declared.call.Reply.TheVariants as reply
 use Rattle.desk_toolbox.specs.FullDesk.{FullState}
-use Rattle.desk_toolbox.specs.Step.{IsStep}
+use Rattle.desk_toolbox.specs.Step.{IsStep, number_after}
 
 -- from the first state these calls may have these answers and leave the last state: each step begins as the one before
 -- it ended
@@ -13,3 +14,16 @@ IsRun first [] [] last = last ≡ first
 IsRun first (call ∷ calls) (answer ∷ answers) last = (middle : FullState) × IsStep call answer first middle × IsRun middle calls answers last
 IsRun first [] (answer ∷ answers) last = ⊥
 IsRun first (call ∷ calls) [] last = ⊥
+
+-- the numbers of the windows that were made
+abbrev pub made : List (Result Reply Refusal) → List ℕ
+made [] = []
+made (Ok (reply.Window n) ∷ answers) = n ∷ made answers
+made (Ok (reply.Found found) ∷ answers) = made answers
+made (Ok (reply.Front window) ∷ answers) = made answers
+made (Err e ∷ answers) = made answers
+
+-- the numbers follow each other, and the first is the next one
+abbrev pub AreCounted : Option ℕ → List ℕ → Type 0
+AreCounted next [] = Unit {0}
+AreCounted next (n ∷ ns) = (next ≡ Some n) × AreCounted (number_after n) ns

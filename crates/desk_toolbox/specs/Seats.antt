@@ -5,16 +5,15 @@ use Rattle.tb_geom.specs.Points.{PixelSet, minus}
 use Rattle.tb_geom.specs.Pixels.{Pixels, holds}
 use Rattle.def_iface.specs.declared.taken.Taken.{Taken}
 use Rattle.def_iface.specs.Meaning.{Loan, IsWithin}
-use Rattle.def_iface.specs.Desk.{Desk, IsDesk, on_screen}
-use Rattle.def_iface.specs.Owner.{owner, same_owner}
-use Rattle.def_iface.specs.Owner.Owner.{Frame}
+use Rattle.def_iface.specs.Desk.{Desk, IsDesk}
+use Rattle.def_iface.specs.Owner.{owner}
 use Rattle.def_iface.specs.Change.{State, no_change, stale_by}
 use Rattle.desk_toolbox.specs.declared.vis_update.Area.{Area}
 use Rattle.desk_toolbox.specs.declared.vis_update.Seat.{Seat}
 use Rattle.desk_toolbox.specs.declared.window_list.Window.{Window}
 use Rattle.desk_toolbox.specs.FullDesk.{WindowRecord, plain_window}
 use Rattle.desk_toolbox.specs.Refused.{is_placed}
-use Rattle.desk_toolbox.specs.Whole.{is_content_of, IsGray}
+use Rattle.desk_toolbox.specs.Whole.{IsArea, AreAreas, IsGray}
 
 -- where a window stands; structure and content are in its own coordinates
 pub record Stand : Type 0 where
@@ -39,23 +38,13 @@ pub record IsNowhere (a : Area) : Type 0 where
   pub update : (p : Point) → holds a.update p ≡ false
   pub frame : (p : Point) → holds a.frame p ≡ false
 
--- what a window's content owned before a call, and what of that was in its update set
-pub record IsAreaBefore (before : State) (serial : ℕ) (a : Area) : Type 0 where
-  pub visible : (p : Point) → holds a.visible p ≡ (on_screen before.desk p && is_content_of serial (owner before.desk p))
-  pub update : (p : Point) → holds a.update p ≡ (holds a.visible p && before.stale p)
+-- what is stale after a call that moves no pixel
+abbrev pub stale_after : State → Desk → PixelSet
+stale_after before after p = stale_by no_change before (owner after p) p
 
--- what a window's content and frame own after a call that moves no pixel, and what of the content is in its update set
-pub record IsAreaAfter (before : State) (after : Desk) (serial : ℕ) (a : Area) : Type 0 where
-  pub visible : (p : Point) → holds a.visible p ≡ (on_screen after p && is_content_of serial (owner after p))
-  pub update : (p : Point) → holds a.update p ≡ (holds a.visible p && stale_by no_change before (owner after p) p)
-  pub frame : (p : Point) → holds a.frame p ≡ (on_screen after p && same_owner (owner after p) (Frame serial))
-
--- each window has its area
+-- each window has its area after such a call
 abbrev pub AreAreasAfter : State → Desk → List WindowRecord → List Area → Type 0
-AreAreasAfter before after [] [] = Unit {0}
-AreAreasAfter before after (w ∷ ws) (a ∷ areas) = IsAreaAfter before after w.serial a × AreAreasAfter before after ws areas
-AreAreasAfter before after [] (a ∷ areas) = ⊥
-AreAreasAfter before after (w ∷ ws) [] = ⊥
+AreAreasAfter before after ws areas = AreAreas after (stale_after before after) ws areas
 
 module _ {V : Type 0} {H : V → Type 0} where
   -- the seat of a window that stays as it is
@@ -107,4 +96,4 @@ module _ {V : Type 0} {H : V → Type 0} (loan : Taken V H → Loan) where
     pub distinct : IsDesk after
     pub gray_is : IsGray after gray
     pub stands : map seat_stand seats ≡ map stand_of windows
-    pub areas : All (λ s. IsAreaBefore before s.serial s.area.now) seats
+    pub areas : All (λ s. IsArea before.desk before.stale s.serial s.area.now) seats

@@ -2,6 +2,7 @@
 use Rattle.std.specs.Prelude.{◌≡◌, ◌⊎◌, ℕ, ◌≤◌, Bool, true, false, ◌==◌, ◌&&◌, ◌||◌, not, List, [], ◌∷◌, length, map, None, Some, All, AllPairs, Contains, slice_get, ℤ, pos, int_le, int_lt}
 use Rattle.std.specs.Ordering.{int_eq}
 use Rattle.tb_geom.specs.declared.point.Point.{Point}
+use Rattle.tb_geom.specs.Points.{PixelSet}
 use Rattle.tb_geom.specs.Pixels.{Pixels, holds}
 use Rattle.tb_geom.specs.Rects.{in_plane, is_in_range, moved}
 use Rattle.def_iface.specs.declared.taken.Taken.{Taken}
@@ -14,7 +15,7 @@ use Rattle.def_iface.specs.Owner.Owner.{Frame, Content}
 use Rattle.desk_toolbox.specs.declared.toolbox.Toolbox.{Toolbox}
 use Rattle.desk_toolbox.specs.declared.vis_update.Area.{Area}
 use Rattle.desk_toolbox.specs.FullDesk.{WindowRecord, FullDesk, FullState, AreNumbered, plain_desk}
-use Rattle.desk_toolbox.specs.Records.{desk_of, state_of}
+use Rattle.desk_toolbox.specs.Records.{desk_of, state_of, stale_in}
 use Rattle.desk_toolbox.specs.Refused.{most_windows}
 
 -- the owner is a layer of this window's content
@@ -22,18 +23,19 @@ abbrev pub is_content_of : ℕ → Owner → Bool
 is_content_of s (Content t part) = t == s
 is_content_of s _ = false
 
--- the regions of a window: what of the screen its content owns, what of that is in its update set, and what its frame owns
-pub record IsArea (desk : Desk) (w : WindowRecord) (a : Area) : Type 0 where
-  pub visible : (p : Point) → holds a.visible p ≡ (on_screen desk p && is_content_of w.serial (owner desk p))
-  pub update : (p : Point) → holds a.update p ≡ true → holds a.visible p ≡ true
-  pub frame : (p : Point) → holds a.frame p ≡ (on_screen desk p && same_owner (owner desk p) (Frame w.serial))
+-- the regions of the window of this serial: what of the screen its content owns, what of that is stale, and what its
+-- frame owns
+pub record IsArea (desk : Desk) (stale : PixelSet) (serial : ℕ) (a : Area) : Type 0 where
+  pub visible : (p : Point) → holds a.visible p ≡ (on_screen desk p && is_content_of serial (owner desk p))
+  pub update : (p : Point) → holds a.update p ≡ (holds a.visible p && stale p)
+  pub frame : (p : Point) → holds a.frame p ≡ (on_screen desk p && same_owner (owner desk p) (Frame serial))
 
 -- each window has its area
-abbrev pub AreAreas : Desk → List WindowRecord → List Area → Type 0
-AreAreas desk [] [] = Unit {0}
-AreAreas desk (w ∷ ws) (a ∷ areas) = IsArea desk w a × AreAreas desk ws areas
-AreAreas desk [] (a ∷ areas) = ⊥
-AreAreas desk (w ∷ ws) [] = ⊥
+abbrev pub AreAreas : Desk → PixelSet → List WindowRecord → List Area → Type 0
+AreAreas desk stale [] [] = Unit {0}
+AreAreas desk stale (w ∷ ws) (a ∷ areas) = IsArea desk stale w.serial a × AreAreas desk stale ws areas
+AreAreas desk stale [] (a ∷ areas) = ⊥
+AreAreas desk stale (w ∷ ws) [] = ⊥
 
 -- the window's definition is live, and was told the window's size, which fits it; its place is a point, and its
 -- structure lies in the range of coordinates there
@@ -92,5 +94,5 @@ module _ {V : Type 0} {H : V → Type 0} (loan : Taken V H → Loan) where
   pub record IsWhole (t : Toolbox V H) (slots : List SlotView) : Type 0 where
     pub sound : IsSound (desk_of loan t slots)
     pub gray : IsGray (plain_desk (desk_of loan t slots)) t.gray
-    pub areas : AreAreas (plain_desk (desk_of loan t slots)) (desk_of loan t slots).windows t.areas.items
+    pub areas : AreAreas (plain_desk (desk_of loan t slots)) (stale_in t.areas.items) (desk_of loan t slots).windows t.areas.items
     pub plain : IsPlain (state_of loan t slots)

@@ -1,4 +1,5 @@
-use Rattle.std.proofs.Common.{◌<◌, ap, sym, ◌∙◌, ◌∷◌, Some, refl, rules, arith, length}
+use Rattle.std.proofs.Common.{◌≡◌, ◌<◌, ap, sym, ◌∙◌, ◌∷◌, Some, refl, rules, arith, length}
+use Rattle.std.specs.Prelude.{slice_get}
 use Rattle.std.proofs.lemmas.Option.{slice_get-get_or}
 use Rattle.desk_toolbox.specs.Step.{new_record}
 use Rattle.desk_toolbox.proofs.toolbox.Toolbox.add_window.Goals as goal
@@ -9,7 +10,7 @@ returns g c =
     let long = c.args.plan.areas.ok.0 in
     let some = c.requires.planned.some in
     let within : 0 < length c.args.plan.areas.items = omega arith in
-    let first = slice_get-get_or c.args.plan.areas.items 0 c.index.result.now within ∙ ap Some (sym (search rules)) in
+    let first : slice_get c.args.plan.areas.items 0 ≡ Some c.index.result.now = slice_get-get_or c.args.plan.areas.items 0 c.index.result.now within ∙ ap Some (sym (search rules)) in
     record {
       record_is = c.new-added.result;
       begun = begun;

@@ -1,0 +1,59 @@
+-- Definitions in the words of their subject.
+use Rattle.std.proofs.Common.{◌≡◌, Bool, true, false, if◌then◌else◌, List, [], ◌∷◌, Some, Result, Ok, Err, refl, subst}
+use Rattle.std.specs.List.{find}
+use Rattle.std.specs.Option.{option_map}
+use Rattle.tb_geom.specs.declared.point.Point.{Point}
+use Rattle.tb_geom.specs.declared.refusal.Refusal.{Refusal}
+use Rattle.def_iface.specs.Desk.{IsDesk}
+use Rattle.def_iface.specs.Owner.{owner, own_bit}
+use Rattle.def_iface.specs.Scratch.{scratch}
+use Rattle.def_iface.proofs.Painting.{scratch_is_owners}
+use Rattle.desk_toolbox.specs.declared.call.Call.{Call}
+use Rattle.desk_toolbox.specs.declared.call.Call.TheVariants.{Window}
+use Rattle.desk_toolbox.specs.declared.call.WindowCall.TheVariants.{New, Find, Front}
+use Rattle.desk_toolbox.specs.declared.call.Reply.{Reply}
+use Rattle.desk_toolbox.specs.declared.call.Reply.TheVariants as reply
+use Rattle.desk_toolbox.specs.FullDesk.{WindowRecord, FullDesk, FullState, plain_desk}
+use Rattle.desk_toolbox.specs.Finding.{front_of}
+use Rattle.desk_toolbox.specs.Refused.{first_refusal}
+use Rattle.desk_toolbox.specs.Step.{IsUnchanged}
+use Rattle.desk_toolbox.specs.Run.{IsRun, made, AreCounted}
+
+pub scratch_is_owners_on : (desk : FullDesk) (p : Point) → IsDesk (plain_desk desk) → scratch (plain_desk desk) p ≡ own_bit (plain_desk desk) (owner (plain_desk desk) p) p
+scratch_is_owners_on desk p distinct = scratch_is_owners (plain_desk desk) p distinct
+
+pub front_is_first : (windows : List WindowRecord) → front_of windows ≡ option_map (λ w. w.serial) (find (λ w. w.shown) windows)
+front_is_first [] = refl
+front_is_first (w ∷ ws) = by_shown w.shown (front_is_first ws)
+  where
+    by_shown : (b : Bool) → front_of ws ≡ option_map (λ w. w.serial) (find (λ w. w.shown) ws) → (if b then Some w.serial else front_of ws) ≡ option_map (λ w. w.serial) (if b then Some w else find (λ w. w.shown) ws)
+    by_shown true rest = refl
+    by_shown false rest = rest
+
+pub refusal_is_first : (refusals : List (Bool × Refusal)) → first_refusal refusals ≡ option_map (λ r. r.1) (find (λ r. r.0) refusals)
+refusal_is_first [] = refl
+refusal_is_first (r ∷ rs) = by_test r.0 (refusal_is_first rs)
+  where
+    by_test : (b : Bool) → first_refusal rs ≡ option_map (λ r. r.1) (find (λ r. r.0) rs) → (if b then Some r.1 else first_refusal rs) ≡ option_map (λ r. r.1) (if b then Some r else find (λ r. r.0) rs)
+    by_test true rest = refl
+    by_test false rest = rest
+
+-- a step that changes nothing leaves the next number
+counted_on : (before after : FullState) (answers : List (Result Reply Refusal)) → IsUnchanged before after → AreCounted after.desk.next (made answers) → AreCounted before.desk.next (made answers)
+counted_on before after answers same h = subst (λ (d : FullDesk). AreCounted d.next (made answers)) same.desk h
+
+pub made_are_counted : (first last : FullState) (calls : List Call) (answers : List (Result Reply Refusal)) → IsRun first calls answers last → AreCounted first.desk.next (made answers)
+made_are_counted first last [] [] run = tt
+made_are_counted first last [] (answer ∷ answers) run = absurd run
+made_are_counted first last (call ∷ calls) [] run = absurd run
+made_are_counted first last (Window (New w) ∷ calls) (Ok (reply.Window n) ∷ answers) run =
+    (run.1.1.numbered, subst (λ (d : FullDesk). AreCounted d.next (made answers)) run.1.1.desk (made_are_counted run.0 last calls answers run.2))
+made_are_counted first last (Window (Find p) ∷ calls) (Ok (reply.Found found) ∷ answers) run = counted_on first run.0 answers run.1.1.1 (made_are_counted run.0 last calls answers run.2)
+made_are_counted first last (Window Front ∷ calls) (Ok (reply.Front window) ∷ answers) run = counted_on first run.0 answers run.1.1.1 (made_are_counted run.0 last calls answers run.2)
+made_are_counted first last (Window (New w) ∷ calls) (Ok (reply.Found found) ∷ answers) run = absurd run.1.1
+made_are_counted first last (Window (New w) ∷ calls) (Ok (reply.Front window) ∷ answers) run = absurd run.1.1
+made_are_counted first last (Window (Find p) ∷ calls) (Ok (reply.Window n) ∷ answers) run = absurd run.1.1
+made_are_counted first last (Window (Find p) ∷ calls) (Ok (reply.Front window) ∷ answers) run = absurd run.1.1
+made_are_counted first last (Window Front ∷ calls) (Ok (reply.Window n) ∷ answers) run = absurd run.1.1
+made_are_counted first last (Window Front ∷ calls) (Ok (reply.Found found) ∷ answers) run = absurd run.1.1
+made_are_counted first last (call ∷ calls) (Err e ∷ answers) run = counted_on first run.0 answers run.1.1 (made_are_counted run.0 last calls answers run.2)
