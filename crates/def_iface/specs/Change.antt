@@ -22,9 +22,9 @@ pub record Change : Type 0 where
   pub taken : Owner → Point → Bool
   -- put into the update set
   pub added : Owner → Point → Bool
-  -- shown anew wherever it is in no update set
+  -- shown anew wherever it is in no update set, and left alone where it is in one
   pub redrawn : Owner → Bool
-  -- what is made of a value that stays
+  -- what is made of a value that stays, where the owner is not shown anew
   pub drawn : Owner → Point → Bool → Bool
 
 -- the change of a call that moves no pixel and draws on none
@@ -57,7 +57,7 @@ image_by c before after o p =
     if not (is_content o) then scratch after p
     else (if c.afresh o p then scratch after p
     else (if not (had c before.desk o p) then false
-    else (if c.redrawn o && not (stale_by c before o p) then scratch after p
+    else (if c.redrawn o then (if stale_by c before o p then before.image (c.source o p) else scratch after p)
     else c.drawn o p (before.image (c.source o p)))))
 
 -- the state after is the state before, changed
@@ -65,11 +65,13 @@ pub record IsChanged (c : Change) (before after : State) : Type 0 where
   pub stale : (p : Point) → on_screen after.desk p ≡ true → after.stale p ≡ stale_by c before (owner after.desk p) p
   pub image : (p : Point) → on_screen after.desk p ≡ true → after.image p ≡ image_by c before after.desk (owner after.desk p) p
 
--- the desks go with the change: what a layer keeps, it shows as drawn on, and what is taken out is right
+-- the desks go with the change: what a layer keeps, and the change neither draws afresh nor takes out or puts in, it
+-- shows as drawn on, and what is taken out is right
 pub record IsSound (c : Change) (before : State) (after : Desk) : Type 0 where
   pub desk : IsDesk after
   pub kept : (p : Point) → let o = owner after p in
-      on_screen after p ≡ true → is_content o ≡ true → c.added o p ≡ false → c.redrawn o ≡ false → had c before.desk o p ≡ true
+      on_screen after p ≡ true → is_content o ≡ true → c.afresh o p ≡ false → c.taken o p ≡ false → c.added o p ≡ false
+      → c.redrawn o ≡ false → had c before.desk o p ≡ true
       → c.drawn o p (own_bit before.desk o (c.source o p)) ≡ own_bit after o p
   pub right : (p : Point) → let o = owner after p in
       on_screen after p ≡ true → c.taken o p ≡ true

@@ -4,21 +4,23 @@
 //! "Defining Your Own Windows"): it answers which pixels belong to a window of some size, and it draws
 //! the window's frame. The program makes its definitions, and hands them in as boxes of the trait
 //! `WindowDef`. The Toolbox knows no more of a box than the value that the trait's contract gives it:
-//! its stage, the size that it was told, its regions and their box as functions of the size alone, and
-//! its picture. Points are local to the window, whose content begins at 0 0.
+//! its stage, the size that it was told, its regions and their box as functions of the size alone, its
+//! picture, and the part of the window that a point lies in. Points are local to the window, whose
+//! content begins at 0 0 and lies in its structure.
 //!
 //! A definition's life has three stages. It is Fresh when it is made. `begin` makes it Live, and from
 //! then on it can be told of changes and can draw. Each change is answered by a rectangle outside which
-//! the picture stayed as it was. `dispose` makes it Closed, and Closed it remains: no window is made
-//! with it again.
+//! the picture stayed as it was, within the range of coordinates. `dispose` makes it Closed, and Closed
+//! it remains: no window is made with it again.
 //!
 //! Definitions wait in a `Stock`: a list of slots, each for a kind that goes by its name, and several
 //! slots may be for one kind. `take` gives the first Fresh definition of a kind, in the order in which
 //! the slots were added, and leaves its slot empty. What it gives is a `Taken`, in which the box
-//! travels together with the number of its slot. So each slot has one definition for good, whether that
-//! is in it or out: the box goes back to the very place that it left, no other can come in between, and
-//! putting it back takes no memory and cannot fail. A Closed definition is put back too. Its slot is
-//! then still one of the kind, which is how a kind that is used up differs from one that never was.
+//! travels together with the number of its slot. So in a stock whose boxes come back to it each slot
+//! has one definition for good, whether that is in it or out: the box goes back to the very place that
+//! it left, and putting it back takes no memory and cannot fail. A Closed definition is put back too.
+//! Its slot is then still one of the kind, which is how a kind that is used up differs from one that
+//! never was.
 //!
 //! A `Canvas` is a bitmap, a rectangle and a `Cut` that bound what may change on it, and the place of
 //! the canvas's own 0 0 on the map. The rectangle and the cut are in the coordinates of the map, and

@@ -146,6 +146,8 @@ impl Stock {
     pub fn take(&mut self, kind: &[u8]) -> Result<Taken, Refusal>
         ensures taken { IfOk result (λ t. IsTaken kind.now (⟦<Taken as Defined>⟧.loan t)
             (⟦<Stock as Stocked>⟧.slots self.old) (⟦<Stock as Stocked>⟧.slots self.new)) }
+        ensures left { IfOk result (λ t. is_left (⟦<Taken as Defined>⟧.loan t).slot
+            (⟦<Stock as Stocked>⟧.slots self.new) ≡ true) }
         ensures refused { IfErr result (IsNotTaken kind.now (⟦<Stock as Stocked>⟧.slots self.old)) }
         ensures kept { OnErr result (⟦<Stock as Stocked>⟧.slots self.new ≡ ⟦<Stock as Stocked>⟧.slots self.old) }
     {

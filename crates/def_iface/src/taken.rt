@@ -33,11 +33,14 @@ impl Defined for Taken {
 }
 
 impl Taken {
-    /// The exact box of the structure of a window of this size, local to the window.
+    /// The exact box of the structure of a window of this size, local to the window. The content lies
+    /// in the structure.
     pub fn bounds(&self, size: Size) -> Rect
         requires { is_size size ≡ true }
         ensures value { result ≡ (⟦<Taken as Defined>⟧.loan self.now).definition.bounds size }
         ensures exact { IsBoxOf result ((⟦<Taken as Defined>⟧.loan self.now).definition.structure size) }
+        ensures content { IsWithin ((⟦<Taken as Defined>⟧.loan self.now).definition.content size)
+            ((⟦<Taken as Defined>⟧.loan self.now).definition.structure size) }
     {
         self.definition.bounds(size)
     }

@@ -86,7 +86,6 @@ fn refusal(answer: Result<Taken, Refusal>) -> Option<Refusal> {
 }
 
 #[test]
-#[tactic(auto, using(crate::proofs::StockLemmas::taken_is_left))]
 fn a_stock_gives_the_first_fresh_definition_of_a_kind(rt: HostRuntime) -> Result<(), Fail> {
     let alloc = rt.alloc();
     let mut stock = Stock::new(alloc);

@@ -77,7 +77,7 @@ pub trait WindowDef: Drop {
         ensures regions { SameRegions (meaning self.old) (meaning self.new) };
 
     /// Tells a Live definition of a change. The answer is the damage: outside it the pictures before
-    /// and after are equal.
+    /// and after are equal, within the range of coordinates.
     fn told(&mut self, change: WindowChange) -> Rect
         requires live { (meaning self.old).stage ≡ Stage.Live }
         requires fits { is_fitting (meaning self.old) (size_after change (meaning self.old).size) ≡ true }
@@ -97,11 +97,13 @@ pub trait WindowDef: Drop {
         ensures boxed { IfOk result (λ r. IsWithin (holds r.structure) (rect_holds ((meaning self.now).bounds size))) }
         ensures refused { IfErr result (λ e. e ≡ Refusal.NoMemory) };
 
-    /// The exact box of the structure of a window of this size. It takes no memory.
+    /// The exact box of the structure of a window of this size. It takes no memory. The content lies in
+    /// the structure, whether there is memory for the two as regions or not.
     fn bounds(&self, size: Size) -> Rect
         requires { is_size size ≡ true }
         ensures value { result ≡ (meaning self.now).bounds size }
-        ensures exact { IsBoxOf result ((meaning self.now).structure size) };
+        ensures exact { IsBoxOf result ((meaning self.now).structure size) }
+        ensures content { IsWithin ((meaning self.now).content size) ((meaning self.now).structure size) };
 
     /// The part of the window that the point lies in. It is asked of points of the structure.
     fn hit(&self, point: Point) -> Hit

@@ -78,7 +78,7 @@ not_the_bar s false o e = e
 new_is_sound : (before : plain.State) (w : layers.Window) → layers.IsDesk before.desk → layers.window_of w.serial before.desk.windows ≡ None → layers.AreParts w.layers → plain.IsSound plain.no_change before (record before.desk { windows = w ∷ before.desk.windows })
 new_is_sound before w desk free parts = record {
   desk = (free, (parts, desk));
-  kept = λ p on content put drawn there.
+  kept = λ p on content afresh taken put drawn there.
       let after = record before.desk { windows = w ∷ before.desk.windows } in
       let o = owner after p in
       let was : owner before.desk p ≡ o = same_owner-true (owner before.desk p) o (and_parts _ _ there).1 in

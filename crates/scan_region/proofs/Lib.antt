@@ -8,5 +8,6 @@ pub mod MovedRows
 pub mod RectRows
 pub mod SpanRuns
 pub mod OneList
+pub mod OneScan
 pub mod Shared
 pub mod Around

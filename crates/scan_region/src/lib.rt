@@ -16,7 +16,7 @@
 //! `equals`, `meets_rect` and `bbox` answer from the rows and take no memory: `meets_rect` looks at
 //! pixels, not at bounds, and `bbox` is the rectangle around them. A set of pixels is kept in one list
 //! of rows alone (`laws::one_list_of_rows`), so that `equals`, which compares the lists, compares the
-//! sets.
+//! sets. Its list of spans is one too, whatever form it is kept in (`laws::one_list_of_spans`).
 #![tactic(auto)]
 
 mod bounds;

@@ -1,5 +1,5 @@
 -- Finite sets of pixels, pixel by pixel.
-use Rattle.std.specs.Prelude.{◌≡◌, ℕ, zero, suc, ◌<◌, Bool, true, false, not, ◌&&◌, ◌||◌, nat_lt, ℤ, pos, negsuc, refl, int_le, int_lt}
+use Rattle.std.specs.Prelude.{◌≡◌, ℕ, zero, suc, Bool, true, false, ◌&&◌, ◌||◌, nat_lt, ℤ, pos, negsuc, refl}
 use Rattle.std.specs.declared.cmp.Ordering.{Ordering}
 use Rattle.std.specs.declared.cmp.Ordering.TheVariants.{Less, Equal, Greater}
 use Rattle.std.specs.Ordering.{int_eq, is_eq, ordering_then}
@@ -8,8 +8,9 @@ use Rattle.std.specs.Cmp.{IsTotalOrder}
 use Rattle.std.proofs.Common.{sym, ap, ◌∙◌, arith}
 use Rattle.std.proofs.lemmas.Cmp.{int_cmp_total, on_total, then_total}
 use Rattle.std.proofs.lemmas.Bool.Decides.{nat_tests}
-use Rattle.tb_geom.specs.Rects.{is_coordinate}
-use Rattle.tb_geom.specs.Pixels.{Pixels, pixel_cmp, has, with_line, square, pixels_where}
+use Rattle.tb_geom.specs.declared.point.Point.{Point}
+use Rattle.tb_geom.specs.Rects.{in_plane, is_coordinate}
+use Rattle.tb_geom.specs.Pixels.{Pixels, pixel_cmp, has, holds, with_line, square, pixels_where}
 
 -- ---- the order of pixels
 
@@ -38,6 +39,10 @@ is_eq-then Greater r = refl
 pub same_pixels : (s t : Pixels) → ((h v : ℤ) → has s h v ≡ has t h v) → s ≡ t
 unfolding has
 same_pixels s t each = set.same_set pixel_cmp_total pixel_cmp-antisymmetric s t (λ p. each p.0 p.1)
+
+-- the same, point by point
+pub same_holds : (s t : Pixels) → ((p : Point) → holds s p ≡ holds t p) → s ≡ t
+same_holds s t each = same_pixels s t (λ h v. each (record { h = h; v = v }))
 
 -- ---- what is put in
 
@@ -122,3 +127,12 @@ unfolding pixels_where
 has-pixels_where test h v =
     has-retain (square 16384 16384) test h v
     ∙ ap (λ b. b && test h v) (has-square 16384 16384 h v ∙ (λ i. near-is_coordinate v i && near-is_coordinate h i))
+
+and-turned : (a b : Bool) → (a && b) ≡ (b && a)
+and-turned true b = and-true b
+and-turned false true = refl
+and-turned false false = refl
+
+-- the same, at a point
+pub test_holds : (test : ℤ → ℤ → Bool) (p : Point) → holds (pixels_where test) p ≡ (in_plane p && test p.h p.v)
+test_holds test p = has-pixels_where test p.h p.v ∙ ap (λ b. b && test p.h p.v) (and-turned (is_coordinate p.v) (is_coordinate p.h))

@@ -1,5 +1,6 @@
 -- Rectangles, pixel by pixel.
 use Rattle.std.proofs.Common.{◌≡◌, ◌⊎◌, inl, inr, ◌↔◌, IsTrue, Bool, true, false, ◌&&◌, ◌||◌, ℤ, pos, ◌-ℤ◌, ◌+ℤ◌, ◌≤ℤ◌, ◌<ℤ◌, refl, sym, ap, ◌∙◌, arith}
+use Rattle.std.proofs.lemmas.Bool.{true≢false}
 use Rattle.std.specs.Prelude.{int_le, int_lt}
 use Rattle.std.specs.Int.{int_min, int_max}
 use Rattle.std.proofs.lemmas.Int.{ints, clamps}
@@ -148,3 +149,13 @@ or_second false b n e = e
 -- a rectangle is its sides
 pub same_rect : (a b : Rect) → a.left ≡ b.left → a.top ≡ b.top → a.right ≡ b.right → a.bottom ≡ b.bottom → a ≡ b
 same_rect a b l t r m = λ i. record { left = l i; top = t i; right = r i; bottom = m i }
+
+-- the rectangle around two that enclose something encloses something
+pub around-some : (a b : Rect) → is_empty_rect a ≡ false → is_empty_rect b ≡ false → is_empty_rect (rect_around a b) ≡ true → ⊥
+around-some a b some_a some_b e =
+    let s = sides_rise a some_a in
+    let first : Point = record { h = a.left; v = a.top } in
+    let across = s.across in
+    let down = s.down in
+    let here = holds-around a b first (or_left _ _ (holds_in a first (omega (arith, ints)) across (omega (arith, ints)) down)) in
+    true≢false (sym here ∙ holds_none (rect_around a b) e first)

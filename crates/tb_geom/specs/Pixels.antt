@@ -1,10 +1,9 @@
 -- Finite sets of pixels: what a region means.
-use Rattle.std.specs.Prelude.{Bool, ◌&&◌, ℕ, zero, suc, ℤ, pos, negsuc}
+use Rattle.std.specs.Prelude.{Bool, ℕ, zero, suc, ℤ, pos, negsuc}
 use Rattle.std.specs.Coded.{Coded, coded×, coded_ℤ}
 use Rattle.std.specs.declared.cmp.Ordering.{Ordering}
 use Rattle.std.specs.Ordering.{int_cmp, on, then_cmp}
 use Rattle.std.specs.FinSet as set
-use Rattle.tb_geom.specs.declared.point.Point.{Point}
 use Rattle.tb_geom.specs.Points.{PixelSet}
 
 -- the order of pixels, each a column and a row: by rows, and by columns in a row

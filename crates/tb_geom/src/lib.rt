@@ -3,10 +3,12 @@
 //! A point names the pixel below and to the right of it, by its column `h` and its row `v`. Columns
 //! grow to the right and rows downwards (*Inside Macintosh* I, "QuickDraw", "The Coordinate Plane").
 //! What a rectangle or a region means is the set of pixels that it encloses: every contract here and
-//! in the crates above says, for each point, whether it is in. The sides of what is kept lie in
+//! in the crates above says, for each point, whether it is in; two sets of the same pixels are equal
+//! (`laws`). The sides of what is kept lie in
 //! -16384..=16383; the numbers that calls take may be any.
 #![tactic(auto)]
 
+pub mod laws;
 mod point;
 mod rect;
 mod refusal;

@@ -82,8 +82,30 @@ impl Rect {
         ensures pixels { (p : Point) → rect_holds result p ≡ (rect_holds self p && rect_holds other p) }
         ensures none { is_empty_rect result ≡ true → result ≡ empty_rect }
     {
-        let shared = self.shared(other);
-        if shared.is_empty() {
+        self.shared(other).or_zero()
+    }
+
+    /// The smallest rectangle that holds both; the empty rectangle 0 0 0 0 where both are empty. An
+    /// empty one adds nothing.
+    pub fn union(self, other: Rect) -> Rect
+        ensures exact { IsBoxOf result (λ p. rect_holds self p || rect_holds other p) }
+        ensures none { is_empty_rect result ≡ true → result ≡ empty_rect }
+    {
+        if self.is_empty() {
+            other.or_zero()
+        } else if other.is_empty() {
+            self
+        } else {
+            self.around(other)
+        }
+    }
+
+    /// The rectangle, 0 0 0 0 where it is empty.
+    fn or_zero(self) -> Rect
+        ensures pixels { (p : Point) → rect_holds result p ≡ rect_holds self p }
+        ensures none { is_empty_rect result ≡ true → result ≡ empty_rect }
+    {
+        if self.is_empty() {
             Rect {
                 left: 0,
                 top: 0,
@@ -91,20 +113,7 @@ impl Rect {
                 bottom: 0,
             }
         } else {
-            shared
-        }
-    }
-
-    /// The smallest rectangle that holds both. An empty one adds nothing.
-    pub fn union(self, other: Rect) -> Rect
-        ensures { IsBoxOf result (λ p. rect_holds self p || rect_holds other p) }
-    {
-        if self.is_empty() {
-            other
-        } else if other.is_empty() {
             self
-        } else {
-            self.around(other)
         }
     }
 

@@ -32,7 +32,7 @@ pub enum Refusal {
     /// A number lies outside its range.
     #[error("8 OutOfRange")]
     OutOfRange = 8,
-    /// There are as many as there may be.
+    /// There are as many as there may be, or no number is left for one more.
     #[error("9 TooMany")]
     TooMany = 9,
     /// A text, a line or a list of bytes is longer than it may be.

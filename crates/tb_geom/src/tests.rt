@@ -32,6 +32,17 @@ fn shared_and_joined_pixels(rt: HostRuntime) {
 }
 
 #[test]
+fn empty_ones_joined_lie_at_zero(rt: HostRuntime) {
+    let flat = rect(4, 7, 4, 9);
+    let turned = rect(9, 9, 1, 1);
+    let none = rect(0, 0, 0, 0);
+    assert_eq!(rt; flat.union(turned), none, "two empty ones");
+    assert_eq!(rt; turned.union(flat), none, "two empty ones");
+    assert_eq!(rt; turned.union(turned), none, "an empty one twice");
+    assert_eq!(rt; flat.sect(turned), none, "the pixels of both");
+}
+
+#[test]
 fn encloses_its_first_sides_and_not_its_last(rt: HostRuntime) {
     let one = rect(-2, 5, 0, 6);
     for (h, v, inside) in [

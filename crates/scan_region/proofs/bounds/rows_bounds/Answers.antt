@@ -12,4 +12,4 @@ loop-row-preserved c =
     let row = c.row-item.result in
     let i = c.loop-row.row-index in
     let more = take_more rows i row c.loop-row-test.true ∙ ap (λ r. take i rows ++ r ∷ []) (sym c.row-item.is) in
-    subst (λ l. IsAround l c.union-bounds.result) (sym more) (IsAround-push (take i rows) row c.loop-row.bounds c.bounds.result c.union-bounds.result c.loop-row.invariant c.bounds.ensures c.union-bounds.ensures)
+    subst (λ l. IsAround l c.union-bounds.result) (sym more) (IsAround-push (take i rows) row c.loop-row.bounds c.bounds.result c.union-bounds.result c.loop-row.invariant c.bounds.ensures c.union-bounds.ensures.exact)

@@ -3,7 +3,7 @@ use Rattle.std.specs.Option.{option_map}
 use Rattle.std.proofs.lemmas.List.{map-set}
 use Rattle.def_iface.specs.Stocked.{SlotView, offers, holding}
 use Rattle.def_iface.specs.Slots.{slot_view}
-use Rattle.def_iface.proofs.StockLemmas.{offers-true, slice_get-read, same_slot, held_same}
+use Rattle.def_iface.proofs.StockLemmas.{offers-true, slice_get-read, same_slot, held_same, taken_is_left}
 use Rattle.def_iface.proofs.stock.Stock.take.Goals as goal
 
 pub returns-in-Some-clause-taken : goal.returns-in-Some-clause-taken
@@ -21,3 +21,6 @@ returns-in-Some-clause-taken g c =
       left = map-set view items c.in-Some.slot c.empty-definition.new.self
           ∙ ap (λ (s : SlotView). set (map view items) c.in-Some.slot s) (ap view c.empty-definition.ensures.left ∙ ap (λ (s : SlotView). holding None s) d.1);
     }
+
+pub returns-in-Some-clause-left : goal.returns-in-Some-clause-left
+returns-in-Some-clause-left g c = taken_is_left _ _ _ _ (returns-in-Some-clause-taken g c)

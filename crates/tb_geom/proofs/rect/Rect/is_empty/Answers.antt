@@ -1,5 +1,4 @@
-use Rattle.std.proofs.Common.{rules, SFits, w32}
-use Rattle.std.proofs.lemmas.Int.{to_z-of_z}
+use Rattle.std.proofs.Common.{rules}
 use Rattle.tb_geom.proofs.RectLemmas.{encloses_none}
 use Rattle.tb_geom.proofs.rect.Rect.is_empty.Goals as goal
 
