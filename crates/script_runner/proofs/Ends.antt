@@ -1,5 +1,5 @@
 -- A run, a byte after another.
-use Rattle.std.proofs.Common.{length, get_or, drop, ◌+◌, ◌<◌, ◌≡◌, ◌≢◌, ℕ, inl, inr, true, List, [], ◌∷◌, ◌++◌, Option, Some, None, Result, Ok, Err, refl, sym, ap, ◌∙◌, subst, append_assoc, append-nil, ◌⊎◌}
+use Rattle.std.proofs.Common.{length, get_or, drop, ◌+◌, ◌<◌, ◌≡◌, ◌≢◌, ℕ, inl, inr, true, false, List, [], ◌∷◌, ◌++◌, Option, Some, None, Result, Ok, Err, refl, sym, ap, ◌∙◌, subst, append_assoc, append-nil, ◌⊎◌}
 use Rattle.std.specs.Io.KnownBytes.{Consumes, IsAtEnd}
 use Rattle.std.specs.Option.{IfSome}
 use Rattle.std.proofs.KnownBytes.{Consumes-nil, Consumes-trans}
@@ -12,11 +12,12 @@ use Rattle.def_iface.specs.Stocked.{SlotView}
 use Rattle.script_runner.specs.declared.script_text.command.Command.{Command}
 use Rattle.script_runner.specs.Held.{said_held, said_last, held_of, pushed}
 use Rattle.script_runner.specs.Lines.{said, whole_lines, last_part, lines_of, if_any}
-use Rattle.script_runner.specs.Reads.{Input, Gave, most_reads}
+use Rattle.script_runner.specs.Reads.{Input, IsOpen, Gave, most_reads}
 use Rattle.script_runner.specs.Session.{SessionState, unmade, SaidAnswers, Written}
 use Rattle.script_runner.specs.Endings.{LineEnds}
-use Rattle.script_runner.specs.Runs.{Stops, RunEnds}
-use Rattle.script_runner.specs.Writes.{Output, Sent}
+use Rattle.script_runner.specs.Progress.{SoFar}
+use Rattle.script_runner.specs.Runs.{IsEntire, Stops, ScriptEnds}
+use Rattle.script_runner.specs.Writes.{Output}
 use Rattle.script_runner.proofs.Cuts.{whole_lines-newline, last_part-newline, whole_lines-other, last_part-other, pushed-held_of, said_held-held_of, said_last-held_of}
 use Rattle.script_runner.proofs.Written.{Sent-nil, Sent-trans, BrokeOff-after}
 
@@ -27,10 +28,6 @@ written-more old [] text middle line more new (none, same) answered =
     (new, more, [], subst (λ s. SaidAnswers s (said line) more new) same answered, (refl, refl), ap (λ l. l ++ more) none ∙ sym (append-nil more))
 written-more old (first ∷ lines) text middle line more new (s, front, others, one, rest, whole) answered =
     (s, front, others ++ more, one, written-more s lines others middle line more new rest answered, ap (λ l. l ++ more) whole ∙ append_assoc front others more)
-
--- all lines, where a newline ends the last
-lines_of-newline : (seen : List ℕ) → lines_of (seen ++ 10 ∷ []) ≡ whole_lines (seen ++ 10 ∷ [])
-lines_of-newline seen = ap (λ p. whole_lines (seen ++ 10 ∷ []) ++ if_any p) (last_part-newline seen) ∙ append-nil (whole_lines (seen ++ 10 ∷ []))
 
 held-newline : (seen : List ℕ) → Some [] ≡ held_of (last_part (seen ++ 10 ∷ []))
 unfolding held_of
@@ -47,25 +44,17 @@ whole-read (Some xs) (Some ys) script read end = read ∙ ap (λ l. script ++ l)
 
 -- `slots` are those of the stock at the start, `input` and `old` the reader and the writer
 module _ (slots : List SlotView) (input : Input) (old : Output) where
-  -- what was read, answered and written so far, where some bytes that were read are still ahead
-  pub record SoFar (rest : Input) (new : Output) (session : SessionState) (part : Option (List ℕ)) (ahead : List ℕ) : Type 0 where
-    pub seen : List ℕ
-    pub text : List ℕ
-    pub read : Consumes input.remaining rest.remaining (seen ++ ahead)
-    pub sent : Sent old new text
-    pub answered : Written (unmade slots) (whole_lines seen) text session
-    pub held : part ≡ held_of (last_part seen)
-
-  pub start : (session : SessionState) → session ≡ unmade slots → SoFar input old session (Some []) []
+  pub start : (session : SessionState) → session ≡ unmade slots → IsOpen input → SoFar slots input old input old session (Some []) []
   unfolding whole_lines last_part held_of
-  start session none = record { seen = []; text = []; read = Consumes-nil input.remaining; sent = Sent-nil old; answered = (refl, none); held = refl }
+  start session none going = record { seen = []; text = []; going = going; read = Consumes-nil input.remaining; sent = Sent-nil old; answered = (refl, none); held = refl }
 
   module _ (rest : Input) (new : Output) (session : SessionState) (part : Option (List ℕ)) where
     -- some bytes were read
-    pub read_more : (rest' : Input) (chunk : List ℕ) → SoFar rest new session part [] → Gave rest rest' chunk → SoFar rest' new session part chunk
-    read_more rest' chunk so_far gave = record {
+    pub read_more : (rest' : Input) (chunk : List ℕ) → SoFar slots input old rest new session part [] → Gave rest rest' chunk → 0 < length chunk → SoFar slots input old rest' new session part chunk
+    read_more rest' chunk so_far gave some = record {
       seen = so_far.seen;
       text = so_far.text;
+      going = record { unfailed = gave.quiet ∙ so_far.going.unfailed; unended = gave.some some ∙ so_far.going.unended };
       read = Consumes-trans input.remaining rest.remaining rest'.remaining so_far.seen chunk (subst (Consumes input.remaining rest.remaining) (append-nil so_far.seen) so_far.read) gave.consumed;
       sent = so_far.sent;
       answered = so_far.answered;
@@ -73,11 +62,11 @@ module _ (slots : List SlotView) (input : Input) (old : Output) where
     }
 
     -- the next byte of what was read
-    pub next : (chunk : List ℕ) (i : ℕ) → i < length chunk → SoFar rest new session part (drop i chunk) → SoFar rest new session part (get_or chunk i 0 ∷ drop (i + 1) chunk)
-    next chunk i within so_far = subst (SoFar rest new session part) (drop_more chunk i 0 within) so_far
+    pub next : (chunk : List ℕ) (i : ℕ) → i < length chunk → SoFar slots input old rest new session part (drop i chunk) → SoFar slots input old rest new session part (get_or chunk i 0 ∷ drop (i + 1) chunk)
+    next chunk i within so_far = subst (SoFar slots input old rest new session part) (drop_more chunk i 0 within) so_far
 
     -- the line that a newline ends here was answered
-    module _ (b : ℕ) (ahead : List ℕ) (so_far : SoFar rest new session part (b ∷ ahead)) (session' : SessionState) (new' : Output) where
+    module _ (b : ℕ) (ahead : List ℕ) (so_far : SoFar slots input old rest new session part (b ∷ ahead)) (session' : SessionState) (new' : Output) where
       ended : (ten : b ≡ 10) (more : List ℕ) → SaidAnswers session (said_held part) more session' → Written (unmade slots) (whole_lines (so_far.seen ++ b ∷ [])) (so_far.text ++ more) session'
       ended ten more answered =
           let line = strip_carriage_return (last_part so_far.seen) in
@@ -89,13 +78,14 @@ module _ (slots : List SlotView) (input : Input) (old : Output) where
       pub taken : {X : Type 0} (part' : Option (List ℕ)) (x : X)
           → (b ≡ 10 → LineEnds session (said_held part) session' new new' (Ok x)) → (b ≡ 10 → part' ≡ Some [])
           → (b ≢ 10 → (part' ≡ pushed part b) × (session' ≡ session) × (new' ≡ new))
-          → SoFar rest new' session' part' ahead
+          → SoFar slots input old rest new' session' part' ahead
       taken part' x newline cleared other =
           elim (cases_eq b 10) [
             | inl ten ↦ elim (newline ten) [
               | inl done ↦ record {
                 seen = so_far.seen ++ b ∷ [];
                 text = so_far.text ++ done.0;
+                going = so_far.going;
                 read = one_more _ _ so_far.seen b ahead so_far.read;
                 sent = Sent-trans old new new' so_far.text done.0 so_far.sent done.2;
                 answered = ended ten done.0 done.1;
@@ -108,6 +98,7 @@ module _ (slots : List SlotView) (input : Input) (old : Output) where
                 record {
                   seen = so_far.seen ++ b ∷ [];
                   text = so_far.text;
+                  going = so_far.going;
                   read = one_more _ _ so_far.seen b ahead so_far.read;
                   sent = rw kept so_far.sent;
                   answered = rw (whole_lines-other so_far.seen b ne, same) so_far.answered;
@@ -116,55 +107,70 @@ module _ (slots : List SlotView) (input : Input) (old : Output) where
           ]
 
       -- the byte is taken, and the run stops
-      pub taken_last : (X : Type 0) (e : Refusal) → (b ≡ 10 → LineEnds {X = X} session (said_held part) session' new new' (Err e)) → (b ≢ 10 → ⊥) → Stops slots input rest old new' e
+      pub taken_last : (X : Type 0) (e : Refusal) → (b ≡ 10 → LineEnds {X = X} session (said_held part) session' new new' (Err e)) → (b ≢ 10 → ⊥) → Stops slots input rest old new' session' e
       taken_last X e newline other =
           elim (cases_eq b 10) [
             | inl ten ↦ elim (newline ten) [
-              | inl done ↦ subst (Stops slots input rest old new') (sym done.2.0) (record {
+              | inl done ↦ subst (Stops slots input rest old new' session') (sym done.2.0) (record {
                 seen = so_far.seen ++ b ∷ [];
                 ahead = ahead;
+                lines = whole_lines (so_far.seen ++ b ∷ []);
                 text = so_far.text ++ done.0;
-                session = session';
                 read = one_more _ _ so_far.seen b ahead so_far.read;
-                answered = subst (λ ls. Written (unmade slots) ls (so_far.text ++ done.0) session') (rw ten (sym (lines_of-newline so_far.seen))) (ended ten done.0 done.1);
+                quiet = so_far.going.unfailed;
+                taken = inl refl;
+                answered = ended ten done.0 done.1;
                 broken = BrokeOff-after old new new' so_far.text done.0 so_far.sent done.2.1;
               })
-              | inr none ↦ subst (Stops slots input rest old new') (sym none.2.memory) (record {
+              | inr none ↦ subst (Stops slots input rest old new' session') (sym none.2.memory) (record {
                 seen = so_far.seen ++ b ∷ [];
                 ahead = ahead;
                 before = whole_lines so_far.seen;
                 line = strip_carriage_return (last_part so_far.seen);
                 command = none.0;
                 text = so_far.text;
-                session = session;
                 read = one_more _ _ so_far.seen b ahead so_far.read;
-                last = rw ten (lines_of-newline so_far.seen ∙ whole_lines-newline so_far.seen);
+                quiet = so_far.going.unfailed;
+                taken = inl (rw ten (sym (whole_lines-newline so_far.seen)));
                 says = sym (ap said_held so_far.held ∙ said_held-held_of (last_part so_far.seen)) ∙ none.1;
-                makes = none.2.makes;
-                answered = so_far.answered;
+                makes = rw none.2.same none.2.makes;
+                answered = rw none.2.same so_far.answered;
                 sent = rw none.2.silent so_far.sent;
               })
             ]
             | inr ne ↦ absurd (other ne)
           ]
 
+    -- nothing is ahead: all that was read was taken
+    all_taken : (rest' : Input) → Consumes rest.remaining rest'.remaining [] → (so_far : SoFar slots input old rest new session part []) → Consumes input.remaining rest'.remaining so_far.seen
+    all_taken rest' none so_far = subst (Consumes input.remaining rest'.remaining) (append-nil (so_far.seen ++ []) ∙ append-nil so_far.seen) (Consumes-trans input.remaining rest.remaining rest'.remaining (so_far.seen ++ []) [] so_far.read none)
+
     -- a read failed, or there were as many as there may be
-    pub stops_reading : (rest' : Input) (e : Refusal) → SoFar rest new session part [] → e ≡ ReadFault → Consumes rest.remaining rest'.remaining []
-        → (rest'.has_failed ≡ true) ⊎ (rest'.reads ≡ most_reads) → Stops slots input rest' old new e
-    stops_reading rest' e so_far fault none why = subst (Stops slots input rest' old new) (sym fault) (record {
+    pub stops_reading : (rest' : Input) (e : Refusal) → SoFar slots input old rest new session part [] → e ≡ ReadFault → Consumes rest.remaining rest'.remaining []
+        → (rest'.has_failed ≡ true) ⊎ ((rest'.reads ≡ most_reads) × (rest'.has_ended ≡ false)) → Stops slots input rest' old new session e
+    stops_reading rest' e so_far fault none why = subst (Stops slots input rest' old new session) (sym fault) (record {
       seen = so_far.seen;
       text = so_far.text;
-      session = session;
-      read = subst (Consumes input.remaining rest'.remaining) (append-nil (so_far.seen ++ []) ∙ append-nil so_far.seen) (Consumes-trans input.remaining rest.remaining rest'.remaining (so_far.seen ++ []) [] so_far.read none);
+      read = all_taken rest' none so_far;
       answered = so_far.answered;
       sent = so_far.sent;
       why = why;
     })
 
     -- the script came to its end, and what was left of it was answered
-    module _ (rest' : Input) (so_far : SoFar rest new session part []) (none : Consumes rest.remaining rest'.remaining []) (end : IsAtEnd rest'.remaining) (session' : SessionState) (new' : Output) where
-      all : Consumes input.remaining rest'.remaining so_far.seen
-      all = subst (Consumes input.remaining rest'.remaining) (append-nil (so_far.seen ++ []) ∙ append-nil so_far.seen) (Consumes-trans input.remaining rest.remaining rest'.remaining (so_far.seen ++ []) [] so_far.read none)
+    module _ (rest' : Input) (so_far : SoFar slots input old rest new session part []) (gave : Gave rest rest' []) (session' : SessionState) (new' : Output) where
+      -- all of the input
+      entire : IsEntire input rest' so_far.seen
+      entire =
+          let all : Consumes input.remaining rest'.remaining so_far.seen = all_taken rest' gave.consumed so_far in
+          record { read = all; whole = whole-read input.remaining rest'.remaining so_far.seen all (gave.none refl).0; ended = (gave.none refl).1 }
+
+      -- no byte is ahead of it
+      none_ahead : Consumes input.remaining rest'.remaining (so_far.seen ++ [])
+      none_ahead = subst (Consumes input.remaining rest'.remaining) (sym (append-nil so_far.seen)) entire.read
+
+      unfailed : rest'.has_failed ≡ false
+      unfailed = gave.quiet ∙ so_far.going.unfailed
 
       -- the last line, if there is one, was answered
       answered_last : (left : List ℕ) → (more : List ℕ) → SaidAnswers session (said_last (held_of left)) more session' → Written (unmade slots) (whole_lines so_far.seen ++ if_any left) (so_far.text ++ more) session'
@@ -184,15 +190,14 @@ module _ (slots : List SlotView) (input : Input) (old : Output) where
       last_command [] command says = absurd (cc)
       last_command (b ∷ bs) command says = (refl, sym (said_last-held_of b bs) ∙ says)
 
-      finished_with : {X : Type 0} (r : Result X Refusal) → LineEnds session (said_last part) session' new new' r → RunEnds slots input rest' old new' r
+      finished_with : {X : Type 0} (r : Result X Refusal) → LineEnds session (said_last part) session' new new' r → ScriptEnds slots input rest' old new' session' r
       finished_with (Ok x) ends =
           elim ends [
             | inl done ↦ record {
               script = so_far.seen;
               text = so_far.text ++ done.0;
-              session = session';
-              read = all;
-              whole = whole-read input.remaining rest'.remaining so_far.seen all end;
+              entire = entire;
+              quiet = unfailed;
               answered = at_last done.0 done.1;
               sent = Sent-trans old new new' so_far.text done.0 so_far.sent done.2;
             }
@@ -200,34 +205,36 @@ module _ (slots : List SlotView) (input : Input) (old : Output) where
           ]
       finished_with (Err e) ends =
           elim ends [
-            | inl done ↦ subst (Stops slots input rest' old new') (sym done.2.0) (record {
+            | inl done ↦ subst (Stops slots input rest' old new' session') (sym done.2.0) (record {
               seen = so_far.seen;
               ahead = [];
+              lines = lines_of so_far.seen;
               text = so_far.text ++ done.0;
-              session = session';
-              read = subst (Consumes input.remaining rest'.remaining) (sym (append-nil so_far.seen)) all;
+              read = none_ahead;
+              quiet = unfailed;
+              taken = inr (entire, refl, refl);
               answered = at_last done.0 done.1;
               broken = BrokeOff-after old new new' so_far.text done.0 so_far.sent done.2.1;
             })
             | inr none ↦
                 let left = last_part so_far.seen in
                 let last = last_command left none.0 (sym (ap said_last so_far.held) ∙ none.1) in
-                subst (Stops slots input rest' old new') (sym none.2.memory) (record {
+                subst (Stops slots input rest' old new' session') (sym none.2.memory) (record {
                   seen = so_far.seen;
                   ahead = [];
                   before = whole_lines so_far.seen;
                   line = left;
                   command = none.0;
                   text = so_far.text;
-                  session = session;
-                  read = subst (Consumes input.remaining rest'.remaining) (sym (append-nil so_far.seen)) all;
-                  last = last.0;
+                  read = none_ahead;
+                  quiet = unfailed;
+                  taken = inr (entire, refl, sym last.0);
                   says = last.1;
-                  makes = none.2.makes;
-                  answered = so_far.answered;
+                  makes = rw none.2.same none.2.makes;
+                  answered = rw none.2.same so_far.answered;
                   sent = rw none.2.silent so_far.sent;
                 })
           ]
 
-      pub finished : {X : Type 0} (r : Result X Refusal) (said : Option (Result Command Refusal)) → said ≡ said_last part → LineEnds session said session' new new' r → RunEnds slots input rest' old new' r
+      pub finished : {X : Type 0} (r : Result X Refusal) (said : Option (Result Command Refusal)) → said ≡ said_last part → LineEnds session said session' new new' r → ScriptEnds slots input rest' old new' session' r
       finished r said says ends = finished_with r (subst (λ s. LineEnds session s session' new new' r) says ends)

@@ -5,5 +5,6 @@ mod Ranges
 mod Rows
 mod Sessions
 mod Spelled
+mod StockKinds
 mod WordLemmas
 mod Written

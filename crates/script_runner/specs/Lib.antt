@@ -6,6 +6,7 @@ pub mod Held
 pub mod Lines
 pub mod Pbm
 pub mod PlainWindows
+pub mod Progress
 pub mod Reads
 pub mod Replies
 pub mod Runs

@@ -1,5 +1,5 @@
 -- What a read gives, and how many reads a run may make.
-use Rattle.std.specs.Prelude.{◌≡◌, ℕ, ◌+◌, Bool, true, List, length, take, Option, Result, Ok, Err}
+use Rattle.std.specs.Prelude.{◌≡◌, ℕ, ◌+◌, ◌<◌, Bool, true, false, List, length, take, Option, Result, Ok, Err}
 use Rattle.std.specs.Io.KnownBytes.{Consumes, IsAtEnd, Keeps}
 use Rattle.tb_geom.specs.declared.refusal.Refusal.{Refusal}
 use Rattle.tb_geom.specs.declared.refusal.Refusal.TheVariants.{ReadFault}
@@ -9,16 +9,23 @@ abbrev pub most_reads : ℕ
 most_reads = 1000000
 
 -- a reader's side of a run: the bytes that reads will give from here on, where they are known, whether one of its reads
--- failed, and how many there were
+-- failed, whether one came to the end of the input, and how many there were
 pub record Input : Type 0 where
   pub remaining : Option (List ℕ)
   pub has_failed : Bool
+  pub has_ended : Bool
   pub reads : ℕ
+
+-- no read failed yet, and none came to the end
+pub record IsOpen (input : Input) : Type 0 where
+  pub unfailed : input.has_failed ≡ false
+  pub unended : input.has_ended ≡ false
 
 -- a read gave these bytes, none at the end alone
 pub record Gave (old new : Input) (bytes : List ℕ) : Type 0 where
   pub consumed : Consumes old.remaining new.remaining bytes
-  pub none : length bytes ≡ 0 → IsAtEnd new.remaining
+  pub none : length bytes ≡ 0 → IsAtEnd new.remaining × (new.has_ended ≡ true)
+  pub some : 0 < length bytes → new.has_ended ≡ old.has_ended
   pub quiet : new.has_failed ≡ old.has_failed
   pub counted : new.reads ≡ old.reads + 1
 
@@ -26,6 +33,7 @@ pub record Gave (old new : Input) (bytes : List ℕ) : Type 0 where
 pub record Failed (old new : Input) : Type 0 where
   pub kept : Keeps old.remaining new.remaining
   pub failed : new.has_failed ≡ true
+  pub unended : new.has_ended ≡ old.has_ended
   pub counted : new.reads ≡ old.reads + 1
 
 -- a call that reads into a buffer with room: at Ok it gave as many bytes as it says, and Err, which is ReadFault, comes

@@ -9,6 +9,7 @@ use Rattle.desk_toolbox.specs.declared.call.WindowCall.TheVariants.{New, Find, F
 use Rattle.desk_toolbox.specs.declared.call.Reply.{Reply}
 use Rattle.desk_toolbox.specs.FullDesk.{FullState, IsRight}
 use Rattle.desk_toolbox.specs.Begin.{empty_desk}
+use Rattle.desk_toolbox.specs.Closing.{IsClosed}
 use Rattle.desk_toolbox.specs.Step.{IsStep}
 use Rattle.desk_toolbox.specs.Whole.{is_screen}
 use Rattle.script_runner.specs.declared.script_text.command.Command.{Command}
@@ -93,3 +94,9 @@ abbrev pub Written : SessionState → List (List ℕ) → List ℕ → SessionSt
 Written old [] text new = (text ≡ []) × (new ≡ old)
 Written old (line ∷ lines) text new = (middle : SessionState) × (first : List ℕ) × (others : List ℕ)
     × SaidAnswers old (said line) first middle × Written middle lines others new × (text ≡ first ++ others)
+
+-- what the end of the session leaves of the stock: the definitions of the desk's windows are closed and back in their
+-- slots, and every other slot is as it was
+abbrev pub LeavesStock : SessionState → List SlotView → Type 0
+LeavesStock (unmade slots) left = left ≡ slots
+LeavesStock (made s) left = IsClosed s.desk.windows s.desk.stock left

@@ -19,30 +19,38 @@ pub struct Choices<'a> {
     pub script: Option<&'a str>,
 }
 
-/// Why a command line is refused. Displayed, it is what to print on standard error.
+/// Why a command line is refused. Displayed, it is what to print on standard error, to the end of its
+/// last line.
 #[derive(Debug, Drop, Error)]
 pub enum OptionsError {
     /// Something is wrong with the words, or they ask for help.
     #[error("{0}")]
     Words(clap::Error),
     /// There was no memory to read them.
-    #[error("desk: no memory for the command line")]
+    #[error("desk: no memory for the command line\n")]
     Memory(AllocError),
 }
 
-/// A word that stands by itself.
-fn positional<'a>(alloc: Global, name: &'a str) -> Arg<'a>
+/// A word that stands by itself, and what help says of it.
+fn positional<'a>(alloc: Global, name: &'a str, help: &'a str) -> Arg<'a>
     ensures rule { rule_of result ≡ word_rule name.entry.now }
     ensures local { result.global ≡ false }
 {
-    Arg::new(alloc, name).action(ArgAction::Set)
+    Arg::new(alloc, name).action(ArgAction::Set).help(help)
 }
 
 /// What the program takes: one SCRIPT, or none.
 fn desk_command<'a>(alloc: Global) -> Result<Command<'a>, AllocError>
     ensures { IfOk result (λ c. app_of c ≡ desk_app) }
 {
-    let command = Command::new(alloc, "desk").arg(positional(alloc, "SCRIPT"))?;
+    let script = positional(
+        alloc,
+        "SCRIPT",
+        "The script's file; standard input where none is named",
+    );
+    let command = Command::new(alloc, "desk")
+        .about("Runs a script of Toolbox calls, and writes what each of its lines answers")
+        .arg(script)?;
     Ok(command)
 }
 

@@ -8,7 +8,7 @@
 //! says of them.
 //!
 //! What a script answers is stated apart from all this code, in `specs/`: `Lines` cuts the script,
-//! `Commands` says what a line asks for, `Session` what may be answered to it and what that leaves of
+//! `Spelling` says which line says which command, `Session` what may be answered to it and what that leaves of
 //! the desk, over the Toolbox's own steps, and `Runs` how a run ends. The contract of `runner::run`
 //! is that and nothing else: the bytes that went out are the answers to the lines that came in.
 //!
@@ -28,12 +28,13 @@ mod source;
 ghost use Rattle.std.specs.Prelude.{All};
 ghost use Rattle.def_iface.specs.Stocked.{IsFull};
 
-use command_line::options;
+use command_line::{OptionsError, options};
 use def_iface::{Stock, Stocked, WindowDef};
 use plain_window::PlainWindow;
 use runner::run;
 use sink::WatchedWriter;
 use source::WatchedReader;
+use std::alloc::AllocError;
 use std::process::ExitCode;
 use std::rt::Files;
 use std::{env, fs, io};
@@ -41,6 +42,10 @@ use tb_geom::Refusal;
 
 /// How many definitions of a kind of window the stock begins with.
 const DEFINITIONS: u8 = 16;
+
+/// What is said where the words of the command line cannot be had as text.
+const UNREADABLE: &str =
+    "desk: the command line cannot be read: write its words in UTF-8, or give the script on standard input";
 
 /// How the program ends: a run that was stopped is named on standard error.
 fn ended(rt: &impl Eprint, outcome: Result<(), Refusal>) -> ExitCode {
@@ -53,9 +58,9 @@ fn ended(rt: &impl Eprint, outcome: Result<(), Refusal>) -> ExitCode {
     }
 }
 
-/// How the program ends where it cannot take the words of its command line.
-fn refused_words(rt: &impl Eprint, why: &str) -> ExitCode {
-    let _ = eprintln!(rt; "desk: {why}");
+/// How the program ends where it does not take the words of its command line.
+fn refused_words(rt: &impl Eprint, why: OptionsError) -> ExitCode {
+    let _ = rt.eprint(why);
     ExitCode::from(2)
 }
 
@@ -86,18 +91,16 @@ fn run_script(
 fn main(rt: HostRuntime) -> ExitCode {
     let alloc = rt.alloc();
     let Ok(words) = env::args(&rt) else {
-        return refused_words(&rt, "the command line cannot be read");
+        let _ = rt.eprintln(UNREADABLE);
+        return ExitCode::from(2);
     };
     let words: Vec<String> = match words.collect(alloc) {
         Ok(words) => words,
-        Err(_) => return refused_words(&rt, "no memory for the command line"),
+        Err(_) => return refused_words(&rt, OptionsError::Memory(AllocError)),
     };
     let chosen = match options(alloc, words.as_slice()) {
         Ok(chosen) => chosen,
-        Err(error) => {
-            let _ = rt.eprintln(error);
-            return ExitCode::from(2);
-        }
+        Err(error) => return refused_words(&rt, error),
     };
     let mut stock = Stock::new(alloc);
     for _ in 0..DEFINITIONS {

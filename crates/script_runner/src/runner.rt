@@ -1,11 +1,14 @@
 //! A run: the lines of a script, from a reader, and what each answers, to a writer.
-ghost use Rattle.std.specs.Prelude.{◌≡◌, ◌≢◌, Some, IsOk, OnOk, All, []};
-ghost use Rattle.def_iface.specs.Stocked.{IsFull};
+ghost use Rattle.std.specs.Prelude.{◌≡◌, ◌≢◌, Option, Some, IsOk, OnOk, All, List, [], map, false};
+ghost use Rattle.def_iface.specs.Stocked.{SlotView, IsFull};
 ghost use Rattle.script_runner.specs.Held.{pushed, said_held};
 ghost use Rattle.script_runner.specs.SessionViews.{session_of, IsReady};
 ghost use Rattle.script_runner.specs.Session.{unmade};
 ghost use Rattle.script_runner.specs.Endings.{LineEnds};
-ghost use Rattle.script_runner.specs.Runs.{RunEnds};
+ghost use Rattle.script_runner.specs.Progress.{SoFar, GoesOn};
+ghost use Rattle.script_runner.specs.Reads.{Input, IsOpen};
+ghost use Rattle.script_runner.specs.Runs.{RunEnds, ScriptEnds};
+ghost use Rattle.script_runner.specs.Writes.{Output};
 
 use crate::script_text::LineBuffer;
 use crate::session::Session;
@@ -22,7 +25,7 @@ const MOST_READS: u32 = 1_000_000;
 /// else. What a line answers is written before the next read. ReadFault where a read failed or
 /// 1,000,000 came without the end of the input, WriteFault where a write failed, and NoMemory where
 /// there was none for the desk, which the first command makes. However the run ends, each definition
-/// of the stock is back in its slot.
+/// of the stock is back in its slot: that of a window Closed, and every other as it was.
 pub fn run<R: Source, W: Sink>(
     alloc: Global,
     source: &mut R,
@@ -31,9 +34,13 @@ pub fn run<R: Source, W: Sink>(
 ) -> Result<(), Refusal>
     requires full { All IsFull (⟦<Stock as Stocked>⟧.slots stock.old) }
     requires unread { (R.input source.old).reads ≡ 0 }
+    requires going { IsOpen (R.input source.old) }
+    requires unfailed { (W.output sink.old).has_failed ≡ false }
     ensures full { All IsFull (⟦<Stock as Stocked>⟧.slots stock.new) }
-    ensures ends { RunEnds (⟦<Stock as Stocked>⟧.slots stock.old) (R.input source.old) (R.input source.new)
-        (W.output sink.old) (W.output sink.new) result }
+    ensures kinds { map (λ s. s.kind) (⟦<Stock as Stocked>⟧.slots stock.new)
+        ≡ map (λ s. s.kind) (⟦<Stock as Stocked>⟧.slots stock.old) }
+    ensures ends { RunEnds (⟦<Stock as Stocked>⟧.slots stock.old) (⟦<Stock as Stocked>⟧.slots stock.new)
+        (R.input source.old) (R.input source.new) (W.output sink.old) (W.output sink.new) result }
 {
     let mut session = Session::new(alloc);
     let outcome = answer_all(&mut session, source, sink, stock);
@@ -52,23 +59,43 @@ fn answer_all<R: Source, W: Sink>(
     requires unmade { session_of ⟦<Taken as Defined>⟧.loan session.old (⟦<Stock as Stocked>⟧.slots stock.old)
         ≡ unmade (⟦<Stock as Stocked>⟧.slots stock.old) }
     requires unread { (R.input source.old).reads ≡ 0 }
+    requires going { IsOpen (R.input source.old) }
     ensures ready { IsReady ⟦<Taken as Defined>⟧.loan session.new (⟦<Stock as Stocked>⟧.slots stock.new) }
-    ensures ends { RunEnds (⟦<Stock as Stocked>⟧.slots stock.old) (R.input source.old) (R.input source.new)
-        (W.output sink.old) (W.output sink.new) result }
+    ensures ends { ScriptEnds (⟦<Stock as Stocked>⟧.slots stock.old) (R.input source.old) (R.input source.new)
+        (W.output sink.old) (W.output sink.new)
+        (session_of ⟦<Taken as Defined>⟧.loan session.new (⟦<Stock as Stocked>⟧.slots stock.new)) result }
 {
     let mut line = LineBuffer::new();
     let mut buffer = [0u8; 4096];
     for read in 0..MOST_READS {
         let count = source.read_some(&mut buffer)?;
         if count == 0 {
-            return session.answer(line.read_last(), stock, sink);
+            return session.answer(line.said_last(), stock, sink);
         }
-        let chunk = &buffer[..count];
-        for byte in chunk {
-            take(session, &mut line, *byte, stock, sink)?;
-        }
+        take_all(session, &mut line, &buffer[..count], stock, sink)?;
     }
     Err(Refusal::ReadFault)
+}
+
+/// Takes the next bytes of the script, whatever was read, answered and written before.
+fn take_all<W: Sink>(
+    session: &mut Session,
+    line: &mut LineBuffer,
+    bytes: &[u8],
+    stock: &mut Stock,
+    sink: &mut W,
+) -> Result<(), Refusal>
+    requires { IsReady ⟦<Taken as Defined>⟧.loan session.old (⟦<Stock as Stocked>⟧.slots stock.old) }
+    ensures ready { IsReady ⟦<Taken as Defined>⟧.loan session.new (⟦<Stock as Stocked>⟧.slots stock.new) }
+    ensures goes_on { (slots : List SlotView) (input rest : Input) (old : Output) → SoFar slots input old rest (W.output sink.old)
+        (session_of ⟦<Taken as Defined>⟧.loan session.old (⟦<Stock as Stocked>⟧.slots stock.old)) line.old bytes.now
+        → GoesOn slots input old rest (W.output sink.new)
+        (session_of ⟦<Taken as Defined>⟧.loan session.new (⟦<Stock as Stocked>⟧.slots stock.new)) line.new result }
+{
+    for byte in bytes {
+        take(session, line, *byte, stock, sink)?;
+    }
+    Ok(())
 }
 
 /// Takes the next byte of the script.
@@ -95,7 +122,7 @@ fn take<W: Sink>(
         line.push(byte);
         return Ok(());
     }
-    session.answer(line.read(), stock, sink)?;
+    session.answer(line.said(), stock, sink)?;
     line.clear();
     Ok(())
 }

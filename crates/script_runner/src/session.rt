@@ -4,7 +4,7 @@ ghost use Rattle.def_iface.specs.Stocked.{IsFull};
 ghost use Rattle.desk_toolbox.specs.declared.call.Call.TheVariants as asks;
 ghost use Rattle.desk_toolbox.specs.Records.{state_of};
 ghost use Rattle.desk_toolbox.specs.Whole.{IsWhole};
-ghost use Rattle.script_runner.specs.Session.{first_size, is_known};
+ghost use Rattle.script_runner.specs.Session.{LeavesStock, first_size, is_known};
 ghost use Rattle.script_runner.specs.SessionViews.{session_of, IsReady};
 ghost use Rattle.script_runner.specs.Endings.{IsAnswered, IsFirstAnswered, CommandEnds, LineEnds};
 
@@ -111,10 +111,14 @@ impl Session {
         }
     }
 
-    /// Ends the session: every window's definition is disposed of, and put back Closed into its slot.
+    /// Ends the session: every window's definition is disposed of, and put back Closed into its slot,
+    /// while every other slot stays as it was.
     pub fn close(self, stock: &mut Stock)
         requires { IsReady ⟦<Taken as Defined>⟧.loan self (⟦<Stock as Stocked>⟧.slots stock.old) }
-        ensures { All IsFull (⟦<Stock as Stocked>⟧.slots stock.new) }
+        ensures full { All IsFull (⟦<Stock as Stocked>⟧.slots stock.new) }
+        ensures left { LeavesStock
+            (session_of ⟦<Taken as Defined>⟧.loan self (⟦<Stock as Stocked>⟧.slots stock.old))
+            (⟦<Stock as Stocked>⟧.slots stock.new) }
     {
         let Session { desk, .. } = self;
         if let Some(desk) = desk {

@@ -37,7 +37,7 @@ impl<W: Write> WatchedWriter<W> {
     /// A writer of which no write has failed yet.
     pub fn new(writer: W) -> WatchedWriter<W>
         ensures writer { result.writer ≡ writer }
-        ensures fresh { result.has_failed ≡ false }
+        ensures unfailed { result.has_failed ≡ false }
     {
         WatchedWriter {
             writer,

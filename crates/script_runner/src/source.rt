@@ -6,10 +6,11 @@ ghost use Rattle.script_runner.specs.Reads.{Input, Reads, most_reads};
 use std::io::Read;
 use tb_geom::Refusal;
 
-/// A reader that tells whether one of its reads failed, and how many there were.
+/// A reader that tells whether one of its reads failed, whether one came to the end of the input, and
+/// how many there were.
 pub trait Source {
-    // The bytes that reads will give, where they are known, whether a read failed, and how many
-    // there were.
+    // The bytes that reads will give, where they are known, whether a read failed, whether one came
+    // to the end, and how many there were.
     ghost input: { Self → Input };
 
     /// Reads some bytes into the front of the buffer, and gives their count: 0 at the end of the
@@ -21,11 +22,12 @@ pub trait Source {
         ensures bytes { Reads (input self.old) (input self.new) result buffer.new };
 }
 
-/// A reader, whether one of its reads failed, and how many there were.
+/// A reader, whether one of its reads failed, whether one came to the end, and how many there were.
 #[derive(Drop)]
 pub struct WatchedReader<R> {
     reader: R,
     has_failed: bool,
+    has_ended: bool,
     reads: u32,
 }
 
@@ -33,24 +35,36 @@ impl<R: Read> WatchedReader<R> {
     /// A reader of which nothing was read yet.
     pub fn new(reader: R) -> WatchedReader<R>
         ensures reader { result.reader ≡ reader }
-        ensures fresh { result.has_failed ≡ false }
+        ensures unfailed { result.has_failed ≡ false }
+        ensures unended { result.has_ended ≡ false }
         ensures unread { result.reads ≡ 0 }
     {
         WatchedReader {
             reader,
             has_failed: false,
+            has_ended: false,
             reads: 0,
         }
     }
 }
 
 impl<R: Read> Source for WatchedReader<R> {
-    ghost input = { λ s. record { remaining = R.remaining s.reader; has_failed = s.has_failed; reads = s.reads } };
+    ghost input = { λ s. record {
+      remaining = R.remaining s.reader;
+      has_failed = s.has_failed;
+      has_ended = s.has_ended;
+      reads = s.reads;
+    } };
 
     fn read_some(&mut self, buffer: &mut [u8]) -> Result<usize, Refusal> {
         self.reads += 1;
         match self.reader.read(buffer) {
-            Ok(count) => Ok(count),
+            Ok(count) => {
+                if count == 0 {
+                    self.has_ended = true;
+                }
+                Ok(count)
+            }
             Err(_) => {
                 self.has_failed = true;
                 Err(Refusal::ReadFault)

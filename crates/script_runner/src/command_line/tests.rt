@@ -73,6 +73,6 @@ fn a_refusal_says_what_is_wrong(rt: HostRuntime) -> Result<(), Fail> {
         "error: unexpected argument 'b' found\n\nUsage: desk [SCRIPT]\n\nFor more information, try '--help'.\n"
     );
     let text = format!(in alloc; "{}", OptionsError::Memory(AllocError))?;
-    assert_eq!(rt; text.as_str(), "desk: no memory for the command line");
+    assert_eq!(rt; text.as_str(), "desk: no memory for the command line\n");
     Ok(())
 }

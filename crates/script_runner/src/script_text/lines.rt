@@ -1,12 +1,11 @@
 //! The lines of a script: bytes are held until a newline ends them, and then say a command, a refusal
 //! or nothing.
 ghost use Rattle.std.specs.Prelude.{◌≡◌, Some, [], option_map};
-ghost use Rattle.std.specs.List.{list_all};
 ghost use Rattle.std.specs.Str.Lines.{strip_carriage_return};
 ghost use Rattle.script_runner.specs.Held.{pushed, said_held, said_last};
 ghost use Rattle.script_runner.specs.Lines.{is_skipped, said};
-ghost use Rattle.script_runner.specs.Words.{is_plain};
 
+use super::words::is_plain;
 use super::{Command, parse};
 use arrayvec::ArrayVec;
 use std::marker::Model;
@@ -74,23 +73,23 @@ impl LineBuffer {
 
     /// What the line says that a newline ends here; None where it is skipped. A return before the
     /// newline belongs to the ending.
-    pub fn read(&self) -> Option<Result<Command<'_>, Refusal>>
+    pub fn said(&self) -> Option<Result<Command<'_>, Refusal>>
         ensures { result ≡ said_held self.now }
     {
         match self.bytes() {
-            Some(bytes) => read_line(without_return(bytes)),
+            Some(bytes) => line_says(without_return(bytes)),
             None => Some(Err(Refusal::TooLong)),
         }
     }
 
     /// What the last line says, which the input's end ends; None where it is skipped, or there is
     /// none. A return is one of its bytes.
-    pub fn read_last(&self) -> Option<Result<Command<'_>, Refusal>>
+    pub fn said_last(&self) -> Option<Result<Command<'_>, Refusal>>
         ensures { result ≡ said_last self.now }
     {
         match self.bytes() {
             Some([]) => None,
-            Some(bytes) => read_line(bytes),
+            Some(bytes) => line_says(bytes),
             None => Some(Err(Refusal::TooLong)),
         }
     }
@@ -114,14 +113,14 @@ fn without_return(line: &[u8]) -> &[u8]
 
 /// What a line says; None where it is skipped.
 #[tactic(auto, unfolding(crate::specs::Lines::said))]
-fn read_line(line: &[u8]) -> Option<Result<Command<'_>, Refusal>>
+fn line_says(line: &[u8]) -> Option<Result<Command<'_>, Refusal>>
     ensures { result ≡ said line.now }
 {
     if line.len() > LONGEST_LINE {
         Some(Err(Refusal::TooLong))
     } else if is_skipped(line) {
         None
-    } else if is_plain_line(line) {
+    } else if is_plain(line) {
         Some(parse(line))
     } else {
         Some(Err(Refusal::BadSyntax))
@@ -136,11 +135,4 @@ fn is_skipped(line: &[u8]) -> bool
         None => true,
         Some(byte) => *byte == b'#',
     }
-}
-
-/// Whether each byte lies in 0x20..=0x7E.
-fn is_plain_line(line: &[u8]) -> bool
-    ensures { result ≡ list_all is_plain line.now }
-{
-    line.iter().all(|byte| 0x20 <= *byte && *byte <= 0x7E)
 }

@@ -1,7 +1,7 @@
 //! Lines as commands.
 //!
-//! A line is a verb and the words that its shape asks for (`specs/Commands.antt`). So a command takes one line
-//! among the shapes, one in the table of verbs, one arm in `command`, and a function here that reads its words.
+//! A line is a verb and the words that follow it: `specs/Spelling.antt` says which line says which command, and
+//! `specs/Commands.antt` how it is read. Each command has a function here that reads its words.
 //! The form of a whole line is judged here, and nothing else: no range of a number, and no name.
 ghost use Rattle.std.specs.Prelude.{◌≡◌, ◌⊎◌, Result, Err};
 ghost use Rattle.tb_geom.specs.declared.refusal.Refusal.{Refusal};

@@ -189,11 +189,11 @@ fn is_name(text: &Text<'_>) -> bool
     }
 }
 
-/// Whether all bytes are such as a text may have: 0x20..=0x7E.
-fn is_plain(text: &Text<'_>) -> bool
-    ensures { result ≡ list_all is_plain text.now }
+/// Whether all bytes are such as a line of words may have: 0x20..=0x7E.
+pub fn is_plain(bytes: &[u8]) -> bool
+    ensures { result ≡ list_all is_plain bytes.now }
 {
-    text.bytes().iter().all(|b| b' ' <= *b && *b <= b'~')
+    bytes.iter().all(|b| b' ' <= *b && *b <= b'~')
 }
 
 /// The text up to the next quote, and what is left of the line after it: a space has to follow, or the line ends.
@@ -204,7 +204,7 @@ fn quoted<'a>(text: &Text<'a>) -> Result<(Text<'a>, Words<'a>), Refusal>
     match split_at(text, b'"') {
         None => Err(Refusal::BadSyntax),
         Some((text, after)) => {
-            if is_plain(&text) {
+            if is_plain(text.bytes()) {
                 after_quote(text, &after)
             } else {
                 Err(Refusal::BadSyntax)

@@ -1,8 +1,8 @@
-use Rattle.std.proofs.Common.{◌≡◌, ◌+◌, [], drop}
+use Rattle.std.proofs.Common.{◌≡◌, []}
 use Rattle.def_iface.specs.contracts.taken.TakenDefined.TheImpl as taken
 use Rattle.def_iface.specs.contracts.stock.StockStocked.TheImpl as stock
 use Rattle.script_runner.specs.SessionViews.{session_of, IsReady}
-use Rattle.script_runner.proofs.Ends.{SoFar}
+use Rattle.script_runner.specs.Progress.{SoFar}
 use Rattle.script_runner.proofs.runner.answer_all.Given as goal
 
 abbrev pub invariant-loop-read : goal.invariant-loop-read
@@ -13,14 +13,4 @@ invariant-loop-read g l =
       ready : IsReady loan l.session (slots l.stock);
       so_far : SoFar (slots l.fn.stock) (g.R.Source.input l.fn.source) (g.W.Sink.output l.fn.sink) (g.R.Source.input l.source) (g.W.Sink.output l.sink) (session_of loan l.session (slots l.stock)) l.line [];
       counted : (g.R.Source.input l.source).reads ≡ l.read;
-    }
-
-abbrev pub invariant-loop-byte : goal.invariant-loop-byte
-invariant-loop-byte g l =
-    let loan = (taken.loan-value g.dyn-1).it in
-    let slots = (stock.slots-value g.dyn-1).it in
-    record {
-      ready : IsReady loan l.session (slots l.stock);
-      so_far : SoFar (slots l.fn.stock) (g.R.Source.input l.fn.source) (g.W.Sink.output l.fn.sink) (g.R.Source.input l.source) (g.W.Sink.output l.sink) (session_of loan l.session (slots l.stock)) l.line (drop l.byte-index l.chunk);
-      counted : (g.R.Source.input l.source).reads ≡ l.read + 1;
     }

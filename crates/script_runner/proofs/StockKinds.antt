@@ -1,0 +1,102 @@
+-- The stock of a script has the same slots, for the same kinds, whatever its lines do.
+use Rattle.std.proofs.Common.{◌≡◌, ℕ, zero, suc, List, [], ◌∷◌, map, Option, None, Some, Result, Ok, Err, refl, sym, ap, ◌∙◌}
+use Rattle.std.specs.Prelude.{slice_get, slice_set}
+use Rattle.tb_geom.specs.declared.refusal.Refusal.{Refusal}
+use Rattle.tb_geom.specs.declared.refusal.Refusal.TheVariants.{NoMemory, ReadFault, WriteFault}
+use Rattle.def_iface.specs.Meaning.{Loan}
+use Rattle.def_iface.specs.Stocked.{SlotView, IsTaken}
+use Rattle.desk_toolbox.specs.declared.call.Call as calls
+use Rattle.desk_toolbox.specs.declared.call.Call.TheVariants as asks
+use Rattle.desk_toolbox.specs.declared.call.WindowCall.TheVariants.{New, Find, Front}
+use Rattle.desk_toolbox.specs.declared.call.Reply.{Reply}
+use Rattle.desk_toolbox.specs.declared.call.Reply.TheVariants as reply
+use Rattle.desk_toolbox.specs.FullDesk.{FullState}
+use Rattle.desk_toolbox.specs.Step.{IsStep, IsDone}
+use Rattle.script_runner.specs.declared.script_text.command.Command.{Command}
+use Rattle.script_runner.specs.declared.script_text.command.Command.TheVariants.{Desk, Image, Call}
+use Rattle.script_runner.specs.Lines.{said}
+use Rattle.script_runner.specs.Reads.{Input}
+use Rattle.script_runner.specs.Runs.{ScriptEnds}
+use Rattle.script_runner.specs.Session.{SessionState, unmade, made, LeavesStock, Answers, FirstAnswers, Opens, Obeys, SaidAnswers, Written, why_unmade}
+use Rattle.script_runner.specs.Writes.{Output}
+
+-- the kinds of the slots
+abbrev kinds_in : List SlotView → List (List ℕ)
+kinds_in slots = map (λ s. s.kind) slots
+
+-- the slots while the session goes on
+abbrev slots_of : SessionState → List SlotView
+slots_of (unmade slots) = slots
+slots_of (made s) = s.desk.stock
+
+set_kind : (slots : List SlotView) (i : ℕ) (old new : SlotView) → slice_get slots i ≡ Some old → new.kind ≡ old.kind → kinds_in (slice_set slots i new) ≡ kinds_in slots
+set_kind [] i old new there same = refl
+set_kind (s ∷ slots) zero old new there same = let here : s ≡ old = cc in ap (λ k. k ∷ kinds_in slots) (same ∙ ap (λ x. x.kind) (sym here))
+set_kind (s ∷ slots) (suc i) old new there same = ap (λ ks. s.kind ∷ ks) (set_kind slots i old new there same)
+
+taken_kinds : (kind : List ℕ) (loan : Loan) (old new : List SlotView) → IsTaken kind loan old new → kinds_in new ≡ kinds_in old
+taken_kinds kind loan old new took = ap kinds_in took.left ∙ set_kind old loan.slot _ _ took.held refl
+
+-- what a call leaves of the stock
+done_kinds : (asked : calls.Call) (answer : Reply) (before after : FullState) → IsDone asked answer before after → kinds_in after.desk.stock ≡ kinds_in before.desk.stock
+done_kinds (asks.Window (New w)) (reply.Window n) before after done = taken_kinds _ _ _ _ done.taken
+done_kinds (asks.Window (New w)) (reply.Found f) before after done = absurd done
+done_kinds (asks.Window (New w)) (reply.Front f) before after done = absurd done
+done_kinds (asks.Window (Find p)) (reply.Window n) before after done = absurd done
+done_kinds (asks.Window (Find p)) (reply.Found f) before after done = ap (λ d. kinds_in d.stock) done.1.desk
+done_kinds (asks.Window (Find p)) (reply.Front f) before after done = absurd done
+done_kinds (asks.Window Front) (reply.Window n) before after done = absurd done
+done_kinds (asks.Window Front) (reply.Found f) before after done = absurd done
+done_kinds (asks.Window Front) (reply.Front f) before after done = ap (λ d. kinds_in d.stock) done.1.desk
+
+step_kinds : (asked : calls.Call) (answer : Result Reply Refusal) (before after : FullState) → IsStep asked answer before after → kinds_in after.desk.stock ≡ kinds_in before.desk.stock
+step_kinds asked (Ok answer) before after step = done_kinds asked answer before after step.1
+step_kinds asked (Err e) before after step = ap (λ d. kinds_in d.stock) step.1.desk
+
+-- what a command leaves of it
+answers_kinds : (s : FullState) (command : Command) (text : List ℕ) (after : FullState) → Answers s command text after → kinds_in after.desk.stock ≡ kinds_in s.desk.stock
+answers_kinds s (Desk size) text after answered = ap (λ t. kinds_in t.desk.stock) answered.1
+answers_kinds s Image text after answered = ap (λ t. kinds_in t.desk.stock) answered.1
+answers_kinds s (Call asked) text after answered = step_kinds asked answered.0 s after answered.1
+
+first_kinds : (s : FullState) (command : Command) (text : List ℕ) (after : FullState) → FirstAnswers s command text after → kinds_in after.desk.stock ≡ kinds_in s.desk.stock
+first_kinds s (Desk size) text after answered = ap (λ t. kinds_in t.desk.stock) answered.1
+first_kinds s Image text after answered = answers_kinds s Image text after answered
+first_kinds s (Call asked) text after answered = answers_kinds s (Call asked) text after answered
+
+opens_kinds : (why : Option Refusal) (slots : List SlotView) (command : Command) (text : List ℕ) (new : SessionState) → Opens why slots command text new → kinds_in (slots_of new) ≡ kinds_in slots
+opens_kinds (Some e) slots command text new opened = ap (λ s. kinds_in (slots_of s)) opened.1
+opens_kinds None slots command text new (first, after, fresh, answered, is) =
+    ap (λ s. kinds_in (slots_of s)) is ∙ first_kinds first command text after answered ∙ ap (λ d. kinds_in d.stock) fresh.desk
+
+obeys_kinds : (old : SessionState) (command : Command) (text : List ℕ) (new : SessionState) → Obeys old command text new → kinds_in (slots_of new) ≡ kinds_in (slots_of old)
+obeys_kinds (unmade slots) command text new obeyed = opens_kinds (why_unmade command slots) slots command text new obeyed
+obeys_kinds (made s) command text new (after, answered, is) = ap (λ t. kinds_in (slots_of t)) is ∙ answers_kinds s command text after answered
+
+said_kinds : (old : SessionState) (line : Option (Result Command Refusal)) (text : List ℕ) (new : SessionState) → SaidAnswers old line text new → kinds_in (slots_of new) ≡ kinds_in (slots_of old)
+said_kinds old None text new answered = ap (λ s. kinds_in (slots_of s)) answered.1
+said_kinds old (Some (Err e)) text new answered = ap (λ s. kinds_in (slots_of s)) answered.1
+said_kinds old (Some (Ok command)) text new answered = obeys_kinds old command text new answered
+
+written_kinds : (old : SessionState) (lines : List (List ℕ)) (text : List ℕ) (new : SessionState) → Written old lines text new → kinds_in (slots_of new) ≡ kinds_in (slots_of old)
+written_kinds old [] text new written = ap (λ s. kinds_in (slots_of s)) written.1
+written_kinds old (line ∷ lines) text new (middle, first, others, one, rest, whole) =
+    written_kinds middle lines others new rest ∙ said_kinds old (said line) first middle one
+
+-- the stock at the end
+left_kinds : (s : SessionState) (left : List SlotView) → LeavesStock s left → kinds_in left ≡ kinds_in (slots_of s)
+left_kinds (unmade slots) left same = ap kinds_in same
+left_kinds (made s) left closed = closed.kinds
+
+-- a script's session, however it ended, and what is left of its stock
+module _ {X : Type 0} (slots left : List SlotView) (input rest : Input) (old new : Output) (session : SessionState) where
+  ends_kinds : (r : Result X Refusal) → ScriptEnds slots input rest old new session r → kinds_in (slots_of session) ≡ kinds_in slots
+  ends_kinds (Ok x) done = written_kinds (unmade slots) _ _ session done.answered
+  ends_kinds (Err ReadFault) stopped = written_kinds (unmade slots) _ _ session stopped.answered
+  ends_kinds (Err WriteFault) stopped = written_kinds (unmade slots) _ _ session stopped.answered
+  ends_kinds (Err NoMemory) stopped = written_kinds (unmade slots) _ _ session stopped.answered
+  ends_kinds (Err _) stopped = absurd stopped
+
+  pub kinds_stay : (r : Result X Refusal) → ScriptEnds slots input rest old new session r → LeavesStock session left
+      → map (λ s. s.kind) left ≡ map (λ s. s.kind) slots
+  kinds_stay r ends closed = left_kinds session left closed ∙ ends_kinds r ends

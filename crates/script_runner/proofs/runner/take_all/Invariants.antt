@@ -1,0 +1,20 @@
+use Rattle.std.proofs.Common.{List, drop}
+use Rattle.def_iface.specs.Stocked.{SlotView}
+use Rattle.def_iface.specs.contracts.taken.TakenDefined.TheImpl as taken
+use Rattle.def_iface.specs.contracts.stock.StockStocked.TheImpl as stock
+use Rattle.script_runner.specs.SessionViews.{session_of, IsReady}
+use Rattle.script_runner.specs.Progress.{SoFar}
+use Rattle.script_runner.specs.Reads.{Input}
+use Rattle.script_runner.specs.Writes.{Output}
+use Rattle.script_runner.proofs.runner.take_all.Given as goal
+
+abbrev pub invariant-loop-byte : goal.invariant-loop-byte
+invariant-loop-byte g l =
+    let loan = (taken.loan-value g.dyn-1).it in
+    let slots = (stock.slots-value g.dyn-1).it in
+    record {
+      ready : IsReady loan l.session (slots l.stock);
+      so_far : (first : List SlotView) (input rest : Input) (old : Output)
+          → SoFar first input old rest (g.W.Sink.output l.initial.sink) (session_of loan l.initial.session (slots l.initial.stock)) l.initial.line l.bytes
+          → SoFar first input old rest (g.W.Sink.output l.sink) (session_of loan l.session (slots l.stock)) l.line (drop l.byte-index l.bytes);
+    }
