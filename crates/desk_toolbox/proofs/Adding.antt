@@ -17,7 +17,7 @@ use Rattle.def_iface.proofs.Owning.{same_number, same_owner-self, is_other, owne
 use Rattle.def_iface.proofs.Painting.{scratch_is_owners}
 use Rattle.desk_toolbox.specs.declared.call.NewWindow.{NewWindow}
 use Rattle.desk_toolbox.specs.declared.vis_update.Area.{Area}
-use Rattle.desk_toolbox.specs.FullDesk.{FullDesk, AreBelow, plain_window, plain_desk}
+use Rattle.desk_toolbox.specs.FullDesk.{FullDesk, AreBelow, layered_window, layered_desk}
 use Rattle.desk_toolbox.specs.Step.{new_record}
 use Rattle.desk_toolbox.specs.Planned.{IsPainted}
 use Rattle.desk_toolbox.specs.Whole.{IsArea, is_content_of}
@@ -30,12 +30,12 @@ with_front desk w = record desk { windows = w ∷ desk.windows }
 
 -- what is known where a window of number n is added to a desk: front is its area, and redrawn what is stale then
 pub record Added (w : NewWindow) (n slot : ℕ) (begun : Definition) (desk : FullDesk) (redrawn : PixelSet) (front : Area) (old new : Bits) : Type 0 where
-  pub distinct : layers.IsDesk (plain_desk desk)
+  pub distinct : layers.IsDesk (layered_desk desk)
   pub below : AreBelow n desk.windows
-  pub area : IsArea (with_front (plain_desk desk) (plain_window (new_record w n slot begun))) redrawn n front
+  pub area : IsArea (with_front (layered_desk desk) (layered_window (new_record w n slot begun))) redrawn n front
   pub painted : IsPainted front w.place begun old new
-  pub on : (p : Point) → layers.on_screen (plain_desk desk) p ≡ on_map old p
-  pub plain : (p : Point) → layers.on_screen (plain_desk desk) p ≡ true → is_content (owner (plain_desk desk) p) ≡ false → bit old p ≡ own_bit (plain_desk desk) (owner (plain_desk desk) p) p
+  pub on : (p : Point) → layers.on_screen (layered_desk desk) p ≡ on_map old p
+  pub plain : (p : Point) → layers.on_screen (layered_desk desk) p ≡ true → is_content (owner (layered_desk desk) p) ≡ false → bit old p ≡ own_bit (layered_desk desk) (owner (layered_desk desk) p) p
 
 -- a pixel is the new window's content or frame, or stays its owner's: o is the owner before, and q after
 data Whose (n : ℕ) (o q : Owner) : Type 0 where
@@ -52,10 +52,10 @@ whose_is n false false c u = same refl
 
 module _ (w : NewWindow) (n slot : ℕ) (begun : Definition) (desk : FullDesk) (redrawn : PixelSet) (front : Area) (old new : Bits) (A : Added w n slot begun desk redrawn front old new) where
   abbrev before : Desk
-  before = plain_desk desk
+  before = layered_desk desk
 
   abbrev after : Desk
-  after = with_front (plain_desk desk) (plain_window (new_record w n slot begun))
+  after = with_front (layered_desk desk) (layered_window (new_record w n slot begun))
 
   free : layers.window_of n before.windows ≡ None
   free = next_is_free n desk.windows A.below
@@ -64,7 +64,7 @@ module _ (w : NewWindow) (n slot : ℕ) (begun : Definition) (desk : FullDesk) (
   after_is_desk = (free, ((refl, tt), A.distinct))
 
   whose : (p : Point) → Whose n (owner before p) (owner after p)
-  whose p = whose_is n (layers.in_bar before p) (layers.in_structure (plain_window (new_record w n slot begun)) p) (begun.content w.size (minus p w.place)) (owner_among before.windows p)
+  whose p = whose_is n (layers.in_bar before p) (layers.in_structure (layered_window (new_record w n slot begun)) p) (begun.content w.size (minus p w.place)) (owner_among before.windows p)
 
   -- no pixel was the new window's
   other : (p : Point) → is_other n (owner before p) ≡ true
@@ -76,7 +76,7 @@ module _ (w : NewWindow) (n slot : ℕ) (begun : Definition) (desk : FullDesk) (
 
   -- a value that is not the new window's
   stays : (o : Owner) (p : Point) → is_other n o ≡ true → own_bit before o p ≡ own_bit after o p
-  stays o p e = sym (own_bit-behind before (plain_window (new_record w n slot begun)) before.windows p o e)
+  stays o p e = sym (own_bit-behind before (layered_window (new_record w n slot begun)) before.windows p o e)
 
   -- ---- the new bit
 

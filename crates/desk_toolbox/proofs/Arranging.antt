@@ -17,7 +17,7 @@ use Rattle.desk_toolbox.specs.declared.toolbox.Toolbox.{Toolbox}
 use Rattle.desk_toolbox.specs.declared.vis_update.Area.{Area}
 use Rattle.desk_toolbox.specs.declared.vis_update.Seat.{Seat}
 use Rattle.desk_toolbox.specs.declared.window_list.Window.{Window}
-use Rattle.desk_toolbox.specs.FullDesk.{WindowRecord, FullDesk, AreNumbered, plain_desk, plain_state}
+use Rattle.desk_toolbox.specs.FullDesk.{WindowRecord, FullDesk, AreNumbered, layered_desk, layered_state}
 use Rattle.desk_toolbox.specs.Kept.{IsKept}
 use Rattle.desk_toolbox.specs.Records.{record_of, desk_of, state_of, stale_in}
 use Rattle.desk_toolbox.specs.Refused.{is_placed}
@@ -26,7 +26,7 @@ use Rattle.desk_toolbox.specs.Step.{new_record, desk_with, unhighlighted}
 use Rattle.desk_toolbox.specs.Whole.{IsArea, AreAreas, IsSettled, is_content_of}
 use Rattle.desk_toolbox.proofs.Others.{not_content, not_same_frame}
 use Rattle.desk_toolbox.proofs.PlaceLemmas.{placed_from}
-use Rattle.desk_toolbox.proofs.Running.{plain_desk-with, next_is_free}
+use Rattle.desk_toolbox.proofs.Running.{layered_desk-with, next_is_free}
 
 -- a window that loses its highlighting stands where it stood
 stand-unhighlighted : (active : Option ℕ) (w : WindowRecord) → stand_of (unhighlighted active w) ≡ stand_of w
@@ -82,7 +82,7 @@ module _ {V : Type 0} {H : V → Type 0} where
 pub as_many : {V : Type 0} {H : V → Type 0} (loan : Taken V H → Loan) (t : Toolbox V H) → IsKept loan t → length t.areas.items ≡ length t.windows.items
 as_many loan t kept = by_lists (desk_of loan t []).windows t.areas.items kept.areas ∙ length-map t.windows.items (record_of loan)
   where
-    by_lists : (ws : List WindowRecord) (areas : List Area) → AreAreas (plain_desk (desk_of loan t [])) (stale_in t.areas.items) ws areas → length areas ≡ length ws
+    by_lists : (ws : List WindowRecord) (areas : List Area) → AreAreas (layered_desk (desk_of loan t [])) (stale_in t.areas.items) ws areas → length areas ≡ length ws
     by_lists [] [] its = refl
     by_lists (w ∷ ws) (a ∷ areas) its = ap suc (by_lists ws areas its.1)
     by_lists [] (a ∷ areas) its = absurd its
@@ -151,7 +151,7 @@ module _ {V : Type 0} {H : V → Type 0} (loan : Taken V H → Loan) where
 
   module _ (w : NewWindow) (n slot : ℕ) (d begun : Definition) (t : Toolbox V H) (kept : IsKept loan t) (next : t.next ≡ Some n) (regions : SameRegions d begun) (front : Seat V H) (new : IsNewSeat w n d front) where
     abbrev before : State
-    before = plain_state (state_of loan t [])
+    before = layered_state (state_of loan t [])
 
     abbrev after : FullDesk
     after = desk_with w n slot begun (desk_of loan t [])
@@ -159,8 +159,8 @@ module _ {V : Type 0} {H : V → Type 0} (loan : Taken V H → Loan) where
     free : layers.window_of n before.desk.windows ≡ None
     free = next_is_free n (desk_of loan t []).windows (subst (λ (k : Option ℕ). AreNumbered k (desk_of loan t []).windows) next kept.numbered)
 
-    distinct : layers.IsDesk (plain_desk after)
-    distinct = subst layers.IsDesk (sym (plain_desk-with w n slot begun (desk_of loan t []) [])) (free, ((refl, tt), kept.distinct))
+    distinct : layers.IsDesk (layered_desk after)
+    distinct = subst layers.IsDesk (sym (layered_desk-with w n slot begun (desk_of loan t []) [])) (free, ((refl, tt), kept.distinct))
 
     front_stand : seat_stand loan front ≡ stand_of (new_record w n slot begun)
     front_stand =
@@ -192,7 +192,7 @@ module _ {V : Type 0} {H : V → Type 0} (loan : Taken V H → Loan) where
         other : (p : Point) → is_other n (owner before.desk p) ≡ true
         other p = in_bar (layers.in_bar before.desk p) (owner_among before.desk.windows p) (owner_is_other before.desk.windows p n free)
 
-    pub arranged : (seats : List (Seat V H)) → AreSeatsBehind front t.windows.items t.areas.items seats → IsArranged loan before (plain_desk after) after.windows t.gray seats
+    pub arranged : (seats : List (Seat V H)) → AreSeatsBehind front t.windows.items t.areas.items seats → IsArranged loan before (layered_desk after) after.windows t.gray seats
     arranged (s ∷ seats) its = record {
       desk = refl;
       distinct = distinct;

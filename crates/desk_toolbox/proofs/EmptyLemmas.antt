@@ -21,7 +21,7 @@ use Rattle.def_iface.specs.Scratch.{scratch}
 use Rattle.def_iface.proofs.Painting.{scratch_is_owners}
 use Rattle.desk_toolbox.specs.declared.toolbox.Toolbox.{Toolbox}
 use Rattle.desk_toolbox.specs.declared.vis_update.Area.{Area}
-use Rattle.desk_toolbox.specs.FullDesk.{FullDesk, gray, plain_desk}
+use Rattle.desk_toolbox.specs.FullDesk.{FullDesk, gray, layered_desk}
 use Rattle.desk_toolbox.specs.Records.{record_of, desk_of, stale_in}
 use Rattle.desk_toolbox.specs.Begin.{IsEmptyPainted, IsEmptyDesk, empty_desk}
 use Rattle.desk_toolbox.specs.Whole.{IsWhole, IsSound, IsGray, AreAreas, is_bar, is_screen, is_screen_side}
@@ -79,25 +79,25 @@ module _ {V : Type 0} {H : V → Type 0} (loan : Taken V H → Loan) (width heig
   bar_is : is_bar bar ≡ true
   bar_is = (and_parts (is_bar bar) _ (and_parts (is_screen_side height) _ (and_parts (is_screen_side width) _ B.screen).1).1).0
 
-  gray_is : IsGray (plain_desk empty) t.gray
+  gray_is : IsGray (layered_desk empty) t.gray
   gray_is p =
       B.gray p
       ∙ ap (λ b. between (pos 0) p.h width && b) (below_rows bar p.v height bar_is)
       ∙ and-assoc (between (pos 0) p.h width) (between (pos 0) p.v height) (not (int_lt p.v bar))
 
-  on_blank : (p : Point) → layers.on_screen (plain_desk empty) p ≡ on_map blank p
+  on_blank : (p : Point) → layers.on_screen (layered_desk empty) p ≡ on_map blank p
   unfolding on_map
   on_blank p =
       (λ i. between (pos 0) p.h (sym B.wide i) && between (pos 0) p.v (sym B.high i))
       ∙ (λ i. between-is_below blank.width p.h i && between-is_below blank.height p.v i)
 
-  plain_is : (p : Point) → layers.on_screen (plain_desk empty) p ≡ true → bit t.screen p ≡ own_bit (plain_desk empty) (owner (plain_desk empty) p) p
+  plain_is : (p : Point) → layers.on_screen (layered_desk empty) p ≡ true → bit t.screen p ≡ own_bit (layered_desk empty) (owner (layered_desk empty) p) p
   plain_is p on = B.painted.pixels p (sym (on_blank p) ∙ on) ∙ by_bar (int_lt p.v bar) refl
     where
       low : int_le (pos 0) p.v ≡ true
       low = (and_parts (int_le (pos 0) p.v) _ (and_parts (between (pos 0) p.h width) _ on).1).0
 
-      by_bar : (b : Bool) → int_lt p.v bar ≡ b → (if int_eq p.v (bar -ℤ pos 1) then true else (if holds t.gray p then pattern_bit gray p else bit blank p)) ≡ own_bit (plain_desk empty) (owner (plain_desk empty) p) p
+      by_bar : (b : Bool) → int_lt p.v bar ≡ b → (if int_eq p.v (bar -ℤ pos 1) then true else (if holds t.gray p then pattern_bit gray p else bit blank p)) ≡ own_bit (layered_desk empty) (owner (layered_desk empty) p) p
       by_bar true e =
           let g : holds t.gray p ≡ false = gray_is p ∙ (λ i. on i && not (e i)) in
           rw (row_of_bar bar p.v bar_is low e, g, B.white p, e) (by_row (int_eq p.v (pos 19)))
@@ -129,9 +129,9 @@ module _ {V : Type 0} {H : V → Type 0} (loan : Taken V H → Loan) (width heig
   pub empty_is_whole : IsWhole loan t slots
   empty_is_whole = record {
     sound = subst IsSound (sym desk_is) sound;
-    gray = subst (λ (d : FullDesk). IsGray (plain_desk d) t.gray) (sym desk_is) gray_is;
-    areas = subst (λ (x : FullDesk × List Area). AreAreas (plain_desk x.0) (stale_in x.1) x.0.windows x.1) (λ i. (sym desk_is i, sym B.areas i)) tt;
-    plain = subst (λ (d : FullDesk). (p : Point) → layers.on_screen (plain_desk d) p ≡ true → is_content (owner (plain_desk d) p) ≡ false → bit t.screen p ≡ own_bit (plain_desk d) (owner (plain_desk d) p) p) (sym desk_is)
+    gray = subst (λ (d : FullDesk). IsGray (layered_desk d) t.gray) (sym desk_is) gray_is;
+    areas = subst (λ (x : FullDesk × List Area). AreAreas (layered_desk x.0) (stale_in x.1) x.0.windows x.1) (λ i. (sym desk_is i, sym B.areas i)) tt;
+    frames = subst (λ (d : FullDesk). (p : Point) → layers.on_screen (layered_desk d) p ≡ true → is_content (owner (layered_desk d) p) ≡ false → bit t.screen p ≡ own_bit (layered_desk d) (owner (layered_desk d) p) p) (sym desk_is)
         (λ p on content. plain_is p on);
   }
 
@@ -143,8 +143,8 @@ module _ {V : Type 0} {H : V → Type 0} (loan : Taken V H → Loan) (width heig
     right = record {
       plain = record {
         desk = empty_is_whole.sound.distinct;
-        right = subst (λ (d : FullDesk). (p : Point) → layers.on_screen (plain_desk d) p ≡ true → stale_in t.areas.items p ≡ false → bit t.screen p ≡ scratch (plain_desk d) p) (sym desk_is)
-            (λ p on stale. plain_is p on ∙ sym (scratch_is_owners (plain_desk empty) p tt));
+        right = subst (λ (d : FullDesk). (p : Point) → layers.on_screen (layered_desk d) p ≡ true → stale_in t.areas.items p ≡ false → bit t.screen p ≡ scratch (layered_desk d) p) (sym desk_is)
+            (λ p on stale. plain_is p on ∙ sym (scratch_is_owners (layered_desk empty) p tt));
         content = λ p on stale. absurd (false≢true (sym (none_stale p) ∙ stale));
       };
       numbered = empty_is_whole.sound.numbered;

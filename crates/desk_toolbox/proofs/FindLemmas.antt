@@ -26,7 +26,7 @@ use Rattle.def_iface.proofs.Owning.{same_number, same_owner-true, not_first}
 use Rattle.desk_toolbox.specs.declared.vis_update.Area.{Area}
 use Rattle.desk_toolbox.specs.declared.toolbox.Toolbox.{Toolbox}
 use Rattle.desk_toolbox.specs.declared.window_list.Window.{Window}
-use Rattle.desk_toolbox.specs.FullDesk.{WindowRecord, plain_window, plain_desk}
+use Rattle.desk_toolbox.specs.FullDesk.{WindowRecord, layered_window, layered_desk}
 use Rattle.desk_toolbox.specs.Records.{record_of, desk_of, stale_in}
 use Rattle.desk_toolbox.specs.Kept.{IsKept, area_has}
 use Rattle.desk_toolbox.specs.declared.call.WindowPart.TheVariants as part
@@ -54,7 +54,7 @@ area_at desk stale [] (a ∷ areas) i d h within = absurd h
 area_at desk stale (w ∷ ws) [] i d h within = absurd h
 
 -- a number that no window has is not this window's
-not_among : (s : ℕ) (ws : List WindowRecord) (i : ℕ) (v : WindowRecord) → layers.window_of s (map plain_window ws) ≡ None → slice_get ws i ≡ Some v → (s == v.serial) ≡ false
+not_among : (s : ℕ) (ws : List WindowRecord) (i : ℕ) (v : WindowRecord) → layers.window_of s (map layered_window ws) ≡ None → slice_get ws i ≡ Some v → (s == v.serial) ≡ false
 not_among s [] i v none e = absurd (cc)
 not_among s (w ∷ ws) zero v none e =
     let same : w ≡ v = cc in
@@ -64,7 +64,7 @@ not_among s (w ∷ ws) zero v none e =
 not_among s (w ∷ ws) (suc i) v none e = not_among s ws i v (not_first (w.serial == s) _ _ none).1 e
 
 -- the window at a place is the one of its number
-pub record_at : (ws : List WindowRecord) (i : ℕ) (v : WindowRecord) → layers.AreWindows (map plain_window ws) → slice_get ws i ≡ Some v → record_with v.serial ws ≡ Some v
+pub record_at : (ws : List WindowRecord) (i : ℕ) (v : WindowRecord) → layers.AreWindows (map layered_window ws) → slice_get ws i ≡ Some v → record_with v.serial ws ≡ Some v
 record_at [] i v distinct e = absurd (cc)
 record_at (w ∷ ws) zero v distinct e =
     let same : w ≡ v = cc in
@@ -94,20 +94,20 @@ abbrev NoneHas : List WindowRecord → Owner → Type 0
 NoneHas [] o = Unit {0}
 NoneHas (w ∷ ws) o = ((is_content_of w.serial o ≡ false) × (same_owner o (Frame w.serial) ≡ false)) × NoneHas ws o
 
-nowhere : (ws : List WindowRecord) (p : Point) → NoneHas ws (owner_among (map plain_window ws) p) → owner_among (map plain_window ws) p ≡ Desktop
+nowhere : (ws : List WindowRecord) (p : Point) → NoneHas ws (owner_among (map layered_window ws) p) → owner_among (map layered_window ws) p ≡ Desktop
 nowhere [] p none = refl
-nowhere (w ∷ ws) p none = by_structure (nowhere ws p) (layers.in_structure (plain_window w) p) refl
+nowhere (w ∷ ws) p none = by_structure (nowhere ws p) (layers.in_structure (layered_window w) p) refl
   where
     within : (c : Bool) → ((is_content_of w.serial (if c then Content w.serial Picture else Frame w.serial) ≡ false) × (same_owner (if c then Content w.serial Picture else Frame w.serial) (Frame w.serial) ≡ false)) → ⊥
     within true h = false≢true (sym h.0 ∙ same_number w.serial)
     within false h = false≢true (sym h.1 ∙ same_number w.serial)
 
-    by_structure : (NoneHas ws (owner_among (map plain_window ws) p) → owner_among (map plain_window ws) p ≡ Desktop) → (b : Bool) → layers.in_structure (plain_window w) p ≡ b → owner_among (map plain_window (w ∷ ws)) p ≡ Desktop
+    by_structure : (NoneHas ws (owner_among (map layered_window ws) p) → owner_among (map layered_window ws) p ≡ Desktop) → (b : Bool) → layers.in_structure (layered_window w) p ≡ b → owner_among (map layered_window (w ∷ ws)) p ≡ Desktop
     by_structure rest true e =
-        let its : owner_among (map plain_window (w ∷ ws)) p ≡ (if w.definition.content w.size (minus p w.place) then Content w.serial Picture else Frame w.serial) = rw e refl in
+        let its : owner_among (map layered_window (w ∷ ws)) p ≡ (if w.definition.content w.size (minus p w.place) then Content w.serial Picture else Frame w.serial) = rw e refl in
         absurd (within (w.definition.content w.size (minus p w.place)) (subst (λ o. (is_content_of w.serial o ≡ false) × (same_owner o (Frame w.serial) ≡ false)) its none.0))
     by_structure rest false e =
-        let behind : owner_among (map plain_window (w ∷ ws)) p ≡ owner_among (map plain_window ws) p = rw e refl in
+        let behind : owner_among (map layered_window (w ∷ ws)) p ≡ owner_among (map layered_window ws) p = rw e refl in
         behind ∙ rest (subst (λ o. NoneHas ws o) behind none.1)
 
 -- where no area has a pixel of the screen, no window has it
@@ -130,7 +130,7 @@ none_has desk stale (w ∷ ws) [] p on h none = absurd h
 
 module _ {V : Type 0} {H : V → Type 0} (loan : Taken V H → Loan) (t : Toolbox V H) (A : IsKept loan t) (p : Point) where
   abbrev desk : Desk
-  desk = plain_desk (desk_of loan t [])
+  desk = layered_desk (desk_of loan t [])
 
   abbrev windows : List WindowRecord
   windows = (desk_of loan t []).windows
@@ -178,6 +178,6 @@ module _ {V : Type 0} {H : V → Type 0} (loan : Taken V H → Loan) (t : Toolbo
   pub found_desk_is : layers.on_screen desk p ≡ true → layers.in_bar desk p ≡ false → position (area_has p) t.areas.items ≡ None → found_at (desk_of loan t []) p ≡ found_none part.InDesk
   found_desk_is on low e =
       let none = none_has desk (stale_in t.areas.items) windows t.areas.items p on A.areas (λ i d within. position-None (area_has p) t.areas.items e i d within) in
-      let among : owner desk p ≡ owner_among (map plain_window windows) p = rw low refl in
+      let among : owner desk p ≡ owner_among (map layered_window windows) p = rw low refl in
       let its : owner desk p ≡ Desktop = among ∙ nowhere windows p (subst (λ o. NoneHas windows o) among none) in
       rw on (ap (λ o. found_by windows o p) its)

@@ -24,7 +24,7 @@ use Rattle.def_iface.specs.Change as plain
 use Rattle.desk_toolbox.specs.declared.call.NewWindow.{NewWindow}
 use Rattle.desk_toolbox.specs.declared.toolbox.Toolbox.{Toolbox}
 use Rattle.desk_toolbox.specs.declared.vis_update.Area.{Area}
-use Rattle.desk_toolbox.specs.FullDesk.{WindowRecord, FullDesk, AreBelow, AreNumbered, plain_window, plain_desk, plain_state}
+use Rattle.desk_toolbox.specs.FullDesk.{WindowRecord, FullDesk, AreBelow, AreNumbered, layered_window, layered_desk, layered_state}
 use Rattle.desk_toolbox.specs.Records.{record_of, desk_of, state_of, stale_in}
 use Rattle.desk_toolbox.specs.Refused.{first_refusal, judged_refusals, is_placed, is_full, longest_text, most_windows}
 use Rattle.desk_toolbox.specs.Step.{IsMade, IsNotMade, IsNewWindow, new_record, desk_with, unhighlighted}
@@ -38,7 +38,7 @@ use Rattle.desk_toolbox.proofs.PlaceLemmas.{placed_parts}
 use Rattle.desk_toolbox.proofs.Adding.{Added, with_front, image_is, plain_is, after_is_desk}
 use Rattle.desk_toolbox.proofs.Staying.{areas_are, updated_is_stale}
 use Rattle.desk_toolbox.proofs.DimLemmas.{windows_behind, settled_behind, stocked_behind, records_behind}
-use Rattle.desk_toolbox.proofs.Running.{plain_desk-with, numbered_with}
+use Rattle.desk_toolbox.proofs.Running.{layered_desk-with, numbered_with}
 
 -- two words for a column or a row of the screen
 pub between-is_below : (n : ℕ) (x : ℤ) → between (pos 0) x (pos n) ≡ is_below n x
@@ -109,39 +109,39 @@ module _ {V : Type 0} {H : V → Type 0} (loan : Taken V H → Loan) where
     below : AreBelow n before.windows
     below = subst (λ (k : Option ℕ). AreNumbered k before.windows) next_is N.whole.sound.numbered
 
-    on_before : (p : Point) → on_screen (plain_desk before) p ≡ on_map t.screen p
+    on_before : (p : Point) → on_screen (layered_desk before) p ≡ on_map t.screen p
     unfolding on_map
     on_before p = λ i. between-is_below t.screen.width p.h i && between-is_below t.screen.height p.v i
 
     -- the areas, said of the desk before the call
-    areas_after : AreAreasAfter (plain_state (state_of loan t slots)) (plain_desk after) after.windows areas
+    areas_after : AreAreasAfter (layered_state (state_of loan t slots)) (layered_desk after) after.windows areas
     areas_after =
         let back : SameDesk planned t = record { screen = sym N.same.screen; bar = sym N.same.bar; gray = sym N.same.gray; windows = sym N.same.windows; areas = sym N.same.areas; active = sym N.same.active; next = sym N.same.next } in
         areas_stay loan planned t [] [] back refl w n taken.definition areas N.areas_with taken.slot N.added.begun N.added.live.regions
 
     -- as layers, the desk after is the desk before with one more window
-    layers_are : plain_desk after ≡ with_front (plain_desk before) (plain_window (new_record w n taken.slot N.added.begun))
-    layers_are = plain_desk-with w n taken.slot N.added.begun before left
+    layers_are : layered_desk after ≡ with_front (layered_desk before) (layered_window (new_record w n taken.slot N.added.begun))
+    layers_are = layered_desk-with w n taken.slot N.added.begun before left
 
     -- the new window's area, and what was drawn of it
     abbrev IsFirst : Area → Type 0
-    IsFirst a = IsArea (with_front (plain_desk before) (plain_window (new_record w n taken.slot N.added.begun))) (stale_after (plain_state (state_of loan t slots)) (plain_desk after)) n a × IsPainted a w.place N.added.begun t.screen new.screen
+    IsFirst a = IsArea (with_front (layered_desk before) (layered_window (new_record w n taken.slot N.added.begun))) (stale_after (layered_state (state_of loan t slots)) (layered_desk after)) n a × IsPainted a w.place N.added.begun t.screen new.screen
 
     first : (a : Area) × IsFirst a
     first = by_areas areas areas_after N.added.painted
       where
-        by_areas : (xs : List Area) → AreAreasAfter (plain_state (state_of loan t slots)) (plain_desk after) after.windows xs → IsSomeAnd (slice_get xs 0) (λ a. IsPainted a w.place N.added.begun planned.screen new.screen) → (a : Area) × IsFirst a
-        by_areas (a ∷ xs) its painted = (a, (subst (λ d. IsArea d (stale_after (plain_state (state_of loan t slots)) (plain_desk after)) n a) layers_are its.0, subst (λ s. IsPainted a w.place N.added.begun s new.screen) N.same.screen painted))
+        by_areas : (xs : List Area) → AreAreasAfter (layered_state (state_of loan t slots)) (layered_desk after) after.windows xs → IsSomeAnd (slice_get xs 0) (λ a. IsPainted a w.place N.added.begun planned.screen new.screen) → (a : Area) × IsFirst a
+        by_areas (a ∷ xs) its painted = (a, (subst (λ d. IsArea d (stale_after (layered_state (state_of loan t slots)) (layered_desk after)) n a) layers_are its.0, subst (λ s. IsPainted a w.place N.added.begun s new.screen) N.same.screen painted))
         by_areas [] its painted = absurd its
 
-    added_facts : Added w n taken.slot N.added.begun before (stale_after (plain_state (state_of loan t slots)) (plain_desk after)) first.0 t.screen new.screen
+    added_facts : Added w n taken.slot N.added.begun before (stale_after (layered_state (state_of loan t slots)) (layered_desk after)) first.0 t.screen new.screen
     added_facts = record {
       distinct = N.whole.sound.distinct;
       below = below;
       area = first.1.0;
       painted = first.1.1;
       on = on_before;
-      plain = N.whole.plain;
+      plain = N.whole.frames;
     }
 
     windows_are : map (record_of loan) new.windows.items ≡ after.windows
@@ -161,8 +161,8 @@ module _ {V : Type 0} {H : V → Type 0} (loan : Taken V H → Loan) where
       stock = left;
     }
 
-    new_layers : plain_desk (desk_of loan new left) ≡ with_front (plain_desk before) (plain_window (new_record w n taken.slot N.added.begun))
-    new_layers = ap plain_desk desk_is ∙ layers_are
+    new_layers : layered_desk (desk_of loan new left) ≡ with_front (layered_desk before) (layered_window (new_record w n taken.slot N.added.begun))
+    new_layers = ap layered_desk desk_is ∙ layers_are
 
     pub is_new_window : IsNewWindow w n (state_of loan t slots) (state_of loan new left)
     is_new_window = record {
@@ -173,10 +173,10 @@ module _ {V : Type 0} {H : V → Type 0} (loan : Taken V H → Loan) where
       live = N.added.live;
       desk = desk_is;
       pixels = record {
-        stale = subst (λ (d : Desk). (p : Point) → on_screen d p ≡ true → stale_in new.areas.items p ≡ plain.stale_by plain.no_change (plain_state (state_of loan t slots)) (owner d p) p) (sym (ap plain_desk desk_is))
-            (λ p on. ap (λ a. stale_in a p) N.added.areas ∙ updated_is_stale (plain_state (state_of loan t slots)) (plain_desk after) after.windows areas p refl areas_after on);
-        image = subst (λ (d : Desk). (p : Point) → on_screen d p ≡ true → bit new.screen p ≡ plain.image_by plain.no_change (plain_state (state_of loan t slots)) d (owner d p) p) (sym new_layers)
-            (image_is w n taken.slot N.added.begun before (stale_after (plain_state (state_of loan t slots)) (plain_desk after)) first.0 t.screen new.screen added_facts (stale_in t.areas.items));
+        stale = subst (λ (d : Desk). (p : Point) → on_screen d p ≡ true → stale_in new.areas.items p ≡ plain.stale_by plain.no_change (layered_state (state_of loan t slots)) (owner d p) p) (sym (ap layered_desk desk_is))
+            (λ p on. ap (λ a. stale_in a p) N.added.areas ∙ updated_is_stale (layered_state (state_of loan t slots)) (layered_desk after) after.windows areas p refl areas_after on);
+        image = subst (λ (d : Desk). (p : Point) → on_screen d p ≡ true → bit new.screen p ≡ plain.image_by plain.no_change (layered_state (state_of loan t slots)) d (owner d p) p) (sym new_layers)
+            (image_is w n taken.slot N.added.begun before (stale_after (layered_state (state_of loan t slots)) (layered_desk after)) first.0 t.screen new.screen added_facts (stale_in t.areas.items));
       };
     }
 
@@ -199,7 +199,7 @@ module _ {V : Type 0} {H : V → Type 0} (loan : Taken V H → Loan) where
     sound_after : IsSound after
     sound_after = record {
       screen = N.whole.sound.screen;
-      distinct = subst layers.IsDesk (sym layers_are) (after_is_desk w n taken.slot N.added.begun before (stale_after (plain_state (state_of loan t slots)) (plain_desk after)) first.0 t.screen new.screen added_facts);
+      distinct = subst layers.IsDesk (sym layers_are) (after_is_desk w n taken.slot N.added.begun before (stale_after (layered_state (state_of loan t slots)) (layered_desk after)) first.0 t.screen new.screen added_facts);
       numbered = numbered_with w n taken.slot N.added.begun before below;
       few = few_after;
       settled = All-cons IsSettled _ _ settled (settled_behind t.active w.shown before.windows N.whole.sound.settled);
@@ -209,10 +209,10 @@ module _ {V : Type 0} {H : V → Type 0} (loan : Taken V H → Loan) where
     pub is_whole : IsWhole loan new left
     is_whole = record {
       sound = subst IsSound (sym desk_is) sound_after;
-      gray = subst (λ (x : FullDesk × Pixels). IsGray (plain_desk x.0) x.1) (λ i. (sym desk_is i, sym (N.added.gray ∙ N.same.gray) i)) N.whole.gray;
-      areas = subst (λ (x : FullDesk × List Area). AreAreas (plain_desk x.0) (stale_in x.1) x.0.windows x.1) (λ i. (sym desk_is i, sym N.added.areas i)) (areas_are (plain_state (state_of loan t slots)) (plain_desk after) after.windows areas refl areas_after);
-      plain = subst (λ (d : Desk). (p : Point) → on_screen d p ≡ true → is_content (owner d p) ≡ false → bit new.screen p ≡ own_bit d (owner d p) p) (sym new_layers)
-          (plain_is w n taken.slot N.added.begun before (stale_after (plain_state (state_of loan t slots)) (plain_desk after)) first.0 t.screen new.screen added_facts);
+      gray = subst (λ (x : FullDesk × Pixels). IsGray (layered_desk x.0) x.1) (λ i. (sym desk_is i, sym (N.added.gray ∙ N.same.gray) i)) N.whole.gray;
+      areas = subst (λ (x : FullDesk × List Area). AreAreas (layered_desk x.0) (stale_in x.1) x.0.windows x.1) (λ i. (sym desk_is i, sym N.added.areas i)) (areas_are (layered_state (state_of loan t slots)) (layered_desk after) after.windows areas refl areas_after);
+      frames = subst (λ (d : Desk). (p : Point) → on_screen d p ≡ true → is_content (owner d p) ≡ false → bit new.screen p ≡ own_bit d (owner d p) p) (sym new_layers)
+          (plain_is w n taken.slot N.added.begun before (stale_after (layered_state (state_of loan t slots)) (layered_desk after)) first.0 t.screen new.screen added_facts);
     }
 
     -- the call was done

@@ -7,7 +7,7 @@ use Rattle.def_iface.specs.Desk.Part.{Picture}
 use Rattle.def_iface.specs.Owner.{Owner, same_owner}
 use Rattle.def_iface.specs.Owner.Owner.{Desktop, Bar, Frame, Content}
 use Rattle.def_iface.proofs.Owning.{not_first, is_other}
-use Rattle.desk_toolbox.specs.FullDesk.{WindowRecord, plain_window}
+use Rattle.desk_toolbox.specs.FullDesk.{WindowRecord, layered_window}
 use Rattle.desk_toolbox.specs.Whole.{is_content_of}
 
 pub not_content : (n : ℕ) (u : Owner) → is_other n u ≡ true → is_content_of n u ≡ false
@@ -41,10 +41,10 @@ AreOthers [] o = Unit {0}
 AreOthers (w ∷ ws) o = (is_other w.serial o ≡ true) × AreOthers ws o
 
 -- the layers of a window are no layers of windows of other serials
-pub others_of : (n : ℕ) (ws : List WindowRecord) → layers.window_of n (map plain_window ws) ≡ None → AreOthers ws (Content n Picture) × AreOthers ws (Frame n)
+pub others_of : (n : ℕ) (ws : List WindowRecord) → layers.window_of n (map layered_window ws) ≡ None → AreOthers ws (Content n Picture) × AreOthers ws (Frame n)
 others_of n [] free = (tt, tt)
 others_of n (w ∷ ws) free =
-    let first = not_first (w.serial == n) (plain_window w) (layers.window_of n (map plain_window ws)) free in
+    let first = not_first (w.serial == n) (layered_window w) (layers.window_of n (map layered_window ws)) free in
     let away : (w.serial == n) ≡ false = first.0 in
     let rest = others_of n ws first.1 in
     ((ap not away, rest.0), (ap not away, rest.1))

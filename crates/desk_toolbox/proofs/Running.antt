@@ -18,31 +18,31 @@ use Rattle.desk_toolbox.specs.declared.call.WindowCall.TheVariants.{New, Find, F
 use Rattle.desk_toolbox.specs.declared.call.NewWindow.{NewWindow}
 use Rattle.desk_toolbox.specs.declared.call.Reply.{Reply}
 use Rattle.desk_toolbox.specs.declared.call.Reply.TheVariants as reply
-use Rattle.desk_toolbox.specs.FullDesk.{WindowRecord, FullDesk, FullState, IsRight, AreBelow, AreNumbered, plain_window, plain_desk, plain_state}
+use Rattle.desk_toolbox.specs.FullDesk.{WindowRecord, FullDesk, FullState, IsRight, AreBelow, AreNumbered, layered_window, layered_desk, layered_state}
 use Rattle.desk_toolbox.specs.Step.{IsStep, IsNewWindow, IsUnchanged, new_record, desk_with, unhighlighted}
 use Rattle.desk_toolbox.specs.Run.{IsRun}
 
 -- ---- a window in front of others
 
-plain_window-unhighlighted : (active : Option ℕ) (w : WindowRecord) → plain_window (unhighlighted active w) ≡ plain_window w
-plain_window-unhighlighted None w = refl
-plain_window-unhighlighted (Some s) w = by_test (w.serial == s)
+layered_window-unhighlighted : (active : Option ℕ) (w : WindowRecord) → layered_window (unhighlighted active w) ≡ layered_window w
+layered_window-unhighlighted None w = refl
+layered_window-unhighlighted (Some s) w = by_test (w.serial == s)
   where
-    by_test : (b : Bool) → plain_window (if b then record w { highlighted = false } else w) ≡ plain_window w
+    by_test : (b : Bool) → layered_window (if b then record w { highlighted = false } else w) ≡ layered_window w
     by_test true = refl
     by_test false = refl
 
-plain_windows-unhighlighted : (active : Option ℕ) (ws : List WindowRecord) → map plain_window (map (unhighlighted active) ws) ≡ map plain_window ws
-plain_windows-unhighlighted active [] = refl
-plain_windows-unhighlighted active (w ∷ ws) = λ i. plain_window-unhighlighted active w i ∷ plain_windows-unhighlighted active ws i
+layered_windows-unhighlighted : (active : Option ℕ) (ws : List WindowRecord) → map layered_window (map (unhighlighted active) ws) ≡ map layered_window ws
+layered_windows-unhighlighted active [] = refl
+layered_windows-unhighlighted active (w ∷ ws) = λ i. layered_window-unhighlighted active w i ∷ layered_windows-unhighlighted active ws i
 
 -- as layers, a desk with a new window has just one window more
-pub plain_desk-with : (w : NewWindow) (serial slot : ℕ) (d : Definition) (desk : FullDesk) (stock : _) → plain_desk (record (desk_with w serial slot d desk) { stock = stock }) ≡ record (plain_desk desk) { windows = plain_window (new_record w serial slot d) ∷ map plain_window desk.windows }
-plain_desk-with w serial slot d desk stock =
-    ap (λ ws. record (plain_desk desk) { windows = plain_window (new_record w serial slot d) ∷ ws }) (by_shown w.shown)
+pub layered_desk-with : (w : NewWindow) (serial slot : ℕ) (d : Definition) (desk : FullDesk) (stock : _) → layered_desk (record (desk_with w serial slot d desk) { stock = stock }) ≡ record (layered_desk desk) { windows = layered_window (new_record w serial slot d) ∷ map layered_window desk.windows }
+layered_desk-with w serial slot d desk stock =
+    ap (λ ws. record (layered_desk desk) { windows = layered_window (new_record w serial slot d) ∷ ws }) (by_shown w.shown)
   where
-    by_shown : (b : Bool) → map plain_window (if b then map (unhighlighted desk.active) desk.windows else desk.windows) ≡ map plain_window desk.windows
-    by_shown true = plain_windows-unhighlighted desk.active desk.windows
+    by_shown : (b : Bool) → map layered_window (if b then map (unhighlighted desk.active) desk.windows else desk.windows) ≡ map layered_window desk.windows
+    by_shown true = layered_windows-unhighlighted desk.active desk.windows
     by_shown false = refl
 
 numbered-more : (next : ℕ) (ws : List WindowRecord) → AreBelow next ws → AreBelow (next + 1) ws
@@ -62,7 +62,7 @@ numbered-unhighlighted next active (w ∷ ws) h = (same active, numbered-unhighl
     same (Some s) = by_test (w.serial == s)
 
 -- the number of the next window is no window's
-pub next_is_free : (next : ℕ) (ws : List WindowRecord) → AreBelow next ws → layers.window_of next (map plain_window ws) ≡ None
+pub next_is_free : (next : ℕ) (ws : List WindowRecord) → AreBelow next ws → layers.window_of next (map layered_window ws) ≡ None
 next_is_free next [] h = refl
 next_is_free next (w ∷ ws) h =
     let below = h.0 in
@@ -101,13 +101,13 @@ numbered_with w serial slot d desk below = after_number _ (nat_lt (serial + 1) (
 
 new_stays_right : (w : NewWindow) (serial : ℕ) (before after : FullState) → IsRight before → IsNewWindow w serial before after → IsRight after
 new_stays_right w serial before after right new =
-    let new_window = plain_window (new_record w serial new.loan.slot new.begun) in
+    let new_window = layered_window (new_record w serial new.loan.slot new.begun) in
     let below : AreBelow serial before.desk.windows = subst (λ (n : Option ℕ). AreNumbered n before.desk.windows) new.numbered right.numbered in
-    let desk : plain_desk after.desk ≡ record (plain_desk before.desk) { windows = new_window ∷ map plain_window before.desk.windows } =
-    ap plain_desk new.desk ∙ plain_desk-with w serial new.loan.slot new.begun before.desk after.desk.stock in
-    let sound = new_is_sound (plain_state before) new_window right.plain.desk (next_is_free serial before.desk.windows below) (refl, tt) in
+    let desk : layered_desk after.desk ≡ record (layered_desk before.desk) { windows = new_window ∷ map layered_window before.desk.windows } =
+    ap layered_desk new.desk ∙ layered_desk-with w serial new.loan.slot new.begun before.desk after.desk.stock in
+    let sound = new_is_sound (layered_state before) new_window right.plain.desk (next_is_free serial before.desk.windows below) (refl, tt) in
     record {
-      plain = stays_right plain.no_change (plain_state before) (plain_state after) right.plain (subst (plain.IsSound plain.no_change (plain_state before)) (sym desk) sound) new.pixels;
+      plain = stays_right plain.no_change (layered_state before) (layered_state after) right.plain (subst (plain.IsSound plain.no_change (layered_state before)) (sym desk) sound) new.pixels;
       numbered = subst (λ (d : FullDesk). AreNumbered d.next d.windows) (sym new.desk) (numbered_with w serial new.loan.slot new.begun before.desk below);
     }
 
@@ -115,8 +115,8 @@ new_stays_right w serial before after right new =
 
 unchanged_stays_right : (before after : FullState) → IsRight before → IsUnchanged before after → IsRight after
 unchanged_stays_right before after right same =
-    let desk = ap plain_desk same.desk in
-    let on_before = λ (p : Point) (on : layers.on_screen (plain_desk after.desk) p ≡ true). subst (λ (d : layers.Desk). layers.on_screen d p ≡ true) desk on in
+    let desk = ap layered_desk same.desk in
+    let on_before = λ (p : Point) (on : layers.on_screen (layered_desk after.desk) p ≡ true). subst (λ (d : layers.Desk). layers.on_screen d p ≡ true) desk on in
     record {
       plain = record {
         desk = subst layers.IsDesk (sym desk) right.plain.desk;

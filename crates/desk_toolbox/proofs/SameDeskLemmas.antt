@@ -8,10 +8,10 @@ use Rattle.def_iface.specs.Stocked.{SlotView}
 use Rattle.desk_toolbox.specs.declared.call.NewWindow.{NewWindow}
 use Rattle.desk_toolbox.specs.declared.toolbox.Toolbox.{Toolbox}
 use Rattle.desk_toolbox.specs.declared.vis_update.Area.{Area}
-use Rattle.desk_toolbox.specs.FullDesk.{FullDesk, FullState, plain_desk, plain_state}
+use Rattle.desk_toolbox.specs.FullDesk.{FullDesk, FullState, layered_desk, layered_state}
 use Rattle.desk_toolbox.specs.Records.{record_of, desk_of, state_of, stale_in}
 use Rattle.desk_toolbox.specs.Step.{IsUnchanged, desk_with}
-use Rattle.desk_toolbox.specs.Whole.{IsWhole, IsSound, IsGray, IsPlain, AreAreas}
+use Rattle.desk_toolbox.specs.Whole.{IsWhole, IsSound, IsGray, AreFramesShown, AreAreas}
 use Rattle.desk_toolbox.specs.Planned.{SameDesk, AreAreasWith}
 use Rattle.desk_toolbox.specs.Seats.{AreAreasAfter}
 
@@ -42,13 +42,13 @@ module _ {V : Type 0} {H : V → Type 0} (loan : Taken V H → Loan) (t u : Tool
   pub stays_whole : IsWhole loan t slots → IsWhole loan u back
   stays_whole whole = record {
     sound = subst IsSound (sym desk_stays) whole.sound;
-    gray = subst (λ (x : FullDesk × Pixels). IsGray (plain_desk x.0) x.1) (λ i. (sym desk_stays i, sym same.gray i)) whole.gray;
-    areas = subst (λ (x : FullDesk × List Area). AreAreas (plain_desk x.0) (stale_in x.1) x.0.windows x.1) (λ i. (sym desk_stays i, sym same.areas i)) whole.areas;
-    plain = subst IsPlain (sym state_stays) whole.plain;
+    gray = subst (λ (x : FullDesk × Pixels). IsGray (layered_desk x.0) x.1) (λ i. (sym desk_stays i, sym same.gray i)) whole.gray;
+    areas = subst (λ (x : FullDesk × List Area). AreAreas (layered_desk x.0) (stale_in x.1) x.0.windows x.1) (λ i. (sym desk_stays i, sym same.areas i)) whole.areas;
+    frames = subst AreFramesShown (sym state_stays) whole.frames;
   }
 
   -- the areas that were planned are still right
   pub areas_stay : (w : NewWindow) (n : ℕ) (d : Definition) (areas : List Area) → AreAreasWith loan w n d t areas → AreAreasWith loan w n d u areas
   areas_stay w n d areas h slot begun regions =
-      subst (λ (s : FullState). AreAreasAfter (plain_state s) (plain_desk (desk_with w n slot begun s.desk)) (desk_with w n slot begun s.desk).windows areas)
+      subst (λ (s : FullState). AreAreasAfter (layered_state s) (layered_desk (desk_with w n slot begun s.desk)) (desk_with w n slot begun s.desk).windows areas)
       (λ i. record (sym state_stays i) { desk = record (sym state_stays i).desk { stock = [] } }) (h slot begun regions)

@@ -13,14 +13,14 @@ use Rattle.desk_toolbox.specs.declared.call.Call.TheVariants.{Window}
 use Rattle.desk_toolbox.specs.declared.call.WindowCall.TheVariants.{New, Find, Front}
 use Rattle.desk_toolbox.specs.declared.call.Reply.{Reply}
 use Rattle.desk_toolbox.specs.declared.call.Reply.TheVariants as reply
-use Rattle.desk_toolbox.specs.FullDesk.{WindowRecord, FullDesk, FullState, plain_desk}
+use Rattle.desk_toolbox.specs.FullDesk.{WindowRecord, FullDesk, FullState, layered_desk}
 use Rattle.desk_toolbox.specs.Finding.{front_of}
 use Rattle.desk_toolbox.specs.Refused.{first_refusal}
 use Rattle.desk_toolbox.specs.Step.{IsUnchanged}
 use Rattle.desk_toolbox.specs.Run.{IsRun, made, AreCounted}
 
-pub scratch_is_owners_on : (desk : FullDesk) (p : Point) → IsDesk (plain_desk desk) → scratch (plain_desk desk) p ≡ own_bit (plain_desk desk) (owner (plain_desk desk) p) p
-scratch_is_owners_on desk p distinct = scratch_is_owners (plain_desk desk) p distinct
+pub scratch_is_owners_on : (desk : FullDesk) (p : Point) → IsDesk (layered_desk desk) → scratch (layered_desk desk) p ≡ own_bit (layered_desk desk) (owner (layered_desk desk) p) p
+scratch_is_owners_on desk p distinct = scratch_is_owners (layered_desk desk) p distinct
 
 pub front_is_first : (windows : List WindowRecord) → front_of windows ≡ option_map (λ w. w.serial) (find (λ w. w.shown) windows)
 front_is_first [] = refl

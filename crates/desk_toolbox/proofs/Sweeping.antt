@@ -19,7 +19,7 @@ use Rattle.def_iface.specs.Change.{State, no_change, stale_by}
 use Rattle.def_iface.proofs.Owning.{same_number, is_other, owner_is_other}
 use Rattle.desk_toolbox.specs.declared.vis_update.Area.{Area}
 use Rattle.desk_toolbox.specs.declared.vis_update.Seat.{Seat}
-use Rattle.desk_toolbox.specs.FullDesk.{WindowRecord, plain_window}
+use Rattle.desk_toolbox.specs.FullDesk.{WindowRecord, layered_window}
 use Rattle.desk_toolbox.specs.Whole.{IsArea, is_content_of}
 use Rattle.desk_toolbox.specs.Seats.{Stand, stand_of, seat_stand, IsSwept, stale_after, AreAreasAfter, IsArranged}
 use Rattle.desk_toolbox.proofs.Others.{not_content, not_same_frame, same_content, AreOthers, others_of}
@@ -61,7 +61,7 @@ module _ {V : Type 0} {H : V → Type 0} (loan : Taken V H → Loan) where
 -- of a pixel that the windows in front left, the owner is the first of these windows that has it; one that they took is
 -- none of theirs
 pub record Reaches (desk : Desk) (ws : List WindowRecord) (rest : PixelSet) : Type 0 where
-  pub here : (p : Point) → rest p ≡ true → (layers.on_screen desk p ≡ true) × (owner desk p ≡ owner_among (map plain_window ws) p)
+  pub here : (p : Point) → rest p ≡ true → (layers.on_screen desk p ≡ true) × (owner desk p ≡ owner_among (map layered_window ws) p)
   pub elsewhere : (p : Point) → rest p ≡ false → (layers.on_screen desk p ≡ false) ⊎ AreOthers ws (owner desk p)
 
 -- one pixel and one window: r is whether the windows in front left it; s, x and c whether the window is shown and has it
@@ -107,15 +107,15 @@ none_of is_its false o e = refl
 none_of is_its true o (inl off) = absurd (false≢true (sym off))
 none_of is_its true o (inr e) = e
 
-module _ (desk : Desk) (w : WindowRecord) (ws : List WindowRecord) (rest left_set : PixelSet) (a : Area) (distinct : layers.AreWindows (map plain_window (w ∷ ws))) (reach : Reaches desk (w ∷ ws) rest)
-    (takes : (p : Point) → Taking w.serial (rest p) w.shown (w.definition.structure w.size (minus p w.place)) (w.definition.content w.size (minus p w.place)) (holds a.visible p) (holds a.frame p) (left_set p) (owner desk p) (owner_among (map plain_window ws) p)) where
+module _ (desk : Desk) (w : WindowRecord) (ws : List WindowRecord) (rest left_set : PixelSet) (a : Area) (distinct : layers.AreWindows (map layered_window (w ∷ ws))) (reach : Reaches desk (w ∷ ws) rest)
+    (takes : (p : Point) → Taking w.serial (rest p) w.shown (w.definition.structure w.size (minus p w.place)) (w.definition.content w.size (minus p w.place)) (holds a.visible p) (holds a.frame p) (left_set p) (owner desk p) (owner_among (map layered_window ws) p)) where
   -- the case of one pixel
   abbrev Here : Point → Type 0
-  Here p = Taking w.serial (rest p) w.shown (w.definition.structure w.size (minus p w.place)) (w.definition.content w.size (minus p w.place)) (holds a.visible p) (holds a.frame p) (left_set p) (owner desk p) (owner_among (map plain_window ws) p)
+  Here p = Taking w.serial (rest p) w.shown (w.definition.structure w.size (minus p w.place)) (w.definition.content w.size (minus p w.place)) (holds a.visible p) (holds a.frame p) (left_set p) (owner desk p) (owner_among (map layered_window ws) p)
 
   -- the owner among the windows behind is not this window
-  behind_is_other : (p : Point) → is_other w.serial (owner_among (map plain_window ws) p) ≡ true
-  behind_is_other p = owner_is_other (map plain_window ws) p w.serial distinct.0
+  behind_is_other : (p : Point) → is_other w.serial (owner_among (map layered_window ws) p) ≡ true
+  behind_is_other p = owner_is_other (map layered_window ws) p w.serial distinct.0
 
   no_its : (is_its : Owner → Bool) (p : Point) → ((o : Owner) → is_other w.serial o ≡ true → is_its o ≡ false) → rest p ≡ false → (layers.on_screen desk p && is_its (owner desk p)) ≡ false
   no_its is_its p apart e = none_of is_its (layers.on_screen desk p) (owner desk p) (⊎_elim (λ off. inl off) (λ others. inr (apart (owner desk p) others.0)) (reach.elsewhere p e))
@@ -145,7 +145,7 @@ module _ (desk : Desk) (w : WindowRecord) (ws : List WindowRecord) (rest left_se
     elsewhere = λ p e. elsewhere_case p e (takes p);
   }
     where
-      here_case : (p : Point) → left_set p ≡ true → Here p → (layers.on_screen desk p ≡ true) × (owner desk p ≡ owner_among (map plain_window ws) p)
+      here_case : (p : Point) → left_set p ≡ true → Here p → (layers.on_screen desk p ≡ true) × (owner desk p ≡ owner_among (map layered_window ws) p)
       here_case p e (taken_before r v f k) = absurd (false≢true (sym k ∙ e))
       here_case p e (content r o v f k) = absurd (false≢true (sym k ∙ e))
       here_case p e (frame r o v f k) = absurd (false≢true (sym k ∙ e))
@@ -184,7 +184,7 @@ stale_is n before after p true e = by_owner (owner before.desk p) ∙ sym (ap (�
 
 module _ {V : Type 0} {H : V → Type 0} (loan : Taken V H → Loan) (before : State) (after : Desk) where
   -- what one window takes, where the windows in front left what they should
-  area_is : (first middle : PixelSet) (w : WindowRecord) (ws : List WindowRecord) (s : Seat V H) (a : Area) → seat_stand loan s ≡ stand_of w → layers.AreWindows (map plain_window (w ∷ ws)) → Reaches after (w ∷ ws) first → IsArea before.desk before.stale s.serial s.area.now → IsSwept loan first s a middle → IsArea after (stale_after before after) w.serial a × Reaches after ws middle
+  area_is : (first middle : PixelSet) (w : WindowRecord) (ws : List WindowRecord) (s : Seat V H) (a : Area) → seat_stand loan s ≡ stand_of w → layers.AreWindows (map layered_window (w ∷ ws)) → Reaches after (w ∷ ws) first → IsArea before.desk before.stale s.serial s.area.now → IsSwept loan first s a middle → IsArea after (stale_after before after) w.serial a × Reaches after ws middle
   area_is first middle w ws s a same distinct reach was swept = (
     record {
       visible = visible_is after w ws first middle a distinct reach takes;
@@ -199,8 +199,8 @@ module _ {V : Type 0} {H : V → Type 0} (loan : Taken V H → Loan) (before : S
     reaches_behind after w ws first middle a distinct reach takes,
   )
     where
-      takes : (p : Point) → Taking w.serial (first p) w.shown (w.definition.structure w.size (minus p w.place)) (w.definition.content w.size (minus p w.place)) (holds a.visible p) (holds a.frame p) (middle p) (owner after p) (owner_among (map plain_window ws) p)
-      takes p = taking w.serial (first p) w.shown _ _ (holds a.visible p) (holds a.frame p) (middle p) (owner after p) (owner_among (map plain_window ws) p)
+      takes : (p : Point) → Taking w.serial (first p) w.shown (w.definition.structure w.size (minus p w.place)) (w.definition.content w.size (minus p w.place)) (holds a.visible p) (holds a.frame p) (middle p) (owner after p) (owner_among (map layered_window ws) p)
+      takes p = taking w.serial (first p) w.shown _ _ (holds a.visible p) (holds a.frame p) (middle p) (owner after p) (owner_among (map layered_window ws) p)
           (λ shown e.
           let sh : s.shown ≡ true = ap (λ (t : Stand). t.shown) same ∙ shown in
           sym (ap (λ (t : Stand). t.structure (minus p t.place)) same) ∙ swept.within sh (minus p s.place) (ap (λ (t : Stand). t.content (minus p t.place)) same ∙ e))
@@ -212,7 +212,7 @@ module _ {V : Type 0} {H : V → Type 0} (loan : Taken V H → Loan) (before : S
   stands_first : (s : Seat V H) (seats : List (Seat V H)) (w : WindowRecord) (ws : List WindowRecord) → map (seat_stand loan) (s ∷ seats) ≡ map stand_of (w ∷ ws) → (seat_stand loan s ≡ stand_of w) × (map (seat_stand loan) seats ≡ map stand_of ws)
   stands_first s seats w ws e = (cc, cc)
 
-  all_areas : (first last : PixelSet) (ws : List WindowRecord) (seats : List (Seat V H)) (areas : List Area) → map (seat_stand loan) seats ≡ map stand_of ws → layers.AreWindows (map plain_window ws) → Reaches after ws first → All (λ s. IsArea before.desk before.stale s.serial s.area.now) seats → AreSwept loan first seats areas last → AreAreasAfter before after ws areas
+  all_areas : (first last : PixelSet) (ws : List WindowRecord) (seats : List (Seat V H)) (areas : List Area) → map (seat_stand loan) seats ≡ map stand_of ws → layers.AreWindows (map layered_window ws) → Reaches after ws first → All (λ s. IsArea before.desk before.stale s.serial s.area.now) seats → AreSwept loan first seats areas last → AreAreasAfter before after ws areas
   all_areas first last [] [] [] same distinct reach was swept = tt
   all_areas first last (w ∷ ws) (s ∷ seats) (a ∷ areas) same distinct reach was swept =
       let parts = stands_first s seats w ws same in

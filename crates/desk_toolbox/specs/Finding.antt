@@ -10,7 +10,7 @@ use Rattle.def_iface.specs.Owner.Owner.{Desktop, Bar, Frame, Content}
 use Rattle.desk_toolbox.specs.declared.call.WindowPart.{WindowPart}
 use Rattle.desk_toolbox.specs.declared.call.WindowPart.TheVariants as part
 use Rattle.desk_toolbox.specs.declared.call.Found.{Found}
-use Rattle.desk_toolbox.specs.FullDesk.{WindowRecord, FullDesk, plain_desk}
+use Rattle.desk_toolbox.specs.FullDesk.{WindowRecord, FullDesk, layered_desk}
 
 -- the part that FindWindow answers where a definition answers this hit
 abbrev pub part_of_hit : Hit → WindowPart
@@ -60,7 +60,7 @@ found_by ws (Content s layer) p = found_window s ws p
 
 -- what is found at a point: that of the topmost owner, and nothing off the screen
 abbrev pub found_at : FullDesk → Point → Found
-found_at desk p = if on_screen (plain_desk desk) p then found_by desk.windows (owner (plain_desk desk) p) p else found_none part.InDesk
+found_at desk p = if on_screen (layered_desk desk) p then found_by desk.windows (owner (layered_desk desk) p) p else found_none part.InDesk
 
 -- the first visible window
 abbrev pub front_of : List WindowRecord → Option ℕ

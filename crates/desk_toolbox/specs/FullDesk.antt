@@ -54,8 +54,8 @@ abbrev pub gray : Pattern
 gray = record { rows = 0xAA ∷ 0x55 ∷ 0xAA ∷ 0x55 ∷ 0xAA ∷ 0x55 ∷ 0xAA ∷ 0x55 ∷ [] }
 
 -- a window as layers: its picture, which is white, over its frame
-abbrev pub plain_window : WindowRecord → Window
-plain_window w = record {
+abbrev pub layered_window : WindowRecord → Window
+layered_window w = record {
   serial = w.serial;
   place = w.place;
   shown = w.shown;
@@ -65,18 +65,18 @@ plain_window w = record {
 }
 
 -- the desk as layers
-abbrev pub plain_desk : FullDesk → Desk
-plain_desk d = record {
+abbrev pub layered_desk : FullDesk → Desk
+layered_desk d = record {
   width = d.width;
   height = d.height;
   bar = d.bar;
   bar_picture = bar_picture;
   desktop = pattern_bit gray;
-  windows = map plain_window d.windows;
+  windows = map layered_window d.windows;
 }
 
-abbrev pub plain_state : FullState → plain.State
-plain_state s = record { desk = plain_desk s.desk; stale = s.stale; image = s.image }
+abbrev pub layered_state : FullState → plain.State
+layered_state s = record { desk = layered_desk s.desk; stale = s.stale; image = s.image }
 
 -- each window's serial is below this one
 abbrev pub AreBelow : ℕ → List WindowRecord → Type 0
@@ -91,5 +91,5 @@ AreNumbered (Some next) ws = AreBelow next ws
 -- a state whose pixels in no update set have the value that painting from nothing gives, and whose windows were all
 -- counted
 pub record IsRight (s : FullState) : Type 0 where
-  pub plain : plain.IsRight (plain_state s)
+  pub plain : plain.IsRight (layered_state s)
   pub numbered : AreNumbered s.desk.next s.desk.windows

@@ -16,7 +16,7 @@ use Rattle.desk_toolbox.specs.declared.vis_update.Area.{Area}
 use Rattle.desk_toolbox.specs.declared.window_list.Window.{Window}
 use Rattle.desk_toolbox.specs.declared.window_mgr.Plan.{Plan}
 use Rattle.desk_toolbox.specs.declared.window_mgr.Ticket.{Ticket}
-use Rattle.desk_toolbox.specs.FullDesk.{plain_desk, plain_state}
+use Rattle.desk_toolbox.specs.FullDesk.{layered_desk, layered_state}
 use Rattle.desk_toolbox.specs.Records.{record_of, desk_of, state_of}
 use Rattle.desk_toolbox.specs.Refused.{first_refusal, judged_refusals}
 use Rattle.desk_toolbox.specs.Seats.{AreAreasAfter}
@@ -66,7 +66,7 @@ module _ {V : Type 0} {H : V → Type 0} (loan : Taken V H → Loan) where
   -- the areas of the windows of a Toolbox once the window stands in front of them, whichever slot its definition has
   abbrev pub AreAreasWith : NewWindow → ℕ → Definition → Toolbox V H → List Area → Type 0
   AreAreasWith w serial d t areas = (slot : ℕ) (begun : Definition) → SameRegions d begun → let after = desk_with w serial slot begun (desk_of loan t []) in
-      AreAreasAfter (plain_state (state_of loan t [])) (plain_desk after) after.windows areas
+      AreAreasAfter (layered_state (state_of loan t [])) (layered_desk after) after.windows areas
 
   -- nothing refuses the window with this definition any more
   pub record IsPlanned (w : NewWindow) (d : Definition) (t : Toolbox V H) (plan : Plan) : Type 0 where

@@ -11,7 +11,7 @@ use Rattle.def_iface.specs.Change.{State, no_change, stale_by}
 use Rattle.desk_toolbox.specs.declared.vis_update.Area.{Area}
 use Rattle.desk_toolbox.specs.declared.vis_update.Seat.{Seat}
 use Rattle.desk_toolbox.specs.declared.window_list.Window.{Window}
-use Rattle.desk_toolbox.specs.FullDesk.{WindowRecord, plain_window}
+use Rattle.desk_toolbox.specs.FullDesk.{WindowRecord, layered_window}
 use Rattle.desk_toolbox.specs.Refused.{is_placed}
 use Rattle.desk_toolbox.specs.Whole.{IsArea, AreAreas, IsGray}
 
@@ -92,7 +92,7 @@ module _ {V : Type 0} {H : V → Type 0} (loan : Taken V H → Loan) where
 
   -- the seats of the windows of a desk, as a call leaves it, each with the area that its window had before
   pub record IsArranged (before : State) (after : Desk) (windows : List WindowRecord) (gray : Pixels) (seats : List (Seat V H)) : Type 0 where
-    pub desk : after.windows ≡ map plain_window windows
+    pub desk : after.windows ≡ map layered_window windows
     pub distinct : IsDesk after
     pub gray_is : IsGray after gray
     pub stands : map seat_stand seats ≡ map stand_of windows

@@ -13,7 +13,7 @@ use Rattle.desk_toolbox.specs.declared.call.WindowCall.TheVariants.{New, Find, F
 use Rattle.desk_toolbox.specs.declared.call.NewWindow.{NewWindow}
 use Rattle.desk_toolbox.specs.declared.call.Reply.{Reply}
 use Rattle.desk_toolbox.specs.declared.call.Reply.TheVariants as reply
-use Rattle.desk_toolbox.specs.FullDesk.{WindowRecord, FullDesk, FullState, plain_desk, plain_state}
+use Rattle.desk_toolbox.specs.FullDesk.{WindowRecord, FullDesk, FullState, layered_desk, layered_state}
 use Rattle.desk_toolbox.specs.Finding.{found_at, front_of}
 use Rattle.desk_toolbox.specs.Refused.{refusal_of, may_grow}
 
@@ -56,13 +56,13 @@ pub record IsNewWindow (w : NewWindow) (serial : ℕ) (before after : FullState)
   pub taken : IsTaken w.kind loan before.desk.stock after.desk.stock
   pub live : IsBegun w.size loan.definition begun
   pub desk : after.desk ≡ record (desk_with w serial loan.slot begun before.desk) { stock = after.desk.stock }
-  pub pixels : IsChanged no_change (plain_state before) (plain_state after)
+  pub pixels : IsChanged no_change (layered_state before) (layered_state after)
 
 -- nothing changed
 pub record IsUnchanged (before after : FullState) : Type 0 where
   pub desk : after.desk ≡ before.desk
-  pub stale : (p : Point) → on_screen (plain_desk before.desk) p ≡ true → after.stale p ≡ before.stale p
-  pub image : (p : Point) → on_screen (plain_desk before.desk) p ≡ true → after.image p ≡ before.image p
+  pub stale : (p : Point) → on_screen (layered_desk before.desk) p ≡ true → after.stale p ≡ before.stale p
+  pub image : (p : Point) → on_screen (layered_desk before.desk) p ≡ true → after.image p ≡ before.image p
 
 -- what a call that was done leaves, and the value that it answers: a call that asks changes nothing
 abbrev pub IsDone : Call → Reply → FullState → FullState → Type 0

@@ -14,7 +14,7 @@ use Rattle.def_iface.specs.Owner.{Owner, owner, own_bit, same_owner, is_content}
 use Rattle.def_iface.specs.Owner.Owner.{Frame, Content}
 use Rattle.desk_toolbox.specs.declared.toolbox.Toolbox.{Toolbox}
 use Rattle.desk_toolbox.specs.declared.vis_update.Area.{Area}
-use Rattle.desk_toolbox.specs.FullDesk.{WindowRecord, FullDesk, FullState, AreNumbered, plain_desk}
+use Rattle.desk_toolbox.specs.FullDesk.{WindowRecord, FullDesk, FullState, AreNumbered, layered_desk}
 use Rattle.desk_toolbox.specs.Records.{desk_of, state_of, stale_in}
 use Rattle.desk_toolbox.specs.Refused.{most_windows}
 
@@ -73,7 +73,7 @@ is_screen width height bar =
 -- the facts on the desk alone
 pub record IsSound (desk : FullDesk) : Type 0 where
   pub screen : is_screen desk.width desk.height desk.bar ≡ true
-  pub distinct : IsDesk (plain_desk desk)
+  pub distinct : IsDesk (layered_desk desk)
   pub numbered : AreNumbered desk.next desk.windows
   pub few : length desk.windows ≤ most_windows
   pub settled : All IsSettled desk.windows
@@ -84,8 +84,8 @@ abbrev pub IsGray : Desk → Pixels → Type 0
 IsGray desk gray = (p : Point) → holds gray p ≡ (on_screen desk p && not (in_bar desk p))
 
 -- frames, menu bar and desktop show what they are to show
-abbrev pub IsPlain : FullState → Type 0
-IsPlain s = let desk = plain_desk s.desk in
+abbrev pub AreFramesShown : FullState → Type 0
+AreFramesShown s = let desk = layered_desk s.desk in
     (p : Point) → on_screen desk p ≡ true → is_content (owner desk p) ≡ false → s.image p ≡ own_bit desk (owner desk p) p
 
 -- `loan` says what a definition that was taken means
@@ -93,6 +93,6 @@ module _ {V : Type 0} {H : V → Type 0} (loan : Taken V H → Loan) where
   -- a Toolbox and the slots of its stock, between calls
   pub record IsWhole (t : Toolbox V H) (slots : List SlotView) : Type 0 where
     pub sound : IsSound (desk_of loan t slots)
-    pub gray : IsGray (plain_desk (desk_of loan t slots)) t.gray
-    pub areas : AreAreas (plain_desk (desk_of loan t slots)) (stale_in t.areas.items) (desk_of loan t slots).windows t.areas.items
-    pub plain : IsPlain (state_of loan t slots)
+    pub gray : IsGray (layered_desk (desk_of loan t slots)) t.gray
+    pub areas : AreAreas (layered_desk (desk_of loan t slots)) (stale_in t.areas.items) (desk_of loan t slots).windows t.areas.items
+    pub frames : AreFramesShown (state_of loan t slots)

@@ -4,7 +4,7 @@ ghost use Rattle.tb_geom.specs.declared.refusal.Refusal.TheVariants.{OutOfRange}
 ghost use Rattle.tb_geom.specs.Points.{minus};
 ghost use Rattle.tb_geom.specs.Rects.{in_plane, is_coordinate};
 ghost use Rattle.def_iface.specs.Desk.{on_screen, in_bar};
-ghost use Rattle.desk_toolbox.specs.FullDesk.{plain_desk};
+ghost use Rattle.desk_toolbox.specs.FullDesk.{layered_desk};
 ghost use Rattle.desk_toolbox.specs.Kept.{IsKept, area_has};
 ghost use Rattle.desk_toolbox.specs.Finding.{found_at, found_none, part_of_hit, front_of};
 ghost use Rattle.desk_toolbox.specs.Records.{record_of, desk_of};
@@ -49,14 +49,14 @@ impl Toolbox {
 
     /// Whether the screen has the pixel.
     fn is_on_screen(&self, point: Point) -> bool
-        ensures { result ≡ on_screen (plain_desk (desk_of ⟦<Taken as Defined>⟧.loan self.now [])) point }
+        ensures { result ≡ on_screen (layered_desk (desk_of ⟦<Taken as Defined>⟧.loan self.now [])) point }
     {
         self.screen.bounds().contains(point)
     }
 
     /// Whether the pixel, if it is the screen's, is the menu bar's.
     fn is_in_bar(&self, point: Point) -> bool
-        ensures { result ≡ in_bar (plain_desk (desk_of ⟦<Taken as Defined>⟧.loan self.now [])) point }
+        ensures { result ≡ in_bar (layered_desk (desk_of ⟦<Taken as Defined>⟧.loan self.now [])) point }
     {
         point.v < self.bar
     }

@@ -9,7 +9,7 @@ ghost use Rattle.desk_toolbox.specs.declared.call.Reply.{Reply};
 ghost use Rattle.def_iface.specs.Desk.{IsDesk};
 ghost use Rattle.def_iface.specs.Owner.{owner, own_bit};
 ghost use Rattle.def_iface.specs.Scratch.{scratch};
-ghost use Rattle.desk_toolbox.specs.FullDesk.{WindowRecord, FullDesk, FullState, IsRight, plain_desk};
+ghost use Rattle.desk_toolbox.specs.FullDesk.{WindowRecord, FullDesk, FullState, IsRight, layered_desk};
 ghost use Rattle.desk_toolbox.specs.Finding.{front_of};
 ghost use Rattle.desk_toolbox.specs.Refused.{first_refusal};
 ghost use Rattle.desk_toolbox.specs.Step.{IsStep};
@@ -18,8 +18,8 @@ ghost use Rattle.desk_toolbox.specs.Run.{IsRun, made, AreCounted};
 /// Painting the desk from nothing, back to front, gives each pixel the value of its owner.
 #[tactic(auto, using(crate::proofs::Sayings::scratch_is_owners_on))]
 pub fn scratch_is_owners()
-    ensures { (desk : FullDesk) (p : Point) → IsDesk (plain_desk desk)
-        → scratch (plain_desk desk) p ≡ own_bit (plain_desk desk) (owner (plain_desk desk) p) p }
+    ensures { (desk : FullDesk) (p : Point) → IsDesk (layered_desk desk)
+        → scratch (layered_desk desk) p ≡ own_bit (layered_desk desk) (owner (layered_desk desk) p) p }
 {}
 
 /// The window that FrontWindow answers is the first of the list that is visible.

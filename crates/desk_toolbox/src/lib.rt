@@ -23,11 +23,11 @@
 #![tactic(auto)]
 
 mod call;
+mod calls;
 mod close;
 mod find;
 pub mod laws;
 mod place;
-mod run;
 mod text;
 mod toolbox;
 mod vis_update;

@@ -12,6 +12,9 @@ use arrayvec::ArrayVec;
 use def_iface::{Defined, Size, Taken};
 use tb_geom::Point;
 
+/// A title: at most 255 bytes.
+pub(crate) type Title = ArrayVec<u8, 255>;
+
 /// A window's record.
 #[derive(Drop)]
 pub struct Window {
@@ -21,18 +24,13 @@ pub struct Window {
     pub(crate) shown: bool,
     pub(crate) highlighted: bool,
     pub(crate) go_away: bool,
-    pub(crate) title: ArrayVec<u8, 255>,
+    pub(crate) title: Title,
     pub(crate) taken: Taken,
 }
 
 impl Window {
     /// The record of a new window, with its definition. A visible one is highlighted.
-    pub(crate) fn new(
-        window: &NewWindow<'_>,
-        serial: u64,
-        title: ArrayVec<u8, 255>,
-        taken: Taken,
-    ) -> Window
+    pub(crate) fn new(window: &NewWindow<'_>, serial: u64, title: Title, taken: Taken) -> Window
         requires { title.items ≡ window.now.title }
         ensures { record_of ⟦<Taken as Defined>⟧.loan result ≡ new_record window.now serial
             (⟦<Taken as Defined>⟧.loan taken).slot (⟦<Taken as Defined>⟧.loan taken).definition }

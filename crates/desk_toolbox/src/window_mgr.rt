@@ -13,8 +13,8 @@ ghost use Rattle.desk_toolbox.specs.Whole.{IsWhole};
 
 use crate::place::{is_placed_alone, is_placed_with};
 use crate::vis_update::{Seat, areas_of};
+use crate::window_list::Title;
 use crate::{Area, NewWindow, Toolbox, Window};
-use arrayvec::ArrayVec;
 use bit_blit::fill;
 use bit_map::{BitMap, Mode, Pattern};
 use def_iface::{Canvas, Cut, Defined, Stage, Stock, Stocked, Taken};
@@ -27,7 +27,7 @@ const MOST_WINDOWS: usize = 64;
 #[derive(Drop)]
 struct Ticket {
     serial: u64,
-    title: ArrayVec<u8, 255>,
+    title: Title,
 }
 
 /// What a new window gets, with all the memory that it needs.
@@ -100,7 +100,7 @@ impl Toolbox {
         if !is_placed {
             return Err(Refusal::OutOfRange);
         }
-        let mut title = ArrayVec::new();
+        let mut title = Title::new();
         if title.try_extend_from_slice(window.title.bytes()).is_err() {
             return Err(Refusal::TooLong);
         }
