@@ -1,2 +1,3 @@
 -- Lemmas on the bits of a map.
 pub mod BitsLemmas
+pub mod PatternLemmas

@@ -6,6 +6,7 @@
 //! is its bit at each point: every contract here and in the crates above says which bits a call leaves.
 #![tactic(auto)]
 
+pub mod laws;
 mod map;
 mod mode;
 mod pattern;
