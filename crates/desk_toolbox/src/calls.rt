@@ -1,6 +1,5 @@
 //! Calls, one by one and in a row.
 ghost use Rattle.std.specs.Prelude.{◌≡◌, IfOk, IfErr};
-ghost use Rattle.def_iface.specs.Desk.{on_screen};
 ghost use Rattle.desk_toolbox.specs.declared.call.Call.TheVariants as asks;
 ghost use Rattle.desk_toolbox.specs.declared.call.WindowCall.TheVariants.{New, Find, Front};
 ghost use Rattle.desk_toolbox.specs.FullDesk.{IsRight};

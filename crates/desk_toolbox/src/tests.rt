@@ -176,6 +176,17 @@ fn found(part: WindowPart, window: Option<u64>) -> Result<Reply, Refusal> {
     Ok(Reply::Found(Found { part, window }))
 }
 
+/// Looks at each pixel of a desk of 24 by 30 with a window at 5 6, and another in front of it at 9 6.
+fn check_two_windows(rt: &impl Abort, screen: &BitMap) {
+    for v in 0..30 {
+        for h in 0..24 {
+            let back = is_black_under(5, h, v, is_black(20, h, v));
+            let bit = bit_at(screen, Point { h, v });
+            assert_eq!(rt; bit, Some(is_black_under(9, h, v, back)), "at {h} {v}");
+        }
+    }
+}
+
 #[test]
 fn the_topmost_window_is_found(rt: HostRuntime) -> Result<(), Fail> {
     let alloc = rt.alloc();
@@ -218,13 +229,7 @@ fn the_topmost_window_is_found(rt: HostRuntime) -> Result<(), Fail> {
         Err(Refusal::OutOfRange),
     ];
     assert_eq!(rt; answers.as_slice(), expected.as_slice());
-    for v in 0..30 {
-        for h in 0..24 {
-            let back = is_black_under(5, h, v, is_black(20, h, v));
-            let bit = bit_at(desk.screen(), Point { h, v });
-            assert_eq!(rt; bit, Some(is_black_under(9, h, v, back)), "at {h} {v}");
-        }
-    }
+    check_two_windows(&rt, desk.screen());
     desk.close(&mut stock);
     Ok(())
 }

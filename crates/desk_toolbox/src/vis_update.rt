@@ -3,14 +3,12 @@
 //! One sweep answers it for all windows, from front to back. It begins with the gray region. Each window in its turn
 //! takes what is left of its content and of its frame, and leaves what its structure does not cover. A pixel that
 //! its content had before, and that was drawn then, stays drawn; all else that it takes is to be drawn.
-ghost use Rattle.std.specs.Prelude.{◌≡◌, true, false, Some, All, List, length, vec_len, IfOk, IfErr};
-ghost use Rattle.tb_geom.specs.declared.point.Point.{Point};
+ghost use Rattle.std.specs.Prelude.{◌≡◌, All, List, length, vec_len, IfOk, IfErr};
 ghost use Rattle.tb_geom.specs.Pixels.{holds};
 ghost use Rattle.def_iface.specs.Desk.{Desk};
 ghost use Rattle.def_iface.specs.Change.{State};
 ghost use Rattle.desk_toolbox.specs.FullDesk.{WindowRecord};
 ghost use Rattle.desk_toolbox.specs.Kept.{area_has};
-ghost use Rattle.desk_toolbox.specs.Refused.{is_placed};
 ghost use Rattle.desk_toolbox.specs.Seats.{IsNowhere, IsPlacedSeat, IsSwept, IsArranged, AreAreasAfter};
 
 use crate::place::regions_of;

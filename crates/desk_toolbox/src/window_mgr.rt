@@ -1,8 +1,6 @@
 //! The calls of the Window Manager.
 ghost use Rattle.std.specs.Prelude.{◌≡◌, ◌+◌, ◌<◌, true, ◌∷◌, map, if◌then◌else◌, Some, None, IfOk, IfErr, MatchResult, length, vec_len, vec_capacity};
-ghost use Rattle.tb_geom.specs.declared.point.Point.{Point};
-ghost use Rattle.tb_geom.specs.Pixels.{holds};
-ghost use Rattle.def_iface.specs.Meaning.{is_fitting, IsBegun};
+ghost use Rattle.def_iface.specs.Meaning.{is_fitting};
 ghost use Rattle.desk_toolbox.specs.Records.{state_of};
 ghost use Rattle.desk_toolbox.specs.Refused.{first_refusal, judged_refusals, is_placed};
 ghost use Rattle.desk_toolbox.specs.Kept.{IsKept};
