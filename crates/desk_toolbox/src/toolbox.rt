@@ -33,7 +33,7 @@ pub struct Toolbox {
 impl Toolbox {
     /// A desk without windows, on a screen of `width` by `height` pixels whose first `bar` rows are
     /// the menu bar's: white, the last of them black. The rest is gray. OutOfRange where a side lies
-    /// outside 8..1024, or `bar` is neither 0 nor 20 or not less than the height; else NoMemory is
+    /// outside 8..=1024, or `bar` is neither 0 nor 20 or not less than the height; else NoMemory is
     /// the only refusal.
     pub fn new(alloc: Global, width: i32, height: i32, bar: i32) -> Result<Toolbox, Refusal>
         ensures begun { IfOk result (λ t. (slots : List SlotView) → All IsFull slots

@@ -11,9 +11,6 @@ pub add_window-requires-clause-fits : goal.add_window-requires-clause-fits
 add_window-requires-clause-fits g c =
     adding.unrefused_fits c.args.window.now _ c.args.self.now.windows.len c.args.self.now.next c.in-Ok-plan_window.ensures.ok.0
 
-pub put_back-requires : goal.put_back-requires
-put_back-requires g c = slots.taken_is_left _ _ _ _ c.in-Ok.ensures.taken
-
 pub returns-in-Err-plan_window-clause-whole : goal.returns-in-Err-plan_window-clause-whole
 returns-in-Err-plan_window-clause-whole g c =
     keeping.stays_whole _ _ _ _ _ c.plan_window.ensures.same (slots.put_back_is_old _ _ _ _ c.in-Ok.ensures.taken _ c.put_back.ensures) c.requires
