@@ -2,7 +2,7 @@
 use super::{write_done, write_reply};
 use crate::paper::Paper;
 use crate::sink::WatchedWriter;
-use desk_toolbox::Reply;
+use desk_toolbox::{Found, Reply, WindowPart};
 use std::test::Fail;
 use tb_geom::Refusal;
 
@@ -15,10 +15,22 @@ fn done_is_one_word(rt: HostRuntime) {
 
 #[test]
 fn a_line_goes_out_with_one_write(rt: HostRuntime) -> Result<(), Fail> {
-    let lines: [(Result<Reply, Refusal>, &[u8]); 7] = [
+    let in_content = Found {
+        part: WindowPart::InContent,
+        window: Some(12),
+    };
+    let in_menu_bar = Found {
+        part: WindowPart::InMenuBar,
+        window: None,
+    };
+    let lines: [(Result<Reply, Refusal>, &[u8]); 11] = [
         (Ok(Reply::Window(1)), b"ok 1\n"),
         (Ok(Reply::Window(7)), b"ok 7\n"),
         (Ok(Reply::Window(u64::MAX)), b"ok 18446744073709551615\n"),
+        (Ok(Reply::Found(in_content)), b"ok 3 12\n"),
+        (Ok(Reply::Found(in_menu_bar)), b"ok 1 0\n"),
+        (Ok(Reply::Front(Some(2))), b"ok 2\n"),
+        (Ok(Reply::Front(None)), b"ok 0\n"),
         (Err(Refusal::NoMemory), b"refused 1 NoMemory\n"),
         (Err(Refusal::OutOfRange), b"refused 8 OutOfRange\n"),
         (Err(Refusal::NoDefinition), b"refused 16 NoDefinition\n"),
