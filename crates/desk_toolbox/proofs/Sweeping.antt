@@ -9,6 +9,7 @@ use Rattle.tb_geom.specs.declared.point.Point.{Point}
 use Rattle.tb_geom.specs.Points.{PixelSet, minus}
 use Rattle.tb_geom.specs.Pixels.{Pixels, holds}
 use Rattle.def_iface.specs.declared.taken.Taken.{Taken}
+use Rattle.def_iface.specs.declared.window_def.WindowRegions.{WindowRegions}
 use Rattle.def_iface.specs.Meaning.{Loan}
 use Rattle.def_iface.specs.Desk as layers
 use Rattle.def_iface.specs.Desk.{Desk}
@@ -20,6 +21,7 @@ use Rattle.def_iface.proofs.Owning.{same_number, is_other, owner_is_other}
 use Rattle.desk_toolbox.specs.declared.vis_update.Area.{Area}
 use Rattle.desk_toolbox.specs.declared.vis_update.Seat.{Seat}
 use Rattle.desk_toolbox.specs.FullDesk.{WindowRecord, layered_window}
+use Rattle.desk_toolbox.specs.Planned.{IsRegionsAt}
 use Rattle.desk_toolbox.specs.Whole.{IsArea, is_content_of}
 use Rattle.desk_toolbox.specs.Seats.{Stand, stand_of, seat_stand, IsSwept, stale_after, AreAreasAfter, IsArranged}
 use Rattle.desk_toolbox.proofs.Others.{not_content, not_same_frame, same_content, AreOthers, others_of}
@@ -27,6 +29,23 @@ use Rattle.desk_toolbox.proofs.Others.{not_content, not_same_frame, same_content
 -- ---- the sweep, window by window
 
 module _ {V : Type 0} {H : V → Type 0} (loan : Taken V H → Loan) where
+  -- what one visible window takes and leaves
+  pub swept_by : (rest : Pixels) (s : Seat V H) (r : WindowRegions) (visible drawn update around frame left : Pixels) → s.shown ≡ true → IsRegionsAt s.place s.size (loan s.taken.now).definition r
+      → ((p : Point) → holds visible p ≡ (holds r.content p && holds rest p))
+      → ((p : Point) → holds drawn p ≡ (holds s.area.now.visible p && not (holds s.area.now.update p)))
+      → ((p : Point) → holds update p ≡ (holds visible p && not (holds drawn p)))
+      → ((p : Point) → holds around p ≡ (holds r.structure p && not (holds r.content p)))
+      → ((p : Point) → holds frame p ≡ (holds around p && holds rest p))
+      → ((p : Point) → holds left p ≡ (holds rest p && not (holds r.structure p)))
+      → IsSwept loan (holds rest) s (record { visible = visible; update = update; frame = frame }) (holds left)
+  swept_by rest s r visible drawn update around frame left shown regions visible_is drawn_is update_is around_is frame_is left_is = record {
+    visible = λ p. visible_is p ∙ (λ i. regions.content p i && (sym shown i && holds rest p));
+    update = λ p. update_is p ∙ ap (λ d. holds visible p && not d) (drawn_is p);
+    frame = λ p. frame_is p ∙ (λ i. (around_is p ∙ (λ j. regions.structure p j && not (regions.content p j))) i && (sym shown i && holds rest p));
+    leaves = λ p. left_is p ∙ (λ i. holds rest p && not (sym shown i && regions.structure p i));
+    within = λ e. regions.within;
+  }
+
   -- the windows took these areas, one after another, from what was there first, and left the last
   abbrev pub AreSwept : PixelSet → List (Seat V H) → List Area → PixelSet → Type 0
   AreSwept first [] [] last = (p : Point) → last p ≡ first p
