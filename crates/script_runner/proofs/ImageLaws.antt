@@ -68,7 +68,7 @@ short-lines digits h k (suc n) =
     let part = take 70 (drop (70 * k) digits) in
     let rest = flat_map (line_text digits) (range_with_len (k + 1) n) in
     let is : parted (line_text digits k ++ rest) ≡ part ∷ parted rest =
-      ap parted (append_assoc part (10 ∷ []) rest) ∙ slice_split_at (λ b. eqb b 10) part 10 rest (part_no_newline digits (70 * k) h) refl in
+    ap parted (append_assoc part (10 ∷ []) rest) ∙ slice_split_at (λ b. eqb b 10) part 10 rest (part_no_newline digits (70 * k) h) refl in
     subst (All IsShort) (sym is) (All-cons IsShort part (parted rest) (omega (arith, length-take 70 (drop (70 * k) digits))) (short-lines digits h (k + 1) n))
 
 pub row_lines_are_short : (width : ℕ) (black : PixelSet) (v : ℕ) → All (λ line. length line ≤ 70) (slice_split (λ b. b == 10) (row_text width black v))
