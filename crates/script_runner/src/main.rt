@@ -17,6 +17,7 @@
 #![tactic(auto)]
 
 mod command_line;
+mod laws;
 mod plain_window;
 mod runner;
 mod screen_pbm;

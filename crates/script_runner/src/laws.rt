@@ -1,0 +1,46 @@
+//! What the definitions of numbers, commands, lines and images say, in the words of their subject.
+ghost use Rattle.std.specs.Prelude.{◌≡◌, ◌<◌, ◌≤◌, ◌^◌, ◌↔◌, ◌==◌, ℕ, List, ◌∷◌, length, not, Some, filter, All, Contains, decimal};
+ghost use Rattle.std.specs.List.{slice_split};
+ghost use Rattle.std.specs.Str.Lines.{lines};
+ghost use Rattle.tb_geom.specs.Points.{PixelSet};
+ghost use Rattle.script_runner.specs.declared.script_text.verb.Verb.{Verb};
+ghost use Rattle.script_runner.specs.Words.{digits_value};
+ghost use Rattle.script_runner.specs.Commands.{verbs, verb_in};
+ghost use Rattle.script_runner.specs.Lines.{lines_of};
+ghost use Rattle.script_runner.specs.Pbm.{row_digits, row_text};
+
+/// The digits that a reply has for a number stand for it in a line too.
+#[tactic(auto, using(crate::proofs::TextLaws::decimal_is_read))]
+pub fn written_numbers_are_read()
+    ensures { (n : ℕ) → n < 2 ^ 64 → digits_value (decimal n) ≡ n }
+{}
+
+/// A leading zero adds nothing.
+#[tactic(auto, using(crate::proofs::TextLaws::leading_zero))]
+pub fn a_leading_zero_adds_nothing()
+    ensures { (digits : List ℕ) → digits_value (48 ∷ digits) ≡ digits_value digits }
+{}
+
+/// A first word stands for a verb exactly where the table has the two.
+pub fn a_verb_is_one_of_the_table()
+    ensures { (word : List ℕ) (verb : Verb) → verb_in word verbs ≡ Some verb ↔ Contains verbs (word, verb) }
+{}
+
+/// The lines of a script are those of `str::lines`.
+#[tactic(auto, using(crate::proofs::TextLaws::lines_are_lines))]
+pub fn lines_are_those_of_a_text()
+    ensures { (script : List ℕ) → lines_of script ≡ lines script }
+{}
+
+/// Without its newlines the text of a row is the row's digits.
+#[tactic(auto, using(crate::proofs::ImageLaws::row_is_its_digits))]
+pub fn a_row_is_its_digits()
+    ensures { (width : ℕ) (black : PixelSet) (v : ℕ) → filter (λ b. not (b == 10)) (row_text width black v) ≡ row_digits width black v }
+{}
+
+/// No line of a row has more than 70 characters.
+#[tactic(auto, using(crate::proofs::ImageLaws::row_lines_are_short))]
+pub fn lines_of_a_row_are_short()
+    ensures { (width : ℕ) (black : PixelSet) (v : ℕ)
+        → All (λ line. length line ≤ 70) (slice_split (λ b. b == 10) (row_text width black v)) }
+{}
