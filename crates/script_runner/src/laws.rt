@@ -5,6 +5,7 @@ ghost use Rattle.std.specs.Str.Lines.{lines};
 ghost use Rattle.tb_geom.specs.Points.{PixelSet};
 ghost use Rattle.script_runner.specs.declared.script_text.verb.Verb.{Verb};
 ghost use Rattle.script_runner.specs.Words.{digits_value};
+ghost use Rattle.script_runner.specs.Spelling.{IsDigits};
 ghost use Rattle.script_runner.specs.Commands.{verbs, verb_in};
 ghost use Rattle.script_runner.specs.Lines.{lines_of};
 ghost use Rattle.script_runner.specs.Pbm.{row_digits, row_text};
@@ -13,6 +14,11 @@ ghost use Rattle.script_runner.specs.Pbm.{row_digits, row_text};
 #[tactic(auto, using(crate::proofs::TextLaws::decimal_is_read))]
 pub fn written_numbers_are_read()
     ensures { (n : ℕ) → n < 2 ^ 64 → digits_value (decimal n) ≡ n }
+{}
+
+/// Where a number is below 1,000,000,000, they are one to nine, as a line may have them.
+pub fn numbers_of_nine_digits_are_read()
+    ensures { (n : ℕ) → n < 10 ^ 9 → IsDigits (decimal n) n }
 {}
 
 /// A leading zero adds nothing.
