@@ -90,8 +90,8 @@ fn call_at<'a>(kind: &'a [u8], left: i32, width: i32, shown: bool, title: &'a [u
     }))
 }
 
-/// The bit of a pixel with a window of 6 by 3 whose content begins in column `left` of row 24, in
-/// front of what has this bit.
+/// The bit of a pixel with a window of 6 by 3 in front of what has this bit, whose content begins at
+/// the point `left` 24.
 fn is_black_under(left: i32, h: i32, v: i32, behind: bool) -> bool {
     let column = i64::from(h) - i64::from(left);
     let in_structure = -1 <= column && column < 7 && 20 <= v && v < 28;
