@@ -8,6 +8,7 @@ pub mod MovedRows
 pub mod RectRows
 pub mod SpanRuns
 pub mod OneList
+pub mod FoundRow
 pub mod OneScan
 pub mod Shared
 pub mod Around

@@ -74,10 +74,10 @@ above_out (row ∷ rows) h v all =
     (λ i. (int_eq-apart row.0 v (λ same. omega (arith, ints)) i && inside row.1 h) || above_out rows h v (λ k l. all (suc k) (omega arith)) i)
 
 -- at its first row a region has the pixels of that row, and above it none
-first_row : (row : EdgeRow) (rows : List EdgeRow) (h : ℤ) → AreRows (row ∷ rows) → has_in_rows (row ∷ rows) h row.0 ≡ inside row.1 h
+pub first_row : (row : EdgeRow) (rows : List EdgeRow) (h : ℤ) → IsRising (map top_of (row ∷ rows)) → has_in_rows (row ∷ rows) h row.0 ≡ inside row.1 h
 unfolding has_in_rows
-first_row row rows h c =
-    (λ i. (int_eq-same row.0 i && inside row.1 h) || above_out rows h row.0 (rising_head row.0 (map top_of rows) c.rising) i) ∙ or-false _
+first_row row rows h r =
+    (λ i. (int_eq-same row.0 i && inside row.1 h) || above_out rows h row.0 (rising_head row.0 (map top_of rows) r) i) ∙ or-false _
 
 above_first : (row : EdgeRow) (rows : List EdgeRow) (h v : ℤ) → AreRows (row ∷ rows) → v <ℤ row.0 → has_in_rows (row ∷ rows) h v ≡ false
 unfolding has_in_rows
@@ -106,7 +106,7 @@ some_pixel (v, x ∷ xs) g e = true≢false (sym (first_in x xs g.1.rising) ∙ 
 -- rows without a pixel are none
 pub no_rows : (rows : List EdgeRow) → AreRows rows → ((h v : ℤ) → has_in_rows rows h v ≡ false) → rows ≡ []
 no_rows [] c e = refl
-no_rows (row ∷ rows) c e = absurd (some_pixel row (All-head IsGoodRow row rows c.each) (λ h. sym (first_row row rows h c) ∙ e h row.0))
+no_rows (row ∷ rows) c e = absurd (some_pixel row (All-head IsGoodRow row rows c.each) (λ h. sym (first_row row rows h c.rising) ∙ e h row.0))
 
 -- rows with the same pixels are the same
 pub same_list : (a b : List EdgeRow) → AreRows a → AreRows b → ((h v : ℤ) → has_in_rows a h v ≡ has_in_rows b h v) → a ≡ b
@@ -116,12 +116,12 @@ same_list (r ∷ a) (s ∷ b) c d e =
     let good_r = All-head IsGoodRow r a c.each in
     let good_s = All-head IsGoodRow s b d.each in
     let top : r.0 ≡ s.0 = by_lt_z r.0 s.0
-    (λ l. absurd (some_pixel r good_r (λ h. sym (first_row r a h c) ∙ e h r.0 ∙ above_first s b h r.0 d l)))
+    (λ l. absurd (some_pixel r good_r (λ h. sym (first_row r a h c.rising) ∙ e h r.0 ∙ above_first s b h r.0 d l)))
     (λ l. by_lt_z s.0 r.0
-    (λ m. absurd (some_pixel s good_s (λ h. sym (first_row s b h d) ∙ sym (e h s.0) ∙ above_first r a h s.0 c m)))
+    (λ m. absurd (some_pixel s good_s (λ h. sym (first_row s b h d.rising) ∙ sym (e h s.0) ∙ above_first r a h s.0 c m)))
     (λ m. omega (arith, ints))) in
     let edges : r.1 ≡ s.1 = same_edges r.1 s.1 good_r.1.rising good_s.1.rising
-    (λ h. sym (first_row r a h c) ∙ e h r.0 ∙ ap (has_in_rows (s ∷ b) h) top ∙ first_row s b h d) in
+    (λ h. sym (first_row r a h c.rising) ∙ e h r.0 ∙ ap (has_in_rows (s ∷ b) h) top ∙ first_row s b h d.rising) in
     let row : s ≡ r = sym (λ i. (top i, edges i)) in
     let same : r ∷ b ≡ s ∷ b = ap (λ z. z ∷ b) (sym row) in
     let rest = same_list a b (tail_rows r a c) (tail_rows s b d) (row_tails r a b c (subst AreRows (sym same) d) (λ h v. e h v ∙ ap (λ z. has_in_rows z h v) (sym same))) in

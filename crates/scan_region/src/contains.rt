@@ -1,20 +1,19 @@
 //! Whether rows have a pixel.
-ghost use Rattle.std.specs.Prelude.{◌≡◌};
-ghost use Rattle.scan_region.specs.Edges.{inside};
-ghost use Rattle.scan_region.specs.Rows.{has_in_rows};
+ghost use Rattle.std.specs.Prelude.{◌≡◌, map};
+ghost use Rattle.scan_region.specs.Edges.{inside, IsRising};
+ghost use Rattle.scan_region.specs.Rows.{has_in_rows, top_of};
 
 use crate::row::Row;
 
-/// Whether one of the rows has the pixel at column `h` and row `v`.
+/// Whether one of the rows, which rise, has the pixel at column `h` and row `v`.
 pub fn rows_contain(rows: &[Row], h: i32, v: i32) -> bool
+    requires { IsRising (map top_of rows.now) }
     ensures { result ≡ has_in_rows rows.now h v }
 {
-    for row in rows {
-        if row.v() == v && is_inside(row.edges(), h) {
-            return true;
-        }
+    match rows.binary_search_by_key(&v, |row| row.v()) {
+        Ok(at) => is_inside(rows[at].edges(), h),
+        Err(_) => false,
     }
-    false
 }
 
 /// Whether a row has the pixel at the column `h`.
