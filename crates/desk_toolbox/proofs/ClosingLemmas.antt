@@ -1,5 +1,5 @@
 -- The windows of a desk are put away, from the last to the first.
-use Rattle.std.proofs.Common.{◌≡◌, ⊎_elim, inl, inr, ℕ, zero, suc, ◌+◌, ◌<◌, true, false, List, [], ◌∷◌, ◌++◌, length, map, Option, Some, None, refl, sym, ap, ◌∙◌, subst, arith, get_or}
+use Rattle.std.proofs.Common.{◌≡◌, ⊎_elim, inl, inr, ℕ, ◌+◌, ◌<◌, true, false, List, [], ◌∷◌, ◌++◌, length, map, Option, Some, None, refl, sym, ap, ◌∙◌, subst, arith, get_or}
 use Rattle.std.specs.Prelude.{slice_get, slice_set, is_none, IfSome, All, AllPairs, Contains}
 use Rattle.std.specs.Option.{option_map_or}
 use Rattle.std.proofs.Math.ListN.{get_or-append}
@@ -7,6 +7,7 @@ use Rattle.std.proofs.Math.Seq.{get_or-append_seam}
 use Rattle.std.proofs.lemmas.Bool.{cases_eq}
 use Rattle.std.proofs.lemmas.List.{map-append}
 use Rattle.std.proofs.lemmas.List.Elements.{All-nil, All-pop, All-push}
+use Rattle.std.proofs.lemmas.Option.{slice_get-get_or}
 use Rattle.def_iface.specs.declared.taken.Taken.{Taken}
 use Rattle.def_iface.specs.declared.window_def.Stage.TheVariants.{Live, Closed}
 use Rattle.def_iface.specs.Meaning.{Definition, Loan, SameRegions}
@@ -16,7 +17,7 @@ use Rattle.desk_toolbox.specs.FullDesk.{WindowRecord}
 use Rattle.desk_toolbox.specs.Records.{record_of}
 use Rattle.desk_toolbox.specs.Whole.{IsSettled, IsStocked, IsSlot}
 use Rattle.desk_toolbox.specs.Closing.{IsClosedAt, IsShut, IsClosed}
-use Rattle.desk_toolbox.proofs.SlotLemmas.{get-set_same, get-set_other}
+use Rattle.desk_toolbox.proofs.SlotLemmas.{get-set_same, get-set_other, map-set}
 
 module _ {X : Type 0} where
   length-snoc : (xs : List X) (y : X) → length (xs ++ y ∷ []) ≡ length xs + 1
@@ -49,11 +50,6 @@ module _ {X : Type 0} where
       let long = length-snoc xs y in
       subst (λ x. R x y) (at_front xs y d i low)
       (subst (λ x. R (get_or (xs ++ y ∷ []) i d) x) (get_or-append_seam xs y [] d) (pairs i (length xs) d low (omega arith)))
-
-  map-set : {Y : Type 0} (f : X → Y) (xs : List X) (i : ℕ) (x y : X) → slice_get xs i ≡ Some x → f y ≡ f x → map f (slice_set xs i y) ≡ map f xs
-  map-set f [] i x y e same = refl
-  map-set f (z ∷ xs) zero x y e same = let here : z ≡ x = cc in ap (λ w. w ∷ map f xs) (same ∙ ap f (sym here))
-  map-set f (z ∷ xs) (suc i) x y e same = ap (λ ws. f z ∷ ws) (map-set f xs i x y e same)
 
 -- an empty slot got a closed definition
 record Shut (loan : Loan) (old new : List SlotView) : Type 0 where
@@ -146,7 +142,7 @@ module _ (ws : List WindowRecord) (w : WindowRecord) (old new : List SlotView) (
 closed_none : (slots : List SlotView) → IsStocked [] slots → IsClosed [] slots slots
 closed_none slots stocked = record {
   kinds = refl;
-  full = λ k s e. ⊎_elim (λ full. full) (λ none. absurd (let within = none.1.1 in omega arith)) (stocked.others k s e);
+  full = λ k d low. ⊎_elim (λ full. full) (λ none. absurd (let within = none.1.1 in omega arith)) (stocked.others k (get_or slots k d) (slice_get-get_or slots k d low));
   others = λ k s e full. e;
   closed = All-nil _;
 }

@@ -17,9 +17,8 @@ use Rattle.desk_toolbox.specs.declared.call.Call.TheVariants.{Window}
 use Rattle.desk_toolbox.specs.declared.call.WindowCall.TheVariants.{New, Find, Front}
 use Rattle.desk_toolbox.specs.declared.call.NewWindow.{NewWindow}
 use Rattle.desk_toolbox.specs.declared.call.Reply.{Reply}
-use Rattle.desk_toolbox.specs.declared.call.Reply.TheVariants as reply
 use Rattle.desk_toolbox.specs.FullDesk.{WindowRecord, FullDesk, FullState, IsRight, AreBelow, AreNumbered, layered_window, layered_desk, layered_state}
-use Rattle.desk_toolbox.specs.Step.{IsStep, IsNewWindow, IsUnchanged, new_record, desk_with, unhighlighted}
+use Rattle.desk_toolbox.specs.Step.{IsStep, IsDone, IsNewWindow, IsUnchanged, new_record, desk_with, unhighlighted}
 use Rattle.desk_toolbox.specs.Run.{IsRun}
 
 -- ---- a window in front of others
@@ -132,16 +131,13 @@ unchanged_stays_right before after right same =
       numbered = subst (λ (d : FullDesk). AreNumbered d.next d.windows) (sym same.desk) right.numbered;
     }
 
+done_stays_right : (call : Call) (answer : Reply) (before after : FullState) → IsRight before → IsDone call answer before after → IsRight after
+done_stays_right (Window (New w)) answer before after right done = new_stays_right w done.0 before after right done.2
+done_stays_right (Window (Find p)) answer before after right done = unchanged_stays_right before after right done.1
+done_stays_right (Window Front) answer before after right done = unchanged_stays_right before after right done.1
+
 pub step_stays_right : (call : Call) (answer : Result Reply Refusal) (before after : FullState) → IsRight before → IsStep call answer before after → IsRight after
-step_stays_right (Window (New w)) (Ok (reply.Window serial)) before after right step = new_stays_right w serial before after right step.1
-step_stays_right (Window (Find p)) (Ok (reply.Found found)) before after right step = unchanged_stays_right before after right step.1.1
-step_stays_right (Window Front) (Ok (reply.Front window)) before after right step = unchanged_stays_right before after right step.1.1
-step_stays_right (Window (New w)) (Ok (reply.Found found)) before after right step = absurd step.1
-step_stays_right (Window (New w)) (Ok (reply.Front window)) before after right step = absurd step.1
-step_stays_right (Window (Find p)) (Ok (reply.Window serial)) before after right step = absurd step.1
-step_stays_right (Window (Find p)) (Ok (reply.Front window)) before after right step = absurd step.1
-step_stays_right (Window Front) (Ok (reply.Window serial)) before after right step = absurd step.1
-step_stays_right (Window Front) (Ok (reply.Found found)) before after right step = absurd step.1
+step_stays_right call (Ok answer) before after right step = done_stays_right call answer before after right step.1
 step_stays_right call (Err e) before after right step = unchanged_stays_right before after right step.1
 
 pub run_stays_right : (first last : FullState) (calls : List Call) (answers : List (Result Reply Refusal)) → IsRight first → IsRun first calls answers last → IsRight last

@@ -31,6 +31,12 @@ module _ {X : Type 0} where
   set-set_back (z ∷ xs) zero x y e = let same : z ≡ x = cc in ap (λ w. w ∷ xs) (sym same)
   set-set_back (z ∷ xs) (suc i) x y e = ap (λ ws. z ∷ ws) (set-set_back xs i x y e)
 
+  -- what is set and what it takes the place of are alike by f, and so are the lists
+  pub map-set : {Y : Type 0} (f : X → Y) (xs : List X) (i : ℕ) (x y : X) → slice_get xs i ≡ Some x → f y ≡ f x → map f (slice_set xs i y) ≡ map f xs
+  map-set f [] i x y e same = refl
+  map-set f (z ∷ xs) zero x y e same = let here : z ≡ x = cc in ap (λ w. w ∷ map f xs) (same ∙ ap f (sym here))
+  map-set f (z ∷ xs) (suc i) x y e same = ap (λ ws. f z ∷ ws) (map-set f xs i x y e same)
+
 module _ (kind : List ℕ) (loan : Loan) (old left : List SlotView) (took : IsTaken kind loan old left) where
   abbrev emptied : SlotView
   emptied = record { kind = kind; held = None }
@@ -44,6 +50,10 @@ module _ (kind : List ℕ) (loan : Loan) (old left : List SlotView) (took : IsTa
   -- its slot is there, and empty
   pub taken_is_left : is_left loan.slot left ≡ true
   taken_is_left = ap (λ o. option_map_or (λ (s : SlotView). is_none s.held) o false) found
+
+  -- the slots are for the same kinds
+  pub kinds_when_taken : map (λ s. s.kind) left ≡ map (λ s. s.kind) old
+  kinds_when_taken = ap (map (λ s. s.kind)) took.left ∙ map-set (λ (s : SlotView). s.kind) old loan.slot filled emptied took.held refl
 
   -- a definition that was taken and put back leaves the stock as it was
   pub put_back_is_old : (new : List SlotView) → IsPutBack loan left new → new ≡ old

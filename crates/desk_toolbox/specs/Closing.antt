@@ -25,7 +25,7 @@ pub record IsClosed (windows : List WindowRecord) (old new : List SlotView) : Ty
   -- the same slots, for the same kinds
   pub kinds : map (λ s. s.kind) new ≡ map (λ s. s.kind) old
   -- every slot has a definition that no desk uses
-  pub full : (k : ℕ) (s : SlotView) → slice_get new k ≡ Some s → IsFull s
+  pub full : All IsFull new
   -- a slot that had one is as it was
   pub others : (k : ℕ) (s : SlotView) → slice_get old k ≡ Some s → IsFull s → slice_get new k ≡ Some s
   -- the slots of the windows have their definitions, which are closed

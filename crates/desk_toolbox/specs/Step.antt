@@ -64,12 +64,11 @@ pub record IsUnchanged (before after : FullState) : Type 0 where
   pub stale : (p : Point) → on_screen (layered_desk before.desk) p ≡ true → after.stale p ≡ before.stale p
   pub image : (p : Point) → on_screen (layered_desk before.desk) p ≡ true → after.image p ≡ before.image p
 
--- what a call that was done leaves, and the value that it answers: a call that asks changes nothing
+-- what a call that was done answers and leaves: a call that asks changes nothing
 abbrev pub IsDone : Call → Reply → FullState → FullState → Type 0
-IsDone (Window (New w)) (reply.Window serial) before after = IsNewWindow w serial before after
-IsDone (Window (Find p)) (reply.Found found) before after = (found ≡ found_at before.desk p) × IsUnchanged before after
-IsDone (Window Front) (reply.Front window) before after = (window ≡ front_of before.desk.windows) × IsUnchanged before after
-IsDone _ _ before after = ⊥
+IsDone (Window (New w)) answer before after = (serial : ℕ) × (answer ≡ reply.Window serial) × IsNewWindow w serial before after
+IsDone (Window (Find p)) answer before after = (answer ≡ reply.Found (found_at before.desk p)) × IsUnchanged before after
+IsDone (Window Front) answer before after = (answer ≡ reply.Front (front_of before.desk.windows)) × IsUnchanged before after
 
 -- the call is refused for this: the first refusal of the written order whose condition holds, or, where there is none
 -- and the call may grow, want of memory
@@ -78,12 +77,12 @@ IsRefused call e desk = (refusal_of call desk ≡ Some e) ⊎ ((refusal_of call 
 
 -- one step: a call that nothing refuses is done, and a refused one changes nothing
 abbrev pub IsStep : Call → Result Reply Refusal → FullState → FullState → Type 0
-IsStep call (Ok reply) before after = (refusal_of call before.desk ≡ None) × IsDone call reply before after
+IsStep call (Ok answer) before after = (refusal_of call before.desk ≡ None) × IsDone call answer before after
 IsStep call (Err e) before after = IsRefused call e before.desk × IsUnchanged before after
 
--- the call for a new window was done, and answered this number
+-- nothing refused a new window, and it was made, of this number
 abbrev pub IsMade : NewWindow → ℕ → FullState → FullState → Type 0
-IsMade w serial before after = IsStep (Window (New w)) (Ok (reply.Window serial)) before after
+IsMade w serial before after = (refusal_of (Window (New w)) before.desk ≡ None) × IsNewWindow w serial before after
 
 -- the call for a new window was refused
 abbrev pub IsNotMade : NewWindow → Refusal → FullState → FullState → Type 0

@@ -1,5 +1,5 @@
 //! What the definitions of a desk and of its steps say of each other.
-ghost use Rattle.std.specs.Prelude.{◌≡◌, Bool, List, Result};
+ghost use Rattle.std.specs.Prelude.{◌≡◌, Bool, List, map, Result};
 ghost use Rattle.std.specs.List.{find};
 ghost use Rattle.std.specs.Option.{option_map};
 ghost use Rattle.tb_geom.specs.declared.point.Point.{Point};
@@ -41,6 +41,14 @@ pub fn a_refusal_is_the_first_that_holds()
 pub fn windows_are_counted()
     ensures { (first last : FullState) (calls : List Call) (answers : List (Result Reply Refusal))
         → IsRun first calls answers last → AreCounted first.desk.next (made answers) }
+{}
+
+/// Whatever a call does, the stock has the same slots, for the same kinds.
+#[tactic(auto, using(crate::proofs::Sayings::step_keeps_kinds))]
+pub fn steps_keep_the_kinds()
+    ensures { (call : Call) (answer : Result Reply Refusal) (before after : FullState)
+        → IsStep call answer before after
+        → map (λ slot. slot.kind) after.desk.stock ≡ map (λ slot. slot.kind) before.desk.stock }
 {}
 
 /// A step keeps a right state right.

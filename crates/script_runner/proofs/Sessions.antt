@@ -1,8 +1,6 @@
 -- The first command of a script.
-use Rattle.std.proofs.Common.{◌≡◌, ◌≢◌, ℕ, inl, inr, true, cond, List, get_or, Some, None, Result, refl, sym, ◌∙◌, subst}
-use Rattle.std.specs.Prelude.{All, slice_get}
+use Rattle.std.proofs.Common.{◌≡◌, ◌≢◌, inl, inr, true, cond, List, Some, None, Result, refl, sym, ◌∙◌, subst}
 use Rattle.std.proofs.lemmas.Bool.{cases_Bool}
-use Rattle.std.proofs.lemmas.Option.{slice_get-get_or}
 use Rattle.tb_geom.specs.declared.refusal.Refusal.{Refusal}
 use Rattle.tb_geom.specs.declared.refusal.Refusal.TheVariants.{NoMemory, OutOfRange}
 use Rattle.def_iface.specs.declared.taken.Taken.{Taken}
@@ -18,10 +16,6 @@ use Rattle.script_runner.specs.Session.{unmade, made, IsNewDesk, Opens, first_si
 use Rattle.script_runner.specs.Endings.{IsFirstAnswered, CommandEnds}
 use Rattle.script_runner.specs.Replies.{refused_text}
 use Rattle.script_runner.specs.Writes.{Output, Sends}
-
--- what holds wherever an element is, holds of all
-pub all_there : {X : Type 0} (P : X → Type 0) (xs : List X) → ((k : ℕ) (x : X) → slice_get xs k ≡ Some x → P x) → All P xs
-all_there P xs at = λ k d within. at k (get_or xs k d) (slice_get-get_or xs k d within)
 
 -- the desk that the Toolbox made
 pub new_desk : {V : Type 0} {H : V → Type 0} (loan : Taken V H → Loan) (t : Toolbox V H) (slots : List SlotView) (size wanted : DeskSize) → size ≡ wanted

@@ -1,17 +1,10 @@
 -- The stock of a script has the same slots, for the same kinds, whatever its lines do.
-use Rattle.std.proofs.Common.{◌≡◌, ℕ, zero, suc, List, [], ◌∷◌, map, Option, None, Some, Result, Ok, Err, refl, sym, ap, ◌∙◌}
-use Rattle.std.specs.Prelude.{slice_get, slice_set}
+use Rattle.std.proofs.Common.{◌≡◌, ℕ, List, [], ◌∷◌, map, Option, None, Some, Result, Ok, Err, ap, ◌∙◌}
 use Rattle.tb_geom.specs.declared.refusal.Refusal.{Refusal}
 use Rattle.tb_geom.specs.declared.refusal.Refusal.TheVariants.{NoMemory, ReadFault, WriteFault}
-use Rattle.def_iface.specs.Meaning.{Loan}
-use Rattle.def_iface.specs.Stocked.{SlotView, IsTaken}
-use Rattle.desk_toolbox.specs.declared.call.Call as calls
-use Rattle.desk_toolbox.specs.declared.call.Call.TheVariants as asks
-use Rattle.desk_toolbox.specs.declared.call.WindowCall.TheVariants.{New, Find, Front}
-use Rattle.desk_toolbox.specs.declared.call.Reply.{Reply}
-use Rattle.desk_toolbox.specs.declared.call.Reply.TheVariants as reply
+use Rattle.def_iface.specs.Stocked.{SlotView}
 use Rattle.desk_toolbox.specs.FullDesk.{FullState}
-use Rattle.desk_toolbox.specs.Step.{IsStep, IsDone}
+use Rattle.desk_toolbox.proofs.Sayings.{step_keeps_kinds}
 use Rattle.script_runner.specs.declared.script_text.command.Command.{Command}
 use Rattle.script_runner.specs.declared.script_text.command.Command.TheVariants.{Desk, Image, Call}
 use Rattle.script_runner.specs.Lines.{said}
@@ -29,35 +22,11 @@ abbrev slots_of : SessionState → List SlotView
 slots_of (unmade slots) = slots
 slots_of (made s) = s.desk.stock
 
-set_kind : (slots : List SlotView) (i : ℕ) (old new : SlotView) → slice_get slots i ≡ Some old → new.kind ≡ old.kind → kinds_in (slice_set slots i new) ≡ kinds_in slots
-set_kind [] i old new there same = refl
-set_kind (s ∷ slots) zero old new there same = let here : s ≡ old = cc in ap (λ k. k ∷ kinds_in slots) (same ∙ ap (λ x. x.kind) (sym here))
-set_kind (s ∷ slots) (suc i) old new there same = ap (λ ks. s.kind ∷ ks) (set_kind slots i old new there same)
-
-taken_kinds : (kind : List ℕ) (loan : Loan) (old new : List SlotView) → IsTaken kind loan old new → kinds_in new ≡ kinds_in old
-taken_kinds kind loan old new took = ap kinds_in took.left ∙ set_kind old loan.slot _ _ took.held refl
-
--- what a call leaves of the stock
-done_kinds : (asked : calls.Call) (answer : Reply) (before after : FullState) → IsDone asked answer before after → kinds_in after.desk.stock ≡ kinds_in before.desk.stock
-done_kinds (asks.Window (New w)) (reply.Window n) before after done = taken_kinds _ _ _ _ done.taken
-done_kinds (asks.Window (New w)) (reply.Found f) before after done = absurd done
-done_kinds (asks.Window (New w)) (reply.Front f) before after done = absurd done
-done_kinds (asks.Window (Find p)) (reply.Window n) before after done = absurd done
-done_kinds (asks.Window (Find p)) (reply.Found f) before after done = ap (λ d. kinds_in d.stock) done.1.desk
-done_kinds (asks.Window (Find p)) (reply.Front f) before after done = absurd done
-done_kinds (asks.Window Front) (reply.Window n) before after done = absurd done
-done_kinds (asks.Window Front) (reply.Found f) before after done = absurd done
-done_kinds (asks.Window Front) (reply.Front f) before after done = ap (λ d. kinds_in d.stock) done.1.desk
-
-step_kinds : (asked : calls.Call) (answer : Result Reply Refusal) (before after : FullState) → IsStep asked answer before after → kinds_in after.desk.stock ≡ kinds_in before.desk.stock
-step_kinds asked (Ok answer) before after step = done_kinds asked answer before after step.1
-step_kinds asked (Err e) before after step = ap (λ d. kinds_in d.stock) step.1.desk
-
 -- what a command leaves of it
 answers_kinds : (s : FullState) (command : Command) (text : List ℕ) (after : FullState) → Answers s command text after → kinds_in after.desk.stock ≡ kinds_in s.desk.stock
 answers_kinds s (Desk size) text after answered = ap (λ t. kinds_in t.desk.stock) answered.1
 answers_kinds s Image text after answered = ap (λ t. kinds_in t.desk.stock) answered.1
-answers_kinds s (Call asked) text after answered = step_kinds asked answered.0 s after answered.1
+answers_kinds s (Call asked) text after answered = step_keeps_kinds asked answered.0 s after answered.1
 
 first_kinds : (s : FullState) (command : Command) (text : List ℕ) (after : FullState) → FirstAnswers s command text after → kinds_in after.desk.stock ≡ kinds_in s.desk.stock
 first_kinds s (Desk size) text after answered = ap (λ t. kinds_in t.desk.stock) answered.1

@@ -91,9 +91,15 @@ fn run_script(
 
 fn main(rt: HostRuntime) -> ExitCode {
     let alloc = rt.alloc();
-    let Ok(words) = env::args(&rt) else {
-        let _ = rt.eprintln(UNREADABLE);
-        return ExitCode::from(2);
+    let words = match env::args(&rt) {
+        Ok(words) => words,
+        Err(error) if error.kind() == io::ErrorKind::OutOfMemory => {
+            return refused_words(&rt, OptionsError::Memory(AllocError));
+        }
+        Err(_) => {
+            let _ = rt.eprintln(UNREADABLE);
+            return ExitCode::from(2);
+        }
     };
     let words: Vec<String> = match words.collect(alloc) {
         Ok(words) => words,
