@@ -10,7 +10,7 @@ pub mod SameDeskLemmas
 pub mod NewWindowLemmas
 pub mod Others
 pub mod Sweeping
-pub mod Staying
+pub mod UpdateLemmas
 pub mod Arranging
 pub mod KeptLemmas
 pub mod DimLemmas

@@ -36,7 +36,7 @@ use Rattle.desk_toolbox.proofs.RefusalLemmas.{refusal_is, unplanned_is_refused}
 use Rattle.desk_toolbox.proofs.SameDeskLemmas.{areas_stay, stays_unchanged}
 use Rattle.desk_toolbox.proofs.PlaceLemmas.{placed_parts}
 use Rattle.desk_toolbox.proofs.Adding.{Added, with_front, image_is, plain_is, after_is_desk}
-use Rattle.desk_toolbox.proofs.Staying.{areas_are, updated_is_stale}
+use Rattle.desk_toolbox.proofs.UpdateLemmas.{areas_are, updated_is_stale}
 use Rattle.desk_toolbox.proofs.DimLemmas.{windows_behind, settled_behind, stocked_behind, records_behind}
 use Rattle.desk_toolbox.proofs.Running.{layered_desk-with, numbered_with}
 
