@@ -13,10 +13,11 @@
 //! it is in. A region has no coordinate space of its own: it is that of the call.
 //!
 //! `empty`, `from_rect` and `copy` begin a region, and `offset` moves it. `contains`, `is_empty`,
-//! `equals`, `meets_rect` and `bbox` answer from the rows and take no memory: `meets_rect` looks at
-//! pixels, not at bounds, and `bbox` is the rectangle around them. A set of pixels is kept in one list
-//! of rows alone (`laws::one_list_of_rows`), so that `equals`, which compares the lists, compares the
-//! sets. Its list of spans is one too, whatever form it is kept in (`laws::one_list_of_spans`).
+//! `equals`, `meets_rect` and `bbox` answer from the rows and take no memory: `contains` finds the row
+//! of a point by halving, since drawing asks it at each pixel, `meets_rect` looks at pixels, not at
+//! bounds, and `bbox` is the rectangle around them. A set of pixels is kept in one list of rows alone
+//! (`laws::one_list_of_rows`), so that `equals`, which compares the lists, compares the sets. Its list
+//! of spans is one too, whatever form it is kept in (`laws::one_list_of_spans`).
 #![tactic(auto)]
 
 mod bounds;
