@@ -1,7 +1,7 @@
 //! Slots of definitions that the program made: taken for use, and put back.
 ghost use Rattle.std.specs.Prelude.{◌≡◌, Some, None, IfOk, IfErr, OnOk, OnErr, IfSome, IsSome, IsSomeAnd, true, List, slice_get, All, ◌++◌, ◌∷◌, []};
 ghost use Rattle.def_iface.specs.Meaning.{Definition};
-ghost use Rattle.def_iface.specs.Stocked.{SlotView, offers, is_kind, has_kind, first_offer, is_left, IsFull, IsTaken, IsNotTaken, IsPutBack};
+ghost use Rattle.def_iface.specs.Stocked.{SlotView, offers, is_kind, has_kind, first_offer, is_left, IsFull, IsIdle, IsTaken, IsNotTaken, IsPutBack};
 ghost use Rattle.def_iface.specs.Slots.{slot_view, slot_views};
 
 use crate::{Defined, Stage, Taken, WindowDef};
@@ -161,10 +161,11 @@ impl Stock {
         }
     }
 
-    /// Puts a definition back into the slot that it came from. One that is Closed stays there, and
-    /// is not taken again.
+    /// Puts a definition that is Fresh or Closed back into the slot that it came from. One that is
+    /// Closed stays there, and is not taken again.
     pub fn put_back(&mut self, taken: Taken)
-        requires { is_left (⟦<Taken as Defined>⟧.loan taken).slot (⟦<Stock as Stocked>⟧.slots self.old) ≡ true }
+        requires idle { IsIdle (⟦<Taken as Defined>⟧.loan taken).definition }
+        requires left { is_left (⟦<Taken as Defined>⟧.loan taken).slot (⟦<Stock as Stocked>⟧.slots self.old) ≡ true }
         ensures { IsPutBack (⟦<Taken as Defined>⟧.loan taken)
             (⟦<Stock as Stocked>⟧.slots self.old) (⟦<Stock as Stocked>⟧.slots self.new) }
     {

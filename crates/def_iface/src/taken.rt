@@ -1,7 +1,7 @@
 //! A definition on its way: out of its slot, in a window's record, and back.
 ghost use Rattle.std.specs.Prelude.{◌≡◌, true, IfOk, IfErr};
 ghost use Rattle.tb_geom.specs.declared.point.Point.{Point};
-ghost use Rattle.tb_geom.specs.Rects.{IsBoxOf, rect_holds};
+ghost use Rattle.tb_geom.specs.Rects.{IsBoxOf, rect_holds, is_empty_rect, empty_rect};
 ghost use Rattle.tb_geom.specs.Pixels.{holds};
 ghost use Rattle.bit_blit.specs.Draws.{Draws};
 ghost use Rattle.def_iface.specs.Sizes.{is_size};
@@ -33,12 +33,13 @@ impl Defined for Taken {
 }
 
 impl Taken {
-    /// The exact box of the structure of a window of this size, local to the window. The content lies
-    /// in the structure.
+    /// The exact box of the structure of a window of this size, local to the window, 0 0 0 0 where it
+    /// has no pixel. The content lies in the structure.
     pub fn bounds(&self, size: Size) -> Rect
         requires { is_size size ≡ true }
         ensures value { result ≡ (⟦<Taken as Defined>⟧.loan self.now).definition.bounds size }
         ensures exact { IsBoxOf result ((⟦<Taken as Defined>⟧.loan self.now).definition.structure size) }
+        ensures none { is_empty_rect result ≡ true → result ≡ empty_rect }
         ensures content { IsWithin ((⟦<Taken as Defined>⟧.loan self.now).definition.content size)
             ((⟦<Taken as Defined>⟧.loan self.now).definition.structure size) }
     {

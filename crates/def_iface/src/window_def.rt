@@ -2,7 +2,7 @@
 ghost use Rattle.std.specs.Prelude.{◌≡◌, true, IfOk, IfErr};
 ghost use Rattle.tb_geom.specs.declared.point.Point.{Point};
 ghost use Rattle.tb_geom.specs.Points.{minus};
-ghost use Rattle.tb_geom.specs.Rects.{IsBoxOf, rect_holds};
+ghost use Rattle.tb_geom.specs.Rects.{IsBoxOf, rect_holds, is_empty_rect, empty_rect};
 ghost use Rattle.tb_geom.specs.Pixels.{holds};
 ghost use Rattle.bit_blit.specs.Draws.{Draws};
 ghost use Rattle.def_iface.specs.Sizes.{is_size};
@@ -97,12 +97,13 @@ pub trait WindowDef: Drop {
         ensures boxed { IfOk result (λ r. IsWithin (holds r.structure) (rect_holds ((meaning self.now).bounds size))) }
         ensures refused { IfErr result (λ e. e ≡ Refusal.NoMemory) };
 
-    /// The exact box of the structure of a window of this size. It takes no memory. The content lies in
-    /// the structure, whether there is memory for the two as regions or not.
+    /// The exact box of the structure of a window of this size, 0 0 0 0 where it has no pixel. It takes
+    /// no memory. The content lies in the structure, whether there is memory for the two as regions or not.
     fn bounds(&self, size: Size) -> Rect
         requires { is_size size ≡ true }
         ensures value { result ≡ (meaning self.now).bounds size }
         ensures exact { IsBoxOf result ((meaning self.now).structure size) }
+        ensures none { is_empty_rect result ≡ true → result ≡ empty_rect }
         ensures content { IsWithin ((meaning self.now).content size) ((meaning self.now).structure size) };
 
     /// The part of the window that the point lies in. It is asked of points of the structure.

@@ -9,17 +9,17 @@ use Rattle.std.specs.Str.Lines.{strip_carriage_return}
 use Rattle.tb_geom.specs.declared.refusal.Refusal.{Refusal}
 use Rattle.tb_geom.specs.declared.refusal.Refusal.TheVariants.{ReadFault}
 use Rattle.def_iface.specs.Stocked.{SlotView}
-use Rattle.script_runner.specs.declared.script_text.command.Command.{Command}
-use Rattle.script_runner.specs.Held.{said_held, said_last, held_of, pushed}
-use Rattle.script_runner.specs.Lines.{said, whole_lines, last_part, lines_of, if_any}
-use Rattle.script_runner.specs.Reads.{Input, IsOpen, Gave, most_reads}
+use Rattle.script_text.specs.declared.command.Command.{Command}
+use Rattle.script_text.specs.Held.{said_held, said_last, held_of, pushed}
+use Rattle.script_text.specs.Lines.{said, whole_lines, last_part, lines_of, if_any}
+use Rattle.watched_io.specs.Reads.{Input, IsOpen, Gave, most_reads}
 use Rattle.script_runner.specs.Session.{SessionState, unmade, SaidAnswers, Written}
 use Rattle.script_runner.specs.Endings.{LineEnds}
 use Rattle.script_runner.specs.Progress.{SoFar}
 use Rattle.script_runner.specs.Runs.{IsEntire, Stops, ScriptEnds}
-use Rattle.script_runner.specs.Writes.{Output}
-use Rattle.script_runner.proofs.Cuts.{whole_lines-newline, last_part-newline, whole_lines-other, last_part-other, pushed-held_of, said_held-held_of, said_last-held_of}
-use Rattle.script_runner.proofs.Written.{Sent-nil, Sent-trans, BrokeOff-after}
+use Rattle.watched_io.specs.Writes.{Output}
+use Rattle.script_text.proofs.Cuts.{whole_lines-newline, last_part-newline, whole_lines-other, last_part-other, pushed-held_of, said_held-held_of, said_last-held_of}
+use Rattle.watched_io.proofs.Written.{Sent-nil, Sent-trans, BrokeOff-after}
 
 -- one more line at the end
 pub written-more : (old : SessionState) (lines : List (List ℕ)) (text : List ℕ) (middle : SessionState) (line more : List ℕ) (new : SessionState)

@@ -1,12 +1,4 @@
 mod ChoicesLemmas
-mod Cuts
 mod Ends
-mod ImageLaws
-mod Ranges
-mod Rows
 mod Sessions
-mod Spelled
 mod StockKinds
-mod TextLaws
-mod WordLemmas
-mod Written

@@ -10,12 +10,12 @@ use Rattle.desk_toolbox.specs.declared.toolbox.Toolbox.{Toolbox}
 use Rattle.desk_toolbox.specs.Begin.{IsEmptyDesk}
 use Rattle.desk_toolbox.specs.Records.{state_of}
 use Rattle.desk_toolbox.specs.FullDesk.{FullState}
-use Rattle.script_runner.specs.declared.script_text.command.Command.{Command}
-use Rattle.script_runner.specs.declared.script_text.command.DeskSize.{DeskSize}
+use Rattle.script_text.specs.declared.command.Command.{Command}
+use Rattle.script_text.specs.declared.command.DeskSize.{DeskSize}
 use Rattle.script_runner.specs.Session.{unmade, made, IsNewDesk, Opens, first_size, is_known, may_be, why_unmade}
 use Rattle.script_runner.specs.Endings.{IsFirstAnswered, CommandEnds}
-use Rattle.script_runner.specs.Replies.{refused_text}
-use Rattle.script_runner.specs.Writes.{Output, Sends}
+use Rattle.script_text.specs.Replies.{refused_text}
+use Rattle.watched_io.specs.Writes.{Output, Sends}
 
 -- the desk that the Toolbox made
 pub new_desk : {V : Type 0} {H : V → Type 0} (loan : Taken V H → Loan) (t : Toolbox V H) (slots : List SlotView) (size wanted : DeskSize) → size ≡ wanted

@@ -5,13 +5,13 @@ use Rattle.tb_geom.specs.declared.refusal.Refusal.TheVariants.{NoMemory, ReadFau
 use Rattle.def_iface.specs.Stocked.{SlotView}
 use Rattle.desk_toolbox.specs.FullDesk.{FullState}
 use Rattle.desk_toolbox.proofs.Sayings.{step_keeps_kinds}
-use Rattle.script_runner.specs.declared.script_text.command.Command.{Command}
-use Rattle.script_runner.specs.declared.script_text.command.Command.TheVariants.{Desk, Image, Call}
-use Rattle.script_runner.specs.Lines.{said}
-use Rattle.script_runner.specs.Reads.{Input}
+use Rattle.script_text.specs.declared.command.Command.{Command}
+use Rattle.script_text.specs.declared.command.Command.TheVariants.{Desk, Image, Call}
+use Rattle.script_text.specs.Lines.{said}
+use Rattle.watched_io.specs.Reads.{Input}
 use Rattle.script_runner.specs.Runs.{ScriptEnds}
 use Rattle.script_runner.specs.Session.{SessionState, unmade, made, LeavesStock, Answers, FirstAnswers, Opens, Obeys, SaidAnswers, Written, why_unmade}
-use Rattle.script_runner.specs.Writes.{Output}
+use Rattle.watched_io.specs.Writes.{Output}
 
 -- the kinds of the slots
 abbrev kinds_in : List SlotView → List (List ℕ)

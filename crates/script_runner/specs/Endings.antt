@@ -3,9 +3,9 @@ use Rattle.std.specs.Prelude.{◌≡◌, ◌⊎◌, ℕ, true, List, Option, Som
 use Rattle.tb_geom.specs.declared.refusal.Refusal.{Refusal}
 use Rattle.tb_geom.specs.declared.refusal.Refusal.TheVariants.{NoMemory}
 use Rattle.desk_toolbox.specs.FullDesk.{FullState}
-use Rattle.script_runner.specs.declared.script_text.command.Command.{Command}
+use Rattle.script_text.specs.declared.command.Command.{Command}
 use Rattle.script_runner.specs.Session.{SessionState, Answers, FirstAnswers, Obeys, SaidAnswers, makes_desk}
-use Rattle.script_runner.specs.Writes.{Output, Sends}
+use Rattle.watched_io.specs.Writes.{Output, Sends}
 
 -- a command was answered on a desk, as far as writing went
 abbrev pub IsAnswered : {X : Type 0} → FullState → Command → FullState → Output → Output → Result X Refusal → Type 0

@@ -1,17 +1,6 @@
 pub mod Choices
-pub mod Commands
 pub mod Endings
-pub mod Grammar
-pub mod Held
-pub mod Lines
-pub mod Pbm
-pub mod PlainWindows
 pub mod Progress
-pub mod Reads
-pub mod Replies
 pub mod Runs
 pub mod Session
 pub mod SessionViews
-pub mod Spelling
-pub mod Words
-pub mod Writes

@@ -3,12 +3,12 @@ use Rattle.std.specs.Prelude.{◌≡◌, ℕ, List, [], ◌++◌, Option, Result
 use Rattle.std.specs.Io.KnownBytes.{Consumes}
 use Rattle.tb_geom.specs.declared.refusal.Refusal.{Refusal}
 use Rattle.def_iface.specs.Stocked.{SlotView}
-use Rattle.script_runner.specs.Held.{held_of}
-use Rattle.script_runner.specs.Lines.{whole_lines, last_part}
-use Rattle.script_runner.specs.Reads.{Input, IsOpen}
+use Rattle.script_text.specs.Held.{held_of}
+use Rattle.script_text.specs.Lines.{whole_lines, last_part}
+use Rattle.watched_io.specs.Reads.{Input, IsOpen}
 use Rattle.script_runner.specs.Runs.{Stops}
 use Rattle.script_runner.specs.Session.{SessionState, unmade, Written}
-use Rattle.script_runner.specs.Writes.{Output, Sent}
+use Rattle.watched_io.specs.Writes.{Output, Sent}
 
 -- `slots` are those of the stock at the start, `input` and `old` the reader and the writer there
 module _ (slots : List SlotView) (input : Input) (old : Output) where

@@ -4,11 +4,11 @@ use Rattle.std.specs.Io.KnownBytes.{Consumes}
 use Rattle.tb_geom.specs.declared.refusal.Refusal.{Refusal}
 use Rattle.tb_geom.specs.declared.refusal.Refusal.TheVariants.{NoMemory, ReadFault, WriteFault}
 use Rattle.def_iface.specs.Stocked.{SlotView}
-use Rattle.script_runner.specs.declared.script_text.command.Command.{Command}
-use Rattle.script_runner.specs.Lines.{said, whole_lines, lines_of}
-use Rattle.script_runner.specs.Reads.{Input, most_reads}
+use Rattle.script_text.specs.declared.command.Command.{Command}
+use Rattle.script_text.specs.Lines.{said, whole_lines, lines_of}
+use Rattle.watched_io.specs.Reads.{Input, most_reads}
 use Rattle.script_runner.specs.Session.{SessionState, unmade, Written, LeavesStock, makes_desk}
-use Rattle.script_runner.specs.Writes.{Output, Sent, BrokeOff}
+use Rattle.watched_io.specs.Writes.{Output, Sent, BrokeOff}
 
 -- the reader came to the end of its input, and gave all of it
 pub record IsEntire (input rest : Input) (script : List ℕ) : Type 0 where

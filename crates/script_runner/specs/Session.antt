@@ -12,12 +12,12 @@ use Rattle.desk_toolbox.specs.Begin.{empty_desk}
 use Rattle.desk_toolbox.specs.Closing.{IsClosed}
 use Rattle.desk_toolbox.specs.Step.{IsStep}
 use Rattle.desk_toolbox.specs.Whole.{is_screen}
-use Rattle.script_runner.specs.declared.script_text.command.Command.{Command}
-use Rattle.script_runner.specs.declared.script_text.command.DeskSize.{DeskSize}
-use Rattle.script_runner.specs.declared.script_text.command.Command.TheVariants.{Desk, Image, Call}
-use Rattle.script_runner.specs.Lines.{said}
-use Rattle.script_runner.specs.Pbm.{p1}
-use Rattle.script_runner.specs.Replies.{done_text, refused_text, reply_text}
+use Rattle.script_text.specs.declared.command.Command.{Command}
+use Rattle.script_text.specs.declared.command.DeskSize.{DeskSize}
+use Rattle.script_text.specs.declared.command.Command.TheVariants.{Desk, Image, Call}
+use Rattle.script_text.specs.Lines.{said}
+use Rattle.screen_pbm.specs.Pbm.{p1}
+use Rattle.script_text.specs.Replies.{done_text, refused_text, reply_text}
 
 -- the desk of a script: none so far, over these slots of the stock, or one in this state
 pub data SessionState : Type 0 where

@@ -9,9 +9,6 @@ use std::alloc::{AllocError, Global};
 use std::convert::AsStr;
 use thiserror::Error;
 
-#[cfg(test)]
-mod tests;
-
 /// What the command line chose.
 #[derive(Debug, Drop)]
 pub struct Choices<'a> {

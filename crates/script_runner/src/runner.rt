@@ -1,22 +1,21 @@
 //! A run: the lines of a script, from a reader, and what each answers, to a writer.
 ghost use Rattle.std.specs.Prelude.{◌≡◌, ◌≢◌, Option, Some, IsOk, OnOk, All, List, [], map, false};
 ghost use Rattle.def_iface.specs.Stocked.{SlotView, IsFull};
-ghost use Rattle.script_runner.specs.Held.{pushed, said_held};
+ghost use Rattle.script_text.specs.Held.{pushed, said_held};
 ghost use Rattle.script_runner.specs.SessionViews.{session_of, IsReady};
 ghost use Rattle.script_runner.specs.Session.{unmade};
 ghost use Rattle.script_runner.specs.Endings.{LineEnds};
 ghost use Rattle.script_runner.specs.Progress.{SoFar, GoesOn};
-ghost use Rattle.script_runner.specs.Reads.{Input, IsOpen};
+ghost use Rattle.watched_io.specs.Reads.{Input, IsOpen};
 ghost use Rattle.script_runner.specs.Runs.{RunEnds, ScriptEnds};
-ghost use Rattle.script_runner.specs.Writes.{Output};
+ghost use Rattle.watched_io.specs.Writes.{Output};
 
-use crate::script_text::LineBuffer;
 use crate::session::Session;
-use crate::sink::Sink;
-use crate::source::Source;
 use def_iface::{Defined, Stock, Stocked, Taken};
+use script_text::LineBuffer;
 use std::alloc::Global;
 use tb_geom::Refusal;
+use watched_io::{Sink, Source};
 
 /// How many reads a run makes at most.
 const MOST_READS: u32 = 1_000_000;
@@ -60,6 +59,7 @@ fn answer_all<R: Source, W: Sink>(
         ≡ unmade (⟦<Stock as Stocked>⟧.slots stock.old) }
     requires unread { (R.input source.old).reads ≡ 0 }
     requires going { IsOpen (R.input source.old) }
+    requires unfailed { (W.output sink.old).has_failed ≡ false }
     ensures ready { IsReady ⟦<Taken as Defined>⟧.loan session.new (⟦<Stock as Stocked>⟧.slots stock.new) }
     ensures ends { ScriptEnds (⟦<Stock as Stocked>⟧.slots stock.old) (R.input source.old) (R.input source.new)
         (W.output sink.old) (W.output sink.new)
@@ -85,8 +85,10 @@ fn take_all<W: Sink>(
     stock: &mut Stock,
     sink: &mut W,
 ) -> Result<(), Refusal>
-    requires { IsReady ⟦<Taken as Defined>⟧.loan session.old (⟦<Stock as Stocked>⟧.slots stock.old) }
+    requires ready { IsReady ⟦<Taken as Defined>⟧.loan session.old (⟦<Stock as Stocked>⟧.slots stock.old) }
+    requires unfailed { (W.output sink.old).has_failed ≡ false }
     ensures ready { IsReady ⟦<Taken as Defined>⟧.loan session.new (⟦<Stock as Stocked>⟧.slots stock.new) }
+    ensures quiet { OnOk result ((W.output sink.new).has_failed ≡ false) }
     ensures goes_on { (slots : List SlotView) (input rest : Input) (old : Output) → SoFar slots input old rest (W.output sink.old)
         (session_of ⟦<Taken as Defined>⟧.loan session.old (⟦<Stock as Stocked>⟧.slots stock.old)) line.old bytes.now
         → GoesOn slots input old rest (W.output sink.new)
@@ -106,8 +108,10 @@ fn take<W: Sink>(
     stock: &mut Stock,
     sink: &mut W,
 ) -> Result<(), Refusal>
-    requires { IsReady ⟦<Taken as Defined>⟧.loan session.old (⟦<Stock as Stocked>⟧.slots stock.old) }
+    requires ready { IsReady ⟦<Taken as Defined>⟧.loan session.old (⟦<Stock as Stocked>⟧.slots stock.old) }
+    requires unfailed { (W.output sink.old).has_failed ≡ false }
     ensures ready { IsReady ⟦<Taken as Defined>⟧.loan session.new (⟦<Stock as Stocked>⟧.slots stock.new) }
+    ensures quiet { OnOk result ((W.output sink.new).has_failed ≡ false) }
     ensures newline { byte ≡ 10 → LineEnds
         (session_of ⟦<Taken as Defined>⟧.loan session.old (⟦<Stock as Stocked>⟧.slots stock.old)) (said_held line.old)
         (session_of ⟦<Taken as Defined>⟧.loan session.new (⟦<Stock as Stocked>⟧.slots stock.new))
@@ -126,6 +130,3 @@ fn take<W: Sink>(
     line.clear();
     Ok(())
 }
-
-#[cfg(test)]
-mod tests;

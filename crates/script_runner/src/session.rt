@@ -1,5 +1,5 @@
 //! The desk of a script: none, until the first command makes it.
-ghost use Rattle.std.specs.Prelude.{◌≡◌, true, All, None};
+ghost use Rattle.std.specs.Prelude.{◌≡◌, true, false, All, None, OnOk};
 ghost use Rattle.def_iface.specs.Stocked.{IsFull};
 ghost use Rattle.desk_toolbox.specs.declared.call.Call.TheVariants as asks;
 ghost use Rattle.desk_toolbox.specs.Records.{state_of};
@@ -8,13 +8,13 @@ ghost use Rattle.script_runner.specs.Session.{LeavesStock, first_size, is_known}
 ghost use Rattle.script_runner.specs.SessionViews.{session_of, IsReady};
 ghost use Rattle.script_runner.specs.Endings.{IsAnswered, IsFirstAnswered, CommandEnds, LineEnds};
 
-use crate::screen_pbm::write_p1;
-use crate::script_text::{Command, DeskSize, write_done, write_reply};
-use crate::sink::Sink;
 use def_iface::{Defined, Stock, Stocked, Taken};
 use desk_toolbox::{Call, Toolbox, WindowCall};
+use screen_pbm::write_p1;
+use script_text::{Command, DeskSize, write_done, write_reply};
 use std::alloc::Global;
 use tb_geom::Refusal;
+use watched_io::Sink;
 
 /// The desk that is made where the first command asks for no other.
 const USUAL_DESK: DeskSize = DeskSize {
@@ -47,8 +47,10 @@ impl Session {
         stock: &mut Stock,
         sink: &mut S,
     ) -> Result<(), Refusal>
-        requires { IsReady ⟦<Taken as Defined>⟧.loan self.old (⟦<Stock as Stocked>⟧.slots stock.old) }
+        requires ready { IsReady ⟦<Taken as Defined>⟧.loan self.old (⟦<Stock as Stocked>⟧.slots stock.old) }
+        requires unfailed { (S.output sink.old).has_failed ≡ false }
         ensures ready { IsReady ⟦<Taken as Defined>⟧.loan self.new (⟦<Stock as Stocked>⟧.slots stock.new) }
+        ensures quiet { OnOk result ((S.output sink.new).has_failed ≡ false) }
         ensures ends { LineEnds
             (session_of ⟦<Taken as Defined>⟧.loan self.old (⟦<Stock as Stocked>⟧.slots stock.old)) said.entry
             (session_of ⟦<Taken as Defined>⟧.loan self.new (⟦<Stock as Stocked>⟧.slots stock.new))
@@ -68,8 +70,10 @@ impl Session {
         stock: &mut Stock,
         sink: &mut S,
     ) -> Result<(), Refusal>
-        requires { IsReady ⟦<Taken as Defined>⟧.loan self.old (⟦<Stock as Stocked>⟧.slots stock.old) }
+        requires ready { IsReady ⟦<Taken as Defined>⟧.loan self.old (⟦<Stock as Stocked>⟧.slots stock.old) }
+        requires unfailed { (S.output sink.old).has_failed ≡ false }
         ensures ready { IsReady ⟦<Taken as Defined>⟧.loan self.new (⟦<Stock as Stocked>⟧.slots stock.new) }
+        ensures quiet { OnOk result ((S.output sink.new).has_failed ≡ false) }
         ensures ends { CommandEnds
             (session_of ⟦<Taken as Defined>⟧.loan self.old (⟦<Stock as Stocked>⟧.slots stock.old)) command.now
             (session_of ⟦<Taken as Defined>⟧.loan self.new (⟦<Stock as Stocked>⟧.slots stock.new))
@@ -92,7 +96,9 @@ impl Session {
         requires unmade { self.old.desk ≡ None }
         requires full { All IsFull (⟦<Stock as Stocked>⟧.slots stock.old) }
         requires known { is_known command.now (⟦<Stock as Stocked>⟧.slots stock.old) ≡ true }
+        requires unfailed { (S.output sink.old).has_failed ≡ false }
         ensures ready { IsReady ⟦<Taken as Defined>⟧.loan self.new (⟦<Stock as Stocked>⟧.slots stock.new) }
+        ensures quiet { OnOk result ((S.output sink.new).has_failed ≡ false) }
         ensures ends { CommandEnds
             (session_of ⟦<Taken as Defined>⟧.loan self.old (⟦<Stock as Stocked>⟧.slots stock.old)) command.now
             (session_of ⟦<Taken as Defined>⟧.loan self.new (⟦<Stock as Stocked>⟧.slots stock.new))
@@ -167,8 +173,10 @@ fn first_answer<S: Sink>(
     stock: &mut Stock,
     sink: &mut S,
 ) -> Result<(), Refusal>
-    requires { IsWhole ⟦<Taken as Defined>⟧.loan desk.old (⟦<Stock as Stocked>⟧.slots stock.old) }
+    requires whole { IsWhole ⟦<Taken as Defined>⟧.loan desk.old (⟦<Stock as Stocked>⟧.slots stock.old) }
+    requires unfailed { (S.output sink.old).has_failed ≡ false }
     ensures whole { IsWhole ⟦<Taken as Defined>⟧.loan desk.new (⟦<Stock as Stocked>⟧.slots stock.new) }
+    ensures quiet { OnOk result ((S.output sink.new).has_failed ≡ false) }
     ensures answered { IsFirstAnswered
         (state_of ⟦<Taken as Defined>⟧.loan desk.old (⟦<Stock as Stocked>⟧.slots stock.old)) command.now
         (state_of ⟦<Taken as Defined>⟧.loan desk.new (⟦<Stock as Stocked>⟧.slots stock.new))
@@ -188,8 +196,10 @@ fn answer_on<S: Sink>(
     stock: &mut Stock,
     sink: &mut S,
 ) -> Result<(), Refusal>
-    requires { IsWhole ⟦<Taken as Defined>⟧.loan desk.old (⟦<Stock as Stocked>⟧.slots stock.old) }
+    requires whole { IsWhole ⟦<Taken as Defined>⟧.loan desk.old (⟦<Stock as Stocked>⟧.slots stock.old) }
+    requires unfailed { (S.output sink.old).has_failed ≡ false }
     ensures whole { IsWhole ⟦<Taken as Defined>⟧.loan desk.new (⟦<Stock as Stocked>⟧.slots stock.new) }
+    ensures quiet { OnOk result ((S.output sink.new).has_failed ≡ false) }
     ensures answered { IsAnswered
         (state_of ⟦<Taken as Defined>⟧.loan desk.old (⟦<Stock as Stocked>⟧.slots stock.old)) command.now
         (state_of ⟦<Taken as Defined>⟧.loan desk.new (⟦<Stock as Stocked>⟧.slots stock.new))

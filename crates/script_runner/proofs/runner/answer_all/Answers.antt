@@ -1,7 +1,7 @@
 use Rattle.std.proofs.Common.{◌≡◌, ◌+◌, ◌<◌, [], length, take, subst, refl, ap, ◌∙◌, arith}
 use Rattle.std.proofs.lemmas.List.{length-take}
 use Rattle.std.proofs.lemmas.Result.{err_from_is_err_and}
-use Rattle.script_runner.specs.Reads.{Gave}
+use Rattle.watched_io.specs.Reads.{Gave}
 use Rattle.script_runner.proofs.Ends.{start, read_more, finished}
 use Rattle.script_runner.proofs.runner.answer_all.Goals as goal
 

@@ -7,7 +7,7 @@ use Rattle.script_runner.proofs.Ends.{next, taken, taken_last}
 use Rattle.script_runner.proofs.runner.take_all.Goals as goal
 
 pub loop-byte-init : goal.loop-byte-init
-loop-byte-init g c = record { ready = c.requires; so_far = λ first input rest old so_far. so_far }
+loop-byte-init g c = record { ready = c.requires.ready; so_far = λ first input rest old so_far. so_far }
 
 pub returns-in_err-take-clause-goes_on : goal.returns-in_err-take-clause-goes_on
 returns-in_err-take-clause-goes_on g c = λ first input rest old so_far.

@@ -4,8 +4,8 @@ use Rattle.def_iface.specs.contracts.taken.TakenDefined.TheImpl as taken
 use Rattle.def_iface.specs.contracts.stock.StockStocked.TheImpl as stock
 use Rattle.script_runner.specs.SessionViews.{session_of, IsReady}
 use Rattle.script_runner.specs.Progress.{SoFar}
-use Rattle.script_runner.specs.Reads.{Input}
-use Rattle.script_runner.specs.Writes.{Output}
+use Rattle.watched_io.specs.Reads.{Input}
+use Rattle.watched_io.specs.Writes.{Output}
 use Rattle.script_runner.proofs.runner.take_all.Given as goal
 
 abbrev pub invariant-loop-byte : goal.invariant-loop-byte

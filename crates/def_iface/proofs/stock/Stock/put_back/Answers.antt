@@ -7,7 +7,7 @@ use Rattle.def_iface.proofs.stock.Stock.put_back.Goals as goal
 pub index_mut-slot-requires : goal.index_mut-slot-requires
 index_mut-slot-requires g c =
     let slots = c.args.self.now.slots in
-    let within : c.args.taken.slot < length slots.items = left_is_there (slot_view (λ b. (goal.WindowDef-dyn g (b.vtable, b.value)).meaning b.value)) slots.items c.args.taken.slot c.requires in
+    let within : c.args.taken.slot < length slots.items = left_is_there (slot_view (λ b. (goal.WindowDef-dyn g (b.vtable, b.value)).meaning b.value)) slots.items c.args.taken.slot c.requires.left in
     search rules
 
 pub returns : goal.returns

@@ -1,0 +1,50 @@
+-- Texts over a range of numbers, one after the other.
+use Rattle.std.proofs.Common.{◌≡◌, ℕ, zero, suc, ◌+◌, ◌-◌, ◌<◌, List, [], ◌∷◌, ◌++◌, refl, sym, ap, ◌∙◌, subst, append-nil, arith, Result}
+use Rattle.std.specs.Result.{IsErrAnd}
+use Rattle.std.specs.List.{flat_map, range_with_len}
+use Rattle.std.proofs.lemmas.List.Concat.{flat_map-append}
+use Rattle.tb_geom.specs.declared.refusal.Refusal.{Refusal}
+use Rattle.tb_geom.specs.declared.refusal.Refusal.TheVariants.{WriteFault}
+use Rattle.watched_io.specs.Writes.{Output, Sent, BrokeOff, Sends}
+use Rattle.watched_io.proofs.Written.{Sent-trans, Sends-exit}
+
+-- a range in two parts
+pub range_with_len-add : (a m n : ℕ) → range_with_len a (m + n) ≡ range_with_len a m ++ range_with_len (a + m) n
+range_with_len-add a zero n =
+    let e : zero + n ≡ n = omega arith in
+    let f : a + zero ≡ a = omega arith in
+    rw (e, f) refl
+range_with_len-add a (suc m) n =
+    let e : suc m + n ≡ suc (m + n) = omega arith in
+    let f : a + suc m ≡ (a + 1) + m = omega arith in
+    ap (range_with_len a) e ∙ ap (λ l. a ∷ l) (range_with_len-add (a + 1) m n) ∙ ap (λ k. a ∷ range_with_len (a + 1) m ++ range_with_len k n) (sym f)
+
+-- one more text
+pub flat_map-range_more : (f : ℕ → List ℕ) (n : ℕ) → flat_map f (range_with_len 0 (n + 1)) ≡ flat_map f (range_with_len 0 n) ++ f n
+flat_map-range_more f n =
+    let z : 0 + n ≡ n = omega arith in
+    ap (flat_map f) (range_with_len-add 0 n 1) ∙ flat_map-append f (range_with_len 0 n) (range_with_len (0 + n) 1)
+    ∙ ap (λ k. flat_map f (range_with_len 0 n) ++ (f k ++ [])) z ∙ ap (λ l. flat_map f (range_with_len 0 n) ++ l) (append-nil (f n))
+
+-- the texts before the k-th, that one, and those after it
+pub flat_map-range_around : (f : ℕ → List ℕ) (n k : ℕ) → k < n → flat_map f (range_with_len 0 n) ≡ (flat_map f (range_with_len 0 k) ++ f k) ++ flat_map f (range_with_len (k + 1) (n - (k + 1)))
+flat_map-range_around f n k h =
+    let e : n ≡ (k + 1) + (n - (k + 1)) = omega arith in
+    let z : 0 + (k + 1) ≡ k + 1 = omega arith in
+    ap (λ m. flat_map f (range_with_len 0 m)) e ∙ ap (flat_map f) (range_with_len-add 0 (k + 1) (n - (k + 1)))
+    ∙ flat_map-append f (range_with_len 0 (k + 1)) (range_with_len (0 + (k + 1)) (n - (k + 1)))
+    ∙ ap (λ m. flat_map f (range_with_len 0 (k + 1)) ++ flat_map f (range_with_len m (n - (k + 1)))) z
+    ∙ ap (λ l. l ++ flat_map f (range_with_len (k + 1) (n - (k + 1)))) (flat_map-range_more f k)
+
+-- a turn of a loop that writes a text for each number
+pub Sent-range_more : (a b c : Output) (f : ℕ → List ℕ) (n : ℕ) → Sent a b (flat_map f (range_with_len 0 n)) → Sent b c (f n) → Sent a c (flat_map f (range_with_len 0 (n + 1)))
+Sent-range_more a b c f n p q = subst (Sent a c) (sym (flat_map-range_more f n)) (Sent-trans a b c _ _ p q)
+
+-- its exit by `?`
+pub Sends-range_exit : {X : Type 0} (a b c : Output) (r : Result X Refusal) (e : Refusal) (f : ℕ → List ℕ) (n k : ℕ) → k < n
+    → IsErrAnd r (λ y. y ≡ e) → Sent a b (flat_map f (range_with_len 0 k)) → (e ≡ WriteFault) × BrokeOff b c (f k) → Sends a c r (flat_map f (range_with_len 0 n))
+Sends-range_exit a b c r e f n k h failed p q = Sends-exit a b c r e _ _ _ _ failed p q (flat_map-range_around f n k h)
+
+-- its end
+pub Sent-range_end : (a b : Output) (f : ℕ → List ℕ) (n k : ℕ) → k ≡ n → Sent a b (flat_map f (range_with_len 0 k)) → Sent a b (flat_map f (range_with_len 0 n))
+Sent-range_end a b f n k e p = subst (λ m. Sent a b (flat_map f (range_with_len 0 m))) e p

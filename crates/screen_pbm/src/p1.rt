@@ -1,0 +1,106 @@
+//! Images in the plain PBM format of Netpbm, P1: a character for each pixel.
+//!
+//! An image takes no memory: its head, and then each of its rows, is collected in a buffer of a fixed
+//! size and goes out with one `send`.
+ghost use Rattle.std.specs.Prelude.{◌≡◌, ◌<◌, ◌≤◌, pos, false};
+ghost use Rattle.bit_map.specs.Bits.{bit};
+ghost use Rattle.watched_io.specs.Writes.{Sends};
+ghost use Rattle.screen_pbm.specs.Pbm.{digit_of, row_digits, line_count, line_text, row_text, head_text, p1};
+
+use arrayvec::ArrayVec;
+use bit_map::BitMap;
+use itoa::Buffer;
+use tb_geom::{Point, Refusal};
+use watched_io::{Sink, send, send_all};
+
+/// How many columns a map has.
+fn width_of(map: &BitMap) -> u16
+    ensures { result ≡ map.now.width }
+{
+    map.bounds().right as u16
+}
+
+/// How many rows a map has.
+fn height_of(map: &BitMap) -> u16
+    ensures { result ≡ map.now.height }
+{
+    map.bounds().bottom as u16
+}
+
+/// The character of the pixel in a column of a row.
+fn digit(map: &BitMap, row: u16, column: u16) -> u8
+    requires row { row < map.now.height }
+    requires column { column < map.now.width }
+    ensures { result ≡ digit_of (bit map.now (record { h = pos column; v = pos row })) }
+{
+    let point = Point {
+        h: i32::from(column),
+        v: i32::from(row),
+    };
+    if map.get(point) { b'1' } else { b'0' }
+}
+
+/// The characters of a line of a row, and the line's end.
+fn line_of(map: &BitMap, row: u16, line: u16) -> ArrayVec<u8, 71>
+    requires row { row < map.now.height }
+    requires width { map.now.width ≤ 1024 }
+    requires line { line < line_count map.now.width }
+    ensures { result.items ≡ line_text (row_digits map.now.width (bit map.now) row) line }
+{
+    let width = width_of(map);
+    let from = line * 70;
+    let count = (width - from).min(70);
+    let mut text = ArrayVec::new();
+    for k in 0..count {
+        text.push(digit(map, row, from + k));
+    }
+    text.push(b'\n');
+    text
+}
+
+/// The lines of a row. 1024 columns take 1024 characters and 15 line ends.
+fn row_of(map: &BitMap, row: u16) -> ArrayVec<u8, 1039>
+    requires row { row < map.now.height }
+    requires width { map.now.width ≤ 1024 }
+    ensures { result.items ≡ row_text map.now.width (bit map.now) row }
+{
+    let mut text = ArrayVec::new();
+    for line in 0..width_of(map).div_ceil(70) {
+        let characters = line_of(map, row, line);
+        text.try_extend_from_slice(characters.as_slice()).unwrap();
+    }
+    text
+}
+
+/// Writes the head of an image of this many columns and rows.
+fn write_head<S: Sink>(sink: &mut S, width: u16, height: u16) -> Result<(), Refusal>
+    requires { (S.output sink.old).has_failed ≡ false }
+    ensures { Sends (S.output sink.old) (S.output sink.new) result (head_text width height) }
+{
+    let mut columns = Buffer::new();
+    let mut rows = Buffer::new();
+    let pieces: [&[u8]; 5] = [
+        b"P1\n",
+        columns.format(width).as_bytes(),
+        b" ",
+        rows.format(height).as_bytes(),
+        b"\n",
+    ];
+    send_all(sink, &pieces)
+}
+
+/// Writes a map as a P1 image; black is 1. WriteFault exactly where a write fails; then a front of the
+/// image was written.
+pub fn write_p1<S: Sink>(sink: &mut S, map: &BitMap) -> Result<(), Refusal>
+    requires unfailed { (S.output sink.old).has_failed ≡ false }
+    requires width { map.now.width ≤ 1024 }
+    ensures { Sends (S.output sink.old) (S.output sink.new) result (p1 map.now.width map.now.height (bit map.now)) }
+{
+    let height = height_of(map);
+    write_head(sink, width_of(map), height)?;
+    for row in 0..height {
+        let text = row_of(map, row);
+        send(sink, text.as_slice())?;
+    }
+    Ok(())
+}

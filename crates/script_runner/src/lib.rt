@@ -1,0 +1,21 @@
+//! The runner of scripts: the bytes of a script go in, and what each of its lines answers comes out.
+//!
+//! `run` reads bytes from a `Source`, cuts them into lines, and has each answered on a `Sink` before it reads
+//! on. A line is a command, a comment or nothing, as `script_text` says. A `Session` holds the script's desk,
+//! which the first command makes, and answers one command: a call of the Toolbox by the line of its reply, and
+//! `image` by the bytes that `screen_pbm` writes.
+//!
+//! What a script answers is stated apart from all this code, in `specs/`: `Session` says what may be answered
+//! to a line and what that leaves of the desk, over the Toolbox's own steps, and `Runs` how a run ends. The
+//! contract of `run` is that and nothing else: the bytes that went out are the answers to the lines that came
+//! in. It holds for every stock: whose window definitions they are, and of which kinds, is the caller's.
+//!
+//! `options` reads the words of the command line.
+#![tactic(auto)]
+
+mod command_line;
+mod runner;
+mod session;
+
+pub use command_line::{Choices, OptionsError, options};
+pub use runner::run;

@@ -1,0 +1,4 @@
+pub mod Cuts
+mod Spelled
+mod TextLaws
+mod WordLemmas

@@ -1,0 +1,95 @@
+-- What the definitions of numbers, verbs and lines say, in the words of their subject.
+use Rattle.std.proofs.Common.{◌≡◌, ℕ, zero, suc, ◌+◌, ◌-◌, ◌*◌, ◌^◌, ◌<◌, ◌&&◌, ◌↔◌, Bool, true, false, cond, eqb, if◌then◌else◌, List, [], ◌∷◌, ◌++◌, length, map, Option, Some, None, fold, decimal, Contains, bytes_eq, leb, refl, sym, ap, ◌∙◌, subst, arith}
+use Rattle.std.specs.Char.{is_ascii_digit}
+use Rattle.std.specs.List.{slice_split, onto_first, list_all}
+use Rattle.std.specs.Str.{all_ascii_digits}
+use Rattle.std.specs.Str.Lines.{lines, lines_of_parts, strip_carriage_return}
+use Rattle.std.proofs.lemmas.Bool.{ne_eqb, le-leb}
+use Rattle.std.proofs.lemmas.Fmt.{digits_value-decimal, digits_decimal, decimal_nonempty, length-decimal-le}
+use Rattle.std.proofs.lemmas.Str.Parse.{FoldsDigits, numerals_by_fold, tells_all_ascii_digits}
+use Rattle.std.proofs.lemmas.Slice.Eq.{bytes_eq-Decides}
+use Rattle.script_text.specs.declared.verb.Verb.{Verb}
+use Rattle.script_text.specs.Words.{is_digit, is_number_text, digits_value}
+use Rattle.script_text.specs.Spelling.{IsDigits}
+use Rattle.script_text.specs.Commands.{verbs, verb_in}
+use Rattle.script_text.specs.Lines.{add_front, cut, whole_lines, last_part, if_any, lines_of}
+
+-- ---- numbers
+
+-- the number that digits write after those of n
+value_after : ℕ → List ℕ → ℕ
+value_after n digits = fold (λ m b. m * 10 + (b - 48)) n digits
+
+value_folds : FoldsDigits value_after
+unfolding value_after
+value_folds = record { empty = λ n. refl; more = λ n c cs k. refl }
+
+pub decimal_is_read : (n : ℕ) → n < 2 ^ 64 → digits_value (decimal n) ≡ n
+unfolding value_after
+decimal_is_read n h = digits_value-decimal (numerals_by_fold _ tells_all_ascii_digits value_after value_folds) n h
+
+digits_alike : (ds : List ℕ) → all_ascii_digits ds ≡ list_all is_digit ds
+digits_alike [] = refl
+digits_alike (c ∷ cs) = ap (λ b. is_ascii_digit c && b) (digits_alike cs)
+
+number_text-of : (ds : List ℕ) → leb 1 (length ds) ≡ true → leb (length ds) 9 ≡ true → list_all is_digit ds ≡ true → is_number_text ds ≡ true
+number_text-of ds some few digits = rw (some, few, digits) refl
+
+pub decimal_is_a_number : (n : ℕ) → n < 10 ^ 9 → IsDigits (decimal n) n
+decimal_is_a_number n h =
+    let wide : n < 2 ^ 64 = omega (arith, h) in
+    let digits : list_all is_digit (decimal n) ≡ true =
+    sym (digits_alike (decimal n)) ∙ digits_decimal (numerals_by_fold _ tells_all_ascii_digits value_after value_folds) n wide in
+    (number_text-of (decimal n) (le-leb 1 _ (decimal_nonempty n wide)) (le-leb _ 9 (length-decimal-le 9 n (omega arith) h wide)) digits, sym (decimal_is_read n wide))
+
+pub leading_zero : (digits : List ℕ) → digits_value (48 ∷ digits) ≡ digits_value digits
+leading_zero digits = refl
+
+-- ---- verbs
+
+found_is_in : (word : List ℕ) (verb : Verb) (entries : List (List ℕ × Verb)) → verb_in word entries ≡ Some verb → Contains entries (word, verb)
+found_is_in word verb [] h = let bad : ◌≡◌ {A = Option Verb} None (Some verb) = h in cc
+found_is_in word verb (entry ∷ entries) h = by_test (bytes_eq entry.0 word) (bytes_eq-Decides entry.0 word).0 (found_is_in word verb entries) h
+  where
+    by_test : (b : Bool) → (b ≡ true → entry.0 ≡ word) → (verb_in word entries ≡ Some verb → Contains entries (word, verb))
+        → (if b then Some entry.1 else verb_in word entries) ≡ Some verb → Contains (entry ∷ entries) (word, verb)
+    by_test true same later e =
+        let here : entry.1 ≡ verb = cc in
+        (0, omega arith, ap (λ w. (w, entry.1)) (same refl) ∙ ap (λ v. (word, v)) here)
+    by_test false same later e = let found = later e in (suc found.0, omega (arith, found.1), found.2)
+
+in_is_found : (word : List ℕ) (verb : Verb) → Contains verbs (word, verb) → verb_in word verbs ≡ Some verb
+in_is_found word verb (zero, less, e) = subst (λ (p : List ℕ × Verb). verb_in p.0 verbs ≡ Some p.1) e refl
+in_is_found word verb (suc zero, less, e) = subst (λ (p : List ℕ × Verb). verb_in p.0 verbs ≡ Some p.1) e refl
+in_is_found word verb (suc (suc zero), less, e) = subst (λ (p : List ℕ × Verb). verb_in p.0 verbs ≡ Some p.1) e refl
+in_is_found word verb (suc (suc (suc zero)), less, e) = subst (λ (p : List ℕ × Verb). verb_in p.0 verbs ≡ Some p.1) e refl
+in_is_found word verb (suc (suc (suc (suc zero))), less, e) = subst (λ (p : List ℕ × Verb). verb_in p.0 verbs ≡ Some p.1) e refl
+in_is_found word verb (suc (suc (suc (suc (suc k)))), less, e) = absurd (omega (arith, less))
+
+pub verb_is_of_the_table : (word : List ℕ) (verb : Verb) → verb_in word verbs ≡ Some verb ↔ Contains verbs (word, verb)
+verb_is_of_the_table word verb = (found_is_in word verb verbs, in_is_found word verb)
+
+-- ---- lines
+
+front-parts : (b : ℕ) (lines : List (List ℕ)) (part : List ℕ) → onto_first b (lines ++ part ∷ []) ≡ (add_front b (lines, part)).0 ++ (add_front b (lines, part)).1 ∷ []
+front-parts b [] part = refl
+front-parts b (line ∷ lines) part = refl
+
+parts-cut : (xs : List ℕ) → slice_split (λ b. eqb b 10) xs ≡ (cut xs).0 ++ (cut xs).1 ∷ []
+parts-cut [] = refl
+parts-cut (b ∷ bs) =
+    elim (eqb b 10) as (λ t. cond t ([] ∷ slice_split (λ c. eqb c 10) bs) (onto_first b (slice_split (λ c. eqb c 10) bs))
+    ≡ (cond t ([] ∷ (cut bs).0, (cut bs).1) (add_front b (cut bs))).0 ++ (cond t ([] ∷ (cut bs).0, (cut bs).1) (add_front b (cut bs))).1 ∷ []) [
+      | true ↦ ap (λ l. [] ∷ l) (parts-cut bs)
+      | false ↦ ap (onto_first b) (parts-cut bs) ∙ front-parts b (cut bs).0 (cut bs).1
+    ]
+
+lines-parts : (parts : List (List ℕ)) (last : List ℕ) → lines_of_parts (parts ++ last ∷ []) ≡ map strip_carriage_return parts ++ if_any last
+lines-parts [] [] = refl
+lines-parts [] (b ∷ bs) = ap (λ t. cond t [] ((b ∷ bs) ∷ [])) (ne_eqb (length (b ∷ bs)) 0 (λ e. omega (arith, e)))
+lines-parts (part ∷ []) last = ap (λ l. strip_carriage_return part ∷ l) (lines-parts [] last)
+lines-parts (part ∷ next ∷ parts) last = ap (λ l. strip_carriage_return part ∷ l) (lines-parts (next ∷ parts) last)
+
+pub lines_are_lines : (script : List ℕ) → lines_of script ≡ lines script
+unfolding whole_lines last_part
+lines_are_lines script = sym (ap lines_of_parts (parts-cut script) ∙ lines-parts (cut script).0 (cut script).1)

@@ -1,0 +1,25 @@
+//! Script lines as commands, and replies as lines.
+//!
+//! A script is lines of bytes. `LineBuffer` takes the bytes of a line as they come, and says what the line
+//! says: nothing, a refusal or a `Command`. `parse` reads the words of one line. `write_reply` and `write_done`
+//! write the line of a reply to a `Sink`. None of them takes memory: a line has at most 1024 bytes, and a
+//! command borrows its words from the line.
+//!
+//! What a line says is stated apart from how it is read: `specs/Lines.antt` cuts a script into lines,
+//! `specs/Spelling.antt` says which line says which command (`IsLine`), and `specs/Commands.antt` how it is
+//! read. `specs/Replies.antt` has the one line of each reply. `laws` says what numbers, verbs and lines are in
+//! the words of their subject.
+#![tactic(auto)]
+
+mod command;
+pub mod laws;
+mod lines;
+mod parser;
+mod reply_line;
+mod verb;
+mod words;
+
+pub use command::{Command, DeskSize};
+pub use lines::LineBuffer;
+pub use parser::parse;
+pub use reply_line::{write_done, write_reply};

@@ -1,0 +1,121 @@
+//! Lines as commands.
+//!
+//! A line is a verb and the words that follow it: `specs/Spelling.antt` says which line says which command, and
+//! `specs/Commands.antt` how it is read. Each command has a function here that reads its words.
+//! The form of a whole line is judged here, and nothing else: no range of a number, and no name.
+ghost use Rattle.std.specs.Prelude.{◌≡◌, ◌⊎◌, Result, Err};
+ghost use Rattle.tb_geom.specs.declared.refusal.Refusal.{Refusal};
+ghost use Rattle.tb_geom.specs.declared.refusal.Refusal.TheVariants.{BadSyntax};
+ghost use Rattle.script_text.specs.declared.command.Command.{Command};
+ghost use Rattle.script_text.specs.Grammar.{reading};
+ghost use Rattle.script_text.specs.Commands.{command_of, shape_of, desk_shape, image_shape, window_shape, find_shape, frontwin_shape};
+ghost use Rattle.script_text.specs.Spelling.{IsLine};
+
+use crate::command::{Command, DeskSize};
+use crate::verb::{Verb, verb_of};
+use crate::words::Words;
+use def_iface::Size;
+use desk_toolbox::{Call, NewWindow, WindowCall};
+use tb_geom::{Point, Refusal};
+
+/// The words after `desk`: the screen's width and height, and the rows of its menu bar.
+fn desk<'a>(words: Words<'a>) -> Result<Command<'a>, Refusal>
+    ensures { result ≡ reading desk_shape words.entry }
+{
+    let (width, words) = words.number()?;
+    let (height, words) = words.number()?;
+    let (bar, words) = words.number()?;
+    words.end()?;
+    Ok(Command::Desk(DeskSize { width, height, bar }))
+}
+
+/// Nothing follows `image`.
+fn image<'a>(words: Words<'a>) -> Result<Command<'a>, Refusal>
+    ensures { result ≡ reading image_shape words.entry }
+{
+    words.end()?;
+    Ok(Command::Image)
+}
+
+/// The words after `window`: the kind, the place and size of the content on the screen, whether it is shown,
+/// whether it has a go-away box, and the title.
+fn window<'a>(words: Words<'a>) -> Result<Command<'a>, Refusal>
+    ensures { result ≡ reading window_shape words.entry }
+{
+    let (kind, words) = words.name()?;
+    let (h, words) = words.number()?;
+    let (v, words) = words.number()?;
+    let (width, words) = words.number()?;
+    let (height, words) = words.number()?;
+    let (shown, words) = words.flag()?;
+    let (go_away, words) = words.flag()?;
+    let (title, words) = words.text()?;
+    words.end()?;
+    let place = Point { h, v };
+    let size = Size { width, height };
+    let window = NewWindow {
+        kind,
+        place,
+        size,
+        shown,
+        go_away,
+        title,
+    };
+    Ok(Command::Call(Call::Window(WindowCall::New(window))))
+}
+
+/// The words after `find`: a point of the screen.
+fn find<'a>(words: Words<'a>) -> Result<Command<'a>, Refusal>
+    ensures { result ≡ reading find_shape words.entry }
+{
+    let (h, words) = words.number()?;
+    let (v, words) = words.number()?;
+    words.end()?;
+    Ok(Command::Call(Call::Window(WindowCall::Find(Point { h, v }))))
+}
+
+/// Nothing follows `frontwin`.
+fn frontwin<'a>(words: Words<'a>) -> Result<Command<'a>, Refusal>
+    ensures { result ≡ reading frontwin_shape words.entry }
+{
+    words.end()?;
+    Ok(Command::Call(Call::Window(WindowCall::Front)))
+}
+
+/// The words after a verb.
+fn command<'a>(verb: Verb, words: Words<'a>) -> Result<Command<'a>, Refusal>
+    ensures { result ≡ reading (shape_of verb) words.entry }
+{
+    match verb {
+        Verb::Desk => desk(words),
+        Verb::Image => image(words),
+        Verb::Window => window(words),
+        Verb::Find => find(words),
+        Verb::FrontWindow => frontwin(words),
+    }
+}
+
+/// The verb of a line, and the words after it.
+#[tactic(auto, unfolding(crate::specs::Commands::command_of))]
+fn read<'a>(line: &'a [u8]) -> Result<Command<'a>, Refusal>
+    ensures { result ≡ command_of line.entry.now }
+{
+    let (name, words) = Words::new(line).word()?;
+    match verb_of(name.bytes()) {
+        Some(verb) => command(verb, words),
+        None => Err(Refusal::BadSyntax),
+    }
+}
+
+/// The command that a line says: a line without its ending, neither empty nor a comment. A line that says none is
+/// BadSyntax.
+pub fn parse<'a>(line: &'a [u8]) -> Result<Command<'a>, Refusal>
+    // The line says what is answered, or the answer is BadSyntax.
+    ensures found { IsLine line.entry.now result ⊎ (result ≡ Err BadSyntax) }
+    // What a line says is what is answered: a line says one thing at most, and a line that says something is not BadSyntax.
+    ensures only { (said : Result Command Refusal) → IsLine line.entry.now said → result ≡ said }
+    // The answer as a function of the line.
+    ensures exact { result ≡ command_of line.entry.now }
+{
+    read(line)
+}
