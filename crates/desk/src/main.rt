@@ -1,55 +1,36 @@
 //! The program `desk`: a script of Toolbox calls goes in, and what each of its lines answers comes out.
 //!
-//! A line is a command, a comment or nothing. `script_text` reads it into a `Command` and writes the
-//! line of a reply; `screen_pbm` writes the screen as an image. `session` holds the script's desk, which
-//! the first command makes, and answers one command. `runner` joins them: it reads bytes from a
-//! `Source`, cuts them into lines, and has each answered on a `Sink` before it reads on. Source and
-//! sink are a reader and a writer that tell whether they failed, so that a run can be held to what it
-//! says of them.
-//!
-//! What a script answers is stated apart from all this code, in `specs/`: `Lines` cuts the script,
-//! `Spelling` says which line says which command, `Session` what may be answered to it and what that leaves of
-//! the desk, over the Toolbox's own steps, and `Runs` how a run ends. The contract of `runner::run`
-//! is that and nothing else: the bytes that went out are the answers to the lines that came in.
-//!
-//! `command_line` reads the words of the command line. `plain_window` is the one kind of window so
-//! far; main fills the stock with it before the run.
+//! Here is only what a program does once: it reads its command line, fills a stock with window definitions,
+//! opens the script, and ends with a status. How a script is answered is `script_runner::run`, and its contract
+//! says of the bytes that went out that they are the answers to the lines that came in.
 #![tactic(auto)]
 
-mod command_line;
-mod laws;
-mod plain_window;
-mod runner;
-mod screen_pbm;
-mod script_text;
-mod session;
-mod sink;
-mod source;
-
-ghost use Rattle.std.specs.Prelude.{All};
+ghost use Rattle.std.specs.Prelude.{◌≡◌, All, OnOk, OnErr};
+ghost use Rattle.std.specs.Process.{exit_status};
 ghost use Rattle.def_iface.specs.Stocked.{IsFull};
 
-use command_line::{OptionsError, options};
 use def_iface::{Stock, Stocked, WindowDef};
-use plain_window::PlainWindow;
-use runner::run;
-use sink::WatchedWriter;
-use source::WatchedReader;
+use script_runner::{OptionsError, options, run};
 use std::alloc::AllocError;
 use std::process::ExitCode;
 use std::rt::Files;
 use std::{env, fs, io};
+use std_wdef::PlainWindow;
 use tb_geom::Refusal;
+use watched_io::{WatchedReader, WatchedWriter};
 
 /// How many definitions of a kind of window the stock begins with.
 const DEFINITIONS: u8 = 16;
 
-/// What is said where the words of the command line cannot be had as text.
-const UNREADABLE: &str =
-    "desk: the command line cannot be read: write its words in UTF-8, or give the script on standard input";
+/// What is said where the words of the command line cannot be had as text. The first of them is the path by
+/// which the program was called.
+const UNREADABLE: &str = "desk: the command line cannot be read: call the program by a path in UTF-8, and name a script in UTF-8 or give it on standard input";
 
 /// How the program ends: a run that was stopped is named on standard error.
-fn ended(rt: &impl Eprint, outcome: Result<(), Refusal>) -> ExitCode {
+fn ended(rt: &impl Eprint, outcome: Result<(), Refusal>) -> ExitCode
+    ensures whole { OnOk outcome (exit_status result ≡ 0) }
+    ensures stopped { OnErr outcome (exit_status result ≡ 1) }
+{
     match outcome {
         Ok(()) => ExitCode::SUCCESS,
         Err(refusal) => {
@@ -60,8 +41,18 @@ fn ended(rt: &impl Eprint, outcome: Result<(), Refusal>) -> ExitCode {
 }
 
 /// How the program ends where it does not take the words of its command line.
-fn refused_words(rt: &impl Eprint, why: OptionsError) -> ExitCode {
+fn refused_words(rt: &impl Eprint, why: OptionsError) -> ExitCode
+    ensures { exit_status result ≡ 2 }
+{
     let _ = rt.eprint(why);
+    ExitCode::from(2)
+}
+
+/// How the program ends where the words of its command line cannot be had as text.
+fn unreadable_words(rt: &impl Eprint) -> ExitCode
+    ensures { exit_status result ≡ 2 }
+{
+    let _ = rt.eprintln(UNREADABLE);
     ExitCode::from(2)
 }
 
@@ -96,10 +87,7 @@ fn main(rt: HostRuntime) -> ExitCode {
         Err(error) if error.kind() == io::ErrorKind::OutOfMemory => {
             return refused_words(&rt, OptionsError::Memory(AllocError));
         }
-        Err(_) => {
-            let _ = rt.eprintln(UNREADABLE);
-            return ExitCode::from(2);
-        }
+        Err(_) => return unreadable_words(&rt),
     };
     let words: Vec<String> = match words.collect(alloc) {
         Ok(words) => words,
@@ -120,8 +108,3 @@ fn main(rt: HostRuntime) -> ExitCode {
     }
     ended(&rt, run_script(&rt, chosen.script, &mut stock))
 }
-
-#[cfg(test)]
-mod paper;
-#[cfg(test)]
-mod script;

@@ -36,7 +36,7 @@ fn positional<'a>(alloc: Global, name: &'a str, help: &'a str) -> Arg<'a>
     Arg::new(alloc, name).action(ArgAction::Set).help(help)
 }
 
-/// What the program takes: one SCRIPT, or none.
+/// What the program takes: one SCRIPT, or none. Help calls it desk, whatever its file is called.
 fn desk_command<'a>(alloc: Global) -> Result<Command<'a>, AllocError>
     ensures { IfOk result (λ c. app_of c ≡ desk_app) }
 {
@@ -47,7 +47,8 @@ fn desk_command<'a>(alloc: Global) -> Result<Command<'a>, AllocError>
     );
     let command = Command::new(alloc, "desk")
         .about("Runs a script of Toolbox calls, and writes what each of its lines answers")
-        .arg(script)?;
+        .bin_name("desk")?;
+    let command = command.arg(script)?;
     Ok(command)
 }
 

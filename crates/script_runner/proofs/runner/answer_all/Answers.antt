@@ -8,6 +8,7 @@ use Rattle.script_runner.proofs.runner.answer_all.Goals as goal
 pub loop-read-init : goal.loop-read-init
 loop-read-init g c = record {
   ready = c.requires.ready;
+  quiet = c.requires.unfailed;
   so_far = rw c.new-line.ensures (start _ _ _ _ c.requires.unmade c.requires.going);
   counted = c.requires.unread;
 }
@@ -28,6 +29,7 @@ loop-read-preserved g c =
     let some : 0 < length (take c.in_ok-count.count c.read_some.new.buffer) = omega (arith, length-take c.in_ok-count.count c.read_some.new.buffer) in
     record {
       ready = c.in_ok-take_all.ensures.ready;
+      quiet = c.in_ok-take_all.ensures.quiet;
       so_far = c.in_ok-take_all.ensures.goes_on _ _ _ _ (read_more _ _ _ _ _ _ _ _ _ c.loop-read.invariant.so_far c.in_ok-count.ensures.bytes some);
       counted = c.in_ok-count.ensures.bytes.counted ∙ ap (λ n. n + 1) c.loop-read.invariant.counted;
     }

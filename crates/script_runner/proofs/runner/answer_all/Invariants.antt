@@ -1,4 +1,4 @@
-use Rattle.std.proofs.Common.{◌≡◌, []}
+use Rattle.std.proofs.Common.{◌≡◌, false, []}
 use Rattle.def_iface.specs.contracts.taken.TakenDefined.TheImpl as taken
 use Rattle.def_iface.specs.contracts.stock.StockStocked.TheImpl as stock
 use Rattle.script_runner.specs.SessionViews.{session_of, IsReady}
@@ -11,6 +11,7 @@ invariant-loop-read g l =
     let slots = (stock.slots-value g.dyn-1).it in
     record {
       ready : IsReady loan l.session (slots l.stock);
+      quiet : (g.W.Sink.output l.sink).has_failed ≡ false;
       so_far : SoFar (slots l.fn.stock) (g.R.Source.input l.fn.source) (g.W.Sink.output l.fn.sink) (g.R.Source.input l.source) (g.W.Sink.output l.sink) (session_of loan l.session (slots l.stock)) l.line [];
       counted : (g.R.Source.input l.source).reads ≡ l.read;
     }

@@ -7,7 +7,7 @@ use Rattle.script_runner.proofs.Ends.{next, taken, taken_last}
 use Rattle.script_runner.proofs.runner.take_all.Goals as goal
 
 pub loop-byte-init : goal.loop-byte-init
-loop-byte-init g c = record { ready = c.requires.ready; so_far = λ first input rest old so_far. so_far }
+loop-byte-init g c = record { ready = c.requires.ready; quiet = c.requires.unfailed; so_far = λ first input rest old so_far. so_far }
 
 pub returns-in_err-take-clause-goes_on : goal.returns-in_err-take-clause-goes_on
 returns-in_err-take-clause-goes_on g c = λ first input rest old so_far.
@@ -18,6 +18,7 @@ returns-in_err-take-clause-goes_on g c = λ first input rest old so_far.
 pub loop-byte-preserved : goal.loop-byte-preserved
 loop-byte-preserved g c = record {
   ready = c.in_ok-take.ensures.ready;
+  quiet = c.in_ok-take.ensures.quiet;
   so_far = λ first input rest old so_far.
       taken _ _ _ _ _ _ _ _ _ (next _ _ _ _ _ _ _ c.args.bytes.now c.loop-byte.byte-index (omega arith) (c.loop-byte.invariant.so_far first input rest old so_far)) _ _ _ c.in_ok-take.field-0
       c.in_ok-take.ensures.newline c.in_ok-take.ensures.cleared (λ ne. let o = c.in_ok-take.ensures.other ne in (o.1, o.2, o.3));

@@ -1,4 +1,4 @@
-use Rattle.std.proofs.Common.{List, drop}
+use Rattle.std.proofs.Common.{◌≡◌, List, false, drop}
 use Rattle.def_iface.specs.Stocked.{SlotView}
 use Rattle.def_iface.specs.contracts.taken.TakenDefined.TheImpl as taken
 use Rattle.def_iface.specs.contracts.stock.StockStocked.TheImpl as stock
@@ -14,6 +14,7 @@ invariant-loop-byte g l =
     let slots = (stock.slots-value g.dyn-1).it in
     record {
       ready : IsReady loan l.session (slots l.stock);
+      quiet : (g.W.Sink.output l.sink).has_failed ≡ false;
       so_far : (first : List SlotView) (input rest : Input) (old : Output)
           → SoFar first input old rest (g.W.Sink.output l.initial.sink) (session_of loan l.initial.session (slots l.initial.stock)) l.initial.line l.bytes
           → SoFar first input old rest (g.W.Sink.output l.sink) (session_of loan l.session (slots l.stock)) l.line (drop l.byte-index l.bytes);
