@@ -1,0 +1,85 @@
+//! Lines and replies that no script of today reaches.
+use crate::paper::Paper;
+use desk_toolbox::{Call, Found, Reply, WindowCall, WindowPart};
+use script_text::{Command, parse, write_done, write_reply};
+use std::alloc::Global;
+use std::process::Abort;
+use std::test::Fail;
+use tb_geom::Refusal;
+use watched_io::WatchedWriter;
+
+/// The line of a reply, which has to go out with one write.
+fn line_of(rt: &(impl Abort + AllocGlobal), reply: &Result<Reply, Refusal>) -> Vec<u8> {
+    let mut paper = Paper::new(rt.alloc(), 100, 1);
+    assert!(rt; write_reply(&mut WatchedWriter::new(&mut paper), reply) == Ok(()));
+    paper.text
+}
+
+/// The reply that a point is of this part, of this window.
+fn found(part: WindowPart, window: Option<u64>) -> Result<Reply, Refusal> {
+    Ok(Reply::Found(Found { part, window }))
+}
+
+#[test]
+fn a_reply_is_one_line_and_one_write(rt: HostRuntime) {
+    let lines: [(Result<Reply, Refusal>, &[u8]); 7] = [
+        (Ok(Reply::Window(7)), b"ok 7\n"),
+        (Ok(Reply::Window(u64::MAX)), b"ok 18446744073709551615\n"),
+        (found(WindowPart::InZoomOut, Some(12)), b"ok 8 12\n"),
+        (found(WindowPart::InMenuBar, None), b"ok 1 0\n"),
+        (Ok(Reply::Front(None)), b"ok 0\n"),
+        (Err(Refusal::NoMemory), b"refused 1 NoMemory\n"),
+        (Err(Refusal::NoSuchName), b"refused 20 NoSuchName\n"),
+    ];
+    for (reply, line) in &lines {
+        assert!(rt; line_of(&rt, reply).as_slice() == *line);
+    }
+    let mut paper = Paper::new(rt.alloc(), 100, 1);
+    assert!(rt; write_done(&mut WatchedWriter::new(&mut paper)) == Ok(()));
+    assert!(rt; paper.text.as_slice() == b"ok\n".as_slice());
+}
+
+/// The three numbers of a line that makes the desk.
+fn desk_numbers(line: &[u8]) -> Option<[i32; 3]> {
+    match parse(line) {
+        Ok(Command::Desk(size)) => Some([size.width, size.height, size.bar]),
+        _ => None,
+    }
+}
+
+/// The kind and the title of the window that a line asks for, and its four numbers.
+fn window_of(alloc: Global, line: &[u8]) -> Result<Vec<u8>, Fail> {
+    let Ok(Command::Call(Call::Window(WindowCall::New(window)))) = parse(line) else {
+        return Ok(Vec::new(alloc));
+    };
+    let mut text = Vec::from_slice(alloc, window.kind.bytes())?;
+    let (place, size) = (window.place, window.size);
+    let numbers = format!(in alloc; " {} {} {} {}", place.h, place.v, size.width, size.height)?;
+    let flags = format!(in alloc; " {} {} ", window.shown, window.go_away)?;
+    text.extend_from_slice(numbers.as_bytes())?;
+    text.extend_from_slice(flags.as_bytes())?;
+    text.extend_from_slice(window.title.bytes())?;
+    Ok(text)
+}
+
+#[test]
+fn the_words_of_a_line_are_read_in_their_order(rt: HostRuntime) -> Result<(), Fail> {
+    assert!(rt; desk_numbers(b"desk -0 007 -12") == Some([0, 7, -12]));
+    let far = Some([999999999, -999999999, 1]);
+    assert!(rt; desk_numbers(b"desk 999999999 -999999999 000000001") == far);
+    let lines: [(&[u8], &[u8]); 3] = [
+        (
+            b"window plain 1 -2 36 5 1 0 \"a b\"",
+            b"plain 1 -2 36 5 true false a b",
+        ),
+        (
+            b"window Az09 0 0 7 8 0 1 \" a  1 0 ~#\"",
+            b"Az09 0 0 7 8 false true  a  1 0 ~#",
+        ),
+        (b"window 9z 0 0 7 8 0 1 \"\"", b""),
+    ];
+    for (line, text) in &lines {
+        assert!(rt; window_of(rt.alloc(), line)?.as_slice() == *text);
+    }
+    Ok(())
+}

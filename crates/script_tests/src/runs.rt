@@ -1,0 +1,116 @@
+//! What no clause says of a run: that the first window's script answers what was worked out by hand, whatever the
+//! pieces in which it is read and its answers are written, and how a run ends whose reader or writer breaks at
+//! any moment.
+ghost use Rattle.std.specs.Prelude.{◌<◌};
+
+use crate::paper::Paper;
+use crate::script::{Comment, Script};
+use def_iface::{Stock, WindowDef};
+use script_runner::{OptionsError, run};
+use std::alloc::{AllocError, Global};
+use std::test::Fail;
+use std_wdef::PlainWindow;
+use tb_geom::Refusal;
+use watched_io::{WatchedReader, WatchedWriter};
+
+/// A desk, a window on it and the screen: three lines, of which the first ends with the 11th byte, the
+/// second with the 39th and the last with the 45th.
+const FIRST_WINDOW: &[u8] = b"desk 8 8 0\nwindow plain 1 1 6 6 1 0 \"\"\nimage\n";
+
+/// What that script answers, in 87 bytes.
+const FIRST_ANSWERS: &[u8] =
+    b"ok\nok 1\nP1\n8 8\n11111111\n10000001\n10000001\n10000001\n10000001\n10000001\n10000001\n11111111\n";
+
+/// How a run ended, and whether it used the one definition that its stock had.
+#[derive(Clone, Copy, Debug, PartialEq, Eq)]
+struct Ended {
+    outcome: Result<(), Refusal>,
+    is_used: bool,
+}
+
+/// Runs the first window's script, with its answers on the paper: so many bytes at a read, and so many reads
+/// until one fails.
+fn run_first(alloc: Global, piece: usize, reads: u32, paper: &mut Paper) -> Result<Ended, Fail>
+    requires { 0 < piece }
+{
+    let mut stock = Stock::new(alloc);
+    let plain: Box<dyn WindowDef> = Box::new(alloc, PlainWindow::new())?;
+    let Ok(()) = stock.add(b"plain", plain) else {
+        return Err(Fail::from(Refusal::NoMemory));
+    };
+    let mut source = WatchedReader::new(Script::new(FIRST_WINDOW, piece, reads));
+    let mut sink = WatchedWriter::new(paper);
+    let outcome = run(alloc, &mut source, &mut sink, &mut stock);
+    let is_used = stock.take(b"plain").is_err();
+    Ok(Ended { outcome, is_used })
+}
+
+#[test]
+fn the_first_window_in_any_pieces(rt: HostRuntime) -> Result<(), Fail> {
+    for (read, written) in [(4096, 4096), (1, 1), (2, 5), (11, 3), (45, 1), (1, 64)] {
+        let mut paper = Paper::new(rt.alloc(), written, 87);
+        let ended = run_first(rt.alloc(), read, 46, &mut paper)?;
+        assert!(rt; ended == Ended { outcome: Ok(()), is_used: true });
+        assert!(rt; paper.text.as_slice() == FIRST_ANSWERS);
+    }
+    Ok(())
+}
+
+#[test]
+fn each_read_fails_in_turn(rt: HostRuntime) -> Result<(), Fail> {
+    for reads in 0..46 {
+        let mut paper = Paper::new(rt.alloc(), 4096, 1000);
+        let ended = run_first(rt.alloc(), 1, reads, &mut paper)?;
+        assert!(rt; ended == Ended { outcome: Err(Refusal::ReadFault), is_used: reads >= 39 });
+        let count = match reads {
+            0..11 => 0,
+            11..39 => 3,
+            39..45 => 8,
+            _ => 87,
+        };
+        assert!(rt; paper.text.as_slice() == &FIRST_ANSWERS[..count]);
+    }
+    Ok(())
+}
+
+#[test]
+fn each_write_fails_in_turn(rt: HostRuntime) -> Result<(), Fail> {
+    for writes in 0..30 {
+        let mut paper = Paper::new(rt.alloc(), 3, writes);
+        let ended = run_first(rt.alloc(), 4096, 1000, &mut paper)?;
+        let front = paper.text.as_slice();
+        assert!(rt; FIRST_ANSWERS.starts_with(front));
+        assert!(rt; paper.writes_left == 0);
+        assert!(rt; writes <= front.len() && front.len() <= 3 * writes && front.len() < 87);
+        assert!(rt; ended == Ended { outcome: Err(Refusal::WriteFault), is_used: writes > 0 });
+    }
+    Ok(())
+}
+
+#[test]
+fn a_script_ends_within_a_million_reads(rt: HostRuntime) {
+    // A comment of more than 1024 bytes is a line too long.
+    let cases: [(u32, Result<(), Refusal>, u32, &[u8]); 4] = [
+        (0, Ok(()), 1, b""),
+        (999_999, Ok(()), 1_000_000, b"refused 10 TooLong\n"),
+        (1_000_000, Err(Refusal::ReadFault), 1_000_000, b""),
+        (u32::MAX, Err(Refusal::ReadFault), 1_000_000, b""),
+    ];
+    for (length, outcome, reads, answers) in cases {
+        let mut stock = Stock::new(rt.alloc());
+        let mut comment = Comment { length, reads: 0 };
+        let mut source = WatchedReader::new(&mut comment);
+        let mut paper = Paper::new(rt.alloc(), 4096, 1000);
+        let mut sink = WatchedWriter::new(&mut paper);
+        assert!(rt; run(rt.alloc(), &mut source, &mut sink, &mut stock) == outcome);
+        assert!(rt; comment.reads == reads);
+        assert!(rt; paper.text.as_slice() == answers);
+    }
+}
+
+#[test]
+fn want_of_memory_for_the_command_line_is_said(rt: HostRuntime) -> Result<(), Fail> {
+    let text = format!(in rt.alloc(); "{}", OptionsError::Memory(AllocError))?;
+    assert!(rt; text.as_str() == "desk: no memory for the command line\n");
+    Ok(())
+}

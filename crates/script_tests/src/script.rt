@@ -1,0 +1,62 @@
+//! Readers for tests: one of a script, which can be slow or break, and one of a comment that does not
+//! come to its end.
+ghost use Rattle.std.specs.Prelude.{Some, ◌<◌};
+
+use std::io;
+use std::io::{ErrorKind, Read};
+
+/// Gives its bytes, at most `piece` of them at each read, and fails once `reads_left` is 0.
+#[derive(Drop)]
+pub struct Script<'a> {
+    rest: &'a [u8],
+    piece: usize,
+    reads_left: u32,
+    ghost some: { 0 < piece },
+}
+
+impl<'a> Script<'a> {
+    /// A script of which nothing was read yet.
+    pub fn new(bytes: &'a [u8], piece: usize, reads_left: u32) -> Script<'a>
+        requires { 0 < piece }
+    {
+        Script {
+            rest: bytes,
+            piece,
+            reads_left,
+        }
+    }
+}
+
+impl<'a> Read for Script<'a> {
+    ghost remaining = { λ s. Some s.rest.now };
+
+    fn read(&mut self, buf: &mut [u8]) -> io::Result<usize> {
+        if self.reads_left == 0 {
+            return Err(io::Error::from(ErrorKind::Other));
+        }
+        self.reads_left -= 1;
+        let count = buf.len().min(self.piece);
+        self.rest.read(&mut buf[..count])
+    }
+}
+
+/// Gives the first of its bytes at each read, `#`, and then its end. It counts the reads.
+#[derive(Drop)]
+pub struct Comment {
+    pub length: u32,
+    pub reads: u32,
+}
+
+impl Read for Comment {
+    fn read(&mut self, buf: &mut [u8]) -> io::Result<usize> {
+        let at = self.reads;
+        self.reads = at.saturating_add(1);
+        match buf.first_mut() {
+            Some(first) if at < self.length => {
+                *first = b'#';
+                Ok(1)
+            }
+            _ => Ok(0),
+        }
+    }
+}
