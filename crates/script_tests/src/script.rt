@@ -1,5 +1,4 @@
-//! Readers for tests: one of a script, which can be slow or break, and one of a comment that does not
-//! come to its end.
+//! A reader of a script, which can be slow or break.
 ghost use Rattle.std.specs.Prelude.{Some, ◌<◌};
 
 use std::io;
@@ -10,7 +9,7 @@ use std::io::{ErrorKind, Read};
 pub struct Script<'a> {
     rest: &'a [u8],
     piece: usize,
-    reads_left: u32,
+    pub reads_left: u32,
     ghost some: { 0 < piece },
 }
 
@@ -37,26 +36,5 @@ impl<'a> Read for Script<'a> {
         self.reads_left -= 1;
         let count = buf.len().min(self.piece);
         self.rest.read(&mut buf[..count])
-    }
-}
-
-/// Gives the first of its bytes at each read, `#`, and then its end. It counts the reads.
-#[derive(Drop)]
-pub struct Comment {
-    pub length: u32,
-    pub reads: u32,
-}
-
-impl Read for Comment {
-    fn read(&mut self, buf: &mut [u8]) -> io::Result<usize> {
-        let at = self.reads;
-        self.reads = at.saturating_add(1);
-        match buf.first_mut() {
-            Some(first) if at < self.length => {
-                *first = b'#';
-                Ok(1)
-            }
-            _ => Ok(0),
-        }
     }
 }
