@@ -174,3 +174,22 @@ Draws-black-around c d rect inner first middle last same e drawn over =
     by_test : (inside x y : Bool) → x ≡ true → y ≡ false → cond inside y x ≡ not inside
     by_test true x y e f = f
     by_test false x y e f = e
+
+-- a frame that stays as it was twice stays as it was
+pub SameFrame-twice : (a b c : Canvas) → SameFrame a b → SameFrame b c → SameFrame a c
+SameFrame-twice a b c first second = record {
+  clip = second.clip ∙ first.clip;
+  origin = second.origin ∙ first.origin;
+  cut = second.cut ∙ first.cut;
+}
+
+-- a pattern that is copied onto a rectangle of a canvas lies over the picture that was drawn on all of it
+pub Draws-pattern-over : (c d : Canvas) (rect inner : Rect) (pattern : Pattern) (below : PixelSet) (first middle last : Bits)
+    → SameFrame c d → inner ≡ rect
+    → Draws (canvas_holds c) (λ p _. below (canvas_point c p)) first middle
+    → Draws (λ p. canvas_holds d p && rect_holds inner (canvas_point d p)) (λ p old. mode_bit Copy (pattern_bit pattern (canvas_point d p)) old) middle last
+    → Draws (canvas_holds c) (λ p _. if rect_holds rect (canvas_point c p) then pattern_bit pattern (canvas_point c p) else below (canvas_point c p)) first last
+Draws-pattern-over c d rect inner pattern below first middle last same e drawn over =
+    Draws-canvas-over c d (rect_holds inner) (λ p. if rect_holds rect p then pattern_bit pattern p else below p) _ _ first middle last same
+    (λ p old i. if rect_holds (e i) (canvas_point c p) then pattern_bit pattern (minus p (same.origin i)) else below (canvas_point c p))
+    drawn over

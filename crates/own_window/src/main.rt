@@ -1,0 +1,77 @@
+//! A first program over the library: a kind of window of its own, and a desk with two windows of that kind.
+//!
+//! `banner` has the definition of the kind. `main` fills a stock, makes a desk, asks it some things, prints its
+//! answers and its screen, and ends it. That the desk and the stock fit each other, which each call requires, is
+//! proved: `proofs/main` says why in one line.
+#![tactic(auto)]
+
+mod banner;
+
+use anyhow::{Result, bail};
+use banner::Banner;
+use def_iface::{Size, Stock};
+use desk_toolbox::{Call, NewWindow, Text, Toolbox, WindowCall};
+use screen_pbm::write_p1;
+use std::io;
+use tb_geom::Point;
+use watched_io::WatchedWriter;
+
+/// The call that makes a window. Its content, of 30 by 14 pixels, begins at this place of the screen.
+fn window_at(h: i32, v: i32) -> Call<'static> {
+    Call::Window(WindowCall::New(NewWindow {
+        kind: Text::new(b"banner"),
+        place: Point { h, v },
+        size: Size {
+            width: 30,
+            height: 14,
+        },
+        shown: true,
+        go_away: false,
+        title: Text::new(b""),
+    }))
+}
+
+/// The call that asks whose a point of the screen is.
+fn find(h: i32, v: i32) -> Call<'static> {
+    Call::Window(WindowCall::Find(Point { h, v }))
+}
+
+fn main(rt: HostRuntime) -> Result<()> {
+    let alloc = rt.alloc();
+
+    // A window takes its definition out of a stock, by the name of the kind. So there is one box for each
+    // window that we will make.
+    let mut stock = Stock::new(alloc);
+    let first = Box::new(alloc, Banner::new())?;
+    let Ok(()) = stock.add(b"banner", first) else {
+        bail!("no memory for the stock");
+    };
+    let second = Box::new(alloc, Banner::new())?;
+    let Ok(()) = stock.add(b"banner", second) else {
+        bail!("no memory for the stock");
+    };
+
+    // A desk on a screen of 64 by 64 pixels, of which the first 20 rows are the menu bar.
+    let mut desk = Toolbox::new(alloc, 64, 64, 20)?;
+
+    // Two windows, the second in front of the first, and three questions. A call that is refused changes
+    // nothing, and its answer says why.
+    let calls = [
+        window_at(6, 32),
+        window_at(24, 44),
+        find(8, 28),
+        find(30, 45),
+        Call::Window(WindowCall::Front),
+    ];
+    for answer in desk.run(&calls, &mut stock)? {
+        println!(rt; "{answer:?}")?;
+    }
+
+    // The screen, as an image in the plain PBM format.
+    let mut output = WatchedWriter::new(io::writer(&rt));
+    write_p1(&mut output, desk.screen())?;
+
+    // The end of the desk: each definition goes back to its slot, used up.
+    desk.close(&mut stock);
+    Ok(())
+}
