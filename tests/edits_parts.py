@@ -1,0 +1,270 @@
+"""Tests of the parts of the program edits. None starts a check."""
+
+import contextlib
+import os
+import shutil
+import sys
+import threading
+
+from edits_small import LOW, Fault, Repository, edits, edits_read, same
+
+# What no check is to read: the places of functions are found in it.
+PLACES = """mod deep;
+
+pub trait Sized {
+    fn size(&self) -> u32;
+
+    fn more(&self) -> u32 {
+        self.size() + 1
+    }
+}
+
+impl<T: Drop> Sized for Thing<T> {
+    fn size(&self) -> u32 {
+        // fn other() {}
+        3
+    }
+}
+
+impl<T: Drop> From<Other<T>> for Thing<T> {
+    fn from(it: Other<T>) -> Thing<T> {
+        Thing(40)
+    }
+}
+
+impl<T> From<Third<T>> for Thing<T> {
+    fn from(it: Third<T>) -> Thing<T> {
+        Thing(50)
+    }
+}
+
+const fn five() -> u32 {
+    5
+}
+
+fn nothing() {}
+
+fn holds_one() -> u32 {
+    const ONE: u32 = 11;
+    ONE
+}
+"""
+DEEP = """pub fn inner() -> u32 {
+    60
+}
+
+impl Thing {
+    fn own() -> u32 {
+        70
+    }
+}
+"""
+NAMES = "Sized::more ThingSized::size ThingFromOther::from ThingFromThird::from five holds_one".split()
+NAMES += ["deep::inner", "deep::Thing::own"]
+# Edits of these, the function or module that each is of, and whether it changes its body alone.
+PLACED = [
+    ("src/lib.rt", "        3", "        4", "ThingSized::size", True),
+    ("src/lib.rt", "self.size() + 1", "self.size()", "Sized::more", True),
+    ("src/lib.rt", "Thing(40)", "Thing(41)", "ThingFromOther::from", True),
+    ("src/lib.rt", "Thing(50)", "Thing(51)", "ThingFromThird::from", True),
+    ("src/deep.rt", "    60", "    61", "deep::inner", True),
+    ("src/deep.rt", "    70", "    71", "deep::Thing::own", True),
+    # what stands in no body
+    ("src/lib.rt", "fn size(&self) -> u32;", "fn size(&self) -> u64;", None, False),
+    ("src/lib.rt", "nothing() {}", "nothing() { 1 }", None, False),
+    ("src/deep.rt", "inner()", "outer()", "deep", False),
+    # what may reach past a body
+    ("src/lib.rt", "fn five() -> u32 {", "fn five() -> u32 { return 6;", "five", False),
+    ("src/lib.rt", "= 11", "= 12", "holds_one", False),
+    ("src/lib.rt", "Thing(40)", "Thing(40) } fn other() { 1", "ThingFromOther::from", False),
+    ("src/lib.rt", "Thing(40)", "Thing(40) } } { { 1", "ThingFromOther::from", False),
+    ("src/lib.rt", "Thing(40)", "#[cycle(a)] Thing(40)", "ThingFromOther::from", False),
+    ("src/lib.rt", "Thing(40)", "(move || requires { a } { 1 })()", "ThingFromOther::from", False),
+]
+
+
+def a_sum_is_of_all_that_a_check_reads(folder):
+    def low_and_high(name, alter=lambda it: None):
+        repository = Repository(os.path.join(folder, name))
+        repository.edit("low/wrong", "n + 1", "n + 2")
+        repository.edit("high/wrong", "n + 2", "n + 3")
+        alter(repository)
+        return repository.sum("low/wrong"), repository.sum("high/wrong")
+
+    def wants(name, alter, is_low, is_high):
+        found = low_and_high(name, alter)
+        same(f"which sums change: {name}", (found[0] != low, found[1] != high), (is_low, is_high))
+
+    low, high = low_and_high("as it is")
+    wants("elsewhere", lambda it: None, False, False)
+    wants("edit", lambda it: it.edit("low/wrong", "n + 1", "n + 3"), True, False)
+    wants("another edit", lambda it: it.edit("low/right", "n + 1", "1 + n"), False, False)
+    wants("code below", lambda it: it.change("low", "MOST: u32 = 7", "MOST: u32 = 6"), True, True)
+    wants("comment below", lambda it: it.change("low", "Numbers", "Some numbers"), True, True)
+    wants("code above", lambda it: it.change("high", "n + 3", "3 + n"), False, True)
+    wants("spec", lambda it: it.write("crates/low/specs/Lib.antt", ""), True, True)
+    wants("proof", lambda it: it.write("crates/high/proofs/Lib.antt", ""), False, True)
+    wants("built", lambda it: it.write("crates/low/out/rlib/stamp", "1"), False, False)
+    wants("listed", lambda it: it.write("crates.txt", "low: itoa\nhigh: low\n"), True, True)
+    wants("listed above", lambda it: it.write("crates.txt", "low:\nhigh: low itoa\n"), False, True)
+
+
+def a_sum_is_of_the_name_the_program_and_the_kit(folder):
+    repository = Repository(folder)
+    repository.edit("low/wrong", "n + 1", "n + 2")
+    repository.edit("low/copy", "n + 1", "n + 2")
+    first, here, kit = repository.sum("low/wrong"), edits.HERE, edits.rt.KIT
+    found = {first, repository.sum("low/copy")}
+    try:
+        for it in edits.OWN:
+            edits.HERE = f"{folder}/{it} changed"
+            shutil.copytree(here, edits.HERE)
+            same("the program elsewhere", repository.sum("low/wrong"), first)
+            with open(f"{edits.HERE}/{it}", "a", encoding="utf-8") as file:
+                file.write("\n")
+            found.add(repository.sum("low/wrong"))
+        edits.HERE, edits.rt.KIT = here, folder
+        repository.write("KIT-ID", "another kit\n")
+        found.add(repository.sum("low/wrong"))
+    finally:
+        edits.HERE, edits.rt.KIT = here, kit
+    same("how many sums there are", len(found), 5)
+
+
+def a_record_keeps_what_it_is_told(folder):
+    record, other = edits.Record(f"{folder}/edits.seen"), edits.Record(f"{folder}/edits.seen")
+    same("no file", record.read(), {})
+    sums = {f"low/{it}.edit": edits.sum_of(it) for it in range(8)}
+    threads = [threading.Thread(target=edits.Record(record.file).keep, args=it) for it in sums.items()]
+    for it in threads:
+        it.start()
+    for it in threads:
+        it.join()
+    same("eight at once", record.read(), sums)
+    other.drop("low/3.edit")
+    record.drop("low/3.edit")
+    with open(record.file, "a", encoding="utf-8") as file:
+        file.write("<<<<<<< HEAD\n1234 low/9.edit\nhello\n")
+    record.keep_only(["low/5.edit", "low/3.edit"])
+    same("what is left", other.read(), {"low/5.edit": sums["low/5.edit"]})
+    same("files", os.listdir(folder), ["edits.seen"])
+
+
+def an_edit_that_cannot_be_made_is_told(folder):
+    repository = Repository(folder)
+    for name, old, new, why in [
+        ("absent", "n + 5", "n + 6", "0 times"),
+        ("twice", "result ≡ n", "result ≡ 1", "3 times"),
+        ("nothing", "n * 2 }", "n * 2 }", "changes nothing"),
+        ("back", "n + 1\nnew: n + 9\nold: n + 9", "n + 1", "2 times"),
+        ("none", "MOST\nold: n", "x", "times"),
+    ]:
+        repository.edit(f"low/{name}", old, new)
+        found = repository.read(f"low/{name}")
+        if why not in (found.why or "") or found.body:
+            raise Fault(f"{name}: {found.why!r} in place of what has {why!r}")
+
+
+def an_edit_lies_in_one_body_or_is_tried_alone(folder):
+    repository = Repository(folder)
+    repository.write("crates/low/src/lib.rt", PLACES)
+    repository.write("crates/low/src/deep.rt", DEEP)
+    for file, old, new, only, is_body in PLACED:
+        repository.edit("low/placed", old, new, file)
+        found = repository.read("low/placed", NAMES)
+        same(f"{old} to {new}", (found.why, found.only, bool(found.body)), (None, only, is_body))
+    repository.edit("low/hint", "        3", "        4", more="only: five\n")
+    found = repository.read("low/hint", NAMES)
+    same("with a line only:", (found.only, found.body), ("five", None))
+
+
+def edits_of_bodies_go_together_and_apart(folder):
+    repository = Repository(folder)
+    names = ["next", "after_next", "most", "twice"]
+    repository.edit("low/a", "next(next(n))", "next(n)")
+    repository.edit("low/b", "    n + 1", "    n + 1 + 1")
+    repository.edit("low/c", "    n + 1", "    n")
+    repository.edit("low/d", "    n * 2", "    n")
+    repository.edit("low/e", "next(next(n))", "next(n) + 2")
+    crate = repository.crates()["low"]
+    functions = edits_read.functions_in(crate, names)
+    found = [edits_read.Edit(crate, it, functions) for it in edits.rt.edits_of(crate)[0]]
+    groups = edits_read.grouped(found, functions)
+    letters = ["".join(it.name[4] for it in group) for group in groups]
+    same("the groups", letters, ["ad", "b", "c", "e"])
+    text = edits_read.combined(crate, [found[1], found[3]])["src/lib.rt"]
+    same("two edits made", text, LOW.replace("    n + 1", "    n + 1 + 1").replace("    n * 2", "    n"))
+
+
+OWN_GOAL = "fn low::next: no proof: expected answers in ./proofs/next/Answers.antt; `search` did not prove `returns`"
+OWN_ANSWER = "./proofs/next/Answers.antt:3:9: error: `returns`: `search`: no proof of `a` was found"
+GONE = "./proofs/next/Answers.antt:3:9: error: `returns`: record `R` has no field `most`"
+CHANGED = "proofs/next/Invariants.antt"
+CALLS = f"{OWN_GOAL}; it calls `low::most`, which is not proved"
+
+
+def only_goals_and_answers_of_its_own_refuse_a_function(_):
+    crate, end = type("Named", (), {"name": "low"}), "only=2 proved=1"
+    for rows, wanted in [
+        ([OWN_GOAL, "fn low::most: proved", end], ["next"]),
+        ([OWN_ANSWER, "fn low::next: not proved", end], ["next"]),
+        (["fn low::next: not proved", end], []),
+        (["fn low::next: could not tell", end], []),
+        ([GONE, "fn low::next: not proved", end], []),
+        ([GONE, OWN_GOAL, end], []),
+        ([GONE, OWN_ANSWER, "fn low::next: not proved", end], ["next"]),
+        ([GONE.replace("Answers", "Invariants"), OWN_ANSWER, "fn low::next: not proved", end], []),
+        ([CALLS, "fn low::most: not proved", end], []),
+        ([CALLS.replace("it calls", "it passes the block"), end], []),
+        ([CALLS.replace("which is", "`low::twice`, which are"), end], []),
+        ([OWN_GOAL, "proofs/Lemmas.antt:1:1: error: `lemma`: no", end], []),
+        ([OWN_GOAL, "./proofs/most/Answers.antt:1:1: error: `lemma`: no", end], []),
+        ([OWN_GOAL, "src/lib.rt:1:1: error[unknown-name]: cannot find value `x`", end], []),
+        ([OWN_GOAL, "src/lib.rt:1:1: error: `next`: `x` is not in scope", end], []),
+        ([f"{CHANGED}:1:1: error: expected a term", OWN_GOAL, end], []),
+        ([OWN_GOAL], []),
+        ([OWN_GOAL, "logic=not-proved functions=2"], []),
+        ([OWN_GOAL.replace("low::", "other::"), end], []),
+    ]:
+        found = edits_read.reasons(crate, 1, "\n".join([*rows, ""]), {"src/lib.rt": "", CHANGED: ""})
+        same(f"refused by {rows}", [*found], wanted)
+    for status in (0, 2, 3, -9):
+        same(f"refused at the status {status}", edits_read.reasons(crate, status, f"{OWN_GOAL}\n{end}\n", {}), {})
+
+
+def what_changes_while_it_is_checked_is_not_recorded(folder):
+    repository = Repository(folder)
+    repository.edit("low/wrong", "n + 1", "n + 2")
+    crate, name, record = repository.crates()["low"], "low/wrong.edit", edits.Record(f"{folder}/tests/edits.seen")
+    run = edits.Run({crate: [name] * 3}, {name: repository.sum("low/wrong")}, record, 1, folder)
+    with open(os.devnull, "w", encoding="utf-8") as nowhere, contextlib.redirect_stdout(nowhere):
+        run.tell(crate, name, True, "")
+        same("as it was", (record.read(), run.refused), ({name: run.sums[name]}, {name}))
+        run.refused.clear()
+        repository.change("low", "MOST: u32 = 7", "MOST: u32 = 6")
+        run.tell(crate, name, True, "")
+    same("once changed", (record.read(), run.refused), ({}, set()))
+
+
+def a_call_that_fails_holds_up_no_other(_):
+    lanes, done = edits.Lanes(2), []
+    lanes.add(1, done.append, 1)
+    lanes.add(0, lambda: sys.exit("no"))
+    lanes.add(0, lambda: lanes.add(2, done.append, 2))
+    lanes.add(0, lambda: [][0])
+    with open(os.devnull, "w", encoding="utf-8") as nowhere, contextlib.redirect_stderr(nowhere):
+        lanes.run()
+    same("what was done", sorted(done), [1, 2])
+
+
+TESTS = [
+    a_sum_is_of_all_that_a_check_reads,
+    a_sum_is_of_the_name_the_program_and_the_kit,
+    a_record_keeps_what_it_is_told,
+    an_edit_that_cannot_be_made_is_told,
+    an_edit_lies_in_one_body_or_is_tried_alone,
+    edits_of_bodies_go_together_and_apart,
+    only_goals_and_answers_of_its_own_refuse_a_function,
+    what_changes_while_it_is_checked_is_not_recorded,
+    a_call_that_fails_holds_up_no_other,
+]
