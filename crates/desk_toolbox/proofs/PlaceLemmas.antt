@@ -17,15 +17,6 @@ use Rattle.def_iface.specs.Meaning.{Definition, is_fitting}
 use Rattle.desk_toolbox.specs.Refused.{is_placed}
 use Rattle.scan_region.specs.Moves.{StaysInRange, LeavesRange}
 
-true-false : (b : Bool) → b ≡ true → b ≡ false → ⊥
-true-false true e f = cc
-true-false false e f = cc
-
--- a region that stays in range is moved
-pub moved_for_certain : (r : Result (Unit {0}) Refusal) (old new : Pixels) (d : Point) → StaysInRange old d → OnOk r ((p : Point) → holds new p ≡ holds old (minus p d)) → IfErr r (λ e. (e ≡ OutOfRange) × LeavesRange old d) → (p : Point) → holds new p ≡ holds old (minus p d)
-moved_for_certain (Ok x) old new d stays moved refused = moved
-moved_for_certain (Err e) old new d stays moved refused = absurd (true-false _ (stays refused.1.0 refused.1.1) refused.1.2)
-
 one_side : (low high d x : ℤ) → is_coordinate (low +ℤ d) ≡ true → is_coordinate (high +ℤ d) ≡ true → low ≤ℤ x → x <ℤ high → between (negsuc 16383) (x +ℤ d) (pos 16383) ≡ true
 one_side low high d x a b l m = grind (arith, ints)
 

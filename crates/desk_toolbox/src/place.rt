@@ -56,7 +56,7 @@ fn move_to(region: &mut Region, place: Point)
     requires { StaysInRange region.old place }
     ensures { (p : Point) → holds region.new p ≡ holds region.old (minus p place) }
 {
-    let _moved = region.offset(place.h, place.v);
+    region.offset(place.h, place.v).unwrap();
 }
 
 /// Whether the window may be where it is to be, by place and size alone.
