@@ -1,7 +1,8 @@
 -- Reading a word gives what it stands for, and nothing else.
-use Rattle.std.proofs.Common.{◌≡◌, ℕ, ℤ, pos, neg_ℤ, inl, inr, Bool, true, false, List, [], ◌∷◌, ◌++◌, Option, Some, None, option_map, Ok, Err, refl, sym, ap, ◌∙◌, subst, append-nil, arith, if◌then◌else◌}
+use Rattle.std.proofs.Common.{◌≡◌, ℕ, suc, cond, ℤ, pos, neg_ℤ, inl, inr, Bool, true, false, List, [], ◌∷◌, ◌++◌, ◌+◌, ◌==◌, not, length, take, drop, position, Option, Some, None, option_map, Ok, Err, refl, sym, ap, ◌∙◌, subst, append-nil, arith, if◌then◌else◌}
 use Rattle.std.specs.Char.{is_ascii_alphabetic, is_ascii_alphanumeric}
-use Rattle.std.specs.List.{list_all}
+use Rattle.std.specs.Prelude.{nat_lt}
+use Rattle.std.specs.List.{list_all, position_or_len}
 use Rattle.std.proofs.lemmas.Bool.{eq-eqb, ne_eqb, cases_Bool, and_parts, cases_eq}
 use Rattle.tb_geom.specs.declared.refusal.Refusal.TheVariants.{BadSyntax}
 use Rattle.script_text.specs.Words.{◌>>=◌, Field, split_at, parts, word_at, is_digit, is_number_text, digits_value, digits_of, number_of, number_at, flag_of, flag_at, is_name, name_at, is_plain, quoted_at, quoted_parts, after_quote, text_at}
@@ -35,6 +36,39 @@ split_at-none mark (b ∷ bs) (ne, h) = rw (ne_eqb b mark ne) (ap (option_map (�
 split_at-mark : (mark : ℕ) (xs ys : List ℕ) → HasNo mark xs → split_at mark (xs ++ mark ∷ ys) ≡ Some (xs, ys)
 split_at-mark mark [] ys h = rw (eq-eqb mark mark refl) refl
 split_at-mark mark (b ∷ bs) ys (ne, h) = rw (ne_eqb b mark ne) (ap (option_map (λ p. (b ∷ p.0, p.1))) (split_at-mark mark bs ys h))
+
+-- what lies before a place and behind it
+abbrev pub around : List ℕ → ℕ → List ℕ × List ℕ
+around xs at = (take at xs, drop (at + 1) xs)
+
+-- one byte more before it
+around-cons : (b : ℕ) (bs : List ℕ) (k : ℕ) → around (b ∷ bs) (1 + k) ≡ (b ∷ take k bs, drop (k + 1) bs)
+around-cons b bs k =
+    let one : 1 + k ≡ suc k = omega arith in
+    let two : 1 + k + 1 ≡ suc (k + 1) = omega arith in
+    λ i. (take (one i) (b ∷ bs), drop (two i) (b ∷ bs))
+
+-- a list is split at the place of its first mark
+split_at-first : (mark : ℕ) (xs : List ℕ) → split_at mark xs ≡ option_map (around xs) (position (λ b. b == mark) xs)
+split_at-first mark [] = refl
+split_at-first mark (b ∷ bs) = by_test (b == mark) (position_or_len (λ b. b == mark) bs) (nat_lt (position_or_len (λ b. b == mark) bs) (length bs)) refl (split_at-first mark bs)
+  where
+    here : nat_lt 0 (length (b ∷ bs)) ≡ true
+    here = grind arith
+
+    shift : (k : ℕ) → nat_lt (1 + k) (length (b ∷ bs)) ≡ nat_lt k (length bs)
+    shift k = grind arith
+
+    by_test : (t : Bool) (k : ℕ) (within : Bool) → nat_lt k (length bs) ≡ within
+        → split_at mark bs ≡ option_map (around bs) (cond (nat_lt k (length bs)) (Some k) None)
+        → cond t (Some (around (b ∷ bs) 0)) (option_map (λ p. (b ∷ p.0, p.1)) (split_at mark bs))
+        ≡ option_map (around (b ∷ bs)) (cond (nat_lt (cond (not t) (1 + k) 0) (length (b ∷ bs))) (Some (cond (not t) (1 + k) 0)) None)
+    by_test true k within e f = rw here refl
+    by_test false k true e f = rw (f, e, shift k, e) (ap Some (sym (around-cons b bs k)))
+    by_test false k false e f = rw (f, e, shift k, e) refl
+
+pub split_at-place : (mark : ℕ) (xs : List ℕ) (place : Option ℕ) → place ≡ position (λ b. b == mark) xs → split_at mark xs ≡ option_map (around xs) place
+split_at-place mark xs place e = split_at-first mark xs ∙ ap (option_map (around xs)) (sym e)
 
 -- a word and what follows it is read so
 pub word_at-follows : (word : List ℕ) (more : Option (List ℕ)) → HasNo 32 word → word_at (Some (word ++ follows more)) ≡ Ok (word, more)

@@ -4,7 +4,7 @@
 //! the line ended with the word, nothing is left, which is another thing than an empty rest: after a space a word
 //! has to come. Each method takes what is left, and gives the word's value with what is left after it. A word of
 //! another form is BadSyntax.
-ghost use Rattle.std.specs.Prelude.{◌≡◌, List, ℕ};
+ghost use Rattle.std.specs.Prelude.{◌≡◌, ◌==◌, position, List, ℕ};
 ghost use Rattle.std.specs.Char.{is_ascii_alphanumeric};
 ghost use Rattle.std.specs.List.{list_all};
 ghost use Rattle.script_text.specs.Words.{word_at, number_at, number_of, flag_at, name_at, is_name, text_at, quoted_at, after_quote, is_plain, digits_of, split_at, first_of, end_at};
@@ -122,12 +122,15 @@ fn split_at<'a>(text: &Text<'a>, mark: u8) -> Option<(Text<'a>, Text<'a>)>
     ensures { result ≡ split_at mark text.now }
 {
     let bytes = text.bytes();
-    for i in 0..bytes.len() {
-        if bytes[i] == mark {
-            return Some((Text::new(&bytes[..i]), Text::new(&bytes[i + 1..])));
-        }
-    }
-    None
+    let at = place_of(bytes, mark)?;
+    Some((Text::new(&bytes[..at]), Text::new(&bytes[at + 1..])))
+}
+
+/// The place of the first mark, if there is one.
+fn place_of(bytes: &[u8], mark: u8) -> Option<usize>
+    ensures { result ≡ position (λ b. b == mark) bytes.now }
+{
+    bytes.iter().position(|b| *b == mark)
 }
 
 /// The first byte and the others, if there is one.
