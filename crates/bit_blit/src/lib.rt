@@ -12,6 +12,3 @@ mod walk;
 
 pub use ink::{Ink, fill};
 pub use walk::{Rule, draw_rect};
-
-#[cfg(test)]
-mod tests;

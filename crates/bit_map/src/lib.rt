@@ -14,6 +14,3 @@ mod pattern;
 pub use map::BitMap;
 pub use mode::Mode;
 pub use pattern::Pattern;
-
-#[cfg(test)]
-mod tests;

@@ -53,6 +53,3 @@ pub use size::Size;
 pub use stock::{Returned, Stock, Stocked};
 pub use taken::{Defined, Taken};
 pub use window_def::{Hit, Stage, WindowChange, WindowDef, WindowRegions};
-
-#[cfg(test)]
-mod tests;

@@ -24,7 +24,8 @@ const DEFINITIONS: u8 = 16;
 
 /// What is said where the words of the command line cannot be had as text. The first of them is the path by
 /// which the program was called.
-const UNREADABLE: &str = "desk: the command line cannot be read: call the program by a path in UTF-8, and name a script in UTF-8 or give it on standard input";
+const UNREADABLE: &str =
+    "desk: the command line cannot be read: call the program by a path in UTF-8, and name a script in UTF-8 or give it on standard input";
 
 /// How the program ends: a run that was stopped is named on standard error.
 fn ended(rt: &impl Eprint, outcome: Result<(), Refusal>) -> ExitCode

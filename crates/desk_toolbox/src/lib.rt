@@ -39,6 +39,3 @@ pub use text::Text;
 pub use toolbox::Toolbox;
 pub use vis_update::Area;
 pub use window_list::Window;
-
-#[cfg(test)]
-mod tests;

@@ -36,6 +36,3 @@ mod spans;
 
 pub use region::Region;
 pub use spans::{Span, Spans};
-
-#[cfg(test)]
-mod tests;

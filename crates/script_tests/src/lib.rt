@@ -1,20 +1,19 @@
-//! Tests of the script crates.
+//! What no clause says of the script crates, by tests: that a script is answered as was worked out by hand, in whatever
+//! pieces it is read and its answers are written, how a run ends whose reader or writer breaks at any moment, and what
+//! no script reaches. What a script can show is a row of `tests/rows`.
+//!
+//! `runs` tests `script_runner`, `lines` tests `script_text`, `images` tests `screen_pbm`, and `sending` tests
+//! `watched_io`. `Script` and `Paper` are a reader and a writer that can be slow or break; they are proved, and no part
+//! of the program.
 #![tactic(auto)]
 
 #[cfg(test)]
 mod images;
 #[cfg(test)]
-mod paper;
-#[cfg(test)]
-mod replies;
+mod lines;
+pub mod paper;
 #[cfg(test)]
 mod runs;
-#[cfg(test)]
-mod script;
+pub mod script;
 #[cfg(test)]
 mod sending;
-
-/// One.
-pub fn one() -> u8 {
-    1
-}

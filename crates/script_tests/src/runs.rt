@@ -50,7 +50,13 @@ fn the_first_window_in_any_pieces(rt: HostRuntime) -> Result<(), Fail> {
     for (read, written) in [(4096, 4096), (1, 1), (2, 5), (11, 3), (45, 1), (1, 64)] {
         let mut paper = Paper::new(rt.alloc(), written, 87);
         let ended = run_first(rt.alloc(), read, 46, &mut paper)?;
-        assert!(rt; ended == Ended { outcome: Ok(()), is_used: true });
+        assert!(rt;
+            ended
+                == Ended {
+                    outcome: Ok(()),
+                    is_used: true
+                }
+        );
         assert!(rt; paper.text.as_slice() == FIRST_ANSWERS);
     }
     Ok(())
@@ -61,7 +67,13 @@ fn each_read_fails_in_turn(rt: HostRuntime) -> Result<(), Fail> {
     for reads in 0..46 {
         let mut paper = Paper::new(rt.alloc(), 4096, 1000);
         let ended = run_first(rt.alloc(), 1, reads, &mut paper)?;
-        assert!(rt; ended == Ended { outcome: Err(Refusal::ReadFault), is_used: reads >= 39 });
+        assert!(rt;
+            ended
+                == Ended {
+                    outcome: Err(Refusal::ReadFault),
+                    is_used: reads >= 39
+                }
+        );
         let count = match reads {
             0..11 => 0,
             11..39 => 3,
@@ -82,7 +94,13 @@ fn each_write_fails_in_turn(rt: HostRuntime) -> Result<(), Fail> {
         assert!(rt; FIRST_ANSWERS.starts_with(front));
         assert!(rt; paper.writes_left == 0);
         assert!(rt; writes <= front.len() && front.len() <= 3 * writes && front.len() < 87);
-        assert!(rt; ended == Ended { outcome: Err(Refusal::WriteFault), is_used: writes > 0 });
+        assert!(rt;
+            ended
+                == Ended {
+                    outcome: Err(Refusal::WriteFault),
+                    is_used: writes > 0
+                }
+        );
     }
     Ok(())
 }

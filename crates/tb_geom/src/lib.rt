@@ -16,6 +16,3 @@ mod refusal;
 pub use point::Point;
 pub use rect::Rect;
 pub use refusal::Refusal;
-
-#[cfg(test)]
-mod tests;

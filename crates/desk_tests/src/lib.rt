@@ -1,0 +1,49 @@
+//! What no clause says of the libraries, by tests: that calls succeed where memory is not refused, and that the words
+//! of the contracts are QuickDraw's. Expected values are tables and pictures written by hand, or come from slow
+//! programs over single pixels, and never from the libraries.
+//!
+//! All tests stand in one crate, since a crate that has tests is proved twice: `geometry` tests `tb_geom`, `maps` tests
+//! `bit_map`, `regions` tests `scan_region`, `blits` tests `bit_blit`, `canvases` and `stocks` test `def_iface`, and
+//! `desks` tests `desk_toolbox`. `pixels` has what they compare with. `titled_window` is the one window definition of
+//! the tests: it is proved, and no part of the program.
+#![tactic(auto)]
+
+pub mod titled_window;
+
+/// A rectangle, by its left side, its top, its right side and its bottom.
+#[cfg(test)]
+macro_rules! rect {
+    ($left:expr, $top:expr, $right:expr, $bottom:expr) => {
+        tb_geom::Rect {
+            left: $left,
+            top: $top,
+            right: $right,
+            bottom: $bottom,
+        }
+    };
+}
+
+/// A point, by its column and its row.
+#[cfg(test)]
+macro_rules! point {
+    ($h:expr, $v:expr) => {
+        tb_geom::Point { h: $h, v: $v }
+    };
+}
+
+#[cfg(test)]
+mod blits;
+#[cfg(test)]
+mod canvases;
+#[cfg(test)]
+mod desks;
+#[cfg(test)]
+mod geometry;
+#[cfg(test)]
+mod maps;
+#[cfg(test)]
+mod pixels;
+#[cfg(test)]
+mod regions;
+#[cfg(test)]
+mod stocks;

@@ -1,0 +1,172 @@
+//! Sizes, and definitions in a stock and out of it.
+ghost use Rattle.std.specs.Prelude.{◌≡◌, true};
+ghost use Rattle.def_iface.specs.Meaning.{is_fitting};
+
+use crate::canvases::cut;
+use crate::pixels::{Pixels, map_of, mark, picture};
+use crate::titled_window::Titled;
+use def_iface::{Canvas, Defined, Hit, Size, Stage, Stock, Taken, WindowDef, WindowRegions};
+use scan_region::Region;
+use std::alloc::Global;
+use std::test::Fail;
+use tb_geom::{Point, Refusal};
+
+/// Sizes, and whether a window may have them.
+const SIZES: [(i32, i32, bool); 9] = [
+    (1, 1, true),
+    (16383, 16383, true),
+    (1, 16383, true),
+    (0, 5, false),
+    (5, 0, false),
+    (16384, 5, false),
+    (5, 16384, false),
+    (-1, 5, false),
+    (5, i32::MIN, false),
+];
+
+#[test]
+fn sizes_end_where_coordinates_do(rt: HostRuntime) {
+    for (width, height, in_range) in SIZES {
+        let size = Size { width, height };
+        assert!(rt; size.is_in_range() == in_range);
+        assert!(rt; size.rect() == rect!(0, 0, width, height));
+    }
+}
+
+const SIZE: Size = Size {
+    width: 3,
+    height: 2,
+};
+
+#[test]
+fn a_stock_gives_what_is_fresh(rt: HostRuntime) -> Result<(), Fail> {
+    let alloc = rt.alloc();
+    let mut stock = Stock::new(alloc);
+    assert!(rt; stock.take(b"titled").err() == Some(Refusal::NoSuchName));
+    let first: Box<dyn WindowDef> = Box::new(alloc, Titled::new())?;
+    assert!(rt; stock.add(b"titled", first).is_ok());
+    let second: Box<dyn WindowDef> = Box::new(alloc, Titled::new())?;
+    assert!(rt; stock.add(b"titled", second).is_ok());
+    let fresh = stock.take(b"titled")?;
+    stock.put_back(fresh);
+    let mut used = stock.take(b"titled")?;
+    assert!(rt; SIZE.is_in_range() && used.bounds(SIZE).is_in_range());
+    used.begin(SIZE);
+    used.dispose();
+    stock.put_back(used);
+    let _other = stock.take(b"titled")?;
+    assert!(rt; stock.take(b"titled").err() == Some(Refusal::NoDefinition));
+    assert!(rt; stock.has(b"titled") && !stock.has(b"title") && !stock.has(b"Titled"));
+    Ok(())
+}
+
+/// `o` for a pixel of the content, `#` for another of the structure.
+impl Pixels for WindowRegions {
+    fn byte(&self, point: Point) -> u8 {
+        if self.content.contains(point) {
+            b'o'
+        } else {
+            mark(self.structure.contains(point))
+        }
+    }
+}
+
+/// The pixels of one value.
+#[derive(Drop)]
+struct Even(bool);
+
+impl Pixels for Even {
+    fn byte(&self, _point: Point) -> u8 {
+        mark(self.0)
+    }
+}
+
+/// The regions of a window of 3 by 2, from -3 -5 on.
+const REGIONS: &[u8] = b"\
+........\n\
+..#####.\n\
+..#####.\n\
+..#####.\n\
+..#####.\n\
+..#ooo#.\n\
+..#ooo#.\n\
+..#####.\n\
+........\n";
+
+/// What the window makes of a white map and of a black one of 8 by 9, with its content at 2 4, under a clip that ends
+/// before the last column and the last row, and a hole at 3 5.
+const DRAWN: [(bool, &[u8]); 2] = [
+    (
+        false,
+        b"\
+#######.\n\
+#######.\n\
+#######.\n\
+#######.\n\
+##...##.\n\
+##...##.\n\
+#######.\n\
+#######.\n\
+........\n",
+    ),
+    (
+        true,
+        b"\
+########\n\
+########\n\
+########\n\
+########\n\
+##...###\n\
+##.#.###\n\
+########\n\
+########\n\
+########\n",
+    ),
+];
+
+/// The regions at that size, as a picture.
+fn regions(alloc: Global, taken: &Taken) -> Result<Vec<u8>, Refusal>
+    requires { is_fitting (⟦<Taken as Defined>⟧.loan taken.now).definition SIZE ≡ true }
+{
+    let regions = taken.regions_for(alloc, SIZE)?;
+    Ok(picture(alloc, &regions, rect!(-3, -5, 5, 4))?)
+}
+
+/// What is drawn on a map of one value, as a picture.
+fn drawn(alloc: Global, taken: &Taken, value: bool) -> Result<Vec<u8>, Refusal>
+    requires live { (⟦<Taken as Defined>⟧.loan taken.now).definition.stage ≡ Stage.Live }
+    requires told { is_fitting (⟦<Taken as Defined>⟧.loan taken.now).definition
+        (⟦<Taken as Defined>⟧.loan taken.now).definition.size ≡ true }
+{
+    let hole = Region::from_rect(alloc, rect!(3, 5, 4, 6))?;
+    let cut = cut(None, None, None, Some(&hole));
+    let mut map = map_of(alloc, &Even(value), 8, 9)?;
+    let mut canvas = Canvas {
+        map: &mut map,
+        clip: rect!(0, 0, 7, 8),
+        origin: point!(2, 4),
+        cut: &cut,
+    };
+    taken.draw(&mut canvas);
+    Ok(picture(alloc, &map, rect!(0, 0, 8, 9))?)
+}
+
+#[test]
+fn a_boxed_definition_is_reached(rt: HostRuntime) -> Result<(), Fail> {
+    let alloc = rt.alloc();
+    let mut stock = Stock::new(alloc);
+    let titled: Box<dyn WindowDef> = Box::new(alloc, Titled::new())?;
+    assert!(rt; stock.add(b"titled", titled).is_ok());
+    let mut taken = stock.take(b"titled")?;
+    assert!(rt; SIZE.is_in_range() && taken.bounds(SIZE).is_in_range());
+    assert!(rt; taken.bounds(SIZE) == rect!(-1, -4, 4, 3));
+    assert!(rt; regions(alloc, &taken)?.as_slice() == REGIONS);
+    taken.begin(SIZE);
+    assert!(rt;
+        taken.hit(point!(2, 1)) == Hit::InContent && taken.hit(point!(2, -1)) == Hit::InDrag
+    );
+    for (before, after) in DRAWN {
+        assert!(rt; drawn(alloc, &taken, before)?.as_slice() == after);
+    }
+    Ok(())
+}

@@ -1,4 +1,0 @@
-use Rattle.desk_toolbox.proofs.tests.calls_in_a_row_are_answered_in_their_order.Goals as goal
-
-pub run-requires : goal.run-requires
-run-requires g c = (c.in_ok-desk.ensures.begun _ (c.in-Ok.ensures.full c.new-stock.ensures.full)).whole
