@@ -70,10 +70,8 @@ impl<'a> Words<'a> {
         ensures { result ≡ number_at self.entry }
     {
         let (text, rest) = self.word()?;
-        match read_number(&text) {
-            Some(n) => Ok((n, rest)),
-            None => Err(Refusal::BadSyntax),
-        }
+        let n = read_number(&text).ok_or(Refusal::BadSyntax)?;
+        Ok((n, rest))
     }
 
     /// A flag: `0` or `1`.
@@ -137,10 +135,8 @@ fn place_of(bytes: &[u8], mark: u8) -> Option<usize>
 fn first<'a>(text: &Text<'a>) -> Option<(u8, Text<'a>)>
     ensures { result ≡ first_of text.now }
 {
-    match text.bytes().split_first() {
-        None => None,
-        Some((first, others)) => Some((*first, Text::new(others))),
-    }
+    let (first, others) = text.bytes().split_first()?;
+    Some((*first, Text::new(others)))
 }
 
 /// What 1 to 9 digits stand for; None of other bytes.
