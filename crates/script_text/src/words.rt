@@ -179,10 +179,8 @@ fn is_alphanumeric(bytes: &[u8]) -> bool
 fn is_name(text: &Text<'_>) -> bool
     ensures { result ≡ is_name text.now }
 {
-    match text.bytes().split_first() {
-        None => false,
-        Some((first, others)) => { first.is_ascii_alphabetic() && is_alphanumeric(others) }
-    }
+    text.bytes().split_first().is_some_and(|(first, others)| first.is_ascii_alphabetic()
+        && is_alphanumeric(others))
 }
 
 /// Whether all bytes are such as a line of words may have: 0x20..=0x7E.
