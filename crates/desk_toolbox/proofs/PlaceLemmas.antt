@@ -1,13 +1,9 @@
 -- Regions of a window at its place.
-use Rattle.std.proofs.Common.{◌≡◌, Bool, true, false, ◌&&◌, Result, Ok, Err, Some, ℤ, pos, negsuc, ◌+ℤ◌, ◌≤ℤ◌, ◌<ℤ◌, arith}
-use Rattle.std.specs.Result.{OnOk, IfErr}
+use Rattle.std.proofs.Common.{◌≡◌, true, ◌&&◌, Some, ℤ, pos, negsuc, ◌+ℤ◌, ◌≤ℤ◌, ◌<ℤ◌, arith}
 use Rattle.std.proofs.lemmas.Bool.{and_parts}
 use Rattle.std.proofs.lemmas.Int.{ints}
 use Rattle.tb_geom.specs.declared.point.Point.{Point}
 use Rattle.tb_geom.specs.declared.rect.Rect.{Rect}
-use Rattle.tb_geom.specs.declared.refusal.Refusal.{Refusal}
-use Rattle.tb_geom.specs.declared.refusal.Refusal.TheVariants.{OutOfRange}
-use Rattle.tb_geom.specs.Points.{minus}
 use Rattle.tb_geom.specs.Rects.{rect_holds, between, is_in_range, is_coordinate, in_plane, moved}
 use Rattle.tb_geom.specs.Pixels.{Pixels, holds}
 use Rattle.tb_geom.proofs.RectLemmas.{sides_of}
@@ -15,7 +11,7 @@ use Rattle.def_iface.specs.declared.size.Size.{Size}
 use Rattle.def_iface.specs.Sizes.{is_size}
 use Rattle.def_iface.specs.Meaning.{Definition, is_fitting}
 use Rattle.desk_toolbox.specs.Refused.{is_placed}
-use Rattle.scan_region.specs.Moves.{StaysInRange, LeavesRange}
+use Rattle.scan_region.specs.Moves.{StaysInRange}
 
 one_side : (low high d x : ℤ) → is_coordinate (low +ℤ d) ≡ true → is_coordinate (high +ℤ d) ≡ true → low ≤ℤ x → x <ℤ high → between (negsuc 16383) (x +ℤ d) (pos 16383) ≡ true
 one_side low high d x a b l m = grind (arith, ints)
