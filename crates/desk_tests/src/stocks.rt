@@ -9,7 +9,8 @@ use def_iface::{Canvas, Defined, Hit, Size, Stage, Stock, Taken, WindowDef, Wind
 use scan_region::Region;
 use std::alloc::Global;
 use std::test::Fail;
-use tb_geom::{Point, Refusal};
+use std_wdef::PlainWindow;
+use tb_geom::{Point, Rect, Refusal};
 
 /// Sizes, and whether a window may have them.
 const SIZES: [(i32, i32, bool); 9] = [
@@ -38,25 +39,33 @@ const SIZE: Size = Size {
     height: 2,
 };
 
+/// The box of a titled window of that size.
+const TITLED: Rect = rect!(-1, -4, 4, 3);
+
+/// The box of a plain one.
+const PLAIN: Rect = rect!(-1, -1, 4, 3);
+
 #[test]
-fn a_stock_gives_what_is_fresh(rt: HostRuntime) -> Result<(), Fail> {
+fn a_stock_gives_the_first_fresh_definition_of_a_kind(rt: HostRuntime) -> Result<(), Fail> {
     let alloc = rt.alloc();
     let mut stock = Stock::new(alloc);
-    assert!(rt; stock.take(b"titled").err() == Some(Refusal::NoSuchName));
+    assert!(rt; stock.take(b"window").err() == Some(Refusal::NoSuchName));
     let first: Box<dyn WindowDef> = Box::new(alloc, Titled::new())?;
-    assert!(rt; stock.add(b"titled", first).is_ok());
-    let second: Box<dyn WindowDef> = Box::new(alloc, Titled::new())?;
-    assert!(rt; stock.add(b"titled", second).is_ok());
-    let fresh = stock.take(b"titled")?;
+    assert!(rt; stock.add(b"window", first).is_ok());
+    let second: Box<dyn WindowDef> = Box::new(alloc, PlainWindow::new())?;
+    assert!(rt; stock.add(b"window", second).is_ok());
+    let fresh = stock.take(b"window")?;
     stock.put_back(fresh);
-    let mut used = stock.take(b"titled")?;
+    let mut used = stock.take(b"window")?;
     assert!(rt; SIZE.is_in_range() && used.bounds(SIZE).is_in_range());
+    assert!(rt; used.bounds(SIZE) == TITLED);
     used.begin(SIZE);
     used.dispose();
     stock.put_back(used);
-    let _other = stock.take(b"titled")?;
-    assert!(rt; stock.take(b"titled").err() == Some(Refusal::NoDefinition));
-    assert!(rt; stock.has(b"titled") && !stock.has(b"title") && !stock.has(b"Titled"));
+    let other = stock.take(b"window")?;
+    assert!(rt; other.bounds(SIZE) == PLAIN);
+    assert!(rt; stock.take(b"window").err() == Some(Refusal::NoDefinition));
+    assert!(rt; stock.has(b"window") && !stock.has(b"windo") && !stock.has(b"Window"));
     Ok(())
 }
 
@@ -159,7 +168,7 @@ fn a_boxed_definition_is_reached(rt: HostRuntime) -> Result<(), Fail> {
     assert!(rt; stock.add(b"titled", titled).is_ok());
     let mut taken = stock.take(b"titled")?;
     assert!(rt; SIZE.is_in_range() && taken.bounds(SIZE).is_in_range());
-    assert!(rt; taken.bounds(SIZE) == rect!(-1, -4, 4, 3));
+    assert!(rt; taken.bounds(SIZE) == TITLED);
     assert!(rt; regions(alloc, &taken)?.as_slice() == REGIONS);
     taken.begin(SIZE);
     assert!(rt;
