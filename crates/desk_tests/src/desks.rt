@@ -16,7 +16,7 @@ use tb_geom::{Point, Rect, Refusal};
 const SCREEN: Rect = rect!(0, 0, 24, 30);
 
 /// A desk below a menu bar of so many rows, with windows of 6 by 3 from back to front, whose contents begin in these
-/// columns of the row 24.
+/// columns and 24 rows down.
 #[derive(Drop)]
 struct Desk {
     bar: i32,
