@@ -1,0 +1,4 @@
+-- Lemmas on FONT records.
+pub mod RecordLemmas
+pub mod TextLemmas
+pub mod BuiltInLemmas

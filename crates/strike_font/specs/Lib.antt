@@ -1,0 +1,4 @@
+-- What the contracts speak of: FONT records, and the pixels of texts.
+pub mod Record
+pub mod Text
+pub mod BuiltIn

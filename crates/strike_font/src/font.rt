@@ -1,0 +1,114 @@
+//! Fonts.
+ghost use Rattle.std.specs.Prelude.{◌≡◌, true, IfOk, IfErr, IsTrue, ◌↔◌, ◌≤◌, ◌<◌, ◌*◌, ◌+◌, length, MatchResult, if◌then◌else◌};
+ghost use Rattle.strike_font.specs.BuiltIn.{IsBuiltIn};
+ghost use Rattle.strike_font.specs.Record.{is_font, row_words, ascent, descent};
+ghost use Rattle.strike_font.specs.Text.{glyph_of, text_width, text_holds, glyph_pixel, IsSized, IsTextPixel};
+
+use crate::built_in::RECORD;
+use crate::glyph::{self, Glyph};
+use crate::record::{is_font, word};
+use crate::text;
+use std::alloc::Global;
+use std::marker::Model;
+use tb_geom::{Point, Refusal};
+
+/// A font of black and white glyphs: the bytes of a FONT record (*Inside Macintosh: Text*, "Font
+/// Manager", the FONT record). Contracts see the bytes.
+#[derive(Debug, Drop)]
+pub struct Font {
+    bytes: Vec<u8>,
+}
+
+impl Model for Font {
+    ghost use Rattle.std.specs.Prelude.{ℕ, List};
+    ghost use Rattle.strike_font.specs.Record.{IsFont};
+
+    ghost Value = { List ℕ };
+
+    ghost view = { λ f. f.bytes.items };
+
+    ghost invariant = { λ f. IsFont f.bytes.items };
+}
+
+impl Font {
+    /// The font that these bytes are, which it copies. BadFont exactly where they are no FONT record
+    /// (`is_font`), and otherwise only NoMemory. Bytes after the record's parts do not matter.
+    pub fn from_bytes(alloc: Global, bytes: &[u8]) -> Result<Font, Refusal>
+        ensures bytes { IfOk result (λ font. font ≡ bytes.now) }
+        ensures accepted { IfOk result (λ _. is_font bytes.now ≡ true) }
+        ensures refused { IfErr result (λ e.
+            e ≡ (if is_font bytes.now then Refusal.NoMemory else Refusal.BadFont)) }
+    {
+        if is_font(bytes) {
+            let bytes = bytes.to_vec(alloc)?;
+            Ok(Font { bytes })
+        } else {
+            Err(Refusal::BadFont)
+        }
+    }
+
+    /// The font that is built in, for the characters 32 to 126: each is 6 pixels wide, with 5 columns
+    /// of 8 rows, of which 7 lie above the baseline. It refuses only for want of memory.
+    pub fn built_in(alloc: Global) -> Result<Font, Refusal>
+        ensures { MatchResult result IsBuiltIn (λ e. e ≡ Refusal.NoMemory) }
+    {
+        Font::from_bytes(alloc, &RECORD)
+    }
+
+    /// How many rows the font's ascent takes, which is above the baseline: 0..=127. A glyph's top row
+    /// lies so far above the baseline.
+    pub fn ascent(&self) -> u16
+        ensures value { result ≡ ascent self.now }
+        ensures small { result < 128 }
+    {
+        word(&self.bytes, 9)
+    }
+
+    /// How many rows the font's descent takes, which is below the baseline: 0..=127.
+    pub fn descent(&self) -> u16
+        ensures value { result ≡ descent self.now }
+        ensures small { result < 128 }
+    {
+        word(&self.bytes, 10)
+    }
+
+    /// The glyph that a character is drawn by: its own, or that of the missing symbol where the font
+    /// lacks it.
+    pub fn glyph(&self, character: u8) -> Glyph
+        ensures value { result ≡ glyph_of self.now character }
+        ensures within { result.first + result.columns ≤ 16 * row_words self.now }
+    {
+        glyph::glyph_of(&self.bytes, character)
+    }
+
+    /// Whether a glyph of this font has the pixel `x` columns right of the pen and `y` rows below the
+    /// baseline. Either may be negative, and is at most 2^34 either way.
+    pub fn glyph_pixel(&self, glyph: Glyph, x: i64, y: i64) -> bool
+        requires within { glyph.first + glyph.columns ≤ 16 * row_words self.now }
+        requires x_near { IsSized 34 x }
+        requires y_near { IsSized 34 y }
+        ensures { result ≡ glyph_pixel self.now glyph x y }
+    {
+        glyph::glyph_pixel(&self.bytes, glyph, x, y)
+    }
+
+    /// How many pixels a text of at most 65535 characters moves the pen to the right: the sum of its
+    /// characters' widths.
+    pub fn width(&self, text: &[u8]) -> u32
+        requires { length text.now ≤ 65535 }
+        ensures value { result ≡ text_width self.now text.now }
+        ensures small { result ≤ 255 * length text.now }
+    {
+        text::width(&self.bytes, text)
+    }
+
+    /// Whether a text of at most 65535 characters has the pixel at `point`, where its pen starts at
+    /// `pen`, which lies on the baseline. Both may be any points.
+    pub fn text_pixel(&self, text: &[u8], pen: Point, point: Point) -> bool
+        requires { length text.now ≤ 65535 }
+        ensures value { result ≡ text_holds self.now text.now pen point }
+        ensures drawn { IsTrue result ↔ IsTextPixel self.now text.now pen point }
+    {
+        text::text_pixel(&self.bytes, text, pen, point)
+    }
+}

@@ -1,0 +1,132 @@
+//! Glyphs.
+ghost use Rattle.std.specs.Prelude.{◌≡◌, ◌+◌, ◌*◌, ◌<◌, ◌≤◌, pos, ◌-ℤ◌, ◌+ℤ◌};
+ghost use Rattle.bit_map.specs.Patterns.{bit_of};
+ghost use Rattle.strike_font.specs.Record.{IsFont, last_symbol, row_words, height};
+ghost use Rattle.strike_font.specs.Text.{symbol_of, glyph_at, glyph_of, image_bit, glyph_bit, glyph_pixel, IsSized};
+
+use crate::record::{entry, first_char, gap, last_char, last_symbol, location, signed, word};
+
+/// Where a glyph stands in the strike of its font, and how it is put down. All four are in pixels.
+#[derive(Clone, Copy, Debug, PartialEq, Eq)]
+pub struct Glyph {
+    /// Its first column in the strike.
+    pub first: u16,
+    /// How many columns it has.
+    pub columns: u16,
+    /// How far right of the pen and the font's kernMax its first column goes.
+    pub offset: u8,
+    /// How far right it moves the pen.
+    pub width: u8,
+}
+
+/// The symbol that a character is drawn by.
+#[tactic(auto, unfolding(crate::specs::Text::symbol_of, crate::specs::Record::last_symbol))]
+fn symbol_of(bytes: &[u8], character: u8) -> usize
+    requires { IsFont bytes.now }
+    ensures value { result ≡ symbol_of bytes.now character }
+    ensures within { result ≤ last_symbol bytes.now }
+{
+    let first = first_char(bytes);
+    let own = i32::from(character);
+    if first <= own && own <= last_char(bytes) {
+        let symbol = gap(first, own);
+        if entry(bytes, symbol) != 65535 {
+            return symbol;
+        }
+    }
+    last_symbol(bytes)
+}
+
+/// The glyph of a symbol.
+fn glyph_at(bytes: &[u8], symbol: usize) -> Glyph
+    requires font { IsFont bytes.now }
+    requires symbol { symbol ≤ last_symbol bytes.now }
+    ensures value { result ≡ glyph_at bytes.now symbol }
+    ensures within { result.first + result.columns ≤ 16 * row_words bytes.now }
+{
+    let first = location(bytes, symbol);
+    let entry = entry(bytes, symbol);
+    Glyph {
+        first,
+        columns: location(bytes, symbol + 1) - first,
+        offset: (entry / 256) as u8,
+        width: (entry % 256) as u8,
+    }
+}
+
+/// The glyph of a character.
+#[tactic(auto, unfolding(crate::specs::Text::glyph_of))]
+pub fn glyph_of(bytes: &[u8], character: u8) -> Glyph
+    requires { IsFont bytes.now }
+    ensures value { result ≡ glyph_of bytes.now character }
+    ensures within { result.first + result.columns ≤ 16 * row_words bytes.now }
+{
+    glyph_at(bytes, symbol_of(bytes, character))
+}
+
+/// The bit of a byte at a place, place 0 being the high bit.
+fn bit_of(byte: u8, place: u8) -> bool
+    requires { place < 8 }
+    ensures { result ≡ bit_of byte place }
+{
+    (byte >> (7 - place)) % 2 == 1
+}
+
+/// The bit of the strike in a column and a row.
+#[tactic(auto, unfolding(crate::specs::Text::image_bit))]
+fn image_bit(bytes: &[u8], column: usize, row: u16) -> bool
+    requires font { IsFont bytes.now }
+    requires column_in { column < 16 * row_words bytes.now }
+    requires row_in { row < height bytes.now }
+    ensures { result ≡ image_bit bytes.now column row }
+{
+    let row_words = usize::from(word(bytes, 12));
+    bit_of(
+        bytes[26 + usize::from(row) * (2 * row_words) + column / 8],
+        (column % 8) as u8,
+    )
+}
+
+/// The bit of a glyph; it has none outside its own columns and rows.
+fn glyph_bit(bytes: &[u8], glyph: Glyph, column: i64, row: i64) -> bool
+    requires font { IsFont bytes.now }
+    requires within { glyph.first + glyph.columns ≤ 16 * row_words bytes.now }
+    ensures { result ≡ glyph_bit bytes.now glyph column row }
+{
+    if column < 0 || row < 0 {
+        return false;
+    }
+    let column = column as usize;
+    column < usize::from(glyph.columns)
+        && (row < i64::from(word(bytes, 7))
+            && image_bit(bytes, usize::from(glyph.first) + column, row as u16))
+}
+
+/// The column of a glyph that lies `x` columns right of the pen.
+fn column_of(x: i64, kern: i32, offset: u8) -> i64
+    requires { IsSized 34 x }
+    ensures { result ≡ x -ℤ (kern +ℤ pos offset) }
+{
+    x - (i64::from(kern) + i64::from(offset))
+}
+
+/// The row of a glyph that lies `y` rows below the baseline.
+fn row_of(y: i64, ascent: u16) -> i64
+    requires { IsSized 34 y }
+    ensures { result ≡ y +ℤ pos ascent }
+{
+    y + i64::from(ascent)
+}
+
+/// Whether a glyph has the pixel `x` columns right of the pen and `y` rows below the baseline.
+pub fn glyph_pixel(bytes: &[u8], glyph: Glyph, x: i64, y: i64) -> bool
+    requires font { IsFont bytes.now }
+    requires within { glyph.first + glyph.columns ≤ 16 * row_words bytes.now }
+    requires x_near { IsSized 34 x }
+    requires y_near { IsSized 34 y }
+    ensures { result ≡ glyph_pixel bytes.now glyph x y }
+{
+    let column = column_of(x, signed(word(bytes, 4)), glyph.offset);
+    let row = row_of(y, word(bytes, 9));
+    glyph_bit(bytes, glyph, column, row)
+}
