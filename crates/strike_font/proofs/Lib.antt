@@ -1,4 +1,5 @@
 -- Lemmas on FONT records.
 pub mod RecordLemmas
 pub mod TextLemmas
+pub mod PartLemmas
 pub mod BuiltInLemmas

@@ -22,6 +22,7 @@
 mod built_in;
 mod font;
 mod glyph;
+pub mod laws;
 mod record;
 mod text;
 

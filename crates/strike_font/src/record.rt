@@ -197,19 +197,11 @@ fn are_tables_good(bytes: &[u8]) -> bool
             && entry(bytes, last) != 65535)
 }
 
-/// The tests one after another.
-#[tactic(auto, unfolding(crate::specs::Record::is_font))]
-fn passes_tests(bytes: &[u8]) -> bool
-    ensures { result ≡ is_font bytes.now }
-{
-    has_head(bytes) && (is_good_head(bytes) && (has_tables(bytes) && are_tables_good(bytes)))
-}
-
 /// Whether the bytes are a FONT record.
-#[tactic(auto, using(crate::proofs::RecordLemmas::font_facts))]
+#[tactic(auto, unfolding(crate::specs::Record::is_font), using(crate::proofs::RecordLemmas::font_facts))]
 pub fn is_font(bytes: &[u8]) -> bool
     ensures value { result ≡ is_font bytes.now }
     ensures facts { IsTrue result → IsFont bytes.now }
 {
-    passes_tests(bytes)
+    has_head(bytes) && (is_good_head(bytes) && (has_tables(bytes) && are_tables_good(bytes)))
 }
