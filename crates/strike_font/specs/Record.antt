@@ -118,7 +118,7 @@ good_tables bs =
 unfoldable pub is_font : List ℕ → Bool
 is_font bs = has_head bs && (good_head bs && (has_tables bs && good_tables bs))
 
--- what an accepted font's readers rest on
+-- what the tests say of a font, as facts; readers rest on them
 pub record IsFont (bs : List ℕ) : Type 0 where
   pub head : 26 ≤ length bs
   pub tables : HasTables bs
