@@ -18,7 +18,7 @@ glyphs-join font [] other across x y = let none : across + 0 ≡ across = omega 
 glyphs-join font (c ∷ cs) other across x y =
     let w = (glyph_of font c).width in
     let steps : across + (w + text_width font cs) ≡ across + w + text_width font cs = omega arith in
-    rw (glyphs-join font cs other (across + w) x y, steps) 
+    rw (glyphs-join font cs other (across + w) x y, steps)
     (or_join (glyph_pixel font (glyph_of font c) (x -ℤ pos across) y) (glyphs_pixel font cs (across + w) x y) (glyphs_pixel font other (across + w + text_width font cs) x y))
 
 -- a text further right is the same text seen from further right
