@@ -2,7 +2,7 @@
 //! of the contracts are QuickDraw's. Expected values are tables and pictures written by hand, or come from slow
 //! programs over single pixels, and never from the libraries.
 //!
-//! All tests stand in one crate, since a crate that has tests is proved twice: `geometry` tests `tb_geom`, `maps` tests
+//! They stand in a crate of their own, since one that has tests is proved twice: `geometry` tests `tb_geom`, `maps` tests
 //! `bit_map`, `regions` tests `scan_region`, `blits` tests `bit_blit`, `canvases` and `stocks` test `def_iface`, and
 //! `desks` tests `desk_toolbox`. `pixels` has what they compare with. `titled_window` is the one window definition of
 //! the tests: it is proved, and no part of the program.
