@@ -2,3 +2,5 @@
 pub mod DrawsLemmas
 pub mod SpansLemmas
 pub mod WalkLemmas
+pub mod SourceLemmas
+pub mod ShiftLemmas

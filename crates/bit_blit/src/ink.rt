@@ -6,7 +6,7 @@ ghost use Rattle.bit_blit.specs.Draws.{Draws};
 ghost use Rattle.bit_map.specs.Modes.{mode_bit};
 ghost use Rattle.bit_map.specs.Patterns.{pattern_bit, eighth_of};
 
-use crate::walk::{Rule, draw_span};
+use crate::walk::{Rule, draw_region};
 use bit_map::{BitMap, Mode, Pattern};
 use scan_region::Region;
 use tb_geom::Point;
@@ -22,9 +22,7 @@ pub fn fill(map: &mut BitMap, region: &Region, offset: Point, pattern: Pattern, 
         offset,
         mode,
     };
-    for span in region.spans() {
-        draw_span(map, span.v, span.left, span.right, &ink);
-    }
+    draw_region(map, region, &ink);
 }
 
 /// A pattern with its origin at `offset`, in map coordinates, put down by a mode.

@@ -7,8 +7,14 @@
 //! drawing is made of it: `draw_rect` takes the rows of a rectangle, `fill` the spans of a region.
 #![tactic(auto)]
 
+mod copying;
 mod ink;
+mod inverting;
+mod shifting;
 mod walk;
 
+pub use copying::{Copied, Source, copy};
 pub use ink::{Ink, fill};
-pub use walk::{Rule, draw_rect};
+pub use inverting::{Inverse, invert};
+pub use shifting::shift;
+pub use walk::{Rule, draw_rect, draw_region};

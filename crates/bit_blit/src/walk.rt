@@ -2,10 +2,12 @@
 ghost use Rattle.std.specs.Prelude.{◌≡◌, true, Bool};
 ghost use Rattle.tb_geom.specs.declared.point.Point.{Point};
 ghost use Rattle.tb_geom.specs.Rects.{rect_holds};
+ghost use Rattle.tb_geom.specs.Pixels.{holds};
 ghost use Rattle.bit_map.specs.Bits.{on_map, is_point};
 ghost use Rattle.bit_blit.specs.Draws.{Draws, in_row};
 
 use bit_map::BitMap;
+use scan_region::Region;
 use tb_geom::{Point, Rect};
 
 /// What becomes of each pixel of a drawing.
@@ -28,9 +30,19 @@ pub fn draw_rect<R: Rule>(map: &mut BitMap, rect: Rect, rule: &R)
     }
 }
 
+/// Gives each pixel of the region that the map holds the value of the rule. The region, in map
+/// coordinates, may be any. It takes no memory.
+pub fn draw_region<R: Rule>(map: &mut BitMap, region: &Region, rule: &R)
+    ensures { Draws (holds region.now) (R.value rule.now) map.old map.new }
+{
+    for span in region.spans() {
+        draw_span(map, span.v, span.left, span.right, rule);
+    }
+}
+
 /// Gives each pixel of the row `v` from the column `left` up to the column `right` that the map holds
 /// the value of the rule. The row and the columns, in map coordinates, may be any.
-pub(crate) fn draw_span<R: Rule>(map: &mut BitMap, v: i32, left: i32, right: i32, rule: &R)
+fn draw_span<R: Rule>(map: &mut BitMap, v: i32, left: i32, right: i32, rule: &R)
     ensures { Draws (in_row v left right) (R.value rule.now) map.old map.new }
 {
     let bounds = map.bounds();

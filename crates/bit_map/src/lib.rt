@@ -6,11 +6,13 @@
 //! is its bit at each point: every contract here and in the crates above says which bits a call leaves.
 #![tactic(auto)]
 
+mod image;
 pub mod laws;
 mod map;
 mod mode;
 mod pattern;
 
+pub use image::BitImage;
 pub use map::BitMap;
 pub use mode::Mode;
-pub use pattern::Pattern;
+pub use pattern::{Pattern, bit_of};

@@ -42,7 +42,7 @@ impl Pattern {
 }
 
 /// The bit of a byte at a place, place 0 being the high bit.
-fn bit_of(byte: u8, place: u8) -> bool
+pub fn bit_of(byte: u8, place: u8) -> bool
     requires { place < 8 }
     ensures { result ≡ bit_of byte place }
 {

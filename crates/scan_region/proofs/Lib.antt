@@ -7,6 +7,7 @@ pub mod InPlace
 pub mod MovedRows
 pub mod RectRows
 pub mod SpanRuns
+pub mod SpansUpRuns
 pub mod OneList
 pub mod FoundRow
 pub mod OneScan

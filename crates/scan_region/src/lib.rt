@@ -33,6 +33,8 @@ mod region;
 mod row;
 mod same;
 mod spans;
+mod spans_up;
 
 pub use region::Region;
 pub use spans::{Span, Spans};
+pub use spans_up::SpansUp;

@@ -1,5 +1,5 @@
 //! The public calls: each wraps a function of the rows.
-ghost use Rattle.std.specs.Prelude.{◌≡◌, true, false, ◌&&◌, ◌||◌, not, ◌↔◌, IsTrue, IfOk, IfErr, OnOk, OnErr};
+ghost use Rattle.std.specs.Prelude.{◌≡◌, true, false, ◌&&◌, ◌||◌, not, ◌↔◌, IsTrue, IfOk, IfErr, OnOk, OnErr, reverse};
 ghost use Rattle.tb_geom.specs.declared.point.Point.{Point};
 ghost use Rattle.tb_geom.specs.Points.{minus};
 ghost use Rattle.tb_geom.specs.Rects.{rect_holds, is_in_range, IsBoxOf, empty_rect};
@@ -17,6 +17,7 @@ use crate::rect::rect_rows;
 use crate::row::Row;
 use crate::same::same_rows;
 use crate::spans::Spans;
+use crate::spans_up::SpansUp;
 use std::alloc::{AllocError, Global};
 use std::marker::Model;
 use tb_geom::{Point, Rect, Refusal};
@@ -179,6 +180,13 @@ impl Region {
         ensures { IsScan result self.now }
     {
         Spans::new(self.rows.as_slice())
+    }
+
+    /// The spans of the region the other way round: from the bottom up, and from right to left.
+    pub fn spans_up(&self) -> SpansUp<'_>
+        ensures { IsScan (reverse result) self.now }
+    {
+        SpansUp::new(self.rows.as_slice())
     }
 
     /// The pixels that the operator keeps of the two regions.

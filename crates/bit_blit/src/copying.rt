@@ -1,0 +1,109 @@
+//! Copying bits.
+ghost use Rattle.std.specs.Prelude.{◌≡◌, true, Bool, ◌&&◌, if◌then◌else◌};
+ghost use Rattle.std.specs.Int.{saturate_signed, w32};
+ghost use Rattle.std.specs.Prelude.{◌-ℤ◌};
+ghost use Rattle.tb_geom.specs.declared.point.Point.{Point};
+ghost use Rattle.tb_geom.specs.Points.{PixelSet, minus};
+ghost use Rattle.tb_geom.specs.Pixels.{holds};
+ghost use Rattle.bit_map.specs.Bits.{on_map, bit};
+ghost use Rattle.bit_map.specs.Images.{image_holds, image_bit};
+ghost use Rattle.bit_map.specs.Modes.{mode_bit};
+ghost use Rattle.bit_blit.specs.Draws.{Draws};
+ghost use Rattle.bit_blit.specs.Sources.{IsNear};
+
+use crate::walk::{Rule, draw_region};
+use bit_map::{BitImage, BitMap, Mode};
+use scan_region::Region;
+use tb_geom::Point;
+
+/// What bits are copied from: pixels with coordinates in 0..=65534, and a bit for each.
+pub trait Source {
+    ghost has: { Self → PixelSet };
+
+    ghost bit_at: { Self → PixelSet };
+
+    /// Whether the source has the pixel at a point.
+    fn contains(&self, point: Point) -> bool
+        ensures value { result ≡ has self.now point }
+        ensures near { IsNear (has self.now) };
+
+    /// The bit at a point that the source has.
+    fn bit(&self, point: Point) -> bool
+        requires { has self.now point ≡ true }
+        ensures { result ≡ bit_at self.now point };
+}
+
+impl Source for BitMap {
+    ghost has = { on_map };
+
+    ghost bit_at = { bit };
+
+    fn contains(&self, point: Point) -> bool {
+        self.bounds().contains(point)
+    }
+
+    fn bit(&self, point: Point) -> bool {
+        self.get(point)
+    }
+}
+
+impl Source for BitImage<'_> {
+    ghost has = { image_holds };
+
+    ghost bit_at = { image_bit };
+
+    fn contains(&self, point: Point) -> bool {
+        BitImage::contains(self, point)
+    }
+
+    fn bit(&self, point: Point) -> bool {
+        BitImage::bit(self, point)
+    }
+}
+
+/// Puts the source, whose 0 0 comes to lie at `origin`, down by the mode on each pixel of the region
+/// that the map holds, and that the source then has. Region and origin are in map coordinates, and may
+/// be any. It takes no memory.
+pub fn copy<S: Source>(map: &mut BitMap, region: &Region, source: &S, origin: Point, mode: Mode)
+    ensures { Draws (λ p. holds region.now p && S.has source.now (minus p origin))
+        (λ p old. mode_bit mode (S.bit_at source.now (minus p origin)) old) map.old map.new }
+{
+    let copied = Copied {
+        source,
+        origin,
+        mode,
+    };
+    draw_region(map, region, &copied);
+}
+
+/// A source with its 0 0 at `origin`, in map coordinates, put down by a mode.
+#[derive(Clone, Copy)]
+pub struct Copied<'a, S> {
+    pub source: &'a S,
+    pub origin: Point,
+    pub mode: Mode,
+}
+
+impl<S: Source> Rule for Copied<'_, S> {
+    ghost value = { λ r p old. if S.has r.source.now (minus p r.origin) then mode_bit r.mode (S.bit_at r.source.now (minus p r.origin)) old else old };
+
+    fn value(&self, point: Point, old: bool) -> bool {
+        let place = from_origin(point, self.origin);
+        if self.source.contains(place) {
+            self.mode.apply(self.source.bit(place), old)
+        } else {
+            old
+        }
+    }
+}
+
+/// The point as seen from the origin. Where that is no point, it is one that no source has.
+fn from_origin(point: Point, origin: Point) -> Point
+    ensures { (s : PixelSet) → IsNear s → (s result ≡ s (minus point origin))
+        × (s result ≡ true → result ≡ minus point origin) }
+{
+    Point {
+        h: point.h.saturating_sub(origin.h),
+        v: point.v.saturating_sub(origin.v),
+    }
+}

@@ -1,0 +1,28 @@
+//! Inverting.
+ghost use Rattle.std.specs.Prelude.{not};
+ghost use Rattle.tb_geom.specs.Pixels.{holds};
+ghost use Rattle.bit_blit.specs.Draws.{Draws};
+
+use crate::walk::{Rule, draw_region};
+use bit_map::BitMap;
+use scan_region::Region;
+use tb_geom::Point;
+
+/// Inverts each pixel of the region, in map coordinates, that the map holds. It takes no memory.
+pub fn invert(map: &mut BitMap, region: &Region)
+    ensures { Draws (holds region.now) (λ _ old. not old) map.old map.new }
+{
+    draw_region(map, region, &Inverse);
+}
+
+/// Inverts a pixel.
+#[derive(Clone, Copy, Debug, PartialEq, Eq)]
+pub struct Inverse;
+
+impl Rule for Inverse {
+    ghost value = { λ _ _ old. not old };
+
+    fn value(&self, _point: Point, old: bool) -> bool {
+        !old
+    }
+}
