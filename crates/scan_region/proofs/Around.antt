@@ -11,9 +11,9 @@ use Rattle.tb_geom.specs.Rects.{IsBoxOf, rect_holds, empty_rect}
 use Rattle.tb_geom.proofs.RectLemmas.{holds_in, holds_none, sides_of, or_left, or_right}
 use Rattle.scan_region.specs.Edges.{inside}
 use Rattle.scan_region.specs.Rows.{EdgeRow, has_in_rows, IsGoodRow}
-use Rattle.scan_region.proofs.Edges.{inside_left, inside_right}
 use Rattle.scan_region.proofs.Merged.{has_in_rows-nil, has_in_rows-push, int_eq-same}
 use Rattle.scan_region.proofs.MovedRows.{edge_bounds, inside-first, inside-last}
+use Rattle.region_bytes.proofs.Edges.{inside_left, inside_right}
 
 -- ---- any sets
 

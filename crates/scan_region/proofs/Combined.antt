@@ -10,7 +10,7 @@ use Rattle.scan_region.specs.Cursor.{IsAt}
 use Rattle.scan_region.specs.declared.kernel.Cursor.{Cursor}
 use Rattle.scan_region.specs.declared.kernel.Operator.{Operator}
 use Rattle.scan_region.specs.declared.kernel.Operator.TheVariants.{Union, Intersection, Difference, SymmetricDifference}
-use Rattle.scan_region.proofs.Edges.{inside-push_before, inside-push_after, is_odd-more}
+use Rattle.region_bytes.proofs.Edges.{inside-push_before, inside-push_after, is_odd-more}
 
 -- the edges up to a column `upto` are combined: so far they are those of the edges that both cursors passed
 pub record Combined (a b edges : List ℤ) (o : Operator) (p q : Cursor) (within : Bool) : Type 0 where

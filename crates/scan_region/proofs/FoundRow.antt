@@ -11,8 +11,8 @@ use Rattle.std.proofs.lemmas.List.{get_or-map, length-map}
 use Rattle.scan_region.specs.Edges.{inside, IsRising}
 use Rattle.scan_region.specs.Rows.{EdgeRow, has_in_rows, top_of}
 use Rattle.scan_region.proofs.Merged.{int_eq-apart}
-use Rattle.scan_region.proofs.OneList.{rising_head, first_row}
-use Rattle.scan_region.proofs.SpanRuns.{rising_tail}
+use Rattle.scan_region.proofs.OneList.{first_row}
+use Rattle.region_bytes.proofs.Edges.{rising_head, rising_tail}
 
 -- at the place of one of them, they have the pixels of that one
 pub row_at : (rows : List EdgeRow) (k : ℕ) (d : EdgeRow) (h v : ℤ) → IsRising (map top_of rows) → k < length rows → top_of (get_or rows k d) ≡ v → has_in_rows rows h v ≡ inside (get_or rows k d).1 h

@@ -12,8 +12,9 @@ use Rattle.scan_region.specs.declared.kernel.Operator.{Operator}
 use Rattle.scan_region.specs.Edges.{applied, inside, IsRising, IsRow}
 use Rattle.scan_region.specs.Rows.{EdgeRow, has_in_rows, top_of, with_row, AreRows, IsGoodRow, IsTop}
 use Rattle.scan_region.specs.RowsAt.{RowsAt}
-use Rattle.scan_region.proofs.Edges.{inside-nil, applied-none}
+use Rattle.scan_region.proofs.Edges.{applied-none}
 use Rattle.scan_region.proofs.Combined.{IsRising-push, each_push}
+use Rattle.region_bytes.proofs.Edges.{inside-nil}
 
 -- ---- the pixels of rows
 

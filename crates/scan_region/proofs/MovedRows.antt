@@ -16,10 +16,10 @@ use Rattle.tb_geom.specs.Pixels.{Pixels, holds, pixels_where}
 use Rattle.scan_region.specs.Edges.{differ, inside, is_odd, IsRising, IsRow, IsCoordinate}
 use Rattle.scan_region.specs.Rows.{EdgeRow, has_in_rows, top_of, AreRows, IsGoodRow, IsTop}
 use Rattle.scan_region.specs.Moves.{is_pixel_in_range, moved_row, moved_rows, StaysInRange, LeavesRange}
-use Rattle.scan_region.proofs.Edges.{inside-push_before, inside_left, inside_right, is_odd-more}
 use Rattle.scan_region.proofs.InPlace.{coordinate_fits}
 use Rattle.scan_region.proofs.Merged.{has_in_rows-more, has-taken, int_eq-same}
 use Rattle.scan_region.proofs.Plane.{column_in_range, has_view, has_viewed}
+use Rattle.region_bytes.proofs.Edges.{inside-push_before, inside_left, inside_right, is_odd-more}
 
 -- ---- the pixels of moved rows
 

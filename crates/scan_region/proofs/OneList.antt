@@ -9,56 +9,9 @@ use Rattle.tb_geom.specs.declared.point.Point.{Point}
 use Rattle.tb_geom.specs.Pixels.{Pixels, has, holds, pixels_where}
 use Rattle.scan_region.specs.Edges.{differ, inside, IsRising}
 use Rattle.scan_region.specs.Rows.{EdgeRow, has_in_rows, top_of, AreRows, IsGoodRow}
-use Rattle.scan_region.proofs.Edges.{inside_left, inside-nil}
 use Rattle.scan_region.proofs.Merged.{has_in_rows-nil, int_eq-same, int_eq-apart}
 use Rattle.scan_region.proofs.Plane.{has_view, has_viewed}
-use Rattle.scan_region.proofs.SpanRuns.{rising_tail}
-
-pub int_le-true : (x h : ℤ) → x ≤ℤ h → int_le x h ≡ true
-int_le-true x h l = grind (arith, ints)
-
-pub int_le-false : (x h : ℤ) → h <ℤ x → int_le x h ≡ false
-int_le-false x h l = grind (arith, ints)
-
-pub rising_head : (x : ℤ) (xs : List ℤ) → IsRising (x ∷ xs) → (k : ℕ) → k < length xs → x <ℤ get_or xs k (pos 0)
-rising_head x xs r k n = r.rises zero (suc k) (omega arith) (omega arith)
-
--- ---- the edges of a row
-
--- at its first edge a row is in
-first_in : (x : ℤ) (xs : List ℤ) → IsRising (x ∷ xs) → inside (x ∷ xs) x ≡ true
-unfolding inside
-first_in x xs r = (λ i. differ (int_le-true x x (omega (arith, ints)) i) (inside_left xs x (rising_head x xs r) i))
-
--- left of it the row is out
-left_out : (x h : ℤ) (xs : List ℤ) → IsRising (x ∷ xs) → h <ℤ x → inside (x ∷ xs) h ≡ false
-unfolding inside
-left_out x h xs r l = (λ i. differ (int_le-false x h l i) (inside_left xs h (λ k n. let f = rising_head x xs r k n in omega (arith, ints)) i))
-
-differ_cancel : (b c d : Bool) → differ b c ≡ differ b d → c ≡ d
-differ_cancel true true true e = refl
-differ_cancel true true false e = sym e
-differ_cancel true false true e = sym e
-differ_cancel true false false e = refl
-differ_cancel false c d e = e
-
-edge_tails : (x : ℤ) (xs ys : List ℤ) → ((h : ℤ) → inside (x ∷ xs) h ≡ inside (x ∷ ys) h) → (h : ℤ) → inside xs h ≡ inside ys h
-unfolding inside
-edge_tails x xs ys e h = differ_cancel (int_le x h) _ _ (e h)
-
--- rows with the same pixels have the same edges
-same_edges : (xs ys : List ℤ) → IsRising xs → IsRising ys → ((h : ℤ) → inside xs h ≡ inside ys h) → xs ≡ ys
-same_edges [] [] r s e = refl
-same_edges [] (y ∷ ys) r s e = absurd (false≢true (sym (inside-nil y) ∙ e y ∙ first_in y ys s))
-same_edges (x ∷ xs) [] r s e = absurd (true≢false (sym (first_in x xs r) ∙ e x ∙ inside-nil x))
-same_edges (x ∷ xs) (y ∷ ys) r s e =
-    let same : x ≡ y = by_lt_z x y
-    (λ l. absurd (true≢false (sym (first_in x xs r) ∙ e x ∙ left_out y x ys s l)))
-    (λ l. by_lt_z y x
-    (λ m. absurd (false≢true (sym (left_out x y xs r m) ∙ e y ∙ first_in y ys s)))
-    (λ m. omega (arith, ints))) in
-    let rest = same_edges xs ys (rising_tail x xs r) (rising_tail y ys s) (edge_tails x xs ys (λ h. e h ∙ ap (λ z. inside (z ∷ ys) h) (sym same))) in
-    λ i. same i ∷ rest i
+use Rattle.region_bytes.proofs.Edges.{inside_left, inside-nil, rising_tail, rising_head, first_in, same_edges}
 
 -- ---- the rows
 

@@ -13,7 +13,7 @@ use Rattle.tb_geom.proofs.PixelsLemmas.{has-pixels_where}
 use Rattle.scan_region.specs.declared.kernel.Operator.{Operator}
 use Rattle.scan_region.specs.Edges.{applied, inside, IsRow}
 use Rattle.scan_region.specs.Rows.{EdgeRow, has_in_rows, AreRows, IsGoodRow}
-use Rattle.scan_region.proofs.Edges.{inside_left, inside_right}
+use Rattle.region_bytes.proofs.Edges.{inside_left, inside_right}
 
 coordinate_true : (z : ℤ) → negsuc 16383 ≤ℤ z → z ≤ℤ pos 16383 → is_coordinate z ≡ true
 coordinate_true z l m = grind (arith, ints)

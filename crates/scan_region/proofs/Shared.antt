@@ -12,11 +12,9 @@ use Rattle.tb_geom.specs.Pixels.{Pixels, holds, pixels_where}
 use Rattle.tb_geom.proofs.RectLemmas.{between-in}
 use Rattle.scan_region.specs.Edges.{differ, inside, IsRising}
 use Rattle.scan_region.specs.Rows.{EdgeRow, has_in_rows, AreRows}
-use Rattle.scan_region.proofs.Edges.{inside-more, inside_left}
 use Rattle.scan_region.proofs.Merged.{has_in_rows-more}
-use Rattle.scan_region.proofs.OneList.{int_le-true, int_le-false, rising_head}
 use Rattle.scan_region.proofs.Plane.{has_viewed}
-use Rattle.scan_region.proofs.SpanRuns.{rising_tail}
+use Rattle.region_bytes.proofs.Edges.{inside-more, inside_left, int_le-true, int_le-false, rising_head, rising_tail}
 
 -- ---- a row
 

@@ -17,8 +17,8 @@ use Rattle.scan_region.specs.Rows.{EdgeRow, has_in_rows, top_of, AreRows, IsGood
 use Rattle.scan_region.specs.Runs.{runs_of, all_runs}
 use Rattle.scan_region.specs.Scan.{span_holds, IsScan, IsRun, Precedes}
 use Rattle.scan_region.specs.declared.spans.Span.{Span}
-use Rattle.scan_region.proofs.Edges.{inside_left}
 use Rattle.scan_region.proofs.Plane.{has_viewed}
+use Rattle.region_bytes.proofs.Edges.{inside_left, rising_tail}
 
 -- ---- the spans, one by one
 
@@ -63,9 +63,6 @@ and_or true a z = refl
 and_or false a z = refl
 
 -- what rises without its first number
-pub rising_tail : (x : ℤ) (xs : List ℤ) → IsRising (x ∷ xs) → IsRising xs
-rising_tail x xs r = record { rises = λ i j m n. r.rises (suc i) (suc j) (omega arith) (omega arith) }
-
 even_rest : (b : Bool) → not (not b) ≡ false → b ≡ false
 even_rest true e = e
 even_rest false e = refl

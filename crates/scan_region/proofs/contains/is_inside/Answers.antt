@@ -1,10 +1,9 @@
 use Rattle.std.proofs.Common.{sym, rules, ap, ◌∙◌, SFits, w32, get_or, pos, ◌≡◌, to_z, of_z, not, take}
 use Rattle.std.proofs.lemmas.Int.{to_z-of_z}
 use Rattle.scan_region.specs.Edges.{inside, differ}
-use Rattle.scan_region.proofs.Edges.{inside-more}
-use Rattle.scan_region.proofs.Edges.{inside-nil}
 use Rattle.scan_region.proofs.contains.is_inside.Goals as goal
 use Rattle.scan_region.proofs.contains.is_inside.Goals.{then-x-h, else-x-h}
+use Rattle.region_bytes.proofs.Edges.{inside-more, inside-nil}
 
 pub loop-x-init : goal.loop-x-init
 loop-x-init c = sym (inside-nil _)

@@ -2,8 +2,9 @@ use Rattle.std.proofs.Common.{◌≡◌, [], ◌∙◌, sym, ap, ◌&&◌, rules
 use Rattle.std.proofs.lemmas.List.{nil_from_length}
 use Rattle.std.proofs.lemmas.Result.{IfOk-weaker}
 use Rattle.scan_region.specs.Edges.{inside, applied}
-use Rattle.scan_region.proofs.Edges.{inside-nil, applied-left, applied-right}
+use Rattle.scan_region.proofs.Edges.{applied-left, applied-right}
 use Rattle.scan_region.proofs.kernel.combine_rows.Goals as goal
+use Rattle.region_bytes.proofs.Edges.{inside-nil}
 
 pub returns-then-is_empty-clause-pixels : goal.returns-then-is_empty-clause-pixels
 returns-then-is_empty-clause-pixels c =

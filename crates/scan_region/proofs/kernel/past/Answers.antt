@@ -1,8 +1,9 @@
 use Rattle.std.proofs.Common.{pos, rules}
 use Rattle.std.proofs.lemmas.Int.{ints}
 use Rattle.std.proofs.lemmas.List.{take_more}
-use Rattle.scan_region.proofs.Edges.{IsAt-hit, inside-push_before}
+use Rattle.scan_region.proofs.Edges.{IsAt-hit}
 use Rattle.scan_region.proofs.kernel.past.Goals as goal
+use Rattle.region_bytes.proofs.Edges.{inside-push_before}
 
 pub returns-then-edges-at-clause-at : goal.returns-then-edges-at-clause-at
 returns-then-edges-at-clause-at c = λ x i l. IsAt-hit _ _ x _ c.requires.rising i l c.if-at-edges.true (search rules)

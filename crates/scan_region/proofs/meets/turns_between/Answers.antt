@@ -1,10 +1,10 @@
 use Rattle.std.proofs.Common.{◌≡◌, rules, sym, ◌∙◌, ℤ, pos, ◌<ℤ◌, ◌≤ℤ◌, get_or, take, SFits, w32}
 use Rattle.std.proofs.lemmas.Int.{ints, to_z-of_z}
 use Rattle.scan_region.specs.Edges.{inside}
-use Rattle.scan_region.proofs.Edges.{inside-nil}
 use Rattle.scan_region.proofs.Shared.{stays_more}
 use Rattle.scan_region.proofs.meets.turns_between.Goals as goal
 use Rattle.scan_region.proofs.meets.turns_between.Goals.{else-left-x-via-then-left-x+else-x-right, else-left-x-via-else-left-x}
+use Rattle.region_bytes.proofs.Edges.{inside-nil}
 
 pub loop-x-init : goal.loop-x-init
 loop-x-init c = λ h l m. inside-nil h ∙ sym (inside-nil _)

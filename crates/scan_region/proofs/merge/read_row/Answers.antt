@@ -3,10 +3,10 @@ use Rattle.std.specs.Ordering.{int_eq}
 use Rattle.std.proofs.lemmas.Int.{ints}
 use Rattle.scan_region.specs.Edges.{inside, IsRow}
 use Rattle.scan_region.specs.Rows.{has_in_rows, top_of, IsGoodRow}
-use Rattle.scan_region.proofs.Edges.{IsRow-nil}
 use Rattle.scan_region.proofs.Merged.{none_inside_nil, has_in_rows-more, RowsAt-hit, RowsAt-miss, top_read}
 use Rattle.scan_region.proofs.merge.read_row.Goals as goal
 use Rattle.scan_region.proofs.merge.read_row.Goals.{in_default-via-in-Some+else-v, in_default-via-in_default}
+use Rattle.region_bytes.proofs.Edges.{IsRow-nil}
 
 pub returns-in-Some-clause-row : goal.returns-in-Some-clause-row
 returns-in-Some-clause-row c =

@@ -1,0 +1,2 @@
+-- Lemmas on the edges of a row.
+pub mod Edges

@@ -1,0 +1,5 @@
+-- What the contracts speak of: rows of edges, inversion points, their words, and the bytes of a set of pixels.
+pub mod Edges
+pub mod Points
+pub mod Words
+pub mod Bytes

@@ -1,0 +1,43 @@
+-- Inversion points: the set of pixels that a list of them stands for, and the one list of a set.
+use Rattle.std.specs.Prelude.{◌≡◌, ◌<◌, false, ◌&&◌, List, [], ◌∷◌, ◌++◌, map, length, ℤ, ◌≤ℤ◌, int_le, All}
+use Rattle.tb_geom.specs.declared.point.Point.{Point}
+use Rattle.tb_geom.specs.Points.{PixelSet}
+use Rattle.region_bytes.specs.Edges.{differ, is_odd, IsRising, IsCoordinate}
+
+-- whether the set has the pixel at p: an odd number of the points lies at it, above it, left of it or both
+unfoldable pub inverted : List Point → PixelSet
+inverted [] p = false
+inverted (x ∷ points) p = differ (int_le x.h p.h && int_le x.v p.v) (inverted points p)
+
+-- a row of inversion points, as its v and their columns
+abbrev pub PointRow : Type 0
+PointRow = ℤ × List ℤ
+
+-- the place of a row
+abbrev pub top_of : PointRow → ℤ
+top_of row = row.0
+
+-- the points of a row
+abbrev pub row_points : PointRow → List Point
+row_points row = map (λ x. record { h = x; v = row.0 }) row.1
+
+-- the points of all rows
+unfoldable pub points_of : List PointRow → List Point
+points_of [] = []
+points_of (row ∷ rows) = row_points row ++ points_of rows
+
+-- a row has points, an even number of them, from left to right
+pub record IsPointRow (row : PointRow) : Type 0 where
+  pub rising : IsRising row.1
+  pub even : is_odd (length row.1) ≡ false
+  pub some : 0 < length row.1
+
+-- the rows of a set's one list: they lie from the top down, each has points, and below the last of them no pixel is in
+pub record IsCanonical (rows : List PointRow) : Type 0 where
+  pub rising : IsRising (map top_of rows)
+  pub each : All IsPointRow rows
+  pub closed : (p : Point) → All (λ row. row.0 ≤ℤ p.v) rows → inverted (points_of rows) p ≡ false
+
+-- the row and its columns lie in -16384..16383
+abbrev pub IsInRange : PointRow → Type 0
+IsInRange row = IsCoordinate row.0 × All IsCoordinate row.1

@@ -1,0 +1,4 @@
+//! Region bytes, judged and read in place.
+#![tactic(auto)]
+
+pub mod laws;
