@@ -1,8 +1,8 @@
 -- Inversion points: the set of pixels that a list of them stands for, and the one list of a set.
-use Rattle.std.specs.Prelude.{◌≡◌, ◌<◌, false, ◌&&◌, List, [], ◌∷◌, ◌++◌, map, length, ℤ, ◌≤ℤ◌, int_le, All}
+use Rattle.std.specs.Prelude.{◌≡◌, ◌<◌, Bool, false, ◌&&◌, List, [], ◌∷◌, ◌++◌, map, length, ℤ, ◌≤ℤ◌, int_le, All}
 use Rattle.tb_geom.specs.declared.point.Point.{Point}
 use Rattle.tb_geom.specs.Points.{PixelSet}
-use Rattle.region_bytes.specs.Edges.{differ, is_odd, IsRising, IsCoordinate}
+use Rattle.region_bytes.specs.Edges.{differ, inside, is_odd, IsRising, IsCoordinate}
 
 -- whether the set has the pixel at p: an odd number of the points lies at it, above it, left of it or both
 unfoldable pub inverted : List Point → PixelSet
@@ -32,12 +32,21 @@ pub record IsPointRow (row : PointRow) : Type 0 where
   pub even : is_odd (length row.1) ≡ false
   pub some : 0 < length row.1
 
--- the rows of a set's one list: they lie from the top down, each has points, and below the last of them no pixel is in
-pub record IsCanonical (rows : List PointRow) : Type 0 where
+-- the rows lie from the top down, and each has points
+pub record ArePointRows (rows : List PointRow) : Type 0 where
   pub rising : IsRising (map top_of rows)
   pub each : All IsPointRow rows
+
+-- the rows are the one list of a set of pixels: below the last of them no pixel is in
+pub record IsCanonical (rows : List PointRow) : Type 0 where
+  pub are_rows : ArePointRows rows
   pub closed : (p : Point) → All (λ row. row.0 ≤ℤ p.v) rows → inverted (points_of rows) p ≡ false
 
 -- the row and its columns lie in -16384..16383
 abbrev pub IsInRange : PointRow → Type 0
 IsInRange row = IsCoordinate row.0 × All IsCoordinate row.1
+
+-- whether the rows have the pixel at column h and row v, row by row: each row at v or above it turns the columns from its points on
+unfoldable pub in_rows : List PointRow → ℤ → ℤ → Bool
+in_rows [] h v = false
+in_rows (row ∷ rows) h v = differ (int_le row.0 v && inside row.1 h) (in_rows rows h v)

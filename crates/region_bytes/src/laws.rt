@@ -1,10 +1,11 @@
 //! What the definitions of inversion points and region bytes say of each other.
-ghost use Rattle.std.specs.Prelude.{◌≡◌, List, ℤ};
-ghost use Rattle.region_bytes.specs.Edges.{inside, IsRising};
+ghost use Rattle.std.specs.Prelude.{◌≡◌, List};
+ghost use Rattle.tb_geom.specs.declared.point.Point.{Point};
+ghost use Rattle.region_bytes.specs.Points.{PointRow, IsCanonical, inverted, points_of};
 
-/// Rows of edges that have the same pixels are the same.
-#[tactic(auto, using(crate::proofs::Edges::same_edges))]
-pub fn one_list_of_edges()
-    ensures { (a b : List ℤ) → IsRising a → IsRising b
-        → ((h : ℤ) → inside a h ≡ inside b h) → a ≡ b }
+/// A set of pixels has one canonical list of inversion points.
+#[tactic(auto, using(crate::proofs::Rows::same_canonical))]
+pub fn one_list_of_points()
+    ensures { (a b : List PointRow) → IsCanonical a → IsCanonical b
+        → ((p : Point) → inverted (points_of a) p ≡ inverted (points_of b) p) → a ≡ b }
 {}
