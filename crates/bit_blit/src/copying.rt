@@ -62,8 +62,9 @@ impl Source for BitImage<'_> {
 }
 
 /// Puts the source, whose 0 0 comes to lie at `origin`, down by the mode on each pixel of the region
-/// that the map holds, and that the source then has. Region and origin are in map coordinates, and may
-/// be any. It takes no memory.
+/// that the map holds and the source then has (*Inside Macintosh* I, "QuickDraw": `CopyBits`, of equal
+/// sizes). Every other pixel stays. Region and origin are in map coordinates, and may be any. It takes
+/// no memory.
 pub fn copy<S: Source>(map: &mut BitMap, region: &Region, source: &S, origin: Point, mode: Mode)
     ensures { Draws (λ p. holds region.now p && S.has source.now (minus p origin))
         (λ p old. mode_bit mode (S.bit_at source.now (minus p origin)) old) map.old map.new }

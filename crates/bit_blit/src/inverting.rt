@@ -8,7 +8,8 @@ use bit_map::BitMap;
 use scan_region::Region;
 use tb_geom::Point;
 
-/// Inverts each pixel of the region, in map coordinates, that the map holds. It takes no memory.
+/// Inverts each pixel of the region, in map coordinates, that the map holds (*Inside Macintosh* I,
+/// "QuickDraw": `InvertRgn`). It takes no memory.
 pub fn invert(map: &mut BitMap, region: &Region)
     ensures { Draws (holds region.now) (λ _ old. not old) map.old map.new }
 {

@@ -3,8 +3,12 @@
 //! A drawing is said by two things: the pixels that it has, and the value that it gives to each, made
 //! of the point and of the bit that stood there. The word `Draws` says that each pixel of the map
 //! that the drawing has got its value and that every other bit of the map, and the map's size, stayed.
-//! One walk, `draw_row`, goes along a row under a `Rule`, which is where the value is made; every
-//! drawing is made of it: `draw_rect` takes the rows of a rectangle, `fill` the spans of a region.
+//! One walk, `draw_row`, goes along a row under a `Rule`, which is where the value is made: `draw_rect`
+//! takes the rows of a rectangle, and `draw_region` the spans of a region. `fill` puts a pattern down so,
+//! `copy` the bits of a `Source`, which is another map or a bit image, and `invert` turns each pixel.
+//!
+//! `shift` moves pixels within one map. It takes them in the order of a screen's scan, or against it
+//! where they move onward in it, so that the source of a pixel always has its old bit still.
 #![tactic(auto)]
 
 mod copying;

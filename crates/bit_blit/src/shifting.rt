@@ -14,8 +14,9 @@ use scan_region::{Region, Span};
 use tb_geom::{Point, Rect};
 
 /// Gives each pixel of the region, in map coordinates, that the map holds the bit that its source
-/// had: the pixel that lies `distance` before it. A pixel whose source is off the map stays. Region
-/// and distance may be any, and source and destination may overlap. It takes no memory.
+/// had: the pixel that lies `distance` before it (*Inside Macintosh* I, "QuickDraw": `ScrollRect` moves
+/// bits so). A pixel whose source is off the map stays. Region and distance may be any, and source and
+/// destination may overlap. It takes no memory.
 ///
 /// Pixels are taken in the order of a screen's scan, or against it where the distance leads onward in
 /// it. So the source of a pixel is always one that still has its old bit.

@@ -1,5 +1,5 @@
--- The eight functions of a source bit and an old bit, and their numbers.
-use Rattle.std.specs.Prelude.{ℕ, Bool, true, false, not, ◌&&◌, ◌||◌}
+-- The eight functions of a source bit and an old bit, their numbers and their names.
+use Rattle.std.specs.Prelude.{ℕ, Bool, true, false, not, ◌&&◌, ◌||◌, List, codes}
 use Rattle.bit_map.specs.declared.mode.Mode.{Mode}
 use Rattle.bit_map.specs.declared.mode.Mode.TheVariants.{Copy, Or, Xor, Bic, NotCopy, NotOr, NotXor, NotBic}
 
@@ -52,3 +52,25 @@ pattern_number NotCopy = 12
 pattern_number NotOr = 13
 pattern_number NotXor = 14
 pattern_number NotBic = 15
+
+-- its name where the source is an image
+abbrev pub source_name : Mode → List ℕ
+source_name Copy = codes "srcCopy"
+source_name Or = codes "srcOr"
+source_name Xor = codes "srcXor"
+source_name Bic = codes "srcBic"
+source_name NotCopy = codes "notSrcCopy"
+source_name NotOr = codes "notSrcOr"
+source_name NotXor = codes "notSrcXor"
+source_name NotBic = codes "notSrcBic"
+
+-- its name where the source is a pattern
+abbrev pub pattern_name : Mode → List ℕ
+pattern_name Copy = codes "patCopy"
+pattern_name Or = codes "patOr"
+pattern_name Xor = codes "patXor"
+pattern_name Bic = codes "patBic"
+pattern_name NotCopy = codes "notPatCopy"
+pattern_name NotOr = codes "notPatOr"
+pattern_name NotXor = codes "notPatXor"
+pattern_name NotBic = codes "notPatBic"

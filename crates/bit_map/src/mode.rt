@@ -1,6 +1,6 @@
 //! Transfer modes.
-ghost use Rattle.std.specs.Prelude.{◌≡◌};
-ghost use Rattle.bit_map.specs.Modes.{mode_bit, source_number, pattern_number};
+ghost use Rattle.std.specs.Prelude.{◌≡◌, IfSome, IfNone};
+ghost use Rattle.bit_map.specs.Modes.{mode_bit, source_number, pattern_number, source_name, pattern_name};
 
 /// How a source bit and the old bit make the new bit (*Inside Macintosh* I, "QuickDraw",
 /// "Transfer Modes"). Black is true.
@@ -53,5 +53,73 @@ impl Mode {
         ensures { result ≡ pattern_number self }
     {
         8 + self.source_number()
+    }
+
+    /// Its name for an image as the source: srcCopy to notSrcBic.
+    pub fn source_name(self) -> &'static str
+        ensures { result.now ≡ source_name self }
+    {
+        match self {
+            Mode::Copy => "srcCopy",
+            Mode::Or => "srcOr",
+            Mode::Xor => "srcXor",
+            Mode::Bic => "srcBic",
+            Mode::NotCopy => "notSrcCopy",
+            Mode::NotOr => "notSrcOr",
+            Mode::NotXor => "notSrcXor",
+            Mode::NotBic => "notSrcBic",
+        }
+    }
+
+    /// Its name for a pattern as the source: patCopy to notPatBic.
+    pub fn pattern_name(self) -> &'static str
+        ensures { result.now ≡ pattern_name self }
+    {
+        match self {
+            Mode::Copy => "patCopy",
+            Mode::Or => "patOr",
+            Mode::Xor => "patXor",
+            Mode::Bic => "patBic",
+            Mode::NotCopy => "notPatCopy",
+            Mode::NotOr => "notPatOr",
+            Mode::NotXor => "notPatXor",
+            Mode::NotBic => "notPatBic",
+        }
+    }
+
+    /// The mode with this name for an image as the source, letter by letter; None of any other word.
+    pub fn from_source_name(name: &[u8]) -> Option<Mode>
+        ensures found { IfSome result (λ mode. source_name mode ≡ name.now) }
+        ensures unknown { IfNone result ((mode : Mode) → source_name mode ≡ name.now → ⊥) }
+    {
+        match name {
+            b"srcCopy" => Some(Mode::Copy),
+            b"srcOr" => Some(Mode::Or),
+            b"srcXor" => Some(Mode::Xor),
+            b"srcBic" => Some(Mode::Bic),
+            b"notSrcCopy" => Some(Mode::NotCopy),
+            b"notSrcOr" => Some(Mode::NotOr),
+            b"notSrcXor" => Some(Mode::NotXor),
+            b"notSrcBic" => Some(Mode::NotBic),
+            _ => None,
+        }
+    }
+
+    /// The mode with this name for a pattern as the source, letter by letter; None of any other word.
+    pub fn from_pattern_name(name: &[u8]) -> Option<Mode>
+        ensures found { IfSome result (λ mode. pattern_name mode ≡ name.now) }
+        ensures unknown { IfNone result ((mode : Mode) → pattern_name mode ≡ name.now → ⊥) }
+    {
+        match name {
+            b"patCopy" => Some(Mode::Copy),
+            b"patOr" => Some(Mode::Or),
+            b"patXor" => Some(Mode::Xor),
+            b"patBic" => Some(Mode::Bic),
+            b"notPatCopy" => Some(Mode::NotCopy),
+            b"notPatOr" => Some(Mode::NotOr),
+            b"notPatXor" => Some(Mode::NotXor),
+            b"notPatBic" => Some(Mode::NotBic),
+            _ => None,
+        }
     }
 }
