@@ -3,7 +3,7 @@ ghost use Rattle.std.specs.Prelude.{All};
 ghost use Rattle.def_iface.specs.Stocked.{IsFull};
 ghost use Rattle.desk_toolbox.specs.Whole.{IsWhole};
 
-use crate::pixels::{Pixels, are_alike, mark};
+use drawing_tests::pixels::{Pixels, are_alike, mark};
 use crate::titled_window::Titled;
 use bit_map::BitMap;
 use def_iface::{Defined, Size, Stock, Stocked, Taken, WindowDef};

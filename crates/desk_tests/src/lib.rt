@@ -1,11 +1,9 @@
-//! What no clause says of the libraries, by tests: that calls succeed where memory is not refused, and that the words
-//! of the contracts are QuickDraw's. Expected values are tables and pictures written by hand, or come from slow
-//! programs over single pixels, and never from the libraries.
+//! What no clause says of `def_iface` and `desk_toolbox`, by tests: that calls succeed where memory is not refused, and
+//! that the words of the contracts are the Toolbox's. Expected values are tables and pictures written by hand, or come
+//! from slow programs over single pixels, and never from the libraries.
 //!
-//! They stand in a crate of their own, since one that has tests is proved twice: `geometry` tests `tb_geom`, `maps` tests
-//! `bit_map`, `regions` tests `scan_region`, `blits` tests `bit_blit`, `canvases` and `stocks` test `def_iface`, and
-//! `desks` tests `desk_toolbox`. `pixels` has what they compare with. `titled_window` is the one window definition of
-//! the tests: it is proved, and no part of the program.
+//! `canvases` and `stocks` test `def_iface`, and `desks` tests `desk_toolbox`. `titled_window` is the one window
+//! definition of the tests: it is proved, and no part of the program.
 #![tactic(auto)]
 
 pub mod titled_window;
@@ -32,18 +30,8 @@ macro_rules! point {
 }
 
 #[cfg(test)]
-mod blits;
-#[cfg(test)]
 mod canvases;
 #[cfg(test)]
 mod desks;
-#[cfg(test)]
-mod geometry;
-#[cfg(test)]
-mod maps;
-#[cfg(test)]
-mod pixels;
-#[cfg(test)]
-mod regions;
 #[cfg(test)]
 mod stocks;

@@ -3,7 +3,7 @@ ghost use Rattle.std.specs.Prelude.{◌≡◌, true};
 ghost use Rattle.def_iface.specs.Meaning.{is_fitting};
 
 use crate::canvases::cut;
-use crate::pixels::{Pixels, map_of, mark, picture};
+use drawing_tests::pixels::{Pixels, map_of, mark, picture};
 use crate::titled_window::Titled;
 use def_iface::{Canvas, Defined, Hit, Size, Stage, Stock, Taken, WindowDef, WindowRegions};
 use scan_region::Region;

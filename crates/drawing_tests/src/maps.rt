@@ -1,7 +1,7 @@
 //! Bitmaps, patterns and modes, by tables from outside.
 
-use crate::pixels::picture;
-use bit_map::{BitMap, Mode, Pattern};
+use crate::pixels::{Pixels, mark, picture};
+use bit_map::{BitImage, BitMap, Mode, Pattern};
 use std::alloc::Global;
 use std::test::Fail;
 use tb_geom::{Point, Rect, Refusal};
@@ -117,5 +117,61 @@ fn keeps_a_bit_for_each_pixel(rt: HostRuntime) -> Result<(), Fail> {
     map.set(marked, true);
     let shown = picture(rt.alloc(), &map, rect!(-1, -1, 4, 3))?;
     assert!(rt; shown.as_slice() == MARKED);
+    Ok(())
+}
+
+/// Each mode, its two names, and its two numbers.
+const NAMES: [(Mode, &'static [u8], &'static [u8]); 8] = [
+    (Mode::Copy, b"srcCopy", b"patCopy"),
+    (Mode::Or, b"srcOr", b"patOr"),
+    (Mode::Xor, b"srcXor", b"patXor"),
+    (Mode::Bic, b"srcBic", b"patBic"),
+    (Mode::NotCopy, b"notSrcCopy", b"notPatCopy"),
+    (Mode::NotOr, b"notSrcOr", b"notPatOr"),
+    (Mode::NotXor, b"notSrcXor", b"notPatXor"),
+    (Mode::NotBic, b"notSrcBic", b"notPatBic"),
+];
+
+#[test]
+fn names_modes(rt: HostRuntime) {
+    for (mode, source, pattern) in NAMES {
+        assert!(rt; mode.source_name().as_bytes() == source);
+        assert!(rt; mode.pattern_name().as_bytes() == pattern);
+        assert!(rt; Mode::from_source_name(source) == Some(mode));
+        assert!(rt; Mode::from_pattern_name(pattern) == Some(mode));
+        assert!(rt; Mode::from_source_name(pattern).is_none());
+    }
+    for word in [
+        b"".as_slice(),
+        b"patBlue",
+        b"PatCopy",
+        b"patCopy ",
+        b"patCop",
+    ] {
+        assert!(rt; Mode::from_pattern_name(word).is_none());
+    }
+}
+
+/// Two rows of ten pixels: the second byte of each has two bits that count.
+static ROWS: [u8; 4] = [0xA0, 0x7F, 0x01, 0x80];
+
+/// Its pixels; a point that it does not have is a blank.
+impl Pixels for BitImage<'_> {
+    fn byte(&self, point: Point) -> u8 {
+        if self.contains(point) {
+            mark(self.bit(point))
+        } else {
+            b' '
+        }
+    }
+}
+
+#[test]
+fn reads_bit_images(rt: HostRuntime) -> Result<(), Fail> {
+    let image = BitImage::new(10, 3, &ROWS);
+    let text = picture(rt.alloc(), &image, rect!(-1, -1, 11, 4))?;
+    // the third row has no bytes
+    let wanted = b"            \n #.#......# \n .......##. \n .......... \n            \n";
+    assert!(rt; text.as_slice() == wanted.as_slice());
     Ok(())
 }

@@ -91,7 +91,12 @@ pub fn is_region_of<P: Pixels>(
 
 /// The rectangle of one pixel.
 pub fn pixel(h: i32, v: i32) -> Rect {
-    rect!(h, v, h.wrapping_add(1), v.wrapping_add(1))
+    Rect {
+        left: h,
+        top: v,
+        right: h.wrapping_add(1),
+        bottom: v.wrapping_add(1),
+    }
 }
 
 /// The region of the black pixels within the sides, made of single ones.
