@@ -1,9 +1,9 @@
 //! Fills of a canvas against a loop over all pixels of a map.
 
-use drawing_tests::sheet::{MIXED, SHEET, Sheet, inked};
-use drawing_tests::pixels::{Pixels, are_alike, map_of, mark};
 use bit_map::{BitMap, Mode};
 use def_iface::{Canvas, Cut};
+use drawing_tests::pixels::{Pixels, are_alike, map_of, mark};
+use drawing_tests::sheet::{MIXED, SHEET, Sheet, inked};
 use scan_region::Region;
 use std::alloc::Global;
 use std::test::Fail;

@@ -3,11 +3,11 @@ ghost use Rattle.std.specs.Prelude.{All};
 ghost use Rattle.def_iface.specs.Stocked.{IsFull};
 ghost use Rattle.desk_toolbox.specs.Whole.{IsWhole};
 
-use drawing_tests::pixels::{Pixels, are_alike, mark};
 use crate::titled_window::Titled;
 use bit_map::BitMap;
 use def_iface::{Defined, Size, Stock, Stocked, Taken, WindowDef};
 use desk_toolbox::{Call, Found, NewWindow, Reply, Text, Toolbox, WindowCall, WindowPart};
+use drawing_tests::pixels::{Pixels, are_alike, mark};
 use std::alloc::{AllocError, Global};
 use std::test::Fail;
 use tb_geom::{Point, Rect, Refusal};

@@ -3,9 +3,9 @@ ghost use Rattle.std.specs.Prelude.{◌≡◌, true};
 ghost use Rattle.def_iface.specs.Meaning.{is_fitting};
 
 use crate::canvases::cut;
-use drawing_tests::pixels::{Pixels, map_of, mark, picture};
 use crate::titled_window::Titled;
 use def_iface::{Canvas, Defined, Hit, Size, Stage, Stock, Taken, WindowDef, WindowRegions};
+use drawing_tests::pixels::{Pixels, map_of, mark, picture};
 use scan_region::Region;
 use std::alloc::Global;
 use std::test::Fail;
@@ -69,13 +69,16 @@ fn a_stock_gives_the_first_fresh_definition_of_a_kind(rt: HostRuntime) -> Result
     Ok(())
 }
 
-/// `o` for a pixel of the content, `#` for another of the structure.
-impl Pixels for WindowRegions {
+/// The regions of a window: `o` for a pixel of the content, `#` for another of the structure.
+#[derive(Drop)]
+struct Shown(WindowRegions);
+
+impl Pixels for Shown {
     fn byte(&self, point: Point) -> u8 {
-        if self.content.contains(point) {
+        if self.0.content.contains(point) {
             b'o'
         } else {
-            mark(self.structure.contains(point))
+            mark(self.0.structure.contains(point))
         }
     }
 }
@@ -137,7 +140,7 @@ const DRAWN: [(bool, &[u8]); 2] = [
 fn regions(alloc: Global, taken: &Taken) -> Result<Vec<u8>, Refusal>
     requires { is_fitting (⟦<Taken as Defined>⟧.loan taken.now).definition SIZE ≡ true }
 {
-    let regions = taken.regions_for(alloc, SIZE)?;
+    let regions = Shown(taken.regions_for(alloc, SIZE)?);
     Ok(picture(alloc, &regions, rect!(-3, -5, 5, 4))?)
 }
 
