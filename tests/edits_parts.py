@@ -178,6 +178,14 @@ def an_edit_lies_in_one_body_or_is_tried_alone(folder):
     same("with a line only:", (found.only, found.body), ("five", None))
 
 
+def the_text_tells_the_names_of_functions(folder):
+    repository = Repository(folder)
+    repository.write("crates/low/src/lib.rt", PLACES)
+    repository.write("crates/low/src/deep.rt", DEEP)
+    found = edits_read.functions_in(repository.crates()["low"])
+    same("the names", sorted(it.name for rows in found.values() for it in rows), sorted(NAMES))
+
+
 def edits_of_bodies_go_together_and_apart(folder):
     repository = Repository(folder)
     names = ["next", "after_next", "most", "twice"]
@@ -263,6 +271,7 @@ TESTS = [
     a_record_keeps_what_it_is_told,
     an_edit_that_cannot_be_made_is_told,
     an_edit_lies_in_one_body_or_is_tried_alone,
+    the_text_tells_the_names_of_functions,
     edits_of_bodies_go_together_and_apart,
     only_goals_and_answers_of_its_own_refuse_a_function,
     what_changes_while_it_is_checked_is_not_recorded,

@@ -75,24 +75,28 @@ def words_of_impl(head):
 
 
 def path_of(module, owner, last, names):
-    """The one name among those that rattle prints of a function that stands so, or None."""
+    """The one name among those that rattle prints of a function that stands so, or None; without names, what it has to
+    be by the text.
+    """
     here = f"{module}::" if module else ""
     if not owner:
-        return here + last if here + last in names else None
+        return here + last if names is None or here + last in names else None
     if owner[1] == b"trait":
         kind, trait, words = re.match(r"\s*(\w+)", owner[2].decode())[1], "", ""
     else:
         kind, trait, words = words_of_impl(owner[2].decode().strip())
-    if not trait:
-        name = f"{here}{kind}::{last}"
-        return name if name in names else None
+    if names is None or not trait:
+        name = f"{here}{kind}{trait}{words}::{last}"
+        return name if names is None or name in names else None
     found = [it for it in names if re.fullmatch(rf"{here}{kind}{trait}\w*::{last}", it)]
     exact = [it for it in found if it == f"{here}{kind}{trait}{words}::{last}"]
     return (exact or found)[0] if len(exact or found) == 1 else None
 
 
-def functions_in(crate, names):
-    """For each source file of a crate its functions. What is not laid out as rt fmt does it is left out."""
+def functions_in(crate, names=None):
+    """For each source file of a crate its functions, with those of these names that are theirs, or with the names that
+    the text gives. What is not laid out as rt fmt does it is left out.
+    """
     found = {}
     for path, text in rtlib.blanked(crate.folder).items():
         file, code = os.path.relpath(path, crate.folder), text.encode()
