@@ -11,6 +11,8 @@ from edits_small import LOW, Fault, Repository, edits, edits_read, same
 # What no check is to read: the places of functions are found in it.
 PLACES = """mod deep;
 
+pub struct Kept(u32);
+
 pub trait Sized {
     fn size(&self) -> u32;
 
@@ -58,9 +60,15 @@ impl Thing {
         70
     }
 }
+
+impl Kept {
+    fn kept() -> u32 {
+        90
+    }
+}
 """
 NAMES = "Sized::more ThingSized::size ThingFromOther::from ThingFromThird::from five holds_one".split()
-NAMES += ["deep::inner", "deep::Thing::own"]
+NAMES += ["deep::inner", "deep::Thing::own", "Kept::kept"]
 # Edits of these, the function or module that each is of, and whether it changes its body alone.
 PLACED = [
     ("src/lib.rt", "        3", "        4", "ThingSized::size", True),
@@ -69,6 +77,8 @@ PLACED = [
     ("src/lib.rt", "Thing(50)", "Thing(51)", "ThingFromThird::from", True),
     ("src/deep.rt", "    60", "    61", "deep::inner", True),
     ("src/deep.rt", "    70", "    71", "deep::Thing::own", True),
+    # a method goes by the module of its type
+    ("src/deep.rt", "    90", "    91", "Kept::kept", True),
     # what stands in no body
     ("src/lib.rt", "fn size(&self) -> u32;", "fn size(&self) -> u64;", None, False),
     ("src/lib.rt", "nothing() {}", "nothing() { 1 }", None, False),
