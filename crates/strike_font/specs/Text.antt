@@ -1,6 +1,7 @@
 -- The pixels of glyphs and texts.
 use Rattle.std.specs.Prelude.{◌≡◌, ℕ, ◌+◌, ◌-◌, ◌*◌, ◌/◌, ◌%◌, ◌^◌, ◌<◌, ℤ, pos, negsuc, ◌+ℤ◌, ◌-ℤ◌, ◌≤ℤ◌, Bool, true, false, not, cond, ◌&&◌, ◌||◌, nat_lt, nat_eq, int_le, List, [], ◌∷◌, length, take, slice_index}
 use Rattle.tb_geom.specs.declared.point.Point.{Point}
+use Rattle.tb_geom.specs.declared.rect.Rect.{Rect}
 use Rattle.tb_geom.specs.Points.{PixelSet}
 use Rattle.bit_map.specs.Patterns.{bit_of}
 use Rattle.strike_font.specs.declared.glyph.Glyph.{Glyph}
@@ -63,6 +64,12 @@ pub record IsTextPixel (font text : List ℕ) (pen p : Point) : Type 0 where
   pub bit : image_bit font ((glyph_of font (slice_index text at)).first + column) row ≡ true
   pub h_is : p.h ≡ pen.h +ℤ pos (text_width font (take at text)) +ℤ kern font +ℤ pos (glyph_of font (slice_index text at)).offset +ℤ pos column
   pub v_is : p.v ≡ pen.v -ℤ pos (ascent font) +ℤ pos row
+
+-- the rectangle of a glyph's columns and rows, seen from where the pen started, which has come `across` columns
+abbrev pub glyph_rect : List ℕ → Glyph → ℕ → Rect
+glyph_rect font g across =
+    let left = pos across +ℤ (kern font +ℤ pos g.offset) in
+    record { left = left; top = pos 0 -ℤ pos (ascent font); right = left +ℤ pos g.columns; bottom = pos (height font) -ℤ pos (ascent font) }
 
 -- a number of -2^bits - 1 .. 2^bits
 pub record IsSized (bits : ℕ) (x : ℤ) : Type 0 where

@@ -1,16 +1,16 @@
 //! Fonts.
-ghost use Rattle.std.specs.Prelude.{◌≡◌, true, IfOk, IfErr, IsTrue, ◌↔◌, ◌≤◌, ◌<◌, ◌*◌, ◌+◌, length, MatchResult, if◌then◌else◌};
+ghost use Rattle.std.specs.Prelude.{◌≡◌, true, IfOk, IfErr, IsTrue, ◌↔◌, ◌≤◌, ◌<◌, ◌≤ℤ◌, ◌<ℤ◌, pos, negsuc, ◌*◌, ◌+◌, length, MatchResult, if◌then◌else◌};
 ghost use Rattle.strike_font.specs.BuiltIn.{IsBuiltIn};
-ghost use Rattle.strike_font.specs.Record.{is_font, row_words, ascent, descent};
-ghost use Rattle.strike_font.specs.Text.{glyph_of, text_width, text_holds, glyph_pixel, IsSized, IsTextPixel};
+ghost use Rattle.strike_font.specs.Record.{is_font, row_words, height, ascent, descent, kern};
+ghost use Rattle.strike_font.specs.Text.{glyph_of, text_width, text_holds, glyph_pixel, glyphs_pixel, glyph_rect, IsSized, IsTextPixel};
 
 use crate::built_in::RECORD;
 use crate::glyph::{self, Glyph};
-use crate::record::{is_font, word};
+use crate::record::{is_font, signed, word};
 use crate::text;
 use std::alloc::Global;
 use std::marker::Model;
-use tb_geom::{Point, Refusal};
+use tb_geom::{Point, Rect, Refusal};
 
 /// A font of black and white glyphs: the bytes of a FONT record (*Inside Macintosh: Text*, "Font
 /// Manager", the FONT record). Contracts see the bytes.
@@ -55,6 +55,22 @@ impl Font {
         Font::from_bytes(alloc, &RECORD)
     }
 
+    /// How many rows each glyph has, the field fRectHeight: 1..=127.
+    pub fn height(&self) -> u16
+        ensures value { result ≡ height self.now }
+        ensures small { (0 < result) × (result < 128) }
+    {
+        word(&self.bytes, 7)
+    }
+
+    /// How many pixels right of the pen a glyph of no offset begins, the field kernMax: -128..=127.
+    pub fn kern(&self) -> i32
+        ensures value { result ≡ kern self.now }
+        ensures near { (negsuc 127 ≤ℤ result) × (result <ℤ pos 128) }
+    {
+        signed(word(&self.bytes, 4))
+    }
+
     /// How many rows the font's ascent takes, which is above the baseline: 0..=127. A glyph's top row
     /// lies so far above the baseline.
     pub fn ascent(&self) -> u16
@@ -92,6 +108,15 @@ impl Font {
         glyph::glyph_pixel(&self.bytes, glyph, x, y)
     }
 
+    /// The rectangle of a glyph's columns and rows, seen from where the pen started on the baseline,
+    /// which has come `across` columns.
+    pub fn glyph_rect(&self, glyph: Glyph, across: u32) -> Rect
+        requires { across ≤ 255 * 65535 }
+        ensures { result ≡ glyph_rect self.now glyph across }
+    {
+        glyph::glyph_rect(&self.bytes, glyph, across)
+    }
+
     /// How many pixels a text of at most 65535 characters moves the pen to the right: the sum of its
     /// characters' widths.
     pub fn width(&self, text: &[u8]) -> u32
@@ -110,5 +135,16 @@ impl Font {
         ensures drawn { IsTrue result ↔ IsTextPixel self.now text.now pen point }
     {
         text::text_pixel(&self.bytes, text, pen, point)
+    }
+
+    /// Whether a text of at most 65535 characters has the pixel `x` columns right of where its pen
+    /// starts and `y` rows below the baseline. Either may be negative, and is at most 2^33 either way.
+    pub fn text_bit(&self, text: &[u8], x: i64, y: i64) -> bool
+        requires short { length text.now ≤ 65535 }
+        requires x_near { IsSized 33 x }
+        requires y_near { IsSized 33 y }
+        ensures { result ≡ glyphs_pixel self.now text.now 0 x y }
+    {
+        text::glyphs_pixel(&self.bytes, text, x, y)
     }
 }

@@ -1,10 +1,11 @@
 //! Glyphs.
-ghost use Rattle.std.specs.Prelude.{◌≡◌, ◌+◌, ◌*◌, ◌<◌, ◌≤◌, pos, ◌-ℤ◌, ◌+ℤ◌};
-ghost use Rattle.bit_map.specs.Patterns.{bit_of};
+ghost use Rattle.std.specs.Prelude.{◌≡◌, ◌+◌, ◌*◌, ◌^◌, ◌<◌, ◌≤◌, pos, negsuc, ◌-ℤ◌, ◌+ℤ◌, ◌≤ℤ◌, ◌<ℤ◌};
 ghost use Rattle.strike_font.specs.Record.{IsFont, last_symbol, row_words, height};
-ghost use Rattle.strike_font.specs.Text.{symbol_of, glyph_at, glyph_of, image_bit, glyph_bit, glyph_pixel, IsSized};
+ghost use Rattle.strike_font.specs.Text.{symbol_of, glyph_at, glyph_of, image_bit, glyph_bit, glyph_pixel, glyph_rect, IsSized};
 
 use crate::record::{entry, first_char, gap, last_char, last_symbol, location, signed, word};
+use bit_map::bit_of;
+use tb_geom::Rect;
 
 /// Where a glyph stands in the strike of its font, and how it is put down. All four are in pixels.
 #[derive(Clone, Copy, Debug, PartialEq, Eq)]
@@ -64,14 +65,6 @@ pub fn glyph_of(bytes: &[u8], character: u8) -> Glyph
     glyph_at(bytes, symbol_of(bytes, character))
 }
 
-/// The bit of a byte at a place, place 0 being the high bit.
-fn bit_of(byte: u8, place: u8) -> bool
-    requires { place < 8 }
-    ensures { result ≡ bit_of byte place }
-{
-    (byte >> (7 - place)) % 2 == 1
-}
-
 /// The bit of the strike in a column and a row.
 #[tactic(auto, unfolding(crate::specs::Text::image_bit))]
 fn image_bit(bytes: &[u8], column: usize, row: u16) -> bool
@@ -129,4 +122,40 @@ pub fn glyph_pixel(bytes: &[u8], glyph: Glyph, x: i64, y: i64) -> bool
     let column = column_of(x, signed(word(bytes, 4)), glyph.offset);
     let row = row_of(y, word(bytes, 9));
     glyph_bit(bytes, glyph, column, row)
+}
+
+/// How far right of where the pen started a glyph's first column lies.
+fn left_of(across: u32, kern: i32, offset: u8) -> i32
+    requires across { across ≤ 255 * 65535 }
+    requires low { negsuc 127 ≤ℤ kern }
+    requires high { kern <ℤ pos 128 }
+    ensures value { result ≡ pos across +ℤ (kern +ℤ pos offset) }
+    ensures near { (negsuc 127 ≤ℤ result) × (result <ℤ pos (2 ^ 25)) }
+{
+    across as i32 + (kern + i32::from(offset))
+}
+
+/// The rectangle of so many columns from `left` on, and of the rows of a font around a baseline at 0.
+fn rect_from(left: i32, columns: u16, ascent: u16, height: u16) -> Rect
+    requires low { negsuc 127 ≤ℤ left }
+    requires high { left <ℤ pos (2 ^ 25) }
+    ensures { result ≡ record { left = left; top = pos 0 -ℤ pos ascent; right = left +ℤ pos columns; bottom = pos height -ℤ pos ascent } }
+{
+    Rect {
+        left,
+        top: 0 - i32::from(ascent),
+        right: left + i32::from(columns),
+        bottom: i32::from(height) - i32::from(ascent),
+    }
+}
+
+/// The rectangle of a glyph's columns and rows, seen from where the pen started, which has come
+/// `across` columns.
+pub fn glyph_rect(bytes: &[u8], glyph: Glyph, across: u32) -> Rect
+    requires font { IsFont bytes.now }
+    requires near { across ≤ 255 * 65535 }
+    ensures { result ≡ glyph_rect bytes.now glyph across }
+{
+    let left = left_of(across, signed(word(bytes, 4)), glyph.offset);
+    rect_from(left, glyph.columns, word(bytes, 9), word(bytes, 7))
 }

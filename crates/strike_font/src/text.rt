@@ -37,8 +37,9 @@ fn right_of(x: i64, across: u32) -> i64
     x - i64::from(across)
 }
 
-/// Whether a text has the pixel `x` columns right of the pen and `y` rows below the baseline.
-fn glyphs_pixel(bytes: &[u8], text: &[u8], x: i64, y: i64) -> bool
+/// Whether a text has the pixel `x` columns right of where the pen starts and `y` rows below the
+/// baseline.
+pub fn glyphs_pixel(bytes: &[u8], text: &[u8], x: i64, y: i64) -> bool
     requires font { IsFont bytes.now }
     requires short { length text.now ≤ 65535 }
     requires x_near { IsSized 33 x }
