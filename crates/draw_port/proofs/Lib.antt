@@ -1,0 +1,5 @@
+-- Lemmas on canvases.
+pub mod CanvasLemmas
+pub mod PlacedLemmas
+pub mod PictureLemmas
+pub mod GlyphLemmas

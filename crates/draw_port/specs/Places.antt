@@ -1,0 +1,19 @@
+-- A point seen from another, in numbers of 32 bits.
+use Rattle.std.specs.Prelude.{◌≡◌, true, false, not, ◌&&◌, pos, negsuc, ◌-ℤ◌}
+use Rattle.std.specs.Int.{saturate_signed, w32}
+use Rattle.tb_geom.specs.declared.point.Point.{Point}
+use Rattle.tb_geom.specs.declared.rect.Rect.{Rect}
+use Rattle.tb_geom.specs.Points.{PixelSet}
+use Rattle.tb_geom.specs.Rects.{between, rect_holds}
+
+-- the point p as seen from o, where each number stops at the ends of 32 bits
+abbrev pub stopped : Point → Point → Point
+stopped p o = record { h = saturate_signed w32 (p.h -ℤ o.h); v = saturate_signed w32 (p.v -ℤ o.v) }
+
+-- whether the pixel lies past the numbers of 32 bits, or at the last of them
+abbrev pub is_far : PixelSet
+is_far p = not (between (negsuc 2147483647) p.h (pos 2147483647) && between (negsuc 2147483647) p.v (pos 2147483647))
+
+-- the rectangle encloses the pixels of the set that are not far
+abbrev pub Encloses : Rect → PixelSet → Type 0
+Encloses r s = (p : Point) → is_far p ≡ false → s p ≡ true → rect_holds r p ≡ true

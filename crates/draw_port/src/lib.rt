@@ -1,0 +1,27 @@
+//! Drawing operations, pictures made of them, and the canvas that both are drawn on.
+//!
+//! An operation (`Op`) has a shape and perhaps a clip. At a point in its own coordinates it makes a
+//! new bit of the old one, and leaves the bit where its shape or its clip has not the point
+//! (`op_paint`). A `Picture` is a list of operations. Its value at a point is what they make, one
+//! after another, of white (`picture_bit`).
+//!
+//! A `Canvas` is a bitmap, a rectangle and a `Cut` that bound what may change on it, a font, and the
+//! place of the canvas's own 0 0 on the map. Each drawing on it says which pixels of the canvas got
+//! which value, by the one word `Draws`, and that all else stayed.
+#![tactic(auto)]
+
+mod bounds;
+mod canvas;
+mod cut;
+mod kinds;
+mod ops;
+mod painting;
+mod picture;
+mod placed;
+mod texts;
+
+pub use canvas::Canvas;
+pub use cut::Cut;
+pub use kinds::{Line, Op, Picture, RowsOfBits, Shade, Shape, TextMode, TextRun};
+pub use picture::operations_go_on;
+pub use texts::draw_text;
