@@ -1,8 +1,7 @@
 -- One operation after another on a canvas.
-use Rattle.std.proofs.Common.{◌≡◌, ℕ, Option, ◌+◌, ◌<◌, ◌≤◌, ℤ, pos, negsuc, ◌-ℤ◌, ◌≤ℤ◌, nat_abs, Bool, true, false, not, ◌&&◌, cond, List, length, take, get_or, refl, sym, ap, subst, if◌then◌else◌, ◌∙◌, arith, w32}
+use Rattle.std.proofs.Common.{◌≡◌, ℕ, Option, ◌+◌, ◌<◌, ◌≤◌, ℤ, pos, negsuc, ◌-ℤ◌, ◌≤ℤ◌, ◌+ℤ◌, nat_abs, Bool, true, false, not, ◌&&◌, cond, List, length, take, get_or, refl, sym, ap, subst, if◌then◌else◌, ◌∙◌, arith, w32}
 use Rattle.std.specs.Int.{saturate_signed}
 use Rattle.std.proofs.lemmas.Int.{ints, clamps}
-use Rattle.std.proofs.lemmas.Bool.{true≢false}
 use Rattle.std.proofs.lemmas.List.Sums.{fold_more}
 use Rattle.tb_geom.specs.declared.rect.Rect.{Rect}
 use Rattle.tb_geom.specs.declared.point.Point.{Point}
@@ -11,22 +10,21 @@ use Rattle.tb_geom.specs.Rects.{between, rect_holds}
 use Rattle.bit_map.specs.Bits.{Bits, on_map}
 use Rattle.bit_map.proofs.BitsLemmas.{on_map-sides}
 use Rattle.bit_blit.specs.Draws.{Draws}
-use Rattle.bit_blit.proofs.DrawsLemmas.{Draws-over, Draws-same}
+use Rattle.bit_blit.proofs.DrawsLemmas.{Draws-over, Draws-same, Draws-where}
+use Rattle.draw_port.proofs.PlacedLemmas.{image-around}
 use Rattle.draw_port.specs.Origins.{is_near}
 use Rattle.draw_port.specs.Places.{stopped, is_far, Encloses}
 use Rattle.draw_port.specs.Cuts.{cut_holds}
-use Rattle.draw_port.specs.Ops.{clip_holds, run_holds, text_mode, shape_holds, shape_value, op_holds, op_paint, picture_value}
+use Rattle.draw_port.specs.Ops.{clip_holds, run_holds, text_mode, shape_holds, shape_value, op_holds, op_value, picture_value}
 use Rattle.draw_port.specs.Canvases.{canvas_holds, canvas_point, clipped_holds, painted_by, painted_all, pictured, SameFrame}
 use Rattle.draw_port.specs.declared.canvas.Canvas.{Canvas}
-use Rattle.draw_port.specs.declared.painting.Inked.{Inked}
 use Rattle.bit_map.specs.declared.mode.Mode.{Mode}
-use Rattle.bit_map.specs.declared.pattern.Pattern.{Pattern}
+use Rattle.bit_map.specs.Images.{Image, image_holds, image_bit}
 use Rattle.bit_map.specs.Modes.{mode_bit}
-use Rattle.bit_map.specs.Patterns.{pattern_bit}
-use Rattle.draw_port.specs.declared.kinds.Op.{Op}
-use Rattle.draw_port.specs.declared.kinds.TextRun.{TextRun}
-use Rattle.draw_port.specs.declared.kinds.Shape.{Shape}
-use Rattle.draw_port.specs.declared.kinds.Shape.TheVariants.{Text}
+use Rattle.draw_port.specs.declared.shapes.Op.{Op}
+use Rattle.draw_port.specs.declared.shapes.TextRun.{TextRun}
+use Rattle.draw_port.specs.declared.shapes.Shape.{Shape}
+use Rattle.draw_port.specs.declared.shapes.Shape.TheVariants.{Text}
 use Rattle.tb_geom.specs.Pixels.{Pixels}
 use Rattle.strike_font.specs.Text.{text_holds}
 
@@ -56,59 +54,86 @@ stopped-near m p o w h near on =
     let n = both (between (negsuc 999999999) o.h (pos 1000000000)) (between (negsuc 999999999) o.v (pos 1000000000)) near in
     λ i. record { h = near_number m.width p.h o.h w at.right at.across n.0 i; v = near_number m.height p.v o.v h at.below at.down n.1 i }
 
-cut_table : (clip cut : Bool) (x y d : Bool) → x ≡ y → cond clip (cond cut x d) d ≡ cond (clip && cut) y d
+-- ---- a rule of the canvas
+
+cut_table : (area cut : Bool) (x y d : Bool) → x ≡ y → cond area (cond cut x d) d ≡ cond (area && cut) y d
 cut_table true true x y d e = e
 cut_table true false x y d e = refl
 cut_table false cut x y d e = refl
 
--- a drawing on the clip that leaves what the cut takes away draws on the canvas
-pub cut_drawn : (c : Canvas) (f : Point → Bool → Bool) (old new : Bits)
-    → Draws (rect_holds c.clip) (λ p d. cond (cut_holds c.cut.now p) (f p d) d) old new
-    → Draws (canvas_holds c) f old new
-cut_drawn c f old new drawn = Draws-same _ _ _ _ old new (λ p d on. cut_table (rect_holds c.clip p) (cut_holds c.cut.now p) (f p d) (f p d) d refl) drawn
+-- what a rule of the canvas draws in a rectangle of the map, where it leaves what the cut takes away
+pub seen_drawn : (c : Canvas) (area : Rect) (value : Point → Bool → Bool) (old new : Bits) → old.width ≤ 32767 → old.height ≤ 32767 → is_near c.origin ≡ true
+    → Draws (rect_holds area) (λ p d. if cut_holds c.cut.now p then value (stopped p c.origin) d else d) old new
+    → Draws (λ p. rect_holds area p && cut_holds c.cut.now p) (λ p d. value (canvas_point c p) d) old new
+seen_drawn c area value old new w h near drawn =
+    Draws-same _ _ _ _ old new (λ p d on. cut_table (rect_holds area p) (cut_holds c.cut.now p) (value (stopped p c.origin) d) (value (canvas_point c p) d) d (ap (λ q. value q d) (stopped-near old p c.origin w h near on))) drawn
 
--- a pixel that the operation has not keeps its bit
-not_held : (font : List ℕ) (op : Op) (p : Point) (d : Bool) → op_holds font op p ≡ false → op_paint font op p d ≡ d
-unfolding op_paint
-not_held font op p d e = ap (λ t. cond t (shape_value op.shape p d) d) e
-
--- an operation drawn in the rectangle around it, where a cut allows, is drawn on the canvas
-pub op_drawn : (c : Canvas) (op : Op) (bounds area : Rect) (old new : Bits) → old.width ≤ 32767 → old.height ≤ 32767 → is_near c.origin ≡ true
-    → Encloses bounds (op_holds c.font.now op)
-    → ((p : Point) → rect_holds area p ≡ (rect_holds c.clip p && rect_holds bounds (minus p c.origin)))
-    → Draws (rect_holds area) (λ p d. cond (cut_holds c.cut.now p) (op_paint c.font.now op (stopped p c.origin) d) d) old new
-    → Draws (canvas_holds c) (painted_by c op) old new
-op_drawn c op bounds area old new w h near around shared drawn = Draws-same _ _ _ _ old new each drawn
+-- in the part of the clip that a rectangle has, this is a drawing of the rectangle's pixels of the canvas
+pub placed_drawn : (c : Canvas) (rect area : Rect) (value : Point → Bool → Bool) (old new : Bits)
+    → ((p : Point) → rect_holds area p ≡ (rect_holds c.clip p && rect_holds rect (canvas_point c p)))
+    → Draws (λ p. rect_holds area p && cut_holds c.cut.now p) value old new
+    → Draws (λ p. canvas_holds c p && rect_holds rect (canvas_point c p)) value old new
+placed_drawn c rect area value old new shared drawn = Draws-where _ _ value old new one drawn
   where
-    outside : (p : Point) (d : Bool) → on_map old p ≡ true → rect_holds bounds (minus p c.origin) ≡ false → painted_by c op p d ≡ d
-    outside p d on e = not_held c.font.now op (minus p c.origin) d (by_test (op_holds c.font.now op (minus p c.origin)) refl)
-      where
-        by_test : (t : Bool) → op_holds c.font.now op (minus p c.origin) ≡ t → op_holds c.font.now op (minus p c.origin) ≡ false
-        by_test true f = absurd (true≢false (sym (around (minus p c.origin) (seen_near old p c.origin w h near on) f) ∙ e))
-        by_test false f = f
+    turned : (k r u : Bool) → ((k && r) && u) ≡ ((k && u) && r)
+    turned true true true = refl
+    turned true true false = refl
+    turned true false true = refl
+    turned true false false = refl
+    turned false r u = refl
 
-    table : (clip inside cut : Bool) (x y d : Bool) → x ≡ y → (inside ≡ false → y ≡ d) → cond (clip && inside) (cond cut x d) d ≡ cond (clip && cut) y d
-    table true true true x y d e f = e
-    table true true false x y d e f = refl
-    table true false true x y d e f = sym (f refl)
-    table true false false x y d e f = refl
-    table false inside cut x y d e f = refl
+    one : (p : Point) → on_map old p ≡ true → (rect_holds area p && cut_holds c.cut.now p) ≡ (canvas_holds c p && rect_holds rect (canvas_point c p))
+    one p on = ap (λ b. b && cut_holds c.cut.now p) (shared p) ∙ turned (rect_holds c.clip p) (rect_holds rect (canvas_point c p)) (cut_holds c.cut.now p)
 
-    each : (p : Point) (d : Bool) → on_map old p ≡ true → cond (rect_holds area p) (cond (cut_holds c.cut.now p) (op_paint c.font.now op (stopped p c.origin) d) d) d ≡ cond (canvas_holds c p) (painted_by c op p d) d
-    each p d on =
-        ap (λ t. cond t (cond (cut_holds c.cut.now p) (op_paint c.font.now op (stopped p c.origin) d) d) d) (shared p)
-        ∙ table (rect_holds c.clip p) (rect_holds bounds (minus p c.origin)) (cut_holds c.cut.now p) (op_paint c.font.now op (stopped p c.origin) d) (painted_by c op p d) d
-        (ap (λ q. op_paint c.font.now op q d) (stopped-near old p c.origin w h near on)) (outside p d on)
+-- a set of pixels that is drawn in a rectangle around it is drawn on the canvas
+pub boxed_drawn : (c : Canvas) (box : Rect) (holds : PixelSet) (value : Point → Bool → Bool) (old new : Bits) → old.width ≤ 32767 → old.height ≤ 32767 → is_near c.origin ≡ true
+    → Encloses box holds
+    → Draws (λ p. canvas_holds c p && rect_holds box (canvas_point c p)) (λ p d. cond (holds (canvas_point c p)) (value (canvas_point c p) d) d) old new
+    → Draws (λ p. canvas_holds c p && holds (canvas_point c p)) (λ p d. value (canvas_point c p) d) old new
+boxed_drawn c box holds value old new w h near around drawn = Draws-same _ _ _ _ old new one drawn
+  where
+    table : (k inside t : Bool) (x d : Bool) → (t ≡ true → inside ≡ true) → cond (k && inside) (cond t x d) d ≡ cond (k && t) x d
+    table false inside t x d f = refl
+    table true true t x d f = refl
+    table true false true x d f = absurd (cc (f refl))
+    table true false false x d f = refl
+
+    one : (p : Point) (d : Bool) → on_map old p ≡ true → cond (canvas_holds c p && rect_holds box (canvas_point c p)) (cond (holds (canvas_point c p)) (value (canvas_point c p) d) d) d ≡ cond (canvas_holds c p && holds (canvas_point c p)) (value (canvas_point c p) d) d
+    one p d on = table (canvas_holds c p) (rect_holds box (canvas_point c p)) (holds (canvas_point c p)) (value (canvas_point c p) d) d (around (canvas_point c p) (seen_near old p c.origin w h near on))
+
+in_table : (k t : Bool) (x d : Bool) → cond (k && t) x d ≡ cond k (cond t x d) d
+in_table true t x d = refl
+in_table false t x d = refl
+
+-- an operation that is drawn in the rectangle around it is drawn on the canvas
+pub op_drawn : (c : Canvas) (op : Op) (box : Rect) (old new : Bits) → old.width ≤ 32767 → old.height ≤ 32767 → is_near c.origin ≡ true
+    → Encloses box (op_holds c.font.now op)
+    → Draws (λ p. canvas_holds c p && rect_holds box (canvas_point c p)) (painted_by c op) old new
+    → Draws (canvas_holds c) (painted_by c op) old new
+unfolding op_value
+op_drawn c op box old new w h near around drawn =
+    Draws-same _ _ _ _ old new (λ p d on. in_table (canvas_holds c p) (op_holds c.font.now op (canvas_point c p)) (shape_value op.shape (canvas_point c p) d) d)
+    (boxed_drawn c box (op_holds c.font.now op) (λ q d. shape_value op.shape q d) old new w h near around drawn)
+
+-- bits are copied where the image has the pixel
+pub bits_drawn : (c : Canvas) (box : Rect) (made image : Image) (place : Point) (mode : Mode) (old new : Bits) → old.width ≤ 32767 → old.height ≤ 32767 → is_near c.origin ≡ true → made ≡ image
+    → Encloses box (λ p. between place.h p.h (place.h +ℤ pos image.width) && between place.v p.v (place.v +ℤ pos image.height))
+    → Draws (λ p. canvas_holds c p && rect_holds box (canvas_point c p)) (λ p d. if image_holds made (minus (canvas_point c p) place) then mode_bit mode (image_bit made (minus (canvas_point c p) place)) d else d) old new
+    → Draws (λ p. canvas_holds c p && image_holds image (minus (canvas_point c p) place)) (λ p d. mode_bit mode (image_bit image (minus (canvas_point c p) place)) d) old new
+bits_drawn c box made image place mode old new w h near is_made around drawn =
+    boxed_drawn c box (λ q. image_holds image (minus q place)) (λ q d. mode_bit mode (image_bit image (minus q place)) d) old new w h near
+    (λ p close held. around p close (image-around image place p held))
+    (subst (λ (i : Image). Draws (λ p. canvas_holds c p && rect_holds box (canvas_point c p)) (λ p d. cond (image_holds i (minus (canvas_point c p) place)) (mode_bit mode (image_bit i (minus (canvas_point c p) place)) d) d) old new) is_made drawn)
 
 -- ---- texts
 
 -- a text that is drawn on the clip, and left alone where a clip of its own or the cut takes it away, is drawn on the canvas
 pub text_drawn : (c : Canvas) (clip : Option Pixels) (text : List ℕ) (pen : Point) (mode : Mode) (old new : Bits) → old.width ≤ 32767 → old.height ≤ 32767 → is_near c.origin ≡ true
-    → Draws (λ p. rect_holds c.clip p && text_holds c.font.now text pen (minus p c.origin)) (λ p d. if cut_holds c.cut.now p && clip_holds clip (stopped p c.origin) then mode_bit mode true d else d) old new
+    → Draws (λ p. rect_holds c.clip p && text_holds c.font.now text pen (minus p c.origin)) (λ p d. if cut_holds c.cut.now p then (if clip_holds clip (stopped p c.origin) then mode_bit mode true d else d) else d) old new
     → Draws (clipped_holds c clip text pen) (λ p d. mode_bit mode true d) old new
 text_drawn c clip text pen mode old new w h near drawn = Draws-same _ _ _ _ old new one drawn
   where
-    table : (k t u l : Bool) (x d : Bool) → cond (k && t) (if u && l then x else d) d ≡ cond ((k && u) && (l && t)) x d
+    table : (k t u l : Bool) (x d : Bool) → cond (k && t) (cond u (cond l x d) d) d ≡ cond ((k && u) && (l && t)) x d
     table true true true true x d = refl
     table true true true false x d = refl
     table true true false l x d = refl
@@ -117,16 +142,16 @@ text_drawn c clip text pen mode old new w h near drawn = Draws-same _ _ _ _ old 
     table true false false l x d = refl
     table false t u l x d = refl
 
-    one : (p : Point) (d : Bool) → on_map old p ≡ true → cond (rect_holds c.clip p && text_holds c.font.now text pen (minus p c.origin)) (if cut_holds c.cut.now p && clip_holds clip (stopped p c.origin) then mode_bit mode true d else d) d ≡ cond (clipped_holds c clip text pen p) (mode_bit mode true d) d
+    one : (p : Point) (d : Bool) → on_map old p ≡ true → cond (rect_holds c.clip p && text_holds c.font.now text pen (minus p c.origin)) (if cut_holds c.cut.now p then (if clip_holds clip (stopped p c.origin) then mode_bit mode true d else d) else d) d ≡ cond (clipped_holds c clip text pen p) (mode_bit mode true d) d
     one p d on =
-        ap (λ q. cond (rect_holds c.clip p && text_holds c.font.now text pen (minus p c.origin)) (if cut_holds c.cut.now p && clip_holds clip q then mode_bit mode true d else d) d) (stopped-near old p c.origin w h near on)
+        ap (λ q. cond (rect_holds c.clip p && text_holds c.font.now text pen (minus p c.origin)) (if cut_holds c.cut.now p then (if clip_holds clip q then mode_bit mode true d else d) else d) d) (stopped-near old p c.origin w h near on)
         ∙ table (rect_holds c.clip p) (text_holds c.font.now text pen (minus p c.origin)) (cut_holds c.cut.now p) (clip_holds clip (minus p c.origin)) (mode_bit mode true d) d
 
 -- an operation that is a text is painted where the text is drawn
-pub text_painted : (c : Canvas) (op : Op) (t : TextRun) (text : List ℕ) (mode : Mode) (old new : Bits) → op.shape ≡ Text t → text ≡ t.text.items → mode ≡ text_mode t.mode
+pub text_painted : (c : Canvas) (op : Op) (t : TextRun) (text : List ℕ) (mode : Mode) (old new : Bits) → op.shape ≡ Text t → text ≡ t.text → mode ≡ text_mode t.mode
     → Draws (clipped_holds c op.clip text t.pen) (λ p d. mode_bit mode true d) old new
     → Draws (canvas_holds c) (painted_by c op) old new
-unfolding op_paint op_holds
+unfolding op_value op_holds
 text_painted c op t text mode old new is_shape is_text is_mode drawn = Draws-same _ _ _ _ old new (λ p d on. one p d op.shape is_shape) drawn
   where
     table : (k b : Bool) (x d : Bool) → cond (k && b) x d ≡ cond k (cond b x d) d
@@ -136,35 +161,6 @@ text_painted c op t text mode old new is_shape is_text is_mode drawn = Draws-sam
     one : (p : Point) (d : Bool) (s : Shape) → s ≡ Text t → cond (clipped_holds c op.clip text t.pen p) (mode_bit mode true d) d ≡ cond (canvas_holds c p) (cond (clip_holds op.clip (canvas_point c p) && shape_holds c.font.now s (canvas_point c p)) (shape_value s (canvas_point c p) d) d) d
     one p d s e = rw (e, is_text, is_mode) (table (canvas_holds c p) (clip_holds op.clip (canvas_point c p) && run_holds c.font.now t (canvas_point c p)) (mode_bit (text_mode t.mode) true d) d)
 
--- ---- inks
-
--- a rectangle that is filled under a cut is filled where the canvas is
-pub Draws-canvas : (c : Canvas) (rect shared : Rect) (value : Point → Bool → Bool) (old new : Bits)
-    → ((p : Point) → rect_holds shared p ≡ (rect_holds c.clip p && rect_holds rect (canvas_point c p)))
-    → Draws (rect_holds shared) (λ p d. if cut_holds c.cut.now p then value p d else d) old new
-    → Draws (λ p. canvas_holds c p && rect_holds rect (canvas_point c p)) value old new
-Draws-canvas c rect shared value old new both drawn = Draws-same _ _ _ _ old new one drawn
-  where
-    table : (clip local cut : Bool) (x d : Bool) → (if clip && local then (if cut then x else d) else d) ≡ (if (clip && cut) && local then x else d)
-    table true true true x d = refl
-    table true true false x d = refl
-    table true false true x d = refl
-    table true false false x d = refl
-    table false local cut x d = refl
-
-    one : (p : Point) (d : Bool) → on_map old p ≡ true → cond (rect_holds shared p) (if cut_holds c.cut.now p then value p d else d) d ≡ cond (canvas_holds c p && rect_holds rect (canvas_point c p)) (value p d) d
-    one p d on =
-        ap (λ b. cond b (if cut_holds c.cut.now p then value p d else d) d) (both p)
-        ∙ table (rect_holds c.clip p) (rect_holds rect (canvas_point c p)) (cut_holds c.cut.now p) (value p d) d
-
--- the ink of a canvas draws what its pattern and its mode say, where the canvas's cut allows
-pub inked_drawn : (c : Canvas) (pattern : Pattern) (mode : Mode) (ink : Inked) (holds : PixelSet) (old new : Bits)
-    → ink ≡ record { ink = record { pattern = pattern; offset = c.origin; mode = mode }; cut = c.cut }
-    → Draws holds (λ p d. if cut_holds ink.cut.now p then mode_bit ink.ink.mode (pattern_bit ink.ink.pattern (minus p ink.ink.offset)) d else d) old new
-    → Draws holds (λ p d. if cut_holds c.cut.now p then mode_bit mode (pattern_bit pattern (canvas_point c p)) d else d) old new
-inked_drawn c pattern mode ink holds old new e drawn =
-    subst (λ (k : Inked). Draws holds (λ p d. if cut_holds k.cut.now p then mode_bit k.ink.mode (pattern_bit k.ink.pattern (minus p k.ink.offset)) d else d) old new) e drawn
-
 -- ---- one operation after another
 
 pub SameFrame-then : (a b c : Canvas) → SameFrame a b → SameFrame b c → SameFrame a c
@@ -172,7 +168,7 @@ SameFrame-then a b c f g = record { clip = g.clip ∙ f.clip; origin = g.origin 
 
 -- on a canvas of the same frame an operation is painted at the same pixels, and alike
 frame_value : (old mid : Canvas) (op : Op) (p : Point) (d : Bool) → SameFrame old mid → cond (canvas_holds mid p) (painted_by mid op p d) d ≡ cond (canvas_holds old p) (painted_by old op p d) d
-frame_value old mid op p d f = λ i. cond (rect_holds (f.clip i) p && cut_holds ((f.cut i).now) p) (op_paint ((f.font i).now) op (minus p (f.origin i)) d) d
+frame_value old mid op p d f = λ i. cond (rect_holds (f.clip i) p && cut_holds ((f.cut i).now) p) (op_value ((f.font i).now) op (minus p (f.origin i)) d) d
 
 twice : (t : Bool) (g : Bool → Bool) (p q d : Bool) → q ≡ g p → cond t (g (cond t p d)) (cond t p d) ≡ cond t q d
 twice true g p q d e = sym e
@@ -180,8 +176,8 @@ twice false g p q d e = refl
 
 all_more : (c : Canvas) (ops : List Op) (k : ℕ) (op : Op) (p : Point) (d : Bool) → k < length ops → op ≡ get_or ops k op → painted_all c (take (k + 1) ops) p d ≡ painted_by c op p (painted_all c (take k ops) p d)
 all_more c ops k op p d l e =
-    fold_more (λ b o. op_paint c.font.now o (canvas_point c p) b) d ops k op l
-    ∙ ap (λ o. op_paint c.font.now o (canvas_point c p) (painted_all c (take k ops) p d)) (sym e)
+    fold_more (λ b o. op_value c.font.now o (canvas_point c p) b) d ops k op l
+    ∙ ap (λ o. op_value c.font.now o (canvas_point c p) (painted_all c (take k ops) p d)) (sym e)
 
 -- one more operation
 pub painted-more : (old mid : Canvas) (ops : List Op) (k : ℕ) (op : Op) (a b c : Bits) → k < length ops → op ≡ get_or ops k op → SameFrame old mid

@@ -17,9 +17,9 @@ use Rattle.strike_font.specs.Text.{glyph_of, glyph_pixel, glyphs_pixel, text_hol
 use Rattle.strike_font.proofs.TextLemmas.{glyph-to, glyphs-to}
 use Rattle.draw_port.specs.Places.{is_far, Encloses}
 use Rattle.draw_port.specs.Ops.{shape_holds}
-use Rattle.draw_port.specs.declared.kinds.TextRun.{TextRun}
-use Rattle.draw_port.specs.declared.kinds.Shape.{Shape}
-use Rattle.draw_port.specs.declared.kinds.Shape.TheVariants.{Text}
+use Rattle.draw_port.specs.declared.shapes.TextRun.{TextRun}
+use Rattle.draw_port.specs.declared.shapes.Shape.{Shape}
+use Rattle.draw_port.specs.declared.shapes.Shape.TheVariants.{Text}
 use Rattle.draw_port.specs.Texts.{glyph_holds, new_holds, IsStopped}
 use Rattle.draw_port.proofs.PlacedLemmas.{not-false}
 
@@ -230,6 +230,6 @@ text-around font text rect k a h reach pen p is_rect is_k is_a is_h far e =
     ∙ holds_in (record { left = k; top = pos 0 -ℤ pos a; right = pos reach; bottom = pos h -ℤ pos a }) (minus p pen) (omega (arith, ints)) (below_reach (p.h -ℤ pen.h) reach _ (far (p.h -ℤ pen.h) (p.v -ℤ pen.v)) e) (omega (arith, ints)) (omega (arith, ints))
 
 -- a rectangle around a text is one around a shape that is the text
-pub shape-around : (font : List ℕ) (r : Rect) (s : Shape) (t : TextRun) (text : List ℕ) → s ≡ Text t → text ≡ t.text.items → Encloses r (text_holds font text t.pen) → Encloses r (shape_holds font s)
+pub shape-around : (font : List ℕ) (r : Rect) (s : Shape) (t : TextRun) (text : List ℕ) → s ≡ Text t → text ≡ t.text → Encloses r (text_holds font text t.pen) → Encloses r (shape_holds font s)
 shape-around font r s t text is_shape is_text around p near held =
     around p near (rw (← is_text) at (rw is_shape at held))

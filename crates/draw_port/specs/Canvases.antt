@@ -6,8 +6,8 @@ use Rattle.tb_geom.specs.Rects.{rect_holds}
 use Rattle.tb_geom.specs.Pixels.{Pixels}
 use Rattle.strike_font.specs.Text.{text_holds}
 use Rattle.draw_port.specs.Cuts.{cut_holds}
-use Rattle.draw_port.specs.Ops.{clip_holds, op_paint, picture_bit, picture_value}
-use Rattle.draw_port.specs.declared.kinds.Op.{Op}
+use Rattle.draw_port.specs.Ops.{clip_holds, op_value, picture_bit, picture_value}
+use Rattle.draw_port.specs.declared.shapes.Op.{Op}
 use Rattle.draw_port.specs.declared.canvas.Canvas.{Canvas}
 
 -- whether the pixel, of the map, is one of the canvas's
@@ -24,7 +24,7 @@ clipped_holds c clip text pen p = canvas_holds c p && (clip_holds clip (canvas_p
 
 -- what an operation makes of the bit of a pixel of the map
 abbrev pub painted_by : Canvas → Op → Point → Bool → Bool
-painted_by c op p d = op_paint c.font.now op (canvas_point c p) d
+painted_by c op p d = op_value c.font.now op (canvas_point c p) d
 
 -- what operations make of it, one after another
 abbrev pub painted_all : Canvas → List Op → Point → Bool → Bool

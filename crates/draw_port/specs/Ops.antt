@@ -13,15 +13,15 @@ use Rattle.bit_map.specs.Patterns.{pattern_bit}
 use Rattle.bit_map.specs.declared.mode.Mode.{Mode}
 use Rattle.bit_map.specs.declared.mode.Mode.TheVariants.{Or as OrMode, Xor as XorMode, Bic as BicMode}
 use Rattle.strike_font.specs.Text.{text_holds}
-use Rattle.draw_port.specs.declared.kinds.Shade.{Shade}
-use Rattle.draw_port.specs.declared.kinds.Line.{Line}
-use Rattle.draw_port.specs.declared.kinds.TextMode.{TextMode}
-use Rattle.draw_port.specs.declared.kinds.TextMode.TheVariants.{Or, Xor, Bic}
-use Rattle.draw_port.specs.declared.kinds.TextRun.{TextRun}
-use Rattle.draw_port.specs.declared.kinds.RowsOfBits.{RowsOfBits}
-use Rattle.draw_port.specs.declared.kinds.Shape.{Shape}
-use Rattle.draw_port.specs.declared.kinds.Shape.TheVariants.{Erase, Invert, Fill, Frame, HLine, VLine, Text, Bits, FillRgn}
-use Rattle.draw_port.specs.declared.kinds.Op.{Op}
+use Rattle.draw_port.specs.declared.shapes.Shade.{Shade}
+use Rattle.draw_port.specs.declared.shapes.Line.{Line}
+use Rattle.draw_port.specs.declared.shapes.TextMode.{TextMode}
+use Rattle.draw_port.specs.declared.shapes.TextMode.TheVariants.{Or, Xor, Bic}
+use Rattle.draw_port.specs.declared.shapes.TextRun.{TextRun}
+use Rattle.draw_port.specs.declared.shapes.RowsOfBits.{RowsOfBits}
+use Rattle.draw_port.specs.declared.shapes.Shape.{Shape}
+use Rattle.draw_port.specs.declared.shapes.Shape.TheVariants.{Erase, Invert, Fill, Frame, HLine, VLine, Text, Bits, FillRgn}
+use Rattle.draw_port.specs.declared.shapes.Op.{Op}
 
 -- whether x is the first or the last number of low .. high - 1, of which it is one
 unfoldable pub is_end : ℤ → ℤ → ℤ → Bool
@@ -41,11 +41,11 @@ column_holds l p = int_eq p.h l.start.h && between l.start.v p.v (l.start.v +ℤ
 
 -- the pixels of a text
 abbrev pub run_holds : List ℕ → TextRun → PixelSet
-run_holds font t p = text_holds font t.text.items t.pen p
+run_holds font t p = text_holds font t.text t.pen p
 
 -- the rows as an image
 abbrev pub image_of : RowsOfBits → Image
-image_of b = record { width = b.width; height = b.height; rows = b.rows.items }
+image_of b = record { width = b.width; height = b.height; rows = b.rows }
 
 -- the mode of a text
 abbrev pub text_mode : TextMode → Mode
@@ -91,12 +91,12 @@ unfoldable pub op_holds : List ℕ → Op → PixelSet
 op_holds font op p = clip_holds op.clip p && shape_holds font op.shape p
 
 -- what the operation makes of the bit d at a point
-unfoldable pub op_paint : List ℕ → Op → Point → Bool → Bool
-op_paint font op p d = cond (op_holds font op p) (shape_value op.shape p d) d
+unfoldable pub op_value : List ℕ → Op → Point → Bool → Bool
+op_value font op p d = cond (op_holds font op p) (shape_value op.shape p d) d
 
 -- what operations make of the bit d, one after another
 abbrev pub picture_value : List ℕ → List Op → Point → Bool → Bool
-picture_value font ops p d = fold (λ b op. op_paint font op p b) d ops
+picture_value font ops p d = fold (λ b op. op_value font op p b) d ops
 
 -- the value of a picture: what its operations make of white
 abbrev pub picture_bit : List ℕ → List Op → PixelSet

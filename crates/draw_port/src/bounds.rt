@@ -7,8 +7,8 @@ ghost use Rattle.strike_font.specs.Text.{text_holds};
 ghost use Rattle.draw_port.specs.Places.{is_far, Encloses};
 ghost use Rattle.draw_port.specs.Ops.{row_holds, column_holds, image_of, shape_holds, clip_holds, op_holds};
 
-use crate::kinds::{Line, Op, RowsOfBits, Shape};
 use crate::placed::placed;
+use crate::shapes::{Line, Op, RowsOfBits, Shape};
 use crate::texts::reach_of;
 use scan_region::Region;
 use strike_font::Font;
@@ -23,7 +23,7 @@ const EVERYWHERE: Rect = Rect {
 };
 
 /// The rectangle of this many columns and rows from a point on, as far as numbers of 32 bits go.
-fn rect_from(start: Point, width: u16, height: u16) -> Rect
+pub fn rect_from(start: Point, width: u16, height: u16) -> Rect
     ensures { Encloses result (λ p. between start.h p.h (start.h +ℤ pos width) && between start.v p.v (start.v +ℤ pos height)) }
 {
     Rect {
@@ -99,7 +99,7 @@ impl Shape {
             Shape::Frame(rect, _) => *rect,
             Shape::HLine(line, _) => row_bounds(*line),
             Shape::VLine(line, _) => column_bounds(*line),
-            Shape::Text(run) => text_bounds(font, &run.text, run.pen),
+            Shape::Text(run) => text_bounds(font, run.text.as_slice(), run.pen),
             Shape::Bits(rows) => rows_bounds(rows),
             Shape::FillRgn(region, _) => region.bbox(),
         }

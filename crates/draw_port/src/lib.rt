@@ -11,17 +11,22 @@
 #![tactic(auto)]
 
 mod bounds;
+mod bytes;
 mod canvas;
+mod copies;
 mod cut;
-mod kinds;
-mod ops;
+pub mod laws;
 mod painting;
 mod picture;
 mod placed;
+mod rules;
+mod shapes;
 mod texts;
+mod values;
 
+pub use bytes::{Bytes, ShortText};
 pub use canvas::Canvas;
 pub use cut::Cut;
-pub use kinds::{Line, Op, Picture, RowsOfBits, Shade, Shape, TextMode, TextRun};
-pub use picture::operations_go_on;
+pub use picture::Picture;
+pub use shapes::{Line, Op, RowsOfBits, Shade, Shape, TextMode, TextRun};
 pub use texts::draw_text;

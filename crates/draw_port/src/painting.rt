@@ -1,29 +1,28 @@
-//! Operations and pictures on a canvas.
-ghost use Rattle.std.specs.Prelude.{◌≡◌, ◌≤◌, true, false, ◌&&◌, length, if◌then◌else◌};
+//! Drawing on a canvas.
+ghost use Rattle.std.specs.Prelude.{◌≡◌, ◌≤◌, true, false, not, ◌&&◌, length, if◌then◌else◌};
 ghost use Rattle.tb_geom.specs.Points.{minus};
 ghost use Rattle.tb_geom.specs.Rects.{rect_holds};
+ghost use Rattle.bit_map.specs.Images.{Image, image_holds, image_bit};
 ghost use Rattle.bit_map.specs.Modes.{mode_bit};
 ghost use Rattle.bit_map.specs.Patterns.{pattern_bit};
 ghost use Rattle.bit_blit.specs.Draws.{Draws};
 ghost use Rattle.strike_font.specs.Text.{text_holds};
 ghost use Rattle.draw_port.specs.Cuts.{cut_holds};
-ghost use Rattle.draw_port.specs.Ops.{clip_holds, op_paint};
 ghost use Rattle.draw_port.specs.Canvases.{canvas_holds, canvas_point, clipped_holds, painted_by, painted_all, pictured, SameFrame};
-ghost use Rattle.draw_port.specs.Places.{stopped};
 
+use crate::bounds::rect_from;
 use crate::canvas::Canvas;
-use crate::cut::Cut;
-use crate::kinds::{Op, Picture, Shape};
-use crate::ops::clip_holds;
+use crate::picture::Picture;
 use crate::placed::placed_within;
+use crate::rules::{Black, Painted, Seen, White};
+use crate::shapes::{Op, Shade, Shape};
 use crate::texts::draw_text;
-use bit_blit::{Ink, Rule, draw_rect};
-use bit_map::{Mode, Pattern};
+use bit_blit::{Copied, Inverse, Rule, draw_rect};
+use bit_map::{BitImage, Mode, Pattern};
 use scan_region::Region;
-use strike_font::Font;
 use tb_geom::{Point, Rect};
 
-impl<'a> Canvas<'a> {
+impl Canvas<'_> {
     /// Puts the pattern, whose origin is the canvas's own, down by the mode on the rectangle.
     pub fn fill(&mut self, rect: Rect, pattern: Pattern, mode: Mode)
         ensures same_map { self.new.map.ghost_name ≡ self.old.map.ghost_name }
@@ -32,8 +31,7 @@ impl<'a> Canvas<'a> {
             (λ p old. mode_bit mode (pattern_bit pattern (canvas_point self.old p)) old)
             self.old.map.now self.new.map.now }
     {
-        let rule = self.inked(pattern, mode);
-        draw_rect(self.map, placed_within(self.clip, rect, self.origin), &rule);
+        self.draw(rect, &Shade { pattern, mode });
     }
 
     /// Puts the pattern, whose origin is the canvas's own, down by the mode on every pixel of the
@@ -45,25 +43,42 @@ impl<'a> Canvas<'a> {
             (λ p old. mode_bit mode (pattern_bit pattern (canvas_point self.old p)) old)
             self.old.map.now self.new.map.now }
     {
-        let rule = self.inked(pattern, mode);
-        draw_rect(self.map, self.clip, &rule);
+        self.draw_within(self.clip, &Shade { pattern, mode });
     }
 
-    /// The pattern, put down by the mode from the canvas's own 0 0 where the cut allows.
-    fn inked(&self, pattern: Pattern, mode: Mode) -> Inked<'a>
-        ensures { result ≡ record { ink = record { pattern = pattern; offset = self.now.origin; mode = mode }; cut = self.now.cut } }
+    /// Inverts the rectangle.
+    pub fn invert(&mut self, rect: Rect)
+        ensures same_map { self.new.map.ghost_name ≡ self.old.map.ghost_name }
+        ensures same_frame { SameFrame self.old self.new }
+        ensures drawn { Draws (λ p. canvas_holds self.old p && rect_holds rect (canvas_point self.old p))
+            (λ _ old. not old)
+            self.old.map.now self.new.map.now }
     {
-        Inked {
-            ink: Ink {
-                pattern,
-                offset: self.origin,
-                mode,
-            },
-            cut: self.cut,
-        }
+        self.draw(rect, &Inverse);
     }
 
-    /// Puts the text down by the mode, with its pen from a point on.
+    /// Puts an image of so many columns and rows, whose top left pixel comes to lie at `place`, down by
+    /// the mode. Each of its rows takes `(width + 7) / 8` of the bytes, the high bit left; a bit for
+    /// which there are too few bytes is white.
+    pub fn bits(&mut self, place: Point, width: u16, height: u16, rows: &[u8], mode: Mode)
+        ensures same_map { self.new.map.ghost_name ≡ self.old.map.ghost_name }
+        ensures same_frame { SameFrame self.old self.new }
+        ensures drawn { let image : Image = record { width = width; height = height; rows = rows.now } in
+            Draws (λ p. canvas_holds self.old p && image_holds image (minus (canvas_point self.old p) place))
+            (λ p old. mode_bit mode (image_bit image (minus (canvas_point self.old p) place)) old)
+            self.old.map.now self.new.map.now }
+    {
+        let image = BitImage::new(width, height, rows);
+        let copied = Copied {
+            source: &image,
+            origin: place,
+            mode,
+        };
+        self.draw(rect_from(place, width, height), &copied);
+    }
+
+    /// Puts a text of at most 65535 characters down by the mode, with its pen from a point of the
+    /// baseline on. A pixel that several glyphs have is drawn once.
     pub fn text(&mut self, text: &[u8], pen: Point, mode: Mode)
         requires { length text.now ≤ 65535 }
         ensures same_map { self.new.map.ghost_name ≡ self.old.map.ghost_name }
@@ -75,7 +90,53 @@ impl<'a> Canvas<'a> {
         self.clipped_text(&None, text, pen, mode);
     }
 
-    /// The same within a clip.
+    /// Draws an operation: each pixel of the canvas gets what the operation makes of it. Only pixels in
+    /// the operation's own box are looked at; a text is drawn glyph by glyph.
+    pub fn paint(&mut self, op: &Op)
+        ensures same_map { self.new.map.ghost_name ≡ self.old.map.ghost_name }
+        ensures same_frame { SameFrame self.old self.new }
+        ensures drawn { Draws (canvas_holds self.old) (painted_by self.old op.now) self.old.map.now self.new.map.now }
+    {
+        match &op.shape {
+            Shape::Text(run) => {
+                self.clipped_text(&op.clip, run.text.as_slice(), run.pen, run.mode.mode());
+            }
+            _ => self.paint_box(op),
+        }
+    }
+
+    /// Draws the operations of a picture, one after another, over what stands there.
+    pub fn paint_all(&mut self, picture: &Picture)
+        ensures same_map { self.new.map.ghost_name ≡ self.old.map.ghost_name }
+        ensures same_frame { SameFrame self.old self.new }
+        ensures drawn { Draws (canvas_holds self.old) (painted_all self.old picture.now) self.old.map.now self.new.map.now }
+    {
+        for op in picture.ops() {
+            self.paint(op);
+        }
+    }
+
+    /// Draws a picture: each pixel of the canvas gets the picture's value, whatever stood there.
+    pub fn paint_picture(&mut self, picture: &Picture)
+        ensures same_map { self.new.map.ghost_name ≡ self.old.map.ghost_name }
+        ensures same_frame { SameFrame self.old self.new }
+        ensures drawn { Draws (canvas_holds self.old) (pictured self.old picture.now) self.old.map.now self.new.map.now }
+    {
+        self.draw_within(self.clip, &White);
+        self.paint_all(picture);
+    }
+
+    /// Draws an operation by asking it at each pixel of the box around it.
+    fn paint_box(&mut self, op: &Op)
+        ensures same_map { self.new.map.ghost_name ≡ self.old.map.ghost_name }
+        ensures same_frame { SameFrame self.old self.new }
+        ensures drawn { Draws (canvas_holds self.old) (painted_by self.old op.now) self.old.map.now self.new.map.now }
+    {
+        let font = self.font;
+        self.draw(op.bounds(font), &Painted { op, font });
+    }
+
+    /// Puts a text down within a clip, which is in the coordinates of the canvas.
     fn clipped_text(&mut self, clip: &Option<Region>, text: &[u8], pen: Point, mode: Mode)
         requires { length text.now ≤ 65535 }
         ensures same_map { self.new.map.ghost_name ≡ self.old.map.ghost_name }
@@ -85,9 +146,8 @@ impl<'a> Canvas<'a> {
             self.old.map.now self.new.map.now }
     {
         let _bounds = self.map.bounds();
-        let rule = Black {
-            mode,
-            clip,
+        let rule = Seen {
+            rule: &Black { mode, clip },
             origin: self.origin,
             cut: self.cut,
         };
@@ -102,151 +162,35 @@ impl<'a> Canvas<'a> {
         );
     }
 
-    /// Draws an operation: each pixel of the canvas that the operation has gets what the operation
-    /// makes of it. A text is drawn glyph by glyph.
-    pub fn paint(&mut self, op: &Op)
+    /// Gives each pixel of the canvas in the rectangle the value of the rule. Both are in the
+    /// coordinates of the canvas.
+    fn draw<R: Rule>(&mut self, rect: Rect, rule: &R)
         ensures same_map { self.new.map.ghost_name ≡ self.old.map.ghost_name }
         ensures same_frame { SameFrame self.old self.new }
-        ensures drawn { Draws (canvas_holds self.old) (painted_by self.old op.now) self.old.map.now self.new.map.now }
+        ensures limits { (self.old.map.now.width ≤ 32767) × (self.old.map.now.height ≤ 32767) }
+        ensures drawn { Draws (λ p. canvas_holds self.old p && rect_holds rect (canvas_point self.old p))
+            (λ p old. R.value rule.now (canvas_point self.old p) old)
+            self.old.map.now self.new.map.now }
     {
-        match &op.shape {
-            Shape::Text(run) => self.clipped_text(&op.clip, &run.text, run.pen, run.mode.mode()),
-            _ => self.paint_box(op),
-        }
+        self.draw_within(placed_within(self.clip, rect, self.origin), rule);
     }
 
-    /// Draws an operation by asking it at each pixel of the box around it.
-    fn paint_box(&mut self, op: &Op)
+    /// Gives each pixel of a rectangle that the cut leaves the value of the rule. The rectangle is in
+    /// the coordinates of the map, and the rule in those of the canvas.
+    fn draw_within<R: Rule>(&mut self, area: Rect, rule: &R)
         ensures same_map { self.new.map.ghost_name ≡ self.old.map.ghost_name }
         ensures same_frame { SameFrame self.old self.new }
-        ensures drawn { Draws (canvas_holds self.old) (painted_by self.old op.now) self.old.map.now self.new.map.now }
+        ensures limits { (self.old.map.now.width ≤ 32767) × (self.old.map.now.height ≤ 32767) }
+        ensures drawn { Draws (λ p. rect_holds area p && cut_holds self.old.cut.now p)
+            (λ p old. R.value rule.now (canvas_point self.old p) old)
+            self.old.map.now self.new.map.now }
     {
         let _bounds = self.map.bounds();
-        let area = placed_within(self.clip, op.bounds(self.font), self.origin);
-        let rule = Placed {
-            op,
-            font: self.font,
+        let seen = Seen {
+            rule,
             origin: self.origin,
             cut: self.cut,
         };
-        draw_rect(self.map, area, &rule);
-    }
-
-    /// Makes each pixel of the canvas white.
-    pub fn clear(&mut self)
-        ensures same_map { self.new.map.ghost_name ≡ self.old.map.ghost_name }
-        ensures same_frame { SameFrame self.old self.new }
-        ensures drawn { Draws (canvas_holds self.old) (λ _ _. false) self.old.map.now self.new.map.now }
-    {
-        let rule = White { cut: self.cut };
-        draw_rect(self.map, self.clip, &rule);
-    }
-
-    /// Draws operations, one after another, over what stands there.
-    pub fn paint_all(&mut self, picture: &Picture)
-        ensures same_map { self.new.map.ghost_name ≡ self.old.map.ghost_name }
-        ensures same_frame { SameFrame self.old self.new }
-        ensures drawn { Draws (canvas_holds self.old) (painted_all self.old picture.now.ops.items) self.old.map.now self.new.map.now }
-    {
-        for op in &picture.ops {
-            self.paint(op);
-        }
-    }
-
-    /// Draws a picture: each pixel of the canvas gets the picture's value, whatever stood there.
-    pub fn paint_picture(&mut self, picture: &Picture)
-        ensures same_map { self.new.map.ghost_name ≡ self.old.map.ghost_name }
-        ensures same_frame { SameFrame self.old self.new }
-        ensures drawn { Draws (canvas_holds self.old) (pictured self.old picture.now.ops.items) self.old.map.now self.new.map.now }
-    {
-        self.clear();
-        self.paint_all(picture);
-    }
-}
-
-/// An operation at its place on a map, which leaves what a cut takes away.
-#[derive(Clone, Copy)]
-struct Placed<'a> {
-    op: &'a Op,
-    font: &'a Font,
-    origin: Point,
-    cut: &'a Cut<'a>,
-}
-
-impl Rule for Placed<'_> {
-    ghost value = { λ r p old. if cut_holds r.cut.now p then op_paint r.font.now r.op.now (stopped p r.origin) old else old };
-
-    fn value(&self, point: Point, old: bool) -> bool {
-        if self.cut.holds(point) {
-            self.op
-                .paint(self.font, from_origin(point, self.origin), old)
-        } else {
-            old
-        }
-    }
-}
-
-/// Black, put down by a mode where a clip, which is in the coordinates of the origin, and a cut leave
-/// it.
-#[derive(Clone, Copy)]
-struct Black<'a> {
-    mode: Mode,
-    clip: &'a Option<Region>,
-    origin: Point,
-    cut: &'a Cut<'a>,
-}
-
-impl Rule for Black<'_> {
-    ghost value = { λ r p old. if cut_holds r.cut.now p && clip_holds r.clip.now (stopped p r.origin) then mode_bit r.mode true old else old };
-
-    fn value(&self, point: Point, old: bool) -> bool {
-        if self.cut.holds(point) && clip_holds(self.clip, from_origin(point, self.origin)) {
-            self.mode.apply(true, old)
-        } else {
-            old
-        }
-    }
-}
-
-/// An ink that leaves what a cut takes away.
-#[derive(Clone, Copy)]
-struct Inked<'a> {
-    ink: Ink,
-    cut: &'a Cut<'a>,
-}
-
-impl Rule for Inked<'_> {
-    ghost value = { λ r p old. if cut_holds r.cut.now p then mode_bit r.ink.mode (pattern_bit r.ink.pattern (minus p r.ink.offset)) old else old };
-
-    fn value(&self, point: Point, old: bool) -> bool {
-        if self.cut.holds(point) {
-            self.ink.value(point, old)
-        } else {
-            old
-        }
-    }
-}
-
-/// White, where a cut leaves it.
-#[derive(Clone, Copy)]
-struct White<'a> {
-    cut: &'a Cut<'a>,
-}
-
-impl Rule for White<'_> {
-    ghost value = { λ r p old. if cut_holds r.cut.now p then false else old };
-
-    fn value(&self, point: Point, old: bool) -> bool {
-        old && !self.cut.holds(point)
-    }
-}
-
-/// The point as seen from the origin, as far as numbers of 32 bits go.
-fn from_origin(point: Point, origin: Point) -> Point
-    ensures { result ≡ stopped point origin }
-{
-    Point {
-        h: point.h.saturating_sub(origin.h),
-        v: point.v.saturating_sub(origin.v),
+        draw_rect(self.map, area, &seen);
     }
 }

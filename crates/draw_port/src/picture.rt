@@ -1,30 +1,64 @@
-//! Pictures as lists.
-ghost use Rattle.std.specs.Prelude.{◌≡◌, ◌++◌, ◌∷◌, [], List, ℕ, Bool, nat_lt, length, IfErr, OnOk, OnErr, if◌then◌else◌};
-ghost use Rattle.tb_geom.specs.declared.point.Point.{Point};
-ghost use Rattle.draw_port.specs.declared.kinds.Op.{Op};
-ghost use Rattle.draw_port.specs.Ops.{op_paint, picture_value};
+//! Pictures: lists of operations.
+ghost use Rattle.std.specs.Prelude.{◌≡◌, ◌++◌, ◌∷◌, [], List, ℕ, Bool, nat_lt, ◌≤◌, length, IfOk, IfErr, OnOk, OnErr, if◌then◌else◌};
+ghost use Rattle.draw_port.specs.Ops.{picture_bit};
 
-use crate::kinds::{Op, Picture};
+use crate::shapes::Op;
 use std::alloc::Global;
-use tb_geom::Refusal;
+use std::marker::Model;
+use strike_font::Font;
+use tb_geom::{Point, Refusal};
+
+/// At most 1024 operations, drawn one after another from white (*Imaging With QuickDraw*,
+/// "Pictures"), each in the picture's coordinates. Contracts see the list of the operations.
+#[derive(Drop)]
+pub struct Picture {
+    ops: Vec<Op>,
+}
+
+impl Model for Picture {
+    ghost use Rattle.std.specs.Prelude.{List, ◌≤◌, length};
+    ghost use Rattle.std.specs.Coded.{coded_list};
+    ghost use Rattle.draw_port.specs.declared.shapes.Op.{Op};
+    ghost use Rattle.draw_port.specs.contracts.shapes.Op as op;
+
+    ghost Value = { List Op };
+
+    ghost coded = { coded_list op.the_row.coded };
+
+    ghost view = { λ p. p.ops.items };
+
+    ghost invariant = { λ p. length p.ops.items ≤ 1024 };
+}
 
 impl Picture {
-    /// The picture of no operation, which is white.
+    /// The picture of no operation, which is white. It takes no memory.
     pub fn new(alloc: Global) -> Picture
-        ensures { result.ops.items ≡ [] }
+        ensures { result ≡ [] }
     {
         Picture {
             ops: Vec::new(alloc),
         }
     }
 
+    /// An equal picture. It refuses only for want of memory.
+    pub fn copy(&self, alloc: Global) -> Result<Picture, Refusal>
+        ensures same { IfOk result (λ picture. picture ≡ self.now) }
+        ensures refused { IfErr result (λ e. e ≡ Refusal.NoMemory) }
+    {
+        let mut ops = Vec::with_capacity(alloc, self.ops.len())?;
+        for op in &self.ops {
+            ops.push(op.copy(alloc)?)?;
+        }
+        Ok(Picture { ops })
+    }
+
     /// Adds an operation, to be drawn last. TooMany exactly where there are 1024 already; else it
     /// refuses only for want of memory. A refused operation is let go, and the picture stays.
     pub fn push(&mut self, op: Op) -> Result<(), Refusal>
-        ensures added { OnOk result (self.new.ops.items ≡ self.old.ops.items ++ op ∷ []) }
-        ensures kept { OnErr result (self.new.ops.items ≡ self.old.ops.items) }
+        ensures added { OnOk result (self.new ≡ self.old ++ op ∷ []) }
+        ensures kept { OnErr result (self.new ≡ self.old) }
         ensures refused { IfErr result (λ e.
-            e ≡ (if nat_lt (length self.old.ops.items) 1024 then Refusal.NoMemory else Refusal.TooMany)) }
+            e ≡ (if nat_lt (length self.old) 1024 then Refusal.NoMemory else Refusal.TooMany)) }
     {
         if self.ops.len() >= 1024 {
             return Err(Refusal::TooMany);
@@ -32,11 +66,30 @@ impl Picture {
         self.ops.push(op)?;
         Ok(())
     }
-}
 
-/// One more operation makes its bit of what those before it made.
-#[tactic(auto, using(crate::proofs::PictureLemmas::one_more))]
-pub fn operations_go_on()
-    ensures { (font : List ℕ) (ops : List Op) (op : Op) (p : Point) (d : Bool)
-        → picture_value font (ops ++ op ∷ []) p d ≡ op_paint font op p (picture_value font ops p d) }
-{}
+    /// Lets every operation go: the picture is white.
+    pub fn clear(&mut self)
+        ensures { self.new ≡ [] }
+    {
+        self.ops.clear();
+    }
+
+    /// The operations, the first drawn first.
+    pub fn ops(&self) -> &[Op]
+        ensures same { result.now ≡ self.now }
+        ensures short { length result.now ≤ 1024 }
+    {
+        self.ops.as_slice()
+    }
+
+    /// The value of the picture at a point in its own coordinates, in a font: whether it is black.
+    pub fn bit(&self, font: &Font, point: Point) -> bool
+        ensures { result ≡ picture_bit font.now self.now point }
+    {
+        let mut bit = false;
+        for op in &self.ops {
+            bit = op.value(font, point, bit);
+        }
+        bit
+    }
+}

@@ -3,4 +3,4 @@ use Rattle.draw_port.proofs.canvas.Canvas.paint.Goals as goal
 
 pub returns-in-Text-clause-drawn : goal.returns-in-Text-clause-drawn
 returns-in-Text-clause-drawn c =
-    text_painted c.args.self.now c.args.op.now c.in-Text.run' c.deref.result.now c.mode.result _ _ c.in-Text.is c.deref.ensures.0 c.mode.ensures c.clipped_text.ensures.drawn
+    text_painted c.args.self.now c.args.op.now c.in-Text.run' c.as_slice.result.now c.mode.result _ _ c.in-Text.is c.as_slice.ensures.same c.mode.ensures c.clipped_text.ensures.drawn

@@ -7,5 +7,5 @@ abbrev pub invariant-loop-op : goal.invariant-loop-op
 invariant-loop-op l = record {
   same_map : l.self.map.ghost_name ≡ l.fn.self.map.ghost_name;
   same_frame : SameFrame l.fn.self l.self;
-  drawn : Draws (canvas_holds l.fn.self) (painted_all l.fn.self (take l.op-index l.picture.ops.items)) l.fn.self.map.now l.self.map.now;
+  drawn : Draws (canvas_holds l.fn.self) (painted_all l.fn.self (take l.op-index l.picture)) l.fn.self.map.now l.self.map.now;
 }

@@ -4,5 +4,5 @@ use Rattle.draw_port.proofs.canvas.Canvas.paint_box.Goals as goal
 pub returns-clause-drawn : goal.returns-clause-drawn
 returns-clause-drawn c =
     let canvas = c.args.self.now in
-    let limits = c.bounds-bounds.ensures.limits in
-    op_drawn canvas c.args.op.now c.bounds.result c.placed_within-area.result _ _ limits.0 limits.1 canvas.near c.bounds.ensures c.placed_within-area.ensures c.draw_rect.ensures
+    let limits = c.draw.ensures.limits in
+    op_drawn canvas c.args.op.now c.bounds.result _ _ limits.0 limits.1 canvas.near c.bounds.ensures c.draw.ensures.drawn

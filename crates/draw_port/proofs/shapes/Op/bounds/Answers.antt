@@ -1,6 +1,6 @@
 use Rattle.draw_port.specs.Ops.{clip_holds, shape_holds, op_holds}
 use Rattle.draw_port.proofs.PlacedLemmas.{Encloses-sect}
-use Rattle.draw_port.proofs.kinds.Op.bounds.Goals as goal
+use Rattle.draw_port.proofs.shapes.Op.bounds.Goals as goal
 
 pub returns : goal.returns
 unfolding op_holds

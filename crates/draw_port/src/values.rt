@@ -4,9 +4,9 @@ ghost use Rattle.tb_geom.specs.Points.{minus};
 ghost use Rattle.tb_geom.specs.Rects.{between, rect_holds};
 ghost use Rattle.bit_map.specs.Images.{image_holds, image_bit};
 ghost use Rattle.bit_map.specs.Modes.{mode_bit};
-ghost use Rattle.draw_port.specs.Ops.{is_end, frame_holds, row_holds, column_holds, run_holds, image_of, text_mode, shade_value, shape_holds, shape_value, clip_holds, op_paint, picture_value};
+ghost use Rattle.draw_port.specs.Ops.{is_end, frame_holds, row_holds, column_holds, run_holds, image_of, text_mode, shade_value, shape_holds, shape_value, clip_holds, op_value};
 
-use crate::kinds::{Line, Op, Picture, RowsOfBits, Shade, Shape, TextMode, TextRun};
+use crate::shapes::{Line, Op, RowsOfBits, Shade, Shape, TextMode, TextRun};
 use bit_blit::{Copied, Rule};
 use bit_map::{BitImage, Mode};
 use scan_region::Region;
@@ -52,17 +52,18 @@ impl Line {
     }
 }
 
-impl Shade {
-    /// The new bit at a point, of the old one.
-    fn value(self, point: Point, old: bool) -> bool
-        ensures { result ≡ shade_value self point old }
-    {
+impl Rule for Shade {
+    ghost value = { shade_value };
+
+    fn value(&self, point: Point, old: bool) -> bool {
         self.mode.apply(self.pattern.bit(point), old)
     }
+}
 
-    /// The same where `held`.
-    fn value_where(self, held: bool, point: Point, old: bool) -> bool
-        ensures { result ≡ cond held (shade_value self point old) old }
+impl Shade {
+    /// The new bit where `held`, and the old one elsewhere.
+    fn value_where(&self, held: bool, point: Point, old: bool) -> bool
+        ensures { result ≡ cond held (shade_value self.now point old) old }
     {
         if held { self.value(point, old) } else { old }
     }
@@ -86,11 +87,11 @@ impl TextRun {
     fn contains(&self, font: &Font, point: Point) -> bool
         ensures { result ≡ run_holds font.now self.now point }
     {
-        font.text_pixel(&self.text, self.pen, point)
+        font.text_pixel(self.text.as_slice(), self.pen, point)
     }
 
-    /// The new bit at a point.
-    fn paint(&self, font: &Font, point: Point, old: bool) -> bool
+    /// The new bit at a point, of the old one.
+    fn value(&self, font: &Font, point: Point, old: bool) -> bool
         ensures { result ≡ cond (run_holds font.now self.now point) (mode_bit (text_mode self.now.mode) true old) old }
     {
         if self.contains(font, point) {
@@ -102,12 +103,12 @@ impl TextRun {
 }
 
 impl RowsOfBits {
-    /// The new bit at a point.
-    fn paint(&self, point: Point, old: bool) -> bool
+    /// The new bit at a point, of the old one.
+    fn value(&self, point: Point, old: bool) -> bool
         ensures { result ≡ cond (image_holds (image_of self.now) (minus point self.now.place))
             (mode_bit self.now.mode (image_bit (image_of self.now) (minus point self.now.place)) old) old }
     {
-        let image = BitImage::new(self.width, self.height, &self.rows);
+        let image = BitImage::new(self.width, self.height, self.rows.as_slice());
         let copied = Copied {
             source: &image,
             origin: self.place,
@@ -133,7 +134,7 @@ fn inverted(rect: Rect, point: Point, old: bool) -> bool
 
 impl Shape {
     /// The new bit at a point, of the old one.
-    fn paint(&self, font: &Font, point: Point, old: bool) -> bool
+    fn value(&self, font: &Font, point: Point, old: bool) -> bool
         ensures { result ≡ cond (shape_holds font.now self.now point) (shape_value self.now point old) old }
     {
         match self {
@@ -143,8 +144,8 @@ impl Shape {
             Shape::Frame(rect, shade) => shade.value_where(frame_holds(*rect, point), point, old),
             Shape::HLine(line, shade) => shade.value_where(line.row_holds(point), point, old),
             Shape::VLine(line, shade) => shade.value_where(line.column_holds(point), point, old),
-            Shape::Text(run) => run.paint(font, point, old),
-            Shape::Bits(rows) => rows.paint(point, old),
+            Shape::Text(run) => run.value(font, point, old),
+            Shape::Bits(rows) => rows.value(point, old),
             Shape::FillRgn(region, shade) => shade.value_where(region.contains(point), point, old),
         }
     }
@@ -162,27 +163,14 @@ pub fn clip_holds(clip: &Option<Region>, point: Point) -> bool
 
 impl Op {
     /// What the operation makes of the bit at a point.
-    #[tactic(auto, unfolding(crate::specs::Ops::op_holds, crate::specs::Ops::op_paint))]
-    pub fn paint(&self, font: &Font, point: Point, old: bool) -> bool
-        ensures { result ≡ op_paint font.now self.now point old }
+    #[tactic(auto, unfolding(crate::specs::Ops::op_holds, crate::specs::Ops::op_value))]
+    pub fn value(&self, font: &Font, point: Point, old: bool) -> bool
+        ensures { result ≡ op_value font.now self.now point old }
     {
         if clip_holds(&self.clip, point) {
-            self.shape.paint(font, point, old)
+            self.shape.value(font, point, old)
         } else {
             old
         }
-    }
-}
-
-impl Picture {
-    /// What the operations make of the bit at a point, one after another.
-    pub fn value(&self, font: &Font, point: Point, old: bool) -> bool
-        ensures { result ≡ picture_value font.now self.now.ops.items point old }
-    {
-        let mut bit = old;
-        for op in &self.ops {
-            bit = op.paint(font, point, bit);
-        }
-        bit
     }
 }

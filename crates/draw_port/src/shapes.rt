@@ -1,18 +1,19 @@
 //! What operations are made of.
 
-use arrayvec::ArrayVec;
+use crate::bytes::{Bytes, ShortText};
 use bit_map::{Mode, Pattern};
 use scan_region::Region;
 use tb_geom::{Point, Rect};
 
-/// A pattern, whose origin is that of the operation's coordinates, put down by a mode.
+/// A pattern, whose origin is that of the operation's coordinates, put down by a mode (*Inside
+/// Macintosh* I, "QuickDraw", "Patterns" and "Transfer Modes").
 #[derive(Clone, Copy, Debug, PartialEq, Eq)]
 pub struct Shade {
     pub pattern: Pattern,
     pub mode: Mode,
 }
 
-/// Pixels in a row, from a point on to the right or down.
+/// So many pixels in a row, from a point on to the right or down.
 #[derive(Clone, Copy, Debug, PartialEq, Eq)]
 pub struct Line {
     pub start: Point,
@@ -27,29 +28,32 @@ pub enum TextMode {
     Bic,
 }
 
-/// A text, from a point of its baseline on.
+/// A text, whose pen starts at a point of its baseline.
 #[derive(Debug, Drop)]
 pub struct TextRun {
     pub pen: Point,
     pub mode: TextMode,
-    pub text: ArrayVec<u8, 255>,
+    pub text: ShortText,
 }
 
-/// An image of its own bytes, with its top left pixel at a point.
+/// An image, with its top left pixel at a point, put down by a mode. Each row takes `(width + 7) / 8`
+/// of the bytes, the high bit left (*Inside Macintosh* I, "QuickDraw", "Bit Images"); a bit for which
+/// there are too few bytes is white.
 #[derive(Debug, Drop)]
 pub struct RowsOfBits {
     pub place: Point,
     pub width: u16,
     pub height: u16,
     pub mode: Mode,
-    pub rows: Vec<u8>,
+    pub rows: Bytes,
 }
 
-/// What an operation draws.
+/// What an operation draws. The shape may reach past every bound.
 #[derive(Drop)]
 pub enum Shape {
-    /// White.
+    /// The rectangle in white.
     Erase(Rect),
+    /// The rectangle in the other color of each pixel.
     Invert(Rect),
     Fill(Rect, Shade),
     /// The outermost pixels of the rectangle.
@@ -63,15 +67,11 @@ pub enum Shape {
     FillRgn(Region, Shade),
 }
 
-/// A shape, and the pixels outside which it does not draw.
+/// A drawing operation: a shape, and the pixels outside which it does not draw. Both are in the
+/// coordinates of the picture or canvas that it is for.
 #[derive(Drop)]
 pub struct Op {
+    /// Nothing is cut away where there is none.
     pub clip: Option<Region>,
     pub shape: Shape,
-}
-
-/// Operations, drawn one after another from white.
-#[derive(Drop)]
-pub struct Picture {
-    pub ops: Vec<Op>,
 }

@@ -1,5 +1,0 @@
-use Rattle.draw_port.proofs.GlyphLemmas.{shape-around}
-use Rattle.draw_port.proofs.kinds.Shape.bounds.Goals as goal
-
-pub returns-in-Text : goal.returns-in-Text
-returns-in-Text c = shape-around c.args.font.now _ c.args.self.now c.in-Text.run' c.deref.result.now c.in-Text.is c.deref.ensures.0 c.text_bounds.ensures
