@@ -1,5 +1,5 @@
 -- One operation after another on a canvas.
-use Rattle.std.proofs.Common.{◌≡◌, ℕ, Option, ◌+◌, ◌<◌, ◌≤◌, ℤ, pos, negsuc, ◌-ℤ◌, ◌≤ℤ◌, ◌+ℤ◌, nat_abs, Bool, true, false, not, ◌&&◌, cond, List, length, take, get_or, refl, sym, ap, subst, if◌then◌else◌, ◌∙◌, arith, w32}
+use Rattle.std.proofs.Common.{◌≡◌, ℕ, ◌+◌, ◌<◌, ◌≤◌, ℤ, pos, negsuc, ◌-ℤ◌, ◌≤ℤ◌, ◌+ℤ◌, nat_abs, Bool, true, false, not, ◌&&◌, cond, List, length, take, get_or, refl, sym, ap, subst, if◌then◌else◌, ◌∙◌, arith, w32}
 use Rattle.std.specs.Int.{saturate_signed}
 use Rattle.std.proofs.lemmas.Int.{ints, clamps}
 use Rattle.std.proofs.lemmas.List.Sums.{fold_more}
@@ -25,8 +25,6 @@ use Rattle.draw_port.specs.declared.shapes.Op.{Op}
 use Rattle.draw_port.specs.declared.shapes.TextRun.{TextRun}
 use Rattle.draw_port.specs.declared.shapes.Shape.{Shape}
 use Rattle.draw_port.specs.declared.shapes.Shape.TheVariants.{Text}
-use Rattle.tb_geom.specs.Pixels.{Pixels}
-use Rattle.strike_font.specs.Text.{text_holds}
 
 both : (a b : Bool) → (a && b) ≡ true → (a ≡ true) × (b ≡ true)
 both true b e = (refl, e)
@@ -127,26 +125,6 @@ bits_drawn c box made image place mode old new w h near is_made around drawn =
 
 -- ---- texts
 
--- a text that is drawn on the clip, and left alone where a clip of its own or the cut takes it away, is drawn on the canvas
-pub text_drawn : (c : Canvas) (clip : Option Pixels) (text : List ℕ) (pen : Point) (mode : Mode) (old new : Bits) → old.width ≤ 32767 → old.height ≤ 32767 → is_near c.origin ≡ true
-    → Draws (λ p. rect_holds c.clip p && text_holds c.font.now text pen (minus p c.origin)) (λ p d. if cut_holds c.cut.now p then (if clip_holds clip (stopped p c.origin) then mode_bit mode true d else d) else d) old new
-    → Draws (clipped_holds c clip text pen) (λ p d. mode_bit mode true d) old new
-text_drawn c clip text pen mode old new w h near drawn = Draws-same _ _ _ _ old new one drawn
-  where
-    table : (k t u l : Bool) (x d : Bool) → cond (k && t) (cond u (cond l x d) d) d ≡ cond ((k && u) && (l && t)) x d
-    table true true true true x d = refl
-    table true true true false x d = refl
-    table true true false l x d = refl
-    table true false true true x d = refl
-    table true false true false x d = refl
-    table true false false l x d = refl
-    table false t u l x d = refl
-
-    one : (p : Point) (d : Bool) → on_map old p ≡ true → cond (rect_holds c.clip p && text_holds c.font.now text pen (minus p c.origin)) (if cut_holds c.cut.now p then (if clip_holds clip (stopped p c.origin) then mode_bit mode true d else d) else d) d ≡ cond (clipped_holds c clip text pen p) (mode_bit mode true d) d
-    one p d on =
-        ap (λ q. cond (rect_holds c.clip p && text_holds c.font.now text pen (minus p c.origin)) (if cut_holds c.cut.now p then (if clip_holds clip q then mode_bit mode true d else d) else d) d) (stopped-near old p c.origin w h near on)
-        ∙ table (rect_holds c.clip p) (text_holds c.font.now text pen (minus p c.origin)) (cut_holds c.cut.now p) (clip_holds clip (minus p c.origin)) (mode_bit mode true d) d
-
 -- an operation that is a text is painted where the text is drawn
 pub text_painted : (c : Canvas) (op : Op) (t : TextRun) (text : List ℕ) (mode : Mode) (old new : Bits) → op.shape ≡ Text t → text ≡ t.text → mode ≡ text_mode t.mode
     → Draws (clipped_holds c op.clip text t.pen) (λ p d. mode_bit mode true d) old new
@@ -162,6 +140,9 @@ text_painted c op t text mode old new is_shape is_text is_mode drawn = Draws-sam
     one p d s e = rw (e, is_text, is_mode) (table (canvas_holds c p) (clip_holds op.clip (canvas_point c p) && run_holds c.font.now t (canvas_point c p)) (mode_bit (text_mode t.mode) true d) d)
 
 -- ---- one operation after another
+
+pub SameFrame-none : (a : Canvas) → SameFrame a a
+SameFrame-none a = record { clip = refl; origin = refl; cut = refl; font = refl }
 
 pub SameFrame-then : (a b c : Canvas) → SameFrame a b → SameFrame b c → SameFrame a c
 SameFrame-then a b c f g = record { clip = g.clip ∙ f.clip; origin = g.origin ∙ f.origin; cut = g.cut ∙ f.cut; font = g.font ∙ f.font }

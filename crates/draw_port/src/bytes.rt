@@ -7,7 +7,7 @@ use std::marker::Model;
 use tb_geom::Refusal;
 
 /// Rows of bits, as many bytes as there are. Contracts see the list of the bytes.
-#[derive(Debug, Drop)]
+#[derive(Drop)]
 pub struct Bytes {
     bytes: Vec<u8>,
 }
@@ -40,7 +40,7 @@ impl Bytes {
 
 /// A text of at most 255 characters, each of one byte. It lies in place and takes no memory. Contracts
 /// see the list of the bytes.
-#[derive(Debug, Drop)]
+#[derive(Drop)]
 pub struct ShortText {
     characters: ArrayVec<u8, 255>,
 }

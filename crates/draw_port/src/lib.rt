@@ -29,4 +29,3 @@ pub use canvas::Canvas;
 pub use cut::Cut;
 pub use picture::Picture;
 pub use shapes::{Line, Op, RowsOfBits, Shade, Shape, TextMode, TextRun};
-pub use texts::draw_text;

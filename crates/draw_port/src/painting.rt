@@ -8,18 +8,16 @@ ghost use Rattle.bit_map.specs.Patterns.{pattern_bit};
 ghost use Rattle.bit_blit.specs.Draws.{Draws};
 ghost use Rattle.strike_font.specs.Text.{text_holds};
 ghost use Rattle.draw_port.specs.Cuts.{cut_holds};
-ghost use Rattle.draw_port.specs.Canvases.{canvas_holds, canvas_point, clipped_holds, painted_by, painted_all, pictured, SameFrame};
+ghost use Rattle.draw_port.specs.Canvases.{canvas_holds, canvas_point, painted_by, painted_all, pictured, SameFrame};
 
 use crate::bounds::rect_from;
 use crate::canvas::Canvas;
 use crate::picture::Picture;
 use crate::placed::placed_within;
-use crate::rules::{Black, Painted, Seen, White};
+use crate::rules::{Painted, Seen, White};
 use crate::shapes::{Op, Shade, Shape};
-use crate::texts::draw_text;
 use bit_blit::{Copied, Inverse, Rule, draw_rect};
 use bit_map::{BitImage, Mode, Pattern};
-use scan_region::Region;
 use tb_geom::{Point, Rect};
 
 impl Canvas<'_> {
@@ -133,38 +131,12 @@ impl Canvas<'_> {
         ensures drawn { Draws (canvas_holds self.old) (painted_by self.old op.now) self.old.map.now self.new.map.now }
     {
         let font = self.font;
-        self.draw(op.bounds(font), &Painted { op, font });
-    }
-
-    /// Puts a text down within a clip, which is in the coordinates of the canvas.
-    fn clipped_text(&mut self, clip: &Option<Region>, text: &[u8], pen: Point, mode: Mode)
-        requires { length text.now ≤ 65535 }
-        ensures same_map { self.new.map.ghost_name ≡ self.old.map.ghost_name }
-        ensures same_frame { SameFrame self.old self.new }
-        ensures drawn { Draws (clipped_holds self.old clip.now text.now pen)
-            (λ p old. mode_bit mode true old)
-            self.old.map.now self.new.map.now }
-    {
-        let _bounds = self.map.bounds();
-        let rule = Seen {
-            rule: &Black { mode, clip },
-            origin: self.origin,
-            cut: self.cut,
-        };
-        draw_text(
-            self.map,
-            self.clip,
-            self.font,
-            text,
-            pen,
-            self.origin,
-            &rule,
-        );
+        self.draw(op.bounds(), &Painted { op, font });
     }
 
     /// Gives each pixel of the canvas in the rectangle the value of the rule. Both are in the
     /// coordinates of the canvas.
-    fn draw<R: Rule>(&mut self, rect: Rect, rule: &R)
+    pub(crate) fn draw<R: Rule>(&mut self, rect: Rect, rule: &R)
         ensures same_map { self.new.map.ghost_name ≡ self.old.map.ghost_name }
         ensures same_frame { SameFrame self.old self.new }
         ensures limits { (self.old.map.now.width ≤ 32767) × (self.old.map.now.height ≤ 32767) }

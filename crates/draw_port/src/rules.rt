@@ -1,22 +1,18 @@
 //! The rules by which a canvas is drawn on.
 ghost use Rattle.std.specs.Prelude.{◌≡◌, true, false, if◌then◌else◌};
-ghost use Rattle.bit_map.specs.Modes.{mode_bit};
 ghost use Rattle.draw_port.specs.Cuts.{cut_holds};
-ghost use Rattle.draw_port.specs.Ops.{clip_holds, op_value};
+ghost use Rattle.draw_port.specs.Ops.{op_value};
 ghost use Rattle.draw_port.specs.Places.{stopped};
 
 use crate::cut::Cut;
 use crate::shapes::Op;
-use crate::values::clip_holds;
 use bit_blit::Rule;
-use bit_map::Mode;
-use scan_region::Region;
 use strike_font::Font;
 use tb_geom::Point;
 
 /// A rule in the coordinates of an origin on a map, as a rule of the map. It leaves what a cut takes
 /// away.
-#[derive(Clone, Copy)]
+#[derive(Drop)]
 pub struct Seen<'a, R> {
     pub rule: &'a R,
     pub origin: Point,
@@ -57,25 +53,6 @@ impl Rule for Painted<'_> {
 
     fn value(&self, point: Point, old: bool) -> bool {
         self.op.value(self.font, point, old)
-    }
-}
-
-/// Black, put down by a mode where a clip leaves it.
-#[derive(Clone, Copy)]
-pub struct Black<'a> {
-    pub mode: Mode,
-    pub clip: &'a Option<Region>,
-}
-
-impl Rule for Black<'_> {
-    ghost value = { λ r p old. if clip_holds r.clip.now p then mode_bit r.mode true old else old };
-
-    fn value(&self, point: Point, old: bool) -> bool {
-        if clip_holds(self.clip, point) {
-            self.mode.apply(true, old)
-        } else {
-            old
-        }
     }
 }
 

@@ -29,7 +29,7 @@ pub enum TextMode {
 }
 
 /// A text, whose pen starts at a point of its baseline.
-#[derive(Debug, Drop)]
+#[derive(Drop)]
 pub struct TextRun {
     pub pen: Point,
     pub mode: TextMode,
@@ -39,7 +39,7 @@ pub struct TextRun {
 /// An image, with its top left pixel at a point, put down by a mode. Each row takes `(width + 7) / 8`
 /// of the bytes, the high bit left (*Inside Macintosh* I, "QuickDraw", "Bit Images"); a bit for which
 /// there are too few bytes is white.
-#[derive(Debug, Drop)]
+#[derive(Drop)]
 pub struct RowsOfBits {
     pub place: Point,
     pub width: u16,

@@ -5,4 +5,4 @@ pub returns-clause-drawn : goal.returns-clause-drawn
 returns-clause-drawn c =
     let canvas = c.args.self.now in
     let limits = c.draw.ensures.limits in
-    op_drawn canvas c.args.op.now c.bounds.result _ _ limits.0 limits.1 canvas.near c.bounds.ensures c.draw.ensures.drawn
+    op_drawn canvas c.args.op.now c.bounds.result _ _ limits.0 limits.1 canvas.near (c.bounds.ensures canvas.font.now) c.draw.ensures.drawn

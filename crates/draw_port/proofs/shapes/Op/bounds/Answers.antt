@@ -4,4 +4,4 @@ use Rattle.draw_port.proofs.shapes.Op.bounds.Goals as goal
 
 pub returns : goal.returns
 unfolding op_holds
-returns c = Encloses-sect c.sect.result c.clip_bounds.result c.bounds.result (λ p. clip_holds c.args.self.now.clip p) (λ p. shape_holds c.args.font.now c.args.self.now.shape p) c.sect.ensures.pixels c.clip_bounds.ensures c.bounds.ensures
+returns c = λ font. Encloses-sect c.sect.result c.clip_bounds.result c.bounds.result (λ p. clip_holds c.args.self.now.clip p) (λ p. shape_holds font c.args.self.now.shape p) c.sect.ensures.pixels c.clip_bounds.ensures (c.bounds.ensures font)
