@@ -2,8 +2,9 @@
 //! words of the contracts are QuickDraw's. Expected values are tables and pictures written by hand, or come from slow
 //! programs over single pixels, and never from the libraries.
 //!
-//! `geometry` tests `tb_geom`, `maps` tests `bit_map`, `regions` tests `scan_region`, and `blits` tests `bit_blit`.
-//! `pixels` has what they compare with, and `sheet` what they draw on.
+//! `geometry` tests `tb_geom`, `maps` tests `bit_map`, `regions` tests `scan_region`, and `blits` tests `bit_blit`. Of
+//! `draw_port`, `pictures` tests operations, one after another, and `canvases` the calls of a canvas and of pictures.
+//! `pixels` has what they compare with, and `sheet` and `images` what they draw on.
 #![tactic(auto)]
 
 pub mod pixels;
@@ -33,8 +34,14 @@ macro_rules! point {
 #[cfg(test)]
 mod blits;
 #[cfg(test)]
+mod canvases;
+#[cfg(test)]
 mod geometry;
 #[cfg(test)]
+mod images;
+#[cfg(test)]
 mod maps;
+#[cfg(test)]
+mod pictures;
 #[cfg(test)]
 mod regions;
