@@ -149,3 +149,21 @@ fn the_built_in_font(rt: HostRuntime) -> Result<(), Fail> {
     assert!(rt; font.ascent() == 7 && font.descent() == 1 && font.width(b"Hgy~!") == 30);
     Ok(())
 }
+
+#[test]
+fn the_box_of_a_glyph(rt: HostRuntime) -> Result<(), Fail> {
+    let record = with_word(with_word(SMALL, 4, 0xFFFE), 18, 0x0103);
+    let font = Font::from_bytes(rt.alloc(), &record)?;
+    assert!(rt; font.height() == 2 && font.kern() == -2);
+    let sides = Rect {
+        left: 9,
+        top: -2,
+        right: 11,
+        bottom: 0,
+    };
+    assert!(rt; font.glyph_rect(font.glyph(b'A'), 10) == sides);
+    assert!(rt;
+        font.text_bit(b"AA", -1, -2) && !font.text_bit(b"AA", -2, -2) && font.text_bit(b"AA", 3, -1)
+    );
+    Ok(())
+}
