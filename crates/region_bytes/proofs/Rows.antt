@@ -21,12 +21,12 @@ above_out (row ∷ rows) h v all =
 canonical_tail : (row : PointRow) (rows : List PointRow) → ArePointRows (row ∷ rows) → ArePointRows rows
 canonical_tail row rows c = record { rising = rising_tail row.0 (map top_of rows) c.rising; each = All-tail IsPointRow row rows c.each }
 
-differ-false : (b : Bool) → differ b false ≡ b
+pub differ-false : (b : Bool) → differ b false ≡ b
 differ-false true = refl
 differ-false false = refl
 
 -- at its first row a region has that row's pixels, and above it none
-first_row : (row : PointRow) (rows : List PointRow) (h : ℤ) → ArePointRows (row ∷ rows) → in_rows (row ∷ rows) h row.0 ≡ inside row.1 h
+pub first_row : (row : PointRow) (rows : List PointRow) (h : ℤ) → ArePointRows (row ∷ rows) → in_rows (row ∷ rows) h row.0 ≡ inside row.1 h
 unfolding in_rows
 first_row row rows h c =
     (λ i. differ (int_le-true row.0 row.0 (omega (arith, ints)) i && inside row.1 h) (above_out rows h row.0 (rising_head row.0 (map top_of rows) c.rising) i)) ∙ differ-false _
@@ -37,7 +37,7 @@ above_first row rows h v c l =
     (λ i. differ (int_le-false row.0 v l i && inside row.1 h) (above_out rows h v (λ k n. let f = rising_head row.0 (map top_of rows) c.rising k n in omega (arith, ints)) i))
 
 -- a good row has a pixel
-some_pixel : (row : PointRow) → IsPointRow row → ((h : ℤ) → inside row.1 h ≡ false) → ⊥
+pub some_pixel : (row : PointRow) → IsPointRow row → ((h : ℤ) → inside row.1 h ≡ false) → ⊥
 some_pixel (v, []) g e = absurd (omega (arith, g.some))
 some_pixel (v, x ∷ xs) g e = true≢false (sym (first_in x xs g.rising) ∙ e x)
 
