@@ -13,7 +13,8 @@ use Rattle.tb_geom.specs.declared.rect.Rect.{Rect}
 use Rattle.region_bytes.specs.Edges.{differ, inside, is_odd, IsCoordinate}
 use Rattle.region_bytes.specs.Points.{PointRow, points_of, row_points, in_rows, IsPointRow, IsCanonical, IsInRange}
 use Rattle.region_bytes.specs.Words.{grown, box_of, box_words, data_words, row_words, is_short, words_of, word_bytes, bytes_of}
-use Rattle.region_bytes.specs.Writing.{IsBoxOfCoordinates}
+use Rattle.region_bytes.specs.Writing.{IsWritten, AreWritten, IsBoxOfCoordinates}
+use Rattle.region_bytes.specs.declared.writing.RegionWriter.{RegionWriter}
 use Rattle.region_bytes.proofs.Edges.{int_le-true, rising_head, same_edges}
 use Rattle.region_bytes.proofs.Rows.{inverted-points_of, first_row, some_pixel}
 
@@ -218,3 +219,22 @@ box_words-unwrapped (Some q) r e = sym (ap (λ (q : Rect). q.top ∷ q.left ∷ 
 
 pub four_pieces : (before a b c d : List ℕ) → (((before ++ a) ++ b) ++ c) ++ d ≡ before ++ (a ++ (b ++ (c ++ (d ++ []))))
 four_pieces before a b c d = simp (append_assoc, append-nil)
+
+-- ---- one more row
+
+pub points_of-push : (rows : List PointRow) (row : PointRow) → points_of (rows ++ row ∷ []) ≡ points_of rows ++ row_points row
+unfolding points_of
+points_of-push [] row = append-nil _
+points_of-push (r ∷ rows) row = ap (λ l. row_points r ++ l) (points_of-push rows row) ∙ sym (append_assoc (row_points r) (points_of rows) (row_points row))
+
+row_pieces : (words columns : List ℤ) (v : ℤ) → ((words ++ v ∷ []) ++ columns) ++ pos 32767 ∷ [] ≡ words ++ row_words (v, columns)
+row_pieces words columns v = ap (λ l. l ++ pos 32767 ∷ []) (append_assoc words (v ∷ []) columns) ∙ append_assoc words (v ∷ columns) (pos 32767 ∷ [])
+
+-- the place, the columns and the end of a row are that row
+pub AreWritten-push : (out : RegionWriter) (rows : List PointRow) (v : ℤ) (columns : List ℤ) → IsWritten out (((flat_map row_words rows ++ v ∷ []) ++ columns) ++ pos 32767 ∷ []) (points_of rows ++ row_points (v, columns)) → AreWritten out (rows ++ (v, columns) ∷ [])
+AreWritten-push out rows v columns s =
+    let words : ((flat_map row_words rows ++ v ∷ []) ++ columns) ++ pos 32767 ∷ [] ≡ flat_map row_words (rows ++ (v, columns) ∷ []) =
+    row_pieces (flat_map row_words rows) columns v
+    ∙ ap (λ l. flat_map row_words rows ++ l) (sym (append-nil (row_words (v, columns))))
+    ∙ sym (flat_map-append row_words rows ((v, columns) ∷ [])) in
+    subst (λ ws. IsWritten out ws (points_of (rows ++ (v, columns) ∷ []))) words (subst (IsWritten out (((flat_map row_words rows ++ v ∷ []) ++ columns) ++ pos 32767 ∷ [])) (sym (points_of-push rows (v, columns))) s)

@@ -135,17 +135,17 @@ fn push_box(bytes: &mut Vec<u8>, bounds: Option<Rect>) -> Result<(), AllocError>
     push_word(bytes, bounds.right)
 }
 
-/// The size, the box and the data.
-fn with_head(alloc: Global, bounds: Option<Rect>, data: &[u8]) -> Result<Vec<u8>, AllocError>
+/// The bytes of the size and of the box, and those of data.
+fn with_head(alloc: Global, bounds: Option<Rect>, body: &[u8]) -> Result<Vec<u8>, AllocError>
     requires box_in { IsBoxOfCoordinates bounds }
-    requires fits { length data.now ≤ 32756 }
+    requires fits { length body.now ≤ 32756 }
     ensures { IfOk result (λ bytes. bytes.items
-        ≡ word_bytes (pos (10 + length data.now)) ++ (flat_map word_bytes (box_words bounds) ++ data.now)) }
+        ≡ word_bytes (pos (10 + length body.now)) ++ (flat_map word_bytes (box_words bounds) ++ body.now)) }
 {
-    let size = 10 + data.len();
+    let size = 10 + body.len();
     let mut bytes = Vec::with_capacity(alloc, size)?;
     push_word(&mut bytes, size as i32)?;
     push_box(&mut bytes, bounds)?;
-    bytes.extend_from_slice(data)?;
+    bytes.extend_from_slice(body)?;
     Ok(bytes)
 }

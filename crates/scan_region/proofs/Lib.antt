@@ -13,3 +13,5 @@ pub mod FoundRow
 pub mod OneScan
 pub mod Shared
 pub mod Around
+pub mod Inverted
+pub mod InvertedSets

@@ -23,6 +23,7 @@
 mod bounds;
 mod contains;
 mod copy;
+mod inversion;
 mod kernel;
 pub mod laws;
 mod meets;
