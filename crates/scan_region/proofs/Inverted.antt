@@ -168,7 +168,7 @@ pub record IsReadIn (rows : List EdgeRow) (i : ℕ) (out : RegionWriter) (last :
   pub behind : (k : ℕ) → k < i → k < length rows → get_or (map top_of rows) k (pos 0) <ℤ below
 
 -- where no row lies at w, there is no pixel
-no_row : (rows : List EdgeRow) (h w : ℤ) → ((k : ℕ) → k < length rows → get_or (map top_of rows) k (pos 0) ≡ w → ⊥) → has_in_rows rows h w ≡ false
+pub no_row : (rows : List EdgeRow) (h w : ℤ) → ((k : ℕ) → k < length rows → get_or (map top_of rows) k (pos 0) ≡ w → ⊥) → has_in_rows rows h w ≡ false
 no_row rows h w all = no_row_at rows h w (λ k d l e. all k l (get_or-map top_of rows k d (pos 0) l ∙ e))
 
 inverted_none : (t : ℤ → ℤ → Bool) (upto : ℤ) → ((h w : ℤ) → w ≤ℤ upto → t h w ≡ false) → IsInverted t [] [] upto

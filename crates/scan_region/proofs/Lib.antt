@@ -15,3 +15,4 @@ pub mod Shared
 pub mod Around
 pub mod Inverted
 pub mod InvertedSets
+pub mod Restored

@@ -7,3 +7,4 @@ pub mod Runs
 pub mod Scan
 pub mod Moves
 pub mod Inverted
+pub mod Restored

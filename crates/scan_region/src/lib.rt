@@ -31,6 +31,7 @@ mod merge;
 mod offset;
 mod rect;
 mod region;
+mod restore;
 mod row;
 mod same;
 mod spans;
