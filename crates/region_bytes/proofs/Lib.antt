@@ -1,3 +1,10 @@
--- Lemmas on the edges of a row, and on rows of inversion points.
+-- Lemmas on the edges of a row, on rows of inversion points, and on the words of them.
 pub mod Edges
 pub mod Rows
+pub mod Tests
+pub mod Scanned
+pub mod Found
+pub mod Words
+pub mod Flags
+pub mod Finite
+pub mod Data

@@ -3,3 +3,4 @@ pub mod Edges
 pub mod Points
 pub mod Words
 pub mod Bytes
+pub mod Scan
