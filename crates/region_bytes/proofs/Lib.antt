@@ -8,3 +8,4 @@ pub mod Words
 pub mod Flags
 pub mod Finite
 pub mod Data
+pub mod PointLemmas

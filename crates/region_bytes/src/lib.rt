@@ -1,6 +1,8 @@
 //! Region bytes, judged and read in place.
 #![tactic(auto)]
 
+mod bounds;
 mod closed;
 mod judge;
 pub mod laws;
+mod points;
