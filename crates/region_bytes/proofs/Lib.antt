@@ -9,3 +9,7 @@ pub mod Flags
 pub mod Finite
 pub mod Data
 pub mod PointLemmas
+pub mod Ranges
+pub mod Parted
+pub mod Short
+pub mod Long

@@ -4,3 +4,4 @@ pub mod Points
 pub mod Words
 pub mod Bytes
 pub mod Scan
+pub mod Text
