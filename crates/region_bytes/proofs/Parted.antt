@@ -1,5 +1,5 @@
 -- The words of a region's bytes: the size, the box and the data.
-use Rattle.std.proofs.Common.{◌≡◌, ℕ, zero, suc, ◌+◌, ◌*◌, ◌<◌, ◌≤◌, Bool, true, false, cond, List, [], ◌∷◌, ◌++◌, length, get_or, ℤ, pos, negsuc, ◌≤ℤ◌, refl, sym, ap, ◌∙◌, arith, rules, All, length-append}
+use Rattle.std.proofs.Common.{◌≡◌, ℕ, zero, suc, ◌+◌, ◌*◌, ◌/◌, ◌%◌, ◌<◌, ◌≤◌, Bool, true, false, cond, List, [], ◌∷◌, ◌++◌, length, get_or, ℤ, pos, negsuc, ◌≤ℤ◌, refl, sym, ap, ◌∙◌, arith, rules, All, length-append}
 use Rattle.std.specs.Prelude.{Option, Some, None}
 use Rattle.std.specs.List.{flat_map}
 use Rattle.std.specs.Int.{to_be_bytes, cast_unsigned, w16}
@@ -97,3 +97,29 @@ words_form bytes size ws rows e low long told same =
   where
     number : 2 * (1 + length ws) ≡ 2 + 2 * length (words_of rows)
     number = let n : length (words_of rows) ≡ length ws = ap length same in omega arith
+
+four_words : (b : Option Rect) → length (box_words b) ≡ 4
+four_words None = refl
+four_words (Some r) = refl
+
+-- bytes of the form are at least ten
+pub too_few : (bytes : List ℕ) → length bytes < 10 → (rows : List PointRow) → IsForm bytes rows → ⊥
+unfolding bytes_of words_of
+too_few bytes l rows f =
+    let total : length bytes ≡ 2 * length (pos (2 + 2 * length (words_of rows)) ∷ words_of rows) = ap length f.written ∙ length_words (pos (2 + 2 * length (words_of rows)) ∷ words_of rows) in
+    let box = four_words (box_of rows) in
+    let all : length (words_of rows) ≡ length (box_words (box_of rows)) + length (cond (is_short rows) [] (data_words rows)) = length-append (box_words (box_of rows)) (cond (is_short rows) [] (data_words rows)) in
+    omega arith
+
+-- and of the size that they say
+pub wrong_size : (bytes : List ℕ) (size : ℤ) (ws : List ℤ) → words_in bytes ≡ size ∷ ws → ((length bytes ≤ 32766) × (length bytes % 2 ≡ 0) × (size ≡ pos (length bytes)) → ⊥) → (rows : List PointRow) → IsForm bytes rows → ⊥
+wrong_size bytes size ws e apart rows f =
+    let told = form_words bytes size ws rows e f in
+    let long = told.0 in
+    apart (f.fits, omega arith, told.1)
+
+pub even_words : (bytes : List ℕ) → length bytes % 2 ≡ 0 → length bytes ≡ 2 * length (words_in bytes)
+even_words bytes e =
+    let half : length bytes ≡ 2 * (length bytes / 2) = omega arith in
+    let n = length_of_words bytes (length bytes / 2) half in
+    omega arith

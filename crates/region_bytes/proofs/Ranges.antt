@@ -67,9 +67,10 @@ IsBoxKept low high (Some r) = (low ≤ℤ r.top) × (low ≤ℤ r.left) × (r.bo
 kept_from : (low high : ℤ) (b : Option Rect) (p : Point) → IsBoxKept low high (grown b p) → IsBoxKept low high b × IsPointIn low high p
 kept_from low high None p k = (tt, ((k.1, k.3), (k.0, k.2)))
 kept_from low high (Some s) p k =
-    let t = k.0 in let l = k.1 in let b = k.2 in let r = k.3 in
-    ((omega (arith, ints, clamps), omega (arith, ints, clamps), omega (arith, ints, clamps), omega (arith, ints, clamps)),
-     ((omega (arith, ints, clamps), omega (arith, ints, clamps)), (omega (arith, ints, clamps), omega (arith, ints, clamps))))
+    let t = k.0 in let l = k.1 in let b = k.2 in let r = k.3 in (
+      (omega (arith, ints, clamps), omega (arith, ints, clamps), omega (arith, ints, clamps), omega (arith, ints, clamps)),
+      ((omega (arith, ints, clamps), omega (arith, ints, clamps)), (omega (arith, ints, clamps), omega (arith, ints, clamps))),
+    )
 
 pub points_in_box : (low high : ℤ) (b : Option Rect) (ps : List Point) → IsBoxKept low high (fold grown b ps) → IsBoxKept low high b × All (IsPointIn low high) ps
 points_in_box low high b [] k = (k, All-nil (IsPointIn low high))

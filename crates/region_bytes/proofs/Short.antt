@@ -55,7 +55,7 @@ rect_canonical r l t = record {
   are_rows = record {
     rising = rising_two r.top r.bottom t;
     each = All-cons IsPointRow (r.top, r.left ∷ r.right ∷ []) ((r.bottom, r.left ∷ r.right ∷ []) ∷ []) (two_points r.top r.left r.right l)
-      (All-cons IsPointRow (r.bottom, r.left ∷ r.right ∷ []) [] (two_points r.bottom r.left r.right l) (All-nil IsPointRow));
+        (All-cons IsPointRow (r.bottom, r.left ∷ r.right ∷ []) [] (two_points r.bottom r.left r.right l) (All-nil IsPointRow));
   };
   closed = λ p all.
       let first : r.top ≤ℤ p.v = All-head (λ (row : PointRow). row.0 ≤ℤ p.v) (r.top, r.left ∷ r.right ∷ []) ((r.bottom, r.left ∷ r.right ∷ []) ∷ []) all in
@@ -119,7 +119,7 @@ unfolding rect_rows words_of
 rect_text r w l t = record {
   canonical = rect_canonical r l t;
   words = All-cons IsOfWords (r.top, r.left ∷ r.right ∷ []) ((r.bottom, r.left ∷ r.right ∷ []) ∷ []) (w.top_in, columns)
-    (All-cons IsOfWords (r.bottom, r.left ∷ r.right ∷ []) [] (w.bottom_in, columns) (All-nil IsOfWords));
+      (All-cons IsOfWords (r.bottom, r.left ∷ r.right ∷ []) [] (w.bottom_in, columns) (All-nil IsOfWords));
   told = λ e. absurd (true≢false e);
   written = append_nil (box_words (box_of (rect_rows r))) ∙ ap box_words (rect_box r l t);
 }

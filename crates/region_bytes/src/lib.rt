@@ -5,4 +5,5 @@ mod bounds;
 mod closed;
 mod judge;
 pub mod laws;
+mod parting;
 mod points;
