@@ -13,3 +13,4 @@ pub mod Ranges
 pub mod Parted
 pub mod Short
 pub mod Long
+pub mod Judged

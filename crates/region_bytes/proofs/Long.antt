@@ -184,7 +184,7 @@ of_words a b c d e f g h s =
     let w : d ≡ h = cc in
     λ i. sides (p i) (q i) (u i) (w i)
 
-of_sides : (a b c d e f g h : ℤ) → a ∷ b ∷ c ∷ d ∷ [] ≡ e ∷ f ∷ g ∷ h ∷ [] → ◌≡◌ {A = Rect} (record { left = b; top = a; right = d; bottom = c }) (record { left = f; top = e; right = h; bottom = g })
+pub of_sides : (a b c d e f g h : ℤ) → a ∷ b ∷ c ∷ d ∷ [] ≡ e ∷ f ∷ g ∷ h ∷ [] → ◌≡◌ {A = Rect} (record { left = b; top = a; right = d; bottom = c }) (record { left = f; top = e; right = h; bottom = g })
 unfolding sides
 of_sides a b c d e f g h s = of_words a b c d e f g h s
 

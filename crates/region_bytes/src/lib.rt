@@ -7,3 +7,4 @@ mod judge;
 pub mod laws;
 mod parting;
 mod points;
+mod texts;
