@@ -3,4 +3,6 @@ pub mod Edges
 pub mod Points
 pub mod Words
 pub mod Bytes
+pub mod Scan
+pub mod Text
 pub mod Writing

@@ -1,7 +1,13 @@
 //! Region bytes, judged and read in place, and written.
 #![tactic(auto)]
 
+mod bounds;
+mod closed;
+mod judge;
 pub mod laws;
+mod parting;
+mod points;
+mod texts;
 mod writing;
 
 pub use writing::{END, RegionWriter};
