@@ -8,7 +8,7 @@ use crate::points::Points;
 use tb_geom::{Point, Rect};
 
 /// The least box of some points and one more.
-fn grown(bounds: Option<Rect>, point: Point) -> Option<Rect>
+pub fn grown(bounds: Option<Rect>, point: Point) -> Option<Rect>
     ensures { result ≡ grown bounds point }
 {
     match bounds {

@@ -10,4 +10,5 @@ mod points;
 mod texts;
 mod writing;
 
+pub use parting::first_word;
 pub use writing::{END, RegionWriter};

@@ -8,7 +8,7 @@ ghost use Rattle.region_bytes.specs.Text.{IsParted};
 use tb_geom::Rect;
 
 /// The first word of bytes, from -32768 to 32767, and the bytes after it.
-fn first_word<'a>(bytes: &'a [u8]) -> Option<(i32, &'a [u8])>
+pub fn first_word<'a>(bytes: &'a [u8]) -> Option<(i32, &'a [u8])>
     ensures { MatchOption result (length bytes.entry.now < 2)
         (λ r. (words_in bytes.entry.now ≡ r.0 ∷ words_in r.1.now) × (length bytes.entry.now ≡ 2 + length r.1.now)) }
 {

@@ -1,13 +1,14 @@
 //! The bytes of a region, from its inversion points.
-ghost use Rattle.std.specs.Prelude.{◌≡◌, ◌<◌, ◌≤◌, ◌⊎◌, ◌∷◌, ◌++◌, [], ◌+◌, ◌*◌, List, length, ℤ, pos, OnOk, IfOk, MatchResult, Option};
+ghost use Rattle.std.specs.Prelude.{◌≡◌, ◌<◌, ◌≤◌, ◌⊎◌, ◌∷◌, ◌++◌, [], ◌+◌, ◌*◌, List, length, ℤ, pos, OnOk, IfOk, MatchResult};
 ghost use Rattle.std.specs.List.{flat_map};
 ghost use Rattle.tb_geom.specs.declared.Point.{Point};
 ghost use Rattle.region_bytes.specs.Edges.{IsCoordinate};
 ghost use Rattle.region_bytes.specs.Points.{PointRow, IsCanonical, points_of};
-ghost use Rattle.region_bytes.specs.Words.{word_bytes, box_words, grown, data_words, bytes_of};
+ghost use Rattle.region_bytes.specs.Words.{word_bytes, box_words, data_words, bytes_of};
 ghost use Rattle.region_bytes.specs.Bytes.{IsWord};
 ghost use Rattle.region_bytes.specs.Writing.{IsWritten, IsWhole, IsBoxOfCoordinates};
 
+use crate::bounds::grown;
 use std::alloc::{AllocError, Global};
 use tb_geom::{Point, Rect, Refusal};
 
@@ -61,7 +62,7 @@ impl RegionWriter {
         ensures { (words : List ℤ) (points : List Point) → IsWritten self.old words points
             → IsWritten self.new (words ++ point.h ∷ []) (points ++ point ∷ []) }
     {
-        self.bounds = with_point(self.bounds, point);
+        self.bounds = grown(self.bounds, point);
         self.word(point.h);
     }
 
@@ -85,26 +86,6 @@ impl RegionWriter {
             return Ok(with_head(alloc, self.bounds, &[])?);
         }
         Ok(with_head(alloc, self.bounds, self.bytes.as_slice())?)
-    }
-}
-
-/// The box with one more point.
-fn with_point(bounds: Option<Rect>, point: Point) -> Option<Rect>
-    ensures { result ≡ grown bounds point }
-{
-    match bounds {
-        None => Some(Rect {
-            left: point.h,
-            top: point.v,
-            right: point.h,
-            bottom: point.v,
-        }),
-        Some(r) => Some(Rect {
-            left: r.left.min(point.h),
-            top: r.top.min(point.v),
-            right: r.right.max(point.h),
-            bottom: r.bottom.max(point.v),
-        }),
     }
 }
 

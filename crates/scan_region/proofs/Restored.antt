@@ -1,6 +1,5 @@
 -- What one more row of points changes of the rows of edges.
-use Rattle.std.proofs.Common.{◌≡◌, ◌≢◌, ℕ, ◌<◌, ◌≤◌, Bool, true, false, ◌&&◌, ◌||◌, List, [], ◌∷◌, ◌++◌, length, get_or, drop, map, ℤ, pos, negsuc, ◌-ℤ◌, ◌+ℤ◌, ◌<ℤ◌, ◌≤ℤ◌, refl, sym, ap, ◌∙◌, subst, arith, All}
-use Rattle.std.specs.Int.{from_be_bytes, cast_signed, w16}
+use Rattle.std.proofs.Common.{◌≡◌, ◌≢◌, ℕ, ◌<◌, Bool, true, false, ◌&&◌, ◌||◌, List, [], ◌∷◌, ◌++◌, length, get_or, map, ℤ, pos, negsuc, ◌-ℤ◌, ◌+ℤ◌, ◌<ℤ◌, ◌≤ℤ◌, refl, sym, ap, ◌∙◌, subst, arith, All}
 use Rattle.std.proofs.lemmas.Int.{ints, by_lt_z}
 use Rattle.std.proofs.lemmas.List.{map_push, get_or-map, length-map}
 use Rattle.std.proofs.lemmas.List.Elements.{All-push, All-head, All-tail, All-weaker}
@@ -8,7 +7,7 @@ use Rattle.std.specs.Ordering.{int_eq}
 use Rattle.std.proofs.Math.Bool.{or-false}
 use Rattle.std.proofs.lemmas.Bool.{true≢false}
 use Rattle.region_bytes.specs.Points.{PointRow, ArePointRows, IsPointRow, IsInRange, in_rows}
-use Rattle.region_bytes.specs.Words.{words_in, data_words}
+use Rattle.region_bytes.specs.Words.{data_words}
 use Rattle.region_bytes.proofs.Edges.{int_le-true, int_le-false, inside-nil, IsRow-nil, rising_head}
 use Rattle.region_bytes.proofs.Rows.{above_first, canonical_tail, nil_has, differ-false, differ_assoc}
 use Rattle.region_bytes.proofs.Written.{data_words-cons, closed_rows}
@@ -21,18 +20,6 @@ use Rattle.scan_region.proofs.Inverted.{no_row}
 use Rattle.scan_region.proofs.Merged.{has_in_rows-push, has_in_rows-nil, int_eq-same, int_eq-apart, AreRows-nil, none_inside_nil}
 
 -- ---- words
-
-pub no_words_left : (bytes : List ℕ) → length bytes < 2 → words_in bytes ≡ []
-unfolding words_in
-no_words_left [] l = refl
-no_words_left (a ∷ []) l = refl
-no_words_left (a ∷ b ∷ bytes) l = absurd (omega arith)
-
-pub words_in-two : (bytes : List ℕ) → 2 ≤ length bytes → words_in bytes ≡ cast_signed w16 (from_be_bytes w16 (get_or bytes 0 0 ∷ get_or bytes 1 0 ∷ [])) ∷ words_in (drop 2 bytes)
-unfolding words_in
-words_in-two [] l = absurd (omega arith)
-words_in-two (a ∷ []) l = absurd (omega arith)
-words_in-two (a ∷ b ∷ bytes) l = refl
 
 -- columns that are told have no end among them
 pub no_end : (xs columns after : List ℤ) → All (λ x. x ≢ pos 32767) xs → xs ≡ columns ++ pos 32767 ∷ after → ⊥

@@ -1,5 +1,5 @@
 //! The rows of edges that inversion points stand for, from the data of region bytes.
-ghost use Rattle.std.specs.Prelude.{◌≡◌, ◌+◌, ◌∷◌, ◌++◌, [], ◌<◌, ◌≤◌, List, ℤ, Bool, pos, length, All, IfOk, OnOk, IfSome, IfNone, ◌<ℤ◌, ◌≤ℤ◌};
+ghost use Rattle.std.specs.Prelude.{◌≡◌, ◌+◌, ◌∷◌, ◌++◌, ◌≤◌, List, ℤ, Bool, pos, length, All, IfOk, OnOk, ◌<ℤ◌, ◌≤ℤ◌};
 ghost use Rattle.region_bytes.specs.Points.{PointRow, IsCanonical, IsInRange, in_rows};
 ghost use Rattle.region_bytes.specs.Words.{words_in, data_words};
 ghost use Rattle.scan_region.specs.Edges.{inside, IsRow, IsCoordinate};
@@ -9,30 +9,8 @@ ghost use Rattle.scan_region.specs.Restored.{IsRowData, IsColumns, IsMadeTo};
 use crate::kernel::{Operator, combine_rows};
 use crate::merge::push_row;
 use crate::row::Row;
-use region_bytes::END;
+use region_bytes::{END, first_word};
 use std::alloc::{AllocError, Global};
-
-/// A word, and the bytes after it.
-#[derive(Clone, Copy)]
-struct FirstWord<'a> {
-    word: i32,
-    rest: &'a [u8],
-}
-
-/// The first word of bytes, if there are two.
-fn first_word<'a>(bytes: &'a [u8]) -> Option<FirstWord<'a>>
-    ensures none { IfNone result (words_in bytes.entry.now ≡ []) }
-    ensures word { IfSome result (λ first. words_in bytes.entry.now ≡ first.word ∷ words_in first.rest.now) }
-    ensures shorter { IfSome result (λ first. length first.rest.now < length bytes.entry.now) }
-{
-    match bytes {
-        [high, low, rest @ ..] => Some(FirstWord {
-            word: i32::from(i16::from_be_bytes([*high, *low])),
-            rest,
-        }),
-        _ => None,
-    }
-}
 
 /// The columns of a row of points, and the bytes after its end.
 #[derive(Drop)]
@@ -50,12 +28,12 @@ fn read_columns<'a>(alloc: Global, bytes: &'a [u8]) -> Result<Columns<'a>, Alloc
 {
     let mut columns = Vec::new(alloc);
     let mut rest = bytes;
-    while let Some(first) = first_word(rest) {
-        rest = first.rest;
-        if first.word == END {
+    while let Some((word, after)) = first_word(rest) {
+        rest = after;
+        if word == END {
             return Ok(Columns { columns, rest });
         }
-        columns.push(first.word)?;
+        columns.push(word)?;
     }
     Ok(Columns { columns, rest })
 }
@@ -97,19 +75,19 @@ pub fn restored_rows(alloc: Global, bytes: &[u8]) -> Result<Vec<Row>, AllocError
     let mut last = Vec::new(alloc);
     let mut below = -16384;
     let mut rest = bytes;
-    while let Some(first) = first_word(rest) {
-        if first.word == END {
+    while let Some((v, after)) = first_word(rest) {
+        if v == END {
             return Ok(rows);
         }
-        let read = read_columns(alloc, first.rest)?;
-        fill(alloc, &mut rows, below, first.word, last.as_slice())?;
+        let read = read_columns(alloc, after)?;
+        fill(alloc, &mut rows, below, v, last.as_slice())?;
         last = combine_rows(
             alloc,
             last.as_slice(),
             read.columns.as_slice(),
             Operator::SymmetricDifference,
         )?;
-        below = first.word;
+        below = v;
         rest = read.rest;
     }
     Ok(rows)

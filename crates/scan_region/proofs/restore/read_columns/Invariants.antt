@@ -2,12 +2,12 @@ use Rattle.std.proofs.Common.{◌≡◌, ◌≢◌, ◌≤◌, ◌++◌, All, le
 use Rattle.region_bytes.specs.Words.{words_in}
 use Rattle.scan_region.proofs.restore.read_columns.Given as goal
 
-abbrev pub invariant-loop-first : goal.invariant-loop-first
-invariant-loop-first l = record {
+abbrev pub invariant-loop-word : goal.invariant-loop-word
+invariant-loop-word l = record {
   told : All (λ x. x ≢ pos 32767) l.columns.items;
   so_far : words_in l.bytes ≡ l.columns.items ++ words_in l.rest;
   short : length l.rest ≤ length l.bytes;
 }
 
-abbrev pub decreases-loop-first : goal.decreases-loop-first
-decreases-loop-first l = length l.rest
+abbrev pub decreases-loop-word : goal.decreases-loop-word
+decreases-loop-word l = length l.rest

@@ -13,5 +13,5 @@ returns c =
       few = s.few;
       many = s.many;
       kept = s.kept;
-      bounds = c.with_point-self.ensures ∙ ap (λ b. grown b c.args.point) s.bounds ∙ sym (fold_push grown None points c.args.point);
+      bounds = c.grown-self.ensures ∙ ap (λ b. grown b c.args.point) s.bounds ∙ sym (fold_push grown None points c.args.point);
     })
