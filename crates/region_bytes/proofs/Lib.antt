@@ -14,3 +14,4 @@ pub mod Parted
 pub mod Short
 pub mod Long
 pub mod Judged
+pub mod Said

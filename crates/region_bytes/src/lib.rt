@@ -7,4 +7,7 @@ mod judge;
 pub mod laws;
 mod parting;
 mod points;
+mod region;
 mod texts;
+
+pub use region::RegionBytes;

@@ -1,0 +1,48 @@
+//! Region bytes in place.
+ghost use Rattle.std.specs.Prelude.{◌≡◌, MatchResult};
+ghost use Rattle.region_bytes.specs.Bytes.{IsRegionBytes, IsBad};
+
+use crate::parting::parted;
+use crate::texts::is_text;
+use std::marker::Model;
+use tb_geom::{Point, Rect, Refusal};
+
+/// The bytes of a region, borrowed and judged. Contracts see the set of pixels that they say.
+#[derive(Debug, Drop)]
+pub struct RegionBytes<'a> {
+    bytes: &'a [u8],
+}
+
+impl<'a> Model for RegionBytes<'a> {
+    ghost use Rattle.tb_geom.specs.Pixels.{Pixels, pixels_code};
+
+    ghost Value = { Pixels };
+
+    ghost coded = { pixels_code };
+
+    ghost use Rattle.region_bytes.specs.Bytes.{IsRegionBytes};
+    ghost use Rattle.region_bytes.specs.Text.{pixels_of};
+
+    ghost view = { λ s. pixels_of s.bytes.now };
+
+    ghost invariant = { λ s. IsRegionBytes s.bytes.now (pixels_of s.bytes.now) };
+}
+
+impl<'a> RegionBytes<'a> {
+    /// Judges bytes, without memory: BadRegion where they have not the form of a region's, and
+    /// OutOfRange where they have it and a coordinate lies outside -16384..=16383.
+    pub fn read(bytes: &'a [u8]) -> Result<RegionBytes<'a>, Refusal>
+        ensures { MatchResult result (λ region. IsRegionBytes bytes.entry.now region) (IsBad bytes.entry.now) }
+    {
+        let Some((bounds, after)) = parted(bytes) else {
+            return Err(Refusal::BadRegion);
+        };
+        if !is_text(bounds, after) {
+            return Err(Refusal::BadRegion);
+        }
+        if !bounds.is_in_range() {
+            return Err(Refusal::OutOfRange);
+        }
+        Ok(RegionBytes { bytes })
+    }
+}
