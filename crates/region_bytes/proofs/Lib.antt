@@ -15,3 +15,4 @@ pub mod Short
 pub mod Long
 pub mod Judged
 pub mod Said
+pub mod Formed

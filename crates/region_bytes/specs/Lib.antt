@@ -5,3 +5,4 @@ pub mod Words
 pub mod Bytes
 pub mod Scan
 pub mod Text
+pub mod Forms

@@ -10,4 +10,4 @@ mod points;
 mod region;
 mod texts;
 
-pub use region::RegionBytes;
+pub use region::{Form, RegionBytes};

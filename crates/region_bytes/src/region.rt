@@ -13,6 +13,15 @@ pub struct RegionBytes<'a> {
     bytes: &'a [u8],
 }
 
+/// The form in which a region's bytes say a set of pixels.
+#[derive(Clone, Copy, Debug)]
+pub enum Form<'a> {
+    /// The pixels of a rectangle, with its sides in -16384..=16383; none are 0 0 0 0.
+    Rect(Rect),
+    /// The data: rows of inversion points in canonical form, with all numbers in -16384..=16383.
+    Rows(&'a [u8]),
+}
+
 impl<'a> Model for RegionBytes<'a> {
     ghost use Rattle.tb_geom.specs.Pixels.{Pixels, pixels_code};
 
@@ -29,6 +38,8 @@ impl<'a> Model for RegionBytes<'a> {
 }
 
 impl<'a> RegionBytes<'a> {
+    ghost use Rattle.region_bytes.specs.Forms.{IsFormOf};
+
     /// Judges bytes, without memory: BadRegion where they have not the form of a region's, and
     /// OutOfRange where they have it and a coordinate lies outside -16384..=16383.
     pub fn read(bytes: &'a [u8]) -> Result<RegionBytes<'a>, Refusal>
@@ -44,5 +55,19 @@ impl<'a> RegionBytes<'a> {
             return Err(Refusal::OutOfRange);
         }
         Ok(RegionBytes { bytes })
+    }
+
+    /// The form in which the bytes say the set.
+    pub fn form(&self) -> Form<'a>
+        ensures { IsFormOf self.now result }
+    {
+        let Some((bounds, after)) = parted(self.bytes) else {
+            unreachable!()
+        };
+        if after.is_empty() {
+            Form::Rect(bounds)
+        } else {
+            Form::Rows(after)
+        }
     }
 }
