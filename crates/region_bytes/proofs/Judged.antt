@@ -77,7 +77,7 @@ not_empty r e = (
     or_true true b f = refl
     or_true false b f = f
 
-empty_not : (r : Rect) → r.left <ℤ r.right → r.top <ℤ r.bottom → is_empty_rect r ≡ false
+pub empty_not : (r : Rect) → r.left <ℤ r.right → r.top <ℤ r.bottom → is_empty_rect r ≡ false
 empty_not r l t = λ i. int_le-false r.right r.left l i || int_le-false r.bottom r.top t i
 
 pub alone_rect : (r : Rect) → IsRectOfWords r → is_empty_rect r ≡ false → (rows : List PointRow) × IsText r [] rows
@@ -103,7 +103,7 @@ some_words [] l = absurd (omega arith)
 some_words (a ∷ []) l = absurd (omega arith)
 some_words (a ∷ b ∷ bytes) l = (_, (words_in bytes, refl))
 
-long_text : (box : Rect) (bytes : List ℕ) (rows : List PointRow) → 2 ≤ length bytes → IsText box (words_in bytes) rows → is_short rows ≡ false
+pub long_text : (box : Rect) (bytes : List ℕ) (rows : List PointRow) → 2 ≤ length bytes → IsText box (words_in bytes) rows → is_short rows ≡ false
 long_text box bytes rows l t = let s = some_words bytes l in text_long box s.0 s.1.0 rows (subst (λ ws. IsText box ws rows) s.1.1 t)
 
 -- long enough

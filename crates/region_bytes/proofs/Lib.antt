@@ -14,5 +14,7 @@ pub mod Parted
 pub mod Short
 pub mod Long
 pub mod Judged
+pub mod Said
+pub mod Formed
 pub mod Written
 pub mod Decoded

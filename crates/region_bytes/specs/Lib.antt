@@ -5,4 +5,5 @@ pub mod Words
 pub mod Bytes
 pub mod Scan
 pub mod Text
+pub mod Forms
 pub mod Writing

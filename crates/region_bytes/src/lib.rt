@@ -7,8 +7,10 @@ mod judge;
 pub mod laws;
 mod parting;
 mod points;
+mod region;
 mod texts;
 mod writing;
 
 pub use parting::first_word;
+pub use region::{Form, RegionBytes};
 pub use writing::{END, RegionWriter};
