@@ -15,10 +15,12 @@ use crate::meets::rows_meet;
 use crate::merge::merge_rows;
 use crate::offset::{move_rows, rows_stay};
 use crate::rect::rect_rows;
+use crate::restore::form_rows;
 use crate::row::Row;
 use crate::same::same_rows;
 use crate::spans::Spans;
 use crate::spans_up::SpansUp;
+use region_bytes::RegionBytes;
 use std::alloc::{AllocError, Global};
 use std::marker::Model;
 use tb_geom::{Point, Rect, Refusal};
@@ -46,7 +48,7 @@ impl Model for Region {
 impl Region {
     ghost use Rattle.scan_region.specs.Moves.{StaysInRange, LeavesRange};
     ghost use Rattle.scan_region.specs.Scan.{IsScan};
-    ghost use Rattle.region_bytes.specs.Bytes.{IsRegionBytes, IsUnwritten};
+    ghost use Rattle.region_bytes.specs.Bytes.{IsRegionBytes, IsUnread, IsUnwritten};
 
     /// The region of no pixel (*Inside Macintosh* I, "QuickDraw": `NewRgn`), in any coordinate space.
     /// It takes no memory.
@@ -69,6 +71,17 @@ impl Region {
             return Err(Refusal::OutOfRange);
         }
         let rows = rect_rows(alloc, rect)?;
+        Ok(Region { rows })
+    }
+
+    /// The region whose bytes these are, as `to_bytes` gives them. BadRegion where they have not the form
+    /// of a region's bytes, OutOfRange where they have it and a coordinate lies outside -16384..=16383,
+    /// else it refuses only for want of memory.
+    pub fn from_bytes(alloc: Global, bytes: &[u8]) -> Result<Region, Refusal>
+        ensures { MatchResult result (λ region. IsRegionBytes bytes.now region) (IsUnread bytes.now) }
+    {
+        let read = RegionBytes::read(bytes)?;
+        let rows = form_rows(alloc, read.form())?;
         Ok(Region { rows })
     }
 

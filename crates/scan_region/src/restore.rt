@@ -1,5 +1,7 @@
 //! The rows of edges that inversion points stand for, from the data of region bytes.
 ghost use Rattle.std.specs.Prelude.{◌≡◌, ◌+◌, ◌∷◌, ◌++◌, ◌≤◌, List, ℤ, Bool, pos, length, All, IfOk, OnOk, ◌<ℤ◌, ◌≤ℤ◌};
+ghost use Rattle.tb_geom.specs.Pixels.{Pixels, has};
+ghost use Rattle.region_bytes.specs.Forms.{IsFormOf};
 ghost use Rattle.region_bytes.specs.Points.{PointRow, IsCanonical, IsInRange, in_rows};
 ghost use Rattle.region_bytes.specs.Words.{words_in, data_words};
 ghost use Rattle.scan_region.specs.Edges.{inside, IsRow, IsCoordinate};
@@ -8,8 +10,9 @@ ghost use Rattle.scan_region.specs.Restored.{IsRowData, IsColumns, IsMadeTo};
 
 use crate::kernel::{Operator, combine_rows};
 use crate::merge::push_row;
+use crate::rect::rect_rows;
 use crate::row::Row;
-use region_bytes::{END, first_word};
+use region_bytes::{END, Form, first_word};
 use std::alloc::{AllocError, Global};
 
 /// The columns of a row of points, and the bytes after its end.
@@ -91,4 +94,17 @@ pub fn restored_rows(alloc: Global, bytes: &[u8]) -> Result<Vec<Row>, AllocError
         rest = read.rest;
     }
     Ok(rows)
+}
+
+/// The rows of edges of a set of pixels, from the form in which bytes say it.
+pub fn form_rows(alloc: Global, form: Form<'_>) -> Result<Vec<Row>, AllocError>
+    requires { (s : Pixels) × IsFormOf s form }
+    ensures rows { IfOk result (λ rows. AreRows rows.items) }
+    ensures pixels { IfOk result (λ rows. (s : Pixels) → IsFormOf s form.entry
+        → (h v : ℤ) → has_in_rows rows.items h v ≡ has s h v) }
+{
+    match form {
+        Form::Rect(rect) => rect_rows(alloc, rect),
+        Form::Rows(bytes) => restored_rows(alloc, bytes),
+    }
 }
