@@ -25,7 +25,8 @@ fn sum_of_pixels(map: &BitMap) -> u32 {
     let mut sum: u32 = 0;
     for v in bounds.top..bounds.bottom {
         for h in bounds.left..bounds.right {
-            if map.get(Point { h, v }) {
+            let point = Point { h, v };
+            if map.bounds().contains(point) && map.get(point) {
                 let place = v.wrapping_mul(bounds.right).wrapping_add(h);
                 sum = sum.wrapping_mul(31).wrapping_add(place.unsigned_abs());
             }
