@@ -16,3 +16,4 @@ pub mod Long
 pub mod Judged
 pub mod Said
 pub mod Formed
+pub mod Walked

@@ -6,3 +6,4 @@ pub mod Bytes
 pub mod Scan
 pub mod Text
 pub mod Forms
+pub mod Walk
