@@ -17,3 +17,4 @@ pub mod Judged
 pub mod Said
 pub mod Formed
 pub mod Walked
+pub mod Pointed

@@ -52,7 +52,7 @@ fn is_from(left: i32, h: i32, k: usize) -> bool
 }
 
 /// One of the two, and not both.
-fn differ(a: bool, b: bool) -> bool
+pub(crate) fn differ(a: bool, b: bool) -> bool
     ensures { result ≡ differ a b }
 {
     a != b
