@@ -1,20 +1,17 @@
 -- The inversion points of both forms.
-use Rattle.std.proofs.Common.{◌≡◌, ℕ, zero, suc, ◌+◌, ◌<◌, ◌≤◌, Bool, true, false, ◌&&◌, List, [], ◌∷◌, ◌++◌, length, get_or, map, ℤ, pos, ◌<ℤ◌, ◌≤ℤ◌, refl, sym, ap, ◌∙◌, subst, arith, All}
+use Rattle.std.proofs.Common.{◌≡◌, ℕ, zero, suc, ◌<◌, Bool, true, false, ◌&&◌, List, [], ◌∷◌, ◌++◌, length, get_or, map, ℤ, pos, ◌≤ℤ◌, refl, sym, ap, ◌∙◌, subst, arith, All}
 use Rattle.std.specs.Prelude.{int_le}
-use Rattle.std.specs.List.{AllPairs}
 use Rattle.std.proofs.lemmas.Int.{ints}
-use Rattle.std.proofs.lemmas.Bool.{true≢false}
-use Rattle.std.proofs.lemmas.List.Elements.{All-head, All-tail, All-nil, All-cons, All-append, All-weaker}
+use Rattle.std.proofs.lemmas.List.Elements.{All-tail, All-nil, All-cons, All-append}
 use Rattle.std.proofs.lemmas.List.Kept.{AllPairs-cons}
 use Rattle.tb_geom.specs.declared.point.Point.{Point}
 use Rattle.tb_geom.specs.declared.rect.Rect.{Rect}
 use Rattle.tb_geom.specs.Points.{PixelSet}
-use Rattle.tb_geom.specs.Rects.{rect_holds, empty_rect, is_empty_rect, is_in_range}
+use Rattle.tb_geom.specs.Rects.{rect_holds, empty_rect, is_empty_rect}
 use Rattle.tb_geom.specs.Pixels.{Pixels, holds}
-use Rattle.region_bytes.specs.Edges.{differ, IsCoordinate}
-use Rattle.region_bytes.specs.Points.{PointRow, top_of, inverted, row_points, points_of, IsPointRow, ArePointRows, IsInRange}
-use Rattle.region_bytes.specs.Words.{words_in, data_words}
-use Rattle.region_bytes.specs.Bytes.{IsTold}
+use Rattle.region_bytes.specs.Edges.{differ}
+use Rattle.region_bytes.specs.Points.{PointRow, top_of, inverted, row_points, points_of, IsPointRow, ArePointRows}
+use Rattle.region_bytes.specs.Words.{words_in}
 use Rattle.region_bytes.specs.Scan.{points_in}
 use Rattle.region_bytes.specs.Forms.{IsRectOf, IsRowsOf}
 use Rattle.region_bytes.specs.Walk.{corners, IsDown, IsAhead, pixel_at}

@@ -1,7 +1,6 @@
-use Rattle.std.proofs.Common.{◌≡◌, ap, ◌∙◌, ◌++◌, [], ◌∷◌}
+use Rattle.std.proofs.Common.{◌++◌}
 use Rattle.region_bytes.specs.Words.{words_in}
 use Rattle.region_bytes.specs.Scan.{points_in}
-use Rattle.region_bytes.specs.Walk.{corners}
 use Rattle.region_bytes.proofs.points.Points.of_rect.Goals as goal
 
 pub returns : goal.returns

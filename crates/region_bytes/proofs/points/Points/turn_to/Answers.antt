@@ -1,4 +1,4 @@
-use Rattle.std.proofs.Common.{◌≡◌, length, sym, ◌∙◌, rules, arith, SFits, w32}
+use Rattle.std.proofs.Common.{◌≡◌, length, sym, ◌∙◌, rules, SFits, w32}
 use Rattle.std.proofs.lemmas.Int.{to_z-of_z}
 use Rattle.region_bytes.proofs.Walked.{ahead_turned, ahead_at}
 use Rattle.region_bytes.proofs.points.Points.turn_to.Goals as goal

@@ -1,4 +1,4 @@
-use Rattle.std.proofs.Common.{◌≡◌, List, ap, ◌∙◌, sym, subst}
+use Rattle.std.proofs.Common.{List, ap, ◌∙◌, sym, subst}
 use Rattle.tb_geom.specs.declared.point.Point.{Point}
 use Rattle.region_bytes.specs.Points.{inverted}
 use Rattle.region_bytes.specs.Walk.{IsDown}

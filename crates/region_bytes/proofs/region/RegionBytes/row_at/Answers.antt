@@ -1,4 +1,4 @@
-use Rattle.std.proofs.Common.{◌≡◌, length, rules, arith, SFits, w32}
+use Rattle.std.proofs.Common.{◌≡◌, length, rules, arith}
 use Rattle.std.proofs.lemmas.Int.{to_z-of_z}
 use Rattle.tb_geom.specs.Pixels.{holds}
 use Rattle.region_bytes.proofs.Pointed.{ahead_all}
