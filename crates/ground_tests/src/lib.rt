@@ -2,8 +2,8 @@
 //! the contracts are QuickDraw's. Expected values are tables and pictures written by hand, or come from slow programs
 //! over single pixels, and never from the libraries.
 //!
-//! `geometry` tests `tb_geom`, `maps` tests `bit_map`, and `regions` tests `scan_region`. `pixels` has what they compare
-//! with.
+//! `geometry` tests `tb_geom`, `bytes` tests `region_bytes`, `regions` and `written` test `scan_region`, and `maps` tests
+//! `bit_map`. `pixels` has what they compare with.
 #![tactic(auto)]
 
 pub mod pixels;
@@ -29,6 +29,8 @@ macro_rules! point {
     };
 }
 
+#[cfg(test)]
+mod bytes;
 #[cfg(test)]
 mod geometry;
 #[cfg(test)]

@@ -1,12 +1,12 @@
 -- What the tests of a box and of data say together.
-use Rattle.std.proofs.Common.{◌≡◌, ℕ, ◌+◌, ◌*◌, ◌/◌, ◌%◌, ◌<◌, ◌≤◌, Bool, true, false, not, ◌&&◌, ◌||◌, List, [], ◌∷◌, length, ℤ, pos, negsuc, ◌<ℤ◌, ◌≤ℤ◌, refl, sym, ap, ◌∙◌, subst, arith, rules, All, ◌⊎◌, inl, inr}
-use Rattle.std.specs.Prelude.{Option, Some, None, int_le, nat_eq}
+use Rattle.std.proofs.Common.{◌≡◌, ℕ, ◌/◌, ◌<◌, ◌≤◌, Bool, true, false, ◌&&◌, ◌||◌, List, [], ◌∷◌, length, ℤ, pos, negsuc, ◌<ℤ◌, refl, sym, ap, ◌∙◌, subst, arith, inl, inr}
+use Rattle.std.specs.Prelude.{Option, Some, None, int_le}
 use Rattle.std.specs.Option.{unwrap_or}
 use Rattle.std.specs.List.{fold}
 use Rattle.std.specs.Ordering.{int_eq}
-use Rattle.std.proofs.lemmas.Int.{ints, by_lt_z}
-use Rattle.std.proofs.lemmas.Bool.{and_parts, true≢false, false≢true}
-use Rattle.std.proofs.lemmas.Bool.Decides.{Decides-int_eq, nat_tests}
+use Rattle.std.proofs.lemmas.Int.{by_lt_z}
+use Rattle.std.proofs.lemmas.Bool.{and_parts, true≢false}
+use Rattle.std.proofs.lemmas.Bool.Decides.{Decides-int_eq}
 use Rattle.tb_geom.specs.declared.rect.Rect.{Rect}
 use Rattle.tb_geom.specs.Rects.{empty_rect, is_empty_rect}
 use Rattle.region_bytes.specs.Points.{PointRow}
@@ -16,10 +16,9 @@ use Rattle.region_bytes.specs.Text.{IsText, IsRectOfWords}
 use Rattle.region_bytes.proofs.Tests.{int_eq-same}
 use Rattle.region_bytes.proofs.Edges.{int_le-true, int_le-false}
 use Rattle.region_bytes.proofs.Flags.{no_words_left}
-use Rattle.region_bytes.proofs.Parted.{length_of_words}
 use Rattle.region_bytes.proofs.Ranges.{IsRectIn}
 use Rattle.region_bytes.proofs.Short.{rect_rows, rect_text, none_text}
-use Rattle.region_bytes.proofs.Long.{IsRectText, text_short, text_long, text_data, text_box, text_length, data_text, of_sides}
+use Rattle.region_bytes.proofs.Long.{text_short, text_long, text_data, text_box, text_length, data_text, of_sides}
 
 -- ---- boxes
 
@@ -67,7 +66,7 @@ alone_none r e = ([], subst (λ q. IsText q [] []) (sym e) none_text)
 in_words : (r : Rect) → IsRectOfWords r → IsRectIn (negsuc 32767) (pos 32767) r
 in_words r w = record { left_in = w 1 (pos 0) (omega arith); top_in = w 0 (pos 0) (omega arith); right_in = w 3 (pos 0) (omega arith); bottom_in = w 2 (pos 0) (omega arith) }
 
-not_empty : (r : Rect) → is_empty_rect r ≡ false → (r.left <ℤ r.right) × (r.top <ℤ r.bottom)
+pub not_empty : (r : Rect) → is_empty_rect r ≡ false → (r.left <ℤ r.right) × (r.top <ℤ r.bottom)
 not_empty r e = (
   by_lt_z r.left r.right (λ l. l) (λ l. absurd (true≢false (sym (λ i. int_le-true r.right r.left l i || int_le r.bottom r.top) ∙ e))),
   by_lt_z r.top r.bottom (λ l. l) (λ l. absurd (true≢false (sym (or_true (int_le r.right r.left) (int_le r.bottom r.top) (int_le-true r.bottom r.top l)) ∙ e))),

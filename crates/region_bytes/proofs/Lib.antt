@@ -18,3 +18,5 @@ pub mod Said
 pub mod Formed
 pub mod Written
 pub mod Decoded
+pub mod Walked
+pub mod Pointed

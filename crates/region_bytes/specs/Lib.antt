@@ -7,3 +7,4 @@ pub mod Scan
 pub mod Text
 pub mod Forms
 pub mod Writing
+pub mod Walk
