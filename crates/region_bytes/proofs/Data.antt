@@ -1,12 +1,9 @@
 -- What the two tests of data say together.
-use Rattle.std.proofs.Common.{◌≡◌, ℕ, zero, suc, ◌+◌, ◌*◌, ◌<◌, ◌≤◌, Bool, true, false, List, [], ◌∷◌, length, get_or, map, ℤ, pos, negsuc, refl, sym, ap, ◌∙◌, arith, rules, All}
+use Rattle.std.proofs.Common.{◌≡◌, ℕ, suc, ◌<◌, true, false, List, [], ◌∷◌, get_or, map, ℤ, negsuc, sym, ap, ◌∙◌, arith, All}
 use Rattle.std.specs.Int.{cast_signed, from_be_bytes, w16}
-use Rattle.std.proofs.lemmas.Int.{ints}
 use Rattle.std.proofs.lemmas.List.Elements.{All-head, All-tail, All-nil, All-cons}
-use Rattle.region_bytes.specs.Edges.{IsRising}
-use Rattle.region_bytes.specs.Points.{PointRow, top_of, IsCanonical}
-use Rattle.region_bytes.specs.Words.{data_words}
-use Rattle.region_bytes.specs.Bytes.{IsWord, IsTold}
+use Rattle.region_bytes.specs.Points.{PointRow, top_of}
+use Rattle.region_bytes.specs.Bytes.{IsWord}
 use Rattle.region_bytes.specs.Words.{words_in}
 use Rattle.region_bytes.specs.Scan.{IsData, are_rows}
 use Rattle.region_bytes.specs.Scan.{columns_in, odd_at}

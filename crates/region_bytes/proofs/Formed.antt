@@ -1,17 +1,15 @@
 -- The form in which bytes say a set.
-use Rattle.std.proofs.Common.{◌≡◌, ℕ, ◌+◌, ◌*◌, ◌<◌, ◌≤◌, Bool, true, false, List, [], ◌∷◌, length, ℤ, pos, negsuc, ◌≤ℤ◌, refl, sym, ap, ◌∙◌, subst, arith, rules, All, ◌⊎◌, inl, inr}
+use Rattle.std.proofs.Common.{◌≡◌, ℕ, ◌≤◌, List, [], ◌∷◌, length, ℤ, pos, sym, ◌∙◌, arith, inl, inr}
 use Rattle.std.proofs.lemmas.Int.{ints}
-use Rattle.std.proofs.lemmas.Bool.{true≢false, false≢true}
+use Rattle.std.proofs.lemmas.Bool.{true≢false}
 use Rattle.std.proofs.lemmas.List.Elements.{All-weaker}
-use Rattle.tb_geom.specs.declared.point.Point.{Point}
 use Rattle.tb_geom.specs.declared.rect.Rect.{Rect}
-use Rattle.tb_geom.specs.Rects.{rect_holds, empty_rect, is_empty_rect, is_in_range}
-use Rattle.tb_geom.specs.Pixels.{Pixels, holds}
+use Rattle.tb_geom.specs.Pixels.{Pixels}
 use Rattle.region_bytes.specs.Edges.{IsCoordinate}
-use Rattle.region_bytes.specs.Points.{PointRow, inverted, points_of, IsInRange}
-use Rattle.region_bytes.specs.Words.{words_in, data_words, is_short}
+use Rattle.region_bytes.specs.Points.{IsInRange}
+use Rattle.region_bytes.specs.Words.{words_in}
 use Rattle.region_bytes.specs.Bytes.{IsRegionBytes, IsForm, IsWord, IsOfWords, IsTold}
-use Rattle.region_bytes.specs.Text.{IsText, IsParted, text_pixels}
+use Rattle.region_bytes.specs.Text.{IsParted, text_pixels}
 use Rattle.region_bytes.specs.Forms.{IsRectOf, IsRowsOf}
 use Rattle.region_bytes.proofs.Long.{text_short, text_parts}
 use Rattle.region_bytes.proofs.Judged.{empty_not, long_text}

@@ -1,12 +1,12 @@
 -- What the tests of a box and of data say together.
-use Rattle.std.proofs.Common.{◌≡◌, ℕ, ◌+◌, ◌*◌, ◌/◌, ◌%◌, ◌<◌, ◌≤◌, Bool, true, false, not, ◌&&◌, ◌||◌, List, [], ◌∷◌, length, ℤ, pos, negsuc, ◌<ℤ◌, ◌≤ℤ◌, refl, sym, ap, ◌∙◌, subst, arith, rules, All, ◌⊎◌, inl, inr}
-use Rattle.std.specs.Prelude.{Option, Some, None, int_le, nat_eq}
+use Rattle.std.proofs.Common.{◌≡◌, ℕ, ◌/◌, ◌<◌, ◌≤◌, Bool, true, false, ◌&&◌, ◌||◌, List, [], ◌∷◌, length, ℤ, pos, negsuc, ◌<ℤ◌, refl, sym, ap, ◌∙◌, subst, arith, inl, inr}
+use Rattle.std.specs.Prelude.{Option, Some, None, int_le}
 use Rattle.std.specs.Option.{unwrap_or}
 use Rattle.std.specs.List.{fold}
 use Rattle.std.specs.Ordering.{int_eq}
-use Rattle.std.proofs.lemmas.Int.{ints, by_lt_z}
-use Rattle.std.proofs.lemmas.Bool.{and_parts, true≢false, false≢true}
-use Rattle.std.proofs.lemmas.Bool.Decides.{Decides-int_eq, nat_tests}
+use Rattle.std.proofs.lemmas.Int.{by_lt_z}
+use Rattle.std.proofs.lemmas.Bool.{and_parts, true≢false}
+use Rattle.std.proofs.lemmas.Bool.Decides.{Decides-int_eq}
 use Rattle.tb_geom.specs.declared.rect.Rect.{Rect}
 use Rattle.tb_geom.specs.Rects.{empty_rect, is_empty_rect}
 use Rattle.region_bytes.specs.Points.{PointRow}
@@ -16,10 +16,9 @@ use Rattle.region_bytes.specs.Text.{IsText, IsRectOfWords}
 use Rattle.region_bytes.proofs.Tests.{int_eq-same}
 use Rattle.region_bytes.proofs.Edges.{int_le-true, int_le-false}
 use Rattle.region_bytes.proofs.Flags.{no_words_left}
-use Rattle.region_bytes.proofs.Parted.{length_of_words}
 use Rattle.region_bytes.proofs.Ranges.{IsRectIn}
 use Rattle.region_bytes.proofs.Short.{rect_rows, rect_text, none_text}
-use Rattle.region_bytes.proofs.Long.{IsRectText, text_short, text_long, text_data, text_box, text_length, data_text, of_sides}
+use Rattle.region_bytes.proofs.Long.{text_short, text_long, text_data, text_box, text_length, data_text, of_sides}
 
 -- ---- boxes
 

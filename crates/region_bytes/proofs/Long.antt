@@ -1,18 +1,17 @@
 -- Bytes with data are those of neither a rectangle nor of no pixel.
-use Rattle.std.proofs.Common.{◌≡◌, ℕ, zero, suc, ◌+◌, ◌*◌, ◌<◌, ◌≤◌, Bool, true, false, not, ◌&&◌, cond, List, [], ◌∷◌, ◌++◌, length, ℤ, pos, negsuc, ◌<ℤ◌, ◌≤ℤ◌, refl, sym, ap, ◌∙◌, subst, arith, rules, All, ◌⊎◌, inl, inr, length-append}
-use Rattle.std.specs.Prelude.{Option, Some, None, ◌==◌}
-use Rattle.std.specs.List.{flat_map, fold}
+use Rattle.std.proofs.Common.{◌≡◌, ℕ, zero, suc, ◌+◌, ◌<◌, ◌≤◌, Bool, true, false, ◌&&◌, cond, List, [], ◌∷◌, ◌++◌, length, ℤ, pos, ◌<ℤ◌, ◌≤ℤ◌, refl, sym, ap, ◌∙◌, subst, arith, All, ◌⊎◌, inl, inr, length-append}
+use Rattle.std.specs.Prelude.{None, ◌==◌}
+use Rattle.std.specs.List.{fold}
 use Rattle.std.proofs.lemmas.Int.{ints}
-use Rattle.std.proofs.lemmas.Bool.{true≢false, false≢true}
+use Rattle.std.proofs.lemmas.Bool.{true≢false}
 use Rattle.std.proofs.lemmas.Bool.Decides.{nat_tests}
 use Rattle.std.proofs.lemmas.List.Elements.{All-head, All-tail, All-nil, All-cons}
 use Rattle.tb_geom.specs.declared.point.Point.{Point}
 use Rattle.tb_geom.specs.declared.rect.Rect.{Rect}
-use Rattle.tb_geom.specs.Rects.{rect_holds, empty_rect}
-use Rattle.region_bytes.specs.Edges.{differ, inside, is_odd}
+use Rattle.tb_geom.specs.Rects.{empty_rect}
+use Rattle.region_bytes.specs.Edges.{differ, is_odd}
 use Rattle.region_bytes.specs.Points.{PointRow, inverted, points_of, in_rows, IsPointRow, IsCanonical}
-use Rattle.region_bytes.specs.Words.{grown, row_words, data_words, box_of, box_words, is_short, words_of}
-use Rattle.region_bytes.specs.Bytes.{IsWord, IsOfWords, IsTold}
+use Rattle.region_bytes.specs.Words.{grown, data_words, box_of, box_words, is_short, words_of}
 use Rattle.region_bytes.specs.Scan.{IsData, points_in}
 use Rattle.region_bytes.specs.Text.{IsText}
 use Rattle.region_bytes.proofs.Edges.{int_le-true, first_in}

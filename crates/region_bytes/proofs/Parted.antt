@@ -1,17 +1,15 @@
 -- The words of a region's bytes: the size, the box and the data.
-use Rattle.std.proofs.Common.{◌≡◌, ℕ, zero, suc, ◌+◌, ◌*◌, ◌/◌, ◌%◌, ◌<◌, ◌≤◌, Bool, true, false, cond, List, [], ◌∷◌, ◌++◌, length, get_or, ℤ, pos, negsuc, ◌≤ℤ◌, refl, sym, ap, ◌∙◌, arith, rules, All, length-append}
+use Rattle.std.proofs.Common.{◌≡◌, ℕ, zero, suc, ◌+◌, ◌*◌, ◌/◌, ◌%◌, ◌<◌, ◌≤◌, Bool, true, false, cond, List, [], ◌∷◌, ◌++◌, length, get_or, ℤ, pos, negsuc, refl, sym, ap, ◌∙◌, arith, All, length-append}
 use Rattle.std.specs.Prelude.{Option, Some, None}
 use Rattle.std.specs.List.{flat_map}
-use Rattle.std.specs.Int.{to_be_bytes, cast_unsigned, w16}
 use Rattle.std.proofs.lemmas.Int.{ints}
-use Rattle.std.proofs.lemmas.List.Elements.{All-head, All-tail, All-nil, All-cons, All-append, All-same}
+use Rattle.std.proofs.lemmas.List.Elements.{All-head, All-tail, All-nil, All-cons, All-append}
 use Rattle.tb_geom.specs.declared.rect.Rect.{Rect}
 use Rattle.region_bytes.specs.Points.{PointRow, points_of}
 use Rattle.region_bytes.specs.Words.{word_bytes, words_in, row_words, data_words, box_of, box_words, is_short, words_of, bytes_of}
 use Rattle.region_bytes.specs.Bytes.{IsWord, IsOfWords, IsForm}
-use Rattle.region_bytes.specs.Text.{IsText}
 use Rattle.region_bytes.proofs.Words.{words_in-bytes, bytes-words_in}
-use Rattle.region_bytes.proofs.Ranges.{IsBoxIn, IsRectIn, box_in, points_in_range}
+use Rattle.region_bytes.proofs.Ranges.{IsBoxIn, box_in, points_in_range}
 
 -- ---- how many
 

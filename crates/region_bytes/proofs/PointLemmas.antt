@@ -1,17 +1,12 @@
 -- The points of words, one by one.
-use Rattle.std.proofs.Common.{◌≡◌, ℕ, ◌<◌, ◌≤◌, Bool, true, false, not, ◌&&◌, ◌||◌, ◌≤ℤ◌, cond, List, [], ◌∷◌, length, get_or, take, drop, ◌-◌, ◌++◌, map, All, ℤ, pos, refl, sym, ap, ◌∙◌, arith}
-use Rattle.std.specs.Prelude.{int_le, int_lt}
+use Rattle.std.proofs.Common.{◌≡◌, ℕ, ◌<◌, ◌≤◌, Bool, true, false, cond, List, [], ◌∷◌, length, get_or, take, drop, ◌-◌, ◌++◌, map, All, ℤ, pos, refl, sym, ap, ◌∙◌}
 use Rattle.std.specs.Ordering.{int_eq}
 use Rattle.std.specs.Int.{from_be_bytes, cast_signed, w16}
-use Rattle.std.proofs.lemmas.Int.{ints}
 use Rattle.std.proofs.lemmas.Bool.Decides.{Decides-int_eq}
-use Rattle.std.proofs.lemmas.Bool.{true≢false}
 use Rattle.std.proofs.lemmas.List.{take_rest}
 use Rattle.std.proofs.lemmas.List.Elements.{All-head, All-tail}
-use Rattle.tb_geom.specs.declared.point.Point.{Point}
-use Rattle.region_bytes.specs.Edges.{differ}
 use Rattle.region_bytes.specs.Words.{words_in}
-use Rattle.region_bytes.specs.Points.{PointRow, inverted, points_of, row_points}
+use Rattle.region_bytes.specs.Points.{PointRow, points_of, row_points}
 use Rattle.region_bytes.specs.Scan.{points_in}
 use Rattle.region_bytes.specs.Bytes.{IsTold}
 use Rattle.region_bytes.specs.Words.{data_words}

@@ -1,5 +1,5 @@
 -- The box of points lies in a range exactly where the points do.
-use Rattle.std.proofs.Common.{◌≡◌, ℕ, ◌<◌, List, [], ◌∷◌, ◌++◌, length, get_or, map, ℤ, pos, negsuc, ◌≤ℤ◌, arith, All}
+use Rattle.std.proofs.Common.{◌<◌, List, [], ◌∷◌, ◌++◌, length, ℤ, ◌≤ℤ◌, arith, All}
 use Rattle.std.specs.Prelude.{Option, Some, None}
 use Rattle.std.specs.List.{fold}
 use Rattle.std.proofs.lemmas.Int.{ints, clamps}

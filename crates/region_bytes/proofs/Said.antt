@@ -1,26 +1,26 @@
 -- The pixels that a region's bytes say, and when they are in range.
-use Rattle.std.proofs.Common.{◌≡◌, ℕ, ◌+◌, ◌*◌, ◌<◌, ◌≤◌, Bool, true, false, not, ◌&&◌, List, [], ◌∷◌, ◌++◌, length, get_or, ℤ, pos, negsuc, ◌<ℤ◌, ◌≤ℤ◌, refl, sym, ap, ◌∙◌, subst, arith, rules, All, ◌⊎◌, inl, inr}
-use Rattle.std.specs.Prelude.{Option, Some, None, int_le, int_lt}
+use Rattle.std.proofs.Common.{◌≡◌, ℕ, ◌<◌, Bool, true, false, ◌&&◌, List, [], ◌∷◌, length, get_or, ℤ, pos, negsuc, ◌<ℤ◌, ◌≤ℤ◌, refl, sym, ap, ◌∙◌, subst, arith, All, inl, inr}
+use Rattle.std.specs.Prelude.{Option, Some, None, int_le}
 use Rattle.std.proofs.lemmas.Int.{ints, by_lt_z}
-use Rattle.std.proofs.lemmas.Bool.{and_parts, true≢false, false≢true}
+use Rattle.std.proofs.lemmas.Bool.{and_parts, true≢false}
 use Rattle.std.proofs.lemmas.List.Elements.{All-head, All-tail, All-nil, All-cons, All-weaker}
 use Rattle.tb_geom.specs.declared.point.Point.{Point}
 use Rattle.tb_geom.specs.declared.rect.Rect.{Rect}
 use Rattle.tb_geom.specs.Rects.{rect_holds, empty_rect, in_plane, is_coordinate, is_in_range, between}
-use Rattle.tb_geom.specs.Pixels.{holds, pixels_where}
+use Rattle.tb_geom.specs.Pixels.{holds}
 use Rattle.tb_geom.proofs.PixelsLemmas.{test_holds}
 use Rattle.region_bytes.specs.Edges.{differ, inside, IsCoordinate}
 use Rattle.region_bytes.specs.Points.{PointRow, inverted, points_of, in_rows, IsPointRow, IsCanonical, IsInRange}
-use Rattle.region_bytes.specs.Words.{words_in, words_of, box_of, box_words, is_short, data_words}
-use Rattle.region_bytes.specs.Bytes.{IsRegionBytes, IsForm, IsBad, IsWord, IsOfWords, IsTold}
+use Rattle.region_bytes.specs.Words.{words_in, words_of, box_of, box_words}
+use Rattle.region_bytes.specs.Bytes.{IsRegionBytes, IsForm, IsWord}
 use Rattle.region_bytes.specs.Text.{IsText, IsParted, IsRectOfWords, text_pixels, word_pixels, pixels_of}
 use Rattle.region_bytes.proofs.Edges.{inside_left, inside_right, int_le-false, int_le-true}
 use Rattle.region_bytes.proofs.Rows.{inverted-points_of, nil_has}
 use Rattle.region_bytes.proofs.Data.{words_fit}
 use Rattle.region_bytes.proofs.Parted.{form_words, words_form}
-use Rattle.region_bytes.proofs.Ranges.{IsRectIn, IsBoxIn, IsBoxKept, IsRowIn, IsIn, box_in, points_in_range, points_in_box, rows_in_range}
+use Rattle.region_bytes.proofs.Ranges.{IsRectIn, IsBoxIn, IsBoxKept, box_in, points_in_range, points_in_box, rows_in_range}
 use Rattle.region_bytes.proofs.Short.{parted, rect_pixels}
-use Rattle.region_bytes.proofs.Long.{IsRectText, of_sides, text_short, text_long, data_pixels}
+use Rattle.region_bytes.proofs.Long.{of_sides, text_short, text_long, data_pixels}
 
 -- ---- form and text
 

@@ -1,21 +1,19 @@
 -- The rows of a rectangle and of no pixel, whose box says all.
-use Rattle.std.proofs.Common.{◌≡◌, ℕ, zero, suc, ◌+◌, ◌<◌, ◌≤◌, Bool, true, false, ◌&&◌, cond, List, [], ◌∷◌, ◌++◌, length, get_or, map, ℤ, pos, negsuc, ◌<ℤ◌, ◌≤ℤ◌, refl, sym, ap, ◌∙◌, subst, arith, rules, All, ◌⊎◌, inl, inr}
-use Rattle.std.specs.Prelude.{Option, Some, None, int_le, int_lt, ◌==◌}
-use Rattle.std.specs.List.{flat_map}
+use Rattle.std.proofs.Common.{◌≡◌, ℕ, zero, suc, ◌<◌, Bool, true, false, ◌&&◌, cond, List, [], ◌∷◌, ◌++◌, get_or, ℤ, pos, negsuc, ◌<ℤ◌, ◌≤ℤ◌, refl, sym, ap, ◌∙◌, arith, All}
+use Rattle.std.specs.Prelude.{Option, Some, None, int_le}
 use Rattle.std.specs.Int.{int_min, int_max}
 use Rattle.std.proofs.lemmas.Int.{ints, clamps}
 use Rattle.std.proofs.lemmas.Bool.{true≢false, false≢true}
-use Rattle.std.proofs.lemmas.Bool.Decides.{nat_tests}
 use Rattle.std.proofs.lemmas.List.Elements.{All-head, All-tail, All-nil, All-cons}
 use Rattle.tb_geom.specs.declared.point.Point.{Point}
 use Rattle.tb_geom.specs.declared.rect.Rect.{Rect}
 use Rattle.tb_geom.specs.Rects.{rect_holds, between, empty_rect}
 use Rattle.region_bytes.specs.Edges.{differ, inside, is_odd, IsRising}
-use Rattle.region_bytes.specs.Points.{PointRow, top_of, inverted, points_of, in_rows, IsPointRow, ArePointRows, IsCanonical}
-use Rattle.region_bytes.specs.Words.{row_words, data_words, box_of, box_words, is_short, words_of}
-use Rattle.region_bytes.specs.Bytes.{IsWord, IsOfWords, IsTold}
+use Rattle.region_bytes.specs.Points.{PointRow, inverted, points_of, in_rows, IsPointRow, IsCanonical}
+use Rattle.region_bytes.specs.Words.{box_of, box_words, words_of}
+use Rattle.region_bytes.specs.Bytes.{IsWord, IsOfWords}
 use Rattle.region_bytes.specs.Text.{IsText}
-use Rattle.region_bytes.proofs.Edges.{int_le-true, int_le-false, same_edges}
+use Rattle.region_bytes.proofs.Edges.{int_le-true, same_edges}
 use Rattle.region_bytes.proofs.Rows.{inverted-points_of}
 use Rattle.region_bytes.proofs.Ranges.{IsRectIn}
 

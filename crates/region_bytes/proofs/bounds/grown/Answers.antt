@@ -1,5 +1,5 @@
-use Rattle.std.proofs.Common.{SFits, w32, rules, arith, Some, ap, sym, ◌∙◌}
-use Rattle.std.proofs.lemmas.Int.{ints, to_z-of_z}
+use Rattle.std.proofs.Common.{SFits, w32, rules, Some, ap, sym, ◌∙◌}
+use Rattle.std.proofs.lemmas.Int.{to_z-of_z}
 use Rattle.region_bytes.specs.Words.{grown}
 use Rattle.region_bytes.proofs.bounds.grown.Goals as goal
 

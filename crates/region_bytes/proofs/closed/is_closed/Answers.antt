@@ -1,4 +1,4 @@
-use Rattle.std.proofs.Common.{◌≡◌, ℕ, ℤ, ◌<◌, ◌≤◌, sym, ◌∙◌, ap, subst, arith, rules, List, ◌∷◌, [], length, take, drop, get_or, ◌-◌, false, Bool}
+use Rattle.std.proofs.Common.{◌≡◌, ℕ, ◌<◌, sym, ◌∙◌, ap, subst, arith, rules, List, ◌∷◌, [], length, take, drop, get_or, ◌-◌}
 use Rattle.std.specs.Int.{from_be_bytes, cast_signed, w16}
 use Rattle.std.proofs.lemmas.List.{take_rest}
 use Rattle.region_bytes.specs.Words.{words_in}

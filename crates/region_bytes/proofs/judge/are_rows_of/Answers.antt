@@ -1,9 +1,9 @@
-use Rattle.std.proofs.Common.{◌≡◌, ℕ, ℤ, sym, ◌∙◌, ap, arith, rules, List, ◌∷◌, [], length, take, drop, get_or, ltb, ◌-◌, SFits, w32, to_z, of_z}
+use Rattle.std.proofs.Common.{◌≡◌, ℕ, sym, ◌∙◌, ap, rules, List, ◌∷◌, [], length, take, drop, get_or, ◌-◌, SFits, w32, to_z, of_z}
 use Rattle.std.specs.Int.{from_be_bytes, cast_signed, w16}
 use Rattle.std.proofs.lemmas.Int.{to_z-of_z}
 use Rattle.std.proofs.lemmas.List.{take_rest}
 use Rattle.region_bytes.specs.Words.{words_in}
-use Rattle.region_bytes.specs.Scan.{is_nil, from_place, outcome}
+use Rattle.region_bytes.specs.Scan.{from_place}
 use Rattle.region_bytes.proofs.Scanned.{no_words, no_more, words_in-two}
 use Rattle.region_bytes.proofs.judge.are_rows_of.Goals as goal
 

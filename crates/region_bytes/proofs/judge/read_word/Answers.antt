@@ -1,5 +1,4 @@
-use Rattle.std.proofs.Common.{◌≡◌, ℤ, pos, negsuc, ◌<ℤ◌, ◌≤ℤ◌, true, false, sym, ◌∙◌, ap, arith, rules, SFits, w32, of_z}
-use Rattle.std.specs.Prelude.{int_le}
+use Rattle.std.proofs.Common.{◌≡◌, pos, true, false, sym, ◌∙◌, rules, SFits, w32}
 use Rattle.std.proofs.lemmas.Int.{ints, to_z-of_z}
 use Rattle.region_bytes.proofs.Scanned.{ends, top_low, top_next, row_ends, row_odd, row_empty, column_low, column_next, from_le, from_gt}
 use Rattle.region_bytes.proofs.judge.read_word.Goals as goal

@@ -1,4 +1,4 @@
-use Rattle.std.proofs.Common.{◌≡◌, sym, ◌∙◌, arith, rules, ◌∷◌, [], length, get_or, SFits, w32, to_z, of_z}
+use Rattle.std.proofs.Common.{◌≡◌, sym, ◌∙◌, arith, rules, ◌∷◌, [], get_or, SFits, w32, to_z, of_z}
 use Rattle.std.specs.Int.{from_be_bytes, cast_signed, w16}
 use Rattle.std.proofs.lemmas.Int.{to_z-of_z}
 use Rattle.region_bytes.proofs.PointLemmas.{split}

@@ -1,4 +1,4 @@
-use Rattle.std.proofs.Common.{◌≡◌, sym, ap, ◌∙◌, arith, rules, length, ◌<◌, ◌+◌, ◌∷◌, pos, SFits, w32, to_z, of_z, Some}
+use Rattle.std.proofs.Common.{◌≡◌, sym, ◌∙◌, arith, rules, ◌∷◌, SFits, w32}
 use Rattle.std.proofs.lemmas.Int.{to_z-of_z}
 use Rattle.std.proofs.lemmas.Bool.{false≢true}
 use Rattle.region_bytes.specs.Words.{words_in}

@@ -1,5 +1,4 @@
 use Rattle.std.proofs.Common.{◌≡◌, true, false, not, sym, ap, ◌∙◌, rules}
-use Rattle.std.proofs.lemmas.Bool.{true≢false}
 use Rattle.region_bytes.proofs.Judged.{rect_is, alone_none, alone_rect, rect_alone}
 use Rattle.region_bytes.proofs.texts.is_box_alone.Goals as goal
 

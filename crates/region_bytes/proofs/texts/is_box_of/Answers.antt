@@ -1,4 +1,4 @@
-use Rattle.std.proofs.Common.{◌≡◌, true, sym, ap, ◌∙◌, rules}
+use Rattle.std.proofs.Common.{◌≡◌, true, ap, ◌∙◌, rules}
 use Rattle.std.specs.Option.{unwrap_or}
 use Rattle.tb_geom.specs.Rects.{empty_rect}
 use Rattle.region_bytes.proofs.Judged.{box_told, box_tells}

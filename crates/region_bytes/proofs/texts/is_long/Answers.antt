@@ -1,5 +1,4 @@
-use Rattle.std.proofs.Common.{◌≡◌, true, false, sym, ap, ◌∙◌, rules, arith, ◌<◌, ◌/◌, length}
-use Rattle.std.proofs.lemmas.Bool.{true≢false, false≢true}
+use Rattle.std.proofs.Common.{rules, arith}
 use Rattle.region_bytes.proofs.Judged.{long_words, long_is_data, long_box, data_long}
 use Rattle.region_bytes.proofs.texts.is_long.Goals as goal
 

@@ -1,4 +1,4 @@
-use Rattle.std.proofs.Common.{◌≡◌, subst, rules, arith, length}
+use Rattle.std.proofs.Common.{◌≡◌, subst, rules, length}
 use Rattle.region_bytes.specs.Forms.{IsRectOf, IsRowsOf}
 use Rattle.region_bytes.proofs.Formed.{region_form, rect_form, rows_form}
 use Rattle.region_bytes.proofs.region.RegionBytes.form.Goals as goal

@@ -1,6 +1,5 @@
-use Rattle.std.proofs.Common.{◌≡◌, true, false, sym, ◌∙◌, refl, rules, arith, inl, inr}
+use Rattle.std.proofs.Common.{sym, ◌∙◌, refl, arith, inl, inr}
 use Rattle.std.proofs.lemmas.Bool.{false≢true}
-use Rattle.region_bytes.specs.Text.{IsParted}
 use Rattle.region_bytes.proofs.Said.{form_text, sides_fit, bytes_of_text, out_of_range}
 use Rattle.region_bytes.proofs.region.RegionBytes.read.Goals as goal
 
