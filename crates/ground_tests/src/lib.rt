@@ -37,3 +37,5 @@ mod geometry;
 mod maps;
 #[cfg(test)]
 mod regions;
+#[cfg(test)]
+mod written;

@@ -18,6 +18,12 @@ pub const END: i32 = 32767;
 /// The greatest number of words of data: the size word says at most 32766, with itself and the box.
 const MOST: usize = 16378;
 
+/// The number of words of the data of no pixel, which is left out.
+const NOTHING: usize = 1;
+
+/// The number of words of the data of a rectangle, which is left out too.
+const RECTANGLE: usize = 9;
+
 /// The bytes of a region while its inversion points are found, by rising rows and columns. Each word
 /// is counted, though memory for its bytes is refused: whether all are too many is known at the end.
 #[derive(Drop)]
@@ -82,7 +88,7 @@ impl RegionWriter {
         if self.lost {
             return Err(Refusal::NoMemory);
         }
-        if self.words == 1 || self.words == 9 {
+        if self.words == NOTHING || self.words == RECTANGLE {
             return Ok(with_head(alloc, self.bounds, &[])?);
         }
         Ok(with_head(alloc, self.bounds, self.bytes.as_slice())?)
