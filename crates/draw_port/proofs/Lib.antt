@@ -3,3 +3,4 @@ pub mod CanvasLemmas
 pub mod PlacedLemmas
 pub mod PictureLemmas
 pub mod GlyphLemmas
+pub mod FrameLemmas

@@ -5,3 +5,4 @@ pub mod Places
 pub mod Cuts
 pub mod Canvases
 pub mod Texts
+pub mod Frames

@@ -15,6 +15,7 @@ mod bytes;
 mod canvas;
 mod copies;
 mod cut;
+mod frames;
 pub mod laws;
 mod painting;
 mod picture;
