@@ -2,8 +2,8 @@
 
 use bit_map::{BitMap, Mode};
 use def_iface::{Canvas, Cut};
-use drawing_tests::pixels::{Pixels, are_alike, map_of, mark};
 use drawing_tests::sheet::{MIXED, SHEET, Sheet, inked};
+use ground_tests::pixels::{Pixels, are_alike, map_of, mark};
 use scan_region::Region;
 use std::alloc::Global;
 use std::test::Fail;

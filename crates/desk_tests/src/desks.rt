@@ -7,7 +7,7 @@ use crate::titled_window::Titled;
 use bit_map::BitMap;
 use def_iface::{Defined, Size, Stock, Stocked, Taken, WindowDef};
 use desk_toolbox::{Call, Found, NewWindow, Reply, Text, Toolbox, WindowCall, WindowPart};
-use drawing_tests::pixels::{Pixels, are_alike, mark};
+use ground_tests::pixels::{Pixels, are_alike, mark};
 use std::alloc::{AllocError, Global};
 use std::test::Fail;
 use tb_geom::{Point, Rect, Refusal};

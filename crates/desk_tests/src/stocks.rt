@@ -5,7 +5,7 @@ ghost use Rattle.def_iface.specs.Meaning.{is_fitting};
 use crate::canvases::cut;
 use crate::titled_window::Titled;
 use def_iface::{Canvas, Defined, Hit, Size, Stage, Stock, Taken, WindowDef, WindowRegions};
-use drawing_tests::pixels::{Pixels, map_of, mark, picture};
+use ground_tests::pixels::{Pixels, map_of, mark, picture};
 use scan_region::Region;
 use std::alloc::Global;
 use std::test::Fail;

@@ -1,8 +1,8 @@
 //! Drawings against a plain loop over all pixels.
-use crate::pixels::{Pixels, are_alike, map_of, mark, picture};
 use crate::sheet::{MIXED, MODES, SHEET, Sheet, before, inked};
 use bit_blit::{Inverse, copy, draw_rect, fill, invert, shift};
 use bit_map::{BitImage, BitMap, Mode};
+use ground_tests::pixels::{Pixels, are_alike, map_of, mark, picture};
 use scan_region::Region;
 use std::alloc::Global;
 use std::test::Fail;

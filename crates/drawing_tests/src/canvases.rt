@@ -1,10 +1,11 @@
 //! The calls of a canvas and of pictures.
 
-use crate::images::{NOTHING_CUT, SMALL, drawn, image_of, shade, shows};
+use crate::images::{NOTHING_CUT, drawn, image_of, shade, shows};
 use bit_map::{BitMap, Mode, Pattern};
 use draw_port::{
     Bytes, Canvas, Cut, Line, Op, Picture, RowsOfBits, Shape, ShortText, TextMode, TextRun,
 };
+use font_tests::small::SMALL;
 use scan_region::Region;
 use std::alloc::Global;
 use std::test::Fail;

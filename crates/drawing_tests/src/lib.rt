@@ -1,13 +1,11 @@
-//! What no clause says of the crates for drawing, by tests: that calls succeed where memory is not refused, and that the
-//! words of the contracts are QuickDraw's. Expected values are tables and pictures written by hand, or come from slow
-//! programs over single pixels, and never from the libraries.
+//! What no clause says of drawing, by tests: that drawings come out where memory is not refused, and that the words of
+//! the contracts are QuickDraw's. Expected values are images written by hand, or come from slow programs over single
+//! pixels, and never from the libraries.
 //!
-//! `geometry` tests `tb_geom`, `maps` tests `bit_map`, `regions` tests `scan_region`, and `blits` tests `bit_blit`. Of
-//! `draw_port`, `pictures` tests operations, one after another, and `canvases` the calls of a canvas and of pictures.
-//! `pixels` has what they compare with, and `sheet` and `images` what they draw on.
+//! `blits` tests `bit_blit`. Of `draw_port`, `pictures` tests operations, one after another, and `canvases` the calls of
+//! a canvas and of pictures. `sheet` and `images` have what they draw on.
 #![tactic(auto)]
 
-pub mod pixels;
 pub mod sheet;
 
 /// A rectangle, by its left side, its top, its right side and its bottom.
@@ -36,12 +34,6 @@ mod blits;
 #[cfg(test)]
 mod canvases;
 #[cfg(test)]
-mod geometry;
-#[cfg(test)]
 mod images;
 #[cfg(test)]
-mod maps;
-#[cfg(test)]
 mod pictures;
-#[cfg(test)]
-mod regions;

@@ -1,8 +1,9 @@
 //! Operations, one after another.
 
-use crate::images::{SMALL, drawn, shade, shows};
+use crate::images::{drawn, shade, shows};
 use bit_map::{Mode, Pattern};
 use draw_port::{Bytes, Line, Op, Picture, RowsOfBits, Shape, ShortText, TextMode, TextRun};
+use font_tests::small::SMALL;
 use scan_region::Region;
 use std::alloc::Global;
 use std::test::Fail;

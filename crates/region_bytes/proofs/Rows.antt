@@ -1,5 +1,5 @@
 -- Rows of inversion points: what they have, row by row, and that a set has one canonical list of them.
-use Rattle.std.proofs.Common.{◌≡◌, ℕ, zero, suc, ◌<◌, Bool, true, false, ◌&&◌, List, [], ◌∷◌, ◌++◌, length, get_or, map, ℤ, pos, ◌<ℤ◌, refl, sym, ap, ◌∙◌, arith}
+use Rattle.std.proofs.Common.{◌≡◌, ℕ, zero, suc, ◌<◌, Bool, true, false, ◌&&◌, List, [], ◌∷◌, ◌++◌, length, get_or, map, ℤ, pos, ◌<ℤ◌, ◌≤ℤ◌, All, refl, sym, ap, ◌∙◌, arith}
 use Rattle.std.specs.Prelude.{int_le}
 use Rattle.std.proofs.lemmas.Int.{ints, by_lt_z}
 use Rattle.std.proofs.lemmas.Bool.{true≢false}
@@ -7,7 +7,7 @@ use Rattle.std.proofs.lemmas.List.Elements.{All-head, All-tail}
 use Rattle.tb_geom.specs.declared.point.Point.{Point}
 use Rattle.region_bytes.specs.Edges.{differ, inside}
 use Rattle.region_bytes.specs.Points.{PointRow, inverted, row_points, points_of, in_rows, top_of, IsPointRow, ArePointRows, IsCanonical}
-use Rattle.region_bytes.proofs.Edges.{int_le-true, int_le-false, rising_tail, rising_head, first_in, differ_cancel, same_edges}
+use Rattle.region_bytes.proofs.Edges.{int_le-true, int_le-false, rising_tail, rising_head, first_in, differ_cancel, differ_swap, same_edges}
 
 -- ---- the rows
 
@@ -18,26 +18,27 @@ above_out [] h v all = refl
 above_out (row ∷ rows) h v all =
     (λ i. differ (int_le-false row.0 v (all zero (omega arith)) i && inside row.1 h) (above_out rows h v (λ k l. all (suc k) (omega arith)) i))
 
-canonical_tail : (row : PointRow) (rows : List PointRow) → ArePointRows (row ∷ rows) → ArePointRows rows
+-- the rows below the first one are rows
+pub canonical_tail : (row : PointRow) (rows : List PointRow) → ArePointRows (row ∷ rows) → ArePointRows rows
 canonical_tail row rows c = record { rising = rising_tail row.0 (map top_of rows) c.rising; each = All-tail IsPointRow row rows c.each }
 
-differ-false : (b : Bool) → differ b false ≡ b
+pub differ-false : (b : Bool) → differ b false ≡ b
 differ-false true = refl
 differ-false false = refl
 
 -- at its first row a region has that row's pixels, and above it none
-first_row : (row : PointRow) (rows : List PointRow) (h : ℤ) → ArePointRows (row ∷ rows) → in_rows (row ∷ rows) h row.0 ≡ inside row.1 h
+pub first_row : (row : PointRow) (rows : List PointRow) (h : ℤ) → ArePointRows (row ∷ rows) → in_rows (row ∷ rows) h row.0 ≡ inside row.1 h
 unfolding in_rows
 first_row row rows h c =
     (λ i. differ (int_le-true row.0 row.0 (omega (arith, ints)) i && inside row.1 h) (above_out rows h row.0 (rising_head row.0 (map top_of rows) c.rising) i)) ∙ differ-false _
 
-above_first : (row : PointRow) (rows : List PointRow) (h v : ℤ) → ArePointRows (row ∷ rows) → v <ℤ row.0 → in_rows (row ∷ rows) h v ≡ false
+pub above_first : (row : PointRow) (rows : List PointRow) (h v : ℤ) → ArePointRows (row ∷ rows) → v <ℤ row.0 → in_rows (row ∷ rows) h v ≡ false
 unfolding in_rows
 above_first row rows h v c l =
     (λ i. differ (int_le-false row.0 v l i && inside row.1 h) (above_out rows h v (λ k n. let f = rising_head row.0 (map top_of rows) c.rising k n in omega (arith, ints)) i))
 
 -- a good row has a pixel
-some_pixel : (row : PointRow) → IsPointRow row → ((h : ℤ) → inside row.1 h ≡ false) → ⊥
+pub some_pixel : (row : PointRow) → IsPointRow row → ((h : ℤ) → inside row.1 h ≡ false) → ⊥
 some_pixel (v, []) g e = absurd (omega (arith, g.some))
 some_pixel (v, x ∷ xs) g e = true≢false (sym (first_in x xs g.rising) ∙ e x)
 
@@ -48,6 +49,20 @@ row_tails row a b e h v = differ_cancel (int_le row.0 v && inside row.1 h) _ _ (
 pub nil_has : (h v : ℤ) → in_rows [] h v ≡ false
 unfolding in_rows
 nil_has h v = refl
+
+-- one more row turns the columns from its points on, from it on down
+pub in_rows-push : (rows : List PointRow) (row : PointRow) (h v : ℤ) → in_rows (rows ++ row ∷ []) h v ≡ differ (int_le row.0 v && inside row.1 h) (in_rows rows h v)
+unfolding in_rows
+in_rows-push [] row h v = refl
+in_rows-push (r ∷ rows) row h v = ap (differ (int_le r.0 v && inside r.1 h)) (in_rows-push rows row h v) ∙ differ_swap (int_le r.0 v && inside r.1 h) (int_le row.0 v && inside row.1 h) _
+
+-- below all rows nothing changes
+pub past_rows : (rows : List PointRow) (h v w : ℤ) → All (λ row. row.0 ≤ℤ v) rows → v ≤ℤ w → in_rows rows h v ≡ in_rows rows h w
+unfolding in_rows
+past_rows [] h v w all l = refl
+past_rows (row ∷ rows) h v w all l =
+    let first = All-head (λ (r : PointRow). r.0 ≤ℤ v) row rows all in
+    λ i. differ ((int_le-true row.0 v first ∙ sym (int_le-true row.0 w (omega (arith, ints)))) i && inside row.1 h) (past_rows rows h v w (All-tail (λ (r : PointRow). r.0 ≤ℤ v) row rows all) l i)
 
 -- canonical lists of the same pixels are equal
 pub same_rows : (a b : List PointRow) → ArePointRows a → ArePointRows b → ((h v : ℤ) → in_rows a h v ≡ in_rows b h v) → a ≡ b
@@ -70,7 +85,7 @@ same_rows (r ∷ a) (s ∷ b) c d e =
 
 -- ---- the points
 
-differ_assoc : (a b c : Bool) → differ (differ a b) c ≡ differ a (differ b c)
+pub differ_assoc : (a b c : Bool) → differ (differ a b) c ≡ differ a (differ b c)
 differ_assoc true true true = refl
 differ_assoc true true false = refl
 differ_assoc true false c = refl

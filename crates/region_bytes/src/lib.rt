@@ -1,4 +1,16 @@
-//! Region bytes, judged and read in place.
+//! Region bytes, judged and read in place, and written.
 #![tactic(auto)]
 
+mod bounds;
+mod closed;
+mod judge;
 pub mod laws;
+mod parting;
+mod points;
+mod region;
+mod texts;
+mod writing;
+
+pub use parting::first_word;
+pub use region::{Form, RegionBytes};
+pub use writing::{END, RegionWriter};

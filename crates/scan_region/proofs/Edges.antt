@@ -1,11 +1,13 @@
 -- The edges of a row, and what one more edge changes.
-use Rattle.std.proofs.Common.{◌≡◌, ◌&&◌, ℕ, suc, ◌+◌, ◌<◌, Bool, true, false, not, List, [], ◌∷◌, ◌++◌, length, get_or, take, ℤ, pos, ◌<ℤ◌, ◌≤ℤ◌, refl, ap, ◌∙◌, arith}
-use Rattle.std.specs.Prelude.{int_le}
-use native.Mathlib.Numerals.{unary_clauses}
+use Rattle.std.proofs.Common.{◌≡◌, ◌&&◌, ◌+◌, ◌<◌, Bool, true, false, not, List, [], ◌∷◌, ◌++◌, length, get_or, take, ℤ, pos, ◌<ℤ◌, refl, ap, ◌∙◌, arith}
 use mathlib.Core.Bool.{beq}
+use lib.Pointwise.{pointwise}
+use Rattle.std.specs.Ordering.{int_eq}
 use Rattle.std.proofs.lemmas.Int.{ints}
+use Rattle.std.proofs.lemmas.Bool.{and_parts, false≢true}
+use Rattle.std.proofs.lemmas.Bool.Decides.{Decides-int_eq}
 use Rattle.std.proofs.lemmas.List.{take_more}
-use Rattle.scan_region.specs.Edges.{differ, applied, inside, is_odd, IsRising, IsRow}
+use Rattle.scan_region.specs.Edges.{differ, applied, inside, IsRising}
 use Rattle.scan_region.specs.Cursor.{IsAt}
 use Rattle.scan_region.specs.declared.kernel.Cursor.{Cursor}
 use Rattle.scan_region.specs.declared.kernel.Operator.{Operator}
@@ -69,3 +71,19 @@ applied-right Difference true = refl
 applied-right Difference false = refl
 applied-right SymmetricDifference true = refl
 applied-right SymmetricDifference false = refl
+
+-- ---- equal rows
+
+-- lists that pass the test for equal ones are equal
+pub same_from_test : (xs ys : List ℤ) → pointwise int_eq xs ys ≡ true → xs ≡ ys
+same_from_test [] [] e = refl
+same_from_test [] (y ∷ ys) e = absurd (false≢true e)
+same_from_test (x ∷ xs) [] e = absurd (false≢true e)
+same_from_test (x ∷ xs) (y ∷ ys) e =
+    let p = and_parts (int_eq x y) (pointwise int_eq xs ys) e in
+    λ i. (Decides-int_eq x y).0 p.0 i ∷ same_from_test xs ys p.1 i
+
+-- and a list passes it beside itself
+pub test_itself : (xs : List ℤ) → pointwise int_eq xs xs ≡ true
+test_itself [] = refl
+test_itself (x ∷ xs) = λ i. (Decides-int_eq x x).1 refl i && test_itself xs i

@@ -13,3 +13,6 @@ pub mod FoundRow
 pub mod OneScan
 pub mod Shared
 pub mod Around
+pub mod Inverted
+pub mod InvertedSets
+pub mod Restored

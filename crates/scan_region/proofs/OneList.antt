@@ -1,17 +1,16 @@
 -- Each set of pixels has one list of rows.
-use Rattle.std.proofs.Common.{◌≡◌, ℕ, zero, suc, ◌<◌, Bool, true, false, ◌&&◌, ◌||◌, List, [], ◌∷◌, length, get_or, map, ℤ, pos, ◌<ℤ◌, ◌≤ℤ◌, refl, sym, ap, ◌∙◌, subst, arith}
-use Rattle.std.specs.Prelude.{int_le}
+use Rattle.std.proofs.Common.{◌≡◌, ℕ, zero, suc, ◌<◌, false, ◌&&◌, ◌||◌, List, [], ◌∷◌, length, get_or, map, ℤ, pos, ◌<ℤ◌, ◌≤ℤ◌, refl, sym, ap, ◌∙◌, subst, arith}
 use Rattle.std.proofs.Math.Bool.{or-false}
 use Rattle.std.proofs.lemmas.Int.{ints, by_lt_z}
-use Rattle.std.proofs.lemmas.Bool.{true≢false, false≢true}
+use Rattle.std.proofs.lemmas.Bool.{true≢false}
 use Rattle.std.proofs.lemmas.List.Elements.{All-head, All-tail}
 use Rattle.tb_geom.specs.declared.point.Point.{Point}
 use Rattle.tb_geom.specs.Pixels.{Pixels, has, holds, pixels_where}
-use Rattle.scan_region.specs.Edges.{differ, inside, IsRising}
+use Rattle.scan_region.specs.Edges.{inside, IsRising}
 use Rattle.scan_region.specs.Rows.{EdgeRow, has_in_rows, top_of, AreRows, IsGoodRow}
 use Rattle.scan_region.proofs.Merged.{has_in_rows-nil, int_eq-same, int_eq-apart}
 use Rattle.scan_region.proofs.Plane.{has_view, has_viewed}
-use Rattle.region_bytes.proofs.Edges.{inside_left, inside-nil, rising_tail, rising_head, first_in, same_edges}
+use Rattle.region_bytes.proofs.Edges.{rising_tail, rising_head, first_in, same_edges}
 
 -- ---- the rows
 

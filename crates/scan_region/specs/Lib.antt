@@ -1,4 +1,4 @@
--- What the contracts speak of: the edges of a row, the rows of a region, how far they are read, and spans.
+-- What the contracts speak of: the edges of a row, the rows of a region, how far they are read, spans, and inversion points.
 pub mod Edges
 pub mod Cursor
 pub mod Rows
@@ -6,3 +6,5 @@ pub mod RowsAt
 pub mod Runs
 pub mod Scan
 pub mod Moves
+pub mod Inverted
+pub mod Restored

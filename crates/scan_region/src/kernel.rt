@@ -16,7 +16,7 @@ pub enum Operator {
 
 impl Operator {
     /// Whether a pixel is in the combination, by whether it is in each side.
-    fn holds(self, a: bool, b: bool) -> bool
+    pub fn holds(self, a: bool, b: bool) -> bool
         ensures { result ≡ applied self a b }
     {
         match self {
@@ -31,20 +31,20 @@ impl Operator {
 /// How far a row has been read: the place of its next edge, and whether the pixels before that
 /// edge are in the row.
 #[derive(Clone, Copy)]
-struct Cursor {
-    next: usize,
-    inside: bool,
+pub struct Cursor {
+    pub next: usize,
+    pub inside: bool,
 }
 
 impl Cursor {
-    const START: Cursor = Cursor {
+    pub const START: Cursor = Cursor {
         next: 0,
         inside: false,
     };
 }
 
 /// The cursor past the edge at the column `h`, if there is one.
-fn past(edges: &[i32], at: Cursor, h: i32) -> Cursor
+pub fn past(edges: &[i32], at: Cursor, h: i32) -> Cursor
     requires rising { IsRising edges.now }
     requires within { at.next ≤ length edges.now }
     requires least { at.next < length edges.now → h ≤ℤ slice_index_or edges.now at.next (pos 0) }
@@ -67,7 +67,7 @@ fn past(edges: &[i32], at: Cursor, h: i32) -> Cursor
 }
 
 /// The column of the next edge of either row.
-fn next_edge(a: &[i32], i: usize, b: &[i32], j: usize) -> Option<i32>
+pub fn next_edge(a: &[i32], i: usize, b: &[i32], j: usize) -> Option<i32>
     ensures none { IfNone result ((length a.now ≤ i) × (length b.now ≤ j)) }
     ensures least_a { IfSome result (λ h. i < length a.now → h ≤ℤ slice_index_or a.now i (pos 0)) }
     ensures least_b { IfSome result (λ h. j < length b.now → h ≤ℤ slice_index_or b.now j (pos 0)) }

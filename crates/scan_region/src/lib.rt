@@ -23,6 +23,7 @@
 mod bounds;
 mod contains;
 mod copy;
+mod inversion;
 mod kernel;
 pub mod laws;
 mod meets;
@@ -30,6 +31,7 @@ mod merge;
 mod offset;
 mod rect;
 mod region;
+mod restore;
 mod row;
 mod same;
 mod spans;

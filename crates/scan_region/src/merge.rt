@@ -61,7 +61,7 @@ fn next_row(a: &[Row], i: usize, b: &[Row], j: usize) -> Option<i32>
 }
 
 /// Adds a row, if it has edges.
-fn push_row(rows: &mut Vec<Row>, v: i32, edges: Vec<i32>) -> Result<(), AllocError>
+pub fn push_row(rows: &mut Vec<Row>, v: i32, edges: Vec<i32>) -> Result<(), AllocError>
     ensures { OnOk result (rows.new.items ≡ with_row rows.old.items v edges.items) }
 {
     if !edges.is_empty() {

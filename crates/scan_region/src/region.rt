@@ -1,5 +1,5 @@
 //! The public calls: each wraps a function of the rows.
-ghost use Rattle.std.specs.Prelude.{◌≡◌, true, false, ◌&&◌, ◌||◌, not, ◌↔◌, IsTrue, IfOk, IfErr, OnOk, OnErr, reverse};
+ghost use Rattle.std.specs.Prelude.{◌≡◌, true, false, ◌&&◌, ◌||◌, not, ◌↔◌, IsTrue, IfOk, IfErr, OnOk, OnErr, MatchResult, reverse};
 ghost use Rattle.tb_geom.specs.declared.point.Point.{Point};
 ghost use Rattle.tb_geom.specs.Points.{minus};
 ghost use Rattle.tb_geom.specs.Rects.{rect_holds, is_in_range, IsBoxOf, empty_rect};
@@ -9,15 +9,18 @@ ghost use Rattle.scan_region.specs.Edges.{applied, differ};
 use crate::bounds::rows_bounds;
 use crate::contains::rows_contain;
 use crate::copy::copy_rows;
+use crate::inversion::write_rows;
 use crate::kernel::Operator;
 use crate::meets::rows_meet;
 use crate::merge::merge_rows;
 use crate::offset::{move_rows, rows_stay};
 use crate::rect::rect_rows;
+use crate::restore::form_rows;
 use crate::row::Row;
 use crate::same::same_rows;
 use crate::spans::Spans;
 use crate::spans_up::SpansUp;
+use region_bytes::RegionBytes;
 use std::alloc::{AllocError, Global};
 use std::marker::Model;
 use tb_geom::{Point, Rect, Refusal};
@@ -45,6 +48,7 @@ impl Model for Region {
 impl Region {
     ghost use Rattle.scan_region.specs.Moves.{StaysInRange, LeavesRange};
     ghost use Rattle.scan_region.specs.Scan.{IsScan};
+    ghost use Rattle.region_bytes.specs.Bytes.{IsRegionBytes, IsUnread, IsUnwritten};
 
     /// The region of no pixel (*Inside Macintosh* I, "QuickDraw": `NewRgn`), in any coordinate space.
     /// It takes no memory.
@@ -67,6 +71,17 @@ impl Region {
             return Err(Refusal::OutOfRange);
         }
         let rows = rect_rows(alloc, rect)?;
+        Ok(Region { rows })
+    }
+
+    /// The region whose bytes these are, as `to_bytes` gives them. BadRegion where they have not the form
+    /// of a region's bytes, OutOfRange where they have it and a coordinate lies outside -16384..=16383,
+    /// else it refuses only for want of memory.
+    pub fn from_bytes(alloc: Global, bytes: &[u8]) -> Result<Region, Refusal>
+        ensures { MatchResult result (λ region. IsRegionBytes bytes.now region) (IsUnread bytes.now) }
+    {
+        let read = RegionBytes::read(bytes)?;
+        let rows = form_rows(alloc, read.form())?;
         Ok(Region { rows })
     }
 
@@ -187,6 +202,16 @@ impl Region {
         ensures { IsScan (reverse result) self.now }
     {
         SpansUp::new(self.rows.as_slice())
+    }
+
+    /// The bytes of the region (*Inside Macintosh* I, "QuickDraw": the type `Region`): big-endian words,
+    /// the size in bytes, the box as top, left, bottom and right, and, but for no pixel or a rectangle,
+    /// the rows of inversion points. TooLong where they would be more than 32766, else it refuses only
+    /// for want of memory.
+    pub fn to_bytes(&self, alloc: Global) -> Result<Vec<u8>, Refusal>
+        ensures { MatchResult result (λ bytes. IsRegionBytes bytes.items self.now) (IsUnwritten self.now) }
+    {
+        write_rows(alloc, self.rows.as_slice()).finish(alloc)
     }
 
     /// The pixels that the operator keeps of the two regions.

@@ -1,22 +1,9 @@
-use Rattle.std.proofs.Common.{◌≡◌, ℤ, List, [], ◌∷◌, true, ◌&&◌, refl, sym, ap, ◌∙◌, rules, SFits, w32}
+use Rattle.std.proofs.Common.{◌≡◌, sym, ap, ◌∙◌, rules, SFits, w32}
 use lib.Pointwise.{pointwise}
 use Rattle.std.specs.Ordering.{int_eq}
 use Rattle.std.proofs.lemmas.Int.{ints}
-use Rattle.std.proofs.lemmas.Bool.{and_parts, false≢true}
-use Rattle.std.proofs.lemmas.Bool.Decides.{Decides-int_eq}
+use Rattle.scan_region.proofs.Edges.{same_from_test, test_itself}
 use Rattle.scan_region.proofs.row.Row.is_same.Goals as goal
-
-same_from_test : (xs ys : List ℤ) → pointwise int_eq xs ys ≡ true → xs ≡ ys
-same_from_test [] [] e = refl
-same_from_test [] (y ∷ ys) e = absurd (false≢true e)
-same_from_test (x ∷ xs) [] e = absurd (false≢true e)
-same_from_test (x ∷ xs) (y ∷ ys) e =
-    let p = and_parts (int_eq x y) (pointwise int_eq xs ys) e in
-    λ i. (Decides-int_eq x y).0 p.0 i ∷ same_from_test xs ys p.1 i
-
-test_itself : (xs : List ℤ) → pointwise int_eq xs xs ≡ true
-test_itself [] = refl
-test_itself (x ∷ xs) = λ i. (Decides-int_eq x x).1 refl i && test_itself xs i
 
 pub returns-then-self-other : goal.returns-then-self-other
 returns-then-self-other c =
