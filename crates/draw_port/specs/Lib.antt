@@ -6,3 +6,4 @@ pub mod Cuts
 pub mod Canvases
 pub mod Texts
 pub mod Frames
+pub mod OpRefs
