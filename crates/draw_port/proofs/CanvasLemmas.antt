@@ -38,14 +38,14 @@ seen_number : (limit : ℕ) (x o : ℤ) → limit ≤ 32767 → pos 0 ≤ℤ x �
 seen_number limit (pos n) o l a b e = grind (arith, ints)
 seen_number limit (negsuc n) o l a b e = absurd (omega (arith, ints))
 
--- and it is not far
+-- seen from a near origin, a pixel of a map is not far
 seen_near : (m : Bits) (p o : Point) → m.width ≤ 32767 → m.height ≤ 32767 → is_near o ≡ true → on_map m p ≡ true → is_far (minus p o) ≡ false
 seen_near m p o w h near on =
     let at = on_map-sides m p on in
     let n = both (between (negsuc 999999999) o.h (pos 1000000000)) (between (negsuc 999999999) o.v (pos 1000000000)) near in
     λ i. not (seen_number m.width p.h o.h w at.right at.across n.0 i && seen_number m.height p.v o.v h at.below at.down n.1 i)
 
--- seen from a near origin, a pixel of a map is a point of 32 bits
+-- and its numbers are those of 32 bits
 pub stopped-near : (m : Bits) (p o : Point) → m.width ≤ 32767 → m.height ≤ 32767 → is_near o ≡ true → on_map m p ≡ true → stopped p o ≡ minus p o
 stopped-near m p o w h near on =
     let at = on_map-sides m p on in

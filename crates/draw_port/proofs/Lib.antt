@@ -3,3 +3,5 @@ pub mod CanvasLemmas
 pub mod PlacedLemmas
 pub mod PictureLemmas
 pub mod GlyphLemmas
+pub mod FrameLemmas
+pub mod JudgeLemmas

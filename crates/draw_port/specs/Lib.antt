@@ -5,3 +5,5 @@ pub mod Places
 pub mod Cuts
 pub mod Canvases
 pub mod Texts
+pub mod Frames
+pub mod OpRefs

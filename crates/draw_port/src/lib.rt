@@ -2,12 +2,18 @@
 //!
 //! An operation (`Op`) has a shape and perhaps a clip. At a point in its own coordinates it makes a
 //! new bit of the old one, and leaves the bit where its shape or its clip has not the point
-//! (`op_paint`). A `Picture` is a list of operations. Its value at a point is what they make, one
+//! (`op_value`). A `Picture` is a list of operations. Its value at a point is what they make, one
 //! after another, of white (`picture_bit`).
+//!
+//! Contracts see operations and pictures as plain values: a region as its pixels, a text and rows of
+//! bits as the lists of their bytes, a picture as the list of its operations. So a copy is equal to
+//! what it was made of.
 //!
 //! A `Canvas` is a bitmap, a rectangle and a `Cut` that bound what may change on it, a font, and the
 //! place of the canvas's own 0 0 on the map. Each drawing on it says which pixels of the canvas got
-//! which value, by the one word `Draws`, and that all else stayed.
+//! which value, by the one word `Draws`, and that all else stayed. All go through one function, which
+//! gives the pixels of a rectangle the value of a `Rule` in the canvas's own coordinates. An operation
+//! looks at the pixels of its box alone, a frame at those of its sides, a text at those of its glyphs.
 #![tactic(auto)]
 
 mod bounds;
@@ -15,7 +21,11 @@ mod bytes;
 mod canvas;
 mod copies;
 mod cut;
+mod frames;
+mod judging;
 pub mod laws;
+mod op_ref;
+mod owning;
 mod painting;
 mod picture;
 mod placed;
@@ -27,5 +37,6 @@ mod values;
 pub use bytes::{Bytes, ShortText};
 pub use canvas::Canvas;
 pub use cut::Cut;
+pub use op_ref::{BitsRef, BytesRef, OpRef, ShapeRef, TextRef};
 pub use picture::Picture;
 pub use shapes::{Line, Op, RowsOfBits, Shade, Shape, TextMode, TextRun};

@@ -14,7 +14,7 @@ use crate::bounds::rect_from;
 use crate::canvas::Canvas;
 use crate::picture::Picture;
 use crate::placed::placed_within;
-use crate::rules::{Painted, Seen, White};
+use crate::rules::{Seen, White};
 use crate::shapes::{Op, Shade, Shape};
 use bit_blit::{Copied, Inverse, Rule, draw_rect};
 use bit_map::{BitImage, Mode, Pattern};
@@ -99,6 +99,7 @@ impl Canvas<'_> {
             Shape::Text(run) => {
                 self.clipped_text(&op.clip, run.text.as_slice(), run.pen, run.mode.mode());
             }
+            Shape::Frame(rect, _) => self.paint_frame(op, *rect),
             _ => self.paint_box(op),
         }
     }
@@ -130,8 +131,7 @@ impl Canvas<'_> {
         ensures same_frame { SameFrame self.old self.new }
         ensures drawn { Draws (canvas_holds self.old) (painted_by self.old op.now) self.old.map.now self.new.map.now }
     {
-        let font = self.font;
-        self.draw(op.bounds(), &Painted { op, font });
+        self.paint_in(op, op.bounds());
     }
 
     /// Gives each pixel of the canvas in the rectangle the value of the rule. Both are in the

@@ -7,21 +7,21 @@ use tb_geom::{Point, Rect};
 
 /// A pattern, whose origin is that of the operation's coordinates, put down by a mode (*Inside
 /// Macintosh* I, "QuickDraw", "Patterns" and "Transfer Modes").
-#[derive(Clone, Copy, Debug, PartialEq, Eq)]
+#[derive(Clone, Copy)]
 pub struct Shade {
     pub pattern: Pattern,
     pub mode: Mode,
 }
 
 /// So many pixels in a row, from a point on to the right or down.
-#[derive(Clone, Copy, Debug, PartialEq, Eq)]
+#[derive(Clone, Copy)]
 pub struct Line {
     pub start: Point,
     pub count: u16,
 }
 
 /// How a text is put down: its pixels are black source bits, and no other pixel is touched.
-#[derive(Clone, Copy, Debug, PartialEq, Eq)]
+#[derive(Clone, Copy)]
 pub enum TextMode {
     Or,
     Xor,

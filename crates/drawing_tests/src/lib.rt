@@ -2,8 +2,8 @@
 //! the contracts are QuickDraw's. Expected values are images written by hand, or come from slow programs over single
 //! pixels, and never from the libraries.
 //!
-//! `blits` tests `bit_blit`. Of `draw_port`, `pictures` tests operations, one after another, and `canvases` the calls of
-//! a canvas and of pictures. `sheet` and `images` have what they draw on.
+//! `blits` tests `bit_blit`. Of `draw_port`, `pictures` tests operations, one after another, `canvases` the calls of a
+//! canvas and of pictures, and `given` operations as calls carry them. `sheet` and `images` have what they draw on.
 #![tactic(auto)]
 
 pub mod sheet;
@@ -33,6 +33,8 @@ macro_rules! point {
 mod blits;
 #[cfg(test)]
 mod canvases;
+#[cfg(test)]
+mod given;
 #[cfg(test)]
 mod images;
 #[cfg(test)]

@@ -1,5 +1,9 @@
 use Rattle.draw_port.proofs.CanvasLemmas.{text_painted}
+use Rattle.draw_port.proofs.FrameLemmas.{frame_only}
 use Rattle.draw_port.proofs.canvas.Canvas.paint.Goals as goal
+
+pub paint_frame-requires : goal.paint_frame-requires
+paint_frame-requires c = λ font p held. frame_only c.args.op.now c.in-Frame.rect c.in-Frame.field-1 font p c.in-Frame.is held
 
 pub returns-in-Text-clause-drawn : goal.returns-in-Text-clause-drawn
 returns-in-Text-clause-drawn c =

@@ -1,0 +1,122 @@
+-- Operations as calls carry them: why they are refused, and what they mean.
+use Rattle.std.specs.Prelude.{◌≡◌, ◌⊎◌, ℕ, ◌+◌, ◌*◌, ◌/◌, Bool, true, false, ◌&&◌, ◌||◌, nat_eq, nat_lt, ℤ, pos, int_le, int_lt, nat_abs, List, length, All, Option, Some, None, IfSome}
+use Rattle.tb_geom.specs.declared.refusal.Refusal.{Refusal}
+use Rattle.tb_geom.specs.declared.refusal.Refusal.TheVariants.{BadSyntax, BadRegion, OutOfRange, TooLong}
+use Rattle.tb_geom.specs.Pixels.{Pixels}
+use Rattle.region_bytes.specs.Points.{PointRow, IsInRange}
+use Rattle.region_bytes.specs.Bytes.{IsForm, IsRegionBytes}
+use Rattle.draw_port.specs.declared.shapes.Op.{Op}
+use Rattle.draw_port.specs.declared.shapes.Shape.{Shape}
+use Rattle.draw_port.specs.declared.shapes.Shape.TheVariants.{Erase, Invert, Fill, Frame, HLine, VLine, Text, Bits, FillRgn}
+use Rattle.draw_port.specs.declared.op_ref.OpRef.{OpRef}
+use Rattle.draw_port.specs.declared.op_ref.ShapeRef.{ShapeRef}
+use Rattle.draw_port.specs.declared.op_ref.ShapeRef.TheVariants.{Erase as EraseRef, Invert as InvertRef, Fill as FillRef, Frame as FrameRef, HLine as HLineRef, VLine as VLineRef, Text as RunRef, Bits as ImageRef, FillRgn as FillRgnRef}
+
+-- whether an image of this size has rows and columns, and the bytes are those of its rows
+abbrev pub are_rows : ℤ → ℤ → List ℕ → Bool
+are_rows w h rows = (int_le (pos 1) w && int_le (pos 1) h) && nat_eq (length rows) ((nat_abs w + 7) / 8 * nat_abs h)
+
+-- the same of the image of a shape; of a shape without one, true
+abbrev pub has_rows : ShapeRef → Bool
+has_rows (ImageRef b) = are_rows b.width b.height b.rows
+has_rows s = true
+
+-- whether an image is wider or higher than 256
+abbrev pub is_large : ShapeRef → Bool
+is_large (ImageRef b) = int_lt (pos 256) b.width || int_lt (pos 256) b.height
+is_large s = false
+
+-- whether a text has more than 255 characters
+abbrev pub is_long : ShapeRef → Bool
+is_long (RunRef t) = nat_lt 255 (length t.text)
+is_long s = false
+
+-- the bytes of the region that a shape fills
+abbrev pub region_of : ShapeRef → Option (List ℕ)
+region_of (FillRgnRef bytes k) = Some bytes
+region_of s = None
+
+-- the bytes have the form of a region's
+abbrev pub HasForm : List ℕ → Type 0
+HasForm bytes = (rows : List PointRow) × IsForm bytes rows
+
+-- they have it, and a coordinate lies outside -16384..16383
+abbrev pub LeavesRange : List ℕ → Type 0
+LeavesRange bytes = (rows : List PointRow) × IsForm bytes rows × (All IsInRange rows → ⊥)
+
+-- they are a region's
+abbrev pub IsRegion : List ℕ → Type 0
+IsRegion bytes = (s : Pixels) × IsRegionBytes bytes s
+
+-- there are bytes, and they are as P says
+abbrev pub HasSome : Option (List ℕ) → (List ℕ → Type 0) → Type 0
+HasSome None P = ⊥
+HasSome (Some bytes) P = P bytes
+
+-- where there are bytes, they are a region's; or they are, but for a coordinate out of range
+abbrev pub Stands : Option (List ℕ) → Bool → Type 0
+Stands given true = IfSome given IsRegion
+Stands given false = HasSome given LeavesRange
+
+-- the bytes of each region of the operation, of its clip and of its shape, are as P says
+abbrev pub EachRegion : (List ℕ → Type 0) → OpRef → Type 0
+EachRegion P op = IfSome op.clip P × IfSome (region_of op.shape) P
+
+-- those of one of them are
+abbrev pub SomeRegion : (List ℕ → Type 0) → OpRef → Type 0
+SomeRegion P op = HasSome op.clip P ⊎ HasSome (region_of op.shape) P
+
+-- nothing is wrong with the operation
+pub record IsGood (op : OpRef) : Type 0 where
+  pub rows : has_rows op.shape ≡ true
+  pub regions : EachRegion IsRegion op
+  pub small : is_large op.shape ≡ false
+  pub short : is_long op.shape ≡ false
+
+-- the bytes of one of its regions have not the form, and its image has its rows
+pub record IsBadlyFormed (op : OpRef) : Type 0 where
+  pub rows : has_rows op.shape ≡ true
+  pub bad : SomeRegion (λ bytes. HasForm bytes → ⊥) op
+
+-- its image is large, or one of its regions leaves the range; nothing of the above is wrong
+pub record IsFarOut (op : OpRef) : Type 0 where
+  pub rows : has_rows op.shape ≡ true
+  pub formed : EachRegion HasForm op
+  pub far : (is_large op.shape ≡ true) ⊎ SomeRegion LeavesRange op
+
+-- its text is long; nothing of the above is wrong
+pub record IsOverlong (op : OpRef) : Type 0 where
+  pub rows : has_rows op.shape ≡ true
+  pub regions : EachRegion IsRegion op
+  pub small : is_large op.shape ≡ false
+  pub long : is_long op.shape ≡ true
+
+-- why an operation is refused
+abbrev pub IsRefused : OpRef → Refusal → Type 0
+IsRefused op e =
+    ((e ≡ BadSyntax) × (has_rows op.shape ≡ false))
+    ⊎ (((e ≡ BadRegion) × IsBadlyFormed op)
+    ⊎ (((e ≡ OutOfRange) × IsFarOut op)
+    ⊎ ((e ≡ TooLong) × IsOverlong op)))
+
+-- the shape is what the given one means
+abbrev pub MeansShape : ShapeRef → Shape → Type 0
+MeansShape (EraseRef r) s = s ≡ Erase r
+MeansShape (InvertRef r) s = s ≡ Invert r
+MeansShape (FillRef r k) s = s ≡ Fill r k
+MeansShape (FrameRef r k) s = s ≡ Frame r k
+MeansShape (HLineRef l k) s = s ≡ HLine l k
+MeansShape (VLineRef l k) s = s ≡ VLine l k
+MeansShape (RunRef t) s = s ≡ Text (record { pen = t.pen; mode = t.mode; text = t.text })
+MeansShape (ImageRef b) s = s ≡ Bits (record { place = b.place; width = nat_abs b.width; height = nat_abs b.height; mode = b.mode; rows = b.rows })
+MeansShape (FillRgnRef bytes k) s = (g : Pixels) × IsRegionBytes bytes g × (s ≡ FillRgn g k)
+
+-- the clip is the one whose bytes are given, where they are
+abbrev pub MeansClip : Option (List ℕ) → Option Pixels → Type 0
+MeansClip None c = c ≡ None
+MeansClip (Some bytes) c = (g : Pixels) × IsRegionBytes bytes g × (c ≡ Some g)
+
+-- the operation is what the given one means
+pub record IsMeant (given : OpRef) (op : Op) : Type 0 where
+  pub clip : MeansClip given.clip op.clip
+  pub shape : MeansShape given.shape op.shape

@@ -1,0 +1,114 @@
+//! Why operations that calls carry are refused.
+ghost use Rattle.std.specs.Prelude.{◌≡◌, Some, MatchResult};
+ghost use Rattle.draw_port.specs.OpRefs.{are_rows, has_rows, is_large, is_long, region_of, HasForm, HasSome, Stands, IsGood, IsRefused};
+
+use crate::op_ref::{BitsRef, BytesRef, OpRef, ShapeRef};
+use region_bytes::RegionBytes;
+use tb_geom::Refusal;
+
+impl OpRef<'_> {
+    /// Judges the operation without memory. The refusal is the first of these that applies: BadSyntax
+    /// where an image is without rows or columns, or its bytes are not `(width + 7) / 8` for each row;
+    /// BadRegion where the bytes of the clip or of the shape's region have not the form of a region's;
+    /// OutOfRange where an image is wider or higher than 256, or a coordinate of a region lies outside
+    /// -16384..=16383; TooLong where a text has more than 255 characters.
+    pub fn judge(&self) -> Result<(), Refusal>
+        ensures { MatchResult result (λ _. IsGood self.now) (IsRefused self.now) }
+    {
+        if !self.shape.has_rows() {
+            return Err(Refusal::BadSyntax);
+        }
+        let is_clip_in_range = is_clip_in_range(&self.clip)?;
+        let is_region_in_range = self.shape.is_region_in_range()?;
+        if self.shape.is_large() || !is_clip_in_range || !is_region_in_range {
+            return Err(Refusal::OutOfRange);
+        }
+        if self.shape.is_long() {
+            return Err(Refusal::TooLong);
+        }
+        Ok(())
+    }
+}
+
+/// Whether the bytes of a region say coordinates in range alone. BadRegion where they have not the
+/// form of a region's.
+fn is_in_range(bytes: &BytesRef) -> Result<bool, Refusal>
+    ensures { MatchResult result
+        (Stands (Some bytes.now))
+        (λ e. (e ≡ Refusal.BadRegion) × (HasForm bytes.now → ⊥)) }
+{
+    match RegionBytes::read(bytes.as_slice()) {
+        Ok(_) => Ok(true),
+        Err(Refusal::OutOfRange) => Ok(false),
+        Err(_) => Err(Refusal::BadRegion),
+    }
+}
+
+/// The same of the bytes of a clip, where there is one.
+fn is_clip_in_range(clip: &Option<BytesRef>) -> Result<bool, Refusal>
+    ensures { MatchResult result
+        (Stands clip.now)
+        (λ e. (e ≡ Refusal.BadRegion) × HasSome clip.now (λ bytes. HasForm bytes → ⊥)) }
+{
+    match clip {
+        None => Ok(true),
+        Some(bytes) => is_in_range(bytes),
+    }
+}
+
+impl ShapeRef<'_> {
+    /// The same of the bytes of the shape's region, where it has one.
+    fn is_region_in_range(&self) -> Result<bool, Refusal>
+        ensures { MatchResult result
+            (Stands (region_of self.now))
+            (λ e. (e ≡ Refusal.BadRegion) × HasSome (region_of self.now) (λ bytes. HasForm bytes → ⊥)) }
+    {
+        match self {
+            ShapeRef::FillRgn(bytes, _) => is_in_range(bytes),
+            _ => Ok(true),
+        }
+    }
+
+    /// Whether an image has rows and columns, and just the bytes of its rows.
+    fn has_rows(&self) -> bool
+        ensures { result ≡ has_rows self.now }
+    {
+        match self {
+            ShapeRef::Bits(bits) => bits.has_rows(),
+            _ => true,
+        }
+    }
+
+    /// Whether an image is wider or higher than 256.
+    fn is_large(&self) -> bool
+        ensures { result ≡ is_large self.now }
+    {
+        match self {
+            ShapeRef::Bits(bits) => bits.width > 256 || bits.height > 256,
+            _ => false,
+        }
+    }
+
+    /// Whether a text has more than 255 characters.
+    fn is_long(&self) -> bool
+        ensures { result ≡ is_long self.now }
+    {
+        match self {
+            ShapeRef::Text(run) => run.text.as_slice().len() > 255,
+            _ => false,
+        }
+    }
+}
+
+impl BitsRef<'_> {
+    /// Whether the image has rows and columns, and just the bytes of its rows.
+    fn has_rows(&self) -> bool
+        ensures { result ≡ are_rows self.now.width self.now.height self.now.rows }
+    {
+        if self.width < 1 || self.height < 1 {
+            return false;
+        }
+        let row_bytes = (u64::from(self.width.unsigned_abs()) + 7) / 8;
+        self.rows.as_slice().len() as u64 == row_bytes * u64::from(self.height.unsigned_abs())
+    }
+}

@@ -1,0 +1,77 @@
+//! Operations as calls carry them.
+ghost use Rattle.std.specs.Prelude.{◌≡◌};
+
+use crate::shapes::{Line, Shade, TextMode};
+use bit_map::Mode;
+use std::marker::Model;
+use tb_geom::{Point, Rect};
+
+/// Bytes that a call lends, not yet judged. Contracts see the list of the bytes.
+#[derive(Drop)]
+pub struct BytesRef<'a> {
+    bytes: &'a [u8],
+}
+
+impl<'a> Model for BytesRef<'a> {
+    ghost use Rattle.std.specs.Prelude.{List, ℕ};
+
+    ghost Value = { List ℕ };
+
+    ghost view = { λ b. b.bytes.now };
+}
+
+impl<'a> BytesRef<'a> {
+    /// These bytes.
+    pub fn new(bytes: &'a [u8]) -> BytesRef<'a>
+        ensures { result ≡ bytes.entry.now }
+    {
+        BytesRef { bytes }
+    }
+
+    /// The bytes.
+    pub fn as_slice(&self) -> &'a [u8]
+        ensures { result.now ≡ self.now }
+    {
+        self.bytes
+    }
+}
+
+/// A text of any length, as `TextRun`.
+#[derive(Drop)]
+pub struct TextRef<'a> {
+    pub pen: Point,
+    pub mode: TextMode,
+    pub text: BytesRef<'a>,
+}
+
+/// An image of any size, as `RowsOfBits`.
+#[derive(Drop)]
+pub struct BitsRef<'a> {
+    pub place: Point,
+    pub width: i32,
+    pub height: i32,
+    pub mode: Mode,
+    pub rows: BytesRef<'a>,
+}
+
+/// What an operation draws, as `Shape`, with the bytes of a region in place of a region.
+#[derive(Drop)]
+pub enum ShapeRef<'a> {
+    Erase(Rect),
+    Invert(Rect),
+    Fill(Rect, Shade),
+    Frame(Rect, Shade),
+    HLine(Line, Shade),
+    VLine(Line, Shade),
+    Text(TextRef<'a>),
+    Bits(BitsRef<'a>),
+    FillRgn(BytesRef<'a>, Shade),
+}
+
+/// A drawing operation as a call carries it: `Op`, with borrowed bytes that nobody has judged.
+#[derive(Drop)]
+pub struct OpRef<'a> {
+    /// The bytes of a region.
+    pub clip: Option<BytesRef<'a>>,
+    pub shape: ShapeRef<'a>,
+}

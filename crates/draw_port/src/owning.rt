@@ -1,0 +1,100 @@
+//! Operations made of those that calls carry.
+ghost use Rattle.std.specs.Prelude.{◌≡◌, ◌⊎◌, ◌≤◌, ◌≤ℤ◌, pos, nat_abs, true, false, length, MatchResult};
+ghost use Rattle.region_bytes.specs.Bytes.{IsRegionBytes};
+ghost use Rattle.draw_port.specs.OpRefs.{has_rows, is_large, is_long, IsGood, IsRefused, IsMeant, MeansShape, MeansClip};
+
+use crate::bytes::{Bytes, ShortText};
+use crate::op_ref::{BitsRef, BytesRef, OpRef, ShapeRef, TextRef};
+use crate::shapes::{Op, RowsOfBits, Shape, TextRun};
+use scan_region::Region;
+use std::alloc::Global;
+use tb_geom::Refusal;
+
+impl OpRef<'_> {
+    /// The operation that this one means, with bytes and regions of its own. It refuses as `judge` does,
+    /// and after that only for want of memory.
+    pub fn to_op(&self, alloc: Global) -> Result<Op, Refusal>
+        ensures { MatchResult result
+            (λ op. IsGood self.now × IsMeant self.now op)
+            (λ e. IsRefused self.now e ⊎ ((e ≡ Refusal.NoMemory) × IsGood self.now)) }
+    {
+        self.judge()?;
+        Ok(Op {
+            clip: to_clip(&self.clip, alloc)?,
+            shape: self.shape.to_shape(alloc)?,
+        })
+    }
+}
+
+/// The region of bytes that were judged, so that only memory can be refused.
+fn to_region(bytes: &BytesRef, alloc: Global) -> Result<Region, Refusal>
+    ensures { MatchResult result (IsRegionBytes bytes.now) (λ e. e ≡ Refusal.NoMemory) }
+{
+    match Region::from_bytes(alloc, bytes.as_slice()) {
+        Ok(region) => Ok(region),
+        Err(_) => Err(Refusal::NoMemory),
+    }
+}
+
+fn to_clip(clip: &Option<BytesRef>, alloc: Global) -> Result<Option<Region>, Refusal>
+    ensures { MatchResult result (MeansClip clip.now) (λ e. e ≡ Refusal.NoMemory) }
+{
+    match clip {
+        None => Ok(None),
+        Some(bytes) => Ok(Some(to_region(bytes, alloc)?)),
+    }
+}
+
+impl ShapeRef<'_> {
+    fn to_shape(&self, alloc: Global) -> Result<Shape, Refusal>
+        requires rows { has_rows self.now ≡ true }
+        requires small { is_large self.now ≡ false }
+        requires short { is_long self.now ≡ false }
+        ensures { MatchResult result (MeansShape self.now) (λ e. e ≡ Refusal.NoMemory) }
+    {
+        match self {
+            ShapeRef::Erase(rect) => Ok(Shape::Erase(*rect)),
+            ShapeRef::Invert(rect) => Ok(Shape::Invert(*rect)),
+            ShapeRef::Fill(rect, shade) => Ok(Shape::Fill(*rect, *shade)),
+            ShapeRef::Frame(rect, shade) => Ok(Shape::Frame(*rect, *shade)),
+            ShapeRef::HLine(line, shade) => Ok(Shape::HLine(*line, *shade)),
+            ShapeRef::VLine(line, shade) => Ok(Shape::VLine(*line, *shade)),
+            ShapeRef::Text(run) => Ok(Shape::Text(run.to_run()?)),
+            ShapeRef::Bits(bits) => Ok(Shape::Bits(bits.to_rows(alloc)?)),
+            ShapeRef::FillRgn(bytes, shade) => Ok(Shape::FillRgn(to_region(bytes, alloc)?, *shade)),
+        }
+    }
+}
+
+impl TextRef<'_> {
+    fn to_run(&self) -> Result<TextRun, Refusal>
+        requires { length self.now.text ≤ 255 }
+        ensures { MatchResult result
+            (λ run. run ≡ record { pen = self.now.pen; mode = self.now.mode; text = self.now.text })
+            (λ e. e ≡ Refusal.NoMemory) }
+    {
+        Ok(TextRun {
+            pen: self.pen,
+            mode: self.mode,
+            text: ShortText::new(self.text.as_slice())?,
+        })
+    }
+}
+
+impl BitsRef<'_> {
+    fn to_rows(&self, alloc: Global) -> Result<RowsOfBits, Refusal>
+        requires wide { (pos 0 ≤ℤ self.now.width) × (self.now.width ≤ℤ pos 256) }
+        requires high { (pos 0 ≤ℤ self.now.height) × (self.now.height ≤ℤ pos 256) }
+        ensures { MatchResult result
+            (λ rows. rows ≡ record { place = self.now.place; width = nat_abs self.now.width; height = nat_abs self.now.height; mode = self.now.mode; rows = self.now.rows })
+            (λ e. e ≡ Refusal.NoMemory) }
+    {
+        Ok(RowsOfBits {
+            place: self.place,
+            width: self.width as u16,
+            height: self.height as u16,
+            mode: self.mode,
+            rows: Bytes::new(alloc, self.rows.as_slice())?,
+        })
+    }
+}
