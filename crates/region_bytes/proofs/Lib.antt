@@ -18,3 +18,4 @@ pub mod Said
 pub mod Formed
 pub mod Walked
 pub mod Pointed
+pub mod Boxed

@@ -18,7 +18,7 @@ above_out [] h v all = refl
 above_out (row ∷ rows) h v all =
     (λ i. differ (int_le-false row.0 v (all zero (omega arith)) i && inside row.1 h) (above_out rows h v (λ k l. all (suc k) (omega arith)) i))
 
-canonical_tail : (row : PointRow) (rows : List PointRow) → ArePointRows (row ∷ rows) → ArePointRows rows
+pub canonical_tail : (row : PointRow) (rows : List PointRow) → ArePointRows (row ∷ rows) → ArePointRows rows
 canonical_tail row rows c = record { rising = rising_tail row.0 (map top_of rows) c.rising; each = All-tail IsPointRow row rows c.each }
 
 differ-false : (b : Bool) → differ b false ≡ b
@@ -26,12 +26,12 @@ differ-false true = refl
 differ-false false = refl
 
 -- at its first row a region has that row's pixels, and above it none
-first_row : (row : PointRow) (rows : List PointRow) (h : ℤ) → ArePointRows (row ∷ rows) → in_rows (row ∷ rows) h row.0 ≡ inside row.1 h
+pub first_row : (row : PointRow) (rows : List PointRow) (h : ℤ) → ArePointRows (row ∷ rows) → in_rows (row ∷ rows) h row.0 ≡ inside row.1 h
 unfolding in_rows
 first_row row rows h c =
     (λ i. differ (int_le-true row.0 row.0 (omega (arith, ints)) i && inside row.1 h) (above_out rows h row.0 (rising_head row.0 (map top_of rows) c.rising) i)) ∙ differ-false _
 
-above_first : (row : PointRow) (rows : List PointRow) (h v : ℤ) → ArePointRows (row ∷ rows) → v <ℤ row.0 → in_rows (row ∷ rows) h v ≡ false
+pub above_first : (row : PointRow) (rows : List PointRow) (h v : ℤ) → ArePointRows (row ∷ rows) → v <ℤ row.0 → in_rows (row ∷ rows) h v ≡ false
 unfolding in_rows
 above_first row rows h v c l =
     (λ i. differ (int_le-false row.0 v l i && inside row.1 h) (above_out rows h v (λ k n. let f = rising_head row.0 (map top_of rows) c.rising k n in omega (arith, ints)) i))
