@@ -66,7 +66,7 @@ one_column c x = by_lt_z c x
     (λ m. let e : c ≡ x = omega (arith, ints) in ap (λ z. int_eq c z) (sym e) ∙ int_eq-same c ∙ sym (λ i. differ (int_le-true c x m i) (int_le-false c (x -ℤ pos 1) (omega (arith, ints)) i))))
 
 -- a column stands an odd number of times where the row turns at it
-odd_turns : (x : ℤ) (cs : List ℤ) → odd_at x cs ≡ differ (inside cs x) (inside cs (x -ℤ pos 1))
+pub odd_turns : (x : ℤ) (cs : List ℤ) → odd_at x cs ≡ differ (inside cs x) (inside cs (x -ℤ pos 1))
 unfolding odd_at inside
 odd_turns x [] = refl
 odd_turns x (c ∷ cs) = (λ i. differ (one_column c x i) (odd_turns x cs i)) ∙ four (int_le c x) (int_le c (x -ℤ pos 1)) (inside cs x) (inside cs (x -ℤ pos 1))

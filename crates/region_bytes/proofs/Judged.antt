@@ -16,7 +16,7 @@ use Rattle.region_bytes.specs.Text.{IsText, IsRectOfWords}
 use Rattle.region_bytes.proofs.Tests.{int_eq-same}
 use Rattle.region_bytes.proofs.Edges.{int_le-true, int_le-false}
 use Rattle.region_bytes.proofs.Flags.{no_words_left}
-use Rattle.region_bytes.proofs.Ranges.{IsRectIn}
+use Rattle.region_bytes.proofs.Ranges.{square, IsRectIn}
 use Rattle.region_bytes.proofs.Short.{rect_rows, rect_text, none_text}
 use Rattle.region_bytes.proofs.Long.{text_short, text_long, text_data, text_box, text_length, data_text, of_sides}
 
@@ -63,7 +63,7 @@ box_tells b r q t e f g = f ∙ rect_same q r (e ∙ words_sides b r g)
 pub alone_none : (r : Rect) → r ≡ empty_rect → (rows : List PointRow) × IsText r [] rows
 alone_none r e = ([], subst (λ q. IsText q [] []) (sym e) none_text)
 
-in_words : (r : Rect) → IsRectOfWords r → IsRectIn (negsuc 32767) (pos 32767) r
+in_words : (r : Rect) → IsRectOfWords r → IsRectIn (square (negsuc 32767) (pos 32767)) r
 in_words r w = record { left_in = w 1 (pos 0) (omega arith); top_in = w 0 (pos 0) (omega arith); right_in = w 3 (pos 0) (omega arith); bottom_in = w 2 (pos 0) (omega arith) }
 
 pub not_empty : (r : Rect) → is_empty_rect r ≡ false → (r.left <ℤ r.right) × (r.top <ℤ r.bottom)

@@ -20,3 +20,4 @@ pub mod Written
 pub mod Decoded
 pub mod Walked
 pub mod Pointed
+pub mod Boxed

@@ -9,7 +9,7 @@ use Rattle.region_bytes.specs.Points.{PointRow, points_of}
 use Rattle.region_bytes.specs.Words.{word_bytes, words_in, row_words, data_words, box_of, box_words, is_short, words_of, bytes_of}
 use Rattle.region_bytes.specs.Bytes.{IsWord, IsOfWords, IsForm}
 use Rattle.region_bytes.proofs.Words.{words_in-bytes, bytes-words_in}
-use Rattle.region_bytes.proofs.Ranges.{IsBoxIn, box_in, points_in_range}
+use Rattle.region_bytes.proofs.Ranges.{square, IsBoxIn, box_in, points_in_range}
 
 -- ---- how many
 
@@ -36,7 +36,7 @@ four_fit a b c d e f g h =
 zero_fits : IsWord (pos 0)
 zero_fits = (search (arith, ints), search (arith, ints))
 
-box_words_fit : (b : Option Rect) → IsBoxIn (negsuc 32767) (pos 32767) b → All IsWord (box_words b)
+box_words_fit : (b : Option Rect) → IsBoxIn (square (negsuc 32767) (pos 32767)) b → All IsWord (box_words b)
 box_words_fit None i = four_fit (pos 0) (pos 0) (pos 0) (pos 0) zero_fits zero_fits zero_fits zero_fits
 box_words_fit (Some r) i = four_fit r.top r.left r.bottom r.right i.top_in i.left_in i.bottom_in i.right_in
 
@@ -57,7 +57,7 @@ data_fits rows f = All-append IsWord (flat_map row_words rows) (pos 32767 ∷ []
 pub words_fit_rows : (rows : List PointRow) → All IsOfWords rows → All IsWord (words_of rows)
 unfolding words_of box_of
 words_fit_rows rows f = All-append IsWord (box_words (box_of rows)) _
-    (box_words_fit (box_of rows) (box_in (negsuc 32767) (pos 32767) None (points_of rows) tt (points_in_range (negsuc 32767) (pos 32767) rows f)))
+    (box_words_fit (box_of rows) (box_in (square (negsuc 32767) (pos 32767)) None (points_of rows) tt (points_in_range (square (negsuc 32767) (pos 32767)) rows f)))
     (after (is_short rows))
   where
     after : (short : Bool) → All IsWord (cond short [] (data_words rows))

@@ -18,7 +18,7 @@ use Rattle.region_bytes.proofs.Edges.{inside_left, inside_right, int_le-false, i
 use Rattle.region_bytes.proofs.Rows.{inverted-points_of, nil_has}
 use Rattle.region_bytes.proofs.Data.{words_fit}
 use Rattle.region_bytes.proofs.Parted.{form_words, words_form}
-use Rattle.region_bytes.proofs.Ranges.{IsRectIn, IsBoxIn, IsBoxKept, box_in, points_in_range, points_in_box, rows_in_range}
+use Rattle.region_bytes.proofs.Ranges.{square, IsRowIn, IsRectIn, IsBoxIn, IsBoxKept, box_in, points_in_range, points_in_box, rows_in_range}
 use Rattle.region_bytes.proofs.Short.{parted, rect_pixels}
 use Rattle.region_bytes.proofs.Long.{of_sides, text_short, text_long, data_pixels}
 
@@ -54,17 +54,17 @@ sides_fit bytes box after low p =
 
 -- ---- range
 
-sides_in : (low high : ℤ) (b : Option Rect) (r : Rect) → low ≤ℤ pos 0 → pos 0 ≤ℤ high → box_words b ≡ r.top ∷ r.left ∷ r.bottom ∷ r.right ∷ [] → IsBoxIn low high b → IsRectIn low high r
+sides_in : (low high : ℤ) (b : Option Rect) (r : Rect) → low ≤ℤ pos 0 → pos 0 ≤ℤ high → box_words b ≡ r.top ∷ r.left ∷ r.bottom ∷ r.right ∷ [] → IsBoxIn (square low high) b → IsRectIn (square low high) r
 sides_in low high None r l m e i =
-    subst (IsRectIn low high) (of_sides (pos 0) (pos 0) (pos 0) (pos 0) r.top r.left r.bottom r.right e)
+    subst (IsRectIn (square low high)) (of_sides (pos 0) (pos 0) (pos 0) (pos 0) r.top r.left r.bottom r.right e)
     (record { left_in = (l, m); top_in = (l, m); right_in = (l, m); bottom_in = (l, m) })
-sides_in low high (Some s) r l m e i = subst (IsRectIn low high) (of_sides s.top s.left s.bottom s.right r.top r.left r.bottom r.right e) i
+sides_in low high (Some s) r l m e i = subst (IsRectIn (square low high)) (of_sides s.top s.left s.bottom s.right r.top r.left r.bottom r.right e) i
 
-sides_kept : (low high : ℤ) (b : Option Rect) (r : Rect) → box_words b ≡ r.top ∷ r.left ∷ r.bottom ∷ r.right ∷ [] → IsRectIn low high r → IsBoxKept low high b
-sides_kept low high None r e i = tt
-sides_kept low high (Some s) r e i =
-    let j = subst (IsRectIn low high) (sym (of_sides s.top s.left s.bottom s.right r.top r.left r.bottom r.right e)) i in
-    (j.top_in.0, j.left_in.0, j.bottom_in.1, j.right_in.1)
+pub sides_kept : (w : Rect) (b : Option Rect) (r : Rect) → box_words b ≡ r.top ∷ r.left ∷ r.bottom ∷ r.right ∷ [] → (w.left ≤ℤ r.left) × (w.top ≤ℤ r.top) × (r.right ≤ℤ w.right) × (r.bottom ≤ℤ w.bottom) → IsBoxKept w b
+sides_kept w None r e i = tt
+sides_kept w (Some s) r e i =
+    let same = of_sides s.top s.left s.bottom s.right r.top r.left r.bottom r.right e in
+    subst (λ q. IsBoxKept w (Some q)) (sym same) (i.1, i.0, i.3, i.2)
 
 coordinate_true : (z : ℤ) → IsCoordinate z → is_coordinate z ≡ true
 coordinate_true z c = λ i. int_le-true (negsuc 16383) z c.0 i && int_le-true z (pos 16383) c.1 i
@@ -75,17 +75,17 @@ coordinate_from z e = let p = and_parts (int_le (negsuc 16383) z) (int_le z (pos
     from_le : (x y : ℤ) → int_le x y ≡ true → x ≤ℤ y
     from_le x y f = grind (arith, ints)
 
-range_true : (r : Rect) → IsRectIn (negsuc 16383) (pos 16383) r → is_in_range r ≡ true
+range_true : (r : Rect) → IsRectIn (square (negsuc 16383) (pos 16383)) r → is_in_range r ≡ true
 range_true r i = λ j. coordinate_true r.left i.left_in j && (coordinate_true r.top i.top_in j && (coordinate_true r.right i.right_in j && coordinate_true r.bottom i.bottom_in j))
 
-range_from : (r : Rect) → is_in_range r ≡ true → IsRectIn (negsuc 16383) (pos 16383) r
+range_from : (r : Rect) → is_in_range r ≡ true → IsRectIn (square (negsuc 16383) (pos 16383)) r
 range_from r e =
     let a = and_parts (is_coordinate r.left) _ e in
     let b = and_parts (is_coordinate r.top) _ a.1 in
     let d = and_parts (is_coordinate r.right) (is_coordinate r.bottom) b.1 in
     record { left_in = coordinate_from r.left a.0; top_in = coordinate_from r.top b.0; right_in = coordinate_from r.right d.0; bottom_in = coordinate_from r.bottom d.1 }
 
-text_sides : (box : Rect) (ws : List ℤ) (rows : List PointRow) → IsText box ws rows → box_words (box_of rows) ≡ box.top ∷ box.left ∷ box.bottom ∷ box.right ∷ []
+pub text_sides : (box : Rect) (ws : List ℤ) (rows : List PointRow) → IsText box ws rows → box_words (box_of rows) ≡ box.top ∷ box.left ∷ box.bottom ∷ box.right ∷ []
 unfolding words_of
 text_sides box ws rows t = (parted (box_of rows) box.top box.left box.bottom box.right _ ws t.written).0
 
@@ -94,13 +94,13 @@ pub text_in_range : (box : Rect) (ws : List ℤ) (rows : List PointRow) → IsTe
 unfolding box_of
 text_in_range box ws rows t a =
     range_true box (sides_in (negsuc 16383) (pos 16383) (box_of rows) box (omega (arith, ints)) (omega (arith, ints)) (text_sides box ws rows t)
-    (box_in (negsuc 16383) (pos 16383) None (points_of rows) tt (points_in_range (negsuc 16383) (pos 16383) rows a)))
+    (box_in (square (negsuc 16383) (pos 16383)) None (points_of rows) tt (points_in_range (square (negsuc 16383) (pos 16383)) rows a)))
 
 pub range_of_text : (box : Rect) (ws : List ℤ) (rows : List PointRow) → IsText box ws rows → is_in_range box ≡ true → All IsInRange rows
 unfolding box_of
 range_of_text box ws rows t e =
-    rows_in_range (negsuc 16383) (pos 16383) rows t.canonical.are_rows.each
-    (points_in_box (negsuc 16383) (pos 16383) None (points_of rows) (sides_kept (negsuc 16383) (pos 16383) (box_of rows) box (text_sides box ws rows t) (range_from box e))).1
+    rows_in_range (square (negsuc 16383) (pos 16383)) rows t.canonical.are_rows.each
+    (points_in_box (square (negsuc 16383) (pos 16383)) None (points_of rows) (sides_kept (square (negsuc 16383) (pos 16383)) (box_of rows) box (text_sides box ws rows t) (let r = range_from box e in (r.left_in.0, r.top_in.0, r.right_in.1, r.bottom_in.1)))).1
 
 -- ---- pixels
 
@@ -118,43 +118,59 @@ text_holds box [] rows t p = elim (text_short box rows t) [
 ]
 text_holds box (w ∷ ws) rows t p = data_pixels box (w ∷ ws) rows (text_long box w ws rows t) t p
 
--- rows in range have no pixel above, left or right of the range
-above_none : (rows : List PointRow) (h v : ℤ) → All IsInRange rows → v <ℤ negsuc 16383 → in_rows rows h v ≡ false
+-- rows in a rectangle have no pixel above, left or right of it
+above_none : (w : Rect) (rows : List PointRow) (h v : ℤ) → All (IsRowIn w) rows → v <ℤ w.top → in_rows rows h v ≡ false
 unfolding in_rows
-above_none [] h v a l = refl
-above_none (row ∷ rows) h v a l =
-    let top = (All-head IsInRange row rows a).0.0 in
-    (λ i. differ (int_le-false row.0 v (omega (arith, ints)) i && inside row.1 h) (above_none rows h v (All-tail IsInRange row rows a) l i))
+above_none w [] h v a l = refl
+above_none w (row ∷ rows) h v a l =
+    let top = (All-head (IsRowIn w) row rows a).0.0 in
+    (λ i. differ (int_le-false row.0 v (omega (arith, ints)) i && inside row.1 h) (above_none w rows h v (All-tail (IsRowIn w) row rows a) l i))
 
 and_none : (t : Bool) → (t && false) ≡ false
 and_none true = refl
 and_none false = refl
 
-beside_none : (rows : List PointRow) (h v : ℤ) → ((row : PointRow) → IsInRange row → IsPointRow row → inside row.1 h ≡ false) → All IsInRange rows → All IsPointRow rows → in_rows rows h v ≡ false
+beside_none : (w : Rect) (rows : List PointRow) (h v : ℤ) → ((row : PointRow) → IsRowIn w row → IsPointRow row → inside row.1 h ≡ false) → All (IsRowIn w) rows → All IsPointRow rows → in_rows rows h v ≡ false
 unfolding in_rows
-beside_none [] h v f a g = refl
-beside_none (row ∷ rows) h v f a g =
-    (λ i. differ ((int_le row.0 v && f row (All-head IsInRange row rows a) (All-head IsPointRow row rows g) i)) (beside_none rows h v f (All-tail IsInRange row rows a) (All-tail IsPointRow row rows g) i))
+beside_none w [] h v f a g = refl
+beside_none w (row ∷ rows) h v f a g =
+    (λ i. differ ((int_le row.0 v && f row (All-head (IsRowIn w) row rows a) (All-head IsPointRow row rows g) i)) (beside_none w rows h v f (All-tail (IsRowIn w) row rows a) (All-tail IsPointRow row rows g) i))
     ∙ ap (λ b. differ b false) (and_none (int_le row.0 v))
 
-left_none : (h : ℤ) → h <ℤ negsuc 16383 → (row : PointRow) → IsInRange row → IsPointRow row → inside row.1 h ≡ false
-left_none h l row a g = inside_left row.1 h (λ k m. let f = a.1 k (pos 0) m in omega (arith, ints, f.0))
+left_none : (w : Rect) (h : ℤ) → h <ℤ w.left → (row : PointRow) → IsRowIn w row → IsPointRow row → inside row.1 h ≡ false
+left_none w h l row a g = inside_left row.1 h (λ k m. let f = a.1 k (pos 0) m in omega (arith, ints, f.0))
 
-right_none : (h : ℤ) → pos 16383 <ℤ h → (row : PointRow) → IsInRange row → IsPointRow row → inside row.1 h ≡ false
-right_none h l row a g = inside_right row.1 h (λ k m. let f = a.1 k (pos 0) m in omega (arith, ints, f.1)) ∙ g.even
+right_none : (w : Rect) (h : ℤ) → w.right ≤ℤ h → (row : PointRow) → IsRowIn w row → IsPointRow row → inside row.1 h ≡ false
+right_none w h l row a g = inside_right row.1 h (λ k m. let f = a.1 k (pos 0) m in omega (arith, ints, f.1)) ∙ g.even
 
-below_none : (rows : List PointRow) (p : Point) → IsCanonical rows → All IsInRange rows → pos 16383 <ℤ p.v → inverted (points_of rows) p ≡ false
-below_none rows p c a l = c.closed p (All-weaker IsInRange (λ (row : PointRow). row.0 ≤ℤ p.v) (λ row i. let high = i.0.1 in omega (arith, ints)) rows a)
+below_none : (w : Rect) (rows : List PointRow) (p : Point) → IsCanonical rows → All (IsRowIn w) rows → w.bottom ≤ℤ p.v → inverted (points_of rows) p ≡ false
+below_none w rows p c a l = c.closed p (All-weaker (IsRowIn w) (λ (row : PointRow). row.0 ≤ℤ p.v) (λ row i. let high = i.0.1 in omega (arith, ints)) rows a)
+
+-- so their pixels are those of the rectangle
+pub pixel_within : (w : Rect) (rows : List PointRow) → IsCanonical rows → All (IsRowIn w) rows → (p : Point) → inverted (points_of rows) p ≡ true
+    → ((w.left ≤ℤ p.h) × (p.h <ℤ w.right)) × ((w.top ≤ℤ p.v) × (p.v <ℤ w.bottom))
+pixel_within w rows c a p e =
+    let by_rows = inverted-points_of rows p in
+    let not_out : inverted (points_of rows) p ≡ false → ⊥ = λ f. true≢false (sym e ∙ f) in (
+      (
+        by_lt_z p.h w.left (λ l. absurd (not_out (by_rows ∙ beside_none w rows p.h p.v (left_none w p.h l) a c.are_rows.each))) (λ l. l),
+        by_lt_z p.h w.right (λ l. l) (λ l. absurd (not_out (by_rows ∙ beside_none w rows p.h p.v (right_none w p.h l) a c.are_rows.each))),
+      ),
+      (
+        by_lt_z p.v w.top (λ l. absurd (not_out (by_rows ∙ above_none w rows p.h p.v a l))) (λ l. l),
+        by_lt_z p.v w.bottom (λ l. l) (λ l. absurd (not_out (below_none w rows p c a l))),
+      ),
+    )
 
 pub in_plane_of : (rows : List PointRow) → IsCanonical rows → All IsInRange rows → (p : Point) → (in_plane p && inverted (points_of rows) p) ≡ inverted (points_of rows) p
-in_plane_of rows c a p =
-    let by_rows = inverted-points_of rows p in
-    let off : inverted (points_of rows) p ≡ false → (in_plane p && inverted (points_of rows) p) ≡ inverted (points_of rows) p = λ e. ap (λ t. in_plane p && t) e ∙ and_none (in_plane p) ∙ sym e in
-    by_lt_z p.v (negsuc 16383) (λ l. off (by_rows ∙ above_none rows p.h p.v a l)) (λ top.
-    by_lt_z (pos 16383) p.v (λ l. off (below_none rows p c a l)) (λ bottom.
-    by_lt_z p.h (negsuc 16383) (λ l. off (by_rows ∙ beside_none rows p.h p.v (left_none p.h l) a c.are_rows.each)) (λ left.
-    by_lt_z (pos 16383) p.h (λ l. off (by_rows ∙ beside_none rows p.h p.v (right_none p.h l) a c.are_rows.each)) (λ right.
-    ap (λ t. t && inverted (points_of rows) p) (λ i. coordinate_true p.h (left, right) i && coordinate_true p.v (top, bottom) i)))))
+in_plane_of rows c a p = by (inverted (points_of rows) p) refl
+  where
+    by : (b : Bool) → inverted (points_of rows) p ≡ b → (in_plane p && b) ≡ b
+    by true e =
+        let q = pixel_within (square (negsuc 16383) (pos 16383)) rows c a p e in
+        let l = q.0.0 in let r = q.0.1 in let t = q.1.0 in let b = q.1.1 in
+        ap (λ t. t && true) (λ i. coordinate_true p.h (l, omega (arith, ints)) i && coordinate_true p.v (t, omega (arith, ints)) i)
+    by false e = and_none (in_plane p)
 
 -- the pixels that bytes say are those of their rows
 pub region_pixels : (bytes : List ℕ) (box : Rect) (after : List ℕ) (rows : List PointRow) → IsParted bytes box after → IsText box (words_in after) rows → All IsInRange rows

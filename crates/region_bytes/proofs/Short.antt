@@ -15,7 +15,7 @@ use Rattle.region_bytes.specs.Bytes.{IsWord, IsOfWords}
 use Rattle.region_bytes.specs.Text.{IsText}
 use Rattle.region_bytes.proofs.Edges.{int_le-true, same_edges}
 use Rattle.region_bytes.proofs.Rows.{inverted-points_of}
-use Rattle.region_bytes.proofs.Ranges.{IsRectIn}
+use Rattle.region_bytes.proofs.Ranges.{square, IsRectIn}
 
 unfoldable pub rect_rows : Rect → List PointRow
 rect_rows r = (r.top, r.left ∷ r.right ∷ []) ∷ (r.bottom, r.left ∷ r.right ∷ []) ∷ []
@@ -112,7 +112,7 @@ append_nil : (xs : List ℤ) → xs ++ [] ≡ xs
 append_nil [] = refl
 append_nil (x ∷ xs) = ap (λ l. x ∷ l) (append_nil xs)
 
-pub rect_text : (r : Rect) → IsRectIn (negsuc 32767) (pos 32767) r → r.left <ℤ r.right → r.top <ℤ r.bottom → IsText r [] (rect_rows r)
+pub rect_text : (r : Rect) → IsRectIn (square (negsuc 32767) (pos 32767)) r → r.left <ℤ r.right → r.top <ℤ r.bottom → IsText r [] (rect_rows r)
 unfolding rect_rows words_of
 rect_text r w l t = record {
   canonical = rect_canonical r l t;

@@ -1,6 +1,7 @@
 //! Region bytes in place.
-ghost use Rattle.std.specs.Prelude.{◌≡◌, ◌&&◌, ℕ, ◌<◌, false, length, slice_index_or, int_le, MatchResult};
+ghost use Rattle.std.specs.Prelude.{◌≡◌, ◌&&◌, ℕ, ◌<◌, true, false, length, slice_index_or, int_le, MatchResult};
 ghost use Rattle.tb_geom.specs.declared.point.Point.{Point};
+ghost use Rattle.tb_geom.specs.Rects.{IsBoxOf, is_empty_rect, empty_rect};
 ghost use Rattle.tb_geom.specs.Pixels.{holds};
 ghost use Rattle.region_bytes.specs.Points.{inverted};
 ghost use Rattle.region_bytes.specs.Walk.{IsDown, IsAt, pixel_at};
@@ -97,6 +98,17 @@ impl<'a> RegionBytes<'a> {
             inside = differ(leads_to(p, point), inside);
         }
         inside
+    }
+
+    /// The smallest rectangle that holds the pixels; 0 0 0 0 where there are none.
+    pub fn bbox(&self) -> Rect
+        ensures exact { IsBoxOf result (holds self.now) }
+        ensures none { is_empty_rect result ≡ true → result ≡ empty_rect }
+    {
+        match parted(self.bytes) {
+            Some((bounds, _)) => bounds,
+            None => unreachable!(),
+        }
     }
 
     /// Makes of `columns[k]` whether the set has the pixel at the column `left + k` of the row `v`.
