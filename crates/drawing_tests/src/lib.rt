@@ -1,8 +1,9 @@
-//! What no clause says of regions and their bytes, by tests: that calls succeed where memory is not refused, and that the
-//! words of the contracts are QuickDraw's. Expected values are words written by hand, or come from slow readers of such
-//! words, and never from the library.
+//! What no clause says of what is drawn, by tests: that the words of the contracts are those of the classic formats, and
+//! that calls succeed where they should. Expected values are words, tables and pictures written by hand, or come of plain
+//! slow readers in the tests, and never of the library.
 //!
-//! `regions` tests regions that are written as bytes and read from them.
+//! `bytes` tests which bytes are a region, and the pixels that they say; `regions` tests regions that are written as bytes
+//! and read from them.
 #![tactic(auto)]
 
 /// A rectangle, by its left side, its top, its right side and its bottom.
@@ -18,5 +19,7 @@ macro_rules! rect {
     };
 }
 
+#[cfg(test)]
+mod bytes;
 #[cfg(test)]
 mod regions;

@@ -1,12 +1,12 @@
 -- The form in which bytes say a set.
-use Rattle.std.proofs.Common.{◌≡◌, ℕ, ◌≤◌, List, [], ◌∷◌, length, ℤ, pos, sym, ◌∙◌, arith, inl, inr}
+use Rattle.std.proofs.Common.{◌≡◌, ℕ, ◌≤◌, List, [], ◌∷◌, length, ℤ, pos, sym, ◌∙◌, arith, All, inl, inr}
 use Rattle.std.proofs.lemmas.Int.{ints}
 use Rattle.std.proofs.lemmas.Bool.{true≢false}
 use Rattle.std.proofs.lemmas.List.Elements.{All-weaker}
 use Rattle.tb_geom.specs.declared.rect.Rect.{Rect}
 use Rattle.tb_geom.specs.Pixels.{Pixels}
 use Rattle.region_bytes.specs.Edges.{IsCoordinate}
-use Rattle.region_bytes.specs.Points.{IsInRange}
+use Rattle.region_bytes.specs.Points.{PointRow, IsInRange}
 use Rattle.region_bytes.specs.Words.{words_in}
 use Rattle.region_bytes.specs.Bytes.{IsRegionBytes, IsForm, IsWord, IsOfWords, IsTold}
 use Rattle.region_bytes.specs.Text.{IsParted, text_pixels}
@@ -21,12 +21,15 @@ word_of z c = let l = c.0 in let h = c.1 in (omega (arith, ints), omega (arith, 
 not_end : (z : ℤ) → IsCoordinate z → z ≡ pos 32767 → ⊥
 not_end z c e = let h = c.1 in omega (arith, ints)
 
+pub told_in_range : (rows : List PointRow) → All IsInRange rows → All IsTold rows
+told_in_range rows a = All-weaker IsInRange IsTold (λ row i. (not_end row.0 i.0, All-weaker IsCoordinate (λ x. x ≡ pos 32767 → ⊥) not_end row.1 i.1)) rows a
+
 -- rows in range have the form of any
 pub region_form : (bytes : List ℕ) (s : Pixels) (r : IsRegionBytes bytes s) → IsForm bytes r.rows
 region_form bytes s r = record {
   canonical = r.canonical;
   words = All-weaker IsInRange IsOfWords (λ row i. (word_of row.0 i.0, All-weaker IsCoordinate IsWord word_of row.1 i.1)) r.rows r.in_range;
-  told = λ _. All-weaker IsInRange IsTold (λ row i. (not_end row.0 i.0, All-weaker IsCoordinate (λ x. x ≡ pos 32767 → ⊥) not_end row.1 i.1)) r.rows r.in_range;
+  told = λ _. told_in_range r.rows r.in_range;
   written = r.written;
   fits = r.fits;
 }

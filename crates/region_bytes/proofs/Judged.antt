@@ -66,7 +66,7 @@ alone_none r e = ([], subst (λ q. IsText q [] []) (sym e) none_text)
 in_words : (r : Rect) → IsRectOfWords r → IsRectIn (negsuc 32767) (pos 32767) r
 in_words r w = record { left_in = w 1 (pos 0) (omega arith); top_in = w 0 (pos 0) (omega arith); right_in = w 3 (pos 0) (omega arith); bottom_in = w 2 (pos 0) (omega arith) }
 
-not_empty : (r : Rect) → is_empty_rect r ≡ false → (r.left <ℤ r.right) × (r.top <ℤ r.bottom)
+pub not_empty : (r : Rect) → is_empty_rect r ≡ false → (r.left <ℤ r.right) × (r.top <ℤ r.bottom)
 not_empty r e = (
   by_lt_z r.left r.right (λ l. l) (λ l. absurd (true≢false (sym (λ i. int_le-true r.right r.left l i || int_le r.bottom r.top) ∙ e))),
   by_lt_z r.top r.bottom (λ l. l) (λ l. absurd (true≢false (sym (or_true (int_le r.right r.left) (int_le r.bottom r.top) (int_le-true r.bottom r.top l)) ∙ e))),

@@ -16,5 +16,7 @@ pub mod Long
 pub mod Judged
 pub mod Said
 pub mod Formed
+pub mod Walked
+pub mod Pointed
 pub mod Written
 pub mod Decoded

@@ -104,7 +104,7 @@ range_of_text box ws rows t e =
 
 -- ---- pixels
 
-none_there : (p : Point) → rect_holds empty_rect p ≡ false
+pub none_there : (p : Point) → rect_holds empty_rect p ≡ false
 none_there p = none p.h p.v
   where
     none : (h v : ℤ) → (between (pos 0) h (pos 0) && between (pos 0) v (pos 0)) ≡ false

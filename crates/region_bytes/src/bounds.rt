@@ -4,7 +4,7 @@ ghost use Rattle.std.specs.List.{fold};
 ghost use Rattle.region_bytes.specs.Words.{grown, words_in};
 ghost use Rattle.region_bytes.specs.Scan.{points_in};
 
-use crate::points::Points;
+use crate::data_points::DataPoints;
 use tb_geom::{Point, Rect};
 
 /// The least box of some points and one more.
@@ -32,7 +32,7 @@ pub fn data_box(bytes: &[u8]) -> Option<Rect>
     ensures { result ≡ fold grown None (points_in false (pos 0) (words_in bytes.now)) }
 {
     let mut bounds = None;
-    for p in Points::new(bytes) {
+    for p in DataPoints::new(bytes) {
         bounds = grown(bounds, p);
     }
     bounds

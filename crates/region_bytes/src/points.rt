@@ -1,45 +1,92 @@
-//! The inversion points of bytes.
-ghost use Rattle.std.specs.Prelude.{◌≡◌, false, pos};
+//! The inversion points of a region's bytes, in both forms.
+ghost use Rattle.std.specs.Prelude.{◌≡◌, ◌∷◌, [], false, pos};
 ghost use Rattle.std.specs.Iterator.{YieldsFirst, item_count};
 ghost use Rattle.region_bytes.specs.Words.{words_in};
 ghost use Rattle.region_bytes.specs.Scan.{points_in};
+ghost use Rattle.region_bytes.specs.Walk.{corners};
 
+use crate::data_points::DataPoints;
 use std::marker::Model;
-use tb_geom::Point;
+use tb_geom::{Point, Rect};
 
-/// The inversion points of a region's data, in the order in which they stand, seen as the list of
-/// those that are left. It takes no memory.
-#[derive(Drop)]
+/// The inversion points of a region, row by row from the top down, as many as are left. They take no
+/// memory.
+#[derive(Debug, Drop)]
 pub struct Points<'a> {
-    /// Whether the next word stands in a row, after the row's place.
-    within: bool,
-    v: i32,
-    rest: &'a [u8],
+    /// The points of a rectangle, and how many of them are given.
+    corners: [Point; 4],
+    given: usize,
+    rest: DataPoints<'a>,
 }
 
 impl<'a> Model for Points<'a> {
-    ghost use Rattle.std.specs.Prelude.{List};
+    ghost use Rattle.std.specs.Prelude.{◌≡◌, List, ◌++◌, length, drop};
     ghost use Rattle.tb_geom.specs.declared.point.Point.{Point};
 
     ghost Value = { List Point };
 
-    ghost use Rattle.region_bytes.specs.Words.{words_in};
-    ghost use Rattle.region_bytes.specs.Scan.{points_in};
+    ghost view = { λ s. drop s.given s.corners ++ s.rest };
 
-    ghost view = { λ s. points_in s.within s.v (words_in s.rest.now) };
+    ghost invariant = { λ s. length s.corners ≡ 4 };
 }
 
 impl<'a> Points<'a> {
-    /// The points of these bytes, which begin with the place of a row.
-    pub fn new(bytes: &'a [u8]) -> Self
+    /// The points of a rectangle.
+    pub(crate) fn of_rect(rect: Rect) -> Self
+        ensures { result ≡ corners rect }
+    {
+        Points {
+            corners: corners(rect),
+            given: 0,
+            rest: DataPoints::new(&[]),
+        }
+    }
+
+    /// The points of data.
+    pub(crate) fn of_data(bytes: &'a [u8]) -> Self
         ensures { result ≡ points_in false (pos 0) (words_in bytes.entry.now) }
     {
         Points {
-            within: false,
-            v: 0,
-            rest: bytes,
+            corners: [Point { h: 0, v: 0 }; 4],
+            given: 4,
+            rest: DataPoints::new(bytes),
         }
     }
+
+    /// The same points again.
+    pub(crate) fn again(&self) -> Self
+        ensures { result ≡ self.now }
+    {
+        Points {
+            corners: self.corners,
+            given: self.given,
+            rest: self.rest.again(),
+        }
+    }
+}
+
+/// The four points of a rectangle, the upper two first.
+fn corners(rect: Rect) -> [Point; 4]
+    ensures { result ≡ corners rect }
+{
+    [
+        Point {
+            h: rect.left,
+            v: rect.top,
+        },
+        Point {
+            h: rect.right,
+            v: rect.top,
+        },
+        Point {
+            h: rect.left,
+            v: rect.bottom,
+        },
+        Point {
+            h: rect.right,
+            v: rect.bottom,
+        },
+    ]
 }
 
 impl<'a> Iterator for Points<'a> {
@@ -50,22 +97,11 @@ impl<'a> Iterator for Points<'a> {
     ghost remaining = { item_count (λ rest. rest) };
 
     fn next(&mut self) -> Option<Point> {
-        'words: loop {
-            let [high, low, rest @ ..] = self.rest else {
-                return None;
-            };
-            let word = i32::from(i16::from_be_bytes([*high, *low]));
-            self.rest = rest;
-            if !self.within {
-                self.v = word;
-                self.within = true;
-                continue;
-            }
-            if word == 32767 {
-                self.within = false;
-                continue;
-            }
-            return Some(Point { h: word, v: self.v });
+        if self.given < 4 {
+            let point = self.corners[self.given];
+            self.given += 1;
+            return Some(point);
         }
+        self.rest.next()
     }
 }

@@ -1,9 +1,15 @@
 //! Region bytes in place.
-ghost use Rattle.std.specs.Prelude.{◌≡◌, MatchResult};
+ghost use Rattle.std.specs.Prelude.{◌≡◌, ◌&&◌, ℕ, ◌<◌, false, length, slice_index_or, int_le, MatchResult};
+ghost use Rattle.tb_geom.specs.declared.point.Point.{Point};
+ghost use Rattle.tb_geom.specs.Pixels.{holds};
+ghost use Rattle.region_bytes.specs.Points.{inverted};
+ghost use Rattle.region_bytes.specs.Walk.{IsDown, IsAt, pixel_at};
 ghost use Rattle.region_bytes.specs.Bytes.{IsRegionBytes, IsBad};
 
 use crate::parting::parted;
+use crate::points::Points;
 use crate::texts::is_text;
+use crate::walk::differ;
 use std::marker::Model;
 use tb_geom::{Point, Rect, Refusal};
 
@@ -70,4 +76,54 @@ impl<'a> RegionBytes<'a> {
             Form::Rows(after)
         }
     }
+
+    /// The inversion points of the set, row by row from the top down.
+    pub fn points(&self) -> Points<'a>
+        ensures pixels { (p : Point) → inverted result p ≡ holds self.now p }
+        ensures down { IsDown result }
+    {
+        match self.form() {
+            Form::Rect(rect) => Points::of_rect(rect),
+            Form::Rows(bytes) => Points::of_data(bytes),
+        }
+    }
+
+    /// Whether the set has the pixel at a point.
+    pub fn contains(&self, point: Point) -> bool
+        ensures { result ≡ holds self.now point }
+    {
+        let mut inside = false;
+        for p in self.points() {
+            inside = differ(leads_to(p, point), inside);
+        }
+        inside
+    }
+
+    /// Makes of `columns[k]` whether the set has the pixel at the column `left + k` of the row `v`.
+    /// The points that it gives are those below the row: their `go_to` makes the rows below, and
+    /// reads the bytes no second time.
+    pub fn row_at(&self, left: i32, v: i32, columns: &mut [bool]) -> Points<'a>
+        ensures row { (k : ℕ) → k < length columns.old
+            → slice_index_or columns.new k false ≡ holds self.now (pixel_at left v k) }
+        ensures walk { IsAt (holds self.now) left v columns.new result }
+    {
+        clear(columns);
+        let mut points = self.points();
+        points.turn_to(left, v, columns);
+        points
+    }
+}
+
+/// Whether a pixel lies at a point, below it, right of it or both.
+fn leads_to(p: Point, pixel: Point) -> bool
+    ensures { result ≡ (int_le p.h pixel.h && int_le p.v pixel.v) }
+{
+    p.h <= pixel.h && p.v <= pixel.v
+}
+
+/// Makes no column set.
+fn clear(columns: &mut [bool])
+    ensures { (k : ℕ) → slice_index_or columns.new k false ≡ false }
+{
+    columns.fill(false);
 }

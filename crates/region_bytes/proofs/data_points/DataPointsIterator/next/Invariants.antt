@@ -1,7 +1,7 @@
 use Rattle.std.proofs.Common.{◌≡◌, length}
 use Rattle.region_bytes.specs.Words.{words_in}
 use Rattle.region_bytes.specs.Scan.{points_in}
-use Rattle.region_bytes.proofs.points.PointsIterator.next.Given as goal
+use Rattle.region_bytes.proofs.data_points.DataPointsIterator.next.Given as goal
 
 abbrev pub invariant-words : goal.invariant-words
 invariant-words l = points_in l.self-inside.within l.self-inside.v (words_in l.self-inside.rest.now) ≡ l.fn.self
