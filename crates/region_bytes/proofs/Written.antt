@@ -1,22 +1,21 @@
 -- What the bytes of a region are made of, and how long they are.
-use Rattle.std.proofs.Common.{◌≡◌, ℕ, ◌+◌, ◌*◌, ◌<◌, ◌≤◌, ◌⊎◌, inl, inr, Bool, true, false, ◌&&◌, cond, List, [], ◌∷◌, ◌++◌, length, ℤ, pos, ◌≤ℤ◌, refl, sym, ap, ◌∙◌, subst, arith, length-append, append_assoc, append-nil, All}
-use Rattle.std.specs.Prelude.{◌==◌, Option, Some, None, unwrap_or}
+use Rattle.std.proofs.Common.{◌≡◌, ℕ, ◌+◌, ◌*◌, ◌<◌, ◌≤◌, ◌⊎◌, inl, inr, Bool, true, false, cond, List, [], ◌∷◌, ◌++◌, length, ℤ, pos, ◌≤ℤ◌, refl, sym, ap, ◌∙◌, subst, arith, length-append, append_assoc, append-nil, All}
+use Rattle.std.specs.Prelude.{Option, Some, None, unwrap_or}
 use Rattle.std.specs.List.{flat_map, fold}
 use Rattle.std.specs.Int.{int_min, int_max}
 use Rattle.std.proofs.lemmas.Int.{ints, clamps}
-use Rattle.std.proofs.lemmas.Bool.Decides.{nat_tests}
 use Rattle.std.proofs.lemmas.Grind.{flat_map-append}
-use Rattle.std.proofs.lemmas.List.Elements.{All-head, All-tail, All-cons, All-nil}
+use Rattle.std.proofs.lemmas.List.Elements.{All-head, All-tail}
 use Rattle.std.proofs.lemmas.List.Sums.{fold-append}
 use Rattle.tb_geom.specs.declared.point.Point.{Point}
 use Rattle.tb_geom.specs.declared.rect.Rect.{Rect}
-use Rattle.region_bytes.specs.Edges.{differ, inside, is_odd, IsCoordinate}
-use Rattle.region_bytes.specs.Points.{PointRow, points_of, row_points, in_rows, IsPointRow, IsCanonical, IsInRange}
+use Rattle.region_bytes.specs.Edges.{IsCoordinate}
+use Rattle.region_bytes.specs.Points.{PointRow, points_of, row_points, in_rows, IsCanonical, IsInRange}
 use Rattle.region_bytes.specs.Words.{grown, box_of, box_words, data_words, row_words, is_short, words_of, word_bytes, bytes_of}
 use Rattle.region_bytes.specs.Writing.{IsWritten, AreWritten, IsBoxOfCoordinates}
 use Rattle.region_bytes.specs.declared.writing.RegionWriter.{RegionWriter}
-use Rattle.region_bytes.proofs.Edges.{int_le-true, rising_head, same_edges}
-use Rattle.region_bytes.proofs.Rows.{inverted-points_of, first_row, some_pixel}
+use Rattle.region_bytes.proofs.Long.{long_data, not_short}
+use Rattle.region_bytes.proofs.Rows.{inverted-points_of}
 
 -- ---- lengths
 
@@ -52,90 +51,19 @@ data_words-cons row rows = ap (λ l. row.0 ∷ l) (ap (λ l. l ++ pos 32767 ∷ 
 pub length-data_words : (row : PointRow) (rows : List PointRow) → length (data_words (row ∷ rows)) ≡ 2 + (length row.1 + length (data_words rows))
 length-data_words row rows = let e = length-append row.1 (pos 32767 ∷ data_words rows) in ap length (data_words-cons row rows) ∙ omega arith
 
-some_data : (rows : List PointRow) → 1 ≤ length (data_words rows)
-some_data [] = omega arith
-some_data (row ∷ rows) = let e = length-data_words row rows in omega arith
-
 -- ---- the short form
-
-two_at_least : (xs : List ℤ) → 0 < length xs → is_odd (length xs) ≡ false → 2 ≤ length xs
-unfolding is_odd
-two_at_least [] l e = absurd (omega arith)
-two_at_least (x ∷ []) l e = cc
-two_at_least (x ∷ y ∷ xs) l e = omega arith
-
-pub points_at_least : (row : PointRow) → IsPointRow row → 2 ≤ length row.1
-points_at_least row g = two_at_least row.1 g.some g.even
 
 -- below its rows a canonical list has no pixel
 pub closed_rows : (rows : List PointRow) → IsCanonical rows → (h v : ℤ) → All (λ row. row.0 ≤ℤ v) rows → in_rows rows h v ≡ false
 closed_rows rows c h v low = sym (inverted-points_of rows (record { h = h; v = v })) ∙ c.closed (record { h = h; v = v }) low
 
-same_from_differ : (a b : Bool) → differ a (differ b false) ≡ false → a ≡ b
-same_from_differ true true e = refl
-same_from_differ true false e = e
-same_from_differ false true e = sym e
-same_from_differ false false e = refl
-
--- one row alone is not closed
-pub not_alone : (row : PointRow) → IsCanonical (row ∷ []) → ⊥
-not_alone row c =
-    some_pixel row (All-head IsPointRow row [] c.are_rows.each) (λ h.
-    sym (first_row row [] h c.are_rows) ∙ closed_rows (row ∷ []) c h row.0 (All-cons (λ r. r.0 ≤ℤ row.0) row [] (omega (arith, ints)) (All-nil (λ r. r.0 ≤ℤ row.0))))
-
--- two rows alone have the same columns
-pub same_two : (a b : PointRow) → IsCanonical (a ∷ b ∷ []) → a.1 ≡ b.1
-unfolding in_rows
-same_two a b c =
-    let up = rising_head a.0 (b.0 ∷ []) c.are_rows.rising 0 (omega arith) in
-    let good_a = All-head IsPointRow a (b ∷ []) c.are_rows.each in
-    let good_b = All-head IsPointRow b [] (All-tail IsPointRow a (b ∷ []) c.are_rows.each) in
-    let low : All (λ r. r.0 ≤ℤ b.0) (a ∷ b ∷ []) = All-cons (λ r. r.0 ≤ℤ b.0) a (b ∷ []) (omega (arith, ints)) (All-cons (λ r. r.0 ≤ℤ b.0) b [] (omega (arith, ints)) (All-nil (λ r. r.0 ≤ℤ b.0))) in
-    same_edges a.1 b.1 good_a.rising good_b.rising (λ h. same_from_differ (inside a.1 h) (inside b.1 h)
-    (sym (λ i. differ (int_le-true a.0 b.0 (omega (arith, ints)) i && inside a.1 h) (differ (int_le-true b.0 b.0 (omega (arith, ints)) i && inside b.1 h) false))
-    ∙ closed_rows (a ∷ b ∷ []) c h b.0 low))
-
-is_two : (n : ℕ) → n ≡ 2 → (n == 2) ≡ true
-is_two n e = grind (arith, nat_tests)
-
-not_two : (n : ℕ) → (n ≡ 2 → ⊥) → (n == 2) ≡ false
-not_two n e = grind (arith, nat_tests)
-
-three_rows : (a b d : PointRow) (rows : List PointRow) → IsCanonical (a ∷ b ∷ d ∷ rows) → 13 ≤ length (data_words (a ∷ b ∷ d ∷ rows))
-three_rows a b d rows c =
-    let all = c.are_rows.each in
-    let rest = All-tail IsPointRow a (b ∷ d ∷ rows) all in
-    let la = points_at_least a (All-head IsPointRow a (b ∷ d ∷ rows) all) in
-    let lb = points_at_least b (All-head IsPointRow b (d ∷ rows) rest) in
-    let ld = points_at_least d (All-head IsPointRow d rows (All-tail IsPointRow b (d ∷ rows) rest)) in
-    let ea = length-data_words a (b ∷ d ∷ rows) in
-    let eb = length-data_words b (d ∷ rows) in
-    let ed = length-data_words d rows in
-    let er = some_data rows in
-    omega arith
-
-length_two : (a b : PointRow) → IsCanonical (a ∷ b ∷ []) → length (data_words (a ∷ b ∷ [])) ≡ 5 + 2 * length a.1
-length_two a b c =
-    let e = ap length (same_two a b c) in
-    let ea = length-data_words a (b ∷ []) in
-    let eb = length-data_words b [] in
-    omega arith
-
 -- data of one word or nine is that of no pixel or of a rectangle
 pub short_from_length : (rows : List PointRow) → IsCanonical rows → (length (data_words rows) ≡ 1) ⊎ (length (data_words rows) ≡ 9) → is_short rows ≡ true
-short_from_length [] c n = refl
-short_from_length (a ∷ []) c n = absurd (not_alone a c)
-short_from_length (a ∷ b ∷ []) c (inl n) = absurd (let e = length_two a b c in omega arith)
-short_from_length (a ∷ b ∷ []) c (inr n) = let e = length_two a b c in is_two (length a.1) (omega arith)
-short_from_length (a ∷ b ∷ d ∷ rows) c (inl n) = absurd (let e = three_rows a b d rows c in omega arith)
-short_from_length (a ∷ b ∷ d ∷ rows) c (inr n) = absurd (let e = three_rows a b d rows c in omega arith)
-
--- and no other is
-pub long_from_length : (rows : List PointRow) → IsCanonical rows → (length (data_words rows) ≡ 1 → ⊥) → (length (data_words rows) ≡ 9 → ⊥) → is_short rows ≡ false
-long_from_length [] c f g = absurd (f refl)
-long_from_length (a ∷ []) c f g = refl
-long_from_length (a ∷ b ∷ []) c f g = let e = length_two a b c in not_two (length a.1) (λ n. g (omega arith))
-long_from_length (a ∷ b ∷ d ∷ rows) c f g = refl
+short_from_length rows c n = by_form (is_short rows) refl
+  where
+    by_form : (b : Bool) → is_short rows ≡ b → is_short rows ≡ true
+    by_form true e = e
+    by_form false e = absurd (let long = long_data rows c e in elim n [ inl one ↦ omega arith | inr nine ↦ omega arith ])
 
 -- ---- the box
 
@@ -174,7 +102,7 @@ box_of-fold rows = refl
 -- data that is too long makes bytes that are
 pub too_long : (rows : List PointRow) → IsCanonical rows → 16378 < length (data_words rows) → 32766 < length (bytes_of rows)
 too_long rows c l =
-    let e = ap length (words_of-long rows (long_from_length rows c (λ n. omega arith) (λ n. omega arith))) in
+    let e = ap length (words_of-long rows (not_short rows c (λ n. omega arith) (λ n. omega arith))) in
     let f = length-append (box_words (box_of rows)) (data_words rows) in
     let g = length-box_words (box_of rows) in
     let n = length-bytes_of rows in

@@ -1,7 +1,8 @@
 use Rattle.std.proofs.Common.{◌≡◌, ◌∙◌, ◌≤◌, arith, rules, inl, inr, refl, sym, ap, length, subst, true, []}
 use Rattle.std.proofs.lemmas.Result.{err_from_is_err_and}
 use Rattle.region_bytes.specs.Words.{data_words, is_short, bytes_of}
-use Rattle.region_bytes.proofs.Written.{too_long, not_too_long, box_in_range, bytes_from_parts, words_of-short, words_of-long, short_from_length, long_from_length, length-word_bytes}
+use Rattle.region_bytes.proofs.Long.{not_short}
+use Rattle.region_bytes.proofs.Written.{too_long, not_too_long, box_in_range, bytes_from_parts, words_of-short, words_of-long, short_from_length, length-word_bytes}
 use Rattle.region_bytes.proofs.writing.RegionWriter.finish.Goals as goal
 use Rattle.region_bytes.proofs.writing.RegionWriter.finish.Goals.{then-self-eq-NOTHING-via-then-self-eq-NOTHING, then-self-eq-NOTHING-via-else-self-eq-NOTHING+then-self-eq-RECTANGLE}
 
@@ -60,6 +61,6 @@ returns c =
     let few : c.args.self.words ≡ length (data_words rows) = s.few (search rules) in
     let kept = s.kept (search rules) (search rules) in
     let e : c.in_ok-with_head-2.field-0.items ≡ bytes_of rows = bytes_from_parts rows (data_words rows) c.args.self.bounds c.as_slice.result.now _
-    (words_of-long rows (long_from_length rows canonical (λ n. c.if-self-eq-NOTHING.false (few ∙ n)) (λ n. c.if-self-eq-RECTANGLE.false (few ∙ n))))
+    (words_of-long rows (not_short rows canonical (λ n. c.if-self-eq-NOTHING.false (few ∙ n)) (λ n. c.if-self-eq-RECTANGLE.false (few ∙ n))))
     s.bounds (c.as_slice.ensures.value ∙ kept) c.in_ok-with_head-2.ensures in
     (e, subst (λ b. length b ≤ 32766) (sym e) (not_too_long rows canonical (omega arith)))
