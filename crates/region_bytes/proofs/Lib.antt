@@ -1,7 +1,8 @@
--- Lemmas on the edges of a row, on rows of inversion points, and on the words of them.
+-- Lemmas on the edges of a row and on rows of inversion points.
 pub mod Edges
 pub mod Rows
 pub mod Tests
+-- On the words of rows: how they are read, and that each column stands an even number of times.
 pub mod Scanned
 pub mod Found
 pub mod Words
@@ -9,6 +10,7 @@ pub mod Flags
 pub mod Finite
 pub mod Data
 pub mod PointLemmas
+-- On the box and the data of bytes, and what both say.
 pub mod Ranges
 pub mod Parted
 pub mod Short
@@ -16,6 +18,7 @@ pub mod Long
 pub mod Judged
 pub mod Said
 pub mod Formed
+-- On points, rows and the box that the bytes answer.
 pub mod Walked
 pub mod Pointed
 pub mod Boxed
