@@ -7,6 +7,20 @@ use tb_geom::{Point, Rect, Refusal};
 /// The rectangle l2 t1 r5 b4.
 const RECTANGLE: &[u8] = &[0, 0x0A, 0, 1, 0, 2, 0, 4, 0, 5];
 
+const CORNER: Rect = Rect {
+    left: 2,
+    top: 1,
+    right: 5,
+    bottom: 4,
+};
+
+const NOTHING: Rect = Rect {
+    left: 0,
+    top: 0,
+    right: 0,
+    bottom: 0,
+};
+
 const EMPTY: &[u8] = &[0, 0x0A, 0, 0, 0, 0, 0, 0, 0, 0];
 
 /// The rectangles l0 t0 r2 b2 and l0 t2 r4 b4.
@@ -253,21 +267,23 @@ fn damaged_bytes_are_judged(rt: HostRuntime) -> Result<(), Fail> {
 }
 
 #[test]
-fn regions_have_their_form(rt: HostRuntime) -> Result<(), Fail> {
-    let corner = Rect {
-        left: 2,
-        top: 1,
-        right: 5,
-        bottom: 4,
-    };
-    let nothing = Rect {
-        left: 0,
+fn regions_have_their_box(rt: HostRuntime) -> Result<(), Fail> {
+    let ring = Rect {
+        left: -1,
         top: 0,
-        right: 0,
-        bottom: 0,
+        right: 5,
+        bottom: 6,
     };
-    assert!(rt; matches!(RegionBytes::read(RECTANGLE)?.form(), Form::Rect(rect) if rect == corner));
-    assert!(rt; matches!(RegionBytes::read(EMPTY)?.form(), Form::Rect(rect) if rect == nothing));
+    assert!(rt; RegionBytes::read(RECTANGLE)?.bbox() == CORNER);
+    assert!(rt; RegionBytes::read(EMPTY)?.bbox() == NOTHING);
+    assert!(rt; RegionBytes::read(RING)?.bbox() == ring);
+    Ok(())
+}
+
+#[test]
+fn regions_have_their_form_and_points(rt: HostRuntime) -> Result<(), Fail> {
+    assert!(rt; matches!(RegionBytes::read(RECTANGLE)?.form(), Form::Rect(rect) if rect == CORNER));
+    assert!(rt; matches!(RegionBytes::read(EMPTY)?.form(), Form::Rect(rect) if rect == NOTHING));
     assert!(rt;
         matches!(RegionBytes::read(&STEP)?.form(), Form::Rows(bytes) if Some(bytes) == STEP.get(10..))
     );

@@ -2,6 +2,7 @@
 pub mod Edges
 pub mod Rows
 pub mod Tests
+-- On the words of rows: how they are read, and that each column stands an even number of times.
 pub mod Scanned
 pub mod Found
 pub mod Words
@@ -9,6 +10,7 @@ pub mod Flags
 pub mod Finite
 pub mod Data
 pub mod PointLemmas
+-- On the box and the data of bytes, and what both say.
 pub mod Ranges
 pub mod Parted
 pub mod Short
