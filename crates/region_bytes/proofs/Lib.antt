@@ -1,4 +1,4 @@
--- Lemmas on the edges of a row, on rows of inversion points, on their words, and on what is written of them.
+-- Lemmas on the edges of a row and on rows of inversion points.
 pub mod Edges
 pub mod Rows
 pub mod Tests
@@ -18,8 +18,10 @@ pub mod Long
 pub mod Judged
 pub mod Said
 pub mod Formed
+-- On what is written, and that it says one set.
 pub mod Written
 pub mod Decoded
+-- On points, rows and the box that the bytes answer.
 pub mod Walked
 pub mod Pointed
 pub mod Boxed
