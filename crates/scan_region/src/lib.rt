@@ -18,6 +18,12 @@
 //! bounds, and `bbox` is the rectangle around them. A set of pixels is kept in one list of rows alone
 //! (`laws::one_list_of_rows`), so that `equals`, which compares the lists, compares the sets. Its list
 //! of spans is one too, whatever form it is kept in (`laws::one_list_of_spans`).
+//!
+//! `to_bytes` goes over the rows once and writes the columns at which each differs from the one above
+//! it, into a `RegionWriter` of `region_bytes`, which counts them all and keeps their bytes while memory
+//! lasts. `from_bytes` has the bytes judged in place first, and then makes rows of edges of them. A region
+//! that is written and read is the same, and so are bytes that are read and written
+//! (`laws::written_and_read`, `laws::read_and_written`).
 #![tactic(auto)]
 
 mod bounds;
