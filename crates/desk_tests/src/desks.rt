@@ -6,7 +6,8 @@ ghost use Rattle.desk_toolbox.specs.Whole.{IsWhole};
 use crate::titled_window::Titled;
 use bit_map::BitMap;
 use def_iface::{Defined, Size, Stock, Stocked, Taken, WindowDef};
-use desk_toolbox::{Call, Found, NewWindow, Reply, Text, Toolbox, WindowCall, WindowPart};
+use desk_toolbox::{Call, Found, NewWindow, Reply, Toolbox, WindowCall, WindowPart};
+use draw_port::BytesRef;
 use ground_tests::pixels::{Pixels, are_alike, mark};
 use std::alloc::{AllocError, Global};
 use std::test::Fail;
@@ -108,7 +109,7 @@ const WINDOW: Opened = Opened {
 /// The call for a window.
 fn opening(window: Opened) -> Call<'static> {
     Call::Window(WindowCall::New(NewWindow {
-        kind: Text::new(window.kind),
+        kind: BytesRef::new(window.kind),
         place: Point {
             h: window.column,
             v: 24,
@@ -119,7 +120,7 @@ fn opening(window: Opened) -> Call<'static> {
         },
         shown: window.shown,
         go_away: false,
-        title: Text::new(window.title),
+        title: BytesRef::new(window.title),
     }))
 }
 
@@ -311,5 +312,5 @@ fn parts_have_their_codes(rt: HostRuntime) {
     for (part, code) in PARTS {
         assert!(rt; part.number() == code);
     }
-    assert!(rt; Text::new(LONGEST).bytes() == LONGEST);
+    assert!(rt; BytesRef::new(LONGEST).as_slice() == LONGEST);
 }

@@ -1,5 +1,5 @@
 -- How a desk without windows is painted.
-use Rattle.std.proofs.Common.{◌≡◌, ℕ, zero, suc, ◌<◌, true, ◌&&◌, if◌then◌else◌, [], ◌∷◌, ℤ, pos, negsuc, ◌-ℤ◌, refl, ap, ◌∙◌, arith}
+use Rattle.std.proofs.Common.{◌≡◌, ℕ, zero, suc, ◌<◌, true, false, ◌&&◌, if◌then◌else◌, [], ◌∷◌, ℤ, pos, negsuc, ◌-ℤ◌, refl, sym, ap, ◌∙◌, arith}
 use Rattle.std.specs.Prelude.{slice_index}
 use Rattle.std.specs.Ordering.{int_eq}
 use Rattle.std.proofs.lemmas.Bool.{and_parts}
@@ -18,7 +18,7 @@ use Rattle.bit_map.specs.Patterns.{pattern_bit, bit_of, eighth_of}
 use Rattle.bit_blit.specs.Draws.{Draws}
 use Rattle.bit_blit.proofs.DrawsLemmas.{Draws-on_map}
 use Rattle.desk_toolbox.specs.FullDesk.{gray}
-use Rattle.desk_toolbox.specs.Begin.{last_row, IsEmptyPainted}
+use Rattle.desk_toolbox.specs.Begin.{last_row, below, IsEmptyPainted, IsGround}
 
 abbrev pub black : Pattern
 black = record { rows = 255 ∷ 255 ∷ 255 ∷ 255 ∷ 255 ∷ 255 ∷ 255 ∷ 255 ∷ [] }
@@ -88,4 +88,24 @@ empty_painted bar right row region old mid new is_right is_row filled drawn = re
       drawn.pixels p there ∙ (λ i. if in_last i then pattern_bit-black (minus p origin) i else under i);
   width = drawn.width ∙ filled.width;
   height = drawn.height ∙ filled.height;
+}
+
+same_sides : (old new : Bits) → new.width ≡ old.width → new.height ≡ old.height → (p : Point) → on_map new p ≡ on_map old p
+unfolding on_map
+same_sides old new w h p = λ i. is_below (w i) p.h && is_below (h i) p.v
+
+-- on a white map that makes the screen of a desk without windows
+pub is_ground : (width height bar : ℤ) (old new : Bits) (region : Pixels)
+    → (pos old.width ≡ width) × (pos old.height ≡ height)
+    → ((p : Point) → bit old p ≡ false)
+    → IsEmptyPainted bar region old new
+    → ((p : Point) → holds region p ≡ rect_holds (below width height bar) p)
+    → IsGround width height bar (record { screen = new; gray = region })
+is_ground width height bar old new region sides white painted under = record {
+  wide = ap pos painted.width ∙ sides.0;
+  high = ap pos painted.height ∙ sides.1;
+  gray = under;
+  pixels = λ p on.
+      painted.pixels p (sym (same_sides old new painted.width painted.height p) ∙ on)
+      ∙ ap (λ b. if int_eq p.v (bar -ℤ pos 1) then true else (if holds region p then pattern_bit gray p else b)) (white p);
 }

@@ -10,7 +10,7 @@ use Rattle.tb_geom.specs.declared.point.Point.{Point}
 use Rattle.tb_geom.specs.declared.rect.Rect.{Rect}
 use Rattle.tb_geom.specs.Rects.{rect_holds, between}
 use Rattle.tb_geom.specs.Pixels.{holds}
-use Rattle.bit_map.specs.Bits.{Bits, on_map, bit}
+use Rattle.bit_map.specs.Bits.{on_map, bit}
 use Rattle.bit_map.specs.Patterns.{pattern_bit}
 use Rattle.def_iface.specs.declared.taken.Taken.{Taken}
 use Rattle.def_iface.specs.Meaning.{Loan}
@@ -23,13 +23,9 @@ use Rattle.desk_toolbox.specs.declared.toolbox.Toolbox.{Toolbox}
 use Rattle.desk_toolbox.specs.declared.vis_update.Area.{Area}
 use Rattle.desk_toolbox.specs.FullDesk.{FullDesk, gray, layered_desk}
 use Rattle.desk_toolbox.specs.Records.{record_of, desk_of, stale_in}
-use Rattle.desk_toolbox.specs.Begin.{IsEmptyPainted, IsEmptyDesk, empty_desk}
+use Rattle.desk_toolbox.specs.Begin.{IsGround, IsEmptyDesk, empty_desk, below}
 use Rattle.desk_toolbox.specs.Whole.{IsWhole, IsSound, IsGray, AreAreas, is_bar, is_screen, is_screen_side}
 use Rattle.desk_toolbox.proofs.NewWindowLemmas.{between-is_below}
-
--- the rectangle below the menu bar
-abbrev pub below : ℤ → ℤ → ℤ → Rect
-below width height bar = record { left = pos 0; top = bar; right = width; bottom = height }
 
 below_rows : (bar v height : ℤ) → is_bar bar ≡ true → between bar v height ≡ (between (pos 0) v height && not (int_lt v bar))
 below_rows bar v height e = grind (arith, ints)
@@ -48,28 +44,26 @@ full_slot : (slots : List SlotView) → All IsFull slots → (k : ℕ) (s : Slot
 full_slot slots full k s e = subst IsFull (get_or_from_slice_get slots k s s e) (full k s (slice_get_within slots k s e))
 
 -- what is known of a desk that begins
-pub record IsBegun {V : Type 0} {H : V → Type 0} (width height bar : ℤ) (blank : Bits) (t : Toolbox V H) : Type 0 where
+pub record IsBegun {V : Type 0} {H : V → Type 0} (width height bar : ℤ) (font : List ℕ) (t : Toolbox V H) : Type 0 where
   pub screen : is_screen width height bar ≡ true
-  pub wide : pos blank.width ≡ width
-  pub high : pos blank.height ≡ height
-  pub white : (p : Point) → bit blank p ≡ false
-  pub painted : IsEmptyPainted bar t.gray blank t.screen
-  pub gray : (p : Point) → holds t.gray p ≡ rect_holds (below width height bar) p
+  pub ground : IsGround width height bar (record { screen = t.screen; gray = t.gray })
   pub rows : t.bar ≡ bar
+  pub texts : t.font ≡ font
   pub windows : t.windows.items ≡ []
   pub areas : t.areas.items ≡ []
   pub active : t.active ≡ None
   pub next : t.next ≡ Some 1
 
-module _ {V : Type 0} {H : V → Type 0} (loan : Taken V H → Loan) (width height bar : ℤ) (blank : Bits) (t : Toolbox V H) (B : IsBegun width height bar blank t) (slots : List SlotView) (full : All IsFull slots) where
+module _ {V : Type 0} {H : V → Type 0} (loan : Taken V H → Loan) (width height bar : ℤ) (font : List ℕ) (t : Toolbox V H) (B : IsBegun width height bar font t) (slots : List SlotView) (full : All IsFull slots) where
   abbrev empty : FullDesk
-  empty = empty_desk width height bar slots
+  empty = empty_desk width height bar font slots
 
   desk_is : desk_of loan t slots ≡ empty
   desk_is = λ i. record {
-    width = (ap pos B.painted.width ∙ B.wide) i;
-    height = (ap pos B.painted.height ∙ B.high) i;
+    width = B.ground.wide i;
+    height = B.ground.high i;
     bar = B.rows i;
+    font = B.texts i;
     windows = map (record_of loan) (B.windows i);
     active = B.active i;
     next = B.next i;
@@ -81,26 +75,26 @@ module _ {V : Type 0} {H : V → Type 0} (loan : Taken V H → Loan) (width heig
 
   gray_is : IsGray (layered_desk empty) t.gray
   gray_is p =
-      B.gray p
+      B.ground.gray p
       ∙ ap (λ b. between (pos 0) p.h width && b) (below_rows bar p.v height bar_is)
       ∙ and-assoc (between (pos 0) p.h width) (between (pos 0) p.v height) (not (int_lt p.v bar))
 
-  on_blank : (p : Point) → layers.on_screen (layered_desk empty) p ≡ on_map blank p
+  on_ground : (p : Point) → layers.on_screen (layered_desk empty) p ≡ on_map t.screen p
   unfolding on_map
-  on_blank p =
-      (λ i. between (pos 0) p.h (sym B.wide i) && between (pos 0) p.v (sym B.high i))
-      ∙ (λ i. between-is_below blank.width p.h i && between-is_below blank.height p.v i)
+  on_ground p =
+      (λ i. between (pos 0) p.h (sym B.ground.wide i) && between (pos 0) p.v (sym B.ground.high i))
+      ∙ (λ i. between-is_below t.screen.width p.h i && between-is_below t.screen.height p.v i)
 
   plain_is : (p : Point) → layers.on_screen (layered_desk empty) p ≡ true → bit t.screen p ≡ own_bit (layered_desk empty) (owner (layered_desk empty) p) p
-  plain_is p on = B.painted.pixels p (sym (on_blank p) ∙ on) ∙ by_bar (int_lt p.v bar) refl
+  plain_is p on = B.ground.pixels p (sym (on_ground p) ∙ on) ∙ by_bar (int_lt p.v bar) refl
     where
       low : int_le (pos 0) p.v ≡ true
       low = (and_parts (int_le (pos 0) p.v) _ (and_parts (between (pos 0) p.h width) _ on).1).0
 
-      by_bar : (b : Bool) → int_lt p.v bar ≡ b → (if int_eq p.v (bar -ℤ pos 1) then true else (if holds t.gray p then pattern_bit gray p else bit blank p)) ≡ own_bit (layered_desk empty) (owner (layered_desk empty) p) p
+      by_bar : (b : Bool) → int_lt p.v bar ≡ b → (if int_eq p.v (bar -ℤ pos 1) then true else (if holds t.gray p then pattern_bit gray p else false)) ≡ own_bit (layered_desk empty) (owner (layered_desk empty) p) p
       by_bar true e =
           let g : holds t.gray p ≡ false = gray_is p ∙ (λ i. on i && not (e i)) in
-          rw (row_of_bar bar p.v bar_is low e, g, B.white p, e) (by_row (int_eq p.v (pos 19)))
+          rw (row_of_bar bar p.v bar_is low e, g, e) (by_row (int_eq p.v (pos 19)))
         where
           by_row : (b : Bool) → (if b then true else false) ≡ b
           by_row true = refl
@@ -135,7 +129,7 @@ module _ {V : Type 0} {H : V → Type 0} (loan : Taken V H → Loan) (width heig
         (λ p on content. plain_is p on);
   }
 
-  pub is_empty_desk : IsEmptyDesk loan width height bar t slots
+  pub is_empty_desk : IsEmptyDesk loan width height bar font t slots
   is_empty_desk = record {
     desk = desk_is;
     drawn = none_stale;

@@ -116,7 +116,7 @@ module _ {V : Type 0} {H : V → Type 0} (loan : Taken V H → Loan) where
     -- the areas, said of the desk before the call
     areas_after : AreAreasAfter (layered_state (state_of loan t slots)) (layered_desk after) after.windows areas
     areas_after =
-        let back : SameDesk planned t = record { screen = sym N.same.screen; bar = sym N.same.bar; gray = sym N.same.gray; windows = sym N.same.windows; areas = sym N.same.areas; active = sym N.same.active; next = sym N.same.next } in
+        let back : SameDesk planned t = record { screen = sym N.same.screen; bar = sym N.same.bar; font = sym N.same.font; gray = sym N.same.gray; windows = sym N.same.windows; areas = sym N.same.areas; active = sym N.same.active; next = sym N.same.next } in
         areas_stay loan planned t [] [] back refl w n taken.definition areas N.areas_with taken.slot N.added.begun N.added.live.regions
 
     -- as layers, the desk after is the desk before with one more window
@@ -155,6 +155,7 @@ module _ {V : Type 0} {H : V → Type 0} (loan : Taken V H → Loan) where
       width = pos (first.1.1.width i);
       height = pos (first.1.1.height i);
       bar = (N.added.bar ∙ N.same.bar) i;
+      font = (N.added.font ∙ N.same.font) i;
       windows = windows_are i;
       active = (N.added.active ∙ ap (λ a. if w.shown then Some n else a) N.same.active) i;
       next = N.added.next i;

@@ -15,7 +15,7 @@ use Rattle.desk_toolbox.specs.declared.call.NewWindow.{NewWindow}
 use Rattle.desk_toolbox.specs.declared.toolbox.Toolbox.{Toolbox}
 use Rattle.desk_toolbox.specs.FullDesk.{FullDesk}
 use Rattle.desk_toolbox.specs.Records.{record_of, desk_of}
-use Rattle.desk_toolbox.specs.Refused.{first_refusal, judged_refusals, is_placed, refusal_of}
+use Rattle.desk_toolbox.specs.Refused.{first_refusal, judged_refusals, new_window_refusals, is_placed}
 use Rattle.desk_toolbox.specs.Step.{IsRefused}
 use Rattle.desk_toolbox.specs.Planned.{IsUnplanned}
 
@@ -42,7 +42,7 @@ module _ (kind : List ℕ) (loan : Loan) (old left : List SlotView) (took : IsTa
   taken_was_there = any_at old loan.slot _ took.held ((bytes_eq-Decides kind kind).1 refl)
 
 -- with a definition at hand only place, title and the count of windows refuse
-pub refusal_with : (w : NewWindow) (desk : FullDesk) (d : Definition) → has_kind w.kind desk.stock ≡ true → offered w.kind desk.stock ≡ Some d → refusal_of (Window (New w)) desk ≡ first_refusal (judged_refusals w (is_placed (Some d) w.place w.size) (length desk.windows) desk.next)
+pub refusal_with : (w : NewWindow) (desk : FullDesk) (d : Definition) → has_kind w.kind desk.stock ≡ true → offered w.kind desk.stock ≡ Some d → first_refusal (new_window_refusals w desk) ≡ first_refusal (judged_refusals w (is_placed (Some d) w.place w.size) (length desk.windows) desk.next)
 refusal_with w desk d there at_hand = rw (there, at_hand) (by_tests (is_placed (Some d) w.place w.size) _ _)
   where
     by_tests : (a b c : Bool) → (if not a then Some OutOfRange else (if b then Some TooLong else (if c then Some TooMany else (if false then Some NoDefinition else None)))) ≡ (if not a then Some OutOfRange else (if b then Some TooLong else (if c then Some TooMany else None)))
@@ -53,7 +53,7 @@ refusal_with w desk d there at_hand = rw (there, at_hand) (by_tests (is_placed (
 
 module _ {V : Type 0} {H : V → Type 0} (loan : Taken V H → Loan) (w : NewWindow) (taken : Loan) (t : Toolbox V H) (slots left : List SlotView) (took : IsTaken w.kind taken slots left) where
   -- why a new window is refused, by the judgement of a Toolbox
-  pub refusal_is : refusal_of (Window (New w)) (desk_of loan t slots) ≡ first_refusal (judged_refusals w (is_placed (Some taken.definition) w.place w.size) (vec_len t.windows) t.next)
+  pub refusal_is : first_refusal (new_window_refusals w (desk_of loan t slots)) ≡ first_refusal (judged_refusals w (is_placed (Some taken.definition) w.place w.size) (vec_len t.windows) t.next)
   refusal_is =
       refusal_with w (desk_of loan t slots) taken.definition (taken_was_there w.kind taken slots left took) (taken_was_offered w.kind taken slots left took)
       ∙ ap (λ n. first_refusal (judged_refusals w (is_placed (Some taken.definition) w.place w.size) n t.next)) (length-map t.windows.items (record_of loan) ∙ sym t.windows.ok.0)

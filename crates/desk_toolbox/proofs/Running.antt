@@ -14,7 +14,7 @@ use Rattle.def_iface.proofs.Owning.{is_other, owner_is_other, own_bit-behind, sa
 use Rattle.def_iface.proofs.Changing.{stays_right}
 use Rattle.desk_toolbox.specs.declared.call.Call.{Call}
 use Rattle.desk_toolbox.specs.declared.call.Call.TheVariants.{Window}
-use Rattle.desk_toolbox.specs.declared.call.WindowCall.TheVariants.{New, Find, Front}
+use Rattle.desk_toolbox.specs.declared.call.WindowCall.TheVariants.{New, Draw, Find, Front}
 use Rattle.desk_toolbox.specs.declared.call.NewWindow.{NewWindow}
 use Rattle.desk_toolbox.specs.declared.call.Reply.{Reply}
 use Rattle.desk_toolbox.specs.FullDesk.{WindowRecord, FullDesk, FullState, IsRight, AreBelow, AreNumbered, layered_window, layered_desk, layered_state}
@@ -133,6 +133,7 @@ unchanged_stays_right before after right same =
 
 done_stays_right : (call : Call) (answer : Reply) (before after : FullState) → IsRight before → IsDone call answer before after → IsRight after
 done_stays_right (Window (New w)) answer before after right done = new_stays_right w done.0 before after right done.2
+done_stays_right (Window (Draw d)) answer before after right done = absurd done
 done_stays_right (Window (Find p)) answer before after right done = unchanged_stays_right before after right done.1
 done_stays_right (Window Front) answer before after right done = unchanged_stays_right before after right done.1
 

@@ -21,6 +21,7 @@ module _ {V : Type 0} {H : V → Type 0} (loan : Taken V H → Loan) (t u : Tool
     width = pos (ap (λ (s : Bits). s.width) same.screen i);
     height = pos (ap (λ (s : Bits). s.height) same.screen i);
     bar = same.bar i;
+    font = same.font i;
     windows = map (record_of loan) (same.windows i);
     active = same.active i;
     next = same.next i;

@@ -31,6 +31,8 @@ pub record FullDesk : Type 0 where
   pub height : ℤ
   -- the rows of the menu bar
   pub bar : ℤ
+  -- the bytes of the font of all texts
+  pub font : List ℕ
   -- from front to back
   pub windows : List WindowRecord
   pub active : Option ℕ

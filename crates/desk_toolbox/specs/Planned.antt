@@ -45,6 +45,7 @@ module _ {V : Type 0} {H : V → Type 0} where
   pub record SameDesk (old new : Toolbox V H) : Type 0 where
     pub screen : new.screen ≡ old.screen
     pub bar : new.bar ≡ old.bar
+    pub font : new.font ≡ old.font
     pub gray : new.gray ≡ old.gray
     pub windows : new.windows.items ≡ old.windows.items
     pub areas : new.areas.items ≡ old.areas.items
@@ -85,6 +86,7 @@ module _ {V : Type 0} {H : V → Type 0} (loan : Taken V H → Loan) where
     pub areas : new.areas.items ≡ planned
     pub painted : IsSomeAnd (slice_get planned 0) (λ area. IsPainted area w.place begun old.screen new.screen)
     pub bar : new.bar ≡ old.bar
+    pub font : new.font ≡ old.font
     pub gray : new.gray ≡ old.gray
     pub active : new.active ≡ (if w.shown then Some serial else old.active)
     pub next : new.next ≡ number_after serial

@@ -37,6 +37,7 @@ module _ {V : Type 0} {H : V → Type 0} (loan : Taken V H → Loan) where
     width = pos t.screen.width;
     height = pos t.screen.height;
     bar = t.bar;
+    font = t.font;
     windows = map record_of t.windows.items;
     active = t.active;
     next = t.next;

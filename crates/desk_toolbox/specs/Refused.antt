@@ -1,5 +1,5 @@
 -- Why a call refuses: the first refusal of the written order whose condition holds.
-use Rattle.std.specs.Prelude.{ℕ, Bool, true, false, not, ◌&&◌, ◌||◌, if◌then◌else◌, List, [], ◌∷◌, ◌++◌, length, Option, None, Some, is_none, nat_le, nat_lt}
+use Rattle.std.specs.Prelude.{◌≡◌, ℕ, Bool, true, false, not, ◌&&◌, ◌||◌, if◌then◌else◌, List, [], ◌∷◌, ◌++◌, length, Option, None, Some, is_none, nat_le, nat_lt}
 use Rattle.tb_geom.specs.declared.point.Point.{Point}
 use Rattle.tb_geom.specs.declared.rect.Rect.{Rect}
 use Rattle.tb_geom.specs.declared.refusal.Refusal.{Refusal}
@@ -11,7 +11,7 @@ use Rattle.def_iface.specs.Meaning.{Definition}
 use Rattle.def_iface.specs.Stocked.{has_kind, offered}
 use Rattle.desk_toolbox.specs.declared.call.Call.{Call}
 use Rattle.desk_toolbox.specs.declared.call.Call.TheVariants.{Window}
-use Rattle.desk_toolbox.specs.declared.call.WindowCall.TheVariants.{New, Find, Front}
+use Rattle.desk_toolbox.specs.declared.call.WindowCall.TheVariants.{New, Draw, Find, Front}
 use Rattle.desk_toolbox.specs.declared.call.NewWindow.{NewWindow}
 use Rattle.desk_toolbox.specs.FullDesk.{FullDesk}
 
@@ -57,13 +57,15 @@ new_window_refusals w desk =
     ++ (is_none (offered w.kind desk.stock), NoDefinition) ∷ []
 
 -- why the call refuses, want of memory aside
-abbrev pub refusal_of : Call → FullDesk → Option Refusal
-refusal_of (Window (New w)) desk = first_refusal (new_window_refusals w desk)
-refusal_of (Window (Find p)) desk = first_refusal ((not (in_plane p), OutOfRange) ∷ [])
-refusal_of (Window Front) desk = None
+abbrev pub IsRefusal : Call → FullDesk → Option Refusal → Type 0
+IsRefusal (Window (New w)) desk why = first_refusal (new_window_refusals w desk) ≡ why
+IsRefusal (Window (Draw d)) desk why = Unit {0}
+IsRefusal (Window (Find p)) desk why = first_refusal ((not (in_plane p), OutOfRange) ∷ []) ≡ why
+IsRefusal (Window Front) desk why = None ≡ why
 
 -- the call may ask for memory
 abbrev pub may_grow : Call → Bool
 may_grow (Window (New w)) = true
+may_grow (Window (Draw d)) = true
 may_grow (Window (Find p)) = false
 may_grow (Window Front) = false

@@ -18,6 +18,7 @@ IsRun first (call ∷ calls) [] last = ⊥
 -- the numbers of the windows that were made
 abbrev pub made : List (Result Reply Refusal) → List ℕ
 made [] = []
+made (Ok reply.Done ∷ answers) = made answers
 made (Ok (reply.Window n) ∷ answers) = n ∷ made answers
 made (Ok (reply.Found found) ∷ answers) = made answers
 made (Ok (reply.Front window) ∷ answers) = made answers

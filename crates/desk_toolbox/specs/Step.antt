@@ -9,13 +9,13 @@ use Rattle.def_iface.specs.Desk.{on_screen}
 use Rattle.def_iface.specs.Change.{no_change, IsChanged}
 use Rattle.desk_toolbox.specs.declared.call.Call.{Call}
 use Rattle.desk_toolbox.specs.declared.call.Call.TheVariants.{Window}
-use Rattle.desk_toolbox.specs.declared.call.WindowCall.TheVariants.{New, Find, Front}
+use Rattle.desk_toolbox.specs.declared.call.WindowCall.TheVariants.{New, Draw, Find, Front}
 use Rattle.desk_toolbox.specs.declared.call.NewWindow.{NewWindow}
 use Rattle.desk_toolbox.specs.declared.call.Reply.{Reply}
 use Rattle.desk_toolbox.specs.declared.call.Reply.TheVariants as reply
 use Rattle.desk_toolbox.specs.FullDesk.{WindowRecord, FullDesk, FullState, layered_desk, layered_state}
 use Rattle.desk_toolbox.specs.Finding.{found_at, front_of}
-use Rattle.desk_toolbox.specs.Refused.{refusal_of, may_grow}
+use Rattle.desk_toolbox.specs.Refused.{IsRefusal, may_grow}
 
 -- the record that a new window gets; a visible one is highlighted
 abbrev pub new_record : NewWindow → ℕ → ℕ → Definition → WindowRecord
@@ -67,22 +67,23 @@ pub record IsUnchanged (before after : FullState) : Type 0 where
 -- what a call that was done answers and leaves: a call that asks changes nothing
 abbrev pub IsDone : Call → Reply → FullState → FullState → Type 0
 IsDone (Window (New w)) answer before after = (serial : ℕ) × (answer ≡ reply.Window serial) × IsNewWindow w serial before after
+IsDone (Window (Draw d)) answer before after = ⊥
 IsDone (Window (Find p)) answer before after = (answer ≡ reply.Found (found_at before.desk p)) × IsUnchanged before after
 IsDone (Window Front) answer before after = (answer ≡ reply.Front (front_of before.desk.windows)) × IsUnchanged before after
 
 -- the call is refused for this: the first refusal of the written order whose condition holds, or, where there is none
 -- and the call may grow, want of memory
 abbrev pub IsRefused : Call → Refusal → FullDesk → Type 0
-IsRefused call e desk = (refusal_of call desk ≡ Some e) ⊎ ((refusal_of call desk ≡ None) × ((may_grow call ≡ true) × (e ≡ NoMemory)))
+IsRefused call e desk = IsRefusal call desk (Some e) ⊎ (IsRefusal call desk None × ((may_grow call ≡ true) × (e ≡ NoMemory)))
 
 -- one step: a call that nothing refuses is done, and a refused one changes nothing
 abbrev pub IsStep : Call → Result Reply Refusal → FullState → FullState → Type 0
-IsStep call (Ok answer) before after = (refusal_of call before.desk ≡ None) × IsDone call answer before after
+IsStep call (Ok answer) before after = IsRefusal call before.desk None × IsDone call answer before after
 IsStep call (Err e) before after = IsRefused call e before.desk × IsUnchanged before after
 
 -- nothing refused a new window, and it was made, of this number
 abbrev pub IsMade : NewWindow → ℕ → FullState → FullState → Type 0
-IsMade w serial before after = (refusal_of (Window (New w)) before.desk ≡ None) × IsNewWindow w serial before after
+IsMade w serial before after = IsRefusal (Window (New w)) before.desk None × IsNewWindow w serial before after
 
 -- the call for a new window was refused
 abbrev pub IsNotMade : NewWindow → Refusal → FullState → FullState → Type 0

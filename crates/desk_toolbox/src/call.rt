@@ -1,20 +1,22 @@
 //! What a Toolbox can be asked, and what it answers.
 
-use crate::text::Text;
 use def_iface::Size;
+use draw_port::{BytesRef, OpRef};
 use tb_geom::Point;
 
-/// A call of the Toolbox, by the manager that answers it. Texts are borrowed, so that a call takes
-/// no memory.
-#[derive(Debug, Drop)]
+/// A call of the Toolbox, by the manager that answers it. Texts and the bytes of operations are
+/// borrowed, so that a call takes no memory.
+#[derive(Drop)]
 pub enum Call<'a> {
     Window(WindowCall<'a>),
 }
 
 /// A call of the Window Manager.
-#[derive(Debug, Drop)]
+#[derive(Drop)]
 pub enum WindowCall<'a> {
     New(NewWindow<'a>),
+    /// Adds an operation to a window's picture, and draws it where the picture shows.
+    Draw(Drawing<'a>),
     /// Whose a point of the screen is (FindWindow). A point outside the range of coordinates is
     /// OutOfRange.
     Find(Point),
@@ -23,10 +25,10 @@ pub enum WindowCall<'a> {
 }
 
 /// A window to be made (NewWindow: *Inside Macintosh* I, "The Window Manager").
-#[derive(Debug, Drop)]
+#[derive(Drop)]
 pub struct NewWindow<'a> {
     /// The name of the kind, by which the stock finds a definition.
-    pub kind: Text<'a>,
+    pub kind: BytesRef<'a>,
     /// Where the content's 0 0 lies on the screen.
     pub place: Point,
     pub size: Size,
@@ -34,7 +36,16 @@ pub struct NewWindow<'a> {
     /// Whether it has a go-away box.
     pub go_away: bool,
     /// At most 255 bytes.
-    pub title: Text<'a>,
+    pub title: BytesRef<'a>,
+}
+
+/// What is to be drawn in a window.
+#[derive(Drop)]
+pub struct Drawing<'a> {
+    /// The number of the window. No window has the number 0.
+    pub window: u64,
+    /// In the coordinates of the window's picture.
+    pub operation: OpRef<'a>,
 }
 
 /// A part of the screen, as FindWindow answers it (*Inside Macintosh* I, "The Window Manager").
@@ -79,6 +90,8 @@ pub struct Found {
 /// The value of a call that was done.
 #[derive(Clone, Copy, Debug, PartialEq, Eq)]
 pub enum Reply {
+    /// Nothing more than that it was done.
+    Done,
     /// The number of a window, from 1.
     Window(u64),
     /// Whose a point is.

@@ -1,14 +1,14 @@
 //! Calls, one by one and in a row.
 ghost use Rattle.std.specs.Prelude.{◌≡◌, IfOk, IfErr};
 ghost use Rattle.desk_toolbox.specs.declared.call.Call.TheVariants as asks;
-ghost use Rattle.desk_toolbox.specs.declared.call.WindowCall.TheVariants.{New, Find, Front};
+ghost use Rattle.desk_toolbox.specs.declared.call.WindowCall.TheVariants.{New, Draw, Find, Front};
 ghost use Rattle.desk_toolbox.specs.FullDesk.{IsRight};
 ghost use Rattle.desk_toolbox.specs.Records.{state_of};
 ghost use Rattle.desk_toolbox.specs.Step.{IsStep, IsUnchanged};
 ghost use Rattle.desk_toolbox.specs.Run.{IsRun};
 ghost use Rattle.desk_toolbox.specs.Whole.{IsWhole};
 
-use crate::{Call, NewWindow, Reply, Toolbox, WindowCall};
+use crate::{Call, Drawing, NewWindow, Reply, Toolbox, WindowCall};
 use def_iface::{Defined, Stock, Stocked, Taken};
 use tb_geom::{Point, Refusal};
 
@@ -26,6 +26,7 @@ impl Toolbox {
     {
         match call {
             Call::Window(WindowCall::New(window)) => self.answer_new(window, stock),
+            Call::Window(WindowCall::Draw(drawing)) => self.answer_draw(drawing, stock),
             Call::Window(WindowCall::Find(point)) => self.answer_find(*point, stock),
             Call::Window(WindowCall::Front) => self.answer_front(stock),
         }
@@ -40,6 +41,17 @@ impl Toolbox {
             (state_of ⟦<Taken as Defined>⟧.loan self.new (⟦<Stock as Stocked>⟧.slots stock.new)) }
     {
         Ok(Reply::Window(self.new_window(window, stock)?))
+    }
+
+    /// Draws in a window.
+    fn answer_draw(&mut self, drawing: &Drawing<'_>, _stock: &Stock) -> Result<Reply, Refusal>
+        requires { IsWhole ⟦<Taken as Defined>⟧.loan self.old (⟦<Stock as Stocked>⟧.slots _stock.now) }
+        ensures whole { IsWhole ⟦<Taken as Defined>⟧.loan self.new (⟦<Stock as Stocked>⟧.slots _stock.now) }
+        ensures step { IsStep (asks.Window (Draw drawing.now)) result
+            (state_of ⟦<Taken as Defined>⟧.loan self.old (⟦<Stock as Stocked>⟧.slots _stock.now))
+            (state_of ⟦<Taken as Defined>⟧.loan self.new (⟦<Stock as Stocked>⟧.slots _stock.now)) }
+    {
+        Err(Refusal::NoMemory)
     }
 
     /// Answers whose a point of the screen is.

@@ -28,14 +28,12 @@ mod close;
 mod find;
 pub mod laws;
 mod place;
-mod text;
 mod toolbox;
 mod vis_update;
 mod window_list;
 mod window_mgr;
 
-pub use call::{Call, Found, NewWindow, Reply, WindowCall, WindowPart};
-pub use text::Text;
-pub use toolbox::Toolbox;
+pub use call::{Call, Drawing, Found, NewWindow, Reply, WindowCall, WindowPart};
+pub use toolbox::{NotBegun, Toolbox};
 pub use vis_update::Area;
 pub use window_list::Window;

@@ -1,7 +1,7 @@
 //! What a Toolbox keeps, and how it begins.
 ghost use Rattle.std.specs.Prelude.{◌≡◌, true, if◌then◌else◌, IfOk, IfErr, List, All, int_lt};
 ghost use Rattle.def_iface.specs.Stocked.{SlotView, IsFull};
-ghost use Rattle.desk_toolbox.specs.Begin.{IsEmptyDesk, IsEmptyPainted, last_row};
+ghost use Rattle.desk_toolbox.specs.Begin.{IsEmptyDesk, IsGround, IsEmptyPainted, last_row};
 ghost use Rattle.desk_toolbox.specs.Whole as whole;
 
 use crate::{Area, Window};
@@ -10,6 +10,7 @@ use bit_map::{BitMap, Mode, Pattern};
 use def_iface::{Defined, Taken};
 use scan_region::Region;
 use std::alloc::Global;
+use strike_font::Font;
 use tb_geom::{Point, Rect, Refusal};
 
 /// A desk: its screen, its windows, and what of them has to be drawn.
@@ -19,6 +20,8 @@ pub struct Toolbox {
     pub(crate) screen: BitMap,
     /// The rows of the menu bar.
     pub(crate) bar: i32,
+    /// The font of all texts.
+    pub(crate) font: Font,
     /// The screen without the menu bar.
     pub(crate) gray: Region,
     /// From front to back.
@@ -30,40 +33,54 @@ pub struct Toolbox {
     pub(crate) next: Option<u64>,
 }
 
+/// A screen without windows.
+#[derive(Drop)]
+struct Ground {
+    screen: BitMap,
+    /// The part of it below the menu bar.
+    gray: Region,
+}
+
+/// A font that comes back, and why no desk was begun with it.
+#[derive(Drop)]
+pub struct NotBegun {
+    pub refusal: Refusal,
+    /// The font that was handed in.
+    pub font: Font,
+}
+
 impl Toolbox {
     /// A desk without windows, on a screen of `width` by `height` pixels whose first `bar` rows are
-    /// the menu bar's: white, the last of them black. The rest is gray. OutOfRange where a side lies
-    /// outside 8..=1024, or `bar` is neither 0 nor 20 or not less than the height; else NoMemory is
-    /// the only refusal.
-    pub fn new(alloc: Global, width: i32, height: i32, bar: i32) -> Result<Toolbox, Refusal>
+    /// the menu bar's: white, the last of them black. The rest is gray. Its texts are drawn in the
+    /// font. OutOfRange where a side lies outside 8..=1024, or `bar` is neither 0 nor 20 or not less
+    /// than the height; else NoMemory is the only refusal. A refusal gives the font back.
+    pub fn new(
+        alloc: Global,
+        width: i32,
+        height: i32,
+        bar: i32,
+        font: Font,
+    ) -> Result<Toolbox, NotBegun>
         ensures begun { IfOk result (λ t. (slots : List SlotView) → All IsFull slots
-            → IsEmptyDesk ⟦<Taken as Defined>⟧.loan width height bar t slots) }
+            → IsEmptyDesk ⟦<Taken as Defined>⟧.loan width height bar font t slots) }
         ensures in_range { IfOk result (λ t. whole.is_screen width height bar ≡ true) }
-        ensures refused { IfErr result (λ e.
-            e ≡ (if whole.is_screen width height bar then Refusal.NoMemory else Refusal.OutOfRange)) }
+        ensures refused { IfErr result (λ e. (e.font ≡ font)
+            × (e.refusal ≡ (if whole.is_screen width height bar then Refusal.NoMemory else Refusal.OutOfRange))) }
     {
-        if !is_screen(width, height, bar) {
-            return Err(Refusal::OutOfRange);
+        match empty_ground(alloc, width, height, bar) {
+            Ok(Ground { screen, gray }) => Ok(Toolbox {
+                alloc,
+                screen,
+                bar,
+                font,
+                gray,
+                windows: Vec::new(alloc),
+                areas: Vec::new(alloc),
+                active: None,
+                next: Some(1),
+            }),
+            Err(refusal) => Err(NotBegun { refusal, font }),
         }
-        let mut screen = BitMap::new(alloc, width, height)?;
-        let below = Rect {
-            left: 0,
-            top: bar,
-            right: width,
-            bottom: height,
-        };
-        let gray = Region::from_rect(alloc, below)?;
-        paint_empty(&mut screen, &gray, bar);
-        Ok(Toolbox {
-            alloc,
-            screen,
-            bar,
-            gray,
-            windows: Vec::new(alloc),
-            areas: Vec::new(alloc),
-            active: None,
-            next: Some(1),
-        })
     }
 
     /// The screen.
@@ -72,6 +89,28 @@ impl Toolbox {
     {
         &self.screen
     }
+}
+
+/// A screen without windows. The refusals are those of `Toolbox::new`.
+fn empty_ground(alloc: Global, width: i32, height: i32, bar: i32) -> Result<Ground, Refusal>
+    ensures painted { IfOk result (IsGround width height bar) }
+    ensures in_range { IfOk result (λ _. whole.is_screen width height bar ≡ true) }
+    ensures refused { IfErr result (λ e.
+        e ≡ (if whole.is_screen width height bar then Refusal.NoMemory else Refusal.OutOfRange)) }
+{
+    if !is_screen(width, height, bar) {
+        return Err(Refusal::OutOfRange);
+    }
+    let mut screen = BitMap::new(alloc, width, height)?;
+    let below = Rect {
+        left: 0,
+        top: bar,
+        right: width,
+        bottom: height,
+    };
+    let gray = Region::from_rect(alloc, below)?;
+    paint_empty(&mut screen, &gray, bar);
+    Ok(Ground { screen, gray })
 }
 
 /// Whether a screen may have these sides, and this many rows of menu bar.

@@ -50,7 +50,7 @@ impl Toolbox {
             MatchResult result (λ serial. IsMade window.now serial before after)
             (λ e. IsNotMade window.now e before after) }
     {
-        match stock.take(window.kind.bytes()) {
+        match stock.take(window.kind.as_slice()) {
             Ok(taken) => match self.plan_window(window, &taken) {
                 Ok(plan) => {
                     let serial = plan.ticket.serial;
@@ -99,7 +99,7 @@ impl Toolbox {
             return Err(Refusal::OutOfRange);
         }
         let mut title = Title::new();
-        if title.try_extend_from_slice(window.title.bytes()).is_err() {
+        if title.try_extend_from_slice(window.title.as_slice()).is_err() {
             return Err(Refusal::TooLong);
         }
         match self.next {

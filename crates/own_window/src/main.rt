@@ -10,7 +10,7 @@ mod banner;
 use anyhow::{Result, bail};
 use banner::Banner;
 use def_iface::{Size, Stock};
-use desk_toolbox::{Call, NewWindow, Text, Toolbox, WindowCall};
+use desk_toolbox::{Call, NewWindow, Toolbox, WindowCall};
 use screen_pbm::write_p1;
 use std::io;
 use tb_geom::Point;
@@ -19,7 +19,7 @@ use watched_io::WatchedWriter;
 /// The call that makes a window. Its content, of 30 by 14 pixels, begins at this place of the screen.
 fn window_at(h: i32, v: i32) -> Call<'static> {
     Call::Window(WindowCall::New(NewWindow {
-        kind: Text::new(b"banner"),
+        kind: BytesRef::new(b"banner"),
         place: Point { h, v },
         size: Size {
             width: 30,
@@ -27,7 +27,7 @@ fn window_at(h: i32, v: i32) -> Call<'static> {
         },
         shown: true,
         go_away: false,
-        title: Text::new(b""),
+        title: BytesRef::new(b""),
     }))
 }
 

@@ -160,7 +160,7 @@ fn is_known_call(call: &WindowCall<'_>, stock: &Stock) -> bool
     ensures { result ≡ is_known (Command.Call (asks.Window call.now)) (⟦<Stock as Stocked>⟧.slots stock.now) }
 {
     match call {
-        WindowCall::New(window) => stock.has(window.kind.bytes()),
+        WindowCall::New(window) => stock.has(window.kind.as_slice()),
         WindowCall::Find(_) => true,
         WindowCall::Front => true,
     }

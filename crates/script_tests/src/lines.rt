@@ -58,6 +58,6 @@ fn the_words_of_a_line_are_read_in_their_order(rt: HostRuntime) {
     let (place, size) = (window.place, window.size);
     assert!(rt; [place.h, place.v, size.width, size.height] == [1, -2, 36, 5]);
     assert!(rt; !window.shown && window.go_away);
-    assert!(rt; window.kind.bytes() == b"Az09".as_slice());
-    assert!(rt; window.title.bytes() == b" a  1 0 ~#".as_slice());
+    assert!(rt; window.kind.as_slice() == b"Az09".as_slice());
+    assert!(rt; window.title.as_slice() == b" a  1 0 ~#".as_slice());
 }

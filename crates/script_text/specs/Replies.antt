@@ -3,7 +3,7 @@ use Rattle.std.specs.Prelude.{ℕ, List, ◌++◌, Option, None, Some, Result, O
 use Rattle.tb_geom.specs.declared.refusal.Refusal.{Refusal}
 use Rattle.tb_geom.specs.Refusals.{name_of, number_of}
 use Rattle.desk_toolbox.specs.declared.call.Reply.{Reply}
-use Rattle.desk_toolbox.specs.declared.call.Reply.TheVariants.{Window, Found, Front}
+use Rattle.desk_toolbox.specs.declared.call.Reply.TheVariants.{Done, Window, Found, Front}
 use Rattle.desk_toolbox.specs.Finding.{part_number}
 
 -- a call that was done and has no value
@@ -21,6 +21,7 @@ window_number (Some window) = window
 
 -- what a call answered
 abbrev pub reply_text : Result Reply Refusal → List ℕ
+reply_text (Ok Done) = done_text
 reply_text (Ok (Window number)) = codes "ok " ++ (decimal number ++ codes "\n")
 reply_text (Ok (Found found)) = codes "ok " ++ (decimal (part_number found.part) ++ (codes " " ++ (decimal (window_number found.window) ++ codes "\n")))
 reply_text (Ok (Front window)) = codes "ok " ++ (decimal (window_number window) ++ codes "\n")

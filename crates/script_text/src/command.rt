@@ -14,7 +14,7 @@ pub struct DeskSize {
 }
 
 /// A command of a script.
-#[derive(Debug, Drop)]
+#[derive(Drop)]
 pub enum Command<'a> {
     /// Makes the desk.
     Desk(DeskSize),

@@ -101,7 +101,7 @@ fn read<'a>(line: &'a [u8]) -> Result<Command<'a>, Refusal>
     ensures { result ≡ command_of line.entry.now }
 {
     let (name, words) = Words::new(line).word()?;
-    match verb_of(name.bytes()) {
+    match verb_of(name.as_slice()) {
         Some(verb) => command(verb, words),
         None => Err(Refusal::BadSyntax),
     }

@@ -24,6 +24,7 @@ pub fn write_reply<S: Sink>(sink: &mut S, reply: &Result<Reply, Refusal>) -> Res
 {
     let mut number = Buffer::new();
     match *reply {
+        Ok(Reply::Done) => write_done(sink),
         Ok(Reply::Window(window)) => {
             let pieces: [&[u8]; 3] = [b"ok ", number.format(window).as_bytes(), b"\n"];
             send_all(sink, &pieces)

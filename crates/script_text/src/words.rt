@@ -9,14 +9,14 @@ ghost use Rattle.std.specs.Char.{is_ascii_alphanumeric};
 ghost use Rattle.std.specs.List.{list_all};
 ghost use Rattle.script_text.specs.Words.{word_at, number_at, number_of, flag_at, name_at, is_name, text_at, quoted_at, after_quote, is_plain, digits_of, split_at, first_of, end_at};
 
-use desk_toolbox::Text;
+use draw_port::BytesRef;
 use std::marker::Model;
 use tb_geom::Refusal;
 
 /// What is left of a line, as words. Contracts see its bytes, or None at the end of the line.
-#[derive(Debug, Drop)]
+#[derive(Drop)]
 pub struct Words<'a> {
-    rest: Option<Text<'a>>,
+    rest: Option<BytesRef<'a>>,
 }
 
 impl<'a> Model for Words<'a> {
@@ -35,7 +35,7 @@ impl<'a> Words<'a> {
         ensures { result ≡ Some line.entry.now }
     {
         Words {
-            rest: Some(Text::new(line)),
+            rest: Some(BytesRef::new(line)),
         }
     }
 
@@ -52,7 +52,7 @@ impl<'a> Words<'a> {
 
     /// The bytes up to the first space, whatever they are, and what follows the space.
     #[tactic(auto, unfolding(crate::specs::Words::word_at))]
-    pub fn word(self) -> Result<(Text<'a>, Words<'a>), Refusal>
+    pub fn word(self) -> Result<(BytesRef<'a>, Words<'a>), Refusal>
         ensures { result ≡ word_at self.entry }
     {
         match self.rest {
@@ -80,7 +80,7 @@ impl<'a> Words<'a> {
         ensures { result ≡ flag_at self.entry }
     {
         let (text, rest) = self.word()?;
-        match text.bytes() {
+        match text.as_slice() {
             [b'0'] => Ok((false, rest)),
             [b'1'] => Ok((true, rest)),
             _ => Err(Refusal::BadSyntax),
@@ -89,7 +89,7 @@ impl<'a> Words<'a> {
 
     /// A name: letters and digits, a letter first. Whether something has this name is not asked.
     #[tactic(auto, unfolding(crate::specs::Words::name_at))]
-    pub fn name(self) -> Result<(Text<'a>, Words<'a>), Refusal>
+    pub fn name(self) -> Result<(BytesRef<'a>, Words<'a>), Refusal>
         ensures { result ≡ name_at self.entry }
     {
         let (text, rest) = self.word()?;
@@ -102,7 +102,7 @@ impl<'a> Words<'a> {
 
     /// A text between two quotes: bytes of 0x20..=0x7E other than the quote, spaces too.
     #[tactic(auto, unfolding(crate::specs::Words::text_at))]
-    pub fn text(self) -> Result<(Text<'a>, Words<'a>), Refusal>
+    pub fn text(self) -> Result<(BytesRef<'a>, Words<'a>), Refusal>
         ensures { result ≡ text_at self.entry }
     {
         match self.rest {
@@ -116,12 +116,12 @@ impl<'a> Words<'a> {
 }
 
 /// The bytes before and after the first mark, if there is one.
-fn split_at<'a>(text: &Text<'a>, mark: u8) -> Option<(Text<'a>, Text<'a>)>
+fn split_at<'a>(text: &BytesRef<'a>, mark: u8) -> Option<(BytesRef<'a>, BytesRef<'a>)>
     ensures { result ≡ split_at mark text.now }
 {
-    let bytes = text.bytes();
+    let bytes = text.as_slice();
     let at = place_of(bytes, mark)?;
-    Some((Text::new(&bytes[..at]), Text::new(&bytes[at + 1..])))
+    Some((BytesRef::new(&bytes[..at]), BytesRef::new(&bytes[at + 1..])))
 }
 
 /// The place of the first mark, if there is one.
@@ -132,11 +132,11 @@ fn place_of(bytes: &[u8], mark: u8) -> Option<usize>
 }
 
 /// The first byte and the others, if there is one.
-fn first<'a>(text: &Text<'a>) -> Option<(u8, Text<'a>)>
+fn first<'a>(text: &BytesRef<'a>) -> Option<(u8, BytesRef<'a>)>
     ensures { result ≡ first_of text.now }
 {
-    let (first, others) = text.bytes().split_first()?;
-    Some((*first, Text::new(others)))
+    let (first, others) = text.as_slice().split_first()?;
+    Some((*first, BytesRef::new(others)))
 }
 
 /// What 1 to 9 digits stand for; None of other bytes.
@@ -158,13 +158,13 @@ fn digits(bytes: &[u8]) -> Option<i32>
 
 /// What a word stands for as a number; None of a word that is none.
 #[tactic(auto, unfolding(crate::specs::Words::number_of))]
-fn read_number(text: &Text<'_>) -> Option<i32>
+fn read_number(text: &BytesRef<'_>) -> Option<i32>
     ensures { result ≡ number_of text.now }
 {
     match first(text) {
         None => None,
-        Some((b'-', rest)) => digits(rest.bytes()).map(|n| -n),
-        Some(_) => digits(text.bytes()),
+        Some((b'-', rest)) => digits(rest.as_slice()).map(|n| -n),
+        Some(_) => digits(text.as_slice()),
     }
 }
 
@@ -176,10 +176,10 @@ fn is_alphanumeric(bytes: &[u8]) -> bool
 }
 
 /// Whether a word is letters and digits, a letter first.
-fn is_name(text: &Text<'_>) -> bool
+fn is_name(text: &BytesRef<'_>) -> bool
     ensures { result ≡ is_name text.now }
 {
-    text.bytes().split_first().is_some_and(|(first, others)| first.is_ascii_alphabetic()
+    text.as_slice().split_first().is_some_and(|(first, others)| first.is_ascii_alphabetic()
         && is_alphanumeric(others))
 }
 
@@ -192,13 +192,13 @@ pub fn is_plain(bytes: &[u8]) -> bool
 
 /// The text up to the next quote, and what is left of the line after it: a space has to follow, or the line ends.
 #[tactic(auto, unfolding(crate::specs::Words::quoted_at))]
-fn quoted<'a>(text: &Text<'a>) -> Result<(Text<'a>, Words<'a>), Refusal>
+fn quoted<'a>(text: &BytesRef<'a>) -> Result<(BytesRef<'a>, Words<'a>), Refusal>
     ensures { result ≡ quoted_at text.now }
 {
     match split_at(text, b'"') {
         None => Err(Refusal::BadSyntax),
         Some((text, after)) => {
-            if is_plain(text.bytes()) {
+            if is_plain(text.as_slice()) {
                 after_quote(text, &after)
             } else {
                 Err(Refusal::BadSyntax)
@@ -208,7 +208,7 @@ fn quoted<'a>(text: &Text<'a>) -> Result<(Text<'a>, Words<'a>), Refusal>
 }
 
 /// A text with what is left of the line after its quote: a space has to follow, or the line ends.
-fn after_quote<'a>(text: Text<'a>, after: &Text<'a>) -> Result<(Text<'a>, Words<'a>), Refusal>
+fn after_quote<'a>(text: BytesRef<'a>, after: &BytesRef<'a>) -> Result<(BytesRef<'a>, Words<'a>), Refusal>
     ensures { result ≡ after_quote text.entry after.now }
 {
     match first(after) {

@@ -20,6 +20,7 @@ returns g c =
       areas = refl;
       painted = rw (c.put_in_front.ensures.others, c.dim_behind.ensures.others, first) c.paint.ensures;
       bar = rw (c.put_in_front.ensures.others, c.dim_behind.ensures.others) refl;
+      font = rw (c.put_in_front.ensures.others, c.dim_behind.ensures.others) refl;
       gray = rw (c.put_in_front.ensures.others, c.dim_behind.ensures.others) refl;
       active = search rules;
       next = c.number_after-self.ensures;

@@ -17,7 +17,7 @@ returns-in-Err-plan_window-clause-whole g c =
 
 pub returns-in-Err-plan_window-clause-step : goal.returns-in-Err-plan_window-clause-step
 returns-in-Err-plan_window-clause-step g c =
-    adding.is_not_made _ c.args.window.now _ _ _ _ _ _ _ c.requires (slots.taken_named _ _ _ _ _ c.bytes.ensures c.in-Ok.ensures.taken) c.in-Err-plan_window.ensures.err c.plan_window.ensures.same c.put_back.ensures
+    adding.is_not_made _ c.args.window.now _ _ _ _ _ _ _ c.requires (slots.taken_named _ _ _ _ _ c.as_slice.ensures c.in-Ok.ensures.taken) c.in-Err-plan_window.ensures.err c.plan_window.ensures.same c.put_back.ensures
 
 pub returns-in-Ok-plan_window-clause-whole : goal.returns-in-Ok-plan_window-clause-whole
 returns-in-Ok-plan_window-clause-whole g c =
@@ -28,7 +28,7 @@ returns-in-Ok-plan_window-clause-whole g c =
       areas_with = c.in-Ok-plan_window.ensures.ok.1.areas;
       number = c.in-Ok-plan_window.ensures.ok.1.ticket.next;
       added = c.add_window.ensures;
-      took = slots.taken_named _ _ _ _ _ c.bytes.ensures c.in-Ok.ensures.taken;
+      took = slots.taken_named _ _ _ _ _ c.as_slice.ensures c.in-Ok.ensures.taken;
     })
 
 pub returns-in-Ok-plan_window-clause-step : goal.returns-in-Ok-plan_window-clause-step
@@ -40,5 +40,5 @@ returns-in-Ok-plan_window-clause-step g c =
       areas_with = c.in-Ok-plan_window.ensures.ok.1.areas;
       number = c.in-Ok-plan_window.ensures.ok.1.ticket.next;
       added = c.add_window.ensures;
-      took = slots.taken_named _ _ _ _ _ c.bytes.ensures c.in-Ok.ensures.taken;
+      took = slots.taken_named _ _ _ _ _ c.as_slice.ensures c.in-Ok.ensures.taken;
     })

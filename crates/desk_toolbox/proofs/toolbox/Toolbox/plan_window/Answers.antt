@@ -7,7 +7,7 @@ returns-clause-ok g c = (
   search rules,
   record {
     ticket = record { next = c.in_ok-ticket.ensures.1.next; title = c.in_ok-ticket.ensures.1.title };
-    areas = areas_stay _ c.args.self.now (record c.args.self.now { windows = c.reserve.new.self }) [] [] (record { screen = refl; bar = refl; gray = refl; windows = c.in_ok-reserve.ensures.items; areas = refl; active = refl; next = refl }) refl c.args.window.now _ _ _ c.in_ok-areas.ensures.areas;
+    areas = areas_stay _ c.args.self.now (record c.args.self.now { windows = c.reserve.new.self }) [] [] (record { screen = refl; bar = refl; font = refl; gray = refl; windows = c.in_ok-reserve.ensures.items; areas = refl; active = refl; next = refl }) refl c.args.window.now _ _ _ c.in_ok-areas.ensures.areas;
     some = search rules;
     room = search rules;
   },
