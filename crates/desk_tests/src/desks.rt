@@ -7,7 +7,7 @@ use crate::titled_window::Titled;
 use bit_map::BitMap;
 use def_iface::{Defined, Size, Stock, Stocked, Taken, WindowDef};
 use desk_toolbox::{Call, Found, NewWindow, Reply, Toolbox, WindowCall, WindowPart};
-use draw_port::BytesRef;
+use op_ref::BytesRef;
 use ground_tests::pixels::{Pixels, are_alike, mark};
 use std::alloc::{AllocError, Global};
 use std::test::Fail;

@@ -1,7 +1,7 @@
 //! What a Toolbox can be asked, and what it answers.
 
 use def_iface::Size;
-use draw_port::{BytesRef, OpRef};
+use op_ref::{BytesRef, OpRef};
 use tb_geom::Point;
 
 /// A call of the Toolbox, by the manager that answers it. Texts and the bytes of operations are

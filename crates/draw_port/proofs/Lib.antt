@@ -4,4 +4,3 @@ pub mod PlacedLemmas
 pub mod PictureLemmas
 pub mod GlyphLemmas
 pub mod FrameLemmas
-pub mod JudgeLemmas

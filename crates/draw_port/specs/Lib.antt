@@ -6,4 +6,3 @@ pub mod Cuts
 pub mod Canvases
 pub mod Texts
 pub mod Frames
-pub mod OpRefs

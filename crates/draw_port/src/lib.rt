@@ -9,10 +9,6 @@
 //! bits as the lists of their bytes, a picture as the list of its operations. So a copy is equal to
 //! what it was made of.
 //!
-//! An `OpRef` is an operation as a call carries it, with borrowed bytes that nobody has judged: `judge`
-//! says, without memory, why it is refused (`IsRefused`), and `to_op` makes the `Op` that it means
-//! (`IsMeant`).
-//!
 //! A `Canvas` is a bitmap, a rectangle and a `Cut` that bound what may change on it, a font, and the
 //! place of the canvas's own 0 0 on the map. Each drawing on it says which pixels of the canvas got
 //! which value, by the one word `Draws`, and that all else stayed. All go through one function, which
@@ -26,10 +22,7 @@ mod canvas;
 mod copies;
 mod cut;
 mod frames;
-mod judging;
 pub mod laws;
-mod op_ref;
-mod owning;
 mod painting;
 mod picture;
 mod placed;
@@ -41,6 +34,5 @@ mod values;
 pub use bytes::{Bytes, ShortText};
 pub use canvas::Canvas;
 pub use cut::Cut;
-pub use op_ref::{BitsRef, BytesRef, OpRef, ShapeRef, TextRef};
 pub use picture::Picture;
 pub use shapes::{Line, Op, RowsOfBits, Shade, Shape, TextMode, TextRun};

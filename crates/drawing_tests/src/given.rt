@@ -2,8 +2,9 @@
 
 use crate::images::{drawn, shade, shows};
 use bit_map::{Mode, Pattern};
-use draw_port::{BitsRef, BytesRef, OpRef, Picture, ShapeRef, TextMode, TextRef};
+use draw_port::{Picture, TextMode};
 use font_tests::small::SMALL;
+use op_ref::{BitsRef, BytesRef, LineRef, OpRef, ShapeRef, TextRef};
 use std::test::Fail;
 use strike_font::Font;
 use tb_geom::Refusal;
@@ -32,6 +33,12 @@ fn text(text: &[u8]) -> ShapeRef<'_> {
     })
 }
 
+/// A line to the right from the last row and column of all.
+fn line(count: i32) -> ShapeRef<'static> {
+    let start = point!(16383, 16383);
+    ShapeRef::HLine(LineRef { start, count }, shade(Pattern::BLACK, Mode::Copy))
+}
+
 /// Why an operation with these bytes of a clip is refused.
 fn refusal(clip: Option<&[u8]>, shape: ShapeRef) -> Option<Refusal> {
     let clip = match clip {
@@ -51,6 +58,11 @@ fn the_first_reason_is_given(rt: HostRuntime) {
     assert!(rt; refusal(Some(&[1]), bits(257, 1, &wide)) == Some(Refusal::BadRegion));
     assert!(rt; refusal(Some(&FAR), text(&long)) == Some(Refusal::OutOfRange));
     assert!(rt; refusal(None, bits(257, 1, &wide)) == Some(Refusal::OutOfRange));
+    assert!(rt; refusal(None, line(1025)) == Some(Refusal::OutOfRange));
+    assert!(rt; refusal(None, line(-1)) == Some(Refusal::OutOfRange));
+    assert!(rt; refusal(None, line(1024)) == None);
+    assert!(rt; refusal(None, ShapeRef::Erase(rect!(0, 0, 1, 16384))) == Some(Refusal::OutOfRange));
+    assert!(rt; refusal(None, ShapeRef::Erase(rect!(5, 5, -16384, 1))) == None);
     assert!(rt; refusal(Some(&CORNER), text(&long)) == Some(Refusal::TooLong));
     assert!(rt; refusal(Some(&CORNER), text(&long[1..])) == None);
     let region = ShapeRef::FillRgn(BytesRef::new(&FAR), shade(Pattern::BLACK, Mode::Copy));

@@ -9,7 +9,7 @@ ghost use Rattle.std.specs.Char.{is_ascii_alphanumeric};
 ghost use Rattle.std.specs.List.{list_all};
 ghost use Rattle.script_text.specs.Words.{word_at, number_at, number_of, flag_at, name_at, is_name, text_at, quoted_at, after_quote, is_plain, digits_of, split_at, first_of, end_at};
 
-use draw_port::BytesRef;
+use op_ref::BytesRef;
 use std::marker::Model;
 use tb_geom::Refusal;
 

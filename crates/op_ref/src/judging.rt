@@ -1,8 +1,8 @@
 //! Why operations that calls carry are refused.
 ghost use Rattle.std.specs.Prelude.{◌≡◌, Some, MatchResult};
-ghost use Rattle.draw_port.specs.OpRefs.{are_rows, has_rows, is_large, is_long, region_of, HasForm, HasSome, Stands, IsGood, IsRefused};
+ghost use Rattle.op_ref.specs.OpRefs.{are_rows, has_rows, is_line, is_near, is_long, region_of, HasForm, HasSome, Stands, IsGood, IsRefused};
 
-use crate::op_ref::{BitsRef, BytesRef, OpRef, ShapeRef};
+use crate::op_ref::{BitsRef, BytesRef, LineRef, OpRef, ShapeRef};
 use region_bytes::RegionBytes;
 use tb_geom::Refusal;
 
@@ -10,8 +10,8 @@ impl OpRef<'_> {
     /// Judges the operation without memory. The refusal is the first of these that applies: BadSyntax
     /// where an image is without rows or columns, or its bytes are not `(width + 7) / 8` for each row;
     /// BadRegion where the bytes of the clip or of the shape's region have not the form of a region's;
-    /// OutOfRange where an image is wider or higher than 256, or a coordinate of a region lies outside
-    /// -16384..=16383; TooLong where a text has more than 255 characters.
+    /// OutOfRange where a coordinate of the shape or of a region lies outside -16384..=16383, the count
+    /// of a line outside 0..=1024, or an image is wider or higher than 256; TooLong where a text has more than 255 characters.
     pub fn judge(&self) -> Result<(), Refusal>
         ensures { MatchResult result (λ _. IsGood self.now) (IsRefused self.now) }
     {
@@ -20,7 +20,7 @@ impl OpRef<'_> {
         }
         let is_clip_in_range = is_clip_in_range(&self.clip)?;
         let is_region_in_range = self.shape.is_region_in_range()?;
-        if self.shape.is_large() || !is_clip_in_range || !is_region_in_range {
+        if !self.shape.is_near() || !is_clip_in_range || !is_region_in_range {
             return Err(Refusal::OutOfRange);
         }
         if self.shape.is_long() {
@@ -79,13 +79,17 @@ impl ShapeRef<'_> {
         }
     }
 
-    /// Whether an image is wider or higher than 256.
-    fn is_large(&self) -> bool
-        ensures { result ≡ is_large self.now }
+    /// Whether each number of the shape lies in its range.
+    fn is_near(&self) -> bool
+        ensures { result ≡ is_near self.now }
     {
         match self {
-            ShapeRef::Bits(bits) => bits.width > 256 || bits.height > 256,
-            _ => false,
+            ShapeRef::Erase(rect) | ShapeRef::Invert(rect) => rect.is_in_range(),
+            ShapeRef::Fill(rect, _) | ShapeRef::Frame(rect, _) => rect.is_in_range(),
+            ShapeRef::HLine(line, _) | ShapeRef::VLine(line, _) => line.is_near(),
+            ShapeRef::Text(run) => run.pen.is_in_range(),
+            ShapeRef::Bits(bits) => bits.is_near(),
+            ShapeRef::FillRgn(..) => true,
         }
     }
 
@@ -100,7 +104,23 @@ impl ShapeRef<'_> {
     }
 }
 
+impl LineRef {
+    /// Whether the line begins at a coordinate, and has 1024 pixels at most.
+    fn is_near(&self) -> bool
+        ensures { result ≡ is_line self.now }
+    {
+        self.start.is_in_range() && (0 <= self.count && self.count <= 1024)
+    }
+}
+
 impl BitsRef<'_> {
+    /// Whether the image lies at a coordinate, and is no wider or higher than 256.
+    fn is_near(&self) -> bool
+        ensures { result ≡ is_near (ShapeRef.Bits self.now) }
+    {
+        self.place.is_in_range() && (self.width <= 256 && self.height <= 256)
+    }
+
     /// Whether the image has rows and columns, and just the bytes of its rows.
     fn has_rows(&self) -> bool
         ensures { result ≡ are_rows self.now.width self.now.height self.now.rows }

@@ -1,8 +1,8 @@
 //! Operations as calls carry them.
 ghost use Rattle.std.specs.Prelude.{◌≡◌};
 
-use crate::shapes::{Line, Shade, TextMode};
 use bit_map::Mode;
+use draw_port::{Shade, TextMode};
 use std::marker::Model;
 use tb_geom::{Point, Rect};
 
@@ -36,6 +36,13 @@ impl<'a> BytesRef<'a> {
     }
 }
 
+/// A line of any length, as `Line`.
+#[derive(Clone, Copy)]
+pub struct LineRef {
+    pub start: Point,
+    pub count: i32,
+}
+
 /// A text of any length, as `TextRun`.
 #[derive(Drop)]
 pub struct TextRef<'a> {
@@ -61,8 +68,8 @@ pub enum ShapeRef<'a> {
     Invert(Rect),
     Fill(Rect, Shade),
     Frame(Rect, Shade),
-    HLine(Line, Shade),
-    VLine(Line, Shade),
+    HLine(LineRef, Shade),
+    VLine(LineRef, Shade),
     Text(TextRef<'a>),
     Bits(BitsRef<'a>),
     FillRgn(BytesRef<'a>, Shade),

@@ -1,11 +1,10 @@
 //! Operations made of those that calls carry.
 ghost use Rattle.std.specs.Prelude.{◌≡◌, ◌⊎◌, ◌≤◌, ◌≤ℤ◌, pos, nat_abs, true, false, length, MatchResult};
 ghost use Rattle.region_bytes.specs.Bytes.{IsRegionBytes};
-ghost use Rattle.draw_port.specs.OpRefs.{has_rows, is_large, is_long, IsGood, IsRefused, IsMeant, MeansShape, MeansClip};
+ghost use Rattle.op_ref.specs.OpRefs.{has_rows, is_near, is_line, is_long, IsGood, IsRefused, IsMeant, MeansShape, MeansClip};
 
-use crate::bytes::{Bytes, ShortText};
-use crate::op_ref::{BitsRef, BytesRef, OpRef, ShapeRef, TextRef};
-use crate::shapes::{Op, RowsOfBits, Shape, TextRun};
+use crate::op_ref::{BitsRef, BytesRef, LineRef, OpRef, ShapeRef, TextRef};
+use draw_port::{Bytes, Line, Op, RowsOfBits, Shape, ShortText, TextRun};
 use scan_region::Region;
 use std::alloc::Global;
 use tb_geom::Refusal;
@@ -48,7 +47,7 @@ fn to_clip(clip: &Option<BytesRef>, alloc: Global) -> Result<Option<Region>, Ref
 impl ShapeRef<'_> {
     fn to_shape(&self, alloc: Global) -> Result<Shape, Refusal>
         requires rows { has_rows self.now ≡ true }
-        requires small { is_large self.now ≡ false }
+        requires near { is_near self.now ≡ true }
         requires short { is_long self.now ≡ false }
         ensures { MatchResult result (MeansShape self.now) (λ e. e ≡ Refusal.NoMemory) }
     {
@@ -57,11 +56,23 @@ impl ShapeRef<'_> {
             ShapeRef::Invert(rect) => Ok(Shape::Invert(*rect)),
             ShapeRef::Fill(rect, shade) => Ok(Shape::Fill(*rect, *shade)),
             ShapeRef::Frame(rect, shade) => Ok(Shape::Frame(*rect, *shade)),
-            ShapeRef::HLine(line, shade) => Ok(Shape::HLine(*line, *shade)),
-            ShapeRef::VLine(line, shade) => Ok(Shape::VLine(*line, *shade)),
+            ShapeRef::HLine(line, shade) => Ok(Shape::HLine(line.to_line(), *shade)),
+            ShapeRef::VLine(line, shade) => Ok(Shape::VLine(line.to_line(), *shade)),
             ShapeRef::Text(run) => Ok(Shape::Text(run.to_run()?)),
             ShapeRef::Bits(bits) => Ok(Shape::Bits(bits.to_rows(alloc)?)),
             ShapeRef::FillRgn(bytes, shade) => Ok(Shape::FillRgn(to_region(bytes, alloc)?, *shade)),
+        }
+    }
+}
+
+impl LineRef {
+    fn to_line(&self) -> Line
+        requires { is_line self.now ≡ true }
+        ensures { result ≡ record { start = self.now.start; count = nat_abs self.now.count } }
+    {
+        Line {
+            start: self.start,
+            count: self.count as u16,
         }
     }
 }

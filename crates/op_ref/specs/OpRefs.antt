@@ -3,14 +3,17 @@ use Rattle.std.specs.Prelude.{◌≡◌, ◌⊎◌, ℕ, ◌+◌, ◌*◌, ◌/�
 use Rattle.tb_geom.specs.declared.refusal.Refusal.{Refusal}
 use Rattle.tb_geom.specs.declared.refusal.Refusal.TheVariants.{BadSyntax, BadRegion, OutOfRange, TooLong}
 use Rattle.tb_geom.specs.Pixels.{Pixels}
+use Rattle.tb_geom.specs.Rects.{in_plane, is_in_range}
 use Rattle.region_bytes.specs.Points.{PointRow, IsInRange}
 use Rattle.region_bytes.specs.Bytes.{IsForm, IsRegionBytes}
+use Rattle.draw_port.specs.declared.shapes.Line.{Line}
 use Rattle.draw_port.specs.declared.shapes.Op.{Op}
 use Rattle.draw_port.specs.declared.shapes.Shape.{Shape}
 use Rattle.draw_port.specs.declared.shapes.Shape.TheVariants.{Erase, Invert, Fill, Frame, HLine, VLine, Text, Bits, FillRgn}
-use Rattle.draw_port.specs.declared.op_ref.OpRef.{OpRef}
-use Rattle.draw_port.specs.declared.op_ref.ShapeRef.{ShapeRef}
-use Rattle.draw_port.specs.declared.op_ref.ShapeRef.TheVariants.{Erase as EraseRef, Invert as InvertRef, Fill as FillRef, Frame as FrameRef, HLine as HLineRef, VLine as VLineRef, Text as RunRef, Bits as ImageRef, FillRgn as FillRgnRef}
+use Rattle.op_ref.specs.declared.op_ref.LineRef.{LineRef}
+use Rattle.op_ref.specs.declared.op_ref.OpRef.{OpRef}
+use Rattle.op_ref.specs.declared.op_ref.ShapeRef.{ShapeRef}
+use Rattle.op_ref.specs.declared.op_ref.ShapeRef.TheVariants.{Erase as EraseRef, Invert as InvertRef, Fill as FillRef, Frame as FrameRef, HLine as HLineRef, VLine as VLineRef, Text as RunRef, Bits as ImageRef, FillRgn as FillRgnRef}
 
 -- whether an image of this size has rows and columns, and the bytes are those of its rows
 abbrev pub are_rows : ℤ → ℤ → List ℕ → Bool
@@ -21,10 +24,22 @@ abbrev pub has_rows : ShapeRef → Bool
 has_rows (ImageRef b) = are_rows b.width b.height b.rows
 has_rows s = true
 
--- whether an image is wider or higher than 256
-abbrev pub is_large : ShapeRef → Bool
-is_large (ImageRef b) = int_lt (pos 256) b.width || int_lt (pos 256) b.height
-is_large s = false
+-- a line begins at a coordinate, and has 0 to 1024 pixels
+abbrev pub is_line : LineRef → Bool
+is_line l = in_plane l.start && (int_le (pos 0) l.count && int_le l.count (pos 1024))
+
+-- each number of a shape lies in its range: a coordinate in -16384..16383, the count of a line in 0..1024, and the sides of an
+-- image are 256 at most
+abbrev pub is_near : ShapeRef → Bool
+is_near (EraseRef r) = is_in_range r
+is_near (InvertRef r) = is_in_range r
+is_near (FillRef r k) = is_in_range r
+is_near (FrameRef r k) = is_in_range r
+is_near (HLineRef l k) = is_line l
+is_near (VLineRef l k) = is_line l
+is_near (RunRef t) = in_plane t.pen
+is_near (ImageRef b) = in_plane b.place && (int_le b.width (pos 256) && int_le b.height (pos 256))
+is_near (FillRgnRef bytes k) = true
 
 -- whether a text has more than 255 characters
 abbrev pub is_long : ShapeRef → Bool
@@ -70,7 +85,7 @@ SomeRegion P op = HasSome op.clip P ⊎ HasSome (region_of op.shape) P
 pub record IsGood (op : OpRef) : Type 0 where
   pub rows : has_rows op.shape ≡ true
   pub regions : EachRegion IsRegion op
-  pub small : is_large op.shape ≡ false
+  pub near : is_near op.shape ≡ true
   pub short : is_long op.shape ≡ false
 
 -- the bytes of one of its regions have not the form, and its image has its rows
@@ -78,17 +93,17 @@ pub record IsBadlyFormed (op : OpRef) : Type 0 where
   pub rows : has_rows op.shape ≡ true
   pub bad : SomeRegion (λ bytes. HasForm bytes → ⊥) op
 
--- its image is large, or one of its regions leaves the range; nothing of the above is wrong
+-- a number of its shape or of one of its regions leaves its range; nothing of the above is wrong
 pub record IsFarOut (op : OpRef) : Type 0 where
   pub rows : has_rows op.shape ≡ true
   pub formed : EachRegion HasForm op
-  pub far : (is_large op.shape ≡ true) ⊎ SomeRegion LeavesRange op
+  pub far : (is_near op.shape ≡ false) ⊎ SomeRegion LeavesRange op
 
 -- its text is long; nothing of the above is wrong
 pub record IsOverlong (op : OpRef) : Type 0 where
   pub rows : has_rows op.shape ≡ true
   pub regions : EachRegion IsRegion op
-  pub small : is_large op.shape ≡ false
+  pub near : is_near op.shape ≡ true
   pub long : is_long op.shape ≡ true
 
 -- why an operation is refused
@@ -99,14 +114,18 @@ IsRefused op e =
     ⊎ (((e ≡ OutOfRange) × IsFarOut op)
     ⊎ ((e ≡ TooLong) × IsOverlong op)))
 
+-- the line that a given one is
+abbrev pub line_of : LineRef → Line
+line_of l = record { start = l.start; count = nat_abs l.count }
+
 -- the shape is what the given one means
 abbrev pub MeansShape : ShapeRef → Shape → Type 0
 MeansShape (EraseRef r) s = s ≡ Erase r
 MeansShape (InvertRef r) s = s ≡ Invert r
 MeansShape (FillRef r k) s = s ≡ Fill r k
 MeansShape (FrameRef r k) s = s ≡ Frame r k
-MeansShape (HLineRef l k) s = s ≡ HLine l k
-MeansShape (VLineRef l k) s = s ≡ VLine l k
+MeansShape (HLineRef l k) s = s ≡ HLine (line_of l) k
+MeansShape (VLineRef l k) s = s ≡ VLine (line_of l) k
 MeansShape (RunRef t) s = s ≡ Text (record { pen = t.pen; mode = t.mode; text = t.text })
 MeansShape (ImageRef b) s = s ≡ Bits (record { place = b.place; width = nat_abs b.width; height = nat_abs b.height; mode = b.mode; rows = b.rows })
 MeansShape (FillRgnRef bytes k) s = (g : Pixels) × IsRegionBytes bytes g × (s ≡ FillRgn g k)

@@ -1,0 +1,2 @@
+-- Why operations are refused.
+pub mod JudgeLemmas

@@ -1,0 +1,15 @@
+use Rattle.std.proofs.Common.{◌∙◌, inl, inr, refl, sym}
+use Rattle.op_ref.proofs.JudgeLemmas.{far_out}
+use Rattle.op_ref.proofs.op_ref.OpRef.judge.Goals as goal
+use Rattle.op_ref.proofs.op_ref.OpRef.judge.Goals.{then-not-is_near-via-then-not-is_near, then-not-is_near-via-else-not-is_near+then-not-is_clip_in_range, then-not-is_near-via-else-not-is_near+else-not-is_clip_in_range+then-not-is_region_in_range}
+
+pub returns-then-not-is_near : goal.returns-then-not-is_near
+returns-then-not-is_near c =
+    let given = c.args.self.now in
+    let rows = sym c.has_rows.ensures ∙ c.if-not-has_rows.false in
+    let why = far_out given c.in_ok-is_clip_in_range.is_clip_in_range c.in_ok-is_region_in_range.is_region_in_range rows c.in_ok-is_clip_in_range.ensures c.in_ok-is_region_in_range.ensures in
+    elim c.then-not-is_near.branch [
+      | then-not-is_near-via-then-not-is_near w ↦ inr (inr (inl (refl, why (inl (sym c.is_near.ensures ∙ w.if-not-is_near.true)))))
+      | then-not-is_near-via-else-not-is_near+then-not-is_clip_in_range w ↦ inr (inr (inl (refl, why (inr (inl w.if-not-is_clip_in_range.true)))))
+      | then-not-is_near-via-else-not-is_near+else-not-is_clip_in_range+then-not-is_region_in_range w ↦ inr (inr (inl (refl, why (inr (inr w.if-not-is_region_in_range.true)))))
+    ]

@@ -1,0 +1,2 @@
+-- What operations are that calls carry.
+pub mod OpRefs
