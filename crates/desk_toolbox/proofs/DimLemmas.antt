@@ -53,7 +53,7 @@ module _ (active : Option ℕ) where
   windows_behind b ws = if b then map (unhighlighted active) ws else ws
 
   pub settled_behind : (b : Bool) (ws : List WindowRecord) → All IsSettled ws → All IsSettled (windows_behind b ws)
-  settled_behind true ws h = All-map IsSettled (unhighlighted active) ws (All-weaker IsSettled (λ w. IsSettled (unhighlighted active w)) (λ w its. either IsSettled w its (record { placed = its.placed; live = its.live; told = its.told; fits = its.fits; inside = its.inside })) ws h)
+  settled_behind true ws h = All-map IsSettled (unhighlighted active) ws (All-weaker IsSettled (λ w. IsSettled (unhighlighted active w)) (λ w its. either IsSettled w its (record { origin = its.origin; placed = its.placed; live = its.live; told = its.told; fits = its.fits; inside = its.inside })) ws h)
   settled_behind false ws h = h
 
   same_slots : (ws : List WindowRecord) → map (λ (w : WindowRecord). w.slot) (map (unhighlighted active) ws) ≡ map (λ (w : WindowRecord). w.slot) ws

@@ -23,25 +23,25 @@ use Rattle.desk_toolbox.specs.Run.{IsRun}
 
 -- ---- a window in front of others
 
-layered_window-unhighlighted : (active : Option ℕ) (w : WindowRecord) → layered_window (unhighlighted active w) ≡ layered_window w
-layered_window-unhighlighted None w = refl
-layered_window-unhighlighted (Some s) w = by_test (w.serial == s)
+layered_window-unhighlighted : (font : List ℕ) (active : Option ℕ) (w : WindowRecord) → layered_window font (unhighlighted active w) ≡ layered_window font w
+layered_window-unhighlighted font None w = refl
+layered_window-unhighlighted font (Some s) w = by_test (w.serial == s)
   where
-    by_test : (b : Bool) → layered_window (if b then record w { highlighted = false } else w) ≡ layered_window w
+    by_test : (b : Bool) → layered_window font (if b then record w { highlighted = false } else w) ≡ layered_window font w
     by_test true = refl
     by_test false = refl
 
-layered_windows-unhighlighted : (active : Option ℕ) (ws : List WindowRecord) → map layered_window (map (unhighlighted active) ws) ≡ map layered_window ws
-layered_windows-unhighlighted active [] = refl
-layered_windows-unhighlighted active (w ∷ ws) = λ i. layered_window-unhighlighted active w i ∷ layered_windows-unhighlighted active ws i
+layered_windows-unhighlighted : (font : List ℕ) (active : Option ℕ) (ws : List WindowRecord) → map (layered_window font) (map (unhighlighted active) ws) ≡ map (layered_window font) ws
+layered_windows-unhighlighted font active [] = refl
+layered_windows-unhighlighted font active (w ∷ ws) = λ i. layered_window-unhighlighted font active w i ∷ layered_windows-unhighlighted font active ws i
 
 -- as layers, a desk with a new window has just one window more
-pub layered_desk-with : (w : NewWindow) (serial slot : ℕ) (d : Definition) (desk : FullDesk) (stock : _) → layered_desk (record (desk_with w serial slot d desk) { stock = stock }) ≡ record (layered_desk desk) { windows = layered_window (new_record w serial slot d) ∷ map layered_window desk.windows }
+pub layered_desk-with : (w : NewWindow) (serial slot : ℕ) (d : Definition) (desk : FullDesk) (stock : _) → layered_desk (record (desk_with w serial slot d desk) { stock = stock }) ≡ record (layered_desk desk) { windows = layered_window desk.font (new_record w serial slot d) ∷ map (layered_window desk.font) desk.windows }
 layered_desk-with w serial slot d desk stock =
-    ap (λ ws. record (layered_desk desk) { windows = layered_window (new_record w serial slot d) ∷ ws }) (by_shown w.shown)
+    ap (λ ws. record (layered_desk desk) { windows = layered_window desk.font (new_record w serial slot d) ∷ ws }) (by_shown w.shown)
   where
-    by_shown : (b : Bool) → map layered_window (if b then map (unhighlighted desk.active) desk.windows else desk.windows) ≡ map layered_window desk.windows
-    by_shown true = layered_windows-unhighlighted desk.active desk.windows
+    by_shown : (b : Bool) → map (layered_window desk.font) (if b then map (unhighlighted desk.active) desk.windows else desk.windows) ≡ map (layered_window desk.font) desk.windows
+    by_shown true = layered_windows-unhighlighted desk.font desk.active desk.windows
     by_shown false = refl
 
 numbered-more : (next : ℕ) (ws : List WindowRecord) → AreBelow next ws → AreBelow (next + 1) ws
@@ -61,12 +61,12 @@ numbered-unhighlighted next active (w ∷ ws) h = (same active, numbered-unhighl
     same (Some s) = by_test (w.serial == s)
 
 -- the number of the next window is no window's
-pub next_is_free : (next : ℕ) (ws : List WindowRecord) → AreBelow next ws → layers.window_of next (map layered_window ws) ≡ None
-next_is_free next [] h = refl
-next_is_free next (w ∷ ws) h =
+pub next_is_free : (font : List ℕ) (next : ℕ) (ws : List WindowRecord) → AreBelow next ws → layers.window_of next (map (layered_window font) ws) ≡ None
+next_is_free font next [] h = refl
+next_is_free font next (w ∷ ws) h =
     let below = h.0 in
     let other : (w.serial == next) ≡ false = grind (arith, nat_tests) in
-    rw other (next_is_free next ws h.1)
+    rw other (next_is_free font next ws h.1)
 
 -- ---- a new window is a sound change
 
@@ -100,11 +100,11 @@ numbered_with w serial slot d desk below = after_number _ (nat_lt (serial + 1) (
 
 new_stays_right : (w : NewWindow) (serial : ℕ) (before after : FullState) → IsRight before → IsNewWindow w serial before after → IsRight after
 new_stays_right w serial before after right new =
-    let new_window = layered_window (new_record w serial new.loan.slot new.begun) in
+    let new_window = layered_window before.desk.font (new_record w serial new.loan.slot new.begun) in
     let below : AreBelow serial before.desk.windows = subst (λ (n : Option ℕ). AreNumbered n before.desk.windows) new.numbered right.numbered in
-    let desk : layered_desk after.desk ≡ record (layered_desk before.desk) { windows = new_window ∷ map layered_window before.desk.windows } =
+    let desk : layered_desk after.desk ≡ record (layered_desk before.desk) { windows = new_window ∷ map (layered_window before.desk.font) before.desk.windows } =
     ap layered_desk new.desk ∙ layered_desk-with w serial new.loan.slot new.begun before.desk after.desk.stock in
-    let sound = new_is_sound (layered_state before) new_window right.plain.desk (next_is_free serial before.desk.windows below) (refl, tt) in
+    let sound = new_is_sound (layered_state before) new_window right.plain.desk (next_is_free before.desk.font serial before.desk.windows below) (refl, tt) in
     record {
       plain = stays_right plain.no_change (layered_state before) (layered_state after) right.plain (subst (plain.IsSound plain.no_change (layered_state before)) (sym desk) sound) new.pixels;
       numbered = subst (λ (d : FullDesk). AreNumbered d.next d.windows) (sym new.desk) (numbered_with w serial new.loan.slot new.begun before.desk below);

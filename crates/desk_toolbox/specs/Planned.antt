@@ -29,8 +29,8 @@ pub record IsRegionsAt (place : Point) (size : Size) (d : Definition) (r : Windo
   pub within : IsWithin (d.content size) (d.structure size)
 
 -- a window's frame was drawn, and its content made white
-pub record IsPainted (a : Area) (place : Point) (d : Definition) (old new : Bits) : Type 0 where
-  pub pixels : (p : Point) → on_map old p ≡ true → bit new p ≡ (if holds a.frame p then d.picture (minus p place) else (if holds a.visible p then false else bit old p))
+pub record IsPainted (a : Area) (place : Point) (d : Definition) (font : List ℕ) (old new : Bits) : Type 0 where
+  pub pixels : (p : Point) → on_map old p ≡ true → bit new p ≡ (if holds a.frame p then d.picture font (minus p place) else (if holds a.visible p then false else bit old p))
   pub width : new.width ≡ old.width
   pub height : new.height ≡ old.height
 
@@ -84,7 +84,7 @@ module _ {V : Type 0} {H : V → Type 0} (loan : Taken V H → Loan) where
     pub seen : record_of loan record_is ≡ new_record w serial taken.slot begun
     pub windows : new.windows.items ≡ record_is ∷ (if w.shown then map (dimmed old.active) old.windows.items else old.windows.items)
     pub areas : new.areas.items ≡ planned
-    pub painted : IsSomeAnd (slice_get planned 0) (λ area. IsPainted area w.place begun old.screen new.screen)
+    pub painted : IsSomeAnd (slice_get planned 0) (λ area. IsPainted area w.place begun old.font old.screen new.screen)
     pub bar : new.bar ≡ old.bar
     pub font : new.font ≡ old.font
     pub gray : new.gray ≡ old.gray

@@ -1,5 +1,5 @@
 -- One step: what a call leaves, and what it answers.
-use Rattle.std.specs.Prelude.{◌≡◌, ◌⊎◌, ℕ, ◌+◌, ◌^◌, nat_lt, true, false, if◌then◌else◌, ◌==◌, ◌∷◌, map, Option, None, Some, Result, Ok, Err}
+use Rattle.std.specs.Prelude.{◌≡◌, ◌⊎◌, ℕ, ◌+◌, ◌^◌, nat_lt, true, false, if◌then◌else◌, ◌==◌, [], ◌∷◌, map, Option, None, Some, Result, Ok, Err, pos}
 use Rattle.tb_geom.specs.declared.point.Point.{Point}
 use Rattle.tb_geom.specs.declared.refusal.Refusal.{Refusal}
 use Rattle.tb_geom.specs.declared.refusal.Refusal.TheVariants.{NoMemory}
@@ -27,6 +27,8 @@ new_record w serial slot d = record {
   highlighted = w.shown;
   title = w.title;
   go_away = w.go_away;
+  picture = [];
+  origin = record { h = pos 0; v = pos 0 };
   definition = d;
   slot = slot;
 }
