@@ -13,7 +13,10 @@ pub mod Sweeping
 pub mod UpdateLemmas
 pub mod Arranging
 pub mod KeptLemmas
+pub mod Editing
 pub mod DimLemmas
+pub mod DrawnLayers
+pub mod DrawLemmas
 mod EmptyLemmas
 pub mod FindLemmas
 pub mod ClosingLemmas

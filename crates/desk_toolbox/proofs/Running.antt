@@ -20,6 +20,7 @@ use Rattle.desk_toolbox.specs.declared.call.Reply.{Reply}
 use Rattle.desk_toolbox.specs.FullDesk.{WindowRecord, FullDesk, FullState, IsRight, AreBelow, AreNumbered, layered_window, layered_desk, layered_state}
 use Rattle.desk_toolbox.specs.Step.{IsStep, IsDone, IsNewWindow, IsUnchanged, new_record, desk_with, unhighlighted}
 use Rattle.desk_toolbox.specs.Run.{IsRun}
+use Rattle.desk_toolbox.proofs.Editing.{below_map}
 
 -- ---- a window in front of others
 
@@ -44,21 +45,17 @@ layered_desk-with w serial slot d desk stock =
     by_shown true = layered_windows-unhighlighted desk.font desk.active desk.windows
     by_shown false = refl
 
+same_serial : (active : Option ℕ) (w : WindowRecord) → (unhighlighted active w).serial ≡ w.serial
+same_serial None w = refl
+same_serial (Some s) w = by_test (w.serial == s)
+  where
+    by_test : (b : Bool) → (if b then record w { highlighted = false } else w).serial ≡ w.serial
+    by_test true = refl
+    by_test false = refl
+
 numbered-more : (next : ℕ) (ws : List WindowRecord) → AreBelow next ws → AreBelow (next + 1) ws
 numbered-more next [] h = tt
 numbered-more next (w ∷ ws) h = let below = h.0 in (omega arith, numbered-more next ws h.1)
-
-numbered-unhighlighted : (next : ℕ) (active : Option ℕ) (ws : List WindowRecord) → AreBelow next ws → AreBelow next (map (unhighlighted active) ws)
-numbered-unhighlighted next active [] h = tt
-numbered-unhighlighted next active (w ∷ ws) h = (same active, numbered-unhighlighted next active ws h.1)
-  where
-    by_test : (b : Bool) → (if b then record w { highlighted = false } else w).serial < next
-    by_test true = h.0
-    by_test false = h.0
-
-    same : (active : Option ℕ) → (unhighlighted active w).serial < next
-    same None = h.0
-    same (Some s) = by_test (w.serial == s)
 
 -- the number of the next window is no window's
 pub next_is_free : (font : List ℕ) (next : ℕ) (ws : List WindowRecord) → AreBelow next ws → layers.window_of next (map (layered_window font) ws) ≡ None
@@ -95,7 +92,7 @@ numbered_with w serial slot d desk below = after_number _ (nat_lt (serial + 1) (
     after_number ws false h = tt
 
     by_shown : (b : Bool) → AreBelow (serial + 1) (if b then map (unhighlighted desk.active) desk.windows else desk.windows)
-    by_shown true = numbered-unhighlighted _ desk.active desk.windows (numbered-more serial desk.windows below)
+    by_shown true = below_map (unhighlighted desk.active) (same_serial desk.active) _ desk.windows (numbered-more serial desk.windows below)
     by_shown false = numbered-more serial desk.windows below
 
 new_stays_right : (w : NewWindow) (serial : ℕ) (before after : FullState) → IsRight before → IsNewWindow w serial before after → IsRight after
