@@ -41,7 +41,7 @@ pub pattern_bit-white : (p : Point) → pattern_bit white p ≡ false
 pattern_bit-white p = ap (λ n. bit_of n (eighth_of p.h)) (zero_at (eighth_of p.v)) ∙ bit_of-zero (eighth_of p.h)
 
 -- a cut of one region
-cut_holds-one : (r : Bor Pixels) (p : Point) → cut_holds (record { inside = Some r ∷ None ∷ None ∷ []; outside = None }) p ≡ holds r.now p
+pub cut_holds-one : (r : Bor Pixels) (p : Point) → cut_holds (record { inside = Some r ∷ None ∷ None ∷ []; outside = None }) p ≡ holds r.now p
 unfolding cut_holds
 cut_holds-one r p = by_test (holds r.now p)
   where

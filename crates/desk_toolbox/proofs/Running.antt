@@ -1,9 +1,10 @@
 -- Steps and runs keep a right state right.
-use Rattle.std.proofs.Common.{◌≡◌, ℕ, ◌+◌, ◌^◌, ◌<◌, nat_lt, Bool, true, false, ◌==◌, if◌then◌else◌, List, [], ◌∷◌, map, Option, None, Some, Result, Ok, Err, refl, sym, ap, ◌∙◌, subst, arith}
+use Rattle.std.proofs.Common.{◌≡◌, ℕ, ◌+◌, ◌^◌, ◌<◌, nat_lt, Bool, true, false, ◌==◌, if◌then◌else◌, List, [], ◌∷◌, ◌++◌, map, Option, None, Some, Result, Ok, Err, refl, sym, ap, ◌∙◌, subst, arith}
 use Rattle.std.proofs.lemmas.Bool.{and_parts}
 use Rattle.std.proofs.lemmas.Bool.Decides.{nat_tests}
 use Rattle.tb_geom.specs.declared.point.Point.{Point}
 use Rattle.tb_geom.specs.declared.refusal.Refusal.{Refusal}
+use Rattle.draw_port.specs.declared.shapes.Op.{Op}
 use Rattle.def_iface.specs.Meaning.{Definition}
 use Rattle.def_iface.specs.Desk as layers
 use Rattle.def_iface.specs.Owner.{Owner, owner, owner_among, is_content}
@@ -15,12 +16,14 @@ use Rattle.def_iface.proofs.Changing.{stays_right}
 use Rattle.desk_toolbox.specs.declared.call.Call.{Call}
 use Rattle.desk_toolbox.specs.declared.call.Call.TheVariants.{Window}
 use Rattle.desk_toolbox.specs.declared.call.WindowCall.TheVariants.{New, Draw, Find, Front}
+use Rattle.desk_toolbox.specs.declared.call.Drawing.{Drawing}
 use Rattle.desk_toolbox.specs.declared.call.NewWindow.{NewWindow}
 use Rattle.desk_toolbox.specs.declared.call.Reply.{Reply}
 use Rattle.desk_toolbox.specs.FullDesk.{WindowRecord, FullDesk, FullState, IsRight, AreBelow, AreNumbered, layered_window, layered_desk, layered_state}
-use Rattle.desk_toolbox.specs.Step.{IsStep, IsDone, IsNewWindow, IsUnchanged, new_record, desk_with, unhighlighted}
+use Rattle.desk_toolbox.specs.Step.{IsStep, IsDone, IsNewWindow, IsDrawn, IsUnchanged, new_record, desk_with, unhighlighted, with_operation, draw_change}
 use Rattle.desk_toolbox.specs.Run.{IsRun}
-use Rattle.desk_toolbox.proofs.Editing.{below_map}
+use Rattle.desk_toolbox.proofs.Editing.{below_map, numbered_map}
+use Rattle.desk_toolbox.proofs.DrawnLayers.{draw_is_sound}
 
 -- ---- a window in front of others
 
@@ -107,6 +110,24 @@ new_stays_right w serial before after right new =
       numbered = subst (λ (d : FullDesk). AreNumbered d.next d.windows) (sym new.desk) (numbered_with w serial new.loan.slot new.begun before.desk below);
     }
 
+-- ---- an operation is a sound change
+
+pub drawn_serial : (s : ℕ) (op : Op) (w : WindowRecord) → (with_operation s op w).serial ≡ w.serial
+drawn_serial s op w = by_test (w.serial == s)
+  where
+    by_test : (b : Bool) → (if b then record w { picture = w.picture ++ op ∷ [] } else w).serial ≡ w.serial
+    by_test true = refl
+    by_test false = refl
+
+draw_stays_right : (d : Drawing) (before after : FullState) → IsRight before → IsDrawn d before after → IsRight after
+draw_stays_right d before after right drawn =
+    let change = draw_change before.desk.font d.window drawn.window drawn.operation in
+    let sound = draw_is_sound before.desk d.window drawn.window drawn.operation drawn.found before.stale before.image right.plain.desk in
+    record {
+      plain = stays_right change (layered_state before) (layered_state after) right.plain (subst (plain.IsSound change (layered_state before)) (sym (ap layered_desk drawn.desk)) sound) drawn.pixels;
+      numbered = subst (λ (x : FullDesk). AreNumbered x.next x.windows) (sym drawn.desk) (numbered_map (with_operation d.window drawn.operation) (drawn_serial d.window drawn.operation) before.desk.next before.desk.windows right.numbered);
+    }
+
 -- ---- steps and runs
 
 unchanged_stays_right : (before after : FullState) → IsRight before → IsUnchanged before after → IsRight after
@@ -130,7 +151,7 @@ unchanged_stays_right before after right same =
 
 done_stays_right : (call : Call) (answer : Reply) (before after : FullState) → IsRight before → IsDone call answer before after → IsRight after
 done_stays_right (Window (New w)) answer before after right done = new_stays_right w done.0 before after right done.2
-done_stays_right (Window (Draw d)) answer before after right done = absurd done
+done_stays_right (Window (Draw d)) answer before after right done = draw_stays_right d before after right done.1
 done_stays_right (Window (Find p)) answer before after right done = unchanged_stays_right before after right done.1
 done_stays_right (Window Front) answer before after right done = unchanged_stays_right before after right done.1
 

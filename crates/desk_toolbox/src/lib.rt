@@ -25,6 +25,7 @@
 mod call;
 mod calls;
 mod close;
+mod draw;
 mod find;
 pub mod laws;
 mod place;
