@@ -16,6 +16,7 @@ pub mod KeptLemmas
 pub mod Editing
 pub mod DimLemmas
 pub mod DrawnLayers
+pub mod DrawRefusals
 pub mod DrawLemmas
 mod EmptyLemmas
 pub mod FindLemmas

@@ -1,5 +1,5 @@
 -- What holds of a Toolbox by itself, between calls.
-use Rattle.std.specs.Prelude.{ℕ, Bool, ◌==◌, ◌||◌, [], All}
+use Rattle.std.specs.Prelude.{Bool, ◌||◌, [], All}
 use Rattle.tb_geom.specs.declared.point.Point.{Point}
 use Rattle.tb_geom.specs.Pixels.{holds}
 use Rattle.def_iface.specs.declared.taken.Taken.{Taken}
@@ -7,14 +7,9 @@ use Rattle.def_iface.specs.Meaning.{Loan}
 use Rattle.def_iface.specs.Desk.{IsDesk}
 use Rattle.desk_toolbox.specs.declared.toolbox.Toolbox.{Toolbox}
 use Rattle.desk_toolbox.specs.declared.vis_update.Area.{Area}
-use Rattle.desk_toolbox.specs.declared.window_list.Window.{Window}
 use Rattle.desk_toolbox.specs.FullDesk.{AreNumbered, layered_desk}
 use Rattle.desk_toolbox.specs.Records.{desk_of, stale_in}
 use Rattle.desk_toolbox.specs.Whole.{AreAreas, IsGray, IsSettled}
-
--- the window is the one of this number
-abbrev pub has_number : {V : Type 0} {H : V → Type 0} → ℕ → Window V H → Bool
-has_number s w = w.serial == s
 
 -- the point is the window's
 abbrev pub area_has : Point → Area → Bool

@@ -61,6 +61,12 @@ new_window_refusals w desk =
     ∷ judged_refusals w (is_placed (offered w.kind desk.stock) w.place w.size) (length desk.windows) desk.next
     ++ (is_none (offered w.kind desk.stock), NoDefinition) ∷ []
 
+-- the refusal is of bytes that have not their form
+abbrev pub is_formal : Refusal → Bool
+is_formal BadSyntax = true
+is_formal BadRegion = true
+is_formal _ = false
+
 -- what judging an operation finds: nothing, or why it is refused
 abbrev pub IsJudged : OpRef → Option Refusal → Type 0
 IsJudged op None = IsGood op

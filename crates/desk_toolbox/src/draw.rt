@@ -1,5 +1,5 @@
 //! The call that draws.
-ghost use Rattle.std.specs.Prelude.{◌≡◌, ◌++◌, ◌∷◌, [], List, OnOk, Some, IfErr, MatchResult, position, true, ◌+ℤ◌};
+ghost use Rattle.std.specs.Prelude.{◌≡◌, ◌++◌, ◌∷◌, [], List, OnOk, Some, None, IfErr, MatchResult, MatchOption, IsSomeAnd, slice_get, true, ◌+ℤ◌};
 ghost use Rattle.tb_geom.specs.declared.point.Point.{Point};
 ghost use Rattle.tb_geom.specs.Points.{minus, plus};
 ghost use Rattle.tb_geom.specs.Rects.{in_plane, is_coordinate};
@@ -9,10 +9,11 @@ ghost use Rattle.draw_port.specs.declared.shapes.Op.{Op};
 ghost use Rattle.draw_port.specs.Ops.{op_value};
 ghost use Rattle.desk_toolbox.specs.declared.call.Call.TheVariants as asks;
 ghost use Rattle.desk_toolbox.specs.declared.call.WindowCall.TheVariants.{Draw};
-ghost use Rattle.desk_toolbox.specs.Kept.{IsKept, has_number};
+ghost use Rattle.desk_toolbox.specs.Finding.{record_with};
+ghost use Rattle.desk_toolbox.specs.Kept.{IsKept};
 ghost use Rattle.desk_toolbox.specs.Planned.{SameDesk, MayDraw, IsDrawnAt};
 ghost use Rattle.desk_toolbox.specs.Records.{desk_of};
-ghost use Rattle.desk_toolbox.specs.Refused.{IsRefusal};
+ghost use Rattle.desk_toolbox.specs.Refused.{IsRefusal, is_formal};
 
 use crate::{Drawing, Toolbox, Window};
 use bit_map::BitMap;
@@ -34,8 +35,7 @@ impl Toolbox {
             (λ e. IsRefusal (asks.Window (Draw drawing.now)) (desk_of ⟦<Taken as Defined>⟧.loan self.now []) (Some e)) }
     {
         match (drawing.operation.judge(), self.place_of(drawing.window)) {
-            (Err(Refusal::BadSyntax), _) => Err(Refusal::BadSyntax),
-            (Err(Refusal::BadRegion), _) => Err(Refusal::BadRegion),
+            (Err(refusal), _) if is_formal(refusal) => Err(refusal),
             (_, None) => Err(Refusal::NoSuchWindow),
             (Err(refusal), Some(_)) => Err(refusal),
             (Ok(()), Some(at)) => {
@@ -49,10 +49,17 @@ impl Toolbox {
     }
 
     /// The place of the window of this number.
-    fn place_of(&self, window: u64) -> Option<usize>
-        ensures { result ≡ position (has_number window) self.now.windows.items }
+    fn place_of(&self, number: u64) -> Option<usize>
+        ensures { MatchOption result
+            (record_with number (desk_of ⟦<Taken as Defined>⟧.loan self.now []).windows ≡ None)
+            (λ at. IsSomeAnd (slice_get self.now.windows.items at) (λ w. w.serial ≡ number)) }
     {
-        self.windows.iter().position(|w| w.serial == window)
+        for (at, window) in self.windows.iter().enumerate() {
+            if window.serial == number {
+                return Some(at);
+            }
+        }
+        None
     }
 
     /// Adds an operation to the picture of the window at this place, and draws it on each pixel of
@@ -71,6 +78,17 @@ impl Toolbox {
         }
         show_last(&mut self.screen, &self.areas[at].visible, &self.windows[at], &self.font);
         Ok(())
+    }
+}
+
+/// Whether it is a refusal of bytes that have not their form, which comes before those of what a call
+/// names.
+fn is_formal(refusal: Refusal) -> bool
+    ensures { result ≡ is_formal refusal }
+{
+    match refusal {
+        Refusal::BadSyntax | Refusal::BadRegion => true,
+        _ => false,
     }
 }
 
