@@ -46,7 +46,7 @@ position-None f xs e i d within =
 -- ---- the window at a place of the list
 
 -- each area is its window's
-area_at : (desk : Desk) (stale : PixelSet) (ws : List WindowRecord) (areas : List Area) (i : ℕ) (d : Area) → AreAreas desk stale ws areas → i < length areas → (v : WindowRecord) × (slice_get ws i ≡ Some v) × IsArea desk stale v.serial (get_or areas i d)
+pub area_at : (desk : Desk) (stale : PixelSet) (ws : List WindowRecord) (areas : List Area) (i : ℕ) (d : Area) → AreAreas desk stale ws areas → i < length areas → (v : WindowRecord) × (slice_get ws i ≡ Some v) × IsArea desk stale v.serial (get_or areas i d)
 area_at desk stale [] [] i d h within = absurd (omega arith)
 area_at desk stale (w ∷ ws) (a ∷ areas) zero d h within = (w, refl, h.0)
 area_at desk stale (w ∷ ws) (a ∷ areas) (suc i) d h within = area_at desk stale ws areas i d h.1 (omega arith)
@@ -54,7 +54,7 @@ area_at desk stale [] (a ∷ areas) i d h within = absurd h
 area_at desk stale (w ∷ ws) [] i d h within = absurd h
 
 -- a number that no window has is not this window's
-not_among : (font : List ℕ) (s : ℕ) (ws : List WindowRecord) (i : ℕ) (v : WindowRecord) → layers.window_of s (map (layered_window font) ws) ≡ None → slice_get ws i ≡ Some v → (s == v.serial) ≡ false
+pub not_among : (font : List ℕ) (s : ℕ) (ws : List WindowRecord) (i : ℕ) (v : WindowRecord) → layers.window_of s (map (layered_window font) ws) ≡ None → slice_get ws i ≡ Some v → (s == v.serial) ≡ false
 not_among font s [] i v none e = absurd (cc)
 not_among font s (w ∷ ws) zero v none e =
     let same : w ≡ v = cc in

@@ -18,6 +18,7 @@ pub mod DimLemmas
 pub mod DrawnLayers
 pub mod DrawRefusals
 pub mod DrawLemmas
+pub mod DrawSteps
 mod EmptyLemmas
 pub mod FindLemmas
 pub mod ClosingLemmas

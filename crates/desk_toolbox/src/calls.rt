@@ -55,8 +55,10 @@ impl Toolbox {
             (state_of ⟦<Taken as Defined>⟧.loan self.new (⟦<Stock as Stocked>⟧.slots _stock.now)) }
     {
         let at = self.place_to_draw(drawing)?;
-        self.add_operation(at, drawing)?;
-        Ok(Reply::Done)
+        match self.add_operation(at, drawing) {
+            Ok(()) => Ok(Reply::Done),
+            Err(refusal) => Err(refusal),
+        }
     }
 
     /// Answers whose a point of the screen is.
