@@ -56,15 +56,16 @@ minus_twice p place origin = λ i. record { h = minus_sum p.h place.h origin.h i
 
 -- ---- an operation that was drawn on all of a region
 
-pub drawn_within : (font : List ℕ) (visible : Bor Pixels) (clip : Rect) (at place origin : Point) (op last : Op) (old new end : Bits)
+pub drawn_within : (font : List ℕ) (shown : Pixels) (visible : Bor Pixels) (clip : Rect) (at place origin : Point) (op last : Op) (old new end : Bits)
+    → visible.now ≡ shown
     → end ≡ new
     → at ≡ plus place origin
     → last ≡ op
-    → ((p : Point) → holds visible.now p ≡ true → rect_holds clip p ≡ true)
+    → ((p : Point) → holds shown p ≡ true → rect_holds clip p ≡ true)
     → Draws (λ p. rect_holds clip p && cut_holds (record { inside = Some visible ∷ None ∷ None ∷ []; outside = None }) p) (λ p value. op_value font last (minus p at) value) old new
-    → Draws (holds visible.now) (λ p value. op_value font op (minus (minus p place) origin) value) old end
-drawn_within font visible clip at place origin op last old new end is_end moved same within drawn = rw is_end (
-    Draws-same _ (holds visible.now) _ (λ p value. op_value font op (minus (minus p place) origin) value) old new
+    → Draws (holds shown) (λ p value. op_value font op (minus (minus p place) origin) value) old end
+drawn_within font shown visible clip at place origin op last old new end is_shown is_end moved same within drawn = rw is_end (
+    Draws-same _ (holds shown) _ (λ p value. op_value font op (minus (minus p place) origin) value) old new
     (λ p value on. (λ i. if held p i then op_value font (same i) ((ap (minus p) moved ∙ minus_twice p place origin) i) value else value)) drawn)
   where
     clipped : (c f : Bool) → (f ≡ true → c ≡ true) → (c && f) ≡ f
@@ -72,8 +73,8 @@ drawn_within font visible clip at place origin op last old new end is_end moved 
     clipped false true e = e refl
     clipped false false e = refl
 
-    held : (p : Point) → (rect_holds clip p && cut_holds (record { inside = Some visible ∷ None ∷ None ∷ []; outside = None }) p) ≡ holds visible.now p
-    held p = ap (λ b. rect_holds clip p && b) (cut_holds-one visible p) ∙ clipped (rect_holds clip p) (holds visible.now p) (within p)
+    held : (p : Point) → (rect_holds clip p && cut_holds (record { inside = Some visible ∷ None ∷ None ∷ []; outside = None }) p) ≡ holds shown p
+    held p = ap (λ b. rect_holds clip p && b) (cut_holds-one visible p ∙ ap (λ s. holds s p) is_shown) ∙ clipped (rect_holds clip p) (holds shown p) (within p)
 
 -- ---- the last operation of a picture
 

@@ -15,12 +15,11 @@ ghost use Rattle.desk_toolbox.specs.Planned.{SameDesk, MayDraw, IsDrawnAt};
 ghost use Rattle.desk_toolbox.specs.Records.{desk_of};
 ghost use Rattle.desk_toolbox.specs.Refused.{IsRefusal, is_formal};
 
-use crate::{Drawing, Toolbox, Window};
+use crate::{Area, Drawing, Toolbox, Window};
 use bit_map::BitMap;
 use def_iface::{Defined, Taken};
 use draw_port::{Canvas, Cut};
 use op_ref::OpRef;
-use scan_region::Region;
 use strike_font::Font;
 use tb_geom::{Point, Refusal};
 
@@ -76,7 +75,12 @@ impl Toolbox {
         if self.windows[at].picture.push(operation).is_err() {
             return Err(Refusal::NoMemory);
         }
-        show_last(&mut self.screen, &self.areas[at].visible, &self.windows[at], &self.font);
+        show_last(
+            &mut self.screen,
+            &self.areas[at],
+            &self.windows[at],
+            &self.font,
+        );
         Ok(())
     }
 }
@@ -92,22 +96,23 @@ fn is_formal(refusal: Refusal) -> bool
     }
 }
 
-/// Draws the last operation of a window's picture, if there is one, on these pixels.
-fn show_last(screen: &mut BitMap, visible: &Region, window: &Window, font: &Font)
+/// Draws the last operation of a window's picture, if there is one, on the pixels of its content that
+/// show.
+fn show_last(screen: &mut BitMap, area: &Area, window: &Window, font: &Font)
     requires placed { in_plane window.now.place ≡ true }
     requires origin { in_plane window.now.origin ≡ true }
     ensures { (before : List Op) (op : Op) → window.now.picture ≡ before ++ op ∷ []
-        → Draws (holds visible.now) (λ p value. op_value font.now op (minus (minus p window.now.place) window.now.origin) value)
+        → Draws (holds area.now.visible) (λ p value. op_value font.now op (minus (minus p window.now.place) window.now.origin) value)
         screen.old screen.new }
 {
     let Some(operation) = window.picture.ops().last() else {
         return;
     };
     let cut = Cut {
-        inside: [Some(visible), None, None],
+        inside: [Some(&area.visible), None, None],
         outside: None,
     };
-    let clip = visible.bbox();
+    let clip = area.visible.bbox();
     let mut canvas = Canvas {
         map: screen,
         clip,

@@ -102,7 +102,10 @@ impl Toolbox {
             return Err(Refusal::OutOfRange);
         }
         let mut title = Title::new();
-        if title.try_extend_from_slice(window.title.as_slice()).is_err() {
+        if title
+            .try_extend_from_slice(window.title.as_slice())
+            .is_err()
+        {
             return Err(Refusal::TooLong);
         }
         match self.next {

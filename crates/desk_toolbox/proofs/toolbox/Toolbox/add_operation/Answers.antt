@@ -1,5 +1,4 @@
-use Rattle.std.proofs.Common.{◌≡◌, ◌++◌, ◌∷◌, [], refl, rules, sym, ◌∙◌, arith, false}
-use Rattle.std.specs.Result.{is_err}
+use Rattle.std.proofs.Common.{◌≡◌, ◌++◌, ◌∷◌, [], refl, sym, ◌∙◌, arith}
 use Rattle.desk_toolbox.proofs.DrawLemmas as drawing
 use Rattle.desk_toolbox.proofs.toolbox.Toolbox.add_operation.Goals as goal
 

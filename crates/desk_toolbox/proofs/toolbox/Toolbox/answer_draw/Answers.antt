@@ -1,9 +1,4 @@
-use Rattle.std.proofs.Common.{refl, sym, subst}
-use Rattle.tb_geom.specs.declared.refusal.Refusal.{Refusal}
-use Rattle.desk_toolbox.specs.declared.call.Call.TheVariants as asks
-use Rattle.desk_toolbox.specs.declared.call.WindowCall.TheVariants.{Draw}
-use Rattle.desk_toolbox.specs.Records.{desk_of, state_of}
-use Rattle.desk_toolbox.specs.Step.{IsRefused, IsUnchanged}
+use Rattle.std.proofs.Common.{refl}
 use Rattle.desk_toolbox.proofs.DrawSteps as steps
 use Rattle.desk_toolbox.proofs.DrawRefusals.{unrefused}
 use Rattle.desk_toolbox.proofs.KeptLemmas.{kept}
