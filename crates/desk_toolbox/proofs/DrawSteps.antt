@@ -1,16 +1,14 @@
 -- The step of an operation that is drawn.
 use Rattle.std.proofs.Common.{◌≡◌, inr, ℕ, zero, suc, ◌==◌, ◌&&◌, ◌||◌, Bool, true, false, not, if◌then◌else◌, List, [], ◌∷◌, ◌++◌, length, map, set, None, Some, pos, refl, sym, ap, ◌∙◌, subst, arith}
 use Rattle.std.specs.Prelude.{slice_get, IsSomeAnd}
-use Rattle.std.specs.List.{list_any}
 use Rattle.std.specs.Option.{option_map}
-use Rattle.std.proofs.lemmas.Bool.{and_parts}
 use Rattle.std.proofs.lemmas.List.{length-map}
 use Rattle.std.proofs.lemmas.Option.{slice_get-map, slice_get_within, get_or_from_slice_get}
 use Rattle.tb_geom.specs.declared.point.Point.{Point}
 use Rattle.tb_geom.specs.declared.refusal.Refusal.TheVariants.{NoMemory}
 use Rattle.tb_geom.specs.Points.{PixelSet, minus}
 use Rattle.tb_geom.specs.Pixels.{Pixels, holds}
-use Rattle.bit_map.specs.Bits.{Bits, on_map, bit}
+use Rattle.bit_map.specs.Bits.{on_map, bit}
 use Rattle.bit_blit.specs.Draws.{Draws}
 use Rattle.draw_port.specs.declared.shapes.Op.{Op}
 use Rattle.draw_port.specs.Ops.{op_value}
@@ -32,12 +30,12 @@ use Rattle.desk_toolbox.specs.declared.call.WindowCall.TheVariants.{Draw}
 use Rattle.desk_toolbox.specs.declared.toolbox.Toolbox.{Toolbox}
 use Rattle.desk_toolbox.specs.declared.vis_update.Area.{Area}
 use Rattle.desk_toolbox.specs.declared.window_list.Window.{Window}
-use Rattle.desk_toolbox.specs.FullDesk.{WindowRecord, FullDesk, FullState, layered_window, layered_desk, layered_state}
+use Rattle.desk_toolbox.specs.FullDesk.{WindowRecord, FullDesk, layered_window, layered_desk, layered_state}
 use Rattle.desk_toolbox.specs.Finding.{record_with}
 use Rattle.desk_toolbox.specs.Planned.{SameDesk, MayDraw, IsDrawnAt}
 use Rattle.desk_toolbox.specs.Records.{record_of, desk_of, state_of, stale_in}
 use Rattle.desk_toolbox.specs.Step.{IsDrawn, IsRefused, IsUnchanged, with_operation, draw_change}
-use Rattle.desk_toolbox.specs.Whole.{IsWhole, IsSound, IsSettled, IsGray, IsArea, AreAreas, AreFramesShown, is_content_of}
+use Rattle.desk_toolbox.specs.Whole.{IsWhole, IsSound, IsSettled, IsGray, IsArea, AreAreas, is_content_of}
 use Rattle.desk_toolbox.proofs.DrawnLayers as drawn
 use Rattle.desk_toolbox.proofs.DrawRefusals.{record_there, unrefused}
 use Rattle.desk_toolbox.proofs.Editing.{settled_map, stocked_map, numbered_map}
