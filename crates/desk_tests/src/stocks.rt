@@ -145,6 +145,14 @@ fn regions(alloc: Global, taken: &Taken) -> Result<Vec<u8>, Refusal>
     Ok(picture(alloc, &regions, rect!(-3, -5, 5, 4))?)
 }
 
+/// The cut that takes this region away, and nothing else.
+fn all_but(hole: &Region) -> Cut<'_> {
+    Cut {
+        inside: [None, None, None],
+        outside: Some(hole),
+    }
+}
+
 /// What is drawn on a map of one value, as a picture.
 fn drawn(alloc: Global, taken: &Taken, value: bool) -> Result<Vec<u8>, Refusal>
     requires live { (⟦<Taken as Defined>⟧.loan taken.now).definition.stage ≡ Stage.Live }
@@ -152,10 +160,7 @@ fn drawn(alloc: Global, taken: &Taken, value: bool) -> Result<Vec<u8>, Refusal>
         (⟦<Taken as Defined>⟧.loan taken.now).definition.size ≡ true }
 {
     let hole = Region::from_rect(alloc, rect!(3, 5, 4, 6))?;
-    let cut = Cut {
-        inside: [None; 3],
-        outside: Some(&hole),
-    };
+    let cut = all_but(&hole);
     let font = Font::built_in(alloc)?;
     let mut map = map_of(alloc, &Even(value), 8, 9)?;
     let mut canvas = Canvas {

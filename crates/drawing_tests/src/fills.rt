@@ -130,7 +130,11 @@ const CUTS: [(Rect, Point, [bool; 4]); 7] = [
         point!(1, 1),
         [false, false, false, true],
     ),
-    (WHOLE, point!(-1000000000, 999999999), [true, true, true, true]),
+    (
+        WHOLE,
+        point!(-1000000000, 999999999),
+        [true, true, true, true],
+    ),
 ];
 
 /// What is filled of the canvas, in its own coordinates, and how.
