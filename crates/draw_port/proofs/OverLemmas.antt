@@ -1,17 +1,18 @@
 -- One drawing on a canvas over another that drew all of it.
-use Rattle.std.proofs.Common.{◌≡◌, ℕ, zero, suc, ◌<◌, Bool, true, false, not, cond, ◌&&◌, if◌then◌else◌, ℤ, pos, negsuc, refl, ap, ◌∙◌, arith}
+use Rattle.std.proofs.Common.{◌≡◌, List, ℕ, zero, suc, ◌<◌, Bool, true, false, not, cond, ◌&&◌, if◌then◌else◌, ℤ, pos, negsuc, refl, ap, ◌∙◌, arith}
 use Rattle.std.specs.Prelude.{slice_index, replicate}
 use Rattle.tb_geom.specs.declared.point.Point.{Point}
 use Rattle.tb_geom.specs.declared.rect.Rect.{Rect}
 use Rattle.tb_geom.specs.Points.{PixelSet, minus}
 use Rattle.tb_geom.specs.Rects.{rect_holds}
 use Rattle.bit_map.specs.Bits.{Bits}
-use Rattle.bit_map.specs.declared.mode.Mode.TheVariants.{Copy}
+use Rattle.bit_map.specs.declared.mode.Mode.TheVariants.{Copy, Or}
 use Rattle.bit_map.specs.declared.pattern.Pattern.{Pattern}
 use Rattle.bit_map.specs.Modes.{mode_bit}
 use Rattle.bit_map.specs.Patterns.{pattern_bit, bit_of, eighth_of}
 use Rattle.bit_blit.specs.Draws.{Draws}
 use Rattle.bit_blit.proofs.DrawsLemmas.{Draws-over, Draws-where}
+use Rattle.strike_font.specs.Text.{text_holds}
 use Rattle.draw_port.specs.Cuts.{cut_holds}
 use Rattle.draw_port.specs.Canvases.{canvas_holds, canvas_point, SameFrame}
 use Rattle.draw_port.specs.declared.canvas.Canvas.{Canvas}
@@ -45,6 +46,17 @@ pub Draws-pattern-over : (c d : Canvas) (rect inner : Rect) (pattern : Pattern) 
 Draws-pattern-over c d rect inner pattern below first middle last same e drawn over =
     Draws-canvas-over c d (rect_holds inner) (λ p. if rect_holds rect p then pattern_bit pattern p else below p) _ _ first middle last same
     (λ p old i. if rect_holds (e i) (canvas_point c p) then pattern_bit pattern (minus p (same.origin i)) else below (canvas_point c p))
+    drawn over
+
+-- a text that is put onto a canvas in black lies over the picture that was drawn on all of it
+pub Draws-text-over : (c d : Canvas) (text : List ℕ) (pen : Point) (below : PixelSet) (first middle last : Bits)
+    → SameFrame c d
+    → Draws (canvas_holds c) (λ p _. below (canvas_point c p)) first middle
+    → Draws (λ p. canvas_holds d p && text_holds d.font.now text pen (canvas_point d p)) (λ p old. mode_bit Or true old) middle last
+    → Draws (canvas_holds c) (λ p _. if text_holds c.font.now text pen (canvas_point c p) then true else below (canvas_point c p)) first last
+Draws-text-over c d text pen below first middle last same drawn over =
+    Draws-canvas-over c d (text_holds d.font.now text pen) (λ p. if text_holds c.font.now text pen p then true else below p) _ _ first middle last same
+    (λ p old i. if text_holds ((same.font i).now) text pen (canvas_point c p) then true else below (canvas_point c p))
     drawn over
 
 -- ---- black and white

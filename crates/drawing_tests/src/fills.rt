@@ -1,16 +1,20 @@
 //! Fills of a canvas against a loop over all pixels of a map.
+ghost use Rattle.std.specs.Prelude.{◌≡◌, true};
+ghost use Rattle.draw_port.specs.Origins.{is_near};
 
+use crate::sheet::{MIXED, SHEET, Sheet, inked};
 use bit_map::{BitMap, Mode};
-use def_iface::{Canvas, Cut};
-use drawing_tests::sheet::{MIXED, SHEET, Sheet, inked};
+use draw_port::{Canvas, Cut};
+use font_tests::small::SMALL;
 use ground_tests::pixels::{Pixels, are_alike, map_of, mark};
 use scan_region::Region;
 use std::alloc::Global;
 use std::test::Fail;
+use strike_font::Font;
 use tb_geom::{Point, Rect, Refusal};
 
 /// The cut by these regions.
-pub fn cut<'a>(
+fn cut<'a>(
     first: Option<&'a Region>,
     second: Option<&'a Region>,
     third: Option<&'a Region>,
@@ -63,13 +67,16 @@ impl Filling {
     }
 
     /// The sheet, filled under the cut.
-    fn map(&self, alloc: Global, cut: &Cut<'_>) -> Result<BitMap, Refusal> {
+    fn map(&self, alloc: Global, font: &Font, cut: &Cut<'_>) -> Result<BitMap, Refusal>
+        requires { is_near self.now.origin ≡ true }
+    {
         let mut map = map_of(alloc, &Sheet, 13, 11)?;
         let mut canvas = Canvas {
             map: &mut map,
             clip: self.clip,
             origin: self.origin,
             cut,
+            font,
         };
         match self.sides {
             Some(sides) => canvas.fill(sides, MIXED, self.mode),
@@ -77,6 +84,14 @@ impl Filling {
         }
         Ok(map)
     }
+}
+
+/// Whether a canvas may have its 0 0 here.
+fn is_near(origin: Point) -> bool
+    ensures { result ≡ is_near origin }
+{
+    (-1000000000 <= origin.h && origin.h < 1000000000)
+        && (-1000000000 <= origin.v && origin.v < 1000000000)
 }
 
 /// Whether a cut by the marked zones leaves the pixel.
@@ -115,7 +130,11 @@ const CUTS: [(Rect, Point, [bool; 4]); 7] = [
         point!(1, 1),
         [false, false, false, true],
     ),
-    (WHOLE, point!(i32::MIN, i32::MAX), [true, true, true, true]),
+    (
+        WHOLE,
+        point!(-1000000000, 999999999),
+        [true, true, true, true],
+    ),
 ];
 
 /// What is filled of the canvas, in its own coordinates, and how.
@@ -137,6 +156,7 @@ fn part(is_marked: bool, region: &Region) -> Option<&Region> {
 
 #[test]
 fn fills_as_a_loop_over_all_pixels(rt: HostRuntime) -> Result<(), Fail> {
+    let font = Font::from_bytes(rt.alloc(), &SMALL)?;
     let first = Region::from_rect(rt.alloc(), ZONES[0])?;
     let second = Region::from_rect(rt.alloc(), ZONES[1])?;
     let third = Region::from_rect(rt.alloc(), ZONES[2])?;
@@ -158,7 +178,9 @@ fn fills_as_a_loop_over_all_pixels(rt: HostRuntime) -> Result<(), Fail> {
                 sides,
                 mode,
             };
-            assert!(rt; are_alike(&filling.map(rt.alloc(), &cut)?, &filling, SHEET));
+            assert!(rt; is_near(filling.origin));
+            let map = filling.map(rt.alloc(), &font, &cut)?;
+            assert!(rt; are_alike(&map, &filling, SHEET));
         }
     }
     Ok(())
