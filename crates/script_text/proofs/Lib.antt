@@ -1,4 +1,5 @@
 pub mod Cuts
+mod Ends
 mod Spelled
 mod TextLaws
 mod WordLemmas

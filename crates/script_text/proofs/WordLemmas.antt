@@ -1,8 +1,9 @@
 -- Reading a word gives what it stands for, and nothing else.
-use Rattle.std.proofs.Common.{◌≡◌, ℕ, suc, cond, ℤ, pos, neg_ℤ, inl, inr, Bool, true, false, List, [], ◌∷◌, ◌++◌, ◌+◌, ◌==◌, not, length, take, drop, position, Option, Some, None, option_map, Ok, Err, refl, sym, ap, ◌∙◌, subst, append-nil, arith, if◌then◌else◌}
+use Rattle.std.proofs.Common.{◌≡◌, ℕ, suc, cond, ℤ, pos, neg_ℤ, inl, inr, Bool, true, false, List, [], ◌∷◌, ◌++◌, ◌+◌, ◌-◌, ◌==◌, not, length, take, drop, position, Option, Some, None, option_map, Ok, Err, refl, sym, ap, ◌∙◌, subst, append-nil, arith, if◌then◌else◌}
 use Rattle.std.specs.Char.{is_ascii_alphabetic, is_ascii_alphanumeric}
 use Rattle.std.specs.Prelude.{nat_lt}
 use Rattle.std.specs.List.{list_all, position_or_len}
+use Rattle.std.proofs.lemmas.List.{take_rest, drop-drop}
 use Rattle.std.proofs.lemmas.Bool.{eq-eqb, ne_eqb, cases_Bool, and_parts, cases_eq}
 use Rattle.tb_geom.specs.declared.refusal.Refusal.TheVariants.{BadSyntax}
 use Rattle.script_text.specs.Words.{◌>>=◌, Field, split_at, parts, word_at, is_digit, is_number_text, digits_value, digits_of, number_of, number_at, flag_of, flag_at, is_name, name_at, is_plain, quoted_at, quoted_parts, after_quote, text_at}
@@ -66,6 +67,11 @@ split_at-first mark (b ∷ bs) = by_test (b == mark) (position_or_len (λ b. b =
     by_test true k within e f = rw here refl
     by_test false k true e f = rw (f, e, shift k, e) (ap Some (sym (around-cons b bs k)))
     by_test false k false e f = rw (f, e, shift k, e) refl
+
+-- what follows the byte at a place
+pub after_place : (bs back : List ℕ) (at : ℕ) → back ≡ drop at bs → take (length back - 1) (drop 1 back) ≡ drop (at + 1) bs
+after_place bs back at e =
+    take_rest back 1 ∙ ap (drop 1) e ∙ drop-drop 1 at bs
 
 pub split_at-place : (mark : ℕ) (xs : List ℕ) (place : Option ℕ) → place ≡ position (λ b. b == mark) xs → split_at mark xs ≡ option_map (around xs) place
 split_at-place mark xs place e = split_at-first mark xs ∙ ap (option_map (around xs)) (sym e)

@@ -15,6 +15,7 @@ mod command;
 pub mod laws;
 mod lines;
 mod parser;
+mod piece;
 mod reply_line;
 mod verb;
 mod words;

@@ -97,8 +97,8 @@ fn command<'a>(verb: Verb, words: Words<'a>) -> Result<Command<'a>, Refusal>
 
 /// The verb of a line, and the words after it.
 #[tactic(auto, unfolding(crate::specs::Commands::command_of))]
-fn read<'a>(line: &'a [u8]) -> Result<Command<'a>, Refusal>
-    ensures { result ≡ command_of line.entry.now }
+fn read<'a>(line: &'a mut [u8]) -> Result<Command<'a>, Refusal>
+    ensures { result ≡ command_of line.old }
 {
     let (name, words) = Words::new(line).word()?;
     match verb_of(name.as_slice()) {
@@ -109,13 +109,13 @@ fn read<'a>(line: &'a [u8]) -> Result<Command<'a>, Refusal>
 
 /// The command that a line says: a line without its ending, neither empty nor a comment. A line that says none is
 /// BadSyntax.
-pub fn parse<'a>(line: &'a [u8]) -> Result<Command<'a>, Refusal>
+pub fn parse<'a>(line: &'a mut [u8]) -> Result<Command<'a>, Refusal>
     // The line says what is answered, or the answer is BadSyntax.
-    ensures found { IsLine line.entry.now result ⊎ (result ≡ Err BadSyntax) }
+    ensures found { IsLine line.old result ⊎ (result ≡ Err BadSyntax) }
     // What a line says is what is answered: a line says one thing at most, and a line that says something is not BadSyntax.
-    ensures only { (said : Result Command Refusal) → IsLine line.entry.now said → result ≡ said }
+    ensures only { (said : Result Command Refusal) → IsLine line.old said → result ≡ said }
     // The answer as a function of the line.
-    ensures exact { result ≡ command_of line.entry.now }
+    ensures exact { result ≡ command_of line.old }
 {
     read(line)
 }
