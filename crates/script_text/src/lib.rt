@@ -12,6 +12,7 @@
 #![tactic(auto)]
 
 mod command;
+mod hex;
 pub mod laws;
 mod lines;
 mod parser;

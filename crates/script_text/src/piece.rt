@@ -35,6 +35,13 @@ impl<'a> Piece<'a> {
         self.bytes
     }
 
+    /// The bytes, to be written to.
+    pub fn into_slice(self) -> &'a mut [u8]
+        ensures { result.now ≡ self.entry }
+    {
+        self.bytes
+    }
+
     /// The bytes, for a command.
     pub fn lent(self) -> BytesRef<'a>
         ensures { result ≡ self.entry }
