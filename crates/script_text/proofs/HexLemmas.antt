@@ -1,7 +1,7 @@
 -- The bytes of hex digits, one after the other.
-use Rattle.std.proofs.Common.{◌≡◌, ℕ, suc, ◌+◌, ◌-◌, ◌*◌, ◌/◌, ◌<◌, ◌≤◌, List, [], ◌∷◌, ◌++◌, length, take, drop, get_or, refl, sym, ap, ◌∙◌, append_assoc, append-nil, arith}
+use Rattle.std.proofs.Common.{◌≡◌, ℕ, ◌+◌, ◌*◌, ◌<◌, ◌≤◌, List, [], ◌∷◌, ◌++◌, length, take, drop, get_or, refl, sym, ap, ◌∙◌, append_assoc, arith}
 use Rattle.std.proofs.Math.ListN.{set}
-use Rattle.std.proofs.lemmas.List.{drop_more, drop_all, length-drop, take_more_set, drop-set-lt}
+use Rattle.std.proofs.lemmas.List.{drop_more, length-drop, take_more_set, drop-set-lt}
 use Rattle.script_text.specs.Hex.{hex_digit_value, hex_value}
 
 -- the byte of the two digits at a place

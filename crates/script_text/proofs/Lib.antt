@@ -1,6 +1,8 @@
 pub mod Cuts
 mod Ends
 mod HexLemmas
+mod Mapped
+mod NameLemmas
 mod Spelled
 mod TextLaws
 mod WordLemmas

@@ -4,7 +4,8 @@ ghost use Rattle.std.specs.Str.Lines.{lines};
 ghost use Rattle.script_text.specs.declared.verb.Verb.{Verb};
 ghost use Rattle.script_text.specs.Words.{digits_value};
 ghost use Rattle.script_text.specs.Spelling.{IsDigits};
-ghost use Rattle.script_text.specs.Commands.{verbs, verb_in};
+ghost use Rattle.script_text.specs.Names.{named};
+ghost use Rattle.script_text.specs.Commands.{verbs};
 ghost use Rattle.script_text.specs.Lines.{lines_of};
 
 /// The digits that a reply has for a number stand for it in a line too.
@@ -26,7 +27,7 @@ pub fn a_leading_zero_adds_nothing()
 
 /// A first word stands for a verb exactly where the table has the two.
 pub fn a_verb_is_one_of_the_table()
-    ensures { (word : List ℕ) (verb : Verb) → verb_in word verbs ≡ Some verb ↔ Contains verbs (word, verb) }
+    ensures { (word : List ℕ) (verb : Verb) → named word verbs ≡ Some verb ↔ Contains verbs (word, verb) }
 {}
 
 /// The lines of a script are those of `str::lines`.

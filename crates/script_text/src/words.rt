@@ -7,8 +7,9 @@
 ghost use Rattle.std.specs.Prelude.{◌≡◌};
 ghost use Rattle.std.specs.Char.{is_ascii_alphanumeric};
 ghost use Rattle.std.specs.List.{list_all};
-ghost use Rattle.script_text.specs.Words.{word_at, number_at, number_of, flag_at, name_at, is_name, text_at, quoted_at, after_quote, is_plain, digits_of, end_at};
+ghost use Rattle.script_text.specs.Words.{word_at, number_at, number_of, flag_at, name_at, is_name, hex_at, text_at, quoted_at, after_quote, is_plain, digits_of, end_at};
 
+use crate::hex::hex_bytes;
 use crate::piece::Piece;
 use op_ref::BytesRef;
 use std::marker::Model;
@@ -99,6 +100,16 @@ impl<'a> Words<'a> {
         } else {
             Err(Refusal::BadSyntax)
         }
+    }
+
+    /// Hex digits, two for each byte, at least one byte: the bytes that they stand for.
+    #[tactic(auto, unfolding(crate::specs::Words::hex_at))]
+    pub fn hex(self) -> Result<(BytesRef<'a>, Words<'a>), Refusal>
+        ensures { result ≡ hex_at self.entry }
+    {
+        let (text, rest) = self.word()?;
+        let bytes = hex_bytes(text).ok_or(Refusal::BadSyntax)?;
+        Ok((bytes, rest))
     }
 
     /// A text between two quotes: bytes of 0x20..=0x7E other than the quote, spaces too.

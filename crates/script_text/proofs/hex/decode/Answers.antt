@@ -1,6 +1,5 @@
-use Rattle.std.proofs.Common.{◌≡◌, ◌+◌, ◌*◌, ◌/◌, ◌<◌, ◌++◌, ℕ, take, length, sym, ap, ◌∙◌, append-nil, arith}
+use Rattle.std.proofs.Common.{◌≡◌, ◌+◌, ◌*◌, ◌/◌, ◌<◌, ◌++◌, take, length, sym, ap, ◌∙◌, append-nil, arith}
 use Rattle.std.proofs.Math.ListN.{set}
-use Rattle.script_text.specs.Hex.{hex_value}
 use Rattle.script_text.proofs.HexLemmas.{rest_after, byte_at, one_more, none_left}
 use Rattle.script_text.proofs.hex.decode.Goals as goal
 
