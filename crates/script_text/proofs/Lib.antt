@@ -1,6 +1,8 @@
 pub mod Cuts
 mod Ends
+mod HexLaws
 mod HexLemmas
+mod LineLaws
 mod Mapped
 mod NameLemmas
 mod Spelled

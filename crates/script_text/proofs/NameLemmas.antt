@@ -16,7 +16,7 @@ no_mode name_of word none (m ∷ ms) =
       | inr other ↦ rw other (no_mode name_of word none ms)
     ]
 
-pattern_mode-named : (mode : Mode) → named (pattern_name mode) pattern_modes ≡ Some mode
+pub pattern_mode-named : (mode : Mode) → named (pattern_name mode) pattern_modes ≡ Some mode
 pattern_mode-named Copy = refl
 pattern_mode-named Or = refl
 pattern_mode-named Xor = refl
@@ -26,7 +26,7 @@ pattern_mode-named NotOr = refl
 pattern_mode-named NotXor = refl
 pattern_mode-named NotBic = refl
 
-source_mode-named : (mode : Mode) → named (source_name mode) source_modes ≡ Some mode
+pub source_mode-named : (mode : Mode) → named (source_name mode) source_modes ≡ Some mode
 source_mode-named Copy = refl
 source_mode-named Or = refl
 source_mode-named Xor = refl
@@ -35,6 +35,26 @@ source_mode-named NotCopy = refl
 source_mode-named NotOr = refl
 source_mode-named NotXor = refl
 source_mode-named NotBic = refl
+
+pub source_name-apart : (mode : Mode) → named (source_name mode) pattern_modes ≡ None
+source_name-apart Copy = refl
+source_name-apart Or = refl
+source_name-apart Xor = refl
+source_name-apart Bic = refl
+source_name-apart NotCopy = refl
+source_name-apart NotOr = refl
+source_name-apart NotXor = refl
+source_name-apart NotBic = refl
+
+pub pattern_name-apart : (mode : Mode) → named (pattern_name mode) source_modes ≡ None
+pattern_name-apart Copy = refl
+pattern_name-apart Or = refl
+pattern_name-apart Xor = refl
+pattern_name-apart Bic = refl
+pattern_name-apart NotCopy = refl
+pattern_name-apart NotOr = refl
+pattern_name-apart NotXor = refl
+pattern_name-apart NotBic = refl
 
 pub found_pattern_mode : (word : List ℕ) (found : Option Mode) → IfSome found (λ mode. pattern_name mode ≡ word) → IfNone found ((mode : Mode) → pattern_name mode ≡ word → ⊥) → named word pattern_modes ≡ found
 found_pattern_mode word None s n = no_mode pattern_name word n modes

@@ -1,5 +1,5 @@
 -- Bytes written as hex digits.
-use Rattle.std.specs.Prelude.{ℕ, ◌+◌, ◌-◌, ◌*◌, ◌%◌, Bool, ◌&&◌, List, [], ◌∷◌, length, Option, Some, None, nat_le, ◌==◌, if◌then◌else◌}
+use Rattle.std.specs.Prelude.{ℕ, ◌+◌, ◌-◌, ◌*◌, ◌/◌, ◌%◌, Bool, ◌&&◌, List, [], ◌∷◌, length, Option, Some, None, nat_le, nat_lt, ◌==◌, if◌then◌else◌}
 use Rattle.std.specs.Char.{is_ascii_hexdigit}
 use Rattle.std.specs.List.{list_all}
 
@@ -23,3 +23,12 @@ hex_value (high ∷ low ∷ digits) = (hex_digit_value high * 16 + hex_digit_val
 -- the bytes that a word stands for
 abbrev pub hex_of : List ℕ → Option (List ℕ)
 hex_of word = if is_hex_text word then Some (hex_value word) else None
+
+-- the digit of a number below 16, where the letter `a` stands for 10: `A` (65) or `a` (97)
+abbrev pub hex_digit : ℕ → ℕ → ℕ
+hex_digit a n = if nat_lt n 10 then 48 + n else a + (n - 10)
+
+-- bytes written as hex digits, by the same letter
+abbrev pub hex_text : ℕ → List ℕ → List ℕ
+hex_text a [] = []
+hex_text a (b ∷ bytes) = hex_digit a (b / 16) ∷ hex_digit a (b % 16) ∷ hex_text a bytes
