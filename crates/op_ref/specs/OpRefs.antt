@@ -1,5 +1,5 @@
 -- Operations as calls carry them: why they are refused, and what they mean.
-use Rattle.std.specs.Prelude.{◌≡◌, ◌⊎◌, ℕ, ◌+◌, ◌*◌, ◌/◌, Bool, true, false, ◌&&◌, ◌||◌, nat_eq, nat_lt, ℤ, pos, int_le, int_lt, nat_abs, List, length, All, Option, Some, None, IfSome}
+use Rattle.std.specs.Prelude.{◌≡◌, ◌⊎◌, ℕ, ◌+◌, ◌*◌, ◌/◌, Bool, true, false, ◌&&◌, nat_eq, nat_lt, ℤ, pos, int_le, nat_abs, List, length, All, Option, Some, None, IfSome}
 use Rattle.tb_geom.specs.declared.refusal.Refusal.{Refusal}
 use Rattle.tb_geom.specs.declared.refusal.Refusal.TheVariants.{BadSyntax, BadRegion, OutOfRange, TooLong}
 use Rattle.tb_geom.specs.Pixels.{Pixels}

@@ -123,12 +123,22 @@ impl BitsRef<'_> {
 
     /// Whether the image has rows and columns, and just the bytes of its rows.
     fn has_rows(&self) -> bool
-        ensures { result ≡ are_rows self.now.width self.now.height self.now.rows }
+        ensures { result ≡ has_rows (ShapeRef.Bits self.now) }
     {
-        if self.width < 1 || self.height < 1 {
+        self.rows.are_rows(self.width, self.height)
+    }
+}
+
+impl BytesRef<'_> {
+    /// Whether these are the bytes of an image of this size: it has rows and columns, and each row takes
+    /// `(width + 7) / 8` of the bytes.
+    pub fn are_rows(&self, width: i32, height: i32) -> bool
+        ensures { result ≡ are_rows width height self.now }
+    {
+        if width < 1 || height < 1 {
             return false;
         }
-        let row_bytes = (u64::from(self.width.unsigned_abs()) + 7) / 8;
-        self.rows.as_slice().len() as u64 == row_bytes * u64::from(self.height.unsigned_abs())
+        let row_bytes = (u64::from(width.unsigned_abs()) + 7) / 8;
+        self.as_slice().len() as u64 == row_bytes * u64::from(height.unsigned_abs())
     }
 }

@@ -37,9 +37,16 @@ fn a_reply_is_one_line_and_one_write(rt: HostRuntime) {
     assert!(rt; paper.text.as_slice() == b"ok\n".as_slice());
 }
 
+/// What a line of at most 100 bytes says, which is read from the room.
+pub fn said<'a>(room: &'a mut [u8; 100], line: &[u8]) -> Result<Command<'a>, Refusal> {
+    let bytes = &mut room[..line.len()];
+    bytes.copy_from_slice(line);
+    parse(bytes)
+}
+
 /// The three numbers of a line that makes the desk.
 fn desk_numbers(line: &[u8]) -> Option<[i32; 3]> {
-    match parse(line) {
+    match said(&mut [0; 100], line) {
         Ok(Command::Desk(size)) => Some([size.width, size.height, size.bar]),
         _ => None,
     }
@@ -51,7 +58,8 @@ fn the_words_of_a_line_are_read_in_their_order(rt: HostRuntime) {
     let far = Some([999999999, -999999999, 1]);
     assert!(rt; desk_numbers(b"desk 999999999 -999999999 000000001") == far);
     let line = b"window Az09 1 -2 36 5 0 1 \" a  1 0 ~#\"";
-    let Ok(Command::Call(Call::Window(WindowCall::New(window)))) = parse(line) else {
+    let mut room = [0; 100];
+    let Ok(Command::Call(Call::Window(WindowCall::New(window)))) = said(&mut room, line) else {
         assert!(rt; false, "no window");
         return;
     };

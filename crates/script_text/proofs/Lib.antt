@@ -1,4 +1,10 @@
 pub mod Cuts
+mod Ends
+mod HexLaws
+mod HexLemmas
+mod LineLaws
+mod Mapped
+mod NameLemmas
 mod Spelled
 mod TextLaws
 mod WordLemmas

@@ -11,7 +11,8 @@ use Rattle.std.proofs.lemmas.Slice.Eq.{bytes_eq-Decides}
 use Rattle.script_text.specs.declared.verb.Verb.{Verb}
 use Rattle.script_text.specs.Words.{is_digit, is_number_text, digits_value}
 use Rattle.script_text.specs.Spelling.{IsDigits}
-use Rattle.script_text.specs.Commands.{verbs, verb_in}
+use Rattle.script_text.specs.Names.{named}
+use Rattle.script_text.specs.Commands.{verbs}
 use Rattle.script_text.specs.Lines.{add_front, cut, whole_lines, last_part, if_any, lines_of}
 
 -- ---- numbers
@@ -47,26 +48,27 @@ leading_zero digits = refl
 
 -- ---- verbs
 
-found_is_in : (word : List ℕ) (verb : Verb) (entries : List (List ℕ × Verb)) → verb_in word entries ≡ Some verb → Contains entries (word, verb)
-found_is_in word verb [] h = let bad : ◌≡◌ {A = Option Verb} None (Some verb) = h in cc
-found_is_in word verb (entry ∷ entries) h = by_test (bytes_eq entry.0 word) (bytes_eq-Decides entry.0 word).0 (found_is_in word verb entries) h
+found_is_in : {A : Type 0} (word : List ℕ) (x : A) (entries : List (List ℕ × A)) → named word entries ≡ Some x → Contains entries (word, x)
+found_is_in {A} word x [] h = let bad : ◌≡◌ {A = Option A} None (Some x) = h in cc
+found_is_in {A} word x (entry ∷ entries) h = by_test (bytes_eq entry.0 word) (bytes_eq-Decides entry.0 word).0 (found_is_in word x entries) h
   where
-    by_test : (b : Bool) → (b ≡ true → entry.0 ≡ word) → (verb_in word entries ≡ Some verb → Contains entries (word, verb))
-        → (if b then Some entry.1 else verb_in word entries) ≡ Some verb → Contains (entry ∷ entries) (word, verb)
+    by_test : (b : Bool) → (b ≡ true → entry.0 ≡ word) → (named word entries ≡ Some x → Contains entries (word, x))
+        → (if b then Some entry.1 else named word entries) ≡ Some x → Contains (entry ∷ entries) (word, x)
     by_test true same later e =
-        let here : entry.1 ≡ verb = cc in
+        let here : entry.1 ≡ x = cc in
         (0, omega arith, ap (λ w. (w, entry.1)) (same refl) ∙ ap (λ v. (word, v)) here)
     by_test false same later e = let found = later e in (suc found.0, omega (arith, found.1), found.2)
 
-in_is_found : (word : List ℕ) (verb : Verb) → Contains verbs (word, verb) → verb_in word verbs ≡ Some verb
-in_is_found word verb (zero, less, e) = subst (λ (p : List ℕ × Verb). verb_in p.0 verbs ≡ Some p.1) e refl
-in_is_found word verb (suc zero, less, e) = subst (λ (p : List ℕ × Verb). verb_in p.0 verbs ≡ Some p.1) e refl
-in_is_found word verb (suc (suc zero), less, e) = subst (λ (p : List ℕ × Verb). verb_in p.0 verbs ≡ Some p.1) e refl
-in_is_found word verb (suc (suc (suc zero)), less, e) = subst (λ (p : List ℕ × Verb). verb_in p.0 verbs ≡ Some p.1) e refl
-in_is_found word verb (suc (suc (suc (suc zero))), less, e) = subst (λ (p : List ℕ × Verb). verb_in p.0 verbs ≡ Some p.1) e refl
-in_is_found word verb (suc (suc (suc (suc (suc k)))), less, e) = absurd (omega (arith, less))
+in_is_found : (word : List ℕ) (verb : Verb) → Contains verbs (word, verb) → named word verbs ≡ Some verb
+in_is_found word verb (zero, less, e) = subst (λ (p : List ℕ × Verb). named p.0 verbs ≡ Some p.1) e refl
+in_is_found word verb (suc zero, less, e) = subst (λ (p : List ℕ × Verb). named p.0 verbs ≡ Some p.1) e refl
+in_is_found word verb (suc (suc zero), less, e) = subst (λ (p : List ℕ × Verb). named p.0 verbs ≡ Some p.1) e refl
+in_is_found word verb (suc (suc (suc zero)), less, e) = subst (λ (p : List ℕ × Verb). named p.0 verbs ≡ Some p.1) e refl
+in_is_found word verb (suc (suc (suc (suc zero))), less, e) = subst (λ (p : List ℕ × Verb). named p.0 verbs ≡ Some p.1) e refl
+in_is_found word verb (suc (suc (suc (suc (suc zero)))), less, e) = subst (λ (p : List ℕ × Verb). named p.0 verbs ≡ Some p.1) e refl
+in_is_found word verb (suc (suc (suc (suc (suc (suc k))))), less, e) = absurd (omega (arith, less))
 
-pub verb_is_of_the_table : (word : List ℕ) (verb : Verb) → verb_in word verbs ≡ Some verb ↔ Contains verbs (word, verb)
+pub verb_is_of_the_table : (word : List ℕ) (verb : Verb) → named word verbs ≡ Some verb ↔ Contains verbs (word, verb)
 verb_is_of_the_table word verb = (found_is_in word verb verbs, in_is_found word verb)
 
 -- ---- lines

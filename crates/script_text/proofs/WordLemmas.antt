@@ -1,12 +1,14 @@
 -- Reading a word gives what it stands for, and nothing else.
-use Rattle.std.proofs.Common.{◌≡◌, ℕ, suc, cond, ℤ, pos, neg_ℤ, inl, inr, Bool, true, false, List, [], ◌∷◌, ◌++◌, ◌+◌, ◌==◌, not, length, take, drop, position, Option, Some, None, option_map, Ok, Err, refl, sym, ap, ◌∙◌, subst, append-nil, arith, if◌then◌else◌}
-use Rattle.std.specs.Char.{is_ascii_alphabetic, is_ascii_alphanumeric}
+use Rattle.std.proofs.Common.{◌≡◌, ℕ, suc, cond, ℤ, pos, neg_ℤ, inl, inr, Bool, true, false, List, [], ◌∷◌, ◌++◌, ◌+◌, ◌-◌, ◌==◌, not, length, take, drop, position, Option, Some, None, option_map, Ok, Err, refl, sym, ap, ◌∙◌, subst, append-nil, arith, if◌then◌else◌}
+use Rattle.std.specs.Char.{is_ascii_alphabetic, is_ascii_alphanumeric, is_ascii_hexdigit}
 use Rattle.std.specs.Prelude.{nat_lt}
 use Rattle.std.specs.List.{list_all, position_or_len}
+use Rattle.std.proofs.lemmas.List.{take_rest, drop-drop}
 use Rattle.std.proofs.lemmas.Bool.{eq-eqb, ne_eqb, cases_Bool, and_parts, cases_eq}
 use Rattle.tb_geom.specs.declared.refusal.Refusal.TheVariants.{BadSyntax}
-use Rattle.script_text.specs.Words.{◌>>=◌, Field, split_at, parts, word_at, is_digit, is_number_text, digits_value, digits_of, number_of, number_at, flag_of, flag_at, is_name, name_at, is_plain, quoted_at, quoted_parts, after_quote, text_at}
-use Rattle.script_text.specs.Spelling.{follows, HasNo, IsDigits, IsNumber, IsFlag, IsName, IsText}
+use Rattle.script_text.specs.Hex.{is_hex_text, hex_of}
+use Rattle.script_text.specs.Words.{◌>>=◌, Field, split_at, parts, word_at, is_digit, is_number_text, digits_value, digits_of, number_of, number_at, flag_of, flag_at, is_name, name_at, hex_at, is_plain, quoted_at, quoted_parts, after_quote, text_at}
+use Rattle.script_text.specs.Spelling.{follows, HasNo, IsDigits, IsNumber, IsFlag, IsName, IsText, IsHex}
 
 -- the first mark: where it is, or that there is none
 abbrev Splits : ℕ → List ℕ → Option (List ℕ × List ℕ) → Type 0
@@ -66,6 +68,11 @@ split_at-first mark (b ∷ bs) = by_test (b == mark) (position_or_len (λ b. b =
     by_test true k within e f = rw here refl
     by_test false k true e f = rw (f, e, shift k, e) (ap Some (sym (around-cons b bs k)))
     by_test false k false e f = rw (f, e, shift k, e) refl
+
+-- what follows the byte at a place
+pub after_place : (bs back : List ℕ) (at : ℕ) → back ≡ drop at bs → take (length back - 1) (drop 1 back) ≡ drop (at + 1) bs
+after_place bs back at e =
+    take_rest back 1 ∙ ap (drop 1) e ∙ drop-drop 1 at bs
 
 pub split_at-place : (mark : ℕ) (xs : List ℕ) (place : Option ℕ) → place ≡ position (λ b. b == mark) xs → split_at mark xs ≡ option_map (around xs) place
 split_at-place mark xs place e = split_at-first mark xs ∙ ap (option_map (around xs)) (sym e)
@@ -236,6 +243,35 @@ name-cases rest = name-word rest (word_at rest) (word-cases rest)
 pub name_at-at : (word : List ℕ) (more : Option (List ℕ)) → IsName word → name_at (Some (word ++ follows more)) ≡ Ok (word, more)
 unfolding name_at
 name_at-at word more h = rw (word_at-follows word more (name-spaceless word h), is_name-at word h) refl
+
+-- Hex digits, likewise.
+hex_digits-spaceless : (bs : List ℕ) → list_all is_ascii_hexdigit bs ≡ true → HasNo 32 bs
+hex_digits-spaceless [] h = tt
+hex_digits-spaceless (b ∷ bs) h =
+    let p = and_parts (is_ascii_hexdigit b) (list_all is_ascii_hexdigit bs) h in
+    (λ e. let bad : is_ascii_hexdigit 32 ≡ true = subst (λ x. is_ascii_hexdigit x ≡ true) e p.0 in cc, hex_digits-spaceless bs p.1)
+
+hex-spaceless : (word bytes : List ℕ) → IsHex word bytes → HasNo 32 word
+hex-spaceless word bytes h = hex_digits-spaceless word (and_parts _ _ (and_parts _ _ h.0).1).1
+
+hex_of-at : (word bytes : List ℕ) → IsHex word bytes → hex_of word ≡ Some bytes
+hex_of-at word bytes h = rw (h.0, ← h.1) refl
+
+-- what is read is in the grammar
+abbrev pub HexCases : List ℕ → Option (List ℕ) → Type 0
+HexCases word None = Unit {0}
+HexCases word (Some bytes) = IsHex word bytes
+
+pub hex-cases : (word : List ℕ) → HexCases word (hex_of word)
+hex-cases word =
+    elim (cases_Bool (is_hex_text word)) [
+      | inl t ↦ rw t (t, refl)
+      | inr f ↦ rw f tt
+    ]
+
+pub hex_at-at : (word : List ℕ) (more : Option (List ℕ)) (bytes : List ℕ) → IsHex word bytes → hex_at (Some (word ++ follows more)) ≡ Ok (bytes, more)
+unfolding hex_at
+hex_at-at word more bytes h = rw (word_at-follows word more (hex-spaceless word bytes h), hex_of-at word bytes h) refl
 
 -- Texts, likewise; a text may have spaces.
 

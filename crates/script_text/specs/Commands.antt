@@ -1,17 +1,18 @@
 -- The commands: their first words, and the words that follow each.
-use Rattle.std.specs.Prelude.{ℕ, ℤ, Bool, List, [], ◌∷◌, Option, Some, None, Result, Ok, Err, codes, if◌then◌else◌}
-use Rattle.std.specs.Str.{bytes_eq}
+use Rattle.std.specs.Prelude.{ℕ, ℤ, Bool, List, [], ◌∷◌, Option, Some, None, Result, Ok, Err, codes}
 use Rattle.tb_geom.specs.declared.refusal.Refusal.{Refusal}
 use Rattle.tb_geom.specs.declared.refusal.Refusal.TheVariants.{BadSyntax}
 use Rattle.desk_toolbox.specs.declared.call.Call.TheVariants.{Window}
-use Rattle.desk_toolbox.specs.declared.call.WindowCall.TheVariants.{New, Find, Front}
+use Rattle.desk_toolbox.specs.declared.call.WindowCall.TheVariants.{New, Draw, Find, Front}
 use Rattle.desk_toolbox.specs.declared.call.NewWindow.{NewWindow}
 use Rattle.script_text.specs.declared.command.Command.{Command}
 use Rattle.script_text.specs.declared.command.Command.TheVariants.{Desk, Image, Call}
 use Rattle.script_text.specs.declared.verb.Verb.{Verb}
 use Rattle.script_text.specs.declared.verb.Verb.TheVariants as words
 use Rattle.script_text.specs.Words.{◌>>=◌, word_at}
-use Rattle.script_text.specs.Grammar.{Shape, done, number, flag, name, text, reading}
+use Rattle.script_text.specs.Names.{named}
+use Rattle.script_text.specs.Grammar.{Shape, done, number, flag, name, text, mapped, reading}
+use Rattle.script_text.specs.Drawings.{drawing_shape}
 
 -- a window with its content at (h, v)
 abbrev pub window_of : List ℕ → ℤ → ℤ → ℤ → ℤ → Bool → Bool → List ℕ → NewWindow
@@ -25,24 +26,28 @@ window_of kind h v width height shown go_away title = record {
 }
 
 -- desk WIDTH HEIGHT BAR
-abbrev pub desk_shape : Shape
+abbrev pub desk_shape : Shape Command
 desk_shape = number (λ width. number (λ height. number (λ bar. done (Ok (Desk (record { width = width; height = height; bar = bar }))))))
 
 -- image
-abbrev pub image_shape : Shape
+abbrev pub image_shape : Shape Command
 image_shape = done (Ok Image)
 
 -- window KIND h v width height SHOWN GOAWAY "title"
-abbrev pub window_shape : Shape
+abbrev pub window_shape : Shape Command
 window_shape = name (λ kind. number (λ h. number (λ v. number (λ width. number (λ height. flag (λ shown. flag (λ go_away. text (λ title.
     done (Ok (Call (Window (New (window_of kind h v width height shown go_away title)))))))))))))
 
+-- draw W [clip HEX] OP
+abbrev pub draw_shape : Shape Command
+draw_shape = mapped (λ drawing. Call (Window (Draw drawing))) drawing_shape
+
 -- find h v
-abbrev pub find_shape : Shape
+abbrev pub find_shape : Shape Command
 find_shape = number (λ h. number (λ v. done (Ok (Call (Window (Find (record { h = h; v = v })))))))
 
 -- frontwin
-abbrev pub frontwin_shape : Shape
+abbrev pub frontwin_shape : Shape Command
 frontwin_shape = done (Ok (Call (Window Front)))
 
 -- the first words of commands
@@ -51,20 +56,17 @@ verbs =
     (codes "desk", words.Desk)
     ∷ (codes "image", words.Image)
     ∷ (codes "window", words.Window)
+    ∷ (codes "draw", words.Draw)
     ∷ (codes "find", words.Find)
     ∷ (codes "frontwin", words.FrontWindow)
     ∷ []
 
--- what the first entry with a word stands for
-abbrev pub verb_in : List ℕ → List (List ℕ × Verb) → Option Verb
-verb_in word [] = None
-verb_in word (entry ∷ entries) = if bytes_eq entry.0 word then Some entry.1 else verb_in word entries
-
 -- the words that follow a verb
-abbrev pub shape_of : Verb → Shape
+abbrev pub shape_of : Verb → Shape Command
 shape_of words.Desk = desk_shape
 shape_of words.Image = image_shape
 shape_of words.Window = window_shape
+shape_of words.Draw = draw_shape
 shape_of words.Find = find_shape
 shape_of words.FrontWindow = frontwin_shape
 
@@ -75,4 +77,4 @@ read_with (Some verb) rest = reading (shape_of verb) rest
 
 -- what is read of a line
 unfoldable pub command_of : List ℕ → Result Command Refusal
-command_of line = word_at (Some line) >>= λ x. read_with (verb_in x.0 verbs) x.1
+command_of line = word_at (Some line) >>= λ x. read_with (named x.0 verbs) x.1

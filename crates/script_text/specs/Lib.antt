@@ -1,7 +1,10 @@
 pub mod Commands
+pub mod Drawings
 pub mod Grammar
 pub mod Held
+pub mod Hex
 pub mod Lines
+pub mod Names
 pub mod Replies
 pub mod Spelling
 pub mod Words

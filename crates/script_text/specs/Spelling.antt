@@ -5,9 +5,11 @@ use Rattle.std.specs.List.{list_all}
 use Rattle.tb_geom.specs.declared.refusal.Refusal.{Refusal}
 use Rattle.script_text.specs.declared.command.Command.{Command}
 use Rattle.script_text.specs.declared.verb.Verb.{Verb}
+use Rattle.script_text.specs.Hex.{is_hex_text, hex_value}
 use Rattle.script_text.specs.Words.{is_number_text, digits_value, is_plain}
-use Rattle.script_text.specs.Grammar.{Shape, done, number, flag, name, text}
-use Rattle.script_text.specs.Commands.{verbs, verb_in, shape_of}
+use Rattle.script_text.specs.Grammar.{Shape, done, never, number, flag, name, text, hex}
+use Rattle.script_text.specs.Names.{named}
+use Rattle.script_text.specs.Commands.{verbs, shape_of}
 
 -- what follows a word: a space and more, or the end
 abbrev pub follows : Option (List ℕ) → List ℕ
@@ -41,15 +43,21 @@ IsName (b ∷ bs) = (is_ascii_alphabetic b ≡ true) × (list_all is_ascii_alpha
 abbrev pub IsText : List ℕ → Type 0
 IsText t = (list_all is_plain t ≡ true) × HasNo 34 t
 
+-- an even count of hex digits, at least two, that stand for the bytes
+abbrev pub IsHex : List ℕ → List ℕ → Type 0
+IsHex word bytes = (is_hex_text word ≡ true) × (bytes ≡ hex_value word)
+
 -- What is left of a line has this shape, and says this.
-abbrev pub IsSpelled : Shape → Option (List ℕ) → Result Command Refusal → Type 0
-IsSpelled (done command) rest r = (rest ≡ None) × (command ≡ r)
+abbrev pub IsSpelled : {A : Type 0} → Shape A → Option (List ℕ) → Result A Refusal → Type 0
+IsSpelled (done said) rest r = (rest ≡ None) × (said ≡ r)
+IsSpelled never rest r = ⊥
 IsSpelled (number next) rest r = (word : List ℕ) × (more : Option (List ℕ)) × (z : ℤ) × (rest ≡ Some (word ++ follows more)) × IsNumber word z × IsSpelled (next z) more r
 IsSpelled (flag next) rest r = (word : List ℕ) × (more : Option (List ℕ)) × (b : Bool) × (rest ≡ Some (word ++ follows more)) × IsFlag word b × IsSpelled (next b) more r
 IsSpelled (name next) rest r = (word : List ℕ) × (more : Option (List ℕ)) × (rest ≡ Some (word ++ follows more)) × IsName word × IsSpelled (next word) more r
 IsSpelled (text next) rest r = (t : List ℕ) × (more : Option (List ℕ)) × (rest ≡ Some (34 ∷ (t ++ 34 ∷ follows more))) × IsText t × IsSpelled (next t) more r
+IsSpelled (hex next) rest r = (word : List ℕ) × (more : Option (List ℕ)) × (bytes : List ℕ) × (rest ≡ Some (word ++ follows more)) × IsHex word bytes × IsSpelled (next bytes) more r
 
 -- The line is a verb and the words that follow it, and says this.
 abbrev pub IsLine : List ℕ → Result Command Refusal → Type 0
 IsLine line r = (word : List ℕ) × (more : Option (List ℕ)) × (verb : Verb)
-    × (line ≡ word ++ follows more) × HasNo 32 word × (verb_in word verbs ≡ Some verb) × IsSpelled (shape_of verb) more r
+    × (line ≡ word ++ follows more) × HasNo 32 word × (named word verbs ≡ Some verb) × IsSpelled (shape_of verb) more r

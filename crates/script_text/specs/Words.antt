@@ -4,6 +4,7 @@ use Rattle.std.specs.Char.{is_ascii_alphabetic, is_ascii_alphanumeric}
 use Rattle.std.specs.List.{list_all}
 use Rattle.tb_geom.specs.declared.refusal.Refusal.{Refusal}
 use Rattle.tb_geom.specs.declared.refusal.Refusal.TheVariants.{BadSyntax}
+use Rattle.script_text.specs.Hex.{hex_of}
 
 infixl 10 ◌>>=◌
 -- what comes of a value, or the refusal that stands in its place
@@ -83,6 +84,10 @@ is_name (b ∷ bs) = is_ascii_alphabetic b && list_all is_ascii_alphanumeric bs
 -- a word that is a name
 unfoldable pub name_at : Option (List ℕ) → Field (List ℕ)
 name_at rest = word_at rest >>= λ word. if is_name word.0 then Ok (word.0, word.1) else Err BadSyntax
+
+-- a word of hex digits
+unfoldable pub hex_at : Option (List ℕ) → Field (List ℕ)
+hex_at rest = word_at rest >>= λ word. with_rest (hex_of word.0) word.1
 
 -- the bytes that a line may have: 0x20 to 0x7E
 abbrev pub is_plain : ℕ → Bool

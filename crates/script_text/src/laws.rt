@@ -1,10 +1,18 @@
 //! What the definitions of numbers, commands and lines say, in the words of their subject.
-ghost use Rattle.std.specs.Prelude.{◌≡◌, ◌<◌, ◌^◌, ◌↔◌, ℕ, List, ◌∷◌, Some, Contains, decimal};
+ghost use Rattle.std.specs.Prelude.{◌≡◌, ◌⊎◌, ◌<◌, ◌^◌, ◌↔◌, ℕ, List, ◌∷◌, Some, Contains, Result, Ok, Err, IfErr, decimal};
+ghost use Rattle.std.specs.List.{AllByRecursion};
 ghost use Rattle.std.specs.Str.Lines.{lines};
+ghost use Rattle.tb_geom.specs.declared.refusal.Refusal.{Refusal};
+ghost use Rattle.tb_geom.specs.declared.refusal.Refusal.TheVariants.{NoSuchName};
+ghost use Rattle.bit_map.specs.declared.mode.Mode.{Mode};
+ghost use Rattle.bit_map.specs.Modes.{pattern_name, source_name};
+ghost use Rattle.script_text.specs.declared.command.Command.{Command};
 ghost use Rattle.script_text.specs.declared.verb.Verb.{Verb};
+ghost use Rattle.script_text.specs.Hex.{hex_of, hex_text};
 ghost use Rattle.script_text.specs.Words.{digits_value};
-ghost use Rattle.script_text.specs.Spelling.{IsDigits};
-ghost use Rattle.script_text.specs.Commands.{verbs, verb_in};
+ghost use Rattle.script_text.specs.Spelling.{IsDigits, IsLine};
+ghost use Rattle.script_text.specs.Names.{named, known, pattern_modes, source_modes};
+ghost use Rattle.script_text.specs.Commands.{verbs};
 ghost use Rattle.script_text.specs.Lines.{lines_of};
 
 /// The digits that a reply has for a number stand for it in a line too.
@@ -24,9 +32,30 @@ pub fn a_leading_zero_adds_nothing()
     ensures { (digits : List ℕ) → digits_value (48 ∷ digits) ≡ digits_value digits }
 {}
 
+/// Bytes that are written as hex digits, with the letters `A` to `F` or `a` to `f`, are read back.
+pub fn written_hex_is_read()
+    ensures { (a : ℕ) → (a ≡ 65) ⊎ (a ≡ 97) → (byte : ℕ) (bytes : List ℕ) → AllByRecursion (λ b. b < 256) (byte ∷ bytes)
+        → hex_of (hex_text a (byte ∷ bytes)) ≡ Some (byte ∷ bytes) }
+{}
+
 /// A first word stands for a verb exactly where the table has the two.
 pub fn a_verb_is_one_of_the_table()
-    ensures { (word : List ℕ) (verb : Verb) → verb_in word verbs ≡ Some verb ↔ Contains verbs (word, verb) }
+    ensures { (word : List ℕ) (verb : Verb) → named word verbs ≡ Some verb ↔ Contains verbs (word, verb) }
+{}
+
+/// What a line says is a command, or that something has not the name that it names: no other refusal, and
+/// not BadSyntax.
+pub fn a_line_says_a_command_or_an_unknown_name()
+    ensures { (line : List ℕ) (said : Result Command Refusal) → IsLine line said → IfErr said (λ e. e ≡ NoSuchName) }
+{}
+
+/// Each mode is read by its name for a pattern where a pattern is put down, by its name for an image where
+/// an image is, and by no name of the other kind.
+pub fn modes_are_read_by_their_names()
+    ensures pattern { (mode : Mode) → known (pattern_name mode) pattern_modes ≡ Ok mode }
+    ensures source { (mode : Mode) → known (source_name mode) source_modes ≡ Ok mode }
+    ensures no_pattern { (mode : Mode) → known (source_name mode) pattern_modes ≡ Err NoSuchName }
+    ensures no_source { (mode : Mode) → known (pattern_name mode) source_modes ≡ Err NoSuchName }
 {}
 
 /// The lines of a script are those of `str::lines`.

@@ -12,10 +12,16 @@
 #![tactic(auto)]
 
 mod command;
+mod drawing;
+mod hex;
 pub mod laws;
 mod lines;
+mod names;
+mod operation;
 mod parser;
+mod piece;
 mod reply_line;
+mod table;
 mod verb;
 mod words;
 

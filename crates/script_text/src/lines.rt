@@ -61,20 +61,21 @@ impl LineBuffer {
     }
 
     /// The bytes, unless they were too many.
-    fn bytes(&self) -> Option<&[u8]>
-        ensures { option_map (λ s. s.now) result ≡ self.now }
+    fn bytes(&mut self) -> Option<&mut [u8]>
+        ensures { option_map (λ s. s.now) result ≡ self.old }
     {
         if self.is_over {
             None
         } else {
-            Some(self.bytes.as_slice())
+            Some(self.bytes.as_mut_slice())
         }
     }
 
     /// What the line says that a newline ends here; None where it is skipped. A return before the
-    /// newline belongs to the ending.
-    pub fn said(&self) -> Option<Result<Command<'_>, Refusal>>
-        ensures { result ≡ said_held self.now }
+    /// newline belongs to the ending. The bytes are used up: what is held then is forgotten by `clear`
+    /// alone.
+    pub fn said(&mut self) -> Option<Result<Command<'_>, Refusal>>
+        ensures { result ≡ said_held self.old }
     {
         match self.bytes() {
             Some(bytes) => line_says(without_return(bytes)),
@@ -83,12 +84,12 @@ impl LineBuffer {
     }
 
     /// What the last line says, which the input's end ends; None where it is skipped, or there is
-    /// none. A return is one of its bytes.
-    pub fn said_last(&self) -> Option<Result<Command<'_>, Refusal>>
-        ensures { result ≡ said_last self.now }
+    /// none. A return is one of its bytes. The bytes are used up.
+    #[tactic(auto, using(crate::proofs::Ends::said_at_end))]
+    pub fn said_last(&mut self) -> Option<Result<Command<'_>, Refusal>>
+        ensures { result ≡ said_last self.old }
     {
         match self.bytes() {
-            Some([]) => None,
             Some(bytes) => line_says(bytes),
             None => Some(Err(Refusal::TooLong)),
         }
@@ -96,16 +97,17 @@ impl LineBuffer {
 }
 
 /// The line without the return at its end.
-fn without_return(line: &[u8]) -> &[u8]
-    ensures { result.now ≡ strip_carriage_return line.now }
+fn without_return(line: &mut [u8]) -> &mut [u8]
+    ensures { result.now ≡ strip_carriage_return line.old }
 {
-    line.strip_suffix(b"\r").unwrap_or(line)
+    let length = line.strip_suffix(b"\r").map_or(line.len(), |rest| rest.len());
+    &mut line[..length]
 }
 
 /// What a line says; None where it is skipped.
 #[tactic(auto, unfolding(crate::specs::Lines::said))]
-fn line_says(line: &[u8]) -> Option<Result<Command<'_>, Refusal>>
-    ensures { result ≡ said line.now }
+fn line_says(line: &mut [u8]) -> Option<Result<Command<'_>, Refusal>>
+    ensures { result ≡ said line.old }
 {
     if line.len() > LONGEST_LINE {
         Some(Err(Refusal::TooLong))

@@ -8,10 +8,11 @@ ghost use Rattle.tb_geom.specs.declared.refusal.Refusal.{Refusal};
 ghost use Rattle.tb_geom.specs.declared.refusal.Refusal.TheVariants.{BadSyntax};
 ghost use Rattle.script_text.specs.declared.command.Command.{Command};
 ghost use Rattle.script_text.specs.Grammar.{reading};
-ghost use Rattle.script_text.specs.Commands.{command_of, shape_of, desk_shape, image_shape, window_shape, find_shape, frontwin_shape};
+ghost use Rattle.script_text.specs.Commands.{command_of, shape_of, desk_shape, image_shape, window_shape, draw_shape, find_shape, frontwin_shape};
 ghost use Rattle.script_text.specs.Spelling.{IsLine};
 
 use crate::command::{Command, DeskSize};
+use crate::drawing::drawing;
 use crate::verb::{Verb, verb_of};
 use crate::words::Words;
 use def_iface::Size;
@@ -64,6 +65,14 @@ fn window<'a>(words: Words<'a>) -> Result<Command<'a>, Refusal>
     Ok(Command::Call(Call::Window(WindowCall::New(window))))
 }
 
+/// The words after `draw`: what is to be drawn.
+fn draw<'a>(words: Words<'a>) -> Result<Command<'a>, Refusal>
+    ensures { result ≡ reading draw_shape words.entry }
+{
+    let drawing = drawing(words)?;
+    Ok(Command::Call(Call::Window(WindowCall::Draw(drawing))))
+}
+
 /// The words after `find`: a point of the screen.
 fn find<'a>(words: Words<'a>) -> Result<Command<'a>, Refusal>
     ensures { result ≡ reading find_shape words.entry }
@@ -90,6 +99,7 @@ fn command<'a>(verb: Verb, words: Words<'a>) -> Result<Command<'a>, Refusal>
         Verb::Desk => desk(words),
         Verb::Image => image(words),
         Verb::Window => window(words),
+        Verb::Draw => draw(words),
         Verb::Find => find(words),
         Verb::FrontWindow => frontwin(words),
     }
@@ -97,8 +107,8 @@ fn command<'a>(verb: Verb, words: Words<'a>) -> Result<Command<'a>, Refusal>
 
 /// The verb of a line, and the words after it.
 #[tactic(auto, unfolding(crate::specs::Commands::command_of))]
-fn read<'a>(line: &'a [u8]) -> Result<Command<'a>, Refusal>
-    ensures { result ≡ command_of line.entry.now }
+fn read<'a>(line: &'a mut [u8]) -> Result<Command<'a>, Refusal>
+    ensures { result ≡ command_of line.old }
 {
     let (name, words) = Words::new(line).word()?;
     match verb_of(name.as_slice()) {
@@ -109,13 +119,13 @@ fn read<'a>(line: &'a [u8]) -> Result<Command<'a>, Refusal>
 
 /// The command that a line says: a line without its ending, neither empty nor a comment. A line that says none is
 /// BadSyntax.
-pub fn parse<'a>(line: &'a [u8]) -> Result<Command<'a>, Refusal>
+pub fn parse<'a>(line: &'a mut [u8]) -> Result<Command<'a>, Refusal>
     // The line says what is answered, or the answer is BadSyntax.
-    ensures found { IsLine line.entry.now result ⊎ (result ≡ Err BadSyntax) }
+    ensures found { IsLine line.old result ⊎ (result ≡ Err BadSyntax) }
     // What a line says is what is answered: a line says one thing at most, and a line that says something is not BadSyntax.
-    ensures only { (said : Result Command Refusal) → IsLine line.entry.now said → result ≡ said }
+    ensures only { (said : Result Command Refusal) → IsLine line.old said → result ≡ said }
     // The answer as a function of the line.
-    ensures exact { result ≡ command_of line.entry.now }
+    ensures exact { result ≡ command_of line.old }
 {
     read(line)
 }

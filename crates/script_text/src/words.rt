@@ -4,11 +4,13 @@
 //! the line ended with the word, nothing is left, which is another thing than an empty rest: after a space a word
 //! has to come. Each method takes what is left, and gives the word's value with what is left after it. A word of
 //! another form is BadSyntax.
-ghost use Rattle.std.specs.Prelude.{◌≡◌, ◌==◌, position, List, ℕ};
+ghost use Rattle.std.specs.Prelude.{◌≡◌};
 ghost use Rattle.std.specs.Char.{is_ascii_alphanumeric};
 ghost use Rattle.std.specs.List.{list_all};
-ghost use Rattle.script_text.specs.Words.{word_at, number_at, number_of, flag_at, name_at, is_name, text_at, quoted_at, after_quote, is_plain, digits_of, split_at, first_of, end_at};
+ghost use Rattle.script_text.specs.Words.{word_at, number_at, number_of, flag_at, name_at, is_name, hex_at, text_at, quoted_at, after_quote, is_plain, digits_of, end_at};
 
+use crate::hex::hex_bytes;
+use crate::piece::Piece;
 use op_ref::BytesRef;
 use std::marker::Model;
 use tb_geom::Refusal;
@@ -16,7 +18,7 @@ use tb_geom::Refusal;
 /// What is left of a line, as words. Contracts see its bytes, or None at the end of the line.
 #[derive(Drop)]
 pub struct Words<'a> {
-    rest: Option<BytesRef<'a>>,
+    rest: Option<Piece<'a>>,
 }
 
 impl<'a> Model for Words<'a> {
@@ -31,11 +33,11 @@ impl<'a> Words<'a> {
     ghost use Rattle.std.specs.Prelude.{Some, None, Option};
 
     /// All of a line.
-    pub fn new(line: &'a [u8]) -> Words<'a>
-        ensures { result ≡ Some line.entry.now }
+    pub fn new(line: &'a mut [u8]) -> Words<'a>
+        ensures { result ≡ Some line.old }
     {
         Words {
-            rest: Some(BytesRef::new(line)),
+            rest: Some(Piece::new(line)),
         }
     }
 
@@ -52,15 +54,15 @@ impl<'a> Words<'a> {
 
     /// The bytes up to the first space, whatever they are, and what follows the space.
     #[tactic(auto, unfolding(crate::specs::Words::word_at))]
-    pub fn word(self) -> Result<(BytesRef<'a>, Words<'a>), Refusal>
+    pub fn word(self) -> Result<(Piece<'a>, Words<'a>), Refusal>
         ensures { result ≡ word_at self.entry }
     {
         match self.rest {
             None => Err(Refusal::BadSyntax),
-            Some(text) => match split_at(&text, b' ') {
-                None => Ok((text, Words { rest: None })),
-                Some((word, rest)) => Ok((word, Words { rest: Some(rest) })),
-            },
+            Some(text) => {
+                let (word, rest) = text.split_at(b' ');
+                Ok((word, Words { rest }))
+            }
         }
     }
 
@@ -70,7 +72,7 @@ impl<'a> Words<'a> {
         ensures { result ≡ number_at self.entry }
     {
         let (text, rest) = self.word()?;
-        let n = read_number(&text).ok_or(Refusal::BadSyntax)?;
+        let n = read_number(text.as_slice()).ok_or(Refusal::BadSyntax)?;
         Ok((n, rest))
     }
 
@@ -93,11 +95,21 @@ impl<'a> Words<'a> {
         ensures { result ≡ name_at self.entry }
     {
         let (text, rest) = self.word()?;
-        if is_name(&text) {
-            Ok((text, rest))
+        if is_name(text.as_slice()) {
+            Ok((text.lent(), rest))
         } else {
             Err(Refusal::BadSyntax)
         }
+    }
+
+    /// Hex digits, two for each byte, at least one byte: the bytes that they stand for.
+    #[tactic(auto, unfolding(crate::specs::Words::hex_at))]
+    pub fn hex(self) -> Result<(BytesRef<'a>, Words<'a>), Refusal>
+        ensures { result ≡ hex_at self.entry }
+    {
+        let (text, rest) = self.word()?;
+        let bytes = hex_bytes(text).ok_or(Refusal::BadSyntax)?;
+        Ok((bytes, rest))
     }
 
     /// A text between two quotes: bytes of 0x20..=0x7E other than the quote, spaces too.
@@ -107,36 +119,12 @@ impl<'a> Words<'a> {
     {
         match self.rest {
             None => Err(Refusal::BadSyntax),
-            Some(text) => match first(&text) {
-                Some((b'"', rest)) => quoted(&rest),
+            Some(text) => match text.first() {
+                Some((b'"', rest)) => quoted(rest),
                 _ => Err(Refusal::BadSyntax),
             },
         }
     }
-}
-
-/// The bytes before and after the first mark, if there is one.
-fn split_at<'a>(text: &BytesRef<'a>, mark: u8) -> Option<(BytesRef<'a>, BytesRef<'a>)>
-    ensures { result ≡ split_at mark text.now }
-{
-    let bytes = text.as_slice();
-    let at = place_of(bytes, mark)?;
-    Some((BytesRef::new(&bytes[..at]), BytesRef::new(&bytes[at + 1..])))
-}
-
-/// The place of the first mark, if there is one.
-fn place_of(bytes: &[u8], mark: u8) -> Option<usize>
-    ensures { result ≡ position (λ b. b == mark) bytes.now }
-{
-    bytes.iter().position(|b| *b == mark)
-}
-
-/// The first byte and the others, if there is one.
-fn first<'a>(text: &BytesRef<'a>) -> Option<(u8, BytesRef<'a>)>
-    ensures { result ≡ first_of text.now }
-{
-    let (first, others) = text.as_slice().split_first()?;
-    Some((*first, BytesRef::new(others)))
 }
 
 /// What 1 to 9 digits stand for; None of other bytes.
@@ -158,13 +146,13 @@ fn digits(bytes: &[u8]) -> Option<i32>
 
 /// What a word stands for as a number; None of a word that is none.
 #[tactic(auto, unfolding(crate::specs::Words::number_of))]
-fn read_number(text: &BytesRef<'_>) -> Option<i32>
+fn read_number(text: &[u8]) -> Option<i32>
     ensures { result ≡ number_of text.now }
 {
-    match first(text) {
-        None => None,
-        Some((b'-', rest)) => digits(rest.as_slice()).map(|n| -n),
-        Some(_) => digits(text.as_slice()),
+    match text {
+        [] => None,
+        [b'-', rest @ ..] => digits(rest).map(|n| -n),
+        [_, ..] => digits(text),
     }
 }
 
@@ -176,10 +164,10 @@ fn is_alphanumeric(bytes: &[u8]) -> bool
 }
 
 /// Whether a word is letters and digits, a letter first.
-fn is_name(text: &BytesRef<'_>) -> bool
+fn is_name(text: &[u8]) -> bool
     ensures { result ≡ is_name text.now }
 {
-    text.as_slice().split_first().is_some_and(|(first, others)| first.is_ascii_alphabetic()
+    text.split_first().is_some_and(|(first, others)| first.is_ascii_alphabetic()
         && is_alphanumeric(others))
 }
 
@@ -192,14 +180,15 @@ pub fn is_plain(bytes: &[u8]) -> bool
 
 /// The text up to the next quote, and what is left of the line after it: a space has to follow, or the line ends.
 #[tactic(auto, unfolding(crate::specs::Words::quoted_at))]
-fn quoted<'a>(text: &BytesRef<'a>) -> Result<(BytesRef<'a>, Words<'a>), Refusal>
-    ensures { result ≡ quoted_at text.now }
+fn quoted<'a>(text: Piece<'a>) -> Result<(BytesRef<'a>, Words<'a>), Refusal>
+    ensures { result ≡ quoted_at text.entry }
 {
-    match split_at(text, b'"') {
+    let (text, after) = text.split_at(b'"');
+    match after {
         None => Err(Refusal::BadSyntax),
-        Some((text, after)) => {
+        Some(after) => {
             if is_plain(text.as_slice()) {
-                after_quote(text, &after)
+                after_quote(text.lent(), after)
             } else {
                 Err(Refusal::BadSyntax)
             }
@@ -208,10 +197,10 @@ fn quoted<'a>(text: &BytesRef<'a>) -> Result<(BytesRef<'a>, Words<'a>), Refusal>
 }
 
 /// A text with what is left of the line after its quote: a space has to follow, or the line ends.
-fn after_quote<'a>(text: BytesRef<'a>, after: &BytesRef<'a>) -> Result<(BytesRef<'a>, Words<'a>), Refusal>
-    ensures { result ≡ after_quote text.entry after.now }
+fn after_quote<'a>(text: BytesRef<'a>, after: Piece<'a>) -> Result<(BytesRef<'a>, Words<'a>), Refusal>
+    ensures { result ≡ after_quote text.entry after.entry }
 {
-    match first(after) {
+    match after.first() {
         None => Ok((text, Words { rest: None })),
         Some((b' ', rest)) => Ok((text, Words { rest: Some(rest) })),
         Some(_) => Err(Refusal::BadSyntax),

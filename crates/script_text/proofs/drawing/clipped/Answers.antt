@@ -1,0 +1,17 @@
+use Rattle.std.proofs.Common.{sym, ◌∙◌, rules}
+use Rattle.script_text.specs.Names.{named}
+use Rattle.script_text.specs.Drawings.{operation_shape, operations}
+use Rattle.script_text.proofs.Mapped.{mapped_ok, mapped_err}
+use Rattle.script_text.proofs.drawing.clipped.Goals as goal
+
+pub returns-in_err-shape : goal.returns-in_err-shape
+returns-in_err-shape c =
+    let shape = operation_shape (named c.args.name.now operations) in
+    let read = sym c.operation.ensures ∙ c.in_err-shape.was in
+    search rules ∙ sym (mapped_err _ shape c.args.words _ read)
+
+pub returns : goal.returns
+returns c =
+    let shape = operation_shape (named c.args.name.now operations) in
+    let read = sym c.operation.ensures ∙ c.in_ok-shape.was in
+    search rules ∙ sym (mapped_ok _ shape c.args.words _ read)
