@@ -11,7 +11,7 @@ use anyhow::{Result, bail};
 use banner::Banner;
 use def_iface::{Size, Stock};
 use desk_toolbox::{Call, NewWindow, Toolbox, WindowCall};
-use draw_port::BytesRef;
+use op_ref::BytesRef;
 use screen_pbm::write_p1;
 use std::io;
 use strike_font::Font;
