@@ -6,8 +6,8 @@ ghost use Rattle.desk_toolbox.specs.Whole.{IsWhole};
 use crate::titled_window::Titled;
 use bit_map::BitMap;
 use def_iface::{Defined, Size, Stock, Stocked, Taken, WindowDef};
-use desk_toolbox::{Call, Found, NewWindow, Reply, Toolbox, WindowCall, WindowPart};
-use op_ref::BytesRef;
+use desk_toolbox::{Call, Drawing, Found, NewWindow, Reply, Toolbox, WindowCall, WindowPart};
+use op_ref::{BytesRef, OpRef, ShapeRef};
 use ground_tests::pixels::{Pixels, are_alike, mark};
 use std::alloc::{AllocError, Global};
 use std::test::Fail;
@@ -305,6 +305,54 @@ fn there_are_64_windows_at_most(rt: HostRuntime) -> Result<(), Fail> {
     assert!(rt; shows(desk.screen(), 20, &[5]));
     desk.close(&mut stock);
     assert!(rt; stock.take(b"titled").is_ok());
+    Ok(())
+}
+
+/// The call that inverts the content of window 1.
+fn inverting() -> Call<'static> {
+    let shape = ShapeRef::Invert(rect!(0, 0, 6, 3));
+    let operation = OpRef { clip: None, shape };
+    Call::Window(WindowCall::Draw(Drawing {
+        window: 1,
+        operation,
+    }))
+}
+
+/// The calls for a window and 1025 operations in it.
+fn inversions(alloc: Global) -> Result<Vec<Call<'static>>, AllocError> {
+    let mut calls = Vec::new(alloc);
+    calls.push(opening(WINDOW))?;
+    for _ in 0..1025 {
+        calls.push(inverting())?;
+    }
+    Ok(calls)
+}
+
+/// The answers to them.
+fn inverted(alloc: Global) -> Result<Vec<Result<Reply, Refusal>>, AllocError> {
+    let mut answers = Vec::new(alloc);
+    answers.push(Ok(Reply::Window(1)))?;
+    for _ in 0..1024 {
+        answers.push(Ok(Reply::Done))?;
+    }
+    answers.push(Err(Refusal::TooMany))?;
+    Ok(answers)
+}
+
+#[test]
+fn a_picture_has_1024_operations_at_most(rt: HostRuntime) -> Result<(), Fail> {
+    let alloc = rt.alloc();
+    let mut stock = Stock::new(alloc);
+    let Ok(()) = stock.add(b"titled", Box::new(alloc, Titled::new())?) else {
+        return Err(Fail::from(Refusal::NoMemory));
+    };
+    let Ok(mut desk) = Toolbox::new(alloc, 24, 30, 20, Font::built_in(alloc)?) else {
+        return Err(Fail::from(Refusal::NoMemory));
+    };
+    let answers = desk.run(inversions(alloc)?.as_slice(), &mut stock)?;
+    assert!(rt; answers.as_slice() == inverted(alloc)?.as_slice());
+    assert!(rt; shows(desk.screen(), 20, &[5]));
+    desk.close(&mut stock);
     Ok(())
 }
 
