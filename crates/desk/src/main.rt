@@ -1,8 +1,8 @@
 //! The program `desk`: a script of Toolbox calls goes in, and what each of its lines answers comes out.
 //!
 //! Here is only what a program does once: it reads its command line, fills a stock with window definitions,
-//! reads the font, opens the script, and ends with a status. How a script is answered is `script_runner::run`, and its contract
-//! says of the bytes that went out that they are the answers to the lines that came in.
+//! reads the font, opens the script, and ends with a status. How a script is answered is `script_runner::run`, and
+//! its contract //! says of the bytes that went out that they are the answers to the lines that came in.
 #![tactic(auto)]
 
 ghost use Rattle.std.specs.Prelude.{◌≡◌, All, IfOk, OnOk, OnErr, is_some};

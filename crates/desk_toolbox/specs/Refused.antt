@@ -86,8 +86,8 @@ picture_of (Some w) = w.picture
 abbrev pub most_operations : ℕ
 most_operations = 1024
 
--- why an operation in a window may be refused, where judging it found this: the bytes are no image or no region, there is no such
--- window, a number is out of range, the text is too long, or the picture is full
+-- why an operation in a window may be refused, where judging it found this: the bytes are no image or no region, there
+-- is no such window, a number is out of range, the text is too long, or the picture is full
 abbrev pub draw_refusals : Option Refusal → Option WindowRecord → List (Bool × Refusal)
 draw_refusals judged window =
     (is_found BadSyntax judged, BadSyntax) ∷ (is_found BadRegion judged, BadRegion) ∷ (is_none window, NoSuchWindow)

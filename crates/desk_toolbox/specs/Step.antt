@@ -72,7 +72,8 @@ pub record IsNewWindow (w : NewWindow) (serial : ℕ) (before after : FullState)
 abbrev pub with_operation : ℕ → Op → WindowRecord → WindowRecord
 with_operation s op w = if w.serial == s then record w { picture = w.picture ++ op ∷ [] } else w
 
--- the change of a call that draws an operation, in this font, on every pixel that the picture of the window of this serial owns
+-- the change of a call that draws an operation, in this font, on every pixel that the picture of the window of this
+-- serial owns
 abbrev pub draw_change : List ℕ → ℕ → WindowRecord → Op → Change
 draw_change font s w op = record no_change {
   drawn = λ o p value. if same_owner o (Content s Picture) then op_value font op (minus (minus p w.place) w.origin) value else value;

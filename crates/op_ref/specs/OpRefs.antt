@@ -28,8 +28,8 @@ has_rows s = true
 abbrev pub is_line : LineRef → Bool
 is_line l = in_plane l.start && (int_le (pos 0) l.count && int_le l.count (pos 1024))
 
--- each number of a shape lies in its range: a coordinate in -16384..16383, the count of a line in 0..1024, and the sides of an
--- image are 256 at most
+-- each number of a shape lies in its range: a coordinate in -16384..16383, the count of a line in 0..1024, and the sides
+-- of an image are 256 at most
 abbrev pub is_near : ShapeRef → Bool
 is_near (EraseRef r) = is_in_range r
 is_near (InvertRef r) = is_in_range r

@@ -49,7 +49,8 @@ fn option<'a>(alloc: Global, word: &'a str, value: &'a str, help: &'a str) -> Ar
         .help(help)
 }
 
-/// What the program takes: one SCRIPT, or none, and a font's FILE or none. Help calls it desk, whatever its file is called.
+/// What the program takes: one SCRIPT, or none, and a font's FILE or none. Help calls it desk, whatever its file is
+/// called.
 fn desk_command<'a>(alloc: Global) -> Result<Command<'a>, AllocError>
     ensures { IfOk result (λ c. app_of c ≡ desk_app) }
 {

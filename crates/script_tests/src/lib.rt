@@ -3,9 +3,8 @@
 //! no script reaches. What a script can show is a row of `tests/rows`.
 //!
 //! `runs` tests `script_runner`, `lines` and `drawings` test `script_text`, `images` tests `screen_pbm`, and
-//! `reading` and `sending` test `watched_io`. `Script` and `Paper` are a reader and a writer that can be slow or
-//! break; they are proved, and no part
-//! of the program.
+//! `reading` and `sending` test `watched_io`. `Script` and `Paper` are a reader and a writer that can be slow or break;
+//! they are proved, and no part of the program.
 #![tactic(auto)]
 
 #[cfg(test)]

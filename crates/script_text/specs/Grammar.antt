@@ -4,7 +4,8 @@ use Rattle.tb_geom.specs.declared.refusal.Refusal.{Refusal}
 use Rattle.tb_geom.specs.declared.refusal.Refusal.TheVariants.{BadSyntax}
 use Rattle.script_text.specs.Words.{◌>>=◌, number_at, flag_at, name_at, text_at, hex_at, end_at}
 
--- what has to come next in a line, and how the line goes on after it, up to what all of it says; `never` is the shape of no line
+-- what has to come next in a line, and how the line goes on after it, up to what all of it says; `never` is the shape of
+-- no line
 pub data Shape (A : Type 0) : Type 0 where
   done : Result A Refusal → Shape A
   never : Shape A
