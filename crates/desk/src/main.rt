@@ -2,7 +2,7 @@
 //!
 //! Here is only what a program does once: it reads its command line, fills a stock with window definitions,
 //! reads the font, opens the script, and ends with a status. How a script is answered is `script_runner::run`, and
-//! its contract //! says of the bytes that went out that they are the answers to the lines that came in.
+//! its contract says of the bytes that went out that they are the answers to the lines that came in.
 #![tactic(auto)]
 
 ghost use Rattle.std.specs.Prelude.{◌≡◌, All, IfOk, OnOk, OnErr, is_some};
