@@ -3,7 +3,7 @@ use crate::lines::said;
 use bit_map::{Mode, Pattern};
 use desk_toolbox::{Call, Drawing, WindowCall};
 use draw_port::{Shade, TextMode};
-use op_ref::{BytesRef, LineRef, ShapeRef};
+use op_ref::{LineRef, OpRef, ShapeRef};
 use script_text::Command;
 use std::process::Abort;
 use tb_geom::{Rect, Refusal};
@@ -77,36 +77,61 @@ fn rectangles_and_lines_are_read_with_their_modes_and_patterns(rt: HostRuntime) 
     }
 }
 
+/// What a line that draws draws.
+fn operation<'a>(room: &'a mut [u8; 100], line: &[u8]) -> Option<OpRef<'a>> {
+    Some(drawing(room, line)?.operation)
+}
+
 #[test]
-fn texts_images_and_regions_are_read_with_their_bytes(rt: HostRuntime) {
+fn a_text_is_read_with_its_pen_and_mode(rt: HostRuntime) {
     let mut room = [0; 100];
-    let text = drawing(&mut room, b"draw 7 text -1 2 srcBic \"clip 1 ~\"");
-    if let Some(Drawing { window, operation }) = text && let ShapeRef::Text(run) = operation.shape {
-        assert!(rt; window == 7 && [run.pen.h, run.pen.v] == [-1, 2]);
-        assert!(rt; matches!(run.mode, TextMode::Bic));
-        assert!(rt; run.text.as_slice() == b"clip 1 ~".as_slice());
-    } else {
+    let line = b"draw 1 text -1 2 srcBic \"clip 1 ~\"";
+    let Some(OpRef { shape, .. }) = operation(&mut room, line) else {
+        assert!(rt; false, "no drawing");
+        return;
+    };
+    let ShapeRef::Text(run) = shape else {
         assert!(rt; false, "no text");
-    }
+        return;
+    };
+    assert!(rt; [run.pen.h, run.pen.v] == [-1, 2]);
+    assert!(rt; matches!(run.mode, TextMode::Bic));
+    assert!(rt; run.text.as_slice() == b"clip 1 ~".as_slice());
+}
+
+#[test]
+fn an_image_is_read_with_its_place_size_and_bytes(rt: HostRuntime) {
     let mut room = [0; 100];
-    let image = drawing(&mut room, b"draw 1 bits 3 4 9 2 notSrcBic 0f0A9fFe");
-    if let Some(Drawing { operation, .. }) = image && let ShapeRef::Bits(bits) = operation.shape {
-        assert!(rt; [bits.place.h, bits.place.v, bits.width, bits.height] == [3, 4, 9, 2]);
-        assert!(rt; bits.mode == Mode::NotBic);
-        assert!(rt; bits.rows.as_slice() == [0x0F, 0x0A, 0x9F, 0xFE].as_slice());
-    } else {
+    let line = b"draw 1 bits 3 4 9 2 notSrcBic 0f0A9fFe";
+    let Some(OpRef { shape, .. }) = operation(&mut room, line) else {
+        assert!(rt; false, "no drawing");
+        return;
+    };
+    let ShapeRef::Bits(bits) = shape else {
         assert!(rt; false, "no image");
-    }
+        return;
+    };
+    assert!(rt; [bits.place.h, bits.place.v, bits.width, bits.height] == [3, 4, 9, 2]);
+    assert!(rt; bits.mode == Mode::NotBic);
+    assert!(rt; bits.rows.as_slice() == [0x0F, 0x0A, 0x9F, 0xFE].as_slice());
+}
+
+#[test]
+fn a_region_and_a_clip_are_read_with_their_bytes(rt: HostRuntime) {
     let mut room = [0; 100];
-    let region = drawing(&mut room, b"draw 1 clip 00 rgn 1234567890abcdefABCDEF patOr black");
-    if let Some(Drawing { operation, .. }) = region && let ShapeRef::FillRgn(bytes, shade) = operation.shape {
-        let clip = operation.clip.unwrap_or(BytesRef::new(b""));
-        assert!(rt; clip.as_slice() == [0].as_slice());
-        assert!(rt; bytes.as_slice() == [0x12, 0x34, 0x56, 0x78, 0x90, 0xAB, 0xCD, 0xEF, 0xAB, 0xCD, 0xEF].as_slice());
-        assert!(rt; is_shade(shade, Pattern::BLACK, Mode::Or));
-    } else {
-        assert!(rt; false, "no region");
-    }
+    let line = b"draw 1 clip 01fE rgn 234567890abcdefABCDEF0 patOr black";
+    let Some(OpRef { clip, shape }) = operation(&mut room, line) else {
+        assert!(rt; false, "no drawing");
+        return;
+    };
+    let (Some(clip), ShapeRef::FillRgn(bytes, shade)) = (clip, shape) else {
+        assert!(rt; false, "no region in a clip");
+        return;
+    };
+    assert!(rt; clip.as_slice() == [0x01, 0xFE].as_slice());
+    let given = [0x23, 0x45, 0x67, 0x89, 0x0A, 0xBC, 0xDE, 0xFA, 0xBC, 0xDE, 0xF0];
+    assert!(rt; bytes.as_slice() == given.as_slice());
+    assert!(rt; is_shade(shade, Pattern::BLACK, Mode::Or));
 }
 
 #[test]
@@ -119,7 +144,11 @@ fn a_number_that_is_no_windows_is_given_as_0(rt: HostRuntime) {
     ];
     for (line, window) in &lines {
         let mut room = [0; 100];
-        assert!(rt; drawing(&mut room, line).is_some_and(|drawing| drawing.window == *window));
+        let Some(drawing) = drawing(&mut room, line) else {
+            assert!(rt; false, "no drawing");
+            return;
+        };
+        assert!(rt; drawing.window == *window);
     }
 }
 

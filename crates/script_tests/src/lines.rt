@@ -20,7 +20,8 @@ fn found(part: WindowPart, window: Option<u64>) -> Result<Reply, Refusal> {
 
 #[test]
 fn a_reply_is_one_line_and_one_write(rt: HostRuntime) {
-    let lines: [(Result<Reply, Refusal>, &[u8]); 7] = [
+    let lines: [(Result<Reply, Refusal>, &[u8]); 8] = [
+        (Ok(Reply::Done), b"ok\n"),
         (Ok(Reply::Window(7)), b"ok 7\n"),
         (Ok(Reply::Window(u64::MAX)), b"ok 18446744073709551615\n"),
         (found(WindowPart::InZoomOut, Some(12)), b"ok 8 12\n"),
@@ -39,7 +40,9 @@ fn a_reply_is_one_line_and_one_write(rt: HostRuntime) {
 
 /// What a line of at most 100 bytes says, which is read from the room.
 pub fn said<'a>(room: &'a mut [u8; 100], line: &[u8]) -> Result<Command<'a>, Refusal> {
-    let bytes = &mut room[..line.len()];
+    let Some(bytes) = room.get_mut(..line.len()) else {
+        return Err(Refusal::TooLong);
+    };
     bytes.copy_from_slice(line);
     parse(bytes)
 }
