@@ -1,5 +1,5 @@
 -- A run, a byte after another.
-use Rattle.std.proofs.Common.{length, get_or, drop, ◌+◌, ◌<◌, ◌≡◌, ◌≢◌, ℕ, inl, inr, true, false, List, [], ◌∷◌, ◌++◌, Option, Some, None, Result, Ok, Err, refl, sym, ap, ◌∙◌, subst, append_assoc, append-nil, ◌⊎◌}
+use Rattle.std.proofs.Common.{length, get_or, drop, ◌+◌, ◌<◌, ◌≡◌, ◌≢◌, ℕ, inl, inr, false, List, [], ◌∷◌, ◌++◌, Option, Some, None, Result, Ok, Err, refl, sym, ap, ◌∙◌, subst, append_assoc, append-nil}
 use Rattle.std.specs.Io.KnownBytes.{Consumes, IsAtEnd}
 use Rattle.std.specs.Option.{IfSome}
 use Rattle.std.proofs.KnownBytes.{Consumes-nil, Consumes-trans}

@@ -25,9 +25,9 @@ use watched_io::{MOST_READS, Sink, Source};
 /// there was none for the desk, which the first command makes. However the run ends, each definition
 /// of the stock is back in its slot: that of a window Closed, and every other as it was.
 ///
-/// The desk's texts are drawn in the font of these bytes, or in the built-in one where there are
-/// none. It is made before the first read. BadFont exactly where the bytes are no font; then, and
-/// where there is no memory for the font, nothing is read or written.
+/// The desk has the font that has the bytes `font`, or the built-in one where there are none. It is
+/// made before the first read. BadFont exactly where the bytes are no FONT record; then, and where
+/// there is no memory for the font, nothing is read or written.
 pub fn run<R: Source, W: Sink>(
     alloc: Global,
     source: &mut R,
@@ -53,8 +53,8 @@ pub fn run<R: Source, W: Sink>(
     outcome
 }
 
-/// The font of these bytes, or the built-in one where there are none. BadFont exactly where they are no
-/// font, and otherwise only NoMemory.
+/// The font that has these bytes, or the built-in one where there are none. BadFont exactly where they
+/// are no FONT record, and otherwise only NoMemory.
 fn make_font(alloc: Global, asked: Option<&[u8]>) -> Result<Font, Refusal>
     ensures made { IfOk result (IsFontOf (option_map (λ bytes. bytes.now) asked.entry)) }
     ensures refused { IfErr result (λ e. e ≡ why_fontless (option_map (λ bytes. bytes.now) asked.entry)) }
