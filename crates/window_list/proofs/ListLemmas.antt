@@ -7,7 +7,8 @@ use Rattle.window_list.specs.Ranks.{Ranked}
 use Rattle.window_list.specs.Lists.{edit, edit_at}
 use Rattle.window_list.specs.Lends.{with_value}
 
-set_is_edit : {T : Type 0} (f : T → T) (xs : List T) (i : ℕ) (x : T) → x ≡ get_or xs i x → set xs i (f x) ≡ edit f i xs
+-- f of the element that stands at a place was put there
+pub set_is_edit : {T : Type 0} (f : T → T) (xs : List T) (i : ℕ) (x : T) → x ≡ get_or xs i x → set xs i (f x) ≡ edit f i xs
 set_is_edit f [] i x e = refl
 set_is_edit f (y ∷ ys) zero x e = ap (λ z. f z ∷ ys) e
 set_is_edit f (y ∷ ys) (suc i) x e = ap (λ zs. y ∷ zs) (set_is_edit f ys i x e)
