@@ -16,7 +16,7 @@ use Rattle.desk_toolbox.specs.declared.call.NewWindow.{NewWindow}
 use Rattle.desk_toolbox.specs.declared.toolbox.Toolbox.{Toolbox}
 use Rattle.desk_toolbox.specs.declared.vis_update.Area.{Area}
 use Rattle.desk_toolbox.specs.declared.vis_update.Seat.{Seat}
-use Rattle.desk_toolbox.specs.declared.window_list.Window.{Window}
+use Rattle.window_list.specs.declared.window.Window.{Window}
 use Rattle.desk_toolbox.specs.FullDesk.{WindowRecord, FullDesk, AreNumbered, layered_desk, layered_state}
 use Rattle.desk_toolbox.specs.Kept.{IsKept}
 use Rattle.desk_toolbox.specs.Records.{record_of, desk_of, state_of, stale_in}
@@ -79,8 +79,8 @@ module _ {V : Type 0} {H : V → Type 0} where
       by_lists (v ∷ vs) (a ∷ olds) [] its = absurd its
 
 -- a Toolbox has as many areas as windows
-pub as_many : {V : Type 0} {H : V → Type 0} (loan : Taken V H → Loan) (t : Toolbox V H) → IsKept loan t → length t.areas.items ≡ length t.windows.items
-as_many loan t kept = by_lists (desk_of loan t []).windows t.areas.items kept.areas ∙ length-map t.windows.items (record_of loan)
+pub as_many : {V : Type 0} {H : V → Type 0} (loan : Taken V H → Loan) (t : Toolbox V H) → IsKept loan t → length t.areas.items ≡ length t.windows.records.items
+as_many loan t kept = by_lists (desk_of loan t []).windows t.areas.items kept.areas ∙ length-map t.windows.records.items (record_of loan)
   where
     by_lists : (ws : List WindowRecord) (areas : List Area) → AreAreas (layered_desk (desk_of loan t [])) (stale_in t.areas.items) ws areas → length areas ≡ length ws
     by_lists [] [] its = refl
@@ -149,7 +149,7 @@ module _ {V : Type 0} {H : V → Type 0} (loan : Taken V H → Loan) where
     pub definition : (loan s.taken.now).definition ≡ d
     pub nowhere : IsNowhere s.area.now
 
-  module _ (w : NewWindow) (n slot : ℕ) (d begun : Definition) (t : Toolbox V H) (kept : IsKept loan t) (next : t.next ≡ Some n) (regions : SameRegions d begun) (front : Seat V H) (new : IsNewSeat w n d front) where
+  module _ (w : NewWindow) (n slot : ℕ) (d begun : Definition) (t : Toolbox V H) (kept : IsKept loan t) (next : t.windows.next ≡ Some n) (regions : SameRegions d begun) (front : Seat V H) (new : IsNewSeat w n d front) where
     abbrev before : State
     before = layered_state (state_of loan t [])
 
@@ -192,14 +192,14 @@ module _ {V : Type 0} {H : V → Type 0} (loan : Taken V H → Loan) where
         other : (p : Point) → is_other n (owner before.desk p) ≡ true
         other p = in_bar (layers.in_bar before.desk p) (owner_among before.desk.windows p) (owner_is_other before.desk.windows p n free)
 
-    pub arranged : (seats : List (Seat V H)) → AreSeatsBehind front t.windows.items t.areas.items seats → IsArranged loan t.font before (layered_desk after) after.windows t.gray seats
+    pub arranged : (seats : List (Seat V H)) → AreSeatsBehind front t.windows.records.items t.areas.items seats → IsArranged loan t.font before (layered_desk after) after.windows t.gray seats
     arranged (s ∷ seats) its = record {
       desk = refl;
       distinct = distinct;
       gray_is = kept.gray;
-      stands = (λ i. (ap (seat_stand loan) its.0 ∙ front_stand) i ∷ (seats_stand t.windows.items t.areas.items seats its.1 ∙ sym (stands-behind t.active w.shown (desk_of loan t []).windows)) i);
+      stands = (λ i. (ap (seat_stand loan) its.0 ∙ front_stand) i ∷ (seats_stand t.windows.records.items t.areas.items seats its.1 ∙ sym (stands-behind t.windows.active w.shown (desk_of loan t []).windows)) i);
       areas = All-cons (λ s. IsArea before.desk before.stale s.serial s.area.now) s seats
           (subst (λ (x : Seat V H). IsArea before.desk before.stale x.serial x.area.now) (sym its.0) front_had)
-          (seats_had before t.windows.items t.areas.items seats its.1 kept.areas);
+          (seats_had before t.windows.records.items t.areas.items seats its.1 kept.areas);
     }
     arranged [] its = absurd its

@@ -12,7 +12,8 @@ use Rattle.def_iface.specs.declared.taken.Taken.{Taken}
 use Rattle.def_iface.specs.declared.window_def.Stage.TheVariants.{Live, Closed}
 use Rattle.def_iface.specs.Meaning.{Definition, Loan, SameRegions}
 use Rattle.def_iface.specs.Stocked.{SlotView, IsFull, is_left, holding}
-use Rattle.desk_toolbox.specs.declared.window_list.Window.{Window}
+use Rattle.window_list.specs.declared.window.Window.{Window}
+use Rattle.window_list.specs.Lists.{IsLastBox}
 use Rattle.desk_toolbox.specs.FullDesk.{WindowRecord}
 use Rattle.desk_toolbox.specs.Records.{record_of}
 use Rattle.desk_toolbox.specs.Whole.{IsSettled, IsStocked, IsSlot}
@@ -163,9 +164,12 @@ ends loan all us none old now under =
     let last : IsUnderWay all [] old now = subst (λ us. IsUnderWay all (map (record_of loan) us) old now) none under in
     last.rest now (closed_none now last.stocked)
 
-module _ {V : Type 0} {H : V → Type 0} (loan : Taken V H → Loan) (all : List WindowRecord) (us vs : List (Window V H)) (v : Window V H) (last : us ≡ vs ++ v ∷ []) (old now : List SlotView) (under : IsUnderWay all (map (record_of loan) us) old now) where
+module _ {V : Type 0} {H : V → Type 0} (loan : Taken V H → Loan) (all : List WindowRecord) (us vs : List (Window V H)) (taken : Taken V H) (box : IsLastBox us taken vs) (old now : List SlotView) (under : IsUnderWay all (map (record_of loan) us) old now) where
+  abbrev v : Window V H
+  v = box.window
+
   records_are : map (record_of loan) us ≡ map (record_of loan) vs ++ record_of loan v ∷ []
-  records_are = ap (map (record_of loan)) last ∙ map-append (record_of loan) vs (v ∷ [])
+  records_are = ap (map (record_of loan)) box.last ∙ map-append (record_of loan) vs (v ∷ [])
 
   before_last : IsUnderWay all (map (record_of loan) vs ++ record_of loan v ∷ []) old now
   before_last = subst (λ ws. IsUnderWay all ws old now) records_are under
@@ -174,16 +178,16 @@ module _ {V : Type 0} {H : V → Type 0} (loan : Taken V H → Loan) (all : List
   settled_parts = All-pop IsSettled _ (map (record_of loan) vs) (Some (record_of loan v)) refl before_last.settled
 
   -- the last window's definition is live
-  pub last_is_live : (loan v.taken).definition.stage ≡ Live
-  last_is_live = settled_parts.1.live
+  pub last_is_live : (loan taken).definition.stage ≡ Live
+  last_is_live = ap (λ t. (loan t).definition.stage) box.its ∙ settled_parts.1.live
 
   -- its slot is there, and empty
-  pub last_is_left : is_left (loan v.taken).slot now ≡ true
-  last_is_left = (left_parts (map (record_of loan) vs) (record_of loan v) now before_last.stocked).1
+  pub last_is_left : is_left (loan taken).slot now ≡ true
+  last_is_left = ap (λ t. is_left (loan t).slot now) box.its ∙ (left_parts (map (record_of loan) vs) (record_of loan v) now before_last.stocked).1
 
   -- once it is put away, the windows before it are left
-  pub goes_on : (new : List SlotView) → IsShut (loan v.taken) now new → IsUnderWay all (map (record_of loan) vs) old new
-  goes_on new is_shut = record {
+  pub goes_on : (new : List SlotView) → IsShut (loan taken) now new → IsUnderWay all (map (record_of loan) vs) old new
+  goes_on new shut_it = let is_shut = subst (λ t. IsShut (loan t) now new) box.its shut_it in record {
     settled = settled_parts.0;
     stocked = stocked_front (map (record_of loan) vs) (record_of loan v) now new before_last.stocked is_shut;
     rest = λ final c. before_last.rest final (closed_with (map (record_of loan) vs) (record_of loan v) now new before_last.stocked is_shut final c);

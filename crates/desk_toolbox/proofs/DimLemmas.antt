@@ -4,11 +4,11 @@ use Rattle.std.specs.Prelude.{All}
 use Rattle.def_iface.specs.declared.taken.Taken.{Taken}
 use Rattle.def_iface.specs.Meaning.{Loan}
 use Rattle.def_iface.specs.Stocked.{SlotView}
-use Rattle.desk_toolbox.specs.declared.window_list.Window.{Window}
+use Rattle.window_list.specs.declared.window.Window.{Window}
 use Rattle.desk_toolbox.specs.FullDesk.{WindowRecord}
 use Rattle.desk_toolbox.specs.Records.{record_of}
 use Rattle.desk_toolbox.specs.Step.{unhighlighted}
-use Rattle.desk_toolbox.specs.Planned.{dimmed}
+use Rattle.window_list.specs.Lists.{dimmed}
 use Rattle.desk_toolbox.specs.Whole.{IsSettled, IsStocked}
 use Rattle.desk_toolbox.proofs.Editing.{settled_map, stocked_map}
 

@@ -5,8 +5,8 @@ use Rattle.std.specs.Borrow.{Bor}
 use Rattle.std.specs.Result.{is_err, OnOk}
 use Rattle.std.proofs.lemmas.Bool.{and_parts}
 use Rattle.std.proofs.lemmas.Int.{ints}
-use Rattle.std.proofs.lemmas.List.{get_or-set_same}
-use Rattle.std.proofs.lemmas.Option.{slice_get-get_or, slice_get_within}
+use Rattle.std.proofs.lemmas.List.{get_or-set_same, length-set}
+use Rattle.std.proofs.lemmas.Option.{slice_get-get_or, slice_get_within, get_or_from_slice_get}
 use Rattle.std.proofs.Math.Seq.{get_or-append_seam}
 use Rattle.tb_geom.specs.declared.point.Point.{Point}
 use Rattle.tb_geom.specs.declared.rect.Rect.{Rect}
@@ -26,7 +26,9 @@ use Rattle.def_iface.specs.Meaning.{Loan}
 use Rattle.desk_toolbox.specs.declared.call.Drawing.{Drawing}
 use Rattle.desk_toolbox.specs.declared.toolbox.Toolbox.{Toolbox}
 use Rattle.desk_toolbox.specs.declared.vis_update.Area.{Area}
-use Rattle.desk_toolbox.specs.declared.window_list.Window.{Window}
+use Rattle.window_list.specs.declared.window.Window.{Window}
+use Rattle.window_list.specs.Lists.{edit, edit_at, with_operation}
+use Rattle.window_list.proofs.ListLemmas.{set_is_edit}
 use Rattle.desk_toolbox.specs.Kept.{IsKept}
 use Rattle.desk_toolbox.specs.Planned.{IsDrawnAt}
 use Rattle.desk_toolbox.specs.Records.{record_of}
@@ -94,54 +96,59 @@ when_ok (Err x) e h = absurd (cc)
 
 -- ---- the window that is drawn in, and its area
 
-module _ {V : Type 0} {H : V → Type 0} (loan : Taken V H → Loan) (t : Toolbox V H) (kept : IsKept loan t) (at : ℕ) (w : Window V H) (there : slice_get t.windows.items at ≡ Some w) where
-  pub window_low : at < length t.windows.items
-  window_low = slice_get_within t.windows.items at w there
+module _ {V : Type 0} {H : V → Type 0} (loan : Taken V H → Loan) (t : Toolbox V H) (kept : IsKept loan t) (at : ℕ) (w : Window V H) (there : slice_get t.windows.records.items at ≡ Some w) where
+  pub window_low : at < length t.windows.records.items
+  window_low = slice_get_within t.windows.records.items at w there
 
   pub area_low : at < length t.areas.items
   area_low =
-      let long : length t.areas.items ≡ length t.windows.items = as_many loan t kept in
+      let long : length t.areas.items ≡ length t.windows.records.items = as_many loan t kept in
       let low = window_low in
       omega arith
 
-  pub window_settled : (x : Window V H) → x ≡ get_or t.windows.items at x → IsSettled (record_of loan x)
-  window_settled x read = settled_at loan t kept (record { h = pos 0; v = pos 0 }) at x window_low read
+  pub window_settled : IsSettled (record_of loan w)
+  window_settled = settled_at loan t kept (record { h = pos 0; v = pos 0 }) at w window_low (sym (get_or_from_slice_get t.windows.records.items at w w there))
 
-  pub window_read : (x : Window V H) → x ≡ get_or t.windows.items at x → slice_get t.windows.items at ≡ Some x
-  window_read x read = slice_get-get_or t.windows.items at x window_low ∙ ap Some (sym read)
+  edited : (f : Window V H → Window V H) → edit f at t.windows.records.items ≡ set t.windows.records.items at (f w)
+  edited f = sym (set_is_edit f t.windows.records.items at w (sym (get_or_from_slice_get t.windows.records.items at w w there)))
 
-  -- a window that was put there is read there
-  pub put_there : (x y : Window V H) → x ≡ get_or (set t.windows.items at y) at x → x ≡ y
-  put_there x y read = read ∙ get_or-set_same t.windows.items at y x window_low
+  -- the list has its place still
+  pub still_low : (f : Window V H → Window V H) → at < length (edit f at t.windows.records.items)
+  still_low f =
+      let long = ap length (edited f) ∙ length-set t.windows.records.items at (f w) in
+      let low = window_low in
+      omega arith
+
+  -- a window that was changed there is read there changed
+  pub changed_there : (f : Window V H → Window V H) (x : Window V H) → x ≡ get_or (edit f at t.windows.records.items) at x → x ≡ f w
+  changed_there f x read = read ∙ ap (λ ws. get_or ws at x) (edited f) ∙ get_or-set_same t.windows.records.items at (f w) x window_low
 
   -- its picture has one operation more, and that was drawn
-  pub is_drawn_at : (d : Drawing) (op : Op) (x y : Window V H) (ops : List Op) (a : Area) (screen : Bits)
-      → x ≡ get_or t.windows.items at x
-      → ops ≡ x.picture ++ op ∷ []
-      → y ≡ get_or (set t.windows.items at (record x { picture = ops })) at y
+  pub is_drawn_at : (d : Drawing) (op : Op) (y : Window V H) (a : Area) (screen : Bits)
+      → y ≡ get_or (edit (with_operation op) at t.windows.records.items) at y
       → a ≡ get_or t.areas.items at a
       → IsMeant d.operation op
       → ((before : List Op) (last : Op) → y.picture ≡ before ++ last ∷ [] → Draws (holds a.visible) (λ p value. op_value t.font last (minus (minus p y.place) y.origin) value) t.screen screen)
-      → (new : Toolbox V H) → new ≡ record t { windows = new.windows; screen = screen } → new.windows.items ≡ set t.windows.items at (record x { picture = ops })
+      → (new : Toolbox V H) → new ≡ record t { windows = record t.windows { records = edit_at (with_operation op) at t.windows.records }; screen = screen }
       → IsDrawnAt at d t new
-  is_drawn_at d op x y ops a screen x_is more y_is a_is meant drawn new same windows = record {
-    window = x;
+  is_drawn_at d op y a screen y_is a_is meant drawn new same = record {
+    window = w;
     operation = op;
-    there = window_read x x_is;
+    there = there;
     meant = meant;
-    windows = windows ∙ ap (λ l. set t.windows.items at (record x { picture = l })) more;
-    pixels = rw (slice_get-get_or t.areas.items at a area_low ∙ ap Some (sym a_is)) (subst (λ (u : Toolbox V H). Draws (holds a.visible) (λ p value. op_value t.font op (minus (minus p x.place) x.origin) value) t.screen u.screen) (sym same) shown);
+    windows = ap (λ (u : Toolbox V H). u.windows.records.items) same ∙ edited (with_operation op);
+    pixels = rw (slice_get-get_or t.areas.items at a area_low ∙ ap Some (sym a_is)) (subst (λ (u : Toolbox V H). Draws (holds a.visible) (λ p value. op_value t.font op (minus (minus p w.place) w.origin) value) t.screen u.screen) (sym same) shown);
     areas = ap (λ (u : Toolbox V H). u.areas.items) same;
     bar = ap (λ (u : Toolbox V H). u.bar) same;
     font = ap (λ (u : Toolbox V H). u.font) same;
     gray = ap (λ (u : Toolbox V H). u.gray) same;
-    active = ap (λ (u : Toolbox V H). u.active) same;
-    next = ap (λ (u : Toolbox V H). u.next) same;
+    active = ap (λ (u : Toolbox V H). u.windows.active) same;
+    next = ap (λ (u : Toolbox V H). u.windows.next) same;
   }
     where
-      y_same : y ≡ record x { picture = ops }
-      y_same = put_there y (record x { picture = ops }) y_is
+      y_same : y ≡ with_operation op w
+      y_same = changed_there (with_operation op) y y_is
 
-      shown : Draws (holds a.visible) (λ p value. op_value t.font op (minus (minus p x.place) x.origin) value) t.screen screen
+      shown : Draws (holds a.visible) (λ p value. op_value t.font op (minus (minus p w.place) w.origin) value) t.screen screen
       shown = subst (λ (z : Window V H). Draws (holds a.visible) (λ p value. op_value t.font op (minus (minus p z.place) z.origin) value) t.screen screen) y_same
-          (drawn x.picture op (ap (λ (z : Window V H). z.picture) y_same ∙ more))
+          (drawn w.picture op (ap (λ (z : Window V H). z.picture) y_same))

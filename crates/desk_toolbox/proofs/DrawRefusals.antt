@@ -13,7 +13,7 @@ use Rattle.desk_toolbox.specs.declared.call.Call.TheVariants.{Window}
 use Rattle.desk_toolbox.specs.declared.call.Drawing.{Drawing}
 use Rattle.desk_toolbox.specs.declared.call.WindowCall.TheVariants.{Draw}
 use Rattle.desk_toolbox.specs.declared.toolbox.Toolbox.{Toolbox}
-use Rattle.desk_toolbox.specs.declared.window_list.Window as code
+use Rattle.window_list.specs.declared.window.Window as code
 use Rattle.desk_toolbox.specs.FullDesk.{WindowRecord, FullDesk}
 use Rattle.desk_toolbox.specs.Finding.{record_with}
 use Rattle.desk_toolbox.specs.Kept.{IsKept}
@@ -25,16 +25,16 @@ use Rattle.desk_toolbox.proofs.FindLemmas.{record_at}
 -- ---- the window of a number in a Toolbox
 
 module _ {V : Type 0} {H : V → Type 0} (loan : Taken V H → Loan) (t : Toolbox V H) (kept : IsKept loan t) where
-  pub record_there : (at n : ℕ) (x : code.Window V H) → slice_get t.windows.items at ≡ Some x → x.serial ≡ n → record_with n (desk_of loan t []).windows ≡ Some (record_of loan x)
+  pub record_there : (at n : ℕ) (x : code.Window V H) → slice_get t.windows.records.items at ≡ Some x → x.serial ≡ n → record_with n (desk_of loan t []).windows ≡ Some (record_of loan x)
   record_there at n x there number =
       ap (λ k. record_with k (desk_of loan t []).windows) (sym number)
-      ∙ record_at t.font (desk_of loan t []).windows at (record_of loan x) kept.distinct (slice_get-map (record_of loan) t.windows.items at ∙ ap (option_map (record_of loan)) there)
+      ∙ record_at t.font (desk_of loan t []).windows at (record_of loan x) kept.distinct (slice_get-map (record_of loan) t.windows.records.items at ∙ ap (option_map (record_of loan)) there)
 
   -- the window that was found at this place
-  pub found_there : (at n : ℕ) → IsSomeAnd (slice_get t.windows.items at) (λ w. w.serial ≡ n) → (x : code.Window V H) × (slice_get t.windows.items at ≡ Some x) × (x.serial ≡ n)
-  found_there at n h = by_get (slice_get t.windows.items at) refl h
+  pub found_there : (at n : ℕ) → IsSomeAnd (slice_get t.windows.records.items at) (λ w. w.serial ≡ n) → (x : code.Window V H) × (slice_get t.windows.records.items at ≡ Some x) × (x.serial ≡ n)
+  found_there at n h = by_get (slice_get t.windows.records.items at) refl h
     where
-      by_get : (o : _) → slice_get t.windows.items at ≡ o → IsSomeAnd o (λ w. w.serial ≡ n) → (x : code.Window V H) × (slice_get t.windows.items at ≡ Some x) × (x.serial ≡ n)
+      by_get : (o : _) → slice_get t.windows.records.items at ≡ o → IsSomeAnd o (λ w. w.serial ≡ n) → (x : code.Window V H) × (slice_get t.windows.records.items at ≡ Some x) × (x.serial ≡ n)
       by_get None e p = absurd p
       by_get (Some x) e p = (x, e, p)
 
@@ -72,17 +72,17 @@ module _ {V : Type 0} {H : V → Type 0} (loan : Taken V H → Loan) (t : Toolbo
   judged_of w e (inr (inr (inr (is, long)))) formal found = subst Refuses (sym is) (Some TooLong, inr (inr (inr (refl, long))), rw found refl)
 
   -- then the numbers and the text of the operation
-  pub then_judged : (at : ℕ) (e : Refusal) → IsRefused d.operation e → is_formal e ≡ false → IsSomeAnd (slice_get t.windows.items at) (λ w. w.serial ≡ d.window) → Refuses e
+  pub then_judged : (at : ℕ) (e : Refusal) → IsRefused d.operation e → is_formal e ≡ false → IsSomeAnd (slice_get t.windows.records.items at) (λ w. w.serial ≡ d.window) → Refuses e
   then_judged at e judged formal here =
       let found = found_there loan t kept at d.window here in
       judged_of (record_of loan found.0) e judged formal (record_there loan t kept at d.window found.0 found.1 found.2)
 
   -- then a picture that is full; and nothing else
-  module _ (at : ℕ) (good : IsGood d.operation) (here : IsSomeAnd (slice_get t.windows.items at) (λ w. w.serial ≡ d.window)) (x : code.Window V H) (read : x ≡ get_or t.windows.items at x) where
-    there : slice_get t.windows.items at ≡ Some x
+  module _ (at : ℕ) (good : IsGood d.operation) (here : IsSomeAnd (slice_get t.windows.records.items at) (λ w. w.serial ≡ d.window)) (x : code.Window V H) (read : x ≡ get_or t.windows.records.items at x) where
+    there : slice_get t.windows.records.items at ≡ Some x
     there =
         let found = found_there loan t kept at d.window here in
-        slice_get-get_or t.windows.items at x (slice_get_within t.windows.items at found.0 found.1) ∙ ap Some (sym read)
+        slice_get-get_or t.windows.records.items at x (slice_get_within t.windows.records.items at found.0 found.1) ∙ ap Some (sym read)
 
     number : x.serial ≡ d.window
     number =

@@ -29,7 +29,7 @@ use Rattle.desk_toolbox.specs.declared.call.Drawing.{Drawing}
 use Rattle.desk_toolbox.specs.declared.call.WindowCall.TheVariants.{Draw}
 use Rattle.desk_toolbox.specs.declared.toolbox.Toolbox.{Toolbox}
 use Rattle.desk_toolbox.specs.declared.vis_update.Area.{Area}
-use Rattle.desk_toolbox.specs.declared.window_list.Window.{Window}
+use Rattle.window_list.specs.declared.window.Window.{Window}
 use Rattle.desk_toolbox.specs.FullDesk.{WindowRecord, FullDesk, layered_window, layered_desk, layered_state}
 use Rattle.desk_toolbox.specs.Finding.{record_with}
 use Rattle.desk_toolbox.specs.Planned.{SameDesk, MayDraw, IsDrawnAt}
@@ -138,13 +138,13 @@ module _ {V : Type 0} {H : V → Type 0} (loan : Taken V H → Loan) (t new : To
       by_get (Some a) e h =
           let low = slice_get_within t.areas.items at a e in
           let its = area_at (layered_desk before) (stale_in t.areas.items) before.windows t.areas.items at a whole.areas low in
-          let both : Some its.0 ≡ Some (record_of loan D.window) = sym its.1 ∙ slice_get-map (record_of loan) t.windows.items at ∙ ap (option_map (record_of loan)) D.there in
+          let both : Some its.0 ≡ Some (record_of loan D.window) = sym its.1 ∙ slice_get-map (record_of loan) t.windows.records.items at ∙ ap (option_map (record_of loan)) D.there in
           let same : its.0 ≡ record_of loan D.window = cc in
           let serial : its.0.serial ≡ d.window = ap (λ (w : WindowRecord). w.serial) same ∙ number in
           (a, (subst (λ (x : ℕ × Area). IsArea (layered_desk before) (stale_in t.areas.items) x.0 x.1) (λ i. (serial i, get_or_from_slice_get t.areas.items at a a e i)) its.2, h))
 
-  windows_are : map (record_of loan) new.windows.items ≡ after.windows
-  windows_are = ap (map (record_of loan)) D.windows ∙ put_is_map loan t.font d.window D.operation t.windows.items at D.window whole.sound.distinct D.there (ap (λ n. n == d.window) number ∙ same_number d.window) number
+  windows_are : map (record_of loan) new.windows.records.items ≡ after.windows
+  windows_are = ap (map (record_of loan)) D.windows ∙ put_is_map loan t.font d.window D.operation t.windows.records.items at D.window whole.sound.distinct D.there (ap (λ n. n == d.window) number ∙ same_number d.window) number
 
   desk_is : desk_of loan new slots ≡ after
   desk_is = λ i. record {

@@ -48,10 +48,10 @@ pub record IsBegun {V : Type 0} {H : V → Type 0} (width height bar : ℤ) (fon
   pub ground : IsGround width height bar (record { screen = t.screen; gray = t.gray })
   pub rows : t.bar ≡ bar
   pub texts : t.font ≡ font
-  pub windows : t.windows.items ≡ []
+  pub windows : t.windows.records.items ≡ []
   pub areas : t.areas.items ≡ []
-  pub active : t.active ≡ None
-  pub next : t.next ≡ Some 1
+  pub active : t.windows.active ≡ None
+  pub next : t.windows.next ≡ Some 1
 
 module _ {V : Type 0} {H : V → Type 0} (loan : Taken V H → Loan) (width height bar : ℤ) (font : List ℕ) (t : Toolbox V H) (B : IsBegun width height bar font t) (slots : List SlotView) (full : All IsFull slots) where
   abbrev empty : FullDesk

@@ -1,7 +1,7 @@
 -- The window that has a pixel is its owner's.
-use Rattle.std.proofs.Common.{◌≡◌, ℕ, zero, suc, ◌<◌, ◌≤◌, ◌==◌, ◌&&◌, ◌||◌, Bool, true, false, if◌then◌else◌, List, [], ◌∷◌, length, get_or, map, Some, None, ℤ, ◌-ℤ◌, SFits, w32, refl, sym, ap, ◌∙◌, subst, arith, position}
-use Rattle.std.specs.Prelude.{slice_get}
-use Rattle.std.proofs.lemmas.Bool.{false≢true, and_parts}
+use Rattle.std.proofs.Common.{◌≡◌, ℕ, zero, suc, ◌<◌, ◌≤◌, ◌==◌, ◌&&◌, ◌||◌, Bool, true, false, if◌then◌else◌, List, [], ◌∷◌, length, get_or, map, Option, Some, None, ℤ, ◌-ℤ◌, SFits, w32, refl, sym, ap, ◌∙◌, subst, arith, position}
+use Rattle.std.specs.Prelude.{slice_get, IsSomeAnd, MatchOption}
+use Rattle.std.proofs.lemmas.Bool.{false≢true, and_parts, eqb-true}
 use Rattle.std.proofs.lemmas.Bool.Decides.{nat_tests}
 use Rattle.std.proofs.lemmas.Int.{ints}
 use Rattle.std.proofs.lemmas.Option.{slice_get-map, slice_get-get_or, slice_get_within}
@@ -25,12 +25,13 @@ use Rattle.def_iface.specs.Owner.Owner.{Desktop, Bar, Frame, Content}
 use Rattle.def_iface.proofs.Owning.{same_number, same_owner-true, not_first}
 use Rattle.desk_toolbox.specs.declared.vis_update.Area.{Area}
 use Rattle.desk_toolbox.specs.declared.toolbox.Toolbox.{Toolbox}
-use Rattle.desk_toolbox.specs.declared.window_list.Window.{Window}
+use Rattle.window_list.specs.declared.window.Window.{Window}
+use Rattle.window_list.specs.Lists.{first_shown, is_numbered}
 use Rattle.desk_toolbox.specs.FullDesk.{WindowRecord, layered_window, layered_desk}
 use Rattle.desk_toolbox.specs.Records.{record_of, desk_of, stale_in}
 use Rattle.desk_toolbox.specs.Kept.{IsKept, area_has}
 use Rattle.desk_toolbox.specs.declared.call.WindowPart.TheVariants as part
-use Rattle.desk_toolbox.specs.Finding.{record_with, found_by, found_none, found_window, found_at, part_at, part_of_hit}
+use Rattle.desk_toolbox.specs.Finding.{front_of, record_with, found_by, found_none, found_window, found_at, part_at, part_of_hit}
 use Rattle.desk_toolbox.specs.Whole.{IsArea, AreAreas, IsSettled, is_content_of}
 
 -- a difference of two coordinates is a number of 32 bits
@@ -136,33 +137,33 @@ module _ {V : Type 0} {H : V → Type 0} (loan : Taken V H → Loan) (t : Toolbo
   windows = (desk_of loan t []).windows
 
   -- the place of an area that has the point is a window's
-  pub within : (i : ℕ) → position (area_has p) t.areas.items ≡ Some i → i < length t.windows.items
+  pub within : (i : ℕ) → position (area_has p) t.areas.items ≡ Some i → i < length t.windows.records.items
   within i e = by_areas t.areas.items A.areas e
     where
-      by_areas : (areas : List Area) → AreAreas desk (stale_in t.areas.items) windows areas → position (area_has p) areas ≡ Some i → i < length t.windows.items
+      by_areas : (areas : List Area) → AreAreas desk (stale_in t.areas.items) windows areas → position (area_has p) areas ≡ Some i → i < length t.windows.records.items
       by_areas [] its e = absurd (cc)
       by_areas (a ∷ areas) its e =
           let found = area_at desk (stale_in t.areas.items) windows (a ∷ areas) i a its (position-Some (area_has p) (a ∷ areas) i a e).0 in
           let there : i < length windows = slice_get_within windows i found.0 found.1 in
-          let long : length windows ≡ length t.windows.items = length-map t.windows.items (record_of loan) in
+          let long : length windows ≡ length t.windows.records.items = length-map t.windows.records.items (record_of loan) in
           omega arith
 
   -- its definition can be asked
-  pub settled_at : (i : ℕ) (x : Window V H) → i < length t.windows.items → x ≡ get_or t.windows.items i x → IsSettled (record_of loan x)
+  pub settled_at : (i : ℕ) (x : Window V H) → i < length t.windows.records.items → x ≡ get_or t.windows.records.items i x → IsSettled (record_of loan x)
   settled_at i x low read =
-      let long : length windows ≡ length t.windows.items = length-map t.windows.items (record_of loan) in
-      subst IsSettled (get_or-map (record_of loan) t.windows.items i x (record_of loan x) low ∙ ap (record_of loan) (sym read)) (A.settled i (record_of loan x) (omega arith))
+      let long : length windows ≡ length t.windows.records.items = length-map t.windows.records.items (record_of loan) in
+      subst IsSettled (get_or-map (record_of loan) t.windows.records.items i x (record_of loan x) low ∙ ap (record_of loan) (sym read)) (A.settled i (record_of loan x) (omega arith))
 
   -- the window whose area has the point is what is found
-  pub found_window_is : (i : ℕ) (x : Window V H) → layers.on_screen desk p ≡ true → position (area_has p) t.areas.items ≡ Some i → x ≡ get_or t.windows.items i x
+  pub found_window_is : (i : ℕ) (x : Window V H) → layers.on_screen desk p ≡ true → position (area_has p) t.areas.items ≡ Some i → x ≡ get_or t.windows.records.items i x
       → found_at (desk_of loan t []) p ≡ record { part = part_of_hit ((loan x.taken).definition.hit (minus p x.place)); window = Some x.serial }
   found_window_is i x on e read = by_areas t.areas.items A.areas e
     where
-      low : i < length t.windows.items
+      low : i < length t.windows.records.items
       low = within i e
 
       there : slice_get windows i ≡ Some (record_of loan x)
-      there = slice_get-map (record_of loan) t.windows.items i ∙ ap (option_map (record_of loan)) (slice_get-get_or t.windows.items i x low ∙ ap Some (sym read))
+      there = slice_get-map (record_of loan) t.windows.records.items i ∙ ap (option_map (record_of loan)) (slice_get-get_or t.windows.records.items i x low ∙ ap Some (sym read))
 
       by_areas : (areas : List Area) → AreAreas desk (stale_in t.areas.items) windows areas → position (area_has p) areas ≡ Some i → found_at (desk_of loan t []) p ≡ record { part = part_of_hit ((loan x.taken).definition.hit (minus p x.place)); window = Some x.serial }
       by_areas [] its e = absurd (cc)
@@ -181,3 +182,29 @@ module _ {V : Type 0} {H : V → Type 0} (loan : Taken V H → Loan) (t : Toolbo
       let among : owner desk p ≡ owner_among (map (layered_window t.font) windows) p = rw low refl in
       let its : owner desk p ≡ Desktop = among ∙ nowhere t.font windows p (subst (λ o. NoneHas windows o) among none) in
       rw on (ap (λ o. found_by windows o p) its)
+
+-- the first visible window, of the list and of its records
+pub front-records : {V : Type 0} {H : V → Type 0} (loan : Taken V H → Loan) (ws : List (Window V H)) → front_of (map (record_of loan) ws) ≡ first_shown ws
+front-records loan [] = refl
+front-records loan (w ∷ ws) = ap (λ o. if w.shown then Some w.serial else o) (front-records loan ws)
+
+-- what the search for a number among the windows tells
+module _ {V : Type 0} {H : V → Type 0} (loan : Taken V H → Loan) (s : ℕ) where
+  missing : (ws : List (Window V H)) → ((i : ℕ) (d : Window V H) → i < length ws → is_numbered s (get_or ws i d) ≡ false) → record_with s (map (record_of loan) ws) ≡ None
+  missing [] none = refl
+  missing (w ∷ ws) none =
+      (λ i. if none 0 w (omega arith) i then Some (record_of loan w) else record_with s (map (record_of loan) ws)) ∙ missing ws (λ k d low. none (suc k) d (omega arith))
+
+  stands : (ws : List (Window V H)) (i : ℕ) → position (is_numbered s) ws ≡ Some i → IsSomeAnd (slice_get ws i) (λ w. w.serial ≡ s)
+  stands [] i e = absurd (cc)
+  stands (w ∷ ws) i e =
+      let found = position-Some (is_numbered s) (w ∷ ws) i w e in
+      rw (slice_get-get_or (w ∷ ws) i w found.0) (eqb-true _ s found.1)
+
+  pub numbered_at : (ws : List (Window V H)) (o : Option ℕ) → o ≡ position (is_numbered s) ws
+      → MatchOption o (record_with s (map (record_of loan) ws) ≡ None) (λ at. IsSomeAnd (slice_get ws at) (λ w. w.serial ≡ s))
+  numbered_at ws o e = by_answer o (sym e)
+    where
+      by_answer : (a : Option ℕ) → position (is_numbered s) ws ≡ a → MatchOption a (record_with s (map (record_of loan) ws) ≡ None) (λ at. IsSomeAnd (slice_get ws at) (λ w. w.serial ≡ s))
+      by_answer None f = missing ws (position-None (is_numbered s) ws f)
+      by_answer (Some i) f = stands ws i f

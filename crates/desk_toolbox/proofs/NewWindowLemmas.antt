@@ -1,6 +1,6 @@
 -- The step of a new window.
 use Rattle.std.proofs.Common.{◌≡◌, ℕ, ◌<◌, ◌≤◌, nat_lt, nat_le, Bool, true, false, not, ◌&&◌, ◌||◌, if◌then◌else◌, List, [], ◌∷◌, length, map, Option, None, Some, ℤ, pos, negsuc, refl, sym, ap, ◌∙◌, subst, arith}
-use Rattle.std.specs.Prelude.{vec_len, is_none, slice_get, IsSomeAnd}
+use Rattle.std.specs.Prelude.{is_none, slice_get, IsSomeAnd}
 use Rattle.std.proofs.lemmas.Bool.Decides.{nat_tests}
 use Rattle.std.proofs.lemmas.Int.{ints}
 use Rattle.std.proofs.lemmas.List.{length-map}
@@ -28,7 +28,8 @@ use Rattle.desk_toolbox.specs.FullDesk.{WindowRecord, FullDesk, AreBelow, AreNum
 use Rattle.desk_toolbox.specs.Records.{record_of, desk_of, state_of, stale_in}
 use Rattle.desk_toolbox.specs.Refused.{first_refusal, judged_refusals, is_placed, is_full, longest_text, most_windows}
 use Rattle.desk_toolbox.specs.Step.{IsMade, IsNotMade, IsNewWindow, new_record, desk_with, unhighlighted}
-use Rattle.desk_toolbox.specs.Planned.{AreAreasWith, IsPainted, IsAdded, IsUnplanned, SameDesk, dimmed}
+use Rattle.desk_toolbox.specs.Planned.{AreAreasWith, IsPainted, IsAdded, IsUnplanned, SameDesk}
+use Rattle.window_list.specs.Lists.{dimmed}
 use Rattle.desk_toolbox.specs.Seats.{stale_after, AreAreasAfter}
 use Rattle.desk_toolbox.specs.Whole.{IsWhole, IsArea, AreAreas, IsSound, IsSettled, IsGray}
 use Rattle.desk_toolbox.proofs.SlotLemmas.{stocked_with, put_back_is_old}
@@ -89,9 +90,9 @@ module _ {V : Type 0} {H : V → Type 0} (loan : Taken V H → Loan) where
   pub record IsNew (w : NewWindow) (n : ℕ) (taken : Loan) (areas : List Area) (t planned new : Toolbox V H) (slots left : List SlotView) : Type 0 where
     pub whole : IsWhole loan t slots
     pub same : SameDesk t planned
-    pub unrefused_is : first_refusal (judged_refusals w (is_placed (Some taken.definition) w.place w.size) (vec_len t.windows) t.next) ≡ None
+    pub unrefused_is : first_refusal (judged_refusals w (is_placed (Some taken.definition) w.place w.size) (length t.windows.records.items) t.windows.next) ≡ None
     pub areas_with : AreAreasWith loan w n taken.definition planned areas
-    pub number : planned.next ≡ Some n
+    pub number : planned.windows.next ≡ Some n
     pub added : IsAdded loan w n taken areas planned new
     pub took : IsTaken w.kind taken slots left
 
@@ -103,7 +104,7 @@ module _ {V : Type 0} {H : V → Type 0} (loan : Taken V H → Loan) where
     abbrev after : FullDesk
     after = record (desk_with w n taken.slot N.added.begun before) { stock = left }
 
-    next_is : t.next ≡ Some n
+    next_is : t.windows.next ≡ Some n
     next_is = sym N.same.next ∙ N.number
 
     below : AreBelow n before.windows
@@ -144,11 +145,11 @@ module _ {V : Type 0} {H : V → Type 0} (loan : Taken V H → Loan) where
       plain = N.whole.frames;
     }
 
-    windows_are : map (record_of loan) new.windows.items ≡ after.windows
+    windows_are : map (record_of loan) new.windows.records.items ≡ after.windows
     windows_are =
         ap (map (record_of loan)) N.added.windows
         ∙ (λ i. N.added.seen i ∷ map (record_of loan) (if w.shown then map (dimmed (N.same.active i)) (N.same.windows i) else N.same.windows i))
-        ∙ ap (λ (ws : List WindowRecord). new_record w n taken.slot N.added.begun ∷ ws) (records_behind loan t.active w.shown t.windows.items)
+        ∙ ap (λ (ws : List WindowRecord). new_record w n taken.slot N.added.begun ∷ ws) (records_behind loan t.windows.active w.shown t.windows.records.items)
 
     desk_is : desk_of loan new left ≡ after
     desk_is = λ i. record {
@@ -193,9 +194,9 @@ module _ {V : Type 0} {H : V → Type 0} (loan : Taken V H → Loan) where
 
     few_after : length after.windows ≤ most_windows
     few_after =
-        let fewer : vec_len t.windows < most_windows = fewer_before _ t.next (unrefused w _ (vec_len t.windows) t.next N.unrefused_is).room in
-        let records : length before.windows ≡ vec_len t.windows = length-map t.windows.items (record_of loan) ∙ sym t.windows.ok.0 in
-        let same : length (windows_behind t.active w.shown before.windows) ≡ length before.windows = length_behind t.active w.shown before.windows in
+        let fewer : length t.windows.records.items < most_windows = fewer_before _ t.windows.next (unrefused w _ (length t.windows.records.items) t.windows.next N.unrefused_is).room in
+        let records : length before.windows ≡ length t.windows.records.items = length-map t.windows.records.items (record_of loan) in
+        let same : length (windows_behind t.windows.active w.shown before.windows) ≡ length before.windows = length_behind t.windows.active w.shown before.windows in
         omega arith
 
     sound_after : IsSound after
@@ -204,8 +205,8 @@ module _ {V : Type 0} {H : V → Type 0} (loan : Taken V H → Loan) where
       distinct = subst layers.IsDesk (sym layers_are) (after_is_desk w n taken.slot N.added.begun before (stale_after (layered_state (state_of loan t slots)) (layered_desk after)) first.0 t.screen new.screen added_facts);
       numbered = numbered_with w n taken.slot N.added.begun before below;
       few = few_after;
-      settled = All-cons IsSettled _ _ settled (settled_behind t.active w.shown before.windows N.whole.sound.settled);
-      stocked = stocked_with w.kind taken slots left N.took _ _ refl (stocked_behind t.active w.shown before.windows slots N.whole.sound.stocked);
+      settled = All-cons IsSettled _ _ settled (settled_behind t.windows.active w.shown before.windows N.whole.sound.settled);
+      stocked = stocked_with w.kind taken slots left N.took _ _ refl (stocked_behind t.windows.active w.shown before.windows slots N.whole.sound.stocked);
     }
 
     pub is_whole : IsWhole loan new left
@@ -222,7 +223,7 @@ module _ {V : Type 0} {H : V → Type 0} (loan : Taken V H → Loan) where
     is_made = (refusal_is loan w taken t slots left N.took ∙ N.unrefused_is, is_new_window)
 
   -- the call was refused: the definition is back in its slot
-  pub is_not_made : (w : NewWindow) (e : Refusal) (taken : Loan) (t planned : Toolbox V H) (slots left back : List SlotView) → IsWhole loan t slots → IsTaken w.kind taken slots left → IsUnplanned w (is_placed (Some taken.definition) w.place w.size) (vec_len t.windows) t.next e → SameDesk t planned → IsPutBack taken left back → IsNotMade w e (state_of loan t slots) (state_of loan planned back)
+  pub is_not_made : (w : NewWindow) (e : Refusal) (taken : Loan) (t planned : Toolbox V H) (slots left back : List SlotView) → IsWhole loan t slots → IsTaken w.kind taken slots left → IsUnplanned w (is_placed (Some taken.definition) w.place w.size) (length t.windows.records.items) t.windows.next e → SameDesk t planned → IsPutBack taken left back → IsNotMade w e (state_of loan t slots) (state_of loan planned back)
   is_not_made w e taken t planned slots left back whole took unplanned same back_is = (
     unplanned_is_refused loan w taken t slots left took e unplanned,
     stays_unchanged loan t planned slots back same (put_back_is_old w.kind taken slots left took back back_is),

@@ -1,6 +1,6 @@
 -- Why a new window is refused, once its definition was taken.
-use Rattle.std.proofs.Common.{◌≡◌, inl, inr, ℕ, zero, suc, Bool, true, false, not, ◌||◌, if◌then◌else◌, List, [], ◌∷◌, length, Some, None, refl, sym, ap, ◌∙◌}
-use Rattle.std.specs.Prelude.{slice_get, vec_len}
+use Rattle.std.proofs.Common.{◌≡◌, inl, inr, ℕ, zero, suc, Bool, true, false, not, ◌||◌, if◌then◌else◌, List, [], ◌∷◌, length, Some, None, refl, ap, ◌∙◌}
+use Rattle.std.specs.Prelude.{slice_get}
 use Rattle.std.specs.Option.{option_and_then}
 use Rattle.std.proofs.lemmas.List.{length-map}
 use Rattle.std.proofs.lemmas.Slice.Eq.{bytes_eq-Decides}
@@ -53,12 +53,12 @@ refusal_with w desk d there at_hand = rw (there, at_hand) (by_tests (is_placed (
 
 module _ {V : Type 0} {H : V → Type 0} (loan : Taken V H → Loan) (w : NewWindow) (taken : Loan) (t : Toolbox V H) (slots left : List SlotView) (took : IsTaken w.kind taken slots left) where
   -- why a new window is refused, by the judgement of a Toolbox
-  pub refusal_is : first_refusal (new_window_refusals w (desk_of loan t slots)) ≡ first_refusal (judged_refusals w (is_placed (Some taken.definition) w.place w.size) (vec_len t.windows) t.next)
+  pub refusal_is : first_refusal (new_window_refusals w (desk_of loan t slots)) ≡ first_refusal (judged_refusals w (is_placed (Some taken.definition) w.place w.size) (length t.windows.records.items) t.windows.next)
   refusal_is =
       refusal_with w (desk_of loan t slots) taken.definition (taken_was_there w.kind taken slots left took) (taken_was_offered w.kind taken slots left took)
-      ∙ ap (λ n. first_refusal (judged_refusals w (is_placed (Some taken.definition) w.place w.size) n t.next)) (length-map t.windows.items (record_of loan) ∙ sym t.windows.ok.0)
+      ∙ ap (λ n. first_refusal (judged_refusals w (is_placed (Some taken.definition) w.place w.size) n t.windows.next)) (length-map t.windows.records.items (record_of loan))
 
   -- what is not planned is refused for the written reason
-  pub unplanned_is_refused : (e : Refusal) → IsUnplanned w (is_placed (Some taken.definition) w.place w.size) (vec_len t.windows) t.next e → IsRefused (Window (New w)) e (desk_of loan t slots)
+  pub unplanned_is_refused : (e : Refusal) → IsUnplanned w (is_placed (Some taken.definition) w.place w.size) (length t.windows.records.items) t.windows.next e → IsRefused (Window (New w)) e (desk_of loan t slots)
   unplanned_is_refused e (inl first) = inl (refusal_is ∙ first)
   unplanned_is_refused e (inr memory) = inr (refusal_is ∙ memory.0, (refl, memory.1))

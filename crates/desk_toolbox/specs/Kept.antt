@@ -20,7 +20,7 @@ module _ {V : Type 0} {H : V → Type 0} (loan : Taken V H → Loan) where
   -- of a whole Toolbox what does not speak of the stock
   pub record IsKept (t : Toolbox V H) : Type 0 where
     pub distinct : IsDesk (layered_desk (desk_of loan t []))
-    pub numbered : AreNumbered t.next (desk_of loan t []).windows
+    pub numbered : AreNumbered t.windows.next (desk_of loan t []).windows
     pub settled : All IsSettled (desk_of loan t []).windows
     pub gray : IsGray (layered_desk (desk_of loan t [])) t.gray
     pub areas : AreAreas (layered_desk (desk_of loan t [])) (stale_in t.areas.items) (desk_of loan t []).windows t.areas.items

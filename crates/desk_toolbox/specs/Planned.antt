@@ -1,5 +1,5 @@
 -- A window that is planned, and one that was added.
-use Rattle.std.specs.Prelude.{◌≡◌, ◌⊎◌, ℕ, ◌+◌, ◌<◌, Bool, true, false, ◌==◌, if◌then◌else◌, List, [], ◌∷◌, ◌++◌, length, map, set, Option, None, Some, IsSomeAnd, slice_get, vec_len, vec_capacity}
+use Rattle.std.specs.Prelude.{◌≡◌, ◌⊎◌, ℕ, ◌+◌, ◌<◌, Bool, true, false, if◌then◌else◌, List, [], ◌∷◌, ◌++◌, length, map, set, Option, None, Some, IsSomeAnd, slice_get, vec_len}
 use Rattle.tb_geom.specs.declared.point.Point.{Point}
 use Rattle.tb_geom.specs.declared.refusal.Refusal.{Refusal}
 use Rattle.tb_geom.specs.declared.refusal.Refusal.TheVariants.{NoMemory}
@@ -18,14 +18,15 @@ use Rattle.desk_toolbox.specs.declared.call.Drawing.{Drawing}
 use Rattle.desk_toolbox.specs.declared.call.NewWindow.{NewWindow}
 use Rattle.desk_toolbox.specs.declared.toolbox.Toolbox.{Toolbox}
 use Rattle.desk_toolbox.specs.declared.vis_update.Area.{Area}
-use Rattle.desk_toolbox.specs.declared.window_list.Window.{Window}
+use Rattle.window_list.specs.declared.window.Window.{Window}
+use Rattle.window_list.specs.Lists.{dimmed, number_after}
 use Rattle.desk_toolbox.specs.declared.window_mgr.Plan.{Plan}
 use Rattle.desk_toolbox.specs.declared.window_mgr.Ticket.{Ticket}
 use Rattle.desk_toolbox.specs.FullDesk.{layered_desk, layered_state}
 use Rattle.desk_toolbox.specs.Records.{record_of, desk_of, state_of}
 use Rattle.desk_toolbox.specs.Refused.{first_refusal, judged_refusals, most_operations}
 use Rattle.desk_toolbox.specs.Seats.{AreAreasAfter}
-use Rattle.desk_toolbox.specs.Step.{new_record, desk_with, number_after}
+use Rattle.desk_toolbox.specs.Step.{new_record, desk_with}
 
 -- structure and content of a window with this definition and size, on the screen
 pub record IsRegionsAt (place : Point) (size : Size) (d : Definition) (r : WindowRegions) : Type 0 where
@@ -52,21 +53,16 @@ module _ {V : Type 0} {H : V → Type 0} where
     pub bar : new.bar ≡ old.bar
     pub font : new.font ≡ old.font
     pub gray : new.gray ≡ old.gray
-    pub windows : new.windows.items ≡ old.windows.items
+    pub windows : new.windows.records.items ≡ old.windows.records.items
     pub areas : new.areas.items ≡ old.areas.items
-    pub active : new.active ≡ old.active
-    pub next : new.next ≡ old.next
-
-  -- the window, without its highlighting if it is the one of this serial
-  abbrev pub dimmed : Option ℕ → Window V H → Window V H
-  dimmed None w = w
-  dimmed (Some s) w = if w.serial == s then record w { highlighted = false } else w
+    pub active : new.windows.active ≡ old.windows.active
+    pub next : new.windows.next ≡ old.windows.next
 
   -- nothing but want of memory refuses the operation in the window at this place
   pub record MayDraw (d : Drawing) (t : Toolbox V H) (at : ℕ) : Type 0 where
     pub good : IsGood d.operation
     pub window : Window V H
-    pub there : slice_get t.windows.items at ≡ Some window
+    pub there : slice_get t.windows.records.items at ≡ Some window
     pub serial : window.serial ≡ d.window
     pub room : length window.picture < most_operations
 
@@ -74,20 +70,20 @@ module _ {V : Type 0} {H : V → Type 0} where
   pub record IsDrawnAt (at : ℕ) (d : Drawing) (old new : Toolbox V H) : Type 0 where
     pub window : Window V H
     pub operation : Op
-    pub there : slice_get old.windows.items at ≡ Some window
+    pub there : slice_get old.windows.records.items at ≡ Some window
     pub meant : IsMeant d.operation operation
-    pub windows : new.windows.items ≡ set old.windows.items at (record window { picture = window.picture ++ operation ∷ [] })
+    pub windows : new.windows.records.items ≡ set old.windows.records.items at (record window { picture = window.picture ++ operation ∷ [] })
     pub pixels : IsSomeAnd (slice_get old.areas.items at) (λ area. Draws (holds area.visible) (λ p value. op_value old.font operation (minus (minus p window.place) window.origin) value) old.screen new.screen)
     pub areas : new.areas.items ≡ old.areas.items
     pub bar : new.bar ≡ old.bar
     pub font : new.font ≡ old.font
     pub gray : new.gray ≡ old.gray
-    pub active : new.active ≡ old.active
-    pub next : new.next ≡ old.next
+    pub active : new.windows.active ≡ old.windows.active
+    pub next : new.windows.next ≡ old.windows.next
 
   -- the number and the title of the window
   pub record IsTicket (w : NewWindow) (t : Toolbox V H) (ticket : Ticket) : Type 0 where
-    pub next : t.next ≡ Some ticket.serial
+    pub next : t.windows.next ≡ Some ticket.serial
     pub title : ticket.title.items ≡ w.title
 
 -- `loan` says what a definition that was taken means
@@ -101,8 +97,8 @@ module _ {V : Type 0} {H : V → Type 0} (loan : Taken V H → Loan) where
   pub record IsPlanned (w : NewWindow) (d : Definition) (t : Toolbox V H) (plan : Plan) : Type 0 where
     pub ticket : IsTicket w t plan.ticket
     pub areas : AreAreasWith w plan.ticket.serial d t plan.areas.items
-    pub some : vec_len plan.areas ≡ vec_len t.windows + 1
-    pub room : vec_len t.windows < vec_capacity t.windows
+    pub some : vec_len plan.areas ≡ length t.windows.records.items + 1
+    pub room : length t.windows.records.items < t.windows.records.capacity
 
   -- the window was put in front of all others, which have these areas now, and drawn
   pub record IsAdded (w : NewWindow) (serial : ℕ) (taken : Loan) (planned : List Area) (old new : Toolbox V H) : Type 0 where
@@ -110,11 +106,11 @@ module _ {V : Type 0} {H : V → Type 0} (loan : Taken V H → Loan) where
     pub begun : Definition
     pub live : IsBegun w.size taken.definition begun
     pub seen : record_of loan record_is ≡ new_record w serial taken.slot begun
-    pub windows : new.windows.items ≡ record_is ∷ (if w.shown then map (dimmed old.active) old.windows.items else old.windows.items)
+    pub windows : new.windows.records.items ≡ record_is ∷ (if w.shown then map (dimmed old.windows.active) old.windows.records.items else old.windows.records.items)
     pub areas : new.areas.items ≡ planned
     pub painted : IsSomeAnd (slice_get planned 0) (λ area. IsPainted area w.place begun old.font old.screen new.screen)
     pub bar : new.bar ≡ old.bar
     pub font : new.font ≡ old.font
     pub gray : new.gray ≡ old.gray
-    pub active : new.active ≡ (if w.shown then Some serial else old.active)
-    pub next : new.next ≡ number_after serial
+    pub active : new.windows.active ≡ (if w.shown then Some serial else old.windows.active)
+    pub next : new.windows.next ≡ number_after serial

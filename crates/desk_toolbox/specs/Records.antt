@@ -7,7 +7,7 @@ use Rattle.bit_map.specs.Bits.{bit}
 use Rattle.def_iface.specs.declared.taken.Taken.{Taken}
 use Rattle.def_iface.specs.Meaning.{Loan}
 use Rattle.def_iface.specs.Stocked.{SlotView}
-use Rattle.desk_toolbox.specs.declared.window_list.Window.{Window}
+use Rattle.window_list.specs.declared.window.Window.{Window}
 use Rattle.desk_toolbox.specs.declared.toolbox.Toolbox.{Toolbox}
 use Rattle.desk_toolbox.specs.declared.vis_update.Area.{Area}
 use Rattle.desk_toolbox.specs.FullDesk.{WindowRecord, FullDesk, FullState}
@@ -40,9 +40,9 @@ module _ {V : Type 0} {H : V → Type 0} (loan : Taken V H → Loan) where
     height = pos t.screen.height;
     bar = t.bar;
     font = t.font;
-    windows = map record_of t.windows.items;
-    active = t.active;
-    next = t.next;
+    windows = map record_of t.windows.records.items;
+    active = t.windows.active;
+    next = t.windows.next;
     stock = slots;
   }
 

@@ -5,7 +5,8 @@ use Rattle.desk_toolbox.specs.declared.call.Call.{Call}
 use Rattle.desk_toolbox.specs.declared.call.Reply.{Reply}
 use Rattle.desk_toolbox.specs.declared.call.Reply.TheVariants as reply
 use Rattle.desk_toolbox.specs.FullDesk.{FullState}
-use Rattle.desk_toolbox.specs.Step.{IsStep, number_after}
+use Rattle.window_list.specs.Lists.{number_after}
+use Rattle.desk_toolbox.specs.Step.{IsStep}
 
 -- from the first state these calls may have these answers and leave the last state: each step begins as the one before
 -- it ended

@@ -10,7 +10,7 @@ use Rattle.def_iface.specs.Owner.{owner}
 use Rattle.def_iface.specs.Change.{State, no_change, stale_by}
 use Rattle.desk_toolbox.specs.declared.vis_update.Area.{Area}
 use Rattle.desk_toolbox.specs.declared.vis_update.Seat.{Seat}
-use Rattle.desk_toolbox.specs.declared.window_list.Window.{Window}
+use Rattle.window_list.specs.declared.window.Window.{Window}
 use Rattle.desk_toolbox.specs.FullDesk.{WindowRecord, layered_window}
 use Rattle.desk_toolbox.specs.Refused.{is_placed}
 use Rattle.desk_toolbox.specs.Whole.{IsArea, AreAreas, IsGray}

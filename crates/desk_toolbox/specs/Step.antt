@@ -1,5 +1,5 @@
 -- One step: what a call leaves, and what it answers.
-use Rattle.std.specs.Prelude.{◌≡◌, ◌⊎◌, ℕ, ◌+◌, ◌^◌, nat_lt, true, false, if◌then◌else◌, ◌==◌, List, [], ◌∷◌, ◌++◌, map, Option, None, Some, Result, Ok, Err, pos}
+use Rattle.std.specs.Prelude.{◌≡◌, ◌⊎◌, ℕ, true, false, if◌then◌else◌, ◌==◌, List, [], ◌∷◌, ◌++◌, map, Option, None, Some, Result, Ok, Err, pos}
 use Rattle.tb_geom.specs.declared.point.Point.{Point}
 use Rattle.tb_geom.specs.declared.refusal.Refusal.{Refusal}
 use Rattle.tb_geom.specs.declared.refusal.Refusal.TheVariants.{NoMemory}
@@ -14,6 +14,7 @@ use Rattle.def_iface.specs.Desk.Part.{Picture}
 use Rattle.def_iface.specs.Owner.{same_owner}
 use Rattle.def_iface.specs.Owner.Owner.{Content}
 use Rattle.def_iface.specs.Change.{Change, no_change, IsChanged}
+use Rattle.window_list.specs.Lists.{number_after}
 use Rattle.desk_toolbox.specs.declared.call.Call.{Call}
 use Rattle.desk_toolbox.specs.declared.call.Call.TheVariants.{Window}
 use Rattle.desk_toolbox.specs.declared.call.WindowCall.TheVariants.{New, Draw, Find, Front}
@@ -45,10 +46,6 @@ new_record w serial slot d = record {
 abbrev pub unhighlighted : Option ℕ → WindowRecord → WindowRecord
 unhighlighted None w = w
 unhighlighted (Some s) w = if w.serial == s then record w { highlighted = false } else w
-
--- the number after this one, of 64 bits
-abbrev pub number_after : ℕ → Option ℕ
-number_after n = if nat_lt (n + 1) (2 ^ 64) then Some (n + 1) else None
 
 -- a new window in front of all: a visible one becomes active, in place of the window that was
 abbrev pub desk_with : NewWindow → ℕ → ℕ → Definition → FullDesk → FullDesk

@@ -5,8 +5,9 @@ ghost use Rattle.desk_toolbox.specs.Records.{record_of, desk_of};
 ghost use Rattle.desk_toolbox.specs.Whole.{IsWhole, IsSettled, IsStocked};
 ghost use Rattle.desk_toolbox.specs.Closing.{IsShut, IsClosed};
 
-use crate::{Toolbox, Window};
+use crate::Toolbox;
 use def_iface::{Defined, Stage, Stock, Stocked, Taken};
+use window_list::WindowList;
 
 impl Toolbox {
     /// Ends the desk: the definition of every window is disposed of, and put back Closed into its
@@ -22,27 +23,26 @@ impl Toolbox {
 }
 
 /// Ends the use of every window's definition.
-fn put_all_away(windows: Vec<Window>, stock: &mut Stock)
-    requires settled { All IsSettled (map (record_of ⟦<Taken as Defined>⟧.loan) windows.items) }
-    requires stocked { IsStocked (map (record_of ⟦<Taken as Defined>⟧.loan) windows.items)
+fn put_all_away(windows: WindowList, stock: &mut Stock)
+    requires settled { All IsSettled (map (record_of ⟦<Taken as Defined>⟧.loan) windows.records.items) }
+    requires stocked { IsStocked (map (record_of ⟦<Taken as Defined>⟧.loan) windows.records.items)
         (⟦<Stock as Stocked>⟧.slots stock.old) }
-    ensures { IsClosed (map (record_of ⟦<Taken as Defined>⟧.loan) windows.items)
+    ensures { IsClosed (map (record_of ⟦<Taken as Defined>⟧.loan) windows.records.items)
         (⟦<Stock as Stocked>⟧.slots stock.old) (⟦<Stock as Stocked>⟧.slots stock.new) }
 {
     let mut windows = windows;
-    while let Some(window) = windows.pop() {
-        put_away(window, stock);
+    while let Some(taken) = windows.next_box() {
+        put_away(taken, stock);
     }
 }
 
 /// Ends the use of a window's definition.
-fn put_away(window: Window, stock: &mut Stock)
-    requires live { (⟦<Taken as Defined>⟧.loan window.taken).definition.stage ≡ Stage.Live }
-    requires left { is_left (⟦<Taken as Defined>⟧.loan window.taken).slot (⟦<Stock as Stocked>⟧.slots stock.old) ≡ true }
-    ensures { IsShut (⟦<Taken as Defined>⟧.loan window.taken)
+fn put_away(taken: Taken, stock: &mut Stock)
+    requires live { (⟦<Taken as Defined>⟧.loan taken).definition.stage ≡ Stage.Live }
+    requires left { is_left (⟦<Taken as Defined>⟧.loan taken).slot (⟦<Stock as Stocked>⟧.slots stock.old) ≡ true }
+    ensures { IsShut (⟦<Taken as Defined>⟧.loan taken)
         (⟦<Stock as Stocked>⟧.slots stock.old) (⟦<Stock as Stocked>⟧.slots stock.new) }
 {
-    let Window { taken, .. } = window;
     let mut taken = taken;
     taken.dispose();
     stock.put_back(taken);

@@ -15,13 +15,14 @@ ghost use Rattle.desk_toolbox.specs.Planned.{SameDesk, MayDraw, IsDrawnAt};
 ghost use Rattle.desk_toolbox.specs.Records.{desk_of};
 ghost use Rattle.desk_toolbox.specs.Refused.{IsRefusal, is_formal};
 
-use crate::{Area, Drawing, Toolbox, Window};
+use crate::{Area, Drawing, Toolbox};
 use bit_map::BitMap;
 use def_iface::{Defined, Taken};
 use draw_port::{Canvas, Cut};
 use op_ref::OpRef;
 use strike_font::Font;
 use tb_geom::{Point, Refusal};
+use window_list::Window;
 
 /// As many operations as a picture may have.
 const MOST_OPERATIONS: usize = 1024;
@@ -38,7 +39,7 @@ impl Toolbox {
             (_, None) => Err(Refusal::NoSuchWindow),
             (Err(refusal), Some(_)) => Err(refusal),
             (Ok(()), Some(at)) => {
-                if self.windows[at].picture.ops().len() < MOST_OPERATIONS {
+                if self.windows.at(at).picture.ops().len() < MOST_OPERATIONS {
                     Ok(at)
                 } else {
                     Err(Refusal::TooMany)
@@ -51,14 +52,9 @@ impl Toolbox {
     fn place_of(&self, number: u64) -> Option<usize>
         ensures { MatchOption result
             (record_with number (desk_of ⟦<Taken as Defined>⟧.loan self.now []).windows ≡ None)
-            (λ at. IsSomeAnd (slice_get self.now.windows.items at) (λ w. w.serial ≡ number)) }
+            (λ at. IsSomeAnd (slice_get self.now.windows.records.items at) (λ w. w.serial ≡ number)) }
     {
-        for (at, window) in self.windows.iter().enumerate() {
-            if window.serial == number {
-                return Some(at);
-            }
-        }
-        None
+        self.windows.find(number)
     }
 
     /// Adds an operation to the picture of the window at this place, and draws it on each pixel of
@@ -72,13 +68,13 @@ impl Toolbox {
         let Ok(operation) = drawing.operation.to_op(self.alloc) else {
             return Err(Refusal::NoMemory);
         };
-        if self.windows[at].picture.push(operation).is_err() {
+        if self.windows.push_operation(at, operation).is_err() {
             return Err(Refusal::NoMemory);
         }
         show_last(
             &mut self.screen,
             &self.areas[at],
-            &self.windows[at],
+            self.windows.at(at),
             &self.font,
         );
         Ok(())

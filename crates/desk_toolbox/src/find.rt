@@ -10,9 +10,10 @@ ghost use Rattle.desk_toolbox.specs.Finding.{found_at, found_none, part_of_hit, 
 ghost use Rattle.desk_toolbox.specs.Records.{record_of, desk_of};
 ghost use Rattle.desk_toolbox.specs.Whole.{IsSettled};
 
-use crate::{Found, Toolbox, Window, WindowPart};
+use crate::{Found, Toolbox, WindowPart};
 use def_iface::{Defined, Hit, Taken};
 use tb_geom::{Point, Refusal};
+use window_list::Window;
 
 impl Toolbox {
     /// Whose the point of the screen is. OutOfRange where it lies outside the range of coordinates.
@@ -42,7 +43,7 @@ impl Toolbox {
             return found_none(WindowPart::InMenuBar);
         }
         match self.window_at(point) {
-            Some(at) => self.windows[at].found(point),
+            Some(at) => found(self.windows.at(at), point),
             None => found_none(WindowPart::InDesk),
         }
     }
@@ -72,29 +73,22 @@ impl Toolbox {
     pub(crate) fn front_window(&self) -> Option<u64>
         ensures { result ≡ front_of (desk_of ⟦<Taken as Defined>⟧.loan self.now []).windows }
     {
-        for window in &self.windows {
-            if window.shown {
-                return Some(window.serial);
-            }
-        }
-        None
+        self.windows.front()
     }
 }
 
-impl Window {
-    /// This window, and the part of it that the point of the screen lies in.
-    fn found(&self, point: Point) -> Found
-        requires settled { IsSettled (record_of ⟦<Taken as Defined>⟧.loan self.now) }
-        requires in_plane { in_plane point ≡ true }
-        ensures { result ≡ record {
-          part = part_of_hit ((⟦<Taken as Defined>⟧.loan self.now.taken).definition.hit (minus point self.now.place));
-          window = Some self.now.serial;
-        } }
-    {
-        Found {
-            part: part_of_hit(self.taken.hit(local(point, self.place))),
-            window: Some(self.serial),
-        }
+/// The window, and the part of it that the point of the screen lies in.
+fn found(window: &Window, point: Point) -> Found
+    requires settled { IsSettled (record_of ⟦<Taken as Defined>⟧.loan window.now) }
+    requires in_plane { in_plane point ≡ true }
+    ensures { result ≡ record {
+      part = part_of_hit ((⟦<Taken as Defined>⟧.loan window.now.taken).definition.hit (minus point window.now.place));
+      window = Some window.now.serial;
+    } }
+{
+    Found {
+        part: part_of_hit(window.taken.hit(local(point, window.place))),
+        window: Some(window.serial),
     }
 }
 

@@ -30,12 +30,11 @@ mod draw;
 mod find;
 pub mod laws;
 mod place;
+mod records;
 mod toolbox;
 mod vis_update;
-mod window_list;
 mod window_mgr;
 
 pub use call::{Call, Drawing, Found, NewWindow, Reply, WindowCall, WindowPart};
 pub use toolbox::{NotBegun, Toolbox};
 pub use vis_update::Area;
-pub use window_list::Window;

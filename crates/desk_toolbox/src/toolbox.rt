@@ -4,7 +4,7 @@ ghost use Rattle.def_iface.specs.Stocked.{SlotView, IsFull};
 ghost use Rattle.desk_toolbox.specs.Begin.{IsEmptyDesk, IsGround, IsEmptyPainted, last_row};
 ghost use Rattle.desk_toolbox.specs.Whole as whole;
 
-use crate::{Area, Window};
+use crate::Area;
 use bit_blit::{Ink, draw_rect, fill};
 use bit_map::{BitMap, Mode, Pattern};
 use def_iface::{Defined, Taken};
@@ -12,6 +12,7 @@ use scan_region::Region;
 use std::alloc::Global;
 use strike_font::Font;
 use tb_geom::{Point, Rect, Refusal};
+use window_list::{Ranks, WindowList};
 
 /// A desk: its screen, its windows, and what of them has to be drawn.
 #[derive(Drop)]
@@ -25,12 +26,9 @@ pub struct Toolbox {
     /// The screen without the menu bar.
     pub(crate) gray: Region,
     /// From front to back.
-    pub(crate) windows: Vec<Window>,
+    pub(crate) windows: WindowList,
     /// Of each window, in the same order.
     pub(crate) areas: Vec<Area>,
-    pub(crate) active: Option<u64>,
-    /// The number of the next window, or none where all are used.
-    pub(crate) next: Option<u64>,
 }
 
 /// A screen without windows.
@@ -74,10 +72,8 @@ impl Toolbox {
                 bar,
                 font,
                 gray,
-                windows: Vec::new(alloc),
+                windows: WindowList::new(Ranks::new(alloc)),
                 areas: Vec::new(alloc),
-                active: None,
-                next: Some(1),
             }),
             Err(refusal) => Err(NotBegun { refusal, font }),
         }

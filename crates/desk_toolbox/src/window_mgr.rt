@@ -1,25 +1,26 @@
 //! The calls of the Window Manager.
-ghost use Rattle.std.specs.Prelude.{◌≡◌, ◌+◌, ◌<◌, true, ◌∷◌, map, if◌then◌else◌, Some, None, IfOk, IfErr, MatchResult, length, vec_len, vec_capacity};
+ghost use Rattle.std.specs.Prelude.{◌≡◌, ◌+◌, ◌<◌, true, [], ◌∷◌, ◌++◌, Some, None, IfOk, IfErr, MatchResult, length, vec_len};
 ghost use Rattle.tb_geom.specs.Rects.{in_plane};
 ghost use Rattle.def_iface.specs.Meaning.{is_fitting};
-ghost use Rattle.desk_toolbox.specs.Records.{state_of};
+ghost use Rattle.desk_toolbox.specs.Records.{desk_of, state_of};
 ghost use Rattle.desk_toolbox.specs.Refused.{first_refusal, judged_refusals, is_placed};
 ghost use Rattle.desk_toolbox.specs.Kept.{IsKept};
-ghost use Rattle.desk_toolbox.specs.Planned.{AreAreasWith, IsPainted, IsUnplanned, SameDesk, IsTicket, IsPlanned, IsAdded, dimmed};
+ghost use Rattle.desk_toolbox.specs.Planned.{AreAreasWith, IsPainted, IsUnplanned, SameDesk, IsTicket, IsPlanned, IsAdded};
 ghost use Rattle.desk_toolbox.specs.Seats.{AreSeatsBehind};
-ghost use Rattle.desk_toolbox.specs.Step.{IsMade, IsNotMade, number_after};
+ghost use Rattle.desk_toolbox.specs.Step.{IsMade, IsNotMade};
 ghost use Rattle.desk_toolbox.specs.Whole.{IsWhole};
 
 use crate::place::{is_placed_alone, is_placed_with};
+use crate::records::{record_for, seat_of};
 use crate::vis_update::{Seat, areas_of};
-use crate::window_list::Title;
-use crate::{Area, NewWindow, Toolbox, Window};
+use crate::{Area, NewWindow, Toolbox};
 use bit_blit::fill;
 use bit_map::{BitMap, Mode, Pattern};
 use def_iface::{Defined, Stage, Stock, Stocked, Taken};
 use draw_port::{Canvas, Cut};
 use strike_font::Font;
 use tb_geom::{Point, Refusal};
+use window_list::Title;
 
 /// As many windows as there may be.
 const MOST_WINDOWS: usize = 64;
@@ -65,10 +66,7 @@ impl Toolbox {
                     Err(refusal)
                 }
             },
-            Err(Refusal::NoDefinition) => {
-                self.judge(window, is_placed_alone(window))?;
-                Err(Refusal::NoDefinition)
-            }
+            Err(Refusal::NoDefinition) => Err(self.refusal_without(window)),
             Err(refusal) => Err(refusal),
         }
     }
@@ -79,22 +77,34 @@ impl Toolbox {
         ensures same { SameDesk self.old self.new }
         ensures ok { let d = (⟦<Taken as Defined>⟧.loan taken.now).definition in IfOk result (λ plan.
             (first_refusal (judged_refusals window.now (is_placed (Some d) window.now.place window.now.size)
-            (vec_len self.old.windows) self.old.next) ≡ None)
+            (length self.old.windows.records.items) self.old.windows.next) ≡ None)
             × IsPlanned ⟦<Taken as Defined>⟧.loan window.now d self.new plan) }
         ensures err { let d = (⟦<Taken as Defined>⟧.loan taken.now).definition in IfErr result (
             IsUnplanned window.now (is_placed (Some d) window.now.place window.now.size)
-            (vec_len self.old.windows) self.old.next) }
+            (length self.old.windows.records.items) self.old.windows.next) }
     {
         let ticket = self.judge(window, is_placed_with(window, taken))?;
         let areas = self.areas_with(window, taken, ticket.serial)?;
-        self.windows.reserve(1)?;
+        self.windows.reserve()?;
         Ok(Plan { ticket, areas })
+    }
+
+    /// Why a window is refused that no definition is left for.
+    fn refusal_without(&self, window: &NewWindow<'_>) -> Refusal
+        ensures { first_refusal (judged_refusals window.now (is_placed None window.now.place window.now.size)
+            (length (desk_of ⟦<Taken as Defined>⟧.loan self.now []).windows) self.now.windows.next
+            ++ (true, Refusal.NoDefinition) ∷ []) ≡ Some result }
+    {
+        match self.judge(window, is_placed_alone(window)) {
+            Ok(_ticket) => Refusal::NoDefinition,
+            Err(refusal) => refusal,
+        }
     }
 
     /// The ticket of a new window, where nothing but its definition and memory can refuse it.
     fn judge(&self, window: &NewWindow<'_>, is_placed: bool) -> Result<Ticket, Refusal>
-        ensures { let refusals = judged_refusals window.now is_placed (vec_len self.now.windows)
-            self.now.next in
+        ensures { let refusals = judged_refusals window.now is_placed (length self.now.windows.records.items)
+            self.now.windows.next in
             MatchResult result (λ ticket. (first_refusal refusals ≡ None) × IsTicket window.now self.now ticket)
             (λ e. first_refusal refusals ≡ Some e) }
     {
@@ -108,7 +118,7 @@ impl Toolbox {
         {
             return Err(Refusal::TooLong);
         }
-        match self.next {
+        match self.windows.next() {
             Some(serial) if self.windows.len() < MOST_WINDOWS => Ok(Ticket { serial, title }),
             _ => Err(Refusal::TooMany),
         }
@@ -124,10 +134,10 @@ impl Toolbox {
         requires kept { IsKept ⟦<Taken as Defined>⟧.loan self.now }
         requires placed { is_placed (Some (⟦<Taken as Defined>⟧.loan taken.now).definition)
             window.now.place window.now.size ≡ true }
-        requires number { self.now.next ≡ Some serial }
+        requires number { self.now.windows.next ≡ Some serial }
         ensures areas { IfOk result (λ areas. AreAreasWith ⟦<Taken as Defined>⟧.loan window.now serial
             (⟦<Taken as Defined>⟧.loan taken.now).definition self.now areas.items) }
-        ensures some { IfOk result (λ areas. vec_len areas ≡ vec_len self.now.windows + 1) }
+        ensures some { IfOk result (λ areas. vec_len areas ≡ length self.now.windows.records.items + 1) }
         ensures refused { IfErr result (λ e. e ≡ Refusal.NoMemory) }
     {
         let nothing = Area::empty(self.alloc);
@@ -146,15 +156,15 @@ impl Toolbox {
 
     /// The windows as they are, behind a new one.
     fn seats_behind<'a>(&'a self, front: Seat<'a>) -> Result<Vec<Seat<'a>>, Refusal>
-        requires { length self.now.areas.items ≡ length self.now.windows.items }
+        requires { length self.now.areas.items ≡ length self.now.windows.records.items }
         ensures seats { IfOk result (λ seats. AreSeatsBehind front.entry
-            self.now.windows.items self.now.areas.items seats.items) }
+            self.now.windows.records.items self.now.areas.items seats.items) }
         ensures refused { IfErr result (λ e. e ≡ Refusal.NoMemory) }
     {
         let mut seats = Vec::with_capacity(self.alloc, self.windows.len() + 1)?;
         seats.push(front).unwrap();
         for at in 0..self.windows.len() {
-            let seat = self.windows[at].seat(&self.areas[at]);
+            let seat = seat_of(self.windows.at(at), &self.areas[at]);
             seats.push(seat).unwrap();
         }
         Ok(seats)
@@ -181,59 +191,10 @@ impl Toolbox {
             window.place,
             &self.font,
         );
-        let added = Window::new(self.alloc, window, serial, title, taken);
-        self.dim_behind(window.shown);
-        self.put_in_front(added);
+        let added = record_for(self.alloc, window, serial, title, taken);
+        self.windows.add(added);
         self.areas = areas;
-        self.active = active_after(window.shown, serial, self.active);
-        self.next = number_after(serial);
     }
-
-    /// Takes the highlighting from the active window where one in front of it is visible, and so is
-    /// to be the active one.
-    fn dim_behind(&mut self, shown: bool)
-        ensures windows { self.new.windows.items
-            ≡ (if shown then map (dimmed self.old.active) self.old.windows.items else self.old.windows.items) }
-        ensures len { vec_len self.new.windows ≡ vec_len self.old.windows }
-        ensures room { vec_capacity self.new.windows ≡ vec_capacity self.old.windows }
-        ensures others { self.new ≡ record self.old { windows = self.new.windows } }
-    {
-        if shown {
-            dim_all(self.windows.as_mut_slice(), self.active);
-        }
-    }
-
-    /// Puts a window in front of all others, where there is room for it.
-    fn put_in_front(&mut self, added: Window)
-        requires { vec_len self.old.windows < vec_capacity self.old.windows }
-        ensures windows { self.new.windows.items ≡ added ∷ self.old.windows.items }
-        ensures others { self.new ≡ record self.old { windows = self.new.windows } }
-    {
-        self.windows.insert(0, added).unwrap();
-    }
-}
-
-/// Takes the highlighting from the active window.
-fn dim_all(windows: &mut [Window], active: Option<u64>)
-    ensures { windows.new ≡ map (dimmed active) windows.old }
-{
-    for window in windows.iter_mut() {
-        window.dim(active);
-    }
-}
-
-/// The window that is active after a new one of this number: that one, if it is visible.
-fn active_after(shown: bool, serial: u64, active: Option<u64>) -> Option<u64>
-    ensures { result ≡ (if shown then Some serial else active) }
-{
-    if shown { Some(serial) } else { active }
-}
-
-/// The number of the window after this one, if there can be one.
-fn number_after(serial: u64) -> Option<u64>
-    ensures { result ≡ number_after serial }
-{
-    serial.checked_add(1)
 }
 
 /// Draws a window's frame, and makes its content white.

@@ -1,16 +1,16 @@
-use Rattle.std.proofs.Common.{map}
+use Rattle.std.proofs.Common.{length, map}
 use Rattle.def_iface.specs.Slots.{slot_views}
 use Rattle.desk_toolbox.specs.Records.{record_of}
 use Rattle.desk_toolbox.proofs.ClosingLemmas.{IsUnderWay}
 use Rattle.desk_toolbox.proofs.close.put_all_away.Given as goal
 
-abbrev pub invariant-loop-window : goal.invariant-loop-window
-invariant-loop-window g l =
+abbrev pub invariant-loop-taken : goal.invariant-loop-taken
+invariant-loop-taken g l =
     IsUnderWay
-    (map (record_of (λ t. record { definition = (goal.WindowDef-dyn g (t.definition.vtable, t.definition.value)).meaning t.definition.value; slot = t.slot })) l.fn.windows.items)
-    (map (record_of (λ t. record { definition = (goal.WindowDef-dyn g (t.definition.vtable, t.definition.value)).meaning t.definition.value; slot = t.slot })) l.windows.items)
+    (map (record_of (λ t. record { definition = (goal.WindowDef-dyn g (t.definition.vtable, t.definition.value)).meaning t.definition.value; slot = t.slot })) l.fn.windows.records.items)
+    (map (record_of (λ t. record { definition = (goal.WindowDef-dyn g (t.definition.vtable, t.definition.value)).meaning t.definition.value; slot = t.slot })) l.windows.records.items)
     (slot_views (λ b. (goal.WindowDef-dyn g (b.vtable, b.value)).meaning b.value) l.fn.stock.slots.items)
     (slot_views (λ b. (goal.WindowDef-dyn g (b.vtable, b.value)).meaning b.value) l.stock.slots.items)
 
-abbrev pub decreases-loop-window : goal.decreases-loop-window
-decreases-loop-window g l = goal.left-loop-window g l
+abbrev pub decreases-loop-taken : goal.decreases-loop-taken
+decreases-loop-taken g l = length l.windows.records.items

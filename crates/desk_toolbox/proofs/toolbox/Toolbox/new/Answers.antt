@@ -15,8 +15,8 @@ returns-in-Ok-clause-begun g c slots full =
       ground = painted;
       rows = refl;
       texts = refl;
-      windows = c.new.ensures.items;
-      areas = c.new-in-Ok.ensures.items;
-      active = refl;
-      next = refl;
+      windows = c.new-in-Ok.ensures.windows;
+      areas = c.new-in-Ok-2.ensures.items;
+      active = c.new-in-Ok.ensures.active;
+      next = c.new-in-Ok.ensures.next;
     }) slots full)

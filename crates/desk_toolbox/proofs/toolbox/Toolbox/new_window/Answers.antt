@@ -1,3 +1,4 @@
+use Rattle.std.proofs.Common.{length}
 use Rattle.desk_toolbox.proofs.NewWindowLemmas as adding
 use Rattle.desk_toolbox.proofs.SlotLemmas as slots
 use Rattle.desk_toolbox.proofs.SameDeskLemmas as keeping
@@ -9,11 +10,11 @@ plan_window-requires g c = kept _ c.args.self.now _ c.requires
 
 pub add_window-requires-clause-placed : goal.add_window-requires-clause-placed
 add_window-requires-clause-placed g c =
-    adding.unrefused_place c.args.window.now _ c.args.self.now.windows.len c.args.self.now.next c.in-Ok-plan_window.ensures.ok.0
+    adding.unrefused_place c.args.window.now _ (length c.args.self.now.windows.records.items) c.args.self.now.windows.next c.in-Ok-plan_window.ensures.ok.0
 
 pub add_window-requires-clause-fits : goal.add_window-requires-clause-fits
 add_window-requires-clause-fits g c =
-    adding.unrefused_fits c.args.window.now _ c.args.self.now.windows.len c.args.self.now.next c.in-Ok-plan_window.ensures.ok.0
+    adding.unrefused_fits c.args.window.now _ (length c.args.self.now.windows.records.items) c.args.self.now.windows.next c.in-Ok-plan_window.ensures.ok.0
 
 pub returns-in-Err-plan_window-clause-whole : goal.returns-in-Err-plan_window-clause-whole
 returns-in-Err-plan_window-clause-whole g c =

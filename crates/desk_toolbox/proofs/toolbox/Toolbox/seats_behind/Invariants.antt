@@ -1,10 +1,10 @@
-use Rattle.std.proofs.Common.{◌≡◌, ◌+◌, ◌≤◌, take}
+use Rattle.std.proofs.Common.{◌≡◌, ◌+◌, ◌≤◌, length, take}
 use Rattle.desk_toolbox.specs.Seats.{AreSeatsBehind}
 use Rattle.desk_toolbox.proofs.toolbox.Toolbox.seats_behind.Given as goal
 
 abbrev pub invariant-loop-at : goal.invariant-loop-at
 invariant-loop-at g l = record {
-  seats : AreSeatsBehind l.front (take l.at l.self.windows.items) (take l.at l.self.areas.items) l.seats.items;
+  seats : AreSeatsBehind l.front (take l.at l.self.windows.records.items) (take l.at l.self.areas.items) l.seats.items;
   made : l.seats.len ≡ l.at + 1;
-  room : l.self.windows.len + 1 ≤ l.seats.cap;
+  room : length l.self.windows.records.items + 1 ≤ l.seats.cap;
 }

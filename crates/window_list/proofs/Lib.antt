@@ -1,0 +1,4 @@
+-- Lemmas on values in an order of their own.
+pub mod RanksLemmas
+pub mod ListLemmas
+pub mod NumberLemmas

@@ -1,0 +1,4 @@
+-- What the contracts speak of.
+pub mod Ranks
+pub mod Lends
+pub mod Lists

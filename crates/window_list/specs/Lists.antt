@@ -1,0 +1,85 @@
+-- The windows of a list, and one of them changed.
+use Rattle.std.specs.Prelude.{◌≡◌, ℕ, Bool, ◌==◌, List, [], ◌∷◌, Option, None, Some, if◌then◌else◌, zero, suc, map, nat_lt, false, ◌+◌, ◌++◌, ◌^◌, true, slice_set}
+use Rattle.arrayvec.specs.ArrayVec.{ArrayVec}
+use Rattle.tb_geom.specs.declared.point.Point.{Point}
+use Rattle.draw_port.specs.declared.shapes.Op.{Op}
+use Rattle.def_iface.specs.declared.size.Size.{Size}
+use Rattle.def_iface.specs.declared.taken.Taken.{Taken}
+use Rattle.def_iface.specs.declared.window_def.Stage.TheVariants.{Closed}
+use Rattle.def_iface.specs.Meaning.{Loan, SameRegions}
+use Rattle.window_list.specs.Ranks.{Ranked}
+use Rattle.window_list.specs.declared.window.Window.{Window}
+
+-- the list with f of its i-th element in the place of that
+abbrev pub edit : {T : Type 0} → (T → T) → ℕ → List T → List T
+edit f i [] = []
+edit f zero (x ∷ xs) = f x ∷ xs
+edit f (suc i) (x ∷ xs) = x ∷ edit f i xs
+
+abbrev pub edit_at : {T : Type 0} → (T → T) → ℕ → Ranked T → Ranked T
+edit_at f i r = record r { items = edit f i r.items }
+
+-- the list with f of each element in the place of that
+abbrev pub map_ranked : {T : Type 0} → (T → T) → Ranked T → Ranked T
+map_ranked f r = record r { items = map f r.items }
+
+-- the number after this one, of 64 bits
+abbrev pub number_after : ℕ → Option ℕ
+number_after n = if nat_lt (n + 1) (2 ^ 64) then Some (n + 1) else None
+
+module _ {V : Type 0} {H : V → Type 0} where
+  -- the window, without its highlighting if it is the one of this number
+  abbrev pub dimmed : Option ℕ → Window V H → Window V H
+  dimmed None w = w
+  dimmed (Some s) w = if w.serial == s then record w { highlighted = false } else w
+
+  -- the window has this number
+  abbrev pub is_numbered : ℕ → Window V H → Bool
+  is_numbered serial w = w.serial == serial
+
+  -- the number of the first visible window
+  abbrev pub first_shown : List (Window V H) → Option ℕ
+  first_shown [] = None
+  first_shown (w ∷ ws) = if w.shown then Some w.serial else first_shown ws
+
+  abbrev pub with_place : Point → Window V H → Window V H
+  with_place place w = record w { place = place }
+
+  abbrev pub with_size : Size → Window V H → Window V H
+  with_size size w = record w { size = size }
+
+  abbrev pub with_shown : Bool → Window V H → Window V H
+  with_shown shown w = record w { shown = shown }
+
+  abbrev pub with_highlighted : Bool → Window V H → Window V H
+  with_highlighted highlighted w = record w { highlighted = highlighted }
+
+  -- the window, highlighted if it is the one of this number
+  abbrev pub lit : Option ℕ → Window V H → Window V H
+  lit None w = w
+  lit (Some s) w = if w.serial == s then record w { highlighted = true } else w
+
+  -- the window where another one becomes active in the place of the former
+  abbrev pub relit : Option ℕ → Option ℕ → Window V H → Window V H
+  relit former active w = lit active (dimmed former w)
+
+  abbrev pub with_title : ArrayVec ℕ → Window V H → Window V H
+  with_title title w = record w { title = title }
+
+  -- the window with this operation behind all others of its picture
+  abbrev pub with_operation : Op → Window V H → Window V H
+  with_operation op w = record w { picture = w.picture ++ op ∷ [] }
+
+  -- the definition of the i-th window, which is w, was disposed of
+  pub record IsDisposedAt (loan : Taken V H → Loan) (i : ℕ) (w : Window V H) (old new : List (Window V H)) : Type 0 where
+    pub taken : Taken V H
+    pub items : new ≡ slice_set old i (record w { taken = taken })
+    pub closed : (loan taken).definition.stage ≡ Closed
+    pub regions : SameRegions (loan w.taken).definition (loan taken).definition
+    pub slot : (loan taken).slot ≡ (loan w.taken).slot
+
+  -- the definition was the last window's, and that window is gone
+  pub record IsLastBox (old : List (Window V H)) (taken : Taken V H) (new : List (Window V H)) : Type 0 where
+    pub window : Window V H
+    pub last : old ≡ new ++ window ∷ []
+    pub its : taken ≡ window.taken

@@ -1,0 +1,22 @@
+//! The windows of a desk, as one list from front to back.
+//!
+//! A window's record (`Window`) holds all that is its own: its number, its place and size, its title,
+//! its picture and its definition. A record can only be changed by the list that it lies in.
+//!
+//! `Ranks` is a list whose values stay where they lie while their order changes. They lie in a slab, and
+//! the order is a list of their keys. A reader of its contracts sees neither: he sees the list of the values
+//! in their order, and how many fit without more memory. Only `reserve` takes memory.
+//!
+//! `WindowList` has the windows so, and with them the number of the active window and the number of the
+//! next. What makes a window active and what that does to the highlighting of two windows is said here once,
+//! and so is the order of the numbers. Each call that changes one window says which, by its place from the
+//! front; `find` gives the place of a number.
+#![tactic(auto)]
+
+mod list;
+mod ranks;
+mod window;
+
+pub use list::WindowList;
+pub use ranks::Ranks;
+pub use window::{Title, Window};

@@ -1,0 +1,264 @@
+//! The windows of a desk, which of them is active, and the number of the next.
+ghost use Rattle.std.specs.Prelude.{◌≡◌, ◌<◌, nat_lt, ◌==◌, [], ◌∷◌, length, map, if◌then◌else◌, position, slice_index_or, slice_get, Some, None, OnOk, OnErr, IfErr, IfNone, IfSome};
+ghost use Rattle.std.specs.List.{remove};
+ghost use Rattle.std.specs.Option.{option_map};
+ghost use Rattle.window_list.specs.Ranks.{moved};
+ghost use Rattle.window_list.specs.Lists.{is_numbered, first_shown, dimmed, relit, number_after, map_ranked, edit_at, IsLastBox, with_place, with_size, with_shown, with_highlighted, with_title, with_operation, IsDisposedAt};
+
+use crate::{Ranks, Title, Window};
+use def_iface::{Defined, Size, Stage, Taken};
+use draw_port::Op;
+use std::alloc::Global;
+use tb_geom::{Point, Refusal};
+
+/// Windows from front to back.
+#[derive(Drop)]
+pub struct WindowList {
+    pub(crate) records: Ranks<Window>,
+    pub(crate) active: Option<u64>,
+    /// The number of the next window, or none where all are used.
+    pub(crate) next: Option<u64>,
+}
+
+impl WindowList {
+    /// A list of no windows, which are to lie here; the first will have the number 1.
+    pub fn new(records: Ranks<Window>) -> WindowList
+        requires { records.items ≡ [] }
+        ensures windows { result.records.items ≡ [] }
+        ensures active { result.active ≡ None }
+        ensures next { result.next ≡ Some 1 }
+    {
+        WindowList {
+            records,
+            active: None,
+            next: Some(1),
+        }
+    }
+
+    /// How many windows there are.
+    pub fn len(&self) -> usize
+        ensures { result ≡ length self.now.records.items }
+    {
+        self.records.len()
+    }
+
+    /// The number of the active window.
+    pub fn active(&self) -> Option<u64>
+        ensures { result ≡ self.now.active }
+    {
+        self.active
+    }
+
+    /// The number of the next window, or none where all are used.
+    pub fn next(&self) -> Option<u64>
+        ensures { result ≡ self.now.next }
+    {
+        self.next
+    }
+
+    /// The window at a place, counted from the front.
+    pub fn at(&self, at: usize) -> &Window
+        requires { at < length self.now.records.items }
+        ensures { result.now ≡ slice_index_or self.now.records.items at result.now }
+    {
+        self.records.at(at)
+    }
+
+    /// The place of the first window of this number.
+    pub fn find(&self, serial: u64) -> Option<usize>
+        ensures { result ≡ position (is_numbered serial) self.now.records.items }
+    {
+        for at in 0..self.records.len() {
+            if self.records.at(at).serial == serial {
+                return Some(at);
+            }
+        }
+        None
+    }
+
+    /// The number of the first visible window.
+    pub fn front(&self) -> Option<u64>
+        ensures { result ≡ first_shown self.now.records.items }
+    {
+        for at in 0..self.records.len() {
+            let window = self.records.at(at);
+            if window.shown {
+                return Some(window.serial);
+            }
+        }
+        None
+    }
+
+    /// Makes room for one window more.
+    pub fn reserve(&mut self) -> Result<(), Refusal>
+        ensures items { self.new.records.items ≡ self.old.records.items }
+        ensures room { OnOk result (length self.new.records.items < self.new.records.capacity) }
+        ensures refused { IfErr result (λ e. e ≡ Refusal.NoMemory) }
+        ensures others { self.new ≡ record self.old { records = self.new.records } }
+    {
+        self.records.reserve()?;
+        Ok(())
+    }
+
+    /// Puts a new window in front of all others, where there is room. A visible one becomes the
+    /// active one, in place of the window that was.
+    pub fn add(&mut self, window: Window)
+        requires { length self.old.records.items < self.old.records.capacity }
+        ensures { self.new ≡ record {
+          records = record {
+            items = window ∷ (if window.shown then map (dimmed self.old.active) self.old.records.items
+                else self.old.records.items);
+            capacity = self.old.records.capacity;
+          };
+          active = if window.shown then Some window.serial else self.old.active;
+          next = number_after window.serial;
+        } }
+    {
+        self.next = number_after(window.serial);
+        if window.shown {
+            self.dim();
+            self.active = Some(window.serial);
+        }
+        self.records.insert(0, window);
+    }
+
+    /// Takes the highlighting from the active window.
+    fn dim(&mut self)
+        ensures { self.new ≡ record self.old { records = map_ranked (dimmed self.old.active) self.old.records } }
+    {
+        let active = self.active;
+        for at in 0..self.records.len() {
+            let window = self.records.at_mut(at);
+            window.dim(active);
+        }
+    }
+
+    /// Takes the window at this place out.
+    pub fn remove(&mut self, at: usize) -> Window
+        requires { at < length self.old.records.items }
+        ensures value { result ≡ slice_index_or self.old.records.items at result }
+        ensures items { self.new.records.items ≡ remove self.old.records.items at }
+        ensures others { self.new ≡ record self.old { records = self.new.records } }
+    {
+        self.records.remove(at)
+    }
+
+    /// Moves the window at a place to another, counted without it.
+    pub fn move_to(&mut self, from: usize, to: usize)
+        requires from { from < length self.old.records.items }
+        requires to { to < length self.old.records.items }
+        ensures items { self.new.records.items ≡ moved self.old.records.items from to }
+        ensures others { self.new ≡ record self.old { records = self.new.records } }
+    {
+        self.records.place(from, to);
+    }
+
+    /// Shows or hides the window at this place.
+    pub fn set_shown(&mut self, at: usize, shown: bool)
+        requires { at < length self.old.records.items }
+        ensures { self.new ≡ record self.old { records = edit_at (with_shown shown) at self.old.records } }
+    {
+        let window = self.records.at_mut(at);
+        window.shown = shown;
+    }
+
+    /// Sets where the window at this place stands.
+    pub fn set_place(&mut self, at: usize, place: Point)
+        requires { at < length self.old.records.items }
+        ensures { self.new ≡ record self.old { records = edit_at (with_place place) at self.old.records } }
+    {
+        let window = self.records.at_mut(at);
+        window.place = place;
+    }
+
+    /// Sets how large the window at this place is.
+    pub fn set_size(&mut self, at: usize, size: Size)
+        requires { at < length self.old.records.items }
+        ensures { self.new ≡ record self.old { records = edit_at (with_size size) at self.old.records } }
+    {
+        let window = self.records.at_mut(at);
+        window.size = size;
+    }
+
+    /// Highlights the window at this place, or not.
+    pub fn set_highlighted(&mut self, at: usize, highlighted: bool)
+        requires { at < length self.old.records.items }
+        ensures { self.new ≡ record self.old { records = edit_at (with_highlighted highlighted) at self.old.records } }
+    {
+        let window = self.records.at_mut(at);
+        window.highlighted = highlighted;
+    }
+
+    /// Gives the window at this place another title.
+    pub fn set_title(&mut self, at: usize, title: Title)
+        requires { at < length self.old.records.items }
+        ensures { self.new ≡ record self.old { records = edit_at (with_title title) at self.old.records } }
+    {
+        let window = self.records.at_mut(at);
+        window.title = title;
+    }
+
+    /// Adds an operation behind all others of the picture of the window at this place. What refuses
+    /// it leaves the list as it was.
+    pub fn push_operation(&mut self, at: usize, operation: Op) -> Result<(), Refusal>
+        requires { at < length self.old.records.items }
+        ensures added { OnOk result (self.new ≡ record self.old { records = edit_at (with_operation operation) at self.old.records }) }
+        ensures kept { OnErr result (self.new ≡ self.old) }
+        ensures refused { IfErr result (λ e. IfSome (slice_get self.old.records.items at) (λ w.
+            e ≡ (if nat_lt (length w.picture) 1024 then Refusal.NoMemory else Refusal.TooMany))) }
+    {
+        let window = self.records.at_mut(at);
+        window.picture.push(operation)
+    }
+
+    /// Makes the window of this number the active one and highlights it; the window that was active
+    /// before, if it is another, loses its highlighting. With None no window is active.
+    pub fn set_active(&mut self, active: Option<u64>)
+        ensures { self.new ≡ record self.old {
+          records = map_ranked (relit self.old.active active) self.old.records;
+          active = active;
+        } }
+    {
+        let former = self.active;
+        for at in 0..self.records.len() {
+            let window = self.records.at_mut(at);
+            window.relight(former, active);
+        }
+        self.active = active;
+    }
+
+    /// Ends the use of the definition of the window at this place.
+    pub fn dispose(&mut self, at: usize)
+        requires within { at < length self.old.records.items }
+        requires live { IfSome (slice_get self.old.records.items at)
+            (λ w. (⟦<Taken as Defined>⟧.loan w.taken).definition.stage ≡ Stage.Live) }
+        ensures disposed { IfSome (slice_get self.old.records.items at) (λ w. IsDisposedAt ⟦<Taken as Defined>⟧.loan
+            at w self.old.records.items self.new.records.items) }
+        ensures others { self.new ≡ record self.old { records = self.new.records } }
+    {
+        let window = self.records.at_mut(at);
+        window.taken.dispose();
+    }
+
+    /// Takes the rearmost window's definition out and ends the window, or answers None where no window
+    /// is left.
+    pub fn next_box(&mut self) -> Option<Taken>
+        ensures taken { IfSome result (λ taken. IsLastBox self.old.records.items taken self.new.records.items) }
+        ensures none { IfNone result (self.old.records.items ≡ []) }
+        ensures others { self.new ≡ record self.old { records = self.new.records } }
+    {
+        let count = self.records.len();
+        if count == 0 {
+            return None;
+        }
+        let Window { taken, .. } = self.records.remove(count - 1);
+        Some(taken)
+    }
+}
+
+/// The number of the window after this one, if there can be one.
+fn number_after(serial: u64) -> Option<u64>
+    ensures { result ≡ number_after serial }
+{
+    serial.checked_add(1)
+}

@@ -1,0 +1,50 @@
+//! A window's record.
+
+ghost use Rattle.std.specs.Prelude.{◌≡◌};
+ghost use Rattle.window_list.specs.Lists.{dimmed, relit};
+
+use arrayvec::ArrayVec;
+use def_iface::{Size, Taken};
+use draw_port::Picture;
+use tb_geom::Point;
+
+/// A title: at most 255 bytes.
+pub type Title = ArrayVec<u8, 255>;
+
+/// A window's record. Whoever has it may read it; what lies in a list is changed by the list alone.
+#[derive(Drop)]
+pub struct Window {
+    pub serial: u64,
+    /// Where the content's 0 0 lies on the screen.
+    pub place: Point,
+    pub size: Size,
+    pub shown: bool,
+    pub highlighted: bool,
+    pub go_away: bool,
+    pub title: Title,
+    pub picture: Picture,
+    /// Where the picture's own 0 0 lies in the window.
+    pub origin: Point,
+    pub taken: Taken,
+}
+
+impl Window {
+    /// Takes the highlighting away, if this is the active window.
+    pub(crate) fn dim(&mut self, active: Option<u64>)
+        ensures { self.new ≡ dimmed active self.old }
+    {
+        if active == Some(self.serial) {
+            self.highlighted = false;
+        }
+    }
+
+    /// Highlights the window if it is to be the active one, and not if it was.
+    pub(crate) fn relight(&mut self, former: Option<u64>, active: Option<u64>)
+        ensures { self.new ≡ relit former active self.old }
+    {
+        self.dim(former);
+        if active == Some(self.serial) {
+            self.highlighted = true;
+        }
+    }
+}
