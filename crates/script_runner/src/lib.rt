@@ -1,9 +1,9 @@
 //! The runner of scripts: the bytes of a script go in, and what each of its lines answers comes out.
 //!
-//! `run` reads bytes from a `Source`, cuts them into lines, and has each answered on a `Sink` before it reads
-//! on. A line is a command, a comment or nothing, as `script_text` says. A `Session` holds the script's desk,
-//! which the first command makes, and answers one command: a call of the Toolbox by the line of its reply, and
-//! `image` by the bytes that `screen_pbm` writes.
+//! `run` makes the font of the desk's texts first. Then it reads bytes from a `Source`, cuts them into lines,
+//! and has each answered on a `Sink` before it reads on. A line is a command, a comment or nothing, as
+//! `script_text` says. A `Session` holds the script's desk, which the first command makes, and answers one
+//! command: a call of the Toolbox by the line of its reply, and `image` by the bytes that `screen_pbm` writes.
 //!
 //! What a script answers is stated apart from all this code, in `specs/`: `Session` says what may be answered
 //! to a line and what that leaves of the desk, over the Toolbox's own steps, and `Runs` how a run ends. The

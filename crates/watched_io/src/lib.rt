@@ -10,8 +10,8 @@
 //! tries again.
 //!
 //! `send` and `send_all` write a text to its end (`Sends`): at `Ok` all of it went out, at `Err` a front of
-//! it, and the sink tells that it failed. `WatchedReader` and `WatchedWriter` make a source and a sink of
-//! any reader and writer.
+//! it, and the sink tells that it failed. `read_all` reads a source to its end. `WatchedReader` and
+//! `WatchedWriter` make a source and a sink of any reader and writer.
 #![tactic(auto)]
 
 mod sink;
