@@ -3,4 +3,3 @@ pub mod Painting
 pub mod Owning
 pub mod Changing
 pub mod StockLemmas
-pub mod CanvasLemmas

@@ -1,5 +1,5 @@
 -- What a window's definition is, seen from outside.
-use Rattle.std.specs.Prelude.{◌≡◌, ℕ, Bool, true, false, ◌&&◌}
+use Rattle.std.specs.Prelude.{◌≡◌, ℕ, Bool, true, false, ◌&&◌, List}
 use Rattle.tb_geom.specs.declared.point.Point.{Point}
 use Rattle.tb_geom.specs.declared.rect.Rect.{Rect}
 use Rattle.tb_geom.specs.Points.{PixelSet}
@@ -13,14 +13,15 @@ use Rattle.def_iface.specs.declared.window_def.WindowChange.TheVariants.{Resized
 use Rattle.def_iface.specs.Sizes.{is_size}
 
 -- A definition as a value: its stage, the size that it was told, its regions and their box as functions of the size
--- alone, its picture, and which part of the window a point of the structure lies in; points are local to the window.
+-- alone, its picture in a font, which is the list of its bytes, and which part of the window a point of the structure lies
+-- in; points are local to the window.
 pub record Definition : Type 0 where
   pub stage : Stage
   pub size : Size
   pub structure : Size → PixelSet
   pub content : Size → PixelSet
   pub bounds : Size → Rect
-  pub picture : PixelSet
+  pub picture : List ℕ → PixelSet
   pub hit : Point → Hit
 
 -- a definition that is out of its slot, and the number of that slot
@@ -42,9 +43,10 @@ is_fitting d s = is_size s && is_in_range (d.bounds s)
 abbrev pub size_after : WindowChange → Size → Size
 size_after (Resized s) old = s
 
--- the pictures are equal outside the damage, as far as coordinates go
+-- in every font, the pictures are equal outside the damage, as far as coordinates go
 abbrev pub IsDamage : Rect → Definition → Definition → Type 0
-IsDamage damage old new = (p : Point) → in_plane p ≡ true → rect_holds damage p ≡ false → new.picture p ≡ old.picture p
+IsDamage damage old new =
+    (font : List ℕ) (p : Point) → in_plane p ≡ true → rect_holds damage p ≡ false → new.picture font p ≡ old.picture font p
 
 -- the set lies within the other
 abbrev pub IsWithin : PixelSet → PixelSet → Type 0

@@ -4,11 +4,12 @@ ghost use Rattle.tb_geom.specs.declared.point.Point.{Point};
 ghost use Rattle.tb_geom.specs.Rects.{IsBoxOf, rect_holds, is_empty_rect, empty_rect};
 ghost use Rattle.tb_geom.specs.Pixels.{holds};
 ghost use Rattle.bit_blit.specs.Draws.{Draws};
+ghost use Rattle.draw_port.specs.Canvases.{canvas_holds, canvas_point, SameFrame};
 ghost use Rattle.def_iface.specs.Sizes.{is_size};
-ghost use Rattle.def_iface.specs.Canvases.{canvas_holds, canvas_point, SameFrame};
 ghost use Rattle.def_iface.specs.Meaning.{Loan, SameRegions, IsWithin, IsBegun, is_fitting};
 
-use crate::{Canvas, Hit, Size, Stage, WindowChange, WindowDef, WindowRegions};
+use crate::{Hit, Size, Stage, WindowChange, WindowDef, WindowRegions};
+use draw_port::Canvas;
 use std::alloc::Global;
 use tb_geom::{Point, Rect, Refusal};
 
@@ -83,7 +84,8 @@ impl Taken {
         self.definition.hit(point)
     }
 
-    /// Gives each pixel of the canvas the value that the definition's picture has there.
+    /// Gives each pixel of the canvas the value that the definition's picture has there in the canvas's
+    /// font.
     pub fn draw(&self, canvas: &mut Canvas<'_>)
         requires live { (⟦<Taken as Defined>⟧.loan self.now).definition.stage ≡ Stage.Live }
         requires told { is_fitting (⟦<Taken as Defined>⟧.loan self.now).definition
@@ -91,7 +93,7 @@ impl Taken {
         ensures same_map { canvas.new.map.ghost_name ≡ canvas.old.map.ghost_name }
         ensures same_frame { SameFrame canvas.old canvas.new }
         ensures drawn { Draws (canvas_holds canvas.old)
-            (λ p _. (⟦<Taken as Defined>⟧.loan self.now).definition.picture (canvas_point canvas.old p))
+            (λ p _. (⟦<Taken as Defined>⟧.loan self.now).definition.picture canvas.old.font.now (canvas_point canvas.old p))
             canvas.old.map.now canvas.new.map.now }
     {
         self.definition.draw(canvas);

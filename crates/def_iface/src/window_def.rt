@@ -5,11 +5,12 @@ ghost use Rattle.tb_geom.specs.Points.{minus};
 ghost use Rattle.tb_geom.specs.Rects.{IsBoxOf, rect_holds, is_empty_rect, empty_rect};
 ghost use Rattle.tb_geom.specs.Pixels.{holds};
 ghost use Rattle.bit_blit.specs.Draws.{Draws};
+ghost use Rattle.draw_port.specs.Canvases.{canvas_holds, canvas_point, SameFrame};
 ghost use Rattle.def_iface.specs.Sizes.{is_size};
-ghost use Rattle.def_iface.specs.Canvases.{canvas_holds, canvas_point, SameFrame};
 ghost use Rattle.def_iface.specs.Meaning.{Definition, SameRegions, IsDamage, IsWithin, is_fitting, size_after};
 
-use crate::{Canvas, Size};
+use crate::Size;
+use draw_port::Canvas;
 use scan_region::Region;
 use std::alloc::Global;
 use tb_geom::{Point, Rect, Refusal};
@@ -76,8 +77,8 @@ pub trait WindowDef: Drop {
         ensures live { (meaning self.new).stage ≡ Stage.Live }
         ensures regions { SameRegions (meaning self.old) (meaning self.new) };
 
-    /// Tells a Live definition of a change. The answer is the damage: outside it the pictures before
-    /// and after are equal, within the range of coordinates.
+    /// Tells a Live definition of a change. The answer is the damage: in every font the pictures before
+    /// and after are equal outside it, within the range of coordinates.
     fn told(&mut self, change: WindowChange) -> Rect
         requires live { (meaning self.old).stage ≡ Stage.Live }
         requires fits { is_fitting (meaning self.old) (size_after change (meaning self.old).size) ≡ true }
@@ -112,14 +113,14 @@ pub trait WindowDef: Drop {
         requires told { is_fitting (meaning self.now) (meaning self.now).size ≡ true }
         ensures { result ≡ (meaning self.now).hit point };
 
-    /// Gives each pixel of the canvas the value that the picture has there.
+    /// Gives each pixel of the canvas the value that the picture has there in the canvas's font.
     fn draw(&self, canvas: &mut Canvas<'_>)
         requires live { (meaning self.now).stage ≡ Stage.Live }
         requires told { is_fitting (meaning self.now) (meaning self.now).size ≡ true }
         ensures same_map { canvas.new.map.ghost_name ≡ canvas.old.map.ghost_name }
         ensures same_frame { SameFrame canvas.old canvas.new }
         ensures drawn { Draws (canvas_holds canvas.old)
-            (λ p _. (meaning self.now).picture (canvas_point canvas.old p))
+            (λ p _. (meaning self.now).picture canvas.old.font.now (canvas_point canvas.old p))
             canvas.old.map.now canvas.new.map.now };
 
     /// Ends a Live definition's use.

@@ -1,23 +1,23 @@
 //! The program `desk`: a script of Toolbox calls goes in, and what each of its lines answers comes out.
 //!
 //! Here is only what a program does once: it reads its command line, fills a stock with window definitions,
-//! opens the script, and ends with a status. How a script is answered is `script_runner::run`, and its contract
+//! reads the font, opens the script, and ends with a status. How a script is answered is `script_runner::run`, and its contract
 //! says of the bytes that went out that they are the answers to the lines that came in.
 #![tactic(auto)]
 
-ghost use Rattle.std.specs.Prelude.{◌≡◌, All, OnOk, OnErr};
+ghost use Rattle.std.specs.Prelude.{◌≡◌, All, IfOk, OnOk, OnErr, is_some};
 ghost use Rattle.std.specs.Process.{exit_status};
 ghost use Rattle.def_iface.specs.Stocked.{IsFull};
 
 use def_iface::{Stock, Stocked, WindowDef};
-use script_runner::{OptionsError, options, run};
+use script_runner::{Choices, OptionsError, options, run};
 use std::alloc::AllocError;
 use std::process::ExitCode;
 use std::rt::Files;
 use std::{env, fs, io};
 use std_wdef::PlainWindow;
 use tb_geom::Refusal;
-use watched_io::{WatchedReader, WatchedWriter};
+use watched_io::{WatchedReader, WatchedWriter, read_all};
 
 /// How many definitions of a kind of window the stock begins with.
 const DEFINITIONS: u8 = 16;
@@ -25,7 +25,7 @@ const DEFINITIONS: u8 = 16;
 /// What is said where the words of the command line cannot be had as text. The first of them is the path by
 /// which the program was called.
 const UNREADABLE: &str =
-    "desk: the command line cannot be read: call the program by a path in UTF-8, and name a script in UTF-8 or give it on standard input";
+    "desk: the command line cannot be read: call the program by a path in UTF-8, and name the files in UTF-8 or give the script on standard input";
 
 /// How the program ends: a run that was stopped is named on standard error.
 fn ended(rt: &impl Eprint, outcome: Result<(), Refusal>) -> ExitCode
@@ -57,24 +57,46 @@ fn unreadable_words(rt: &impl Eprint) -> ExitCode
     ExitCode::from(2)
 }
 
-/// Runs the script, from its file or from standard input, to standard output.
+/// The bytes of the font's file, where one is named. ReadFault where it cannot be opened or read to its
+/// end, and NoMemory where there is none to hold them.
+fn font_bytes(
+    rt: &(impl Files + AllocGlobal),
+    path: Option<&str>,
+) -> Result<Option<Vec<u8>>, Refusal>
+    ensures { IfOk result (λ bytes. is_some bytes ≡ is_some path.entry) }
+{
+    let Some(path) = path else {
+        return Ok(None);
+    };
+    let Ok(file) = fs::open(rt, path) else {
+        return Err(Refusal::ReadFault);
+    };
+    let mut source = WatchedReader::new(file);
+    let bytes = read_all(rt.alloc(), &mut source)?;
+    Ok(Some(bytes))
+}
+
+/// Runs the script, from its file or from standard input, to standard output. Both files are opened
+/// before the font is judged.
 fn run_script(
     rt: &(impl Files + Input + Print + AllocGlobal),
-    script: Option<&str>,
+    chosen: &Choices<'_>,
     stock: &mut Stock,
 ) -> Result<(), Refusal>
     requires { All IsFull (⟦<Stock as Stocked>⟧.slots stock.old) }
 {
+    let bytes = font_bytes(rt, chosen.font)?;
+    let font = bytes.as_ref().map(|bytes| bytes.as_slice());
     let mut sink = WatchedWriter::new(io::writer(rt));
-    match script {
+    match chosen.script {
         None => {
             let mut source = WatchedReader::new(rt.reader());
-            run(rt.alloc(), &mut source, &mut sink, stock)
+            run(rt.alloc(), &mut source, &mut sink, stock, font)
         }
         Some(path) => match fs::open(rt, path) {
             Ok(file) => {
                 let mut source = WatchedReader::new(file);
-                run(rt.alloc(), &mut source, &mut sink, stock)
+                run(rt.alloc(), &mut source, &mut sink, stock, font)
             }
             Err(_) => Err(Refusal::ReadFault),
         },
@@ -107,5 +129,5 @@ fn main(rt: HostRuntime) -> ExitCode {
             return ended(&rt, Err(Refusal::NoMemory));
         };
     }
-    ended(&rt, run_script(&rt, chosen.script, &mut stock))
+    ended(&rt, run_script(&rt, &chosen, &mut stock))
 }

@@ -18,7 +18,7 @@ titled_box s = record { left = negsuc 0; top = negsuc 3; right = s.width +ℤ po
 abbrev pub titled_hit : Size → Point → Hit
 titled_hit s p = if rect_holds (rect_of s) p then InContent else InDrag
 
--- A titled window's definition as a value. Its picture is black wherever the content is not.
+-- A titled window's definition as a value. Its picture is black wherever the content is not, in every font.
 abbrev pub titled_window : Stage → Size → Definition
 titled_window stage size = record {
   stage = stage;
@@ -26,6 +26,6 @@ titled_window stage size = record {
   structure = λ s. rect_holds (titled_box s);
   content = λ s. rect_holds (rect_of s);
   bounds = titled_box;
-  picture = λ p. not (rect_holds (rect_of size) p);
+  picture = λ font p. not (rect_holds (rect_of size) p);
   hit = titled_hit size;
 }

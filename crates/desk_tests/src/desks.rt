@@ -6,11 +6,12 @@ ghost use Rattle.desk_toolbox.specs.Whole.{IsWhole};
 use crate::titled_window::Titled;
 use bit_map::BitMap;
 use def_iface::{Defined, Size, Stock, Stocked, Taken, WindowDef};
-use desk_toolbox::{Call, Found, NewWindow, Reply, Toolbox, WindowCall, WindowPart};
-use op_ref::BytesRef;
+use desk_toolbox::{Call, Drawing, Found, NewWindow, Reply, Toolbox, WindowCall, WindowPart};
+use op_ref::{BytesRef, OpRef, ShapeRef};
 use ground_tests::pixels::{Pixels, are_alike, mark};
 use std::alloc::{AllocError, Global};
 use std::test::Fail;
+use strike_font::Font;
 use tb_geom::{Point, Rect, Refusal};
 
 /// The pixels of the desks that are looked at.
@@ -49,7 +50,10 @@ fn shows(screen: &BitMap, bar: i32, columns: &'static [i32]) -> bool {
 #[test]
 fn a_desk_begins_gray_below_a_white_bar(rt: HostRuntime) -> Result<(), Fail> {
     for bar in [20, 0] {
-        let desk = Toolbox::new(rt.alloc(), 24, 30, bar)?;
+        let font = Font::built_in(rt.alloc())?;
+        let Ok(desk) = Toolbox::new(rt.alloc(), 24, 30, bar, font) else {
+            return Err(Fail::from(Refusal::NoMemory));
+        };
         assert!(rt; shows(desk.screen(), bar, &[]));
     }
     Ok(())
@@ -70,7 +74,10 @@ const SCREENS: [(i32, i32, i32, Result<Rect, Refusal>); 9] = [
 
 /// The bounds of a desk's screen.
 fn bounds(alloc: Global, width: i32, height: i32, bar: i32) -> Result<Rect, Refusal> {
-    Ok(Toolbox::new(alloc, width, height, bar)?.screen().bounds())
+    match Toolbox::new(alloc, width, height, bar, Font::built_in(alloc)?) {
+        Ok(desk) => Ok(desk.screen().bounds()),
+        Err(not_begun) => Err(not_begun.refusal),
+    }
 }
 
 #[test]
@@ -228,7 +235,9 @@ fn calls_in_a_row_are_answered_in_their_order(rt: HostRuntime) -> Result<(), Fai
             return Err(Fail::from(Refusal::NoMemory));
         };
     }
-    let mut desk = Toolbox::new(alloc, 24, 30, 20)?;
+    let Ok(mut desk) = Toolbox::new(alloc, 24, 30, 20, Font::built_in(alloc)?) else {
+        return Err(Fail::from(Refusal::NoMemory));
+    };
     let answers = desk.run(asked(alloc)?.as_slice(), &mut stock)?;
     assert!(rt; answers.as_slice() == answered(alloc)?.as_slice());
     assert!(rt; shows(desk.screen(), 20, &[5, 9]));
@@ -250,7 +259,9 @@ fn a_window_is_made_once(rt: HostRuntime) -> Result<(), Fail> {
     let Ok(()) = stock.add(b"titled", Box::new(alloc, Titled::new())?) else {
         return Err(Fail::from(Refusal::NoMemory));
     };
-    let mut desk = Toolbox::new(alloc, 24, 30, 20)?;
+    let Ok(mut desk) = Toolbox::new(alloc, 24, 30, 20, Font::built_in(alloc)?) else {
+        return Err(Fail::from(Refusal::NoMemory));
+    };
     assert!(rt; desk.call(&opening(UNKNOWN), &mut stock) == Err(Refusal::NoSuchName));
     assert!(rt; desk.call(&opening(WINDOW), &mut stock) == Ok(Reply::Window(1)));
     assert!(rt; shows(desk.screen(), 20, &[5]));
@@ -286,12 +297,62 @@ fn there_are_64_windows_at_most(rt: HostRuntime) -> Result<(), Fail> {
             return Err(Fail::from(Refusal::NoMemory));
         };
     }
-    let mut desk = Toolbox::new(alloc, 24, 30, 20)?;
+    let Ok(mut desk) = Toolbox::new(alloc, 24, 30, 20, Font::built_in(alloc)?) else {
+        return Err(Fail::from(Refusal::NoMemory));
+    };
     let answers = desk.run(openings(alloc)?.as_slice(), &mut stock)?;
     assert!(rt; answers.as_slice() == numbered(alloc)?.as_slice());
     assert!(rt; shows(desk.screen(), 20, &[5]));
     desk.close(&mut stock);
     assert!(rt; stock.take(b"titled").is_ok());
+    Ok(())
+}
+
+/// The call that inverts the content of window 1.
+fn inverting() -> Call<'static> {
+    let shape = ShapeRef::Invert(rect!(0, 0, 6, 3));
+    let operation = OpRef { clip: None, shape };
+    Call::Window(WindowCall::Draw(Drawing {
+        window: 1,
+        operation,
+    }))
+}
+
+/// The calls for a window and 1025 operations in it.
+fn inversions(alloc: Global) -> Result<Vec<Call<'static>>, AllocError> {
+    let mut calls = Vec::new(alloc);
+    calls.push(opening(WINDOW))?;
+    for _ in 0..1025 {
+        calls.push(inverting())?;
+    }
+    Ok(calls)
+}
+
+/// The answers to them.
+fn inverted(alloc: Global) -> Result<Vec<Result<Reply, Refusal>>, AllocError> {
+    let mut answers = Vec::new(alloc);
+    answers.push(Ok(Reply::Window(1)))?;
+    for _ in 0..1024 {
+        answers.push(Ok(Reply::Done))?;
+    }
+    answers.push(Err(Refusal::TooMany))?;
+    Ok(answers)
+}
+
+#[test]
+fn a_picture_has_1024_operations_at_most(rt: HostRuntime) -> Result<(), Fail> {
+    let alloc = rt.alloc();
+    let mut stock = Stock::new(alloc);
+    let Ok(()) = stock.add(b"titled", Box::new(alloc, Titled::new())?) else {
+        return Err(Fail::from(Refusal::NoMemory));
+    };
+    let Ok(mut desk) = Toolbox::new(alloc, 24, 30, 20, Font::built_in(alloc)?) else {
+        return Err(Fail::from(Refusal::NoMemory));
+    };
+    let answers = desk.run(inversions(alloc)?.as_slice(), &mut stock)?;
+    assert!(rt; answers.as_slice() == inverted(alloc)?.as_slice());
+    assert!(rt; shows(desk.screen(), 20, &[5]));
+    desk.close(&mut stock);
     Ok(())
 }
 

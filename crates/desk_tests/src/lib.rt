@@ -2,8 +2,8 @@
 //! that the words of the contracts are the Toolbox's. Expected values are tables and pictures written by hand, or come
 //! from slow programs over single pixels, and never from the libraries.
 //!
-//! `canvases` and `stocks` test `def_iface`, and `desks` tests `desk_toolbox`. `titled_window` is the one window
-//! definition of the tests: it is proved, and no part of the program.
+//! `stocks` tests `def_iface`, and `desks` tests `desk_toolbox`. `titled_window` is the one window definition of the
+//! tests: it is proved, and no part of the program.
 #![tactic(auto)]
 
 pub mod titled_window;
@@ -29,8 +29,6 @@ macro_rules! point {
     };
 }
 
-#[cfg(test)]
-mod canvases;
 #[cfg(test)]
 mod desks;
 #[cfg(test)]

@@ -2,14 +2,15 @@
 ghost use Rattle.std.specs.Prelude.{◌≡◌, true};
 ghost use Rattle.def_iface.specs.Meaning.{is_fitting};
 
-use crate::canvases::cut;
 use crate::titled_window::Titled;
-use def_iface::{Canvas, Defined, Hit, Size, Stage, Stock, Taken, WindowDef, WindowRegions};
+use def_iface::{Defined, Hit, Size, Stage, Stock, Taken, WindowDef, WindowRegions};
+use draw_port::{Canvas, Cut};
 use ground_tests::pixels::{Pixels, map_of, mark, picture};
 use scan_region::Region;
 use std::alloc::Global;
 use std::test::Fail;
 use std_wdef::PlainWindow;
+use strike_font::Font;
 use tb_geom::{Point, Rect, Refusal};
 
 /// Sizes, and whether a window may have them.
@@ -144,6 +145,14 @@ fn regions(alloc: Global, taken: &Taken) -> Result<Vec<u8>, Refusal>
     Ok(picture(alloc, &regions, rect!(-3, -5, 5, 4))?)
 }
 
+/// The cut that takes this region away, and nothing else.
+fn all_but(hole: &Region) -> Cut<'_> {
+    Cut {
+        inside: [None, None, None],
+        outside: Some(hole),
+    }
+}
+
 /// What is drawn on a map of one value, as a picture.
 fn drawn(alloc: Global, taken: &Taken, value: bool) -> Result<Vec<u8>, Refusal>
     requires live { (⟦<Taken as Defined>⟧.loan taken.now).definition.stage ≡ Stage.Live }
@@ -151,13 +160,15 @@ fn drawn(alloc: Global, taken: &Taken, value: bool) -> Result<Vec<u8>, Refusal>
         (⟦<Taken as Defined>⟧.loan taken.now).definition.size ≡ true }
 {
     let hole = Region::from_rect(alloc, rect!(3, 5, 4, 6))?;
-    let cut = cut(None, None, None, Some(&hole));
+    let cut = all_but(&hole);
+    let font = Font::built_in(alloc)?;
     let mut map = map_of(alloc, &Even(value), 8, 9)?;
     let mut canvas = Canvas {
         map: &mut map,
         clip: rect!(0, 0, 7, 8),
         origin: point!(2, 4),
         cut: &cut,
+        font: &font,
     };
     taken.draw(&mut canvas);
     Ok(picture(alloc, &map, rect!(0, 0, 8, 9))?)

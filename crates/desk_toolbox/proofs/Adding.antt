@@ -32,8 +32,8 @@ with_front desk w = record desk { windows = w ∷ desk.windows }
 pub record Added (w : NewWindow) (n slot : ℕ) (begun : Definition) (desk : FullDesk) (redrawn : PixelSet) (front : Area) (old new : Bits) : Type 0 where
   pub distinct : layers.IsDesk (layered_desk desk)
   pub below : AreBelow n desk.windows
-  pub area : IsArea (with_front (layered_desk desk) (layered_window (new_record w n slot begun))) redrawn n front
-  pub painted : IsPainted front w.place begun old new
+  pub area : IsArea (with_front (layered_desk desk) (layered_window desk.font (new_record w n slot begun))) redrawn n front
+  pub painted : IsPainted front w.place begun desk.font old new
   pub on : (p : Point) → layers.on_screen (layered_desk desk) p ≡ on_map old p
   pub plain : (p : Point) → layers.on_screen (layered_desk desk) p ≡ true → is_content (owner (layered_desk desk) p) ≡ false → bit old p ≡ own_bit (layered_desk desk) (owner (layered_desk desk) p) p
 
@@ -55,16 +55,16 @@ module _ (w : NewWindow) (n slot : ℕ) (begun : Definition) (desk : FullDesk) (
   before = layered_desk desk
 
   abbrev after : Desk
-  after = with_front (layered_desk desk) (layered_window (new_record w n slot begun))
+  after = with_front (layered_desk desk) (layered_window desk.font (new_record w n slot begun))
 
   free : layers.window_of n before.windows ≡ None
-  free = next_is_free n desk.windows A.below
+  free = next_is_free desk.font n desk.windows A.below
 
   pub after_is_desk : layers.IsDesk after
   after_is_desk = (free, ((refl, tt), A.distinct))
 
   whose : (p : Point) → Whose n (owner before p) (owner after p)
-  whose p = whose_is n (layers.in_bar before p) (layers.in_structure (layered_window (new_record w n slot begun)) p) (begun.content w.size (minus p w.place)) (owner_among before.windows p)
+  whose p = whose_is n (layers.in_bar before p) (layers.in_structure (layered_window desk.font (new_record w n slot begun)) p) (begun.content w.size (minus p w.place)) (owner_among before.windows p)
 
   -- no pixel was the new window's
   other : (p : Point) → is_other n (owner before p) ≡ true
@@ -76,12 +76,12 @@ module _ (w : NewWindow) (n slot : ℕ) (begun : Definition) (desk : FullDesk) (
 
   -- a value that is not the new window's
   stays : (o : Owner) (p : Point) → is_other n o ≡ true → own_bit before o p ≡ own_bit after o p
-  stays o p e = sym (own_bit-behind before (layered_window (new_record w n slot begun)) before.windows p o e)
+  stays o p e = sym (own_bit-behind before (layered_window desk.font (new_record w n slot begun)) before.windows p o e)
 
   -- ---- the new bit
 
   module _ (p : Point) (on : layers.on_screen before p ≡ true) where
-    drawn : bit new p ≡ (if holds front.frame p then begun.picture (minus p w.place) else (if holds front.visible p then false else bit old p))
+    drawn : bit new p ≡ (if holds front.frame p then begun.picture desk.font (minus p w.place) else (if holds front.visible p then false else bit old p))
     drawn = A.painted.pixels p (sym (A.on p) ∙ on)
 
     visible_by : (b : Bool) → is_content_of n (owner after p) ≡ b → holds front.visible p ≡ b
@@ -91,13 +91,13 @@ module _ (w : NewWindow) (n slot : ℕ) (begun : Definition) (desk : FullDesk) (
     frame_by b e = A.area.frame p ∙ (λ i. on i && e i)
 
     bit_content : owner after p ≡ Content n Picture → bit new p ≡ false
-    bit_content o = drawn ∙ (λ i. if frame_by false (ap (λ q. same_owner q (Frame n)) o) i then begun.picture (minus p w.place) else (if visible_by true (ap (is_content_of n) o ∙ same_number n) i then false else bit old p))
+    bit_content o = drawn ∙ (λ i. if frame_by false (ap (λ q. same_owner q (Frame n)) o) i then begun.picture desk.font (minus p w.place) else (if visible_by true (ap (is_content_of n) o ∙ same_number n) i then false else bit old p))
 
-    bit_frame : owner after p ≡ Frame n → bit new p ≡ begun.picture (minus p w.place)
-    bit_frame o = drawn ∙ ap (λ f. if f then begun.picture (minus p w.place) else (if holds front.visible p then false else bit old p)) (frame_by true (ap (λ q. same_owner q (Frame n)) o ∙ same_number n))
+    bit_frame : owner after p ≡ Frame n → bit new p ≡ begun.picture desk.font (minus p w.place)
+    bit_frame o = drawn ∙ ap (λ f. if f then begun.picture desk.font (minus p w.place) else (if holds front.visible p then false else bit old p)) (frame_by true (ap (λ q. same_owner q (Frame n)) o ∙ same_number n))
 
     bit_same : owner after p ≡ owner before p → bit new p ≡ bit old p
-    bit_same o = drawn ∙ (λ i. if frame_by false (ap (λ q. same_owner q (Frame n)) o ∙ not_same_frame n (owner before p) (other p)) i then begun.picture (minus p w.place) else (if visible_by false (ap (is_content_of n) o ∙ not_content n (owner before p) (other p)) i then false else bit old p))
+    bit_same o = drawn ∙ (λ i. if frame_by false (ap (λ q. same_owner q (Frame n)) o ∙ not_same_frame n (owner before p) (other p)) i then begun.picture desk.font (minus p w.place) else (if visible_by false (ap (is_content_of n) o ∙ not_content n (owner before p) (other p)) i then false else bit old p))
 
   -- ---- what is shown
 

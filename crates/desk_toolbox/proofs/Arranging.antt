@@ -157,7 +157,7 @@ module _ {V : Type 0} {H : V → Type 0} (loan : Taken V H → Loan) where
     after = desk_with w n slot begun (desk_of loan t [])
 
     free : layers.window_of n before.desk.windows ≡ None
-    free = next_is_free n (desk_of loan t []).windows (subst (λ (k : Option ℕ). AreNumbered k (desk_of loan t []).windows) next kept.numbered)
+    free = next_is_free t.font n (desk_of loan t []).windows (subst (λ (k : Option ℕ). AreNumbered k (desk_of loan t []).windows) next kept.numbered)
 
     distinct : layers.IsDesk (layered_desk after)
     distinct = subst layers.IsDesk (sym (layered_desk-with w n slot begun (desk_of loan t []) [])) (free, ((refl, tt), kept.distinct))
@@ -192,7 +192,7 @@ module _ {V : Type 0} {H : V → Type 0} (loan : Taken V H → Loan) where
         other : (p : Point) → is_other n (owner before.desk p) ≡ true
         other p = in_bar (layers.in_bar before.desk p) (owner_among before.desk.windows p) (owner_is_other before.desk.windows p n free)
 
-    pub arranged : (seats : List (Seat V H)) → AreSeatsBehind front t.windows.items t.areas.items seats → IsArranged loan before (layered_desk after) after.windows t.gray seats
+    pub arranged : (seats : List (Seat V H)) → AreSeatsBehind front t.windows.items t.areas.items seats → IsArranged loan t.font before (layered_desk after) after.windows t.gray seats
     arranged (s ∷ seats) its = record {
       desk = refl;
       distinct = distinct;

@@ -7,8 +7,7 @@ use Rattle.std.proofs.lemmas.Int.{ints}
 use Rattle.std.proofs.lemmas.Option.{slice_get_within, get_or_from_slice_get}
 use Rattle.std.proofs.lemmas.List.Elements.{All-nil}
 use Rattle.tb_geom.specs.declared.point.Point.{Point}
-use Rattle.tb_geom.specs.declared.rect.Rect.{Rect}
-use Rattle.tb_geom.specs.Rects.{rect_holds, between}
+use Rattle.tb_geom.specs.Rects.{between}
 use Rattle.tb_geom.specs.Pixels.{holds}
 use Rattle.bit_map.specs.Bits.{on_map, bit}
 use Rattle.bit_map.specs.Patterns.{pattern_bit}
@@ -23,7 +22,7 @@ use Rattle.desk_toolbox.specs.declared.toolbox.Toolbox.{Toolbox}
 use Rattle.desk_toolbox.specs.declared.vis_update.Area.{Area}
 use Rattle.desk_toolbox.specs.FullDesk.{FullDesk, gray, layered_desk}
 use Rattle.desk_toolbox.specs.Records.{record_of, desk_of, stale_in}
-use Rattle.desk_toolbox.specs.Begin.{IsGround, IsEmptyDesk, empty_desk, below}
+use Rattle.desk_toolbox.specs.Begin.{IsGround, IsEmptyDesk, empty_desk}
 use Rattle.desk_toolbox.specs.Whole.{IsWhole, IsSound, IsGray, AreAreas, is_bar, is_screen, is_screen_side}
 use Rattle.desk_toolbox.proofs.NewWindowLemmas.{between-is_below}
 

@@ -13,7 +13,12 @@ pub mod Sweeping
 pub mod UpdateLemmas
 pub mod Arranging
 pub mod KeptLemmas
+pub mod Editing
 pub mod DimLemmas
+pub mod DrawnLayers
+pub mod DrawRefusals
+pub mod DrawLemmas
+pub mod DrawSteps
 mod EmptyLemmas
 pub mod FindLemmas
 pub mod ClosingLemmas

@@ -11,7 +11,7 @@ use Rattle.tb_geom.specs.declared.refusal.Refusal.TheVariants.{OutOfRange, TooLo
 use Rattle.tb_geom.specs.declared.rect.Rect.{Rect}
 use Rattle.tb_geom.specs.Rects.{between, in_plane, is_in_range, moved}
 use Rattle.tb_geom.specs.Pixels.{Pixels}
-use Rattle.bit_map.specs.Bits.{on_map, bit, is_below}
+use Rattle.bit_map.specs.Bits.{Bits, on_map, bit, is_below}
 use Rattle.def_iface.specs.declared.taken.Taken.{Taken}
 use Rattle.def_iface.specs.declared.size.Size.{Size}
 use Rattle.def_iface.specs.Sizes.{is_size}
@@ -120,18 +120,18 @@ module _ {V : Type 0} {H : V → Type 0} (loan : Taken V H → Loan) where
         areas_stay loan planned t [] [] back refl w n taken.definition areas N.areas_with taken.slot N.added.begun N.added.live.regions
 
     -- as layers, the desk after is the desk before with one more window
-    layers_are : layered_desk after ≡ with_front (layered_desk before) (layered_window (new_record w n taken.slot N.added.begun))
+    layers_are : layered_desk after ≡ with_front (layered_desk before) (layered_window t.font (new_record w n taken.slot N.added.begun))
     layers_are = layered_desk-with w n taken.slot N.added.begun before left
 
     -- the new window's area, and what was drawn of it
     abbrev IsFirst : Area → Type 0
-    IsFirst a = IsArea (with_front (layered_desk before) (layered_window (new_record w n taken.slot N.added.begun))) (stale_after (layered_state (state_of loan t slots)) (layered_desk after)) n a × IsPainted a w.place N.added.begun t.screen new.screen
+    IsFirst a = IsArea (with_front (layered_desk before) (layered_window t.font (new_record w n taken.slot N.added.begun))) (stale_after (layered_state (state_of loan t slots)) (layered_desk after)) n a × IsPainted a w.place N.added.begun t.font t.screen new.screen
 
     first : (a : Area) × IsFirst a
     first = by_areas areas areas_after N.added.painted
       where
-        by_areas : (xs : List Area) → AreAreasAfter (layered_state (state_of loan t slots)) (layered_desk after) after.windows xs → IsSomeAnd (slice_get xs 0) (λ a. IsPainted a w.place N.added.begun planned.screen new.screen) → (a : Area) × IsFirst a
-        by_areas (a ∷ xs) its painted = (a, (subst (λ d. IsArea d (stale_after (layered_state (state_of loan t slots)) (layered_desk after)) n a) layers_are its.0, subst (λ s. IsPainted a w.place N.added.begun s new.screen) N.same.screen painted))
+        by_areas : (xs : List Area) → AreAreasAfter (layered_state (state_of loan t slots)) (layered_desk after) after.windows xs → IsSomeAnd (slice_get xs 0) (λ a. IsPainted a w.place N.added.begun planned.font planned.screen new.screen) → (a : Area) × IsFirst a
+        by_areas (a ∷ xs) its painted = (a, (subst (λ d. IsArea d (stale_after (layered_state (state_of loan t slots)) (layered_desk after)) n a) layers_are its.0, subst (λ (x : List ℕ × Bits). IsPainted a w.place N.added.begun x.0 x.1 new.screen) (λ i. (N.same.font i, N.same.screen i)) painted))
         by_areas [] its painted = absurd its
 
     added_facts : Added w n taken.slot N.added.begun before (stale_after (layered_state (state_of loan t slots)) (layered_desk after)) first.0 t.screen new.screen
@@ -162,7 +162,7 @@ module _ {V : Type 0} {H : V → Type 0} (loan : Taken V H → Loan) where
       stock = left;
     }
 
-    new_layers : layered_desk (desk_of loan new left) ≡ with_front (layered_desk before) (layered_window (new_record w n taken.slot N.added.begun))
+    new_layers : layered_desk (desk_of loan new left) ≡ with_front (layered_desk before) (layered_window t.font (new_record w n taken.slot N.added.begun))
     new_layers = ap layered_desk desk_is ∙ layers_are
 
     pub is_new_window : IsNewWindow w n (state_of loan t slots) (state_of loan new left)
@@ -175,7 +175,7 @@ module _ {V : Type 0} {H : V → Type 0} (loan : Taken V H → Loan) where
       desk = desk_is;
       pixels = record {
         stale = subst (λ (d : Desk). (p : Point) → on_screen d p ≡ true → stale_in new.areas.items p ≡ plain.stale_by plain.no_change (layered_state (state_of loan t slots)) (owner d p) p) (sym (ap layered_desk desk_is))
-            (λ p on. ap (λ a. stale_in a p) N.added.areas ∙ updated_is_stale (layered_state (state_of loan t slots)) (layered_desk after) after.windows areas p refl areas_after on);
+            (λ p on. ap (λ a. stale_in a p) N.added.areas ∙ updated_is_stale t.font (layered_state (state_of loan t slots)) (layered_desk after) after.windows areas p refl areas_after on);
         image = subst (λ (d : Desk). (p : Point) → on_screen d p ≡ true → bit new.screen p ≡ plain.image_by plain.no_change (layered_state (state_of loan t slots)) d (owner d p) p) (sym new_layers)
             (image_is w n taken.slot N.added.begun before (stale_after (layered_state (state_of loan t slots)) (layered_desk after)) first.0 t.screen new.screen added_facts (stale_in t.areas.items));
       };
@@ -183,6 +183,7 @@ module _ {V : Type 0} {H : V → Type 0} (loan : Taken V H → Loan) where
 
     settled : IsSettled (new_record w n taken.slot N.added.begun)
     settled = record {
+      origin = refl;
       placed = unrefused_place w _ _ _ N.unrefused_is;
       live = N.added.live.live;
       told = N.added.live.told;
@@ -211,7 +212,7 @@ module _ {V : Type 0} {H : V → Type 0} (loan : Taken V H → Loan) where
     is_whole = record {
       sound = subst IsSound (sym desk_is) sound_after;
       gray = subst (λ (x : FullDesk × Pixels). IsGray (layered_desk x.0) x.1) (λ i. (sym desk_is i, sym (N.added.gray ∙ N.same.gray) i)) N.whole.gray;
-      areas = subst (λ (x : FullDesk × List Area). AreAreas (layered_desk x.0) (stale_in x.1) x.0.windows x.1) (λ i. (sym desk_is i, sym N.added.areas i)) (areas_are (layered_state (state_of loan t slots)) (layered_desk after) after.windows areas refl areas_after);
+      areas = subst (λ (x : FullDesk × List Area). AreAreas (layered_desk x.0) (stale_in x.1) x.0.windows x.1) (λ i. (sym desk_is i, sym N.added.areas i)) (areas_are t.font (layered_state (state_of loan t slots)) (layered_desk after) after.windows areas refl areas_after);
       frames = subst (λ (d : Desk). (p : Point) → on_screen d p ≡ true → is_content (owner d p) ≡ false → bit new.screen p ≡ own_bit d (owner d p) p) (sym new_layers)
           (plain_is w n taken.slot N.added.begun before (stale_after (layered_state (state_of loan t slots)) (layered_desk after)) first.0 t.screen new.screen added_facts);
     }

@@ -41,10 +41,10 @@ AreOthers [] o = Unit {0}
 AreOthers (w ∷ ws) o = (is_other w.serial o ≡ true) × AreOthers ws o
 
 -- the layers of a window are no layers of windows of other serials
-pub others_of : (n : ℕ) (ws : List WindowRecord) → layers.window_of n (map layered_window ws) ≡ None → AreOthers ws (Content n Picture) × AreOthers ws (Frame n)
-others_of n [] free = (tt, tt)
-others_of n (w ∷ ws) free =
-    let first = not_first (w.serial == n) (layered_window w) (layers.window_of n (map layered_window ws)) free in
+pub others_of : (font : List ℕ) (n : ℕ) (ws : List WindowRecord) → layers.window_of n (map (layered_window font) ws) ≡ None → AreOthers ws (Content n Picture) × AreOthers ws (Frame n)
+others_of font n [] free = (tt, tt)
+others_of font n (w ∷ ws) free =
+    let first = not_first (w.serial == n) (layered_window font w) (layers.window_of n (map (layered_window font) ws)) free in
     let away : (w.serial == n) ≡ false = first.0 in
-    let rest = others_of n ws first.1 in
+    let rest = others_of font n ws first.1 in
     ((ap not away, rest.0), (ap not away, rest.1))

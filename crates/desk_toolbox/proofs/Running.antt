@@ -1,9 +1,10 @@
 -- Steps and runs keep a right state right.
-use Rattle.std.proofs.Common.{◌≡◌, ℕ, ◌+◌, ◌^◌, ◌<◌, nat_lt, Bool, true, false, ◌==◌, if◌then◌else◌, List, [], ◌∷◌, map, Option, None, Some, Result, Ok, Err, refl, sym, ap, ◌∙◌, subst, arith}
+use Rattle.std.proofs.Common.{◌≡◌, ℕ, ◌+◌, ◌^◌, nat_lt, Bool, true, false, ◌==◌, if◌then◌else◌, List, [], ◌∷◌, ◌++◌, map, Option, None, Some, Result, Ok, Err, refl, sym, ap, ◌∙◌, subst, arith}
 use Rattle.std.proofs.lemmas.Bool.{and_parts}
 use Rattle.std.proofs.lemmas.Bool.Decides.{nat_tests}
 use Rattle.tb_geom.specs.declared.point.Point.{Point}
 use Rattle.tb_geom.specs.declared.refusal.Refusal.{Refusal}
+use Rattle.draw_port.specs.declared.shapes.Op.{Op}
 use Rattle.def_iface.specs.Meaning.{Definition}
 use Rattle.def_iface.specs.Desk as layers
 use Rattle.def_iface.specs.Owner.{Owner, owner, owner_among, is_content}
@@ -15,58 +16,57 @@ use Rattle.def_iface.proofs.Changing.{stays_right}
 use Rattle.desk_toolbox.specs.declared.call.Call.{Call}
 use Rattle.desk_toolbox.specs.declared.call.Call.TheVariants.{Window}
 use Rattle.desk_toolbox.specs.declared.call.WindowCall.TheVariants.{New, Draw, Find, Front}
+use Rattle.desk_toolbox.specs.declared.call.Drawing.{Drawing}
 use Rattle.desk_toolbox.specs.declared.call.NewWindow.{NewWindow}
 use Rattle.desk_toolbox.specs.declared.call.Reply.{Reply}
 use Rattle.desk_toolbox.specs.FullDesk.{WindowRecord, FullDesk, FullState, IsRight, AreBelow, AreNumbered, layered_window, layered_desk, layered_state}
-use Rattle.desk_toolbox.specs.Step.{IsStep, IsDone, IsNewWindow, IsUnchanged, new_record, desk_with, unhighlighted}
+use Rattle.desk_toolbox.specs.Step.{IsStep, IsDone, IsNewWindow, IsDrawn, IsUnchanged, new_record, desk_with, unhighlighted, with_operation, draw_change}
 use Rattle.desk_toolbox.specs.Run.{IsRun}
+use Rattle.desk_toolbox.proofs.Editing.{below_map, numbered_map}
+use Rattle.desk_toolbox.proofs.DrawnLayers.{draw_is_sound}
 
 -- ---- a window in front of others
 
-layered_window-unhighlighted : (active : Option ℕ) (w : WindowRecord) → layered_window (unhighlighted active w) ≡ layered_window w
-layered_window-unhighlighted None w = refl
-layered_window-unhighlighted (Some s) w = by_test (w.serial == s)
+layered_window-unhighlighted : (font : List ℕ) (active : Option ℕ) (w : WindowRecord) → layered_window font (unhighlighted active w) ≡ layered_window font w
+layered_window-unhighlighted font None w = refl
+layered_window-unhighlighted font (Some s) w = by_test (w.serial == s)
   where
-    by_test : (b : Bool) → layered_window (if b then record w { highlighted = false } else w) ≡ layered_window w
+    by_test : (b : Bool) → layered_window font (if b then record w { highlighted = false } else w) ≡ layered_window font w
     by_test true = refl
     by_test false = refl
 
-layered_windows-unhighlighted : (active : Option ℕ) (ws : List WindowRecord) → map layered_window (map (unhighlighted active) ws) ≡ map layered_window ws
-layered_windows-unhighlighted active [] = refl
-layered_windows-unhighlighted active (w ∷ ws) = λ i. layered_window-unhighlighted active w i ∷ layered_windows-unhighlighted active ws i
+layered_windows-unhighlighted : (font : List ℕ) (active : Option ℕ) (ws : List WindowRecord) → map (layered_window font) (map (unhighlighted active) ws) ≡ map (layered_window font) ws
+layered_windows-unhighlighted font active [] = refl
+layered_windows-unhighlighted font active (w ∷ ws) = λ i. layered_window-unhighlighted font active w i ∷ layered_windows-unhighlighted font active ws i
 
 -- as layers, a desk with a new window has just one window more
-pub layered_desk-with : (w : NewWindow) (serial slot : ℕ) (d : Definition) (desk : FullDesk) (stock : _) → layered_desk (record (desk_with w serial slot d desk) { stock = stock }) ≡ record (layered_desk desk) { windows = layered_window (new_record w serial slot d) ∷ map layered_window desk.windows }
+pub layered_desk-with : (w : NewWindow) (serial slot : ℕ) (d : Definition) (desk : FullDesk) (stock : _) → layered_desk (record (desk_with w serial slot d desk) { stock = stock }) ≡ record (layered_desk desk) { windows = layered_window desk.font (new_record w serial slot d) ∷ map (layered_window desk.font) desk.windows }
 layered_desk-with w serial slot d desk stock =
-    ap (λ ws. record (layered_desk desk) { windows = layered_window (new_record w serial slot d) ∷ ws }) (by_shown w.shown)
+    ap (λ ws. record (layered_desk desk) { windows = layered_window desk.font (new_record w serial slot d) ∷ ws }) (by_shown w.shown)
   where
-    by_shown : (b : Bool) → map layered_window (if b then map (unhighlighted desk.active) desk.windows else desk.windows) ≡ map layered_window desk.windows
-    by_shown true = layered_windows-unhighlighted desk.active desk.windows
+    by_shown : (b : Bool) → map (layered_window desk.font) (if b then map (unhighlighted desk.active) desk.windows else desk.windows) ≡ map (layered_window desk.font) desk.windows
+    by_shown true = layered_windows-unhighlighted desk.font desk.active desk.windows
     by_shown false = refl
+
+same_serial : (active : Option ℕ) (w : WindowRecord) → (unhighlighted active w).serial ≡ w.serial
+same_serial None w = refl
+same_serial (Some s) w = by_test (w.serial == s)
+  where
+    by_test : (b : Bool) → (if b then record w { highlighted = false } else w).serial ≡ w.serial
+    by_test true = refl
+    by_test false = refl
 
 numbered-more : (next : ℕ) (ws : List WindowRecord) → AreBelow next ws → AreBelow (next + 1) ws
 numbered-more next [] h = tt
 numbered-more next (w ∷ ws) h = let below = h.0 in (omega arith, numbered-more next ws h.1)
 
-numbered-unhighlighted : (next : ℕ) (active : Option ℕ) (ws : List WindowRecord) → AreBelow next ws → AreBelow next (map (unhighlighted active) ws)
-numbered-unhighlighted next active [] h = tt
-numbered-unhighlighted next active (w ∷ ws) h = (same active, numbered-unhighlighted next active ws h.1)
-  where
-    by_test : (b : Bool) → (if b then record w { highlighted = false } else w).serial < next
-    by_test true = h.0
-    by_test false = h.0
-
-    same : (active : Option ℕ) → (unhighlighted active w).serial < next
-    same None = h.0
-    same (Some s) = by_test (w.serial == s)
-
 -- the number of the next window is no window's
-pub next_is_free : (next : ℕ) (ws : List WindowRecord) → AreBelow next ws → layers.window_of next (map layered_window ws) ≡ None
-next_is_free next [] h = refl
-next_is_free next (w ∷ ws) h =
+pub next_is_free : (font : List ℕ) (next : ℕ) (ws : List WindowRecord) → AreBelow next ws → layers.window_of next (map (layered_window font) ws) ≡ None
+next_is_free font next [] h = refl
+next_is_free font next (w ∷ ws) h =
     let below = h.0 in
     let other : (w.serial == next) ≡ false = grind (arith, nat_tests) in
-    rw other (next_is_free next ws h.1)
+    rw other (next_is_free font next ws h.1)
 
 -- ---- a new window is a sound change
 
@@ -95,19 +95,37 @@ numbered_with w serial slot d desk below = after_number _ (nat_lt (serial + 1) (
     after_number ws false h = tt
 
     by_shown : (b : Bool) → AreBelow (serial + 1) (if b then map (unhighlighted desk.active) desk.windows else desk.windows)
-    by_shown true = numbered-unhighlighted _ desk.active desk.windows (numbered-more serial desk.windows below)
+    by_shown true = below_map (unhighlighted desk.active) (same_serial desk.active) _ desk.windows (numbered-more serial desk.windows below)
     by_shown false = numbered-more serial desk.windows below
 
 new_stays_right : (w : NewWindow) (serial : ℕ) (before after : FullState) → IsRight before → IsNewWindow w serial before after → IsRight after
 new_stays_right w serial before after right new =
-    let new_window = layered_window (new_record w serial new.loan.slot new.begun) in
+    let new_window = layered_window before.desk.font (new_record w serial new.loan.slot new.begun) in
     let below : AreBelow serial before.desk.windows = subst (λ (n : Option ℕ). AreNumbered n before.desk.windows) new.numbered right.numbered in
-    let desk : layered_desk after.desk ≡ record (layered_desk before.desk) { windows = new_window ∷ map layered_window before.desk.windows } =
+    let desk : layered_desk after.desk ≡ record (layered_desk before.desk) { windows = new_window ∷ map (layered_window before.desk.font) before.desk.windows } =
     ap layered_desk new.desk ∙ layered_desk-with w serial new.loan.slot new.begun before.desk after.desk.stock in
-    let sound = new_is_sound (layered_state before) new_window right.plain.desk (next_is_free serial before.desk.windows below) (refl, tt) in
+    let sound = new_is_sound (layered_state before) new_window right.plain.desk (next_is_free before.desk.font serial before.desk.windows below) (refl, tt) in
     record {
       plain = stays_right plain.no_change (layered_state before) (layered_state after) right.plain (subst (plain.IsSound plain.no_change (layered_state before)) (sym desk) sound) new.pixels;
       numbered = subst (λ (d : FullDesk). AreNumbered d.next d.windows) (sym new.desk) (numbered_with w serial new.loan.slot new.begun before.desk below);
+    }
+
+-- ---- an operation is a sound change
+
+pub drawn_serial : (s : ℕ) (op : Op) (w : WindowRecord) → (with_operation s op w).serial ≡ w.serial
+drawn_serial s op w = by_test (w.serial == s)
+  where
+    by_test : (b : Bool) → (if b then record w { picture = w.picture ++ op ∷ [] } else w).serial ≡ w.serial
+    by_test true = refl
+    by_test false = refl
+
+draw_stays_right : (d : Drawing) (before after : FullState) → IsRight before → IsDrawn d before after → IsRight after
+draw_stays_right d before after right drawn =
+    let change = draw_change before.desk.font d.window drawn.window drawn.operation in
+    let sound = draw_is_sound before.desk d.window drawn.window drawn.operation drawn.found before.stale before.image right.plain.desk in
+    record {
+      plain = stays_right change (layered_state before) (layered_state after) right.plain (subst (plain.IsSound change (layered_state before)) (sym (ap layered_desk drawn.desk)) sound) drawn.pixels;
+      numbered = subst (λ (x : FullDesk). AreNumbered x.next x.windows) (sym drawn.desk) (numbered_map (with_operation d.window drawn.operation) (drawn_serial d.window drawn.operation) before.desk.next before.desk.windows right.numbered);
     }
 
 -- ---- steps and runs
@@ -133,7 +151,7 @@ unchanged_stays_right before after right same =
 
 done_stays_right : (call : Call) (answer : Reply) (before after : FullState) → IsRight before → IsDone call answer before after → IsRight after
 done_stays_right (Window (New w)) answer before after right done = new_stays_right w done.0 before after right done.2
-done_stays_right (Window (Draw d)) answer before after right done = absurd done
+done_stays_right (Window (Draw d)) answer before after right done = draw_stays_right d before after right done.1
 done_stays_right (Window (Find p)) answer before after right done = unchanged_stays_right before after right done.1
 done_stays_right (Window Front) answer before after right done = unchanged_stays_right before after right done.1
 

@@ -46,7 +46,8 @@ counted_on before after numbers same h = subst (λ (d : FullDesk). AreCounted d.
 done_is_counted : (call : Call) (answer : Reply) (before after : FullState) (answers : List (Result Reply Refusal)) → IsDone call answer before after → AreCounted after.desk.next (made answers) → AreCounted before.desk.next (made (Ok answer ∷ answers))
 done_is_counted (Window (New w)) answer before after answers (n, is, new) h =
     subst (λ (a : Reply). AreCounted before.desk.next (made (Ok a ∷ answers))) (sym is) (new.numbered, subst (λ (d : FullDesk). AreCounted d.next (made answers)) new.desk h)
-done_is_counted (Window (Draw d)) answer before after answers done h = absurd done
+done_is_counted (Window (Draw d)) answer before after answers (is, drawn) h =
+    subst (λ (a : Reply). AreCounted before.desk.next (made (Ok a ∷ answers))) (sym is) (subst (λ (d : FullDesk). AreCounted d.next (made answers)) drawn.desk h)
 done_is_counted (Window (Find p)) answer before after answers (is, same) h =
     subst (λ (a : Reply). AreCounted before.desk.next (made (Ok a ∷ answers))) (sym is) (counted_on before after (made answers) same h)
 done_is_counted (Window Front) answer before after answers (is, same) h =
@@ -65,7 +66,7 @@ kinds_of s = map (λ slot. slot.kind) s.desk.stock
 
 done_keeps_kinds : (call : Call) (answer : Reply) (before after : FullState) → IsDone call answer before after → kinds_of after ≡ kinds_of before
 done_keeps_kinds (Window (New w)) answer before after (n, is, new) = kinds_when_taken w.kind new.loan before.desk.stock after.desk.stock new.taken
-done_keeps_kinds (Window (Draw d)) answer before after done = absurd done
+done_keeps_kinds (Window (Draw d)) answer before after (is, drawn) = ap (λ (d : FullDesk). map (λ slot. slot.kind) d.stock) drawn.desk
 done_keeps_kinds (Window (Find p)) answer before after (is, same) = ap (λ (d : FullDesk). map (λ slot. slot.kind) d.stock) same.desk
 done_keeps_kinds (Window Front) answer before after (is, same) = ap (λ (d : FullDesk). map (λ slot. slot.kind) d.stock) same.desk
 

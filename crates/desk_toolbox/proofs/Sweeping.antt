@@ -79,8 +79,8 @@ module _ {V : Type 0} {H : V → Type 0} (loan : Taken V H → Loan) where
 
 -- of a pixel that the windows in front left, the owner is the first of these windows that has it; one that they took is
 -- none of theirs
-pub record Reaches (desk : Desk) (ws : List WindowRecord) (rest : PixelSet) : Type 0 where
-  pub here : (p : Point) → rest p ≡ true → (layers.on_screen desk p ≡ true) × (owner desk p ≡ owner_among (map layered_window ws) p)
+pub record Reaches (font : List ℕ) (desk : Desk) (ws : List WindowRecord) (rest : PixelSet) : Type 0 where
+  pub here : (p : Point) → rest p ≡ true → (layers.on_screen desk p ≡ true) × (owner desk p ≡ owner_among (map (layered_window font) ws) p)
   pub elsewhere : (p : Point) → rest p ≡ false → (layers.on_screen desk p ≡ false) ⊎ AreOthers ws (owner desk p)
 
 -- one pixel and one window: r is whether the windows in front left it; s, x and c whether the window is shown and has it
@@ -126,15 +126,15 @@ none_of is_its false o e = refl
 none_of is_its true o (inl off) = absurd (false≢true (sym off))
 none_of is_its true o (inr e) = e
 
-module _ (desk : Desk) (w : WindowRecord) (ws : List WindowRecord) (rest left_set : PixelSet) (a : Area) (distinct : layers.AreWindows (map layered_window (w ∷ ws))) (reach : Reaches desk (w ∷ ws) rest)
-    (takes : (p : Point) → Taking w.serial (rest p) w.shown (w.definition.structure w.size (minus p w.place)) (w.definition.content w.size (minus p w.place)) (holds a.visible p) (holds a.frame p) (left_set p) (owner desk p) (owner_among (map layered_window ws) p)) where
+module _ (font : List ℕ) (desk : Desk) (w : WindowRecord) (ws : List WindowRecord) (rest left_set : PixelSet) (a : Area) (distinct : layers.AreWindows (map (layered_window font) (w ∷ ws))) (reach : Reaches font desk (w ∷ ws) rest)
+    (takes : (p : Point) → Taking w.serial (rest p) w.shown (w.definition.structure w.size (minus p w.place)) (w.definition.content w.size (minus p w.place)) (holds a.visible p) (holds a.frame p) (left_set p) (owner desk p) (owner_among (map (layered_window font) ws) p)) where
   -- the case of one pixel
   abbrev Here : Point → Type 0
-  Here p = Taking w.serial (rest p) w.shown (w.definition.structure w.size (minus p w.place)) (w.definition.content w.size (minus p w.place)) (holds a.visible p) (holds a.frame p) (left_set p) (owner desk p) (owner_among (map layered_window ws) p)
+  Here p = Taking w.serial (rest p) w.shown (w.definition.structure w.size (minus p w.place)) (w.definition.content w.size (minus p w.place)) (holds a.visible p) (holds a.frame p) (left_set p) (owner desk p) (owner_among (map (layered_window font) ws) p)
 
   -- the owner among the windows behind is not this window
-  behind_is_other : (p : Point) → is_other w.serial (owner_among (map layered_window ws) p) ≡ true
-  behind_is_other p = owner_is_other (map layered_window ws) p w.serial distinct.0
+  behind_is_other : (p : Point) → is_other w.serial (owner_among (map (layered_window font) ws) p) ≡ true
+  behind_is_other p = owner_is_other (map (layered_window font) ws) p w.serial distinct.0
 
   no_its : (is_its : Owner → Bool) (p : Point) → ((o : Owner) → is_other w.serial o ≡ true → is_its o ≡ false) → rest p ≡ false → (layers.on_screen desk p && is_its (owner desk p)) ≡ false
   no_its is_its p apart e = none_of is_its (layers.on_screen desk p) (owner desk p) (⊎_elim (λ off. inl off) (λ others. inr (apart (owner desk p) others.0)) (reach.elsewhere p e))
@@ -158,13 +158,13 @@ module _ (desk : Desk) (w : WindowRecord) (ws : List WindowRecord) (rest left_se
       by_case (left r o v f k) = rw (f, (reach.here p r).0, o) (sym (not_same_frame w.serial _ (behind_is_other p)))
 
   -- what the window leaves reaches those behind it
-  pub reaches_behind : Reaches desk ws left_set
+  pub reaches_behind : Reaches font desk ws left_set
   reaches_behind = record {
     here = λ p e. here_case p e (takes p);
     elsewhere = λ p e. elsewhere_case p e (takes p);
   }
     where
-      here_case : (p : Point) → left_set p ≡ true → Here p → (layers.on_screen desk p ≡ true) × (owner desk p ≡ owner_among (map layered_window ws) p)
+      here_case : (p : Point) → left_set p ≡ true → Here p → (layers.on_screen desk p ≡ true) × (owner desk p ≡ owner_among (map (layered_window font) ws) p)
       here_case p e (taken_before r v f k) = absurd (false≢true (sym k ∙ e))
       here_case p e (content r o v f k) = absurd (false≢true (sym k ∙ e))
       here_case p e (frame r o v f k) = absurd (false≢true (sym k ∙ e))
@@ -172,8 +172,8 @@ module _ (desk : Desk) (w : WindowRecord) (ws : List WindowRecord) (rest left_se
 
       elsewhere_case : (p : Point) → left_set p ≡ false → Here p → (layers.on_screen desk p ≡ false) ⊎ AreOthers ws (owner desk p)
       elsewhere_case p e (taken_before r v f k) = ⊎_elim (λ off. inl off) (λ others. inr others.1) (reach.elsewhere p r)
-      elsewhere_case p e (content r o v f k) = inr (subst (λ q. AreOthers ws q) (sym o) (others_of w.serial ws distinct.0).0)
-      elsewhere_case p e (frame r o v f k) = inr (subst (λ q. AreOthers ws q) (sym o) (others_of w.serial ws distinct.0).1)
+      elsewhere_case p e (content r o v f k) = inr (subst (λ q. AreOthers ws q) (sym o) (others_of font w.serial ws distinct.0).0)
+      elsewhere_case p e (frame r o v f k) = inr (subst (λ q. AreOthers ws q) (sym o) (others_of font w.serial ws distinct.0).1)
       elsewhere_case p e (left r o v f k) = absurd (false≢true (sym e ∙ k))
 
 -- ---- what is to be redrawn
@@ -201,25 +201,25 @@ stale_is n before after p true e = by_owner (owner before.desk p) ∙ sym (ap (�
         and_true true = refl
         and_true false = refl
 
-module _ {V : Type 0} {H : V → Type 0} (loan : Taken V H → Loan) (before : State) (after : Desk) where
+module _ {V : Type 0} {H : V → Type 0} (loan : Taken V H → Loan) (font : List ℕ) (before : State) (after : Desk) where
   -- what one window takes, where the windows in front left what they should
-  area_is : (first middle : PixelSet) (w : WindowRecord) (ws : List WindowRecord) (s : Seat V H) (a : Area) → seat_stand loan s ≡ stand_of w → layers.AreWindows (map layered_window (w ∷ ws)) → Reaches after (w ∷ ws) first → IsArea before.desk before.stale s.serial s.area.now → IsSwept loan first s a middle → IsArea after (stale_after before after) w.serial a × Reaches after ws middle
+  area_is : (first middle : PixelSet) (w : WindowRecord) (ws : List WindowRecord) (s : Seat V H) (a : Area) → seat_stand loan s ≡ stand_of w → layers.AreWindows (map (layered_window font) (w ∷ ws)) → Reaches font after (w ∷ ws) first → IsArea before.desk before.stale s.serial s.area.now → IsSwept loan first s a middle → IsArea after (stale_after before after) w.serial a × Reaches font after ws middle
   area_is first middle w ws s a same distinct reach was swept = (
     record {
-      visible = visible_is after w ws first middle a distinct reach takes;
+      visible = visible_is font after w ws first middle a distinct reach takes;
       update = λ p.
           swept.update p
           ∙ (λ i. holds a.visible p && not (was.visible p i && not ((was.update p ∙ ap (λ b. b && before.stale p) (was.visible p)) i)))
           ∙ kept_or_stale (holds a.visible p) _ (before.stale p)
           ∙ (λ i. holds a.visible p && (if layers.on_screen before.desk p && is_content_of (ap (λ (t : Stand). t.serial) same i) (owner before.desk p) then before.stale p else true))
-          ∙ stale_is w.serial before after p (holds a.visible p) (visible_is after w ws first middle a distinct reach takes p);
-      frame = frame_is after w ws first middle a distinct reach takes;
+          ∙ stale_is w.serial before after p (holds a.visible p) (visible_is font after w ws first middle a distinct reach takes p);
+      frame = frame_is font after w ws first middle a distinct reach takes;
     },
-    reaches_behind after w ws first middle a distinct reach takes,
+    reaches_behind font after w ws first middle a distinct reach takes,
   )
     where
-      takes : (p : Point) → Taking w.serial (first p) w.shown (w.definition.structure w.size (minus p w.place)) (w.definition.content w.size (minus p w.place)) (holds a.visible p) (holds a.frame p) (middle p) (owner after p) (owner_among (map layered_window ws) p)
-      takes p = taking w.serial (first p) w.shown _ _ (holds a.visible p) (holds a.frame p) (middle p) (owner after p) (owner_among (map layered_window ws) p)
+      takes : (p : Point) → Taking w.serial (first p) w.shown (w.definition.structure w.size (minus p w.place)) (w.definition.content w.size (minus p w.place)) (holds a.visible p) (holds a.frame p) (middle p) (owner after p) (owner_among (map (layered_window font) ws) p)
+      takes p = taking w.serial (first p) w.shown _ _ (holds a.visible p) (holds a.frame p) (middle p) (owner after p) (owner_among (map (layered_window font) ws) p)
           (λ shown e.
           let sh : s.shown ≡ true = ap (λ (t : Stand). t.shown) same ∙ shown in
           sym (ap (λ (t : Stand). t.structure (minus p t.place)) same) ∙ swept.within sh (minus p s.place) (ap (λ (t : Stand). t.content (minus p t.place)) same ∙ e))
@@ -231,7 +231,7 @@ module _ {V : Type 0} {H : V → Type 0} (loan : Taken V H → Loan) (before : S
   stands_first : (s : Seat V H) (seats : List (Seat V H)) (w : WindowRecord) (ws : List WindowRecord) → map (seat_stand loan) (s ∷ seats) ≡ map stand_of (w ∷ ws) → (seat_stand loan s ≡ stand_of w) × (map (seat_stand loan) seats ≡ map stand_of ws)
   stands_first s seats w ws e = (cc, cc)
 
-  all_areas : (first last : PixelSet) (ws : List WindowRecord) (seats : List (Seat V H)) (areas : List Area) → map (seat_stand loan) seats ≡ map stand_of ws → layers.AreWindows (map layered_window ws) → Reaches after ws first → All (λ s. IsArea before.desk before.stale s.serial s.area.now) seats → AreSwept loan first seats areas last → AreAreasAfter before after ws areas
+  all_areas : (first last : PixelSet) (ws : List WindowRecord) (seats : List (Seat V H)) (areas : List Area) → map (seat_stand loan) seats ≡ map stand_of ws → layers.AreWindows (map (layered_window font) ws) → Reaches font after ws first → All (λ s. IsArea before.desk before.stale s.serial s.area.now) seats → AreSwept loan first seats areas last → AreAreasAfter before after ws areas
   all_areas first last [] [] [] same distinct reach was swept = tt
   all_areas first last (w ∷ ws) (s ∷ seats) (a ∷ areas) same distinct reach was swept =
       let parts = stands_first s seats w ws same in
@@ -243,7 +243,7 @@ module _ {V : Type 0} {H : V → Type 0} (loan : Taken V H → Loan) (before : S
   all_areas first last [] (s ∷ seats) (a ∷ areas) same distinct reach was swept = absurd (cc)
 
   -- the sweep over the gray region gives each window its area
-  pub swept_areas : (ws : List WindowRecord) (gray : Pixels) (seats : List (Seat V H)) (areas : List Area) (last : PixelSet) (i : ℕ) → IsArranged loan before after ws gray seats → i ≡ length seats → AreSwept loan (holds gray) (take i seats) areas last → AreAreasAfter before after ws areas
+  pub swept_areas : (ws : List WindowRecord) (gray : Pixels) (seats : List (Seat V H)) (areas : List Area) (last : PixelSet) (i : ℕ) → IsArranged loan font before after ws gray seats → i ≡ length seats → AreSwept loan (holds gray) (take i seats) areas last → AreAreasAfter before after ws areas
   swept_areas ws gray seats areas last i arranged all swept = all_areas (holds gray) last ws seats areas arranged.stands (subst layers.AreWindows arranged.desk arranged.distinct) reach arranged.areas (subst (λ (ss : List (Seat V H)). AreSwept loan (holds gray) ss areas last) (ap (λ n. take n seats) all ∙ take-length seats) swept)
     where
       by_bar : (on b : Bool) (o : Owner) → (on && not b) ≡ true → (on ≡ true) × ((if b then Bar else o) ≡ o)
@@ -260,7 +260,7 @@ module _ {V : Type 0} {H : V → Type 0} (loan : Taken V H → Loan) (before : S
       past true false o e = absurd (cc)
       past false b o e = inl refl
 
-      reach : Reaches after ws (holds gray)
+      reach : Reaches font after ws (holds gray)
       reach = record {
         here = λ p e.
             let parts = by_bar (layers.on_screen after p) (layers.in_bar after p) (owner_among after.windows p) (sym (arranged.gray_is p) ∙ e) in

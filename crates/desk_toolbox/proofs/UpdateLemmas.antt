@@ -33,9 +33,9 @@ no_content_among (w ∷ ws) o e = λ i. not_its o e i || no_content_among ws o e
     not_its (Content s part) f = absurd (cc)
 
 -- content that owns a pixel is that of one of the windows
-content_among : (ws : List WindowRecord) (p : Point) → is_content_among ws (owner_among (map layered_window ws) p) ≡ is_content (owner_among (map layered_window ws) p)
-content_among [] p = refl
-content_among (w ∷ ws) p = by_structure (content_among ws p) (layers.in_structure (layered_window w) p) (w.definition.content w.size (minus p w.place))
+content_among : (font : List ℕ) (ws : List WindowRecord) (p : Point) → is_content_among ws (owner_among (map (layered_window font) ws) p) ≡ is_content (owner_among (map (layered_window font) ws) p)
+content_among font [] p = refl
+content_among font (w ∷ ws) p = by_structure (content_among font ws p) (layers.in_structure (layered_window font w) p) (w.definition.content w.size (minus p w.place))
   where
     first_or : (n : ℕ) (u : Owner) (b : Bool) → b ≡ is_content u → (is_content_of n u || b) ≡ is_content u
     first_or n Desktop b e = e
@@ -47,10 +47,10 @@ content_among (w ∷ ws) p = by_structure (content_among ws p) (layers.in_struct
         or_true true = refl
         or_true false = refl
 
-    by_structure : is_content_among ws (owner_among (map layered_window ws) p) ≡ is_content (owner_among (map layered_window ws) p) → (b c : Bool) → is_content_among (w ∷ ws) (if b then (if c then Content w.serial Picture else Frame w.serial) else owner_among (map layered_window ws) p) ≡ is_content (if b then (if c then Content w.serial Picture else Frame w.serial) else owner_among (map layered_window ws) p)
+    by_structure : is_content_among ws (owner_among (map (layered_window font) ws) p) ≡ is_content (owner_among (map (layered_window font) ws) p) → (b c : Bool) → is_content_among (w ∷ ws) (if b then (if c then Content w.serial Picture else Frame w.serial) else owner_among (map (layered_window font) ws) p) ≡ is_content (if b then (if c then Content w.serial Picture else Frame w.serial) else owner_among (map (layered_window font) ws) p)
     by_structure rest true true = ap (λ b. b || is_content_among ws (Content w.serial Picture)) (same_number w.serial)
     by_structure rest true false = no_content_among ws (Frame w.serial) refl
-    by_structure rest false c = first_or w.serial (owner_among (map layered_window ws) p) _ rest
+    by_structure rest false c = first_or w.serial (owner_among (map (layered_window font) ws) p) _ rest
 
 stale_among : (before : State) (after : Desk) (ws : List WindowRecord) (areas : List Area) (p : Point) → AreAreasAfter before after ws areas → layers.on_screen after p ≡ true → stale_in areas p ≡ (is_content_among ws (owner after p) && stale_by no_change before (owner after p) p)
 stale_among before after [] [] p its on = refl
@@ -68,15 +68,15 @@ stale_among before after [] (a ∷ areas) p its on = absurd its
 stale_among before after (w ∷ ws) [] p its on = absurd its
 
 -- the update regions are what the change of a call that moves no pixel makes stale
-pub updated_is_stale : (before : State) (after : Desk) (ws : List WindowRecord) (areas : List Area) (p : Point) → after.windows ≡ map layered_window ws → AreAreasAfter before after ws areas → layers.on_screen after p ≡ true → stale_in areas p ≡ stale_by no_change before (owner after p) p
-updated_is_stale before after ws areas p windows its on =
+pub updated_is_stale : (font : List ℕ) (before : State) (after : Desk) (ws : List WindowRecord) (areas : List Area) (p : Point) → after.windows ≡ map (layered_window font) ws → AreAreasAfter before after ws areas → layers.on_screen after p ≡ true → stale_in areas p ≡ stale_by no_change before (owner after p) p
+updated_is_stale font before after ws areas p windows its on =
     stale_among before after ws areas p its on
     ∙ ap (λ b. b && stale_by no_change before (owner after p) p) (among (layers.in_bar after p))
     ∙ content_only (is_content (owner after p)) _
   where
     among : (b : Bool) → is_content_among ws (if b then Bar else owner_among after.windows p) ≡ is_content (if b then Bar else owner_among after.windows p)
     among true = no_content_among ws Bar refl
-    among false = subst (λ vs. is_content_among ws (owner_among vs p) ≡ is_content (owner_among vs p)) (sym windows) (content_among ws p)
+    among false = subst (λ vs. is_content_among ws (owner_among vs p) ≡ is_content (owner_among vs p)) (sym windows) (content_among font ws p)
 
     content_only : (c t : Bool) → (c && (if not c then false else t)) ≡ (if not c then false else t)
     content_only true t = refl
@@ -100,5 +100,5 @@ areas_right before after stale (w ∷ ws) (a ∷ areas) same its = (
 areas_right before after stale [] (a ∷ areas) same its = absurd its
 areas_right before after stale (w ∷ ws) [] same its = absurd its
 
-pub areas_are : (before : State) (after : Desk) (ws : List WindowRecord) (areas : List Area) → after.windows ≡ map layered_window ws → AreAreasAfter before after ws areas → AreAreas after (stale_in areas) ws areas
-areas_are before after ws areas windows its = areas_right before after (stale_in areas) ws areas (λ p on. updated_is_stale before after ws areas p windows its on) its
+pub areas_are : (font : List ℕ) (before : State) (after : Desk) (ws : List WindowRecord) (areas : List Area) → after.windows ≡ map (layered_window font) ws → AreAreasAfter before after ws areas → AreAreas after (stale_in areas) ws areas
+areas_are font before after ws areas windows its = areas_right before after (stale_in areas) ws areas (λ p on. updated_is_stale font before after ws areas p windows its on) its

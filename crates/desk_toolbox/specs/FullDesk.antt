@@ -1,10 +1,12 @@
 -- The whole desk as plain data, and its layers.
-use Rattle.std.specs.Prelude.{ℕ, ◌<◌, Bool, false, List, [], ◌∷◌, Option, None, Some, map, ℤ, pos}
+use Rattle.std.specs.Prelude.{ℕ, ◌<◌, Bool, List, [], ◌∷◌, Option, None, Some, map, ℤ, pos}
 use Rattle.std.specs.Ordering.{int_eq}
 use Rattle.tb_geom.specs.declared.point.Point.{Point}
-use Rattle.tb_geom.specs.Points.{PixelSet}
+use Rattle.tb_geom.specs.Points.{PixelSet, minus}
 use Rattle.bit_map.specs.declared.pattern.Pattern.{Pattern}
 use Rattle.bit_map.specs.Patterns.{pattern_bit}
+use Rattle.draw_port.specs.declared.shapes.Op.{Op}
+use Rattle.draw_port.specs.Ops.{picture_bit}
 use Rattle.def_iface.specs.declared.size.Size.{Size}
 use Rattle.def_iface.specs.Meaning.{Definition}
 use Rattle.def_iface.specs.Stocked.{SlotView}
@@ -21,6 +23,10 @@ pub record WindowRecord : Type 0 where
   pub highlighted : Bool
   pub title : List ℕ
   pub go_away : Bool
+  -- the operations of its picture, the first drawn first
+  pub picture : List Op
+  -- where the picture's own 0 0 lies in the window
+  pub origin : Point
   pub definition : Definition
   -- the slot of the stock that the definition came from
   pub slot : ℕ
@@ -55,15 +61,15 @@ bar_picture p = int_eq p.v (pos 19)
 abbrev pub gray : Pattern
 gray = record { rows = 0xAA ∷ 0x55 ∷ 0xAA ∷ 0x55 ∷ 0xAA ∷ 0x55 ∷ 0xAA ∷ 0x55 ∷ [] }
 
--- a window as layers: its picture, which is white, over its frame
-abbrev pub layered_window : WindowRecord → Window
-layered_window w = record {
+-- a window as layers, in this font: its picture over its frame
+abbrev pub layered_window : List ℕ → WindowRecord → Window
+layered_window font w = record {
   serial = w.serial;
   place = w.place;
   shown = w.shown;
   structure = w.definition.structure w.size;
-  frame = w.definition.picture;
-  layers = record { part = Picture; extent = w.definition.content w.size; picture = λ p. false } ∷ [];
+  frame = w.definition.picture font;
+  layers = record { part = Picture; extent = w.definition.content w.size; picture = λ p. picture_bit font w.picture (minus p w.origin) } ∷ [];
 }
 
 -- the desk as layers
@@ -74,7 +80,7 @@ layered_desk d = record {
   bar = d.bar;
   bar_picture = bar_picture;
   desktop = pattern_bit gray;
-  windows = map layered_window d.windows;
+  windows = map (layered_window d.font) d.windows;
 }
 
 abbrev pub layered_state : FullState → plain.State

@@ -27,6 +27,8 @@ module _ {V : Type 0} {H : V → Type 0} (loan : Taken V H → Loan) where
     highlighted = w.highlighted;
     title = w.title.items;
     go_away = w.go_away;
+    picture = w.picture;
+    origin = w.origin;
     definition = (loan w.taken).definition;
     slot = (loan w.taken).slot;
   }

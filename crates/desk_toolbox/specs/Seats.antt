@@ -90,9 +90,9 @@ module _ {V : Type 0} {H : V → Type 0} (loan : Taken V H → Loan) where
     pub leaves : (p : Point) → left p ≡ (rest p && not (s.shown && (seat_stand s).structure (minus p s.place)))
     pub within : s.shown ≡ true → IsWithin (seat_stand s).content (seat_stand s).structure
 
-  -- the seats of the windows of a desk, as a call leaves it, each with the area that its window had before
-  pub record IsArranged (before : State) (after : Desk) (windows : List WindowRecord) (gray : Pixels) (seats : List (Seat V H)) : Type 0 where
-    pub desk : after.windows ≡ map layered_window windows
+  -- the seats of the windows of a desk in this font, as a call leaves it, each with the area that its window had before
+  pub record IsArranged (font : List ℕ) (before : State) (after : Desk) (windows : List WindowRecord) (gray : Pixels) (seats : List (Seat V H)) : Type 0 where
+    pub desk : after.windows ≡ map (layered_window font) windows
     pub distinct : IsDesk after
     pub gray_is : IsGray after gray
     pub stands : map seat_stand seats ≡ map stand_of windows

@@ -1,20 +1,28 @@
 -- One step: what a call leaves, and what it answers.
-use Rattle.std.specs.Prelude.{◌≡◌, ◌⊎◌, ℕ, ◌+◌, ◌^◌, nat_lt, true, false, if◌then◌else◌, ◌==◌, ◌∷◌, map, Option, None, Some, Result, Ok, Err}
+use Rattle.std.specs.Prelude.{◌≡◌, ◌⊎◌, ℕ, ◌+◌, ◌^◌, nat_lt, true, false, if◌then◌else◌, ◌==◌, List, [], ◌∷◌, ◌++◌, map, Option, None, Some, Result, Ok, Err, pos}
 use Rattle.tb_geom.specs.declared.point.Point.{Point}
 use Rattle.tb_geom.specs.declared.refusal.Refusal.{Refusal}
 use Rattle.tb_geom.specs.declared.refusal.Refusal.TheVariants.{NoMemory}
+use Rattle.tb_geom.specs.Points.{minus}
+use Rattle.draw_port.specs.declared.shapes.Op.{Op}
+use Rattle.draw_port.specs.Ops.{op_value}
+use Rattle.op_ref.specs.OpRefs.{IsMeant}
 use Rattle.def_iface.specs.Meaning.{Definition, Loan, IsBegun}
 use Rattle.def_iface.specs.Stocked.{IsTaken}
 use Rattle.def_iface.specs.Desk.{on_screen}
-use Rattle.def_iface.specs.Change.{no_change, IsChanged}
+use Rattle.def_iface.specs.Desk.Part.{Picture}
+use Rattle.def_iface.specs.Owner.{same_owner}
+use Rattle.def_iface.specs.Owner.Owner.{Content}
+use Rattle.def_iface.specs.Change.{Change, no_change, IsChanged}
 use Rattle.desk_toolbox.specs.declared.call.Call.{Call}
 use Rattle.desk_toolbox.specs.declared.call.Call.TheVariants.{Window}
 use Rattle.desk_toolbox.specs.declared.call.WindowCall.TheVariants.{New, Draw, Find, Front}
+use Rattle.desk_toolbox.specs.declared.call.Drawing.{Drawing}
 use Rattle.desk_toolbox.specs.declared.call.NewWindow.{NewWindow}
 use Rattle.desk_toolbox.specs.declared.call.Reply.{Reply}
 use Rattle.desk_toolbox.specs.declared.call.Reply.TheVariants as reply
 use Rattle.desk_toolbox.specs.FullDesk.{WindowRecord, FullDesk, FullState, layered_desk, layered_state}
-use Rattle.desk_toolbox.specs.Finding.{found_at, front_of}
+use Rattle.desk_toolbox.specs.Finding.{record_with, found_at, front_of}
 use Rattle.desk_toolbox.specs.Refused.{IsRefusal, may_grow}
 
 -- the record that a new window gets; a visible one is highlighted
@@ -27,6 +35,8 @@ new_record w serial slot d = record {
   highlighted = w.shown;
   title = w.title;
   go_away = w.go_away;
+  picture = [];
+  origin = record { h = pos 0; v = pos 0 };
   definition = d;
   slot = slot;
 }
@@ -58,6 +68,25 @@ pub record IsNewWindow (w : NewWindow) (serial : ℕ) (before after : FullState)
   pub desk : after.desk ≡ record (desk_with w serial loan.slot begun before.desk) { stock = after.desk.stock }
   pub pixels : IsChanged no_change (layered_state before) (layered_state after)
 
+-- the window has the operation too, if it is the one of this serial
+abbrev pub with_operation : ℕ → Op → WindowRecord → WindowRecord
+with_operation s op w = if w.serial == s then record w { picture = w.picture ++ op ∷ [] } else w
+
+-- the change of a call that draws an operation, in this font, on every pixel that the picture of the window of this serial owns
+abbrev pub draw_change : List ℕ → ℕ → WindowRecord → Op → Change
+draw_change font s w op = record no_change {
+  drawn = λ o p value. if same_owner o (Content s Picture) then op_value font op (minus (minus p w.place) w.origin) value else value;
+}
+
+-- the operation was kept in the window's picture, and drawn
+pub record IsDrawn (d : Drawing) (before after : FullState) : Type 0 where
+  pub window : WindowRecord
+  pub operation : Op
+  pub found : record_with d.window before.desk.windows ≡ Some window
+  pub meant : IsMeant d.operation operation
+  pub desk : after.desk ≡ record before.desk { windows = map (with_operation d.window operation) before.desk.windows }
+  pub pixels : IsChanged (draw_change before.desk.font d.window window operation) (layered_state before) (layered_state after)
+
 -- nothing changed
 pub record IsUnchanged (before after : FullState) : Type 0 where
   pub desk : after.desk ≡ before.desk
@@ -67,7 +96,7 @@ pub record IsUnchanged (before after : FullState) : Type 0 where
 -- what a call that was done answers and leaves: a call that asks changes nothing
 abbrev pub IsDone : Call → Reply → FullState → FullState → Type 0
 IsDone (Window (New w)) answer before after = (serial : ℕ) × (answer ≡ reply.Window serial) × IsNewWindow w serial before after
-IsDone (Window (Draw d)) answer before after = ⊥
+IsDone (Window (Draw d)) answer before after = (answer ≡ reply.Done) × IsDrawn d before after
 IsDone (Window (Find p)) answer before after = (answer ≡ reply.Found (found_at before.desk p)) × IsUnchanged before after
 IsDone (Window Front) answer before after = (answer ≡ reply.Front (front_of before.desk.windows)) × IsUnchanged before after
 

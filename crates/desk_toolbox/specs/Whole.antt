@@ -37,9 +37,10 @@ AreAreas desk stale (w ∷ ws) (a ∷ areas) = IsArea desk stale w.serial a × A
 AreAreas desk stale [] (a ∷ areas) = ⊥
 AreAreas desk stale (w ∷ ws) [] = ⊥
 
--- the window's definition is live, and was told the window's size, which fits it; its place is a point, and its
+-- the window's definition is live, and was told the window's size, which fits it; its place and its picture's origin are points, and its
 -- structure lies in the range of coordinates there
 pub record IsSettled (w : WindowRecord) : Type 0 where
+  pub origin : in_plane w.origin ≡ true
   pub placed : in_plane w.place ≡ true
   pub live : w.definition.stage ≡ Live
   pub told : w.definition.size ≡ w.size

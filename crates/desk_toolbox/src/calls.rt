@@ -43,7 +43,10 @@ impl Toolbox {
         Ok(Reply::Window(self.new_window(window, stock)?))
     }
 
-    /// Draws in a window.
+    /// Adds an operation to the picture of a window, and draws it on each pixel of the screen that
+    /// the picture owns, to be redrawn or not. The refusal is the first of these: BadSyntax and
+    /// BadRegion as `OpRef::judge` has them, NoSuchWindow, OutOfRange and TooLong as it has them, TooMany
+    /// where the picture has 1024 operations, NoMemory.
     fn answer_draw(&mut self, drawing: &Drawing<'_>, _stock: &Stock) -> Result<Reply, Refusal>
         requires { IsWhole ⟦<Taken as Defined>⟧.loan self.old (⟦<Stock as Stocked>⟧.slots _stock.now) }
         ensures whole { IsWhole ⟦<Taken as Defined>⟧.loan self.new (⟦<Stock as Stocked>⟧.slots _stock.now) }
@@ -51,7 +54,11 @@ impl Toolbox {
             (state_of ⟦<Taken as Defined>⟧.loan self.old (⟦<Stock as Stocked>⟧.slots _stock.now))
             (state_of ⟦<Taken as Defined>⟧.loan self.new (⟦<Stock as Stocked>⟧.slots _stock.now)) }
     {
-        Err(Refusal::NoMemory)
+        let at = self.place_to_draw(drawing)?;
+        match self.add_operation(at, drawing) {
+            Ok(()) => Ok(Reply::Done),
+            Err(refusal) => Err(refusal),
+        }
     }
 
     /// Answers whose a point of the screen is.

@@ -1,10 +1,10 @@
 //! The Toolbox: a desk of windows on one screen, and the calls that change it.
 //!
 //! What a desk is, a reader finds in `specs/`, and nowhere in code: `FullDesk` has the windows' records, from
-//! front to back, and no region and no saved pixel. `Step` says what a call leaves and answers (`IsStep`): a call
-//! that nothing refuses is done; a refused one changes nothing, and its answer is the first refusal of the
-//! written order whose condition holds (`Refused`), or NoMemory where no other holds and the call may ask for
-//! memory. `Run` strings steps together.
+//! front to back, each with the operations of its picture, and no region and no saved pixel. `Step` says what a
+//! call leaves and answers (`IsStep`): a call that nothing refuses is done; a refused one changes nothing, and its
+//! answer is the first refusal of the written order whose condition holds (`Refused`), or NoMemory where no other
+//! holds and the call may ask for memory. `Run` strings steps together.
 //!
 //! A `Toolbox` keeps more than the desk: the screen, and for each window the regions that its content and its frame
 //! own on the screen and what of the content is not yet drawn (`Area`). `Records` reads the desk and its state off a
@@ -15,8 +15,9 @@
 //! Definitions live outside, in a `Stock` that each call is handed. A window's record holds its definition together
 //! with the number of the slot that it came from, until `Toolbox::close` puts it back Closed.
 //!
-//! A call is judged and takes all its memory before the first change: see `Toolbox::plan_window` for a new window.
-//! What each window owns then, and what of that is to be drawn, one sweep from front to back answers (`vis_update`).
+//! A call is judged and takes all its memory before the first change: see `Toolbox::plan_window` for a new window,
+//! and `Toolbox::add_operation` for an operation that is drawn. What each window owns once a window is new, and what
+//! of that is to be drawn, one sweep from front to back answers (`vis_update`).
 //!
 //! Whose a pixel is, the calls that ask (`find`) read off the same regions: the window whose visible content or frame
 //! has it owns it. There may be 64 windows.
@@ -25,6 +26,7 @@
 mod call;
 mod calls;
 mod close;
+mod draw;
 mod find;
 pub mod laws;
 mod place;

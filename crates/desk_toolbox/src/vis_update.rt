@@ -3,7 +3,7 @@
 //! One sweep answers it for all windows, from front to back. It begins with the gray region. Each window in its turn
 //! takes what is left of its content and of its frame, and leaves what its structure does not cover. A pixel that
 //! its content had before, and that was drawn then, stays drawn; all else that it takes is to be drawn.
-ghost use Rattle.std.specs.Prelude.{◌≡◌, All, List, length, vec_len, IfOk, IfErr};
+ghost use Rattle.std.specs.Prelude.{◌≡◌, ℕ, All, List, length, vec_len, IfOk, IfErr};
 ghost use Rattle.tb_geom.specs.Pixels.{holds};
 ghost use Rattle.def_iface.specs.Desk.{Desk};
 ghost use Rattle.def_iface.specs.Change.{State};
@@ -74,8 +74,8 @@ pub(crate) fn areas_of(
     seats: &[Seat<'_>],
 ) -> Result<Vec<Area>, Refusal>
     requires { All (IsPlacedSeat ⟦<Taken as Defined>⟧.loan) seats.now }
-    ensures areas { IfOk result (λ areas. (before : State) (after : Desk) (windows : List WindowRecord)
-        → IsArranged ⟦<Taken as Defined>⟧.loan before after windows gray.now seats.now
+    ensures areas { IfOk result (λ areas. (font : List ℕ) (before : State) (after : Desk) (windows : List WindowRecord)
+        → IsArranged ⟦<Taken as Defined>⟧.loan font before after windows gray.now seats.now
         → AreAreasAfter before after windows areas.items) }
     ensures length { IfOk result (λ areas. vec_len areas ≡ length seats.now) }
     ensures refused { IfErr result (λ e. e ≡ Refusal.NoMemory) }

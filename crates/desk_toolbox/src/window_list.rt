@@ -10,6 +10,8 @@ use crate::vis_update::Seat;
 use crate::{Area, NewWindow};
 use arrayvec::ArrayVec;
 use def_iface::{Defined, Size, Taken};
+use draw_port::Picture;
+use std::alloc::Global;
 use tb_geom::Point;
 
 /// A title: at most 255 bytes.
@@ -25,12 +27,21 @@ pub struct Window {
     pub(crate) highlighted: bool,
     pub(crate) go_away: bool,
     pub(crate) title: Title,
+    pub(crate) picture: Picture,
+    /// Where the picture's own 0 0 lies in the window.
+    pub(crate) origin: Point,
     pub(crate) taken: Taken,
 }
 
 impl Window {
-    /// The record of a new window, with its definition. A visible one is highlighted.
-    pub(crate) fn new(window: &NewWindow<'_>, serial: u64, title: Title, taken: Taken) -> Window
+    /// The record of a new window, with its definition. A visible one is highlighted, and its picture is white.
+    pub(crate) fn new(
+        alloc: Global,
+        window: &NewWindow<'_>,
+        serial: u64,
+        title: Title,
+        taken: Taken,
+    ) -> Window
         requires { title.items ≡ window.now.title }
         ensures { record_of ⟦<Taken as Defined>⟧.loan result ≡ new_record window.now serial
             (⟦<Taken as Defined>⟧.loan taken).slot (⟦<Taken as Defined>⟧.loan taken).definition }
@@ -43,6 +54,8 @@ impl Window {
             highlighted: window.shown,
             go_away: window.go_away,
             title,
+            picture: Picture::new(alloc),
+            origin: Point { h: 0, v: 0 },
             taken,
         }
     }

@@ -1,5 +1,6 @@
 //! The calls of the Window Manager.
 ghost use Rattle.std.specs.Prelude.{◌≡◌, ◌+◌, ◌<◌, true, ◌∷◌, map, if◌then◌else◌, Some, None, IfOk, IfErr, MatchResult, length, vec_len, vec_capacity};
+ghost use Rattle.tb_geom.specs.Rects.{in_plane};
 ghost use Rattle.def_iface.specs.Meaning.{is_fitting};
 ghost use Rattle.desk_toolbox.specs.Records.{state_of};
 ghost use Rattle.desk_toolbox.specs.Refused.{first_refusal, judged_refusals, is_placed};
@@ -15,7 +16,9 @@ use crate::window_list::Title;
 use crate::{Area, NewWindow, Toolbox, Window};
 use bit_blit::fill;
 use bit_map::{BitMap, Mode, Pattern};
-use def_iface::{Canvas, Cut, Defined, Stage, Stock, Stocked, Taken};
+use def_iface::{Defined, Stage, Stock, Stocked, Taken};
+use draw_port::{Canvas, Cut};
+use strike_font::Font;
 use tb_geom::{Point, Refusal};
 
 /// As many windows as there may be.
@@ -99,7 +102,10 @@ impl Toolbox {
             return Err(Refusal::OutOfRange);
         }
         let mut title = Title::new();
-        if title.try_extend_from_slice(window.title.as_slice()).is_err() {
+        if title
+            .try_extend_from_slice(window.title.as_slice())
+            .is_err()
+        {
             return Err(Refusal::TooLong);
         }
         match self.next {
@@ -157,6 +163,7 @@ impl Toolbox {
     /// Puts a planned window in front of all others, and draws it.
     fn add_window(&mut self, window: &NewWindow<'_>, plan: Plan, taken: Taken)
         requires fresh { (⟦<Taken as Defined>⟧.loan taken).definition.stage ≡ Stage.Fresh }
+        requires placed { in_plane window.now.place ≡ true }
         requires fits { is_fitting (⟦<Taken as Defined>⟧.loan taken).definition window.now.size ≡ true }
         requires planned { IsPlanned ⟦<Taken as Defined>⟧.loan window.now
             (⟦<Taken as Defined>⟧.loan taken).definition self.old plan }
@@ -167,8 +174,14 @@ impl Toolbox {
         let Ticket { serial, title } = ticket;
         let mut taken = taken;
         taken.begin(window.size);
-        paint(&mut self.screen, &areas[0], &taken, window.place);
-        let added = Window::new(window, serial, title, taken);
+        paint(
+            &mut self.screen,
+            &areas[0],
+            &taken,
+            window.place,
+            &self.font,
+        );
+        let added = Window::new(self.alloc, window, serial, title, taken);
         self.dim_behind(window.shown);
         self.put_in_front(added);
         self.areas = areas;
@@ -224,11 +237,12 @@ fn number_after(serial: u64) -> Option<u64>
 }
 
 /// Draws a window's frame, and makes its content white.
-fn paint(screen: &mut BitMap, area: &Area, taken: &Taken, place: Point)
+fn paint(screen: &mut BitMap, area: &Area, taken: &Taken, place: Point, font: &Font)
+    requires placed { in_plane place ≡ true }
     requires live { (⟦<Taken as Defined>⟧.loan taken.now).definition.stage ≡ Stage.Live }
     requires told { is_fitting (⟦<Taken as Defined>⟧.loan taken.now).definition
         (⟦<Taken as Defined>⟧.loan taken.now).definition.size ≡ true }
-    ensures { IsPainted area.now place (⟦<Taken as Defined>⟧.loan taken.now).definition screen.old screen.new }
+    ensures { IsPainted area.now place (⟦<Taken as Defined>⟧.loan taken.now).definition font.now screen.old screen.new }
 {
     let origin = Point { h: 0, v: 0 };
     fill(screen, &area.visible, origin, Pattern::WHITE, Mode::Copy);
@@ -242,6 +256,7 @@ fn paint(screen: &mut BitMap, area: &Area, taken: &Taken, place: Point)
         clip,
         origin: place,
         cut: &cut,
+        font,
     };
     taken.draw(&mut canvas);
 }

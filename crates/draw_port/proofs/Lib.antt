@@ -4,3 +4,4 @@ pub mod PlacedLemmas
 pub mod PictureLemmas
 pub mod GlyphLemmas
 pub mod FrameLemmas
+pub mod OverLemmas

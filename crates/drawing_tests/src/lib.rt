@@ -3,7 +3,8 @@
 //! pixels, and never from the libraries.
 //!
 //! `blits` tests `bit_blit`. Of `draw_port`, `pictures` tests operations, one after another, `canvases` the calls of a
-//! canvas and of pictures, and `given` operations as calls carry them. `sheet` and `images` have what they draw on.
+//! canvas and of pictures, `fills` the fills of a canvas, and `given` operations as calls carry them. `sheet` and
+//! `images` have what they draw on.
 #![tactic(auto)]
 
 pub mod sheet;
@@ -33,6 +34,8 @@ macro_rules! point {
 mod blits;
 #[cfg(test)]
 mod canvases;
+#[cfg(test)]
+mod fills;
 #[cfg(test)]
 mod given;
 #[cfg(test)]

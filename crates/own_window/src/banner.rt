@@ -1,10 +1,11 @@
-//! A kind of window of our own: a gray banner above the content, and a black frame around both.
+//! A kind of window of our own: a white banner with a word on it above the content, and a black frame around both.
 ghost use Rattle.std.specs.Prelude.{◌≡◌, true};
 ghost use Rattle.def_iface.specs.Sizes.{is_size};
 ghost use Rattle.own_window.specs.Banners.{banner_of, box_of, banner_window};
 
 use bit_map::{Mode, Pattern};
-use def_iface::{Canvas, Hit, Size, Stage, WindowChange, WindowDef, WindowRegions};
+use def_iface::{Hit, Size, Stage, WindowChange, WindowDef, WindowRegions};
+use draw_port::Canvas;
 use scan_region::Region;
 use std::alloc::Global;
 use tb_geom::{Point, Rect, Refusal};
@@ -16,6 +17,12 @@ const EVERYWHERE: Rect = Rect {
     right: 16384,
     bottom: 16384,
 };
+
+/// What stands on the banner.
+const WORD: &[u8] = b"Hello";
+
+/// Where its baseline begins.
+const PEN: Point = Point { h: 1, v: -2 };
 
 /// The definition of one banner window: where it stands in its life, and the size that it was told.
 #[derive(Drop)]
@@ -39,13 +46,13 @@ impl Banner {
     }
 }
 
-/// The banner: six rows above the content, whose first pixel is 0 0.
+/// The banner: nine rows above the content, whose first pixel is 0 0.
 fn banner_of(size: Size) -> Rect
     ensures { result ≡ banner_of size }
 {
     Rect {
         left: 0,
-        top: -7,
+        top: -10,
         right: size.width,
         bottom: -1,
     }
@@ -58,7 +65,7 @@ fn box_of(size: Size) -> Rect
 {
     Rect {
         left: -1,
-        top: -8,
+        top: -11,
         right: size.width + 1,
         bottom: size.height + 1,
     }
@@ -106,7 +113,8 @@ impl WindowDef for Banner {
 
     fn draw(&self, canvas: &mut Canvas<'_>) {
         canvas.fill_all(Pattern::BLACK, Mode::Copy);
-        canvas.fill(banner_of(self.size), Pattern::GRAY, Mode::Copy);
+        canvas.fill(banner_of(self.size), Pattern::WHITE, Mode::Copy);
+        canvas.text(WORD, PEN, Mode::Or);
         canvas.fill(self.size.rect(), Pattern::WHITE, Mode::Copy);
     }
 

@@ -11,8 +11,10 @@ use anyhow::{Result, bail};
 use banner::Banner;
 use def_iface::{Size, Stock};
 use desk_toolbox::{Call, NewWindow, Toolbox, WindowCall};
+use op_ref::BytesRef;
 use screen_pbm::write_p1;
 use std::io;
+use strike_font::Font;
 use tb_geom::Point;
 use watched_io::WatchedWriter;
 
@@ -51,8 +53,13 @@ fn main(rt: HostRuntime) -> Result<()> {
         bail!("no memory for the stock");
     };
 
-    // A desk on a screen of 64 by 64 pixels, of which the first 20 rows are the menu bar.
-    let mut desk = Toolbox::new(alloc, 64, 64, 20)?;
+    // A desk on a screen of 64 by 64 pixels, of which the first 20 rows are the menu bar. Its texts are in the
+    // built-in font; a refusal would give the font back.
+    let font = Font::built_in(alloc)?;
+    let mut desk = match Toolbox::new(alloc, 64, 64, 20, font) {
+        Ok(desk) => desk,
+        Err(not_begun) => bail!("no desk: {}", not_begun.refusal),
+    };
 
     // Two windows, the second in front of the first, and three questions. A call that is refused changes
     // nothing, and its answer says why.

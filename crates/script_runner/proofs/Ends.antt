@@ -8,15 +8,14 @@ use Rattle.std.proofs.lemmas.List.{drop_more}
 use Rattle.std.specs.Str.Lines.{strip_carriage_return}
 use Rattle.tb_geom.specs.declared.refusal.Refusal.{Refusal}
 use Rattle.tb_geom.specs.declared.refusal.Refusal.TheVariants.{ReadFault}
-use Rattle.def_iface.specs.Stocked.{SlotView}
 use Rattle.script_text.specs.declared.command.Command.{Command}
 use Rattle.script_text.specs.Held.{said_held, said_last, held_of, pushed}
 use Rattle.script_text.specs.Lines.{said, whole_lines, last_part, lines_of, if_any}
-use Rattle.watched_io.specs.Reads.{Input, IsOpen, Gave, most_reads}
-use Rattle.script_runner.specs.Session.{SessionState, unmade, SaidAnswers, Written}
+use Rattle.watched_io.specs.Reads.{Input, IsOpen, Gave, IsEntire, IsCutOff}
+use Rattle.script_runner.specs.Session.{SessionState, SaidAnswers, Written}
 use Rattle.script_runner.specs.Endings.{LineEnds}
 use Rattle.script_runner.specs.Progress.{SoFar}
-use Rattle.script_runner.specs.Runs.{IsEntire, Stops, ScriptEnds}
+use Rattle.script_runner.specs.Runs.{Stops, ScriptEnds}
 use Rattle.watched_io.specs.Writes.{Output}
 use Rattle.script_text.proofs.Cuts.{whole_lines-newline, last_part-newline, whole_lines-other, last_part-other, pushed-held_of, said_held-held_of, said_last-held_of}
 use Rattle.watched_io.proofs.Written.{Sent-nil, Sent-trans, BrokeOff-after}
@@ -42,15 +41,15 @@ whole-read None rest script read end = tt
 whole-read (Some xs) None script read end = absurd read
 whole-read (Some xs) (Some ys) script read end = read ∙ ap (λ l. script ++ l) end ∙ append-nil script
 
--- `slots` are those of the stock at the start, `input` and `old` the reader and the writer
-module _ (slots : List SlotView) (input : Input) (old : Output) where
-  pub start : (session : SessionState) → session ≡ unmade slots → IsOpen input → SoFar slots input old input old session (Some []) []
+-- `first` is the session at the start, `input` and `old` the reader and the writer
+module _ (first : SessionState) (input : Input) (old : Output) where
+  pub start : IsOpen input → SoFar first input old input old first (Some []) []
   unfolding whole_lines last_part held_of
-  start session none going = record { seen = []; text = []; going = going; read = Consumes-nil input.remaining; sent = Sent-nil old; answered = (refl, none); held = refl }
+  start going = record { seen = []; text = []; going = going; read = Consumes-nil input.remaining; sent = Sent-nil old; answered = (refl, refl); held = refl }
 
   module _ (rest : Input) (new : Output) (session : SessionState) (part : Option (List ℕ)) where
     -- some bytes were read
-    pub read_more : (rest' : Input) (chunk : List ℕ) → SoFar slots input old rest new session part [] → Gave rest rest' chunk → 0 < length chunk → SoFar slots input old rest' new session part chunk
+    pub read_more : (rest' : Input) (chunk : List ℕ) → SoFar first input old rest new session part [] → Gave rest rest' chunk → 0 < length chunk → SoFar first input old rest' new session part chunk
     read_more rest' chunk so_far gave some = record {
       seen = so_far.seen;
       text = so_far.text;
@@ -62,23 +61,23 @@ module _ (slots : List SlotView) (input : Input) (old : Output) where
     }
 
     -- the next byte of what was read
-    pub next : (chunk : List ℕ) (i : ℕ) → i < length chunk → SoFar slots input old rest new session part (drop i chunk) → SoFar slots input old rest new session part (get_or chunk i 0 ∷ drop (i + 1) chunk)
-    next chunk i within so_far = subst (SoFar slots input old rest new session part) (drop_more chunk i 0 within) so_far
+    pub next : (chunk : List ℕ) (i : ℕ) → i < length chunk → SoFar first input old rest new session part (drop i chunk) → SoFar first input old rest new session part (get_or chunk i 0 ∷ drop (i + 1) chunk)
+    next chunk i within so_far = subst (SoFar first input old rest new session part) (drop_more chunk i 0 within) so_far
 
     -- the line that a newline ends here was answered
-    module _ (b : ℕ) (ahead : List ℕ) (so_far : SoFar slots input old rest new session part (b ∷ ahead)) (session' : SessionState) (new' : Output) where
-      ended : (ten : b ≡ 10) (more : List ℕ) → SaidAnswers session (said_held part) more session' → Written (unmade slots) (whole_lines (so_far.seen ++ b ∷ [])) (so_far.text ++ more) session'
+    module _ (b : ℕ) (ahead : List ℕ) (so_far : SoFar first input old rest new session part (b ∷ ahead)) (session' : SessionState) (new' : Output) where
+      ended : (ten : b ≡ 10) (more : List ℕ) → SaidAnswers session (said_held part) more session' → Written first (whole_lines (so_far.seen ++ b ∷ [])) (so_far.text ++ more) session'
       ended ten more answered =
           let line = strip_carriage_return (last_part so_far.seen) in
           let says : said_held part ≡ said line = ap said_held so_far.held ∙ said_held-held_of (last_part so_far.seen) in
-          rw ten (subst (λ ls. Written (unmade slots) ls (so_far.text ++ more) session') (sym (whole_lines-newline so_far.seen))
-          (written-more (unmade slots) (whole_lines so_far.seen) so_far.text session line more session' so_far.answered (subst (λ s. SaidAnswers session s more session') says answered)))
+          rw ten (subst (λ ls. Written first ls (so_far.text ++ more) session') (sym (whole_lines-newline so_far.seen))
+          (written-more first (whole_lines so_far.seen) so_far.text session line more session' so_far.answered (subst (λ s. SaidAnswers session s more session') says answered)))
 
       -- the byte is taken, and the run goes on
       pub taken : {X : Type 0} (part' : Option (List ℕ)) (x : X)
           → (b ≡ 10 → LineEnds session (said_held part) session' new new' (Ok x)) → (b ≡ 10 → part' ≡ Some [])
           → (b ≢ 10 → (part' ≡ pushed part b) × (session' ≡ session) × (new' ≡ new))
-          → SoFar slots input old rest new' session' part' ahead
+          → SoFar first input old rest new' session' part' ahead
       taken part' x newline cleared other =
           elim (cases_eq b 10) [
             | inl ten ↦ elim (newline ten) [
@@ -107,11 +106,11 @@ module _ (slots : List SlotView) (input : Input) (old : Output) where
           ]
 
       -- the byte is taken, and the run stops
-      pub taken_last : (X : Type 0) (e : Refusal) → (b ≡ 10 → LineEnds {X = X} session (said_held part) session' new new' (Err e)) → (b ≢ 10 → ⊥) → Stops slots input rest old new' session' e
+      pub taken_last : (X : Type 0) (e : Refusal) → (b ≡ 10 → LineEnds {X = X} session (said_held part) session' new new' (Err e)) → (b ≢ 10 → ⊥) → Stops first input rest old new' session' e
       taken_last X e newline other =
           elim (cases_eq b 10) [
             | inl ten ↦ elim (newline ten) [
-              | inl done ↦ subst (Stops slots input rest old new' session') (sym done.2.0) (record {
+              | inl done ↦ subst (Stops first input rest old new' session') (sym done.2.0) (record {
                 seen = so_far.seen ++ b ∷ [];
                 ahead = ahead;
                 lines = whole_lines (so_far.seen ++ b ∷ []);
@@ -122,7 +121,7 @@ module _ (slots : List SlotView) (input : Input) (old : Output) where
                 answered = ended ten done.0 done.1;
                 broken = BrokeOff-after old new new' so_far.text done.0 so_far.sent done.2.1;
               })
-              | inr none ↦ subst (Stops slots input rest old new' session') (sym none.2.memory) (record {
+              | inr none ↦ subst (Stops first input rest old new' session') (sym none.2.memory) (record {
                 seen = so_far.seen ++ b ∷ [];
                 ahead = ahead;
                 before = whole_lines so_far.seen;
@@ -142,13 +141,13 @@ module _ (slots : List SlotView) (input : Input) (old : Output) where
           ]
 
     -- nothing is ahead: all that was read was taken
-    all_taken : (rest' : Input) → Consumes rest.remaining rest'.remaining [] → (so_far : SoFar slots input old rest new session part []) → Consumes input.remaining rest'.remaining so_far.seen
+    all_taken : (rest' : Input) → Consumes rest.remaining rest'.remaining [] → (so_far : SoFar first input old rest new session part []) → Consumes input.remaining rest'.remaining so_far.seen
     all_taken rest' none so_far = subst (Consumes input.remaining rest'.remaining) (append-nil (so_far.seen ++ []) ∙ append-nil so_far.seen) (Consumes-trans input.remaining rest.remaining rest'.remaining (so_far.seen ++ []) [] so_far.read none)
 
     -- a read failed, or there were as many as there may be
-    pub stops_reading : (rest' : Input) (e : Refusal) → SoFar slots input old rest new session part [] → e ≡ ReadFault → Consumes rest.remaining rest'.remaining []
-        → (rest'.has_failed ≡ true) ⊎ ((rest'.reads ≡ most_reads) × (rest'.has_ended ≡ false)) → Stops slots input rest' old new session e
-    stops_reading rest' e so_far fault none why = subst (Stops slots input rest' old new session) (sym fault) (record {
+    pub stops_reading : (rest' : Input) (e : Refusal) → SoFar first input old rest new session part [] → e ≡ ReadFault → Consumes rest.remaining rest'.remaining []
+        → IsCutOff rest' → Stops first input rest' old new session e
+    stops_reading rest' e so_far fault none why = subst (Stops first input rest' old new session) (sym fault) (record {
       seen = so_far.seen;
       text = so_far.text;
       read = all_taken rest' none so_far;
@@ -158,7 +157,7 @@ module _ (slots : List SlotView) (input : Input) (old : Output) where
     })
 
     -- the script came to its end, and what was left of it was answered
-    module _ (rest' : Input) (so_far : SoFar slots input old rest new session part []) (gave : Gave rest rest' []) (session' : SessionState) (new' : Output) where
+    module _ (rest' : Input) (so_far : SoFar first input old rest new session part []) (gave : Gave rest rest' []) (session' : SessionState) (new' : Output) where
       -- all of the input
       entire : IsEntire input rest' so_far.seen
       entire =
@@ -173,15 +172,15 @@ module _ (slots : List SlotView) (input : Input) (old : Output) where
       unfailed = gave.quiet ∙ so_far.going.unfailed
 
       -- the last line, if there is one, was answered
-      answered_last : (left : List ℕ) → (more : List ℕ) → SaidAnswers session (said_last (held_of left)) more session' → Written (unmade slots) (whole_lines so_far.seen ++ if_any left) (so_far.text ++ more) session'
+      answered_last : (left : List ℕ) → (more : List ℕ) → SaidAnswers session (said_last (held_of left)) more session' → Written first (whole_lines so_far.seen ++ if_any left) (so_far.text ++ more) session'
       unfolding held_of
       answered_last [] more (silent, same) =
           let t : so_far.text ++ more ≡ so_far.text = ap (λ l. so_far.text ++ l) silent ∙ append-nil so_far.text in
           rw (append-nil (whole_lines so_far.seen), t, same) so_far.answered
       answered_last (b ∷ bs) more answered =
-          written-more (unmade slots) (whole_lines so_far.seen) so_far.text session (b ∷ bs) more session' so_far.answered (subst (λ s. SaidAnswers session s more session') (said_last-held_of b bs) answered)
+          written-more first (whole_lines so_far.seen) so_far.text session (b ∷ bs) more session' so_far.answered (subst (λ s. SaidAnswers session s more session') (said_last-held_of b bs) answered)
 
-      at_last : (more : List ℕ) → SaidAnswers session (said_last part) more session' → Written (unmade slots) (lines_of so_far.seen) (so_far.text ++ more) session'
+      at_last : (more : List ℕ) → SaidAnswers session (said_last part) more session' → Written first (lines_of so_far.seen) (so_far.text ++ more) session'
       at_last more answered = answered_last (last_part so_far.seen) more (subst (λ p. SaidAnswers session (said_last p) more session') so_far.held answered)
 
       -- the last line is a command
@@ -190,7 +189,7 @@ module _ (slots : List SlotView) (input : Input) (old : Output) where
       last_command [] command says = absurd (cc)
       last_command (b ∷ bs) command says = (refl, sym (said_last-held_of b bs) ∙ says)
 
-      finished_with : {X : Type 0} (r : Result X Refusal) → LineEnds session (said_last part) session' new new' r → ScriptEnds slots input rest' old new' session' r
+      finished_with : {X : Type 0} (r : Result X Refusal) → LineEnds session (said_last part) session' new new' r → ScriptEnds first input rest' old new' session' r
       finished_with (Ok x) ends =
           elim ends [
             | inl done ↦ record {
@@ -205,7 +204,7 @@ module _ (slots : List SlotView) (input : Input) (old : Output) where
           ]
       finished_with (Err e) ends =
           elim ends [
-            | inl done ↦ subst (Stops slots input rest' old new' session') (sym done.2.0) (record {
+            | inl done ↦ subst (Stops first input rest' old new' session') (sym done.2.0) (record {
               seen = so_far.seen;
               ahead = [];
               lines = lines_of so_far.seen;
@@ -219,7 +218,7 @@ module _ (slots : List SlotView) (input : Input) (old : Output) where
             | inr none ↦
                 let left = last_part so_far.seen in
                 let last = last_command left none.0 (sym (ap said_last so_far.held) ∙ none.1) in
-                subst (Stops slots input rest' old new' session') (sym none.2.memory) (record {
+                subst (Stops first input rest' old new' session') (sym none.2.memory) (record {
                   seen = so_far.seen;
                   ahead = [];
                   before = whole_lines so_far.seen;
@@ -236,5 +235,5 @@ module _ (slots : List SlotView) (input : Input) (old : Output) where
                 })
           ]
 
-      pub finished : {X : Type 0} (r : Result X Refusal) (said : Option (Result Command Refusal)) → said ≡ said_last part → LineEnds session said session' new new' r → ScriptEnds slots input rest' old new' session' r
+      pub finished : {X : Type 0} (r : Result X Refusal) (said : Option (Result Command Refusal)) → said ≡ said_last part → LineEnds session said session' new new' r → ScriptEnds first input rest' old new' session' r
       finished r said says ends = finished_with r (subst (λ s. LineEnds session s session' new new' r) says ends)

@@ -1,5 +1,5 @@
 -- The first command of a script.
-use Rattle.std.proofs.Common.{◌≡◌, ◌≢◌, inl, inr, true, cond, List, Some, None, Result, refl, sym, ◌∙◌, subst}
+use Rattle.std.proofs.Common.{◌≡◌, ◌≢◌, ℕ, inl, inr, true, cond, List, Some, None, Result, Err, refl, sym, ◌∙◌, subst}
 use Rattle.std.proofs.lemmas.Bool.{cases_Bool}
 use Rattle.tb_geom.specs.declared.refusal.Refusal.{Refusal}
 use Rattle.tb_geom.specs.declared.refusal.Refusal.TheVariants.{NoMemory, OutOfRange}
@@ -18,28 +18,38 @@ use Rattle.script_text.specs.Replies.{refused_text}
 use Rattle.watched_io.specs.Writes.{Output, Sends}
 
 -- the desk that the Toolbox made
-pub new_desk : {V : Type 0} {H : V → Type 0} (loan : Taken V H → Loan) (t : Toolbox V H) (slots : List SlotView) (size wanted : DeskSize) → size ≡ wanted
-    → IsEmptyDesk loan size.width size.height size.bar t slots → IsNewDesk wanted slots (state_of loan t slots)
-new_desk loan t slots size wanted same empty =
-    subst (λ s. IsNewDesk s slots (state_of loan t slots)) same (record { desk = empty.desk; drawn = empty.drawn; right = empty.right })
+pub new_desk : {V : Type 0} {H : V → Type 0} (loan : Taken V H → Loan) (t : Toolbox V H) (font : List ℕ) (slots : List SlotView) (size wanted : DeskSize) → size ≡ wanted
+    → IsEmptyDesk loan size.width size.height size.bar font t slots → IsNewDesk wanted font slots (state_of loan t slots)
+new_desk loan t font slots size wanted same empty =
+    subst (λ s. IsNewDesk s font slots (state_of loan t slots)) same (record { desk = empty.desk; drawn = empty.drawn; right = empty.right })
 
 -- the desk was made, and the command answered on it
-pub opened : {X : Type 0} (slots : List SlotView) (command : Command) (first after : FullState) (old new : Output) (r : Result X Refusal)
-    → is_known command slots ≡ true → may_be (first_size command) ≡ true → IsNewDesk (first_size command) slots first
-    → IsFirstAnswered first command after old new r → CommandEnds (unmade slots) command (made after) old new r
-opened slots command first after old new r known fits fresh answered =
+pub opened : {X : Type 0} (font : List ℕ) (slots : List SlotView) (command : Command) (first after : FullState) (old new : Output) (r : Result X Refusal)
+    → is_known command slots ≡ true → may_be (first_size command) ≡ true → IsNewDesk (first_size command) font slots first
+    → IsFirstAnswered first command after old new r → CommandEnds (unmade font slots) command (made after) old new r
+opened font slots command first after old new r known fits fresh answered =
     let none : why_unmade command slots ≡ None = rw (known, fits) refl in
-    inl (answered.0, subst (λ why. Opens why slots command answered.0 (made after)) (sym none) (first, after, fresh, answered.1, refl), answered.2)
+    inl (answered.0, subst (λ why. Opens why font slots command answered.0 (made after)) (sym none) (first, after, fresh, answered.1, refl), answered.2)
+
+-- there was no memory for the desk
+pub memory_refused : (X : Type 0) (font : List ℕ) (slots : List SlotView) (command : Command) (out : Output)
+    → is_known command slots ≡ true → NoMemory ≡ cond (may_be (first_size command)) NoMemory OutOfRange
+    → CommandEnds {X = X} (unmade font slots) command (unmade font slots) out out (Err NoMemory)
+memory_refused X font slots command out known why =
+    elim (cases_Bool (may_be (first_size command))) [
+      | inl fits ↦ inr (record { makes = rw (known, fits) refl; same = refl; silent = refl; memory = refl })
+      | inr off ↦ let bad : NoMemory ≡ OutOfRange = why ∙ rw off refl in absurd (cc)
+    ]
 
 -- a screen may not have the size
-pub size_refused : {X : Type 0} (slots : List SlotView) (command : Command) (e : Refusal) (old new : Output) (r : Result X Refusal)
+pub size_refused : {X : Type 0} (font : List ℕ) (slots : List SlotView) (command : Command) (e : Refusal) (old new : Output) (r : Result X Refusal)
     → is_known command slots ≡ true → e ≡ cond (may_be (first_size command)) NoMemory OutOfRange → e ≢ NoMemory
-    → Sends old new r (refused_text e) → CommandEnds (unmade slots) command (unmade slots) old new r
-size_refused slots command e old new r known why other sent =
+    → Sends old new r (refused_text e) → CommandEnds (unmade font slots) command (unmade font slots) old new r
+size_refused font slots command e old new r known why other sent =
     elim (cases_Bool (may_be (first_size command))) [
       | inl fits ↦ absurd (other (why ∙ rw fits refl))
       | inr off ↦
           let out : e ≡ OutOfRange = why ∙ rw off refl in
           let some : why_unmade command slots ≡ Some OutOfRange = rw (known, off) refl in
-          inl (refused_text e, subst (λ w. Opens w slots command (refused_text e) (unmade slots)) (sym some) (rw out (refl, refl)), sent)
+          inl (refused_text e, subst (λ w. Opens w font slots command (refused_text e) (unmade font slots)) (sym some) (rw out (refl, refl)), sent)
     ]

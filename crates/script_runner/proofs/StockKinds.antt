@@ -19,7 +19,7 @@ kinds_in slots = map (λ s. s.kind) slots
 
 -- the slots while the session goes on
 abbrev slots_of : SessionState → List SlotView
-slots_of (unmade slots) = slots
+slots_of (unmade font slots) = slots
 slots_of (made s) = s.desk.stock
 
 -- what a command leaves of it
@@ -33,13 +33,13 @@ first_kinds s (Desk size) text after answered = ap (λ t. kinds_in t.desk.stock)
 first_kinds s Image text after answered = answers_kinds s Image text after answered
 first_kinds s (Call asked) text after answered = answers_kinds s (Call asked) text after answered
 
-opens_kinds : (why : Option Refusal) (slots : List SlotView) (command : Command) (text : List ℕ) (new : SessionState) → Opens why slots command text new → kinds_in (slots_of new) ≡ kinds_in slots
-opens_kinds (Some e) slots command text new opened = ap (λ s. kinds_in (slots_of s)) opened.1
-opens_kinds None slots command text new (first, after, fresh, answered, is) =
+opens_kinds : (why : Option Refusal) (font : List ℕ) (slots : List SlotView) (command : Command) (text : List ℕ) (new : SessionState) → Opens why font slots command text new → kinds_in (slots_of new) ≡ kinds_in slots
+opens_kinds (Some e) font slots command text new opened = ap (λ s. kinds_in (slots_of s)) opened.1
+opens_kinds None font slots command text new (first, after, fresh, answered, is) =
     ap (λ s. kinds_in (slots_of s)) is ∙ first_kinds first command text after answered ∙ ap (λ d. kinds_in d.stock) fresh.desk
 
 obeys_kinds : (old : SessionState) (command : Command) (text : List ℕ) (new : SessionState) → Obeys old command text new → kinds_in (slots_of new) ≡ kinds_in (slots_of old)
-obeys_kinds (unmade slots) command text new obeyed = opens_kinds (why_unmade command slots) slots command text new obeyed
+obeys_kinds (unmade font slots) command text new obeyed = opens_kinds (why_unmade command slots) font slots command text new obeyed
 obeys_kinds (made s) command text new (after, answered, is) = ap (λ t. kinds_in (slots_of t)) is ∙ answers_kinds s command text after answered
 
 said_kinds : (old : SessionState) (line : Option (Result Command Refusal)) (text : List ℕ) (new : SessionState) → SaidAnswers old line text new → kinds_in (slots_of new) ≡ kinds_in (slots_of old)
@@ -54,18 +54,18 @@ written_kinds old (line ∷ lines) text new (middle, first, others, one, rest, w
 
 -- the stock at the end
 left_kinds : (s : SessionState) (left : List SlotView) → LeavesStock s left → kinds_in left ≡ kinds_in (slots_of s)
-left_kinds (unmade slots) left same = ap kinds_in same
+left_kinds (unmade font slots) left same = ap kinds_in same
 left_kinds (made s) left closed = closed.kinds
 
 -- a script's session, however it ended, and what is left of its stock
-module _ {X : Type 0} (slots left : List SlotView) (input rest : Input) (old new : Output) (session : SessionState) where
-  ends_kinds : (r : Result X Refusal) → ScriptEnds slots input rest old new session r → kinds_in (slots_of session) ≡ kinds_in slots
-  ends_kinds (Ok x) done = written_kinds (unmade slots) _ _ session done.answered
-  ends_kinds (Err ReadFault) stopped = written_kinds (unmade slots) _ _ session stopped.answered
-  ends_kinds (Err WriteFault) stopped = written_kinds (unmade slots) _ _ session stopped.answered
-  ends_kinds (Err NoMemory) stopped = written_kinds (unmade slots) _ _ session stopped.answered
+module _ {X : Type 0} (first : SessionState) (input rest : Input) (old new : Output) (session : SessionState) where
+  ends_kinds : (r : Result X Refusal) → ScriptEnds first input rest old new session r → kinds_in (slots_of session) ≡ kinds_in (slots_of first)
+  ends_kinds (Ok x) done = written_kinds first _ _ session done.answered
+  ends_kinds (Err ReadFault) stopped = written_kinds first _ _ session stopped.answered
+  ends_kinds (Err WriteFault) stopped = written_kinds first _ _ session stopped.answered
+  ends_kinds (Err NoMemory) stopped = written_kinds first _ _ session stopped.answered
   ends_kinds (Err _) stopped = absurd stopped
 
-  pub kinds_stay : (r : Result X Refusal) → ScriptEnds slots input rest old new session r → LeavesStock session left
-      → map (λ s. s.kind) left ≡ map (λ s. s.kind) slots
-  kinds_stay r ends closed = left_kinds session left closed ∙ ends_kinds r ends
+  pub kinds_stay : (font : List ℕ) (slots left : List SlotView) (r : Result X Refusal) → first ≡ unmade font slots → ScriptEnds first input rest old new session r
+      → LeavesStock session left → map (λ s. s.kind) left ≡ map (λ s. s.kind) slots
+  kinds_stay font slots left r is ends closed = left_kinds session left closed ∙ ends_kinds r ends ∙ ap (λ s. kinds_in (slots_of s)) is

@@ -10,13 +10,17 @@ use Rattle.script_runner.specs.declared.command_line.OptionsError.TheVariants.{W
 abbrev pub word_rule : Text → Rule
 word_rule name = record (new_rule name) { action = Some Set }
 
--- desk [SCRIPT]
-abbrev pub desk_app : App
-desk_app = with_rule (new_app (codes "desk")) (word_rule (codes "SCRIPT"))
+-- an option of this long word, which takes a value
+abbrev pub option_rule : Text → Text → Rule
+option_rule word value = record (new_rule value) { long = Some word; action = Some Set }
 
--- the script that the words name, of which the first is the program's name
-abbrev pub script_in : List Text → Option Text
-script_in words = first_of (codes "SCRIPT") (matches_of desk_app words)
+-- desk [--font FILE] [SCRIPT]
+abbrev pub desk_app : App
+desk_app = with_rule (with_rule (new_app (codes "desk")) (word_rule (codes "SCRIPT"))) (option_rule (codes "font") (codes "FILE"))
+
+-- the file that the words name by this word of the command line; the first of the words is the program's name
+abbrev pub named_in : Text → List Text → Option Text
+named_in value words = first_of value (matches_of desk_app words)
 
 -- what is wrong with the words; nothing where the program takes them
 abbrev pub faults_in : List Text → Kinds
@@ -24,7 +28,8 @@ faults_in words = fault_of desk_app words
 
 -- these choices are what the words say
 pub record IsChosen (words : List Text) (choices : Choices) : Type 0 where
-  pub script : option_map (λ s. s.now) choices.script ≡ script_in words
+  pub script : option_map (λ s. s.now) choices.script ≡ named_in (codes "SCRIPT") words
+  pub font : option_map (λ s. s.now) choices.font ≡ named_in (codes "FILE") words
 
 -- something is wrong with the words, and it is among what the error says; or there was no memory
 abbrev pub IsRefused : List Text → OptionsError → Type 0

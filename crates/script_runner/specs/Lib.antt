@@ -1,5 +1,6 @@
 pub mod Choices
 pub mod Endings
+pub mod Fonts
 pub mod Progress
 pub mod Runs
 pub mod Session

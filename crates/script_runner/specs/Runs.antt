@@ -1,36 +1,31 @@
 -- What a run of a script has read and written when it ends, and what it leaves of the stock.
-use Rattle.std.specs.Prelude.{◌≡◌, ◌⊎◌, ℕ, true, false, List, [], ◌∷◌, ◌++◌, IfSome, Some, Result, Ok, Err}
+use Rattle.std.specs.Prelude.{◌≡◌, ◌⊎◌, ℕ, true, false, List, [], ◌∷◌, ◌++◌, Option, Some, Result, Ok, Err}
 use Rattle.std.specs.Io.KnownBytes.{Consumes}
 use Rattle.tb_geom.specs.declared.refusal.Refusal.{Refusal}
 use Rattle.tb_geom.specs.declared.refusal.Refusal.TheVariants.{NoMemory, ReadFault, WriteFault}
 use Rattle.def_iface.specs.Stocked.{SlotView}
 use Rattle.script_text.specs.declared.command.Command.{Command}
 use Rattle.script_text.specs.Lines.{said, whole_lines, lines_of}
-use Rattle.watched_io.specs.Reads.{Input, most_reads}
+use Rattle.watched_io.specs.Reads.{Input, IsEntire, IsCutOff}
+use Rattle.script_runner.specs.Fonts.{IsFontOf, why_fontless}
 use Rattle.script_runner.specs.Session.{SessionState, unmade, Written, LeavesStock, makes_desk}
 use Rattle.watched_io.specs.Writes.{Output, Sent, BrokeOff}
-
--- the reader came to the end of its input, and gave all of it
-pub record IsEntire (input rest : Input) (script : List ℕ) : Type 0 where
-  pub read : Consumes input.remaining rest.remaining script
-  pub whole : IfSome input.remaining (λ all. all ≡ script)
-  pub ended : rest.has_ended ≡ true
 
 -- the lines that a run came to in what it read, of which it took `seen` and no byte of `ahead`: those that a newline had
 -- ended, or, at the end of the input, all lines of it
 abbrev pub AreTaken : Input → Input → List ℕ → List ℕ → List (List ℕ) → Type 0
 AreTaken input rest seen ahead lines = (lines ≡ whole_lines seen) ⊎ (IsEntire input rest seen × (ahead ≡ []) × (lines ≡ lines_of seen))
 
--- how a script ends that begins without a desk, over these slots, and leaves this session: from one state of reader and
--- writer to another
-module _ (slots : List SlotView) (input rest : Input) (old new : Output) (session : SessionState) where
+-- how a script ends that begins with the first session, and leaves the other: from one state of reader and writer to
+-- another
+module _ (first : SessionState) (input rest : Input) (old new : Output) (session : SessionState) where
   -- the whole script was read, and each of its lines answered; no read and no write failed
   pub record IsDone : Type 0 where
     pub script : List ℕ
     pub text : List ℕ
     pub entire : IsEntire input rest script
     pub quiet : rest.has_failed ≡ false
-    pub answered : Written (unmade slots) (lines_of script) text session
+    pub answered : Written first (lines_of script) text session
     pub sent : Sent old new text
 
   -- a read failed, or there were as many as there may be and none came to the end; each line that was ended before is
@@ -39,9 +34,9 @@ module _ (slots : List SlotView) (input rest : Input) (old new : Output) (sessio
     pub seen : List ℕ
     pub text : List ℕ
     pub read : Consumes input.remaining rest.remaining seen
-    pub answered : Written (unmade slots) (whole_lines seen) text session
+    pub answered : Written first (whole_lines seen) text session
     pub sent : Sent old new text
-    pub why : (rest.has_failed ≡ true) ⊎ ((rest.reads ≡ most_reads) × (rest.has_ended ≡ false))
+    pub why : IsCutOff rest
 
   -- a write failed: a front of the answers to the lines so far went out
   pub record IsUnwritten : Type 0 where
@@ -52,7 +47,7 @@ module _ (slots : List SlotView) (input rest : Input) (old new : Output) (sessio
     pub read : Consumes input.remaining rest.remaining (seen ++ ahead)
     pub quiet : rest.has_failed ≡ false
     pub taken : AreTaken input rest seen ahead lines
-    pub answered : Written (unmade slots) lines text session
+    pub answered : Written first lines text session
     pub broken : BrokeOff old new text
 
   -- there was no memory for the desk that a line was to make; the lines before it are answered
@@ -68,7 +63,7 @@ module _ (slots : List SlotView) (input rest : Input) (old new : Output) (sessio
     pub taken : AreTaken input rest seen ahead (before ++ line ∷ [])
     pub says : said line ≡ Some (Ok command)
     pub makes : makes_desk session command ≡ true
-    pub answered : Written (unmade slots) before text session
+    pub answered : Written first before text session
     pub sent : Sent old new text
 
   -- what stopped the script
@@ -82,8 +77,24 @@ module _ (slots : List SlotView) (input rest : Input) (old new : Output) (sessio
   ScriptEnds (Ok x) = IsDone
   ScriptEnds (Err e) = Stops e
 
--- a run of a script from a stock with these slots, of which it leaves those
-pub record RunEnds {X : Type 0} (slots left : List SlotView) (input rest : Input) (old new : Output) (r : Result X Refusal) : Type 0 where
-  pub session : SessionState
-  pub ends : ScriptEnds slots input rest old new session r
-  pub closed : LeavesStock session left
+-- `asked` are the bytes of the font that a run is asked to draw texts in, if it is. It is a run from a stock with these
+-- slots, of which it leaves those
+module _ (asked : Option (List ℕ)) (slots left : List SlotView) (input rest : Input) (old new : Output) where
+  -- with that font the script ran, from no desk to its end
+  pub record HasRun {X : Type 0} (r : Result X Refusal) : Type 0 where
+    pub font : List ℕ
+    pub is_font : IsFontOf asked font
+    pub session : SessionState
+    pub ends : ScriptEnds (unmade font slots) input rest old new session r
+    pub closed : LeavesStock session left
+
+  -- there was no font: nothing was read, written or taken out of the stock
+  pub record IsFontless (e : Refusal) : Type 0 where
+    pub why : e ≡ why_fontless asked
+    pub unread : rest ≡ input
+    pub silent : new ≡ old
+    pub same : left ≡ slots
+
+  abbrev pub RunEnds : {X : Type 0} → Result X Refusal → Type 0
+  RunEnds {X} (Ok x) = HasRun {X = X} (Ok x)
+  RunEnds {X} (Err e) = HasRun {X = X} (Err e) ⊎ IsFontless e

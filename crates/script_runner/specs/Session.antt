@@ -5,7 +5,7 @@ use Rattle.tb_geom.specs.declared.refusal.Refusal.{Refusal}
 use Rattle.tb_geom.specs.declared.refusal.Refusal.TheVariants.{NoSuchName, OutOfRange, Busy}
 use Rattle.def_iface.specs.Stocked.{SlotView, has_kind}
 use Rattle.desk_toolbox.specs.declared.call.Call.TheVariants.{Window}
-use Rattle.desk_toolbox.specs.declared.call.WindowCall.TheVariants.{New, Find, Front}
+use Rattle.desk_toolbox.specs.declared.call.WindowCall.TheVariants.{New, Draw, Find, Front}
 use Rattle.desk_toolbox.specs.declared.call.Reply.{Reply}
 use Rattle.desk_toolbox.specs.FullDesk.{FullState, IsRight}
 use Rattle.desk_toolbox.specs.Begin.{empty_desk}
@@ -19,14 +19,14 @@ use Rattle.script_text.specs.Lines.{said}
 use Rattle.screen_pbm.specs.Pbm.{p1}
 use Rattle.script_text.specs.Replies.{done_text, refused_text, reply_text}
 
--- the desk of a script: none so far, over these slots of the stock, or one in this state
+-- the desk of a script: none so far, with this font and over these slots of the stock, or one in this state
 pub data SessionState : Type 0 where
-  unmade : List SlotView → SessionState
+  unmade : List ℕ → List SlotView → SessionState
   made : FullState → SessionState
 
--- a new desk of this size: it has no windows, nothing of it is to be redrawn, and it is right
-pub record IsNewDesk (size : DeskSize) (slots : List SlotView) (s : FullState) : Type 0 where
-  pub desk : s.desk ≡ empty_desk size.width size.height size.bar slots
+-- a new desk of this size, with this font: it has no windows, nothing of it is to be redrawn, and it is right
+pub record IsNewDesk (size : DeskSize) (font : List ℕ) (slots : List SlotView) (s : FullState) : Type 0 where
+  pub desk : s.desk ≡ empty_desk size.width size.height size.bar font slots
   pub drawn : (p : Point) → s.stale p ≡ false
   pub right : IsRight s
 
@@ -57,6 +57,7 @@ abbrev pub is_known : Command → List SlotView → Bool
 is_known (Desk size) slots = true
 is_known Image slots = true
 is_known (Call (Window (New w))) slots = has_kind w.kind slots
+is_known (Call (Window (Draw d))) slots = true
 is_known (Call (Window (Find p))) slots = true
 is_known (Call (Window Front)) slots = true
 
@@ -69,18 +70,19 @@ abbrev pub why_unmade : Command → List SlotView → Option Refusal
 why_unmade command slots = if is_known command slots then (if may_be (first_size command) then None else Some OutOfRange) else Some NoSuchName
 
 -- without a desk, the command is refused, or makes the desk and is then answered
-abbrev pub Opens : Option Refusal → List SlotView → Command → List ℕ → SessionState → Type 0
-Opens (Some e) slots command text new = (text ≡ refused_text e) × (new ≡ unmade slots)
-Opens None slots command text new = (first : FullState) × (after : FullState) × IsNewDesk (first_size command) slots first × FirstAnswers first command text after × (new ≡ made after)
+abbrev pub Opens : Option Refusal → List ℕ → List SlotView → Command → List ℕ → SessionState → Type 0
+Opens (Some e) font slots command text new = (text ≡ refused_text e) × (new ≡ unmade font slots)
+Opens None font slots command text new = (first : FullState) × (after : FullState) × IsNewDesk (first_size command) font slots first
+    × FirstAnswers first command text after × (new ≡ made after)
 
 -- the command may be answered so, and leave this
 abbrev pub Obeys : SessionState → Command → List ℕ → SessionState → Type 0
-Obeys (unmade slots) command text new = Opens (why_unmade command slots) slots command text new
+Obeys (unmade font slots) command text new = Opens (why_unmade command slots) font slots command text new
 Obeys (made s) command text new = (after : FullState) × Answers s command text after × (new ≡ made after)
 
 -- whether the command is the one that makes the desk
 abbrev pub makes_desk : SessionState → Command → Bool
-makes_desk (unmade slots) command = is_none (why_unmade command slots)
+makes_desk (unmade font slots) command = is_none (why_unmade command slots)
 makes_desk (made s) command = false
 
 -- what a line says may be answered so, and leave this: a line that says nothing is not answered
@@ -98,5 +100,5 @@ Written old (line ∷ lines) text new = (middle : SessionState) × (first : List
 -- what the end of the session leaves of the stock: the definitions of the desk's windows are closed and back in their
 -- slots, and every other slot is as it was
 abbrev pub LeavesStock : SessionState → List SlotView → Type 0
-LeavesStock (unmade slots) left = left ≡ slots
+LeavesStock (unmade font slots) left = left ≡ slots
 LeavesStock (made s) left = IsClosed s.desk.windows s.desk.stock left

@@ -1,5 +1,5 @@
 -- The session of a run as plain data.
-use Rattle.std.specs.Prelude.{List, All, Option, None, Some}
+use Rattle.std.specs.Prelude.{ℕ, List, [], All, Option, None, Some}
 use Rattle.def_iface.specs.declared.taken.Taken.{Taken}
 use Rattle.def_iface.specs.Meaning.{Loan}
 use Rattle.def_iface.specs.Stocked.{SlotView, IsFull}
@@ -11,18 +11,21 @@ use Rattle.script_runner.specs.Session.{SessionState, unmade, made}
 
 -- `loan` says what a definition that was taken means
 module _ {V : Type 0} {H : V → Type 0} (loan : Taken V H → Loan) where
-  abbrev pub state_with : Option (Toolbox V H) → List SlotView → SessionState
-  state_with None slots = unmade slots
-  state_with (Some t) slots = made (state_of loan t slots)
+  abbrev pub state_with : Option (Toolbox V H) → Option (List ℕ) → List SlotView → SessionState
+  state_with (Some t) font slots = made (state_of loan t slots)
+  state_with None (Some font) slots = unmade font slots
+  state_with None None slots = unmade [] slots
 
   -- the session over the slots of a stock
   abbrev pub session_of : Session V H → List SlotView → SessionState
-  session_of s slots = state_with s.desk slots
+  session_of s slots = state_with s.desk s.font slots
 
-  abbrev pub IsReadyWith : Option (Toolbox V H) → List SlotView → Type 0
-  IsReadyWith None slots = All IsFull slots
-  IsReadyWith (Some t) slots = IsWhole loan t slots
+  abbrev pub IsReadyWith : Option (Toolbox V H) → Option (List ℕ) → List SlotView → Type 0
+  IsReadyWith (Some t) font slots = IsWhole loan t slots
+  IsReadyWith None (Some font) slots = All IsFull slots
+  IsReadyWith None None slots = ⊥
 
-  -- between two lines: the desk and the stock belong together, and without a desk no definition is in use
+  -- between two lines: the desk and the stock belong together, and without a desk there is the font for it, and no
+  -- definition is in use
   abbrev pub IsReady : Session V H → List SlotView → Type 0
-  IsReady s slots = IsReadyWith s.desk slots
+  IsReady s slots = IsReadyWith s.desk s.font slots

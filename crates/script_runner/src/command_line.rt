@@ -1,7 +1,7 @@
-//! The command line: `desk [SCRIPT]`.
+//! The command line: `desk [--font FILE] [SCRIPT]`.
 ghost use Rattle.std.specs.Prelude.{◌≡◌, IfOk, IfErr, OnOk, map, false, option_map, codes, []};
 ghost use Rattle.clap.specs.Words.{HasKind, app_of, rule_of, first_value, found_of};
-ghost use Rattle.script_runner.specs.Choices.{desk_app, word_rule, faults_in, IsChosen, IsRefused};
+ghost use Rattle.script_runner.specs.Choices.{desk_app, word_rule, option_rule, faults_in, IsChosen, IsRefused};
 
 use clap::error::ErrorKind;
 use clap::{Arg, ArgAction, ArgMatches, Command};
@@ -14,6 +14,8 @@ use thiserror::Error;
 pub struct Choices<'a> {
     /// The path of the script; standard input where there is none.
     pub script: Option<&'a str>,
+    /// The path of the font; the built-in font where there is none.
+    pub font: Option<&'a str>,
 }
 
 /// Why a command line is refused. Displayed, it is what to print on standard error, to the end of its
@@ -36,7 +38,18 @@ fn positional<'a>(alloc: Global, name: &'a str, help: &'a str) -> Arg<'a>
     Arg::new(alloc, name).action(ArgAction::Set).help(help)
 }
 
-/// What the program takes: one SCRIPT, or none. Help calls it desk, whatever its file is called.
+/// An option with a value: the two words `--WORD VALUE`, or `--WORD=VALUE`, and what help says of it.
+fn option<'a>(alloc: Global, word: &'a str, value: &'a str, help: &'a str) -> Arg<'a>
+    ensures rule { rule_of result ≡ option_rule word.entry.now value.entry.now }
+    ensures local { result.global ≡ false }
+{
+    Arg::new(alloc, value)
+        .long(word)
+        .action(ArgAction::Set)
+        .help(help)
+}
+
+/// What the program takes: one SCRIPT, or none, and a font's FILE or none. Help calls it desk, whatever its file is called.
 fn desk_command<'a>(alloc: Global) -> Result<Command<'a>, AllocError>
     ensures { IfOk result (λ c. app_of c ≡ desk_app) }
 {
@@ -45,19 +58,28 @@ fn desk_command<'a>(alloc: Global) -> Result<Command<'a>, AllocError>
         "SCRIPT",
         "The script's file; standard input where none is named",
     );
+    let font = option(
+        alloc,
+        "font",
+        "FILE",
+        "The file of the font for all texts, a FONT record; the built-in font where none is named",
+    );
     let command = Command::new(alloc, "desk")
         .about("Runs a script of Toolbox calls, and writes what each of its lines answers")
         .bin_name("desk")?;
     let command = command.arg(script)?;
+    let command = command.arg(font)?;
     Ok(command)
 }
 
 /// What the matches hold.
 fn chosen<'a>(matches: &ArgMatches<'a>) -> Choices<'a>
-    ensures { option_map (λ s. s.now) result.script ≡ first_value (found_of matches.now) (codes "SCRIPT") }
+    ensures script { option_map (λ s. s.now) result.script ≡ first_value (found_of matches.now) (codes "SCRIPT") }
+    ensures font { option_map (λ s. s.now) result.font ≡ first_value (found_of matches.now) (codes "FILE") }
 {
     Choices {
         script: matches.get_str("SCRIPT"),
+        font: matches.get_str("FILE"),
     }
 }
 

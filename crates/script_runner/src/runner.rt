@@ -1,9 +1,10 @@
 //! A run: the lines of a script, from a reader, and what each answers, to a writer.
-ghost use Rattle.std.specs.Prelude.{◌≡◌, ◌≢◌, Option, Some, IsOk, OnOk, All, List, [], map, false};
-ghost use Rattle.def_iface.specs.Stocked.{SlotView, IsFull};
+ghost use Rattle.std.specs.Prelude.{◌≡◌, ◌≢◌, Option, Some, IsOk, IfOk, IfErr, OnOk, All, [], map, option_map, false};
+ghost use Rattle.def_iface.specs.Stocked.{IsFull};
 ghost use Rattle.script_text.specs.Held.{pushed, said_held};
 ghost use Rattle.script_runner.specs.SessionViews.{session_of, IsReady};
-ghost use Rattle.script_runner.specs.Session.{unmade};
+ghost use Rattle.script_runner.specs.Fonts.{IsFontOf, why_fontless};
+ghost use Rattle.script_runner.specs.Session.{SessionState};
 ghost use Rattle.script_runner.specs.Endings.{LineEnds};
 ghost use Rattle.script_runner.specs.Progress.{SoFar, GoesOn};
 ghost use Rattle.watched_io.specs.Reads.{Input, IsOpen};
@@ -14,22 +15,25 @@ use crate::session::Session;
 use def_iface::{Defined, Stock, Stocked, Taken};
 use script_text::LineBuffer;
 use std::alloc::Global;
+use strike_font::Font;
 use tb_geom::Refusal;
-use watched_io::{Sink, Source};
-
-/// How many reads a run makes at most.
-const MOST_READS: u32 = 1_000_000;
+use watched_io::{MOST_READS, Sink, Source};
 
 /// Answers each line of the script that the source gives, in bytes to the sink, and writes nothing
 /// else. What a line answers is written before the next read. ReadFault where a read failed or
 /// 1,000,000 came without the end of the input, WriteFault where a write failed, and NoMemory where
 /// there was none for the desk, which the first command makes. However the run ends, each definition
 /// of the stock is back in its slot: that of a window Closed, and every other as it was.
+///
+/// The desk's texts are drawn in the font of these bytes, or in the built-in one where there are
+/// none. It is made before the first read. BadFont exactly where the bytes are no font; then, and
+/// where there is no memory for the font, nothing is read or written.
 pub fn run<R: Source, W: Sink>(
     alloc: Global,
     source: &mut R,
     sink: &mut W,
     stock: &mut Stock,
+    font: Option<&[u8]>,
 ) -> Result<(), Refusal>
     requires full { All IsFull (⟦<Stock as Stocked>⟧.slots stock.old) }
     requires unread { (R.input source.old).reads ≡ 0 }
@@ -38,13 +42,27 @@ pub fn run<R: Source, W: Sink>(
     ensures full { All IsFull (⟦<Stock as Stocked>⟧.slots stock.new) }
     ensures kinds { map (λ s. s.kind) (⟦<Stock as Stocked>⟧.slots stock.new)
         ≡ map (λ s. s.kind) (⟦<Stock as Stocked>⟧.slots stock.old) }
-    ensures ends { RunEnds (⟦<Stock as Stocked>⟧.slots stock.old) (⟦<Stock as Stocked>⟧.slots stock.new)
+    ensures ends { RunEnds (option_map (λ bytes. bytes.now) font.entry)
+        (⟦<Stock as Stocked>⟧.slots stock.old) (⟦<Stock as Stocked>⟧.slots stock.new)
         (R.input source.old) (R.input source.new) (W.output sink.old) (W.output sink.new) result }
 {
-    let mut session = Session::new(alloc);
+    let font = make_font(alloc, font)?;
+    let mut session = Session::new(alloc, font);
     let outcome = answer_all(&mut session, source, sink, stock);
     session.close(stock);
     outcome
+}
+
+/// The font of these bytes, or the built-in one where there are none. BadFont exactly where they are no
+/// font, and otherwise only NoMemory.
+fn make_font(alloc: Global, asked: Option<&[u8]>) -> Result<Font, Refusal>
+    ensures made { IfOk result (IsFontOf (option_map (λ bytes. bytes.now) asked.entry)) }
+    ensures refused { IfErr result (λ e. e ≡ why_fontless (option_map (λ bytes. bytes.now) asked.entry)) }
+{
+    match asked {
+        Some(bytes) => Font::from_bytes(alloc, bytes),
+        None => Font::built_in(alloc),
+    }
 }
 
 /// Answers each line of the script.
@@ -55,14 +73,13 @@ fn answer_all<R: Source, W: Sink>(
     stock: &mut Stock,
 ) -> Result<(), Refusal>
     requires ready { IsReady ⟦<Taken as Defined>⟧.loan session.old (⟦<Stock as Stocked>⟧.slots stock.old) }
-    requires unmade { session_of ⟦<Taken as Defined>⟧.loan session.old (⟦<Stock as Stocked>⟧.slots stock.old)
-        ≡ unmade (⟦<Stock as Stocked>⟧.slots stock.old) }
     requires unread { (R.input source.old).reads ≡ 0 }
     requires going { IsOpen (R.input source.old) }
     requires unfailed { (W.output sink.old).has_failed ≡ false }
     ensures ready { IsReady ⟦<Taken as Defined>⟧.loan session.new (⟦<Stock as Stocked>⟧.slots stock.new) }
-    ensures ends { ScriptEnds (⟦<Stock as Stocked>⟧.slots stock.old) (R.input source.old) (R.input source.new)
-        (W.output sink.old) (W.output sink.new)
+    ensures ends { ScriptEnds
+        (session_of ⟦<Taken as Defined>⟧.loan session.old (⟦<Stock as Stocked>⟧.slots stock.old))
+        (R.input source.old) (R.input source.new) (W.output sink.old) (W.output sink.new)
         (session_of ⟦<Taken as Defined>⟧.loan session.new (⟦<Stock as Stocked>⟧.slots stock.new)) result }
 {
     let mut line = LineBuffer::new();
@@ -89,9 +106,9 @@ fn take_all<W: Sink>(
     requires unfailed { (W.output sink.old).has_failed ≡ false }
     ensures ready { IsReady ⟦<Taken as Defined>⟧.loan session.new (⟦<Stock as Stocked>⟧.slots stock.new) }
     ensures quiet { OnOk result ((W.output sink.new).has_failed ≡ false) }
-    ensures goes_on { (slots : List SlotView) (input rest : Input) (old : Output) → SoFar slots input old rest (W.output sink.old)
+    ensures goes_on { (first : SessionState) (input rest : Input) (old : Output) → SoFar first input old rest (W.output sink.old)
         (session_of ⟦<Taken as Defined>⟧.loan session.old (⟦<Stock as Stocked>⟧.slots stock.old)) line.old bytes.now
-        → GoesOn slots input old rest (W.output sink.new)
+        → GoesOn first input old rest (W.output sink.new)
         (session_of ⟦<Taken as Defined>⟧.loan session.new (⟦<Stock as Stocked>⟧.slots stock.new)) line.new result }
 {
     for byte in bytes {

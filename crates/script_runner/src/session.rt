@@ -1,5 +1,5 @@
-//! The desk of a script: none, until the first command makes it.
-ghost use Rattle.std.specs.Prelude.{◌≡◌, true, false, All, None, OnOk};
+//! The desk of a script: none, until the first command makes it, with the font that waits for it.
+ghost use Rattle.std.specs.Prelude.{◌≡◌, true, All, None, Some, OnOk, false};
 ghost use Rattle.def_iface.specs.Stocked.{IsFull};
 ghost use Rattle.desk_toolbox.specs.declared.call.Call.TheVariants as asks;
 ghost use Rattle.desk_toolbox.specs.Records.{state_of};
@@ -9,10 +9,11 @@ ghost use Rattle.script_runner.specs.SessionViews.{session_of, IsReady};
 ghost use Rattle.script_runner.specs.Endings.{IsAnswered, IsFirstAnswered, CommandEnds, LineEnds};
 
 use def_iface::{Defined, Stock, Stocked, Taken};
-use desk_toolbox::{Call, Toolbox, WindowCall};
+use desk_toolbox::{Call, NotBegun, Toolbox, WindowCall};
 use screen_pbm::write_p1;
 use script_text::{Command, DeskSize, write_done, write_reply};
 use std::alloc::Global;
+use strike_font::Font;
 use tb_geom::Refusal;
 use watched_io::Sink;
 
@@ -27,15 +28,22 @@ const USUAL_DESK: DeskSize = DeskSize {
 #[derive(Drop)]
 pub struct Session {
     alloc: Global,
+    /// The font of the desk that is yet to be made.
+    font: Option<Font>,
     desk: Option<Toolbox>,
 }
 
 impl Session {
-    /// Without a desk.
-    pub fn new(alloc: Global) -> Session
-        ensures { result.desk ≡ None }
+    /// Without a desk, and with the font that it will have.
+    pub fn new(alloc: Global, font: Font) -> Session
+        ensures font { result.font ≡ Some font }
+        ensures unmade { result.desk ≡ None }
     {
-        Session { alloc, desk: None }
+        Session {
+            alloc,
+            font: Some(font),
+            desk: None,
+        }
     }
 
     /// Answers what a line says, in bytes to the sink: a reply line, or an image. Nothing is written
@@ -86,7 +94,8 @@ impl Session {
         }
     }
 
-    /// Makes the desk for the first command, and answers that.
+    /// Makes the desk for the first command, and answers that. A desk that is refused leaves the font
+    /// to the next.
     fn open<S: Sink>(
         &mut self,
         command: &Command<'_>,
@@ -94,7 +103,7 @@ impl Session {
         sink: &mut S,
     ) -> Result<(), Refusal>
         requires unmade { self.old.desk ≡ None }
-        requires full { All IsFull (⟦<Stock as Stocked>⟧.slots stock.old) }
+        requires ready { IsReady ⟦<Taken as Defined>⟧.loan self.old (⟦<Stock as Stocked>⟧.slots stock.old) }
         requires known { is_known command.now (⟦<Stock as Stocked>⟧.slots stock.old) ≡ true }
         requires unfailed { (S.output sink.old).has_failed ≡ false }
         ensures ready { IsReady ⟦<Taken as Defined>⟧.loan self.new (⟦<Stock as Stocked>⟧.slots stock.new) }
@@ -105,15 +114,23 @@ impl Session {
             (S.output sink.old) (S.output sink.new) result }
     {
         let size = first_size(command);
-        match Toolbox::new(self.alloc, size.width, size.height, size.bar) {
+        let Some(font) = self.font.take() else {
+            unreachable!();
+        };
+        match Toolbox::new(self.alloc, size.width, size.height, size.bar, font) {
             Ok(desk) => {
                 let mut desk = desk;
                 let outcome = first_answer(&mut desk, command, stock, sink);
                 self.desk = Some(desk);
                 outcome
             }
-            Err(Refusal::NoMemory) => Err(Refusal::NoMemory),
-            Err(refusal) => write_reply(sink, &Err(refusal)),
+            Err(NotBegun { refusal, font }) => {
+                self.font = Some(font);
+                match refusal {
+                    Refusal::NoMemory => Err(Refusal::NoMemory),
+                    refusal => write_reply(sink, &Err(refusal)),
+                }
+            }
         }
     }
 
@@ -161,6 +178,7 @@ fn is_known_call(call: &WindowCall<'_>, stock: &Stock) -> bool
 {
     match call {
         WindowCall::New(window) => stock.has(window.kind.as_slice()),
+        WindowCall::Draw(_) => true,
         WindowCall::Find(_) => true,
         WindowCall::Front => true,
     }

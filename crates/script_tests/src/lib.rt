@@ -2,8 +2,9 @@
 //! pieces it is read and its answers are written, how a run ends whose reader or writer breaks at any moment, and what
 //! no script reaches. What a script can show is a row of `tests/rows`.
 //!
-//! `runs` tests `script_runner`, `lines` and `drawings` test `script_text`, `images` tests `screen_pbm`, and `sending` tests
-//! `watched_io`. `Script` and `Paper` are a reader and a writer that can be slow or break; they are proved, and no part
+//! `runs` tests `script_runner`, `lines` and `drawings` test `script_text`, `images` tests `screen_pbm`, and
+//! `reading` and `sending` test `watched_io`. `Script` and `Paper` are a reader and a writer that can be slow or
+//! break; they are proved, and no part
 //! of the program.
 #![tactic(auto)]
 
@@ -14,6 +15,8 @@ mod images;
 #[cfg(test)]
 mod lines;
 pub mod paper;
+#[cfg(test)]
+mod reading;
 #[cfg(test)]
 mod runs;
 pub mod script;

@@ -6,6 +6,7 @@ ghost use Rattle.std.specs.Prelude.{◌<◌};
 use crate::paper::Paper;
 use crate::script::Script;
 use def_iface::{Stock, WindowDef};
+use font_tests::small::SMALL;
 use script_runner::{OptionsError, run};
 use std::alloc::{AllocError, Global};
 use std::test::Fail;
@@ -28,19 +29,30 @@ struct Ended {
     is_used: bool,
 }
 
-/// Runs the first window's script, with its answers on the paper: so many bytes at a read, and so many reads
-/// until one fails.
+/// Runs the first window's script with the built-in font, and with its answers on the paper: so many bytes at a
+/// read, and so many reads until one fails.
 fn run_first(alloc: Global, piece: usize, reads: u32, paper: &mut Paper) -> Result<Ended, Fail>
     requires { 0 < piece }
 {
+    let mut script = Script::new(FIRST_WINDOW, piece, reads);
+    run_with(alloc, None, &mut script, paper)
+}
+
+/// Runs a script with a font, and with its answers on the paper.
+fn run_with(
+    alloc: Global,
+    font: Option<&[u8]>,
+    script: &mut Script<'_>,
+    paper: &mut Paper,
+) -> Result<Ended, Fail> {
     let mut stock = Stock::new(alloc);
     let plain: Box<dyn WindowDef> = Box::new(alloc, PlainWindow::new())?;
     let Ok(()) = stock.add(b"plain", plain) else {
         return Err(Fail::from(Refusal::NoMemory));
     };
-    let mut source = WatchedReader::new(Script::new(FIRST_WINDOW, piece, reads));
+    let mut source = WatchedReader::new(script);
     let mut sink = WatchedWriter::new(paper);
-    let outcome = run(alloc, &mut source, &mut sink, &mut stock);
+    let outcome = run(alloc, &mut source, &mut sink, &mut stock, font);
     let is_used = stock.take(b"plain").is_err();
     Ok(Ended { outcome, is_used })
 }
@@ -121,7 +133,26 @@ fn a_script_ends_within_a_million_reads(rt: HostRuntime) -> Result<(), Fail> {
         let mut source = WatchedReader::new(&mut script);
         let mut paper = Paper::new(rt.alloc(), 4096, 1000);
         let mut sink = WatchedWriter::new(&mut paper);
-        assert!(rt; run(rt.alloc(), &mut source, &mut sink, &mut stock) == outcome);
+        assert!(rt; run(rt.alloc(), &mut source, &mut sink, &mut stock, None) == outcome);
+        assert!(rt; script.reads_left == left);
+        assert!(rt; paper.text.as_slice() == answers);
+    }
+    Ok(())
+}
+
+#[test]
+fn a_run_has_its_font_before_it_reads(rt: HostRuntime) -> Result<(), Fail> {
+    let cases: [(&[u8], Result<(), Refusal>, u32, &[u8]); 3] = [
+        (&SMALL, Ok(()), 0, FIRST_ANSWERS),
+        (&SMALL[..41], Err(Refusal::BadFont), 2, b""),
+        (b"", Err(Refusal::BadFont), 2, b""),
+    ];
+    for (font, outcome, left, answers) in cases {
+        let mut script = Script::new(FIRST_WINDOW, 4096, 2);
+        let mut paper = Paper::new(rt.alloc(), 4096, 1000);
+        let ended = run_with(rt.alloc(), Some(font), &mut script, &mut paper)?;
+        let is_used = outcome.is_ok();
+        assert!(rt; ended == Ended { outcome, is_used });
         assert!(rt; script.reads_left == left);
         assert!(rt; paper.text.as_slice() == answers);
     }

@@ -2,7 +2,8 @@
 //!
 //! A line is a verb and the words that follow it: `specs/Spelling.antt` says which line says which command, and
 //! `specs/Commands.antt` how it is read. Each command has a function here that reads its words.
-//! The form of a whole line is judged here, and nothing else: no range of a number, and no name.
+//! The form of a whole line is judged here, and then the names of modes and patterns; no range of a number, no kind
+//! of a window and no region.
 ghost use Rattle.std.specs.Prelude.{◌≡◌, ◌⊎◌, Result, Err};
 ghost use Rattle.tb_geom.specs.declared.refusal.Refusal.{Refusal};
 ghost use Rattle.tb_geom.specs.declared.refusal.Refusal.TheVariants.{BadSyntax};

@@ -1,5 +1,5 @@
 -- The plain window: a frame of one pixel around its content, and what it looks like.
-use Rattle.std.specs.Prelude.{pos, negsuc, not, ◌+ℤ◌, if◌then◌else◌}
+use Rattle.std.specs.Prelude.{ℕ, pos, negsuc, not, ◌+ℤ◌, if◌then◌else◌, List}
 use Rattle.tb_geom.specs.declared.point.Point.{Point}
 use Rattle.tb_geom.specs.declared.rect.Rect.{Rect}
 use Rattle.tb_geom.specs.Points.{PixelSet}
@@ -15,9 +15,9 @@ use Rattle.def_iface.specs.Meaning.{Definition}
 abbrev pub plain_box : Size → Rect
 plain_box s = record { left = negsuc 0; top = negsuc 0; right = s.width +ℤ pos 1; bottom = s.height +ℤ pos 1 }
 
--- black wherever the content is not; of that the frame's pixels alone are ever shown
-abbrev pub plain_picture : Size → PixelSet
-plain_picture s p = not (rect_holds (rect_of s) p)
+-- black wherever the content is not, in every font; of that the frame's pixels alone are ever shown
+abbrev pub plain_picture : Size → List ℕ → PixelSet
+plain_picture s font p = not (rect_holds (rect_of s) p)
 
 -- content, and a frame that can't be clicked
 abbrev pub plain_hit : Size → Point → Hit

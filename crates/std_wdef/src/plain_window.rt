@@ -4,7 +4,8 @@ ghost use Rattle.def_iface.specs.Sizes.{is_size};
 ghost use Rattle.std_wdef.specs.PlainWindows.{plain_box, plain_window};
 
 use bit_map::{Mode, Pattern};
-use def_iface::{Canvas, Hit, Size, Stage, WindowChange, WindowDef, WindowRegions};
+use def_iface::{Hit, Size, Stage, WindowChange, WindowDef, WindowRegions};
+use draw_port::Canvas;
 use scan_region::Region;
 use std::alloc::Global;
 use tb_geom::{Point, Rect, Refusal};

@@ -1,10 +1,10 @@
 -- What a read gives, and how many reads a run may make.
-use Rattle.std.specs.Prelude.{◌≡◌, ℕ, ◌+◌, ◌<◌, Bool, true, false, List, length, take, Option, Result, Ok, Err}
+use Rattle.std.specs.Prelude.{◌≡◌, ◌⊎◌, ℕ, ◌+◌, ◌<◌, Bool, true, false, List, length, take, Option, IfSome, Result, Ok, Err}
 use Rattle.std.specs.Io.KnownBytes.{Consumes, IsAtEnd, Keeps}
 use Rattle.tb_geom.specs.declared.refusal.Refusal.{Refusal}
-use Rattle.tb_geom.specs.declared.refusal.Refusal.TheVariants.{ReadFault}
+use Rattle.tb_geom.specs.declared.refusal.Refusal.TheVariants.{NoMemory, ReadFault}
 
--- a script's end comes within so many reads
+-- the end of an input comes within so many reads
 abbrev pub most_reads : ℕ
 most_reads = 1000000
 
@@ -41,3 +41,20 @@ pub record Failed (old new : Input) : Type 0 where
 abbrev pub Reads : Input → Input → Result ℕ Refusal → List ℕ → Type 0
 Reads old new (Ok n) buffer = Gave old new (take n buffer)
 Reads old new (Err e) buffer = (e ≡ ReadFault) × Failed old new
+
+-- the reader came to the end of its input, and gave all of it
+pub record IsEntire (input rest : Input) (bytes : List ℕ) : Type 0 where
+  pub read : Consumes input.remaining rest.remaining bytes
+  pub whole : IfSome input.remaining (λ all. all ≡ bytes)
+  pub ended : rest.has_ended ≡ true
+
+-- a read failed, or there were as many as there may be and none came to the end
+abbrev pub IsCutOff : Input → Type 0
+IsCutOff rest = (rest.has_failed ≡ true) ⊎ ((rest.reads ≡ most_reads) × (rest.has_ended ≡ false))
+
+-- why a call that reads all does not give it: ReadFault comes where the input is cut off, and NoMemory where further
+-- reads were allowed
+abbrev pub IsNotHad : Input → Refusal → Type 0
+IsNotHad rest ReadFault = IsCutOff rest
+IsNotHad rest NoMemory = IsOpen rest × (rest.reads < most_reads)
+IsNotHad rest _ = ⊥

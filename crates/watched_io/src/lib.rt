@@ -16,6 +16,8 @@
 
 mod sink;
 mod source;
+mod whole;
 
 pub use sink::{Sink, WatchedWriter, send, send_all};
-pub use source::{Source, WatchedReader};
+pub use source::{MOST_READS, Source, WatchedReader};
+pub use whole::read_all;

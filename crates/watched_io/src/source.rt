@@ -6,6 +6,9 @@ ghost use Rattle.watched_io.specs.Reads.{Input, IsOpen, Reads, most_reads};
 use std::io::Read;
 use tb_geom::Refusal;
 
+/// How many reads there may be.
+pub const MOST_READS: u32 = 1_000_000;
+
 /// A reader that tells whether one of its reads failed, whether one came to the end of the input, and
 /// how many there were.
 pub trait Source {

@@ -11,4 +11,4 @@ loop-seat-preserved g c = record {
 }
 
 pub returns-clause-areas : goal.returns-clause-areas
-returns-clause-areas g c before after windows arranged = swept_areas _ before after windows c.args.gray.now c.args.seats.now c.loop-seat.areas.items (holds c.loop-seat.rest) c.loop-seat.seat-index arranged (search rules) c.loop-seat.invariant.swept
+returns-clause-areas g c font before after windows arranged = swept_areas _ font before after windows c.args.gray.now c.args.seats.now c.loop-seat.areas.items (holds c.loop-seat.rest) c.loop-seat.seat-index arranged (search rules) c.loop-seat.invariant.swept

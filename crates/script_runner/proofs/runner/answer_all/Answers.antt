@@ -9,7 +9,7 @@ pub loop-read-init : goal.loop-read-init
 loop-read-init g c = record {
   ready = c.requires.ready;
   quiet = c.requires.unfailed;
-  so_far = rw c.new-line.ensures (start _ _ _ _ c.requires.unmade c.requires.going);
+  so_far = rw c.new-line.ensures (start _ _ _ c.requires.going);
   counted = c.requires.unread;
 }
 

@@ -1,7 +1,7 @@
-use Rattle.std.proofs.Common.{◌≡◌, List, false, drop}
-use Rattle.def_iface.specs.Stocked.{SlotView}
+use Rattle.std.proofs.Common.{◌≡◌, false, drop}
 use Rattle.def_iface.specs.contracts.taken.TakenDefined.TheImpl as taken
 use Rattle.def_iface.specs.contracts.stock.StockStocked.TheImpl as stock
+use Rattle.script_runner.specs.Session.{SessionState}
 use Rattle.script_runner.specs.SessionViews.{session_of, IsReady}
 use Rattle.script_runner.specs.Progress.{SoFar}
 use Rattle.watched_io.specs.Reads.{Input}
@@ -15,7 +15,7 @@ invariant-loop-byte g l =
     record {
       ready : IsReady loan l.session (slots l.stock);
       quiet : (g.W.Sink.output l.sink).has_failed ≡ false;
-      so_far : (first : List SlotView) (input rest : Input) (old : Output)
+      so_far : (first : SessionState) (input rest : Input) (old : Output)
           → SoFar first input old rest (g.W.Sink.output l.initial.sink) (session_of loan l.initial.session (slots l.initial.stock)) l.initial.line l.bytes
           → SoFar first input old rest (g.W.Sink.output l.sink) (session_of loan l.session (slots l.stock)) l.line (drop l.byte-index l.bytes);
     }

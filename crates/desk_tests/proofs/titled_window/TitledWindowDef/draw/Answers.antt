@@ -1,4 +1,4 @@
-use Rattle.def_iface.proofs.CanvasLemmas.{Draws-black-around}
+use Rattle.draw_port.proofs.OverLemmas.{Draws-black-around}
 use Rattle.desk_tests.proofs.titled_window.TitledWindowDef.draw.Goals as goal
 
 pub returns-clause-drawn : goal.returns-clause-drawn

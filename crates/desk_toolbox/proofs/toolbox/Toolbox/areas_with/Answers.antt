@@ -11,7 +11,7 @@ areas_of-requires g c = rw c.deref.ensures.value (arranging.all_placed _ _ c.arg
 pub returns-clause-areas : goal.returns-clause-areas
 returns-clause-areas g c slot begun regions =
     let areas = rw c.deref.ensures.value at c.in_ok-areas.ensures.areas in
-    areas _ _ _
+    areas _ _ _ _
     (arranging.arranged _ c.args.window.now c.args.serial slot _ begun c.args.self.now c.requires.kept c.requires.number regions _
     (record { serial = refl; place = refl; size = refl; shown = refl; definition = refl; nowhere = c.empty-nothing.ensures })
     c.in_ok-seats.seats.items c.in_ok-seats.ensures.seats)

@@ -7,6 +7,10 @@ use Rattle.desk_toolbox.proofs.toolbox.Toolbox.new_window.Goals as goal
 pub plan_window-requires : goal.plan_window-requires
 plan_window-requires g c = kept _ c.args.self.now _ c.requires
 
+pub add_window-requires-clause-placed : goal.add_window-requires-clause-placed
+add_window-requires-clause-placed g c =
+    adding.unrefused_place c.args.window.now _ c.args.self.now.windows.len c.args.self.now.next c.in-Ok-plan_window.ensures.ok.0
+
 pub add_window-requires-clause-fits : goal.add_window-requires-clause-fits
 add_window-requires-clause-fits g c =
     adding.unrefused_fits c.args.window.now _ c.args.self.now.windows.len c.args.self.now.next c.in-Ok-plan_window.ensures.ok.0

@@ -1,4 +1,4 @@
-use Rattle.def_iface.proofs.CanvasLemmas.{Draws-black-around}
+use Rattle.draw_port.proofs.OverLemmas.{Draws-black-around}
 use Rattle.std_wdef.proofs.plain_window.PlainWindowWindowDef.draw.Goals as goal
 
 pub returns-clause-drawn : goal.returns-clause-drawn
