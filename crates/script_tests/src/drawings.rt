@@ -129,7 +129,9 @@ fn a_region_and_a_clip_are_read_with_their_bytes(rt: HostRuntime) {
         return;
     };
     assert!(rt; clip.as_slice() == [0x01, 0xFE].as_slice());
-    let given = [0x23, 0x45, 0x67, 0x89, 0x0A, 0xBC, 0xDE, 0xFA, 0xBC, 0xDE, 0xF0];
+    let given = [
+        0x23, 0x45, 0x67, 0x89, 0x0A, 0xBC, 0xDE, 0xFA, 0xBC, 0xDE, 0xF0,
+    ];
     assert!(rt; bytes.as_slice() == given.as_slice());
     assert!(rt; is_shade(shade, Pattern::BLACK, Mode::Or));
 }

@@ -112,7 +112,12 @@ fn rect<'a>(words: Words<'a>) -> Result<Rect, Refusal>
     let (right, words) = words.number()?;
     let (bottom, words) = words.number()?;
     words.end()?;
-    Ok(Rect { left, top, right, bottom })
+    Ok(Rect {
+        left,
+        top,
+        right,
+        bottom,
+    })
 }
 
 /// The sides of a rectangle, a mode and a pattern.
@@ -127,7 +132,15 @@ fn shaded_rect<'a>(words: Words<'a>) -> Result<(Rect, Shade), Refusal>
     let (pattern, words) = words.name()?;
     words.end()?;
     let shade = shade(&mode, &pattern)?;
-    Ok((Rect { left, top, right, bottom }, shade))
+    Ok((
+        Rect {
+            left,
+            top,
+            right,
+            bottom,
+        },
+        shade,
+    ))
 }
 
 /// The start of a line, how many pixels it has, a mode and a pattern.

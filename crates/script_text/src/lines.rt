@@ -100,7 +100,9 @@ impl LineBuffer {
 fn without_return(line: &mut [u8]) -> &mut [u8]
     ensures { result.now ≡ strip_carriage_return line.old }
 {
-    let length = line.strip_suffix(b"\r").map_or(line.len(), |rest| rest.len());
+    let length = line
+        .strip_suffix(b"\r")
+        .map_or(line.len(), |rest| rest.len());
     &mut line[..length]
 }
 

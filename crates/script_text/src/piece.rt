@@ -59,7 +59,12 @@ impl<'a> Piece<'a> {
             None => (Piece { bytes }, None),
             Some(at) => {
                 let (before, rest) = bytes.split_at_mut(at);
-                (Piece { bytes: before }, Some(Piece { bytes: &mut rest[1..] }))
+                (
+                    Piece { bytes: before },
+                    Some(Piece {
+                        bytes: &mut rest[1..],
+                    }),
+                )
             }
         }
     }

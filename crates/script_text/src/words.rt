@@ -197,7 +197,10 @@ fn quoted<'a>(text: Piece<'a>) -> Result<(BytesRef<'a>, Words<'a>), Refusal>
 }
 
 /// A text with what is left of the line after its quote: a space has to follow, or the line ends.
-fn after_quote<'a>(text: BytesRef<'a>, after: Piece<'a>) -> Result<(BytesRef<'a>, Words<'a>), Refusal>
+fn after_quote<'a>(
+    text: BytesRef<'a>,
+    after: Piece<'a>,
+) -> Result<(BytesRef<'a>, Words<'a>), Refusal>
     ensures { result ≡ after_quote text.entry after.entry }
 {
     match after.first() {

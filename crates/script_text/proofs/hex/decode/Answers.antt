@@ -10,7 +10,7 @@ loop-at-preserved c =
     let within : 2 * at + 1 < length xs = omega (arith, c.loop-at-test.true, c.loop-at.auto.digits) in
     let byte : c.digit_value.result * 16 + c.digit_value-in-loop-at.result ≡ byte_at xs at =
     λ i. c.digit_value.ensures.value i * 16 + c.digit_value-in-loop-at.ensures.value i in
-    record { bytes = ap (λ b. rest_after (set xs at b) (at + 1)) byte ∙ one_more xs at within ∙ c.loop-at.invariant.bytes; }
+    record { bytes = ap (λ b. rest_after (set xs at b) (at + 1)) byte ∙ one_more xs at within ∙ c.loop-at.invariant.bytes }
 
 pub returns : goal.returns
 returns c =
