@@ -1,9 +1,9 @@
-//! What no clause says of `def_iface` and `desk_toolbox`, by tests: that calls succeed where memory is not refused, and
-//! that the words of the contracts are the Toolbox's. Expected values are tables and pictures written by hand, or come
-//! from slow programs over single pixels, and never from the libraries.
+//! What no clause says of `def_iface`, `window_list` and `desk_toolbox`, by tests: that calls succeed where memory is not
+//! refused, and that the words of the contracts are the Toolbox's. Expected values are tables and pictures written by
+//! hand, or come from slow programs over single pixels, and never from the libraries.
 //!
-//! `stocks` tests `def_iface`, and `desks` tests `desk_toolbox`. `titled_window` is the one window definition of the
-//! tests: it is proved, and no part of the program.
+//! `stocks` tests `def_iface`, `windows` tests `window_list`, and `desks` tests `desk_toolbox`. `titled_window` is the
+//! one window definition of the tests: it is proved, and no part of the program.
 #![tactic(auto)]
 
 pub mod titled_window;
@@ -33,3 +33,5 @@ macro_rules! point {
 mod desks;
 #[cfg(test)]
 mod stocks;
+#[cfg(test)]
+mod windows;

@@ -68,8 +68,8 @@ impl WindowList {
     pub fn find(&self, serial: u64) -> Option<usize>
         ensures { result ≡ position (is_numbered serial) self.now.records.items }
     {
-        for at in 0..self.records.len() {
-            if self.records.at(at).serial == serial {
+        for at in 0..self.len() {
+            if self.at(at).serial == serial {
                 return Some(at);
             }
         }
@@ -80,8 +80,8 @@ impl WindowList {
     pub fn front(&self) -> Option<u64>
         ensures { result ≡ first_shown self.now.records.items }
     {
-        for at in 0..self.records.len() {
-            let window = self.records.at(at);
+        for at in 0..self.len() {
+            let window = self.at(at);
             if window.shown {
                 return Some(window.serial);
             }
@@ -127,7 +127,7 @@ impl WindowList {
         ensures { self.new ≡ record self.old { records = map_ranked (dimmed self.old.active) self.old.records } }
     {
         let active = self.active;
-        for at in 0..self.records.len() {
+        for at in 0..self.len() {
             let window = self.records.at_mut(at);
             window.dim(active);
         }
@@ -220,7 +220,7 @@ impl WindowList {
         } }
     {
         let former = self.active;
-        for at in 0..self.records.len() {
+        for at in 0..self.len() {
             let window = self.records.at_mut(at);
             window.relight(former, active);
         }
@@ -247,7 +247,7 @@ impl WindowList {
         ensures none { IfNone result (self.old.records.items ≡ []) }
         ensures others { self.new ≡ record self.old { records = self.new.records } }
     {
-        let count = self.records.len();
+        let count = self.len();
         if count == 0 {
             return None;
         }

@@ -1,0 +1,180 @@
+//! Lists of windows, and of values in an order of their own.
+ghost use Rattle.std.specs.Prelude.{◌<◌, length, OnOk};
+
+use crate::titled_window::Titled;
+use def_iface::{Size, Stock, Taken, WindowDef};
+use draw_port::{Op, Picture, Shape};
+use std::alloc::Global;
+use std::test::Fail;
+use tb_geom::Refusal;
+use window_list::{Ranks, Title, Window, WindowList};
+
+#[test]
+fn values_keep_their_order(rt: HostRuntime) -> Result<(), Fail> {
+    let mut ranks: Ranks<u32> = Ranks::new(rt.alloc());
+    assert_eq!(rt; ranks.len(), 0);
+    ranks.reserve()?;
+    ranks.insert(0, 5);
+    ranks.reserve()?;
+    ranks.insert(0, 6);
+    ranks.reserve()?;
+    ranks.insert(1, 7);
+    assert_eq!(rt; ranks.len(), 3);
+    assert_eq!(rt; *ranks.at(0), 6);
+    assert_eq!(rt; *ranks.at(1), 7);
+    assert_eq!(rt; *ranks.at(2), 5);
+    ranks.place(2, 0);
+    assert_eq!(rt; *ranks.at(0), 5);
+    assert_eq!(rt; *ranks.at(1), 6);
+    *ranks.at_mut(1) = 9;
+    assert_eq!(rt; ranks.remove(0), 5);
+    assert_eq!(rt; *ranks.at(0), 9);
+    ranks.reserve()?;
+    ranks.insert(0, 8);
+    assert_eq!(rt; ranks.remove(2), 7);
+    assert_eq!(rt; ranks.len(), 2);
+    Ok(())
+}
+
+/// A window of this number, highlighted where it is visible, with a white picture.
+fn window(alloc: Global, serial: u64, shown: bool, taken: Taken) -> Window {
+    Window {
+        serial,
+        place: point!(0, 0),
+        size: Size {
+            width: 3,
+            height: 2,
+        },
+        shown,
+        highlighted: shown,
+        go_away: false,
+        title: Title::new(),
+        picture: Picture::new(alloc),
+        origin: point!(0, 0),
+        taken,
+    }
+}
+
+/// Whether the windows, from front to back, have these numbers, and are highlighted or not.
+fn are(windows: &WindowList, wanted: &[(u64, bool)]) -> bool {
+    if windows.len() != wanted.len() {
+        return false;
+    }
+    for at in 0..wanted.len() {
+        let window = windows.at(at);
+        if window.serial != wanted[at].0 || window.highlighted != wanted[at].1 {
+            return false;
+        }
+    }
+    true
+}
+
+/// NoSuchWindow where no window is at this place.
+fn there(windows: &WindowList, at: usize) -> Result<(), Refusal>
+    ensures { OnOk result (at < length windows.now.records.items) }
+{
+    if at < windows.len() {
+        Ok(())
+    } else {
+        Err(Refusal::NoSuchWindow)
+    }
+}
+
+/// Changes all of the window at this place that can be changed by itself.
+fn change(windows: &mut WindowList, at: usize) -> Result<(), Refusal> {
+    there(windows, at)?;
+    windows.set_place(at, point!(7, -8));
+    there(windows, at)?;
+    windows.set_size(
+        at,
+        Size {
+            width: 5,
+            height: 6,
+        },
+    );
+    there(windows, at)?;
+    windows.set_shown(at, true);
+    there(windows, at)?;
+    windows.set_highlighted(at, true);
+    there(windows, at)?;
+    let mut title = Title::new();
+    if title.try_extend_from_slice(b"new").is_ok() {
+        windows.set_title(at, title);
+    }
+    there(windows, at)?;
+    let operation = Op {
+        clip: None,
+        shape: Shape::Invert(rect!(0, 0, 1, 1)),
+    };
+    windows.push_operation(at, operation)
+}
+
+/// Whether all of the window at this place was changed so.
+fn is_changed(windows: &WindowList, at: usize) -> bool {
+    if windows.len() <= at {
+        return false;
+    }
+    let window = windows.at(at);
+    let moved = window.place == point!(7, -8) && window.size.width == 5 && window.size.height == 6;
+    let seen = window.shown && window.highlighted && window.title.as_slice() == b"new".as_slice();
+    moved && seen && window.picture.ops().len() == 1
+}
+
+/// Moves the window at a place to the front, and takes the last of so many out.
+fn reorder(windows: &mut WindowList, from: usize, last: usize) -> Result<Window, Refusal> {
+    there(windows, from)?;
+    windows.move_to(from, 0);
+    there(windows, last)?;
+    Ok(windows.remove(last))
+}
+
+#[test]
+fn windows_lie_from_front_to_back(rt: HostRuntime) -> Result<(), Fail> {
+    let alloc = rt.alloc();
+    let mut stock = Stock::new(alloc);
+    let first: Box<dyn WindowDef> = Box::new(alloc, Titled::new())?;
+    assert!(rt; stock.add(b"titled", first).is_ok());
+    let second: Box<dyn WindowDef> = Box::new(alloc, Titled::new())?;
+    assert!(rt; stock.add(b"titled", second).is_ok());
+    let third: Box<dyn WindowDef> = Box::new(alloc, Titled::new())?;
+    assert!(rt; stock.add(b"titled", third).is_ok());
+    let mut windows = WindowList::new(Ranks::new(alloc));
+    assert!(rt; windows.active().is_none() && windows.next() == Some(1));
+    let taken = stock.take(b"titled")?;
+    windows.reserve()?;
+    windows.add(window(alloc, 1, true, taken));
+    let taken = stock.take(b"titled")?;
+    windows.reserve()?;
+    windows.add(window(alloc, 2, true, taken));
+    let taken = stock.take(b"titled")?;
+    windows.reserve()?;
+    windows.add(window(alloc, 3, false, taken));
+    assert!(rt; are(&windows, &[(3, false), (2, true), (1, false)]));
+    assert!(rt; windows.active() == Some(2) && windows.next() == Some(4));
+    assert!(rt;
+        windows.front() == Some(2) && windows.find(1) == Some(2) && windows.find(4).is_none()
+    );
+    windows.set_active(Some(1));
+    assert!(rt; are(&windows, &[(3, false), (2, false), (1, true)]));
+    change(&mut windows, 0)?;
+    assert!(rt; is_changed(&windows, 0) && windows.front() == Some(3));
+    let behind = reorder(&mut windows, 1, 2)?;
+    assert!(rt; behind.serial == 1);
+    assert!(rt; are(&windows, &[(2, false), (3, true)]));
+    Ok(())
+}
+
+#[test]
+fn boxes_come_out_from_the_last_window_on(rt: HostRuntime) -> Result<(), Fail> {
+    let alloc = rt.alloc();
+    let mut stock = Stock::new(alloc);
+    let first: Box<dyn WindowDef> = Box::new(alloc, Titled::new())?;
+    assert!(rt; stock.add(b"titled", first).is_ok());
+    let mut windows = WindowList::new(Ranks::new(alloc));
+    let taken = stock.take(b"titled")?;
+    windows.reserve()?;
+    windows.add(window(alloc, 1, true, taken));
+    assert!(rt; windows.next_box().is_some());
+    assert!(rt; windows.next_box().is_none() && windows.len() == 0);
+    Ok(())
+}
