@@ -1,5 +1,5 @@
 //! Lists of windows, and of values in an order of their own.
-ghost use Rattle.std.specs.Prelude.{◌<◌, length, OnOk};
+ghost use Rattle.std.specs.Prelude.{◌≡◌, ◌<◌, length, OnOk};
 
 use crate::titled_window::Titled;
 use def_iface::{Size, Stock, Taken, WindowDef};
@@ -36,15 +36,19 @@ fn values_keep_their_order(rt: HostRuntime) -> Result<(), Fail> {
     Ok(())
 }
 
+const SIZE: Size = Size {
+    width: 3,
+    height: 2,
+};
+
 /// A window of this number, highlighted where it is visible, with a white picture.
-fn window(alloc: Global, serial: u64, shown: bool, taken: Taken) -> Window {
+fn window(alloc: Global, serial: u64, shown: bool, taken: Taken) -> Window
+    ensures { result.taken ≡ taken }
+{
     Window {
         serial,
         place: point!(0, 0),
-        size: Size {
-            width: 3,
-            height: 2,
-        },
+        size: SIZE,
         shown,
         highlighted: shown,
         go_away: false,
@@ -176,5 +180,22 @@ fn boxes_come_out_from_the_last_window_on(rt: HostRuntime) -> Result<(), Fail> {
     windows.add(window(alloc, 1, true, taken));
     assert!(rt; windows.next_box().is_some());
     assert!(rt; windows.next_box().is_none() && windows.len() == 0);
+    Ok(())
+}
+
+#[test]
+fn a_window_is_disposed_of_where_it_lies(rt: HostRuntime) -> Result<(), Fail> {
+    let alloc = rt.alloc();
+    let mut stock = Stock::new(alloc);
+    let first: Box<dyn WindowDef> = Box::new(alloc, Titled::new())?;
+    assert!(rt; stock.add(b"titled", first).is_ok());
+    let mut windows = WindowList::new(Ranks::new(alloc));
+    let mut taken = stock.take(b"titled")?;
+    assert!(rt; SIZE.is_in_range() && taken.bounds(SIZE).is_in_range());
+    taken.begin(SIZE);
+    windows.reserve()?;
+    windows.add(window(alloc, 1, false, taken));
+    windows.dispose(0);
+    assert!(rt; windows.len() == 1);
     Ok(())
 }
