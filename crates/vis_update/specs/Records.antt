@@ -1,0 +1,57 @@
+-- A window's record as plain data, and as layers.
+use Rattle.std.specs.Prelude.{ℕ, Bool, List, [], ◌∷◌}
+use Rattle.tb_geom.specs.declared.point.Point.{Point}
+use Rattle.tb_geom.specs.Points.{minus}
+use Rattle.draw_port.specs.declared.shapes.Op.{Op}
+use Rattle.draw_port.specs.Ops.{picture_bit}
+use Rattle.def_iface.specs.declared.size.Size.{Size}
+use Rattle.def_iface.specs.declared.taken.Taken.{Taken}
+use Rattle.def_iface.specs.Meaning.{Definition, Loan}
+use Rattle.def_iface.specs.Desk as layers
+use Rattle.def_iface.specs.Desk.Part.{Picture}
+use Rattle.window_list.specs.declared.window.Window.{Window}
+
+-- a window's record; place is where its own 0 0 lies on the screen
+pub record WindowRecord : Type 0 where
+  pub serial : ℕ
+  pub place : Point
+  pub size : Size
+  pub shown : Bool
+  pub highlighted : Bool
+  pub title : List ℕ
+  pub go_away : Bool
+  -- the operations of its picture, the first drawn first
+  pub picture : List Op
+  -- where the picture's own 0 0 lies in the window
+  pub origin : Point
+  pub definition : Definition
+  -- the slot of the stock that the definition came from
+  pub slot : ℕ
+
+-- a window as layers, in this font: its picture over its frame
+abbrev pub layered_window : List ℕ → WindowRecord → layers.Window
+layered_window font w = record {
+  serial = w.serial;
+  place = w.place;
+  shown = w.shown;
+  structure = w.definition.structure w.size;
+  frame = w.definition.picture font;
+  layers = record { part = Picture; extent = w.definition.content w.size; picture = λ p. picture_bit font w.picture (minus p w.origin) } ∷ [];
+}
+
+-- `loan` says what a definition that was taken means
+module _ {V : Type 0} {H : V → Type 0} (loan : Taken V H → Loan) where
+  abbrev pub record_of : Window V H → WindowRecord
+  record_of w = record {
+    serial = w.serial;
+    place = w.place;
+    size = w.size;
+    shown = w.shown;
+    highlighted = w.highlighted;
+    title = w.title.items;
+    go_away = w.go_away;
+    picture = w.picture;
+    origin = w.origin;
+    definition = (loan w.taken).definition;
+    slot = (loan w.taken).slot;
+  }

@@ -1,0 +1,69 @@
+-- Windows as they are to be.
+use Rattle.std.specs.Prelude.{◌≡◌, ℕ, Bool, true, List, map, Some, All}
+use Rattle.tb_geom.specs.declared.point.Point.{Point}
+use Rattle.tb_geom.specs.Points.{PixelSet}
+use Rattle.tb_geom.specs.Pixels.{Pixels}
+use Rattle.def_iface.specs.declared.taken.Taken.{Taken}
+use Rattle.def_iface.specs.Meaning.{Loan}
+use Rattle.def_iface.specs.Desk.{Desk, IsDesk}
+use Rattle.def_iface.specs.Change.{State}
+use Rattle.window_list.specs.declared.window.Window.{Window}
+use Rattle.vis_update.specs.declared.area.Area.{Area}
+use Rattle.vis_update.specs.declared.plan.Seat.{Seat}
+use Rattle.vis_update.specs.Records.{WindowRecord, layered_window}
+use Rattle.vis_update.specs.Places.{is_placed}
+use Rattle.vis_update.specs.Areas.{IsArea, IsGray, IsNear}
+
+-- where a window stands; structure and content are in its own coordinates
+pub record Stand : Type 0 where
+  pub serial : ℕ
+  pub place : Point
+  pub shown : Bool
+  pub structure : PixelSet
+  pub content : PixelSet
+
+abbrev pub stand_of : WindowRecord → Stand
+stand_of w = record {
+  serial = w.serial;
+  place = w.place;
+  shown = w.shown;
+  structure = w.definition.structure w.size;
+  content = w.definition.content w.size;
+}
+
+module _ {V : Type 0} {H : V → Type 0} where
+  -- the pixels that the window had are those of a screen
+  abbrev pub IsNearSeat : Seat V H → Type 0
+  IsNearSeat s = IsNear s.area.now.visible × IsNear s.area.now.update
+
+  -- the seat of a window that stays as it is
+  pub record IsSeatOf (w : Window V H) (a : Area) (s : Seat V H) : Type 0 where
+    pub serial : s.serial ≡ w.serial
+    pub place : s.place ≡ w.place
+    pub size : s.size ≡ w.size
+    pub shown : s.shown ≡ w.shown
+    pub taken : s.taken.now ≡ w.taken
+    pub area : s.area.now ≡ a
+
+-- `loan` says what a definition that was taken means
+module _ {V : Type 0} {H : V → Type 0} (loan : Taken V H → Loan) where
+  abbrev pub seat_stand : Seat V H → Stand
+  seat_stand s = record {
+    serial = s.serial;
+    place = s.place;
+    shown = s.shown;
+    structure = (loan s.taken.now).definition.structure s.size;
+    content = (loan s.taken.now).definition.content s.size;
+  }
+
+  -- the window may be where it is to be
+  abbrev pub IsPlacedSeat : Seat V H → Type 0
+  IsPlacedSeat s = is_placed (Some (loan s.taken.now).definition) s.place s.size ≡ true
+
+  -- the seats of the windows of a desk in this font, as a call leaves it, each with the area that its window had before
+  pub record IsArranged (font : List ℕ) (before : State) (after : Desk) (windows : List WindowRecord) (gray : Pixels) (seats : List (Seat V H)) : Type 0 where
+    pub desk : after.windows ≡ map (layered_window font) windows
+    pub distinct : IsDesk after
+    pub gray_is : IsGray after gray
+    pub stands : map seat_stand seats ≡ map stand_of windows
+    pub areas : All (λ s. IsArea before.desk before.stale s.serial s.area.now) seats

@@ -1,0 +1,21 @@
+//! What each window owns of the screen, and what a call that arranges windows changes there.
+//!
+//! A window's `Area` is kept from call to call: what of the screen its content owns, what of that is to be drawn, and
+//! what its frame owns. A call says how the windows are to stand (a `Seat` for each, from front to back, which lends the
+//! area that the window had) and how it touches them (`Touch`), and `plan_of` answers in one sweep the areas of all, and
+//! all that changes on the screen: what content becomes white, which frames are drawn, what of the desktop appears, and
+//! where pixels arrive that move. A plan has all the memory that the call needs, so what comes after it can't be refused.
+//!
+//! The contracts ask no region: they say of each pixel whose it was and whose it is, by the words of `def_iface`
+//! (`IsPlan`). Which call it is, they do not know.
+#![tactic(auto)]
+
+mod area;
+mod place;
+mod plan;
+mod sweep;
+
+pub use area::Area;
+pub use place::{is_placed_alone, is_placed_with};
+pub use plan::{Part, Plan, Seat, Touch, seat_of};
+pub use sweep::plan_of;

@@ -1,0 +1,63 @@
+//! Where a window may be.
+ghost use Rattle.std.specs.Prelude.{◌≡◌, ◌&&◌, true, Some, None, IfOk, IfErr};
+ghost use Rattle.tb_geom.specs.declared.point.Point.{Point};
+ghost use Rattle.tb_geom.specs.Points.{minus};
+ghost use Rattle.tb_geom.specs.Pixels.{holds};
+ghost use Rattle.tb_geom.specs.Rects.{is_in_range, moved};
+ghost use Rattle.scan_region.specs.Moves.{StaysInRange};
+ghost use Rattle.vis_update.specs.Places.{IsRegionsAt, is_placed};
+
+use def_iface::{Defined, Size, Taken, WindowRegions};
+use scan_region::Region;
+use std::alloc::Global;
+use tb_geom::{Point, Rect, Refusal};
+
+/// Whether the rectangle, local to a window, and the one moved to the window's place have all sides
+/// in the range of coordinates.
+fn stays_in_range(judged: Rect, place: Point) -> bool
+    ensures { result ≡ (is_in_range judged && is_in_range (moved judged place.h place.v)) }
+{
+    judged.is_in_range() && judged.offset(place.h, place.v).is_ok()
+}
+
+/// Whether a window of this size and with this definition may be at the place.
+#[tactic(auto, unfolding(crate::specs::Places::is_placed))]
+pub fn is_placed_with(place: Point, size: Size, taken: &Taken) -> bool
+    ensures { result ≡ is_placed (Some (⟦<Taken as Defined>⟧.loan taken.now).definition) place size }
+{
+    place.is_in_range() && (size.is_in_range() && stays_in_range(taken.bounds(size), place))
+}
+
+/// Whether a window of this size may be at the place, whatever its definition.
+#[tactic(auto, unfolding(crate::specs::Places::is_placed))]
+pub fn is_placed_alone(place: Point, size: Size) -> bool
+    ensures { result ≡ is_placed None place size }
+{
+    place.is_in_range() && (size.is_in_range() && stays_in_range(size.rect(), place))
+}
+
+/// Structure and content of a window with this place, size and definition, on the screen. NoMemory
+/// is the only refusal.
+pub(crate) fn regions_of(
+    alloc: Global,
+    place: Point,
+    size: Size,
+    taken: &Taken,
+) -> Result<WindowRegions, Refusal>
+    requires { is_placed (Some (⟦<Taken as Defined>⟧.loan taken.now).definition) place size ≡ true }
+    ensures regions { IfOk result (IsRegionsAt place size (⟦<Taken as Defined>⟧.loan taken.now).definition) }
+    ensures refused { IfErr result (λ e. e ≡ Refusal.NoMemory) }
+{
+    let mut regions = taken.regions_for(alloc, size)?;
+    move_to(&mut regions.structure, place);
+    move_to(&mut regions.content, place);
+    Ok(regions)
+}
+
+/// Moves a region from a window's own coordinates to those of the screen.
+fn move_to(region: &mut Region, place: Point)
+    requires { StaysInRange region.old place }
+    ensures { (p : Point) → holds region.new p ≡ holds region.old (minus p place) }
+{
+    region.offset(place.h, place.v).unwrap();
+}

@@ -1,0 +1,103 @@
+//! A call's touch on windows, the windows as they are to be, and the plan of what changes.
+ghost use Rattle.std.specs.Prelude.{◌≡◌};
+ghost use Rattle.vis_update.specs.Touches.{way_of, draws_whole};
+ghost use Rattle.vis_update.specs.Seats.{IsSeatOf};
+ghost use Rattle.vis_update.specs.Plans.{IsEmptyPart};
+
+use crate::Area;
+use def_iface::{Size, Taken};
+use scan_region::Region;
+use std::alloc::Global;
+use tb_geom::Point;
+use window_list::Window;
+
+/// What is to be drawn of a window.
+#[derive(Drop)]
+pub struct Part {
+    /// What of its content was not its own before, and becomes white.
+    pub erase: Region,
+    /// What of its frame is drawn.
+    pub redraw: Region,
+}
+
+impl Part {
+    /// The part of a window of which nothing is drawn.
+    pub(crate) fn empty(alloc: Global) -> Part
+        ensures { IsEmptyPart result }
+    {
+        Part {
+            erase: Region::empty(alloc),
+            redraw: Region::empty(alloc),
+        }
+    }
+}
+
+/// What a call does with the windows that it arranges.
+#[derive(Clone, Copy)]
+pub struct Touch {
+    /// The window that the call is about. Its frame is drawn whole.
+    pub window: u64,
+    /// Another window whose frame is drawn whole.
+    pub also: Option<u64>,
+    /// How far the content of the first moves, if it does.
+    pub by: Option<Point>,
+}
+
+impl Touch {
+    /// How far the content of the window of this number moves.
+    pub(crate) fn way_of(self, serial: u64) -> Option<Point>
+        ensures { result ≡ way_of self serial }
+    {
+        if serial == self.window { self.by } else { None }
+    }
+
+    /// Whether the frame of the window of this number is drawn whole.
+    pub(crate) fn draws_whole(self, serial: u64) -> bool
+        ensures { result ≡ draws_whole self serial }
+    {
+        match self.also {
+            Some(other) => serial == self.window || serial == other,
+            None => serial == self.window,
+        }
+    }
+}
+
+/// What a call changes on the screen, with all the memory that it needs.
+#[derive(Drop)]
+pub struct Plan {
+    /// The areas of all windows after the call, from front to back.
+    pub areas: Vec<Area>,
+    /// What is to be drawn of each, in the same order.
+    pub parts: Vec<Part>,
+    /// The desktop after the call.
+    pub desktop: Region,
+    /// What of that was not the desktop's before.
+    pub uncovered: Region,
+    /// Where content arrives that moves.
+    pub copied: Region,
+}
+
+/// A window as it is to be, with the area that it had.
+#[derive(Clone, Copy)]
+pub struct Seat<'a> {
+    pub serial: u64,
+    pub place: Point,
+    pub size: Size,
+    pub shown: bool,
+    pub taken: &'a Taken,
+    pub area: &'a Area,
+}
+
+/// The seat of a window, where it stays as it is.
+pub fn seat_of<'a>(window: &'a Window, area: &'a Area) -> Seat<'a>
+    ensures { IsSeatOf window.now area.now result }
+{
+    Seat {
+        serial: window.serial,
+        place: window.place,
+        size: window.size,
+        shown: window.shown,
+        taken: &window.taken,
+        area,
+    }
+}
