@@ -6,7 +6,7 @@ ghost use Rattle.tb_geom.specs.Pixels.{holds};
 ghost use Rattle.bit_blit.specs.Draws.{Draws};
 ghost use Rattle.draw_port.specs.Canvases.{canvas_holds, canvas_point, SameFrame};
 ghost use Rattle.def_iface.specs.Sizes.{is_size};
-ghost use Rattle.def_iface.specs.Meaning.{Loan, SameRegions, IsWithin, IsBegun, is_fitting};
+ghost use Rattle.def_iface.specs.Meaning.{Loan, SameRegions, IsWithin, IsBegun, IsDamage, is_fitting, size_after};
 
 use crate::{Hit, Size, Stage, WindowChange, WindowDef, WindowRegions};
 use draw_port::Canvas;
@@ -72,6 +72,24 @@ impl Taken {
     {
         self.definition.begin();
         let _damage = self.definition.told(WindowChange::Resized(size));
+    }
+
+    /// Tells a Live definition of a change. The answer is the damage: in every font the pictures before
+    /// and after are equal outside it, within the range of coordinates.
+    pub fn told(&mut self, change: WindowChange) -> Rect
+        requires live { (⟦<Taken as Defined>⟧.loan self.old).definition.stage ≡ Stage.Live }
+        requires fits { is_fitting (⟦<Taken as Defined>⟧.loan self.old).definition
+            (size_after change (⟦<Taken as Defined>⟧.loan self.old).definition.size) ≡ true }
+        ensures stays { (⟦<Taken as Defined>⟧.loan self.new).definition.stage ≡ Stage.Live }
+        ensures size { (⟦<Taken as Defined>⟧.loan self.new).definition.size
+            ≡ size_after change (⟦<Taken as Defined>⟧.loan self.old).definition.size }
+        ensures regions { SameRegions (⟦<Taken as Defined>⟧.loan self.old).definition
+            (⟦<Taken as Defined>⟧.loan self.new).definition }
+        ensures damage { IsDamage result (⟦<Taken as Defined>⟧.loan self.old).definition
+            (⟦<Taken as Defined>⟧.loan self.new).definition }
+        ensures slot { (⟦<Taken as Defined>⟧.loan self.new).slot ≡ (⟦<Taken as Defined>⟧.loan self.old).slot }
+    {
+        self.definition.told(change)
     }
 
     /// The part of the window that the point, local to it, lies in.

@@ -2,11 +2,11 @@
 use Rattle.std.proofs.Common.{◌≡◌, ℕ, ◌+◌, ◌<◌, List, [], ◌∷◌, ◌++◌, length, get_or, take, refl, sym, Result, subst}
 use Rattle.std.proofs.lemmas.List.{take_more}
 use Rattle.tb_geom.specs.declared.refusal.Refusal.{Refusal}
-use Rattle.desk_toolbox.specs.declared.call.Call.{Call}
-use Rattle.desk_toolbox.specs.declared.call.Reply.{Reply}
-use Rattle.desk_toolbox.specs.FullDesk.{FullState}
-use Rattle.desk_toolbox.specs.Step.{IsStep}
-use Rattle.desk_toolbox.specs.Run.{IsRun}
+use Rattle.window_mgr.specs.declared.call.WindowCall.{WindowCall}
+use Rattle.window_mgr.specs.declared.call.WindowReply.{WindowReply}
+use Rattle.window_mgr.specs.FullDesk.{FullState}
+use Rattle.window_mgr.specs.Step.{IsStep}
+use Rattle.window_mgr.specs.Run.{IsRun}
 
 run_more : (first middle last : FullState) (calls : List Call) (answers : List (Result Reply Refusal)) (call : Call) (answer : Result Reply Refusal) → IsRun first calls answers middle → IsStep call answer middle last → IsRun first (calls ++ call ∷ []) (answers ++ answer ∷ []) last
 run_more first middle last [] [] call answer r s = (last, subst (λ m. IsStep call answer m last) r s, refl)

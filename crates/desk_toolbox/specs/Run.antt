@@ -1,12 +1,19 @@
--- A run of steps.
+-- A step of whichever manager, and a run of steps.
 use Rattle.std.specs.Prelude.{◌≡◌, ℕ, List, [], ◌∷◌, Option, Some, Result, Ok, Err}
 use Rattle.tb_geom.specs.declared.refusal.Refusal.{Refusal}
 use Rattle.desk_toolbox.specs.declared.call.Call.{Call}
+use Rattle.desk_toolbox.specs.declared.call.Call.TheVariants.{Window}
 use Rattle.desk_toolbox.specs.declared.call.Reply.{Reply}
 use Rattle.desk_toolbox.specs.declared.call.Reply.TheVariants as reply
-use Rattle.desk_toolbox.specs.FullDesk.{FullState}
 use Rattle.window_list.specs.Lists.{number_after}
-use Rattle.desk_toolbox.specs.Step.{IsStep}
+use Rattle.window_mgr.specs.FullDesk.{FullState}
+use Rattle.window_mgr.specs.Step as windows
+use Rattle.window_mgr.specs.declared.call.WindowReply.TheVariants.{Done, Made, Found, Front, Info}
+
+-- one step: a call is a step of its manager
+abbrev pub IsStep : Call → Result Reply Refusal → FullState → FullState → Type 0
+IsStep (Window call) (Ok (reply.Window answer)) before after = windows.IsStep call (Ok answer) before after
+IsStep (Window call) (Err e) before after = windows.IsStep call (Err e) before after
 
 -- from the first state these calls may have these answers and leave the last state: each step begins as the one before
 -- it ended
@@ -19,11 +26,8 @@ IsRun first (call ∷ calls) [] last = ⊥
 -- the numbers of the windows that were made
 abbrev pub made : List (Result Reply Refusal) → List ℕ
 made [] = []
-made (Ok reply.Done ∷ answers) = made answers
-made (Ok (reply.Window n) ∷ answers) = n ∷ made answers
-made (Ok (reply.Found found) ∷ answers) = made answers
-made (Ok (reply.Front window) ∷ answers) = made answers
-made (Err e ∷ answers) = made answers
+made (Ok (reply.Window (Made n)) ∷ answers) = n ∷ made answers
+made (_ ∷ answers) = made answers
 
 -- the numbers follow each other, and the first is the next one
 abbrev pub AreCounted : Option ℕ → List ℕ → Type 0

@@ -1,66 +1,21 @@
-//! What the definitions of a desk and of its steps say of each other.
-ghost use Rattle.std.specs.Prelude.{◌≡◌, Bool, List, map, Result};
-ghost use Rattle.std.specs.List.{find};
-ghost use Rattle.std.specs.Option.{option_map};
-ghost use Rattle.tb_geom.specs.declared.point.Point.{Point};
+//! What steps and runs say of each other.
+ghost use Rattle.std.specs.Prelude.{List, Result};
 ghost use Rattle.tb_geom.specs.declared.refusal.Refusal.{Refusal};
+ghost use Rattle.window_mgr.specs.FullDesk.{FullState, IsRight};
 ghost use Rattle.desk_toolbox.specs.declared.call.Call.{Call};
 ghost use Rattle.desk_toolbox.specs.declared.call.Reply.{Reply};
-ghost use Rattle.def_iface.specs.Desk.{IsDesk};
-ghost use Rattle.def_iface.specs.Owner.{owner, own_bit};
-ghost use Rattle.def_iface.specs.Scratch.{scratch};
-ghost use Rattle.desk_toolbox.specs.FullDesk.{WindowRecord, FullDesk, FullState, IsRight, layered_desk};
-ghost use Rattle.desk_toolbox.specs.Finding.{front_of};
-ghost use Rattle.desk_toolbox.specs.Refused.{first_refusal};
-ghost use Rattle.desk_toolbox.specs.Step.{IsStep};
 ghost use Rattle.desk_toolbox.specs.Run.{IsRun, made, AreCounted};
 
-/// Painting the desk from nothing, back to front, gives each pixel the value of its owner.
-#[tactic(auto, using(crate::proofs::Sayings::scratch_is_owners_on))]
-pub fn scratch_is_owners()
-    ensures { (desk : FullDesk) (p : Point) → IsDesk (layered_desk desk)
-        → scratch (layered_desk desk) p ≡ own_bit (layered_desk desk) (owner (layered_desk desk) p) p }
-{}
-
-/// The window that FrontWindow answers is the first of the list that is visible.
-#[tactic(auto, using(crate::proofs::Sayings::front_is_first))]
-pub fn front_is_the_first_visible()
-    ensures { (windows : List WindowRecord)
-        → front_of windows ≡ option_map (λ w. w.serial) (find (λ w. w.shown) windows) }
-{}
-
-/// A refusal is the first of the written order whose condition holds.
-#[tactic(auto, using(crate::proofs::Sayings::refusal_is_first))]
-pub fn a_refusal_is_the_first_that_holds()
-    ensures { (refusals : List (Bool × Refusal))
-        → first_refusal refusals ≡ option_map (λ r. r.1) (find (λ r. r.0) refusals) }
-{}
-
 /// The windows that a run makes have numbers that follow each other: none is used again.
-#[tactic(auto, using(crate::proofs::Sayings::made_are_counted))]
+#[tactic(auto, using(crate::proofs::Runs::made_are_counted))]
 pub fn windows_are_counted()
     ensures { (first last : FullState) (calls : List Call) (answers : List (Result Reply Refusal))
         → IsRun first calls answers last → AreCounted first.desk.next (made answers) }
 {}
 
-/// Whatever a call does, the stock has the same slots, for the same kinds.
-#[tactic(auto, using(crate::proofs::Sayings::step_keeps_kinds))]
-pub fn steps_keep_the_kinds()
-    ensures { (call : Call) (answer : Result Reply Refusal) (before after : FullState)
-        → IsStep call answer before after
-        → map (λ slot. slot.kind) after.desk.stock ≡ map (λ slot. slot.kind) before.desk.stock }
-{}
-
-/// A step keeps a right state right.
-#[tactic(auto, using(crate::proofs::Running::step_stays_right))]
-pub fn steps_stay_right()
-    ensures { (call : Call) (answer : Result Reply Refusal) (before after : FullState)
-        → IsRight before → IsStep call answer before after → IsRight after }
-{}
-
 /// After any run from a right state each pixel of the screen in no update set has the value that
 /// painting the desk from nothing gives.
-#[tactic(auto, using(crate::proofs::Running::run_stays_right))]
+#[tactic(auto, using(crate::proofs::Runs::run_stays_right))]
 pub fn runs_stay_right()
     ensures { (first last : FullState) (calls : List Call) (answers : List (Result Reply Refusal))
         → IsRight first → IsRun first calls answers last → IsRight last }

@@ -1,50 +1,28 @@
-//! What a Toolbox keeps, and how it begins.
-ghost use Rattle.std.specs.Prelude.{◌≡◌, true, if◌then◌else◌, IfOk, IfErr, List, All, int_lt};
+//! A Toolbox, and its calls one by one and in a row.
+ghost use Rattle.std.specs.Prelude.{◌≡◌, List, All, IfOk, IfErr};
 ghost use Rattle.def_iface.specs.Stocked.{SlotView, IsFull};
-ghost use Rattle.desk_toolbox.specs.Begin.{IsEmptyDesk, IsGround, IsEmptyPainted, last_row};
-ghost use Rattle.desk_toolbox.specs.Whole as whole;
+ghost use Rattle.window_mgr.specs.Begin.{IsEmptyDesk};
+ghost use Rattle.window_mgr.specs.Closing.{IsClosed};
+ghost use Rattle.window_mgr.specs.Effects.{IsUnchanged};
+ghost use Rattle.window_mgr.specs.FullDesk.{IsRight};
+ghost use Rattle.window_mgr.specs.Records.{desk_of, state_of};
+ghost use Rattle.window_mgr.specs.Whole as whole;
+ghost use Rattle.window_mgr.specs.Whole.{IsWhole};
+ghost use Rattle.desk_toolbox.specs.Run.{IsStep, IsRun};
 
-use crate::Area;
-use bit_blit::{Ink, draw_rect, fill};
-use bit_map::{BitMap, Mode, Pattern};
-use def_iface::{Defined, Taken};
-use scan_region::Region;
+use crate::{Call, Reply};
+use bit_map::BitMap;
+use def_iface::{Defined, Stock, Stocked, Taken};
 use std::alloc::Global;
 use strike_font::Font;
-use tb_geom::{Point, Rect, Refusal};
-use window_list::{Ranks, WindowList};
+use tb_geom::Refusal;
+use window_mgr::{NotBegun, WindowManager};
 
 /// A desk: its screen, its windows, and what of them has to be drawn.
 #[derive(Drop)]
 pub struct Toolbox {
     pub(crate) alloc: Global,
-    pub(crate) screen: BitMap,
-    /// The rows of the menu bar.
-    pub(crate) bar: i32,
-    /// The font of all texts.
-    pub(crate) font: Font,
-    /// The screen without the menu bar.
-    pub(crate) gray: Region,
-    /// From front to back.
-    pub(crate) windows: WindowList,
-    /// Of each window, in the same order.
-    pub(crate) areas: Vec<Area>,
-}
-
-/// A screen without windows.
-#[derive(Drop)]
-struct Ground {
-    screen: BitMap,
-    /// The part of it below the menu bar.
-    gray: Region,
-}
-
-/// A font that comes back, and why no desk was begun with it.
-#[derive(Drop)]
-pub struct NotBegun {
-    pub refusal: Refusal,
-    /// The font that was handed in.
-    pub font: Font,
+    pub(crate) windows: WindowManager,
 }
 
 impl Toolbox {
@@ -60,108 +38,78 @@ impl Toolbox {
         font: Font,
     ) -> Result<Toolbox, NotBegun>
         ensures begun { IfOk result (λ t. (slots : List SlotView) → All IsFull slots
-            → IsEmptyDesk ⟦<Taken as Defined>⟧.loan width height bar font t slots) }
+            → IsEmptyDesk ⟦<Taken as Defined>⟧.loan width height bar font t.windows slots) }
         ensures in_range { IfOk result (λ t. whole.is_screen width height bar ≡ true) }
         ensures refused { IfErr result (λ e. (e.font ≡ font)
             × (e.refusal ≡ (if whole.is_screen width height bar then Refusal.NoMemory else Refusal.OutOfRange))) }
     {
-        match empty_ground(alloc, width, height, bar) {
-            Ok(Ground { screen, gray }) => Ok(Toolbox {
-                alloc,
-                screen,
-                bar,
-                font,
-                gray,
-                windows: WindowList::new(Ranks::new(alloc)),
-                areas: Vec::new(alloc),
-            }),
-            Err(refusal) => Err(NotBegun { refusal, font }),
+        match WindowManager::new(alloc, width, height, bar, font) {
+            Ok(windows) => Ok(Toolbox { alloc, windows }),
+            Err(refused) => Err(refused),
         }
     }
 
     /// The screen.
     pub fn screen(&self) -> &BitMap
-        ensures { result.now ≡ self.now.screen }
+        ensures { result.now ≡ self.now.windows.screen }
     {
-        &self.screen
+        self.windows.screen()
     }
-}
 
-/// A screen without windows. The refusals are those of `Toolbox::new`.
-fn empty_ground(alloc: Global, width: i32, height: i32, bar: i32) -> Result<Ground, Refusal>
-    ensures painted { IfOk result (IsGround width height bar) }
-    ensures in_range { IfOk result (λ _. whole.is_screen width height bar ≡ true) }
-    ensures refused { IfErr result (λ e.
-        e ≡ (if whole.is_screen width height bar then Refusal.NoMemory else Refusal.OutOfRange)) }
-{
-    if !is_screen(width, height, bar) {
-        return Err(Refusal::OutOfRange);
+    /// Makes one call, and gives its answer. A refused call changes nothing; which refusal comes
+    /// first where several would do stands with the call.
+    pub fn call(&mut self, call: &Call<'_>, stock: &mut Stock) -> Result<Reply, Refusal>
+        requires { IsWhole ⟦<Taken as Defined>⟧.loan self.old.windows (⟦<Stock as Stocked>⟧.slots stock.old) }
+        ensures whole { IsWhole ⟦<Taken as Defined>⟧.loan self.new.windows (⟦<Stock as Stocked>⟧.slots stock.new) }
+        ensures step { IsStep call.now result
+            (state_of ⟦<Taken as Defined>⟧.loan self.old.windows (⟦<Stock as Stocked>⟧.slots stock.old))
+            (state_of ⟦<Taken as Defined>⟧.loan self.new.windows (⟦<Stock as Stocked>⟧.slots stock.new)) }
+        ensures right { IsRight (state_of ⟦<Taken as Defined>⟧.loan self.old.windows (⟦<Stock as Stocked>⟧.slots stock.old))
+            → IsRight (state_of ⟦<Taken as Defined>⟧.loan self.new.windows (⟦<Stock as Stocked>⟧.slots stock.new)) }
+    {
+        match call {
+            Call::Window(call) => match self.windows.make(call, stock) {
+                Ok(reply) => Ok(Reply::Window(reply)),
+                Err(refusal) => Err(refusal),
+            },
+        }
     }
-    let mut screen = BitMap::new(alloc, width, height)?;
-    let below = Rect {
-        left: 0,
-        top: bar,
-        right: width,
-        bottom: height,
-    };
-    let gray = Region::from_rect(alloc, below)?;
-    paint_empty(&mut screen, &gray, bar);
-    Ok(Ground { screen, gray })
-}
 
-/// Whether a screen may have these sides, and this many rows of menu bar.
-fn is_screen(width: i32, height: i32, bar: i32) -> bool
-    ensures { result ≡ whole.is_screen width height bar }
-{
-    is_screen_side(width) && (is_screen_side(height) && (is_bar(bar) && is_less(bar, height)))
-}
+    /// Makes the calls one after another, and gives their answers in the same order. Memory for the
+    /// answers is taken first: refused, the answer is NoMemory and no call was made.
+    pub fn run(
+        &mut self,
+        calls: &[Call<'_>],
+        stock: &mut Stock,
+    ) -> Result<Vec<Result<Reply, Refusal>>, Refusal>
+        requires { IsWhole ⟦<Taken as Defined>⟧.loan self.old.windows (⟦<Stock as Stocked>⟧.slots stock.old) }
+        ensures whole { IsWhole ⟦<Taken as Defined>⟧.loan self.new.windows (⟦<Stock as Stocked>⟧.slots stock.new) }
+        ensures run { IfOk result (λ answers. IsRun
+            (state_of ⟦<Taken as Defined>⟧.loan self.old.windows (⟦<Stock as Stocked>⟧.slots stock.old))
+            calls.now answers.items
+            (state_of ⟦<Taken as Defined>⟧.loan self.new.windows (⟦<Stock as Stocked>⟧.slots stock.new))) }
+        ensures refused { IfErr result (λ e. (e ≡ Refusal.NoMemory) × IsUnchanged
+            (state_of ⟦<Taken as Defined>⟧.loan self.old.windows (⟦<Stock as Stocked>⟧.slots stock.old))
+            (state_of ⟦<Taken as Defined>⟧.loan self.new.windows (⟦<Stock as Stocked>⟧.slots stock.new))) }
+        ensures right { IsRight (state_of ⟦<Taken as Defined>⟧.loan self.old.windows (⟦<Stock as Stocked>⟧.slots stock.old))
+            → IsRight (state_of ⟦<Taken as Defined>⟧.loan self.new.windows (⟦<Stock as Stocked>⟧.slots stock.new)) }
+    {
+        let mut answers = Vec::with_capacity(self.alloc, calls.len())?;
+        for call in calls {
+            let answer = self.call(call, stock);
+            answers.push(answer).unwrap();
+        }
+        Ok(answers)
+    }
 
-/// Whether a screen may be so wide or so high.
-fn is_screen_side(side: i32) -> bool
-    ensures { result ≡ whole.is_screen_side side }
-{
-    8 <= side && side <= 1024
-}
-
-/// Whether a menu bar may have so many rows.
-fn is_bar(bar: i32) -> bool
-    ensures { result ≡ whole.is_bar bar }
-{
-    bar == 0 || bar == 20
-}
-
-/// Whether the bar has less rows than the screen.
-fn is_less(bar: i32, height: i32) -> bool
-    ensures { result ≡ int_lt bar height }
-{
-    bar < height
-}
-
-/// Paints the desktop gray, and the last row of the menu bar black.
-fn paint_empty(screen: &mut BitMap, gray: &Region, bar: i32)
-    requires { whole.is_bar bar ≡ true }
-    ensures { IsEmptyPainted bar gray.now screen.old screen.new }
-{
-    let origin = Point { h: 0, v: 0 };
-    fill(screen, gray, origin, Pattern::GRAY, Mode::Copy);
-    let last_row = last_row(bar, screen.bounds().right);
-    let black = Ink {
-        pattern: Pattern::BLACK,
-        offset: origin,
-        mode: Mode::Copy,
-    };
-    draw_rect(screen, last_row, &black);
-}
-
-/// The last row of a menu bar of so many rows, up to a column.
-fn last_row(bar: i32, right: i32) -> Rect
-    requires { whole.is_bar bar ≡ true }
-    ensures { result ≡ last_row bar right }
-{
-    Rect {
-        left: 0,
-        top: bar - 1,
-        right,
-        bottom: bar,
+    /// Ends the desk: the definition of every window is disposed of, and put back Closed into its
+    /// slot, while every other slot stays as it was. Takes no memory, and refuses nothing.
+    pub fn close(self, stock: &mut Stock)
+        requires { IsWhole ⟦<Taken as Defined>⟧.loan self.windows (⟦<Stock as Stocked>⟧.slots stock.old) }
+        ensures { IsClosed (desk_of ⟦<Taken as Defined>⟧.loan self.windows (⟦<Stock as Stocked>⟧.slots stock.old)).windows
+            (⟦<Stock as Stocked>⟧.slots stock.old) (⟦<Stock as Stocked>⟧.slots stock.new) }
+    {
+        let Toolbox { windows, .. } = self;
+        windows.close(stock);
     }
 }

@@ -5,7 +5,7 @@ use Rattle.tb_geom.specs.declared.point.Point.{Point}
 use Rattle.draw_port.specs.declared.shapes.Op.{Op}
 use Rattle.def_iface.specs.declared.size.Size.{Size}
 use Rattle.def_iface.specs.declared.taken.Taken.{Taken}
-use Rattle.def_iface.specs.declared.window_def.Stage.TheVariants.{Closed}
+use Rattle.def_iface.specs.declared.window_def.Stage.TheVariants.{Live, Closed}
 use Rattle.def_iface.specs.Meaning.{Loan, SameRegions}
 use Rattle.window_list.specs.Ranks.{Ranked}
 use Rattle.window_list.specs.declared.window.Window.{Window}
@@ -42,14 +42,8 @@ module _ {V : Type 0} {H : V → Type 0} where
   first_shown [] = None
   first_shown (w ∷ ws) = if w.shown then Some w.serial else first_shown ws
 
-  abbrev pub with_place : Point → Window V H → Window V H
-  with_place place w = record w { place = place }
-
-  abbrev pub with_size : Size → Window V H → Window V H
-  with_size size w = record w { size = size }
-
-  abbrev pub with_shown : Bool → Window V H → Window V H
-  with_shown shown w = record w { shown = shown }
+  abbrev pub with_stand : Point → Bool → Window V H → Window V H
+  with_stand place shown w = record w { place = place; shown = shown }
 
   abbrev pub with_highlighted : Bool → Window V H → Window V H
   with_highlighted highlighted w = record w { highlighted = highlighted }
@@ -75,6 +69,15 @@ module _ {V : Type 0} {H : V → Type 0} where
     pub taken : Taken V H
     pub items : new ≡ slice_set old i (record w { taken = taken })
     pub closed : (loan taken).definition.stage ≡ Closed
+    pub regions : SameRegions (loan w.taken).definition (loan taken).definition
+    pub slot : (loan taken).slot ≡ (loan w.taken).slot
+
+  -- the i-th window, which is w, has this size, and its definition, which is live as before, was told so
+  pub record IsResizedAt (loan : Taken V H → Loan) (i : ℕ) (size : Size) (w : Window V H) (old new : List (Window V H)) : Type 0 where
+    pub taken : Taken V H
+    pub items : new ≡ slice_set old i (record w { size = size; taken = taken })
+    pub live : (loan taken).definition.stage ≡ Live
+    pub told : (loan taken).definition.size ≡ size
     pub regions : SameRegions (loan w.taken).definition (loan taken).definition
     pub slot : (loan taken).slot ≡ (loan w.taken).slot
 

@@ -1,12 +1,13 @@
 //! The windows of a desk, which of them is active, and the number of the next.
-ghost use Rattle.std.specs.Prelude.{◌≡◌, ◌<◌, nat_lt, ◌==◌, [], ◌∷◌, length, map, if◌then◌else◌, position, slice_index_or, slice_get, Some, None, OnOk, OnErr, IfErr, IfNone, IfSome};
+ghost use Rattle.std.specs.Prelude.{◌≡◌, true, ◌<◌, nat_lt, ◌==◌, [], ◌∷◌, length, map, if◌then◌else◌, position, slice_index_or, slice_get, Some, None, OnOk, OnErr, IfErr, IfNone, IfSome};
 ghost use Rattle.std.specs.List.{remove};
 ghost use Rattle.std.specs.Option.{option_map};
+ghost use Rattle.def_iface.specs.Meaning.{is_fitting};
 ghost use Rattle.window_list.specs.Ranks.{moved};
-ghost use Rattle.window_list.specs.Lists.{is_numbered, first_shown, dimmed, relit, number_after, map_ranked, edit_at, IsLastBox, with_place, with_size, with_shown, with_highlighted, with_title, with_operation, IsDisposedAt};
+ghost use Rattle.window_list.specs.Lists.{is_numbered, first_shown, dimmed, relit, number_after, map_ranked, edit_at, IsLastBox, with_stand, with_highlighted, with_title, with_operation, IsDisposedAt, IsResizedAt};
 
 use crate::{Ranks, Title, Window};
-use def_iface::{Defined, Size, Stage, Taken};
+use def_iface::{Defined, Size, Stage, Taken, WindowChange};
 use draw_port::Op;
 use std::alloc::Global;
 use tb_geom::{Point, Refusal};
@@ -153,30 +154,29 @@ impl WindowList {
         self.records.place(from, to);
     }
 
-    /// Shows or hides the window at this place.
-    pub fn set_shown(&mut self, at: usize, shown: bool)
+    /// Sets where the window at this place stands, and whether it is visible.
+    pub fn set_stand(&mut self, at: usize, place: Point, shown: bool)
         requires { at < length self.old.records.items }
-        ensures { self.new ≡ record self.old { records = edit_at (with_shown shown) at self.old.records } }
-    {
-        let window = self.records.at_mut(at);
-        window.shown = shown;
-    }
-
-    /// Sets where the window at this place stands.
-    pub fn set_place(&mut self, at: usize, place: Point)
-        requires { at < length self.old.records.items }
-        ensures { self.new ≡ record self.old { records = edit_at (with_place place) at self.old.records } }
+        ensures { self.new ≡ record self.old { records = edit_at (with_stand place shown) at self.old.records } }
     {
         let window = self.records.at_mut(at);
         window.place = place;
+        window.shown = shown;
     }
 
-    /// Sets how large the window at this place is.
-    pub fn set_size(&mut self, at: usize, size: Size)
-        requires { at < length self.old.records.items }
-        ensures { self.new ≡ record self.old { records = edit_at (with_size size) at self.old.records } }
+    /// Gives the window at this place another size, and tells its definition.
+    pub fn resize(&mut self, at: usize, size: Size)
+        requires within { at < length self.old.records.items }
+        requires live { IfSome (slice_get self.old.records.items at)
+            (λ w. (⟦<Taken as Defined>⟧.loan w.taken).definition.stage ≡ Stage.Live) }
+        requires fits { IfSome (slice_get self.old.records.items at)
+            (λ w. is_fitting (⟦<Taken as Defined>⟧.loan w.taken).definition size ≡ true) }
+        ensures resized { IfSome (slice_get self.old.records.items at) (λ w. IsResizedAt ⟦<Taken as Defined>⟧.loan
+            at size w self.old.records.items self.new.records.items) }
+        ensures others { self.new ≡ record self.old { records = self.new.records } }
     {
         let window = self.records.at_mut(at);
+        let _damage = window.taken.told(WindowChange::Resized(size));
         window.size = size;
     }
 

@@ -1,7 +1,0 @@
-use Rattle.std.proofs.Common.{refl, rules}
-use Rattle.desk_toolbox.proofs.PaintLemmas.{IsPainted-by}
-use Rattle.desk_toolbox.proofs.window_mgr.paint.Goals as goal
-
-pub returns : goal.returns
-returns g c =
-    IsPainted-by c.args.area.now _ c.args.place _ c.args.font.now c.bbox-clip.result c.args.screen.now c.fill.new.map c.draw.new.canvas.map.now _ (search rules) refl (λ p e. c.bbox-clip.ensures.exact.holds p e) c.fill.ensures c.draw.ensures.drawn

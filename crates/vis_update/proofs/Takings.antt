@@ -1,0 +1,115 @@
+-- What of a pixel one window of a sweep takes and leaves, and whose the rest is.
+use Rattle.std.proofs.Common.{◌≡◌, ◌⊎◌, inl, inr, ⊎_elim, ℕ, Bool, true, false, not, ◌&&◌, if◌then◌else◌, List, ◌∷◌, map, refl, sym, ◌∙◌, subst}
+use Rattle.std.proofs.lemmas.Bool.{false≢true}
+use Rattle.tb_geom.specs.declared.point.Point.{Point}
+use Rattle.tb_geom.specs.Points.{PixelSet, minus}
+use Rattle.tb_geom.specs.Pixels.{holds}
+use Rattle.def_iface.specs.Desk as layers
+use Rattle.def_iface.specs.Desk.{Desk}
+use Rattle.def_iface.specs.Desk.Part.{Picture}
+use Rattle.def_iface.specs.Owner.{Owner, owner, owner_among, same_owner}
+use Rattle.def_iface.specs.Owner.Owner.{Frame, Content}
+use Rattle.def_iface.proofs.Owning.{same_number, is_other, owner_is_other}
+use Rattle.vis_update.specs.declared.area.Area.{Area}
+use Rattle.vis_update.specs.Records.{WindowRecord, layered_window}
+use Rattle.vis_update.specs.Areas.{is_content_of}
+use Rattle.vis_update.proofs.Others.{not_content, not_same_frame, AreOthers, others_of}
+
+-- of a pixel that the windows in front left, the owner is the first of these windows that has it; one that they took is
+-- none of theirs
+pub record Reaches (font : List ℕ) (desk : Desk) (ws : List WindowRecord) (rest : PixelSet) : Type 0 where
+  pub here : (p : Point) → rest p ≡ true → (layers.on_screen desk p ≡ true) × (owner desk p ≡ owner_among (map (layered_window font) ws) p)
+  pub elsewhere : (p : Point) → rest p ≡ false → (layers.on_screen desk p ≡ false) ⊎ AreOthers ws (owner desk p)
+
+-- one pixel and one window: r is whether the windows in front left it; s, x and c whether the window is shown and has it
+-- in its structure and its content; v, f and k whether it took it for its content or its frame, or left it; o is its owner,
+-- and u the owner among the windows behind
+pub data Taking (n : ℕ) (r s x c v f k : Bool) (o u : Owner) : Type 0 where
+  taken_before : r ≡ false → v ≡ false → f ≡ false → k ≡ false → Taking n r s x c v f k o u
+  content : r ≡ true → o ≡ Content n Picture → v ≡ true → f ≡ false → k ≡ false → Taking n r s x c v f k o u
+  frame : r ≡ true → o ≡ Frame n → v ≡ false → f ≡ true → k ≡ false → Taking n r s x c v f k o u
+  left : r ≡ true → o ≡ u → v ≡ false → f ≡ false → k ≡ true → Taking n r s x c v f k o u
+
+no_content : (c s : Bool) → (c && (s && false)) ≡ false
+no_content true true = refl
+no_content true false = refl
+no_content false s = refl
+
+no_frame : (x c s : Bool) → ((x && not c) && (s && false)) ≡ false
+no_frame true true s = refl
+no_frame true false true = refl
+no_frame true false false = refl
+no_frame false c s = refl
+
+hidden : (c : Bool) → (c && (false && true)) ≡ false
+hidden true = refl
+hidden false = refl
+
+hidden_frame : (x c : Bool) → ((x && not c) && (false && true)) ≡ false
+hidden_frame true true = refl
+hidden_frame true false = refl
+hidden_frame false c = refl
+
+pub taking : (n : ℕ) (r s x c v f k : Bool) (o u : Owner) → (s ≡ true → c ≡ true → x ≡ true) → v ≡ (c && (s && r)) → f ≡ ((x && not c) && (s && r)) → k ≡ (r && not (s && x)) → (r ≡ true → o ≡ (if s && x then (if c then Content n Picture else Frame n) else u)) → Taking n r s x c v f k o u
+taking n false s x c v f k o u within ev ef ek its = taken_before refl (ev ∙ no_content c s) (ef ∙ no_frame x c s) ek
+taking n true true true true v f k o u within ev ef ek its = content refl (its refl) ev ef ek
+taking n true true true false v f k o u within ev ef ek its = frame refl (its refl) ev ef ek
+taking n true true false true v f k o u within ev ef ek its = absurd (false≢true (within refl refl))
+taking n true true false false v f k o u within ev ef ek its = left refl (its refl) ev ef ek
+taking n true false x c v f k o u within ev ef ek its = left refl (its refl) (ev ∙ hidden c) (ef ∙ hidden_frame x c) ek
+
+-- what is none of a window's, on the screen or off it
+none_of : (is_its : Owner → Bool) (on : Bool) (o : Owner) → (on ≡ false) ⊎ (is_its o ≡ false) → (on && is_its o) ≡ false
+none_of is_its false o e = refl
+none_of is_its true o (inl off) = absurd (false≢true (sym off))
+none_of is_its true o (inr e) = e
+
+module _ (font : List ℕ) (desk : Desk) (w : WindowRecord) (ws : List WindowRecord) (rest left_set : PixelSet) (a : Area) (distinct : layers.AreWindows (map (layered_window font) (w ∷ ws))) (reach : Reaches font desk (w ∷ ws) rest)
+    (takes : (p : Point) → Taking w.serial (rest p) w.shown (w.definition.structure w.size (minus p w.place)) (w.definition.content w.size (minus p w.place)) (holds a.visible p) (holds a.frame p) (left_set p) (owner desk p) (owner_among (map (layered_window font) ws) p)) where
+  -- the case of one pixel
+  abbrev Here : Point → Type 0
+  Here p = Taking w.serial (rest p) w.shown (w.definition.structure w.size (minus p w.place)) (w.definition.content w.size (minus p w.place)) (holds a.visible p) (holds a.frame p) (left_set p) (owner desk p) (owner_among (map (layered_window font) ws) p)
+
+  -- the owner among the windows behind is not this window
+  behind_is_other : (p : Point) → is_other w.serial (owner_among (map (layered_window font) ws) p) ≡ true
+  behind_is_other p = owner_is_other (map (layered_window font) ws) p w.serial distinct.0
+
+  no_its : (is_its : Owner → Bool) (p : Point) → ((o : Owner) → is_other w.serial o ≡ true → is_its o ≡ false) → rest p ≡ false → (layers.on_screen desk p && is_its (owner desk p)) ≡ false
+  no_its is_its p apart e = none_of is_its (layers.on_screen desk p) (owner desk p) (⊎_elim (λ off. inl off) (λ others. inr (apart (owner desk p) others.0)) (reach.elsewhere p e))
+
+  pub visible_is : (p : Point) → holds a.visible p ≡ (layers.on_screen desk p && is_content_of w.serial (owner desk p))
+  visible_is p = by_case (takes p)
+    where
+      by_case : Here p → holds a.visible p ≡ (layers.on_screen desk p && is_content_of w.serial (owner desk p))
+      by_case (taken_before r v f k) = v ∙ sym (no_its (is_content_of w.serial) p (not_content w.serial) r)
+      by_case (content r o v f k) = rw (v, (reach.here p r).0, o) (sym (same_number w.serial))
+      by_case (frame r o v f k) = rw (v, (reach.here p r).0, o) refl
+      by_case (left r o v f k) = rw (v, (reach.here p r).0, o) (sym (not_content w.serial _ (behind_is_other p)))
+
+  pub frame_is : (p : Point) → holds a.frame p ≡ (layers.on_screen desk p && same_owner (owner desk p) (Frame w.serial))
+  frame_is p = by_case (takes p)
+    where
+      by_case : Here p → holds a.frame p ≡ (layers.on_screen desk p && same_owner (owner desk p) (Frame w.serial))
+      by_case (taken_before r v f k) = f ∙ sym (no_its (λ o. same_owner o (Frame w.serial)) p (not_same_frame w.serial) r)
+      by_case (content r o v f k) = rw (f, (reach.here p r).0, o) refl
+      by_case (frame r o v f k) = rw (f, (reach.here p r).0, o) (sym (same_number w.serial))
+      by_case (left r o v f k) = rw (f, (reach.here p r).0, o) (sym (not_same_frame w.serial _ (behind_is_other p)))
+
+  -- what the window leaves reaches those behind it
+  pub reaches_behind : Reaches font desk ws left_set
+  reaches_behind = record {
+    here = λ p e. here_case p e (takes p);
+    elsewhere = λ p e. elsewhere_case p e (takes p);
+  }
+    where
+      here_case : (p : Point) → left_set p ≡ true → Here p → (layers.on_screen desk p ≡ true) × (owner desk p ≡ owner_among (map (layered_window font) ws) p)
+      here_case p e (taken_before r v f k) = absurd (false≢true (sym k ∙ e))
+      here_case p e (content r o v f k) = absurd (false≢true (sym k ∙ e))
+      here_case p e (frame r o v f k) = absurd (false≢true (sym k ∙ e))
+      here_case p e (left r o v f k) = ((reach.here p r).0, o)
+
+      elsewhere_case : (p : Point) → left_set p ≡ false → Here p → (layers.on_screen desk p ≡ false) ⊎ AreOthers ws (owner desk p)
+      elsewhere_case p e (taken_before r v f k) = ⊎_elim (λ off. inl off) (λ others. inr others.1) (reach.elsewhere p r)
+      elsewhere_case p e (content r o v f k) = inr (subst (λ q. AreOthers ws q) (sym o) (others_of font w.serial ws distinct.0).0)
+      elsewhere_case p e (frame r o v f k) = inr (subst (λ q. AreOthers ws q) (sym o) (others_of font w.serial ws distinct.0).1)
+      elsewhere_case p e (left r o v f k) = absurd (false≢true (sym e ∙ k))

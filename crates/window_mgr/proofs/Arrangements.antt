@@ -1,0 +1,182 @@
+-- How each call arranges the windows: it puts one of them anew among the others.
+use Rattle.std.proofs.Common.{◌≡◌, ℕ, zero, suc, ◌==◌, not, Bool, true, false, if◌then◌else◌, List, [], ◌∷◌, map, Option, None, Some, ℤ, pos, negsuc, ◌-ℤ◌, refl, sym, ap, ◌∙◌, subst, arith}
+use Rattle.std.specs.Prelude.{is_none}
+use Rattle.std.proofs.lemmas.Int.{ints}
+use Rattle.tb_geom.specs.declared.point.Point.{Point}
+use Rattle.tb_geom.specs.declared.refusal.Refusal.{Refusal}
+use Rattle.tb_geom.specs.declared.refusal.Refusal.TheVariants.{NoSuchWindow, OutOfRange}
+use Rattle.tb_geom.specs.Points.{minus}
+use Rattle.def_iface.specs.Desk as layers
+use Rattle.def_iface.specs.Owner.{content_bit, layer_bit}
+use Rattle.def_iface.specs.Owner.Owner.{Content}
+use Rattle.def_iface.proofs.Owning.{same_number}
+use Rattle.vis_update.specs.Records.{WindowRecord, layered_window}
+use Rattle.vis_update.specs.Touches.{moved_from, is_this}
+use Rattle.window_mgr.specs.declared.call.WindowCall.{WindowCall}
+use Rattle.window_mgr.specs.declared.call.WindowCall.TheVariants.{New, Show, Hide, ShowHide, Select, BringToFront, SendBehind, Move, Draw, Find, Front, Info}
+use Rattle.window_mgr.specs.declared.call.MoveWindow.{MoveWindow}
+use Rattle.window_mgr.specs.declared.call.SendBehind as sending
+use Rattle.window_mgr.specs.FullDesk.{FullDesk, layered_desk}
+use Rattle.window_mgr.specs.Finding.{record_with}
+use Rattle.window_mgr.specs.Arrange.{Arrangement, put_behind, behind_this, in_front, without, brought, changed, at_place, with_shown, way_to, moved}
+use Rattle.window_mgr.specs.Effects.{Effect, effect_of}
+use Rattle.window_mgr.specs.Effects.Effect.{Makes, Draws, Arranges, Tells}
+use Rattle.window_mgr.specs.Refused.{IsRefusal, first_refusal}
+use Rattle.window_mgr.proofs.PutIn.{put_in, IsFree, IsPut, is_put, IsTakenOut, out_of, distinct_out}
+use Rattle.window_mgr.proofs.Rearranged.{IsEdit}
+
+-- ---- the words of the order, of a window that stands among others
+
+module _ (font : List ℕ) (s i : ℕ) (w : WindowRecord) (rest : List WindowRecord) (its : w.serial ≡ s) (free : IsFree font s rest) where
+  put : IsPut font s i w rest
+  put = is_put font s i w rest its free
+
+  pub found_is : record_with s (put_in i w rest) ≡ Some w
+  found_is = put.found
+
+  pub brought_is : brought s (put_in i w rest) ≡ put_in 0 w rest
+  brought_is = λ k. in_front (put.found k) (put.others k)
+
+  pub changed_is : (f : WindowRecord → WindowRecord) → changed s f (put_in i w rest) ≡ put_in i (f w) rest
+  changed_is f = put.changed_is f
+
+  pub behind_is : (x : Option ℕ) → behind_this x (record_with s (put_in i w rest)) (without s (put_in i w rest)) ≡ put_behind x w rest
+  behind_is x = λ k. behind_this x (put.found k) (put.others k)
+
+-- the place behind a window of this serial, or behind all
+abbrev pub place_after : Option ℕ → List WindowRecord → ℕ
+place_after x [] = 0
+place_after x (v ∷ vs) = if is_this x v.serial then 1 else suc (place_after x vs)
+
+pub put_behind_is : (x : Option ℕ) (w : WindowRecord) (rest : List WindowRecord) → put_behind x w rest ≡ put_in (place_after x rest) w rest
+put_behind_is x w [] = refl
+put_behind_is x w (v ∷ vs) = by_test (is_this x v.serial) (put_behind_is x w vs)
+  where
+    by_test : (b : Bool) → put_behind x w vs ≡ put_in (place_after x vs) w vs → (if b then v ∷ w ∷ vs else v ∷ put_behind x w vs) ≡ put_in (if b then 1 else suc (place_after x vs)) w (v ∷ vs)
+    by_test true e = front w v vs
+      where
+        front : (a b : WindowRecord) (cs : List WindowRecord) → b ∷ a ∷ cs ≡ put_in 1 a (b ∷ cs)
+        front a b [] = refl
+        front a b (c ∷ cs) = refl
+    by_test false e = ap (λ zs. v ∷ zs) e
+
+-- ---- a sound arrangement
+
+-- one window was put anew among the others, and its content moves as it does
+pub record IsSoundArrangement (a : Arrangement) (desk : FullDesk) : Type 0 where
+  pub old : WindowRecord
+  pub new : WindowRecord
+  pub place : ℕ
+  pub to : ℕ
+  pub rest : List WindowRecord
+  pub edit : IsEdit desk a.window place to old new rest
+  pub windows : a.windows ≡ put_in to new rest
+  pub moves : (part : layers.Part) (p : Point) → content_bit (Some (layered_window desk.font old)) part (moved_from a.window a.by (Content a.window part) p) ≡ content_bit (Some (layered_window desk.font new)) part p
+
+abbrev pub IsSoundEffect : Effect → FullDesk → Type 0
+IsSoundEffect (Makes w) desk = Unit {0}
+IsSoundEffect (Draws d) desk = Unit {0}
+IsSoundEffect (Arranges a) desk = IsSoundArrangement a desk
+IsSoundEffect (Tells r) desk = Unit {0}
+
+-- what is not missing is there
+there_of : (b : Bool) (o : Option WindowRecord) (r : Option Refusal) → (if is_none o then Some NoSuchWindow else r) ≡ None → (w : WindowRecord) × (o ≡ Some w)
+there_of b None r e = absurd (cc)
+there_of b (Some w) r e = (w, refl)
+
+same_way : (x y z : ℤ) → (x -ℤ (y -ℤ z)) -ℤ z ≡ x -ℤ y
+same_way (pos x) (pos y) (pos z) = grind (arith, ints)
+same_way (pos x) (pos y) (negsuc z) = grind (arith, ints)
+same_way (pos x) (negsuc y) (pos z) = grind (arith, ints)
+same_way (pos x) (negsuc y) (negsuc z) = grind (arith, ints)
+same_way (negsuc x) (pos y) (pos z) = grind (arith, ints)
+same_way (negsuc x) (pos y) (negsuc z) = grind (arith, ints)
+same_way (negsuc x) (negsuc y) (pos z) = grind (arith, ints)
+same_way (negsuc x) (negsuc y) (negsuc z) = grind (arith, ints)
+
+module _ (desk : FullDesk) (distinct : layers.IsDesk (layered_desk desk)) (s : ℕ) (w : WindowRecord) (found : record_with s desk.windows ≡ Some w) where
+  out : IsTakenOut s desk.windows w
+  out = out_of s desk.windows w found
+
+  free : IsFree desk.font s out.rest
+  free = subst (λ n. IsFree desk.font n out.rest) out.serial (distinct_out desk.font out.place w out.rest (subst (λ ws. layers.AreWindows (map (layered_window desk.font) ws)) out.is distinct)).0
+
+  edit : (j : ℕ) (v : WindowRecord) → v.serial ≡ w.serial → IsEdit desk s out.place j w v out.rest
+  edit j v same = record { windows = out.is; serial = out.serial; same_serial = same }
+
+  -- a window that keeps its content where it is
+  stays : (a : Arrangement) (j : ℕ) (v : WindowRecord) → a.window ≡ s → a.by ≡ None → v.serial ≡ w.serial → a.windows ≡ put_in j v out.rest
+      → ((part : layers.Part) (p : Point) → content_bit (Some (layered_window desk.font w)) part p ≡ content_bit (Some (layered_window desk.font v)) part p) → IsSoundArrangement a desk
+  stays a j v its still same windows content = record {
+    old = w;
+    new = v;
+    place = out.place;
+    to = j;
+    rest = out.rest;
+    edit = subst (λ n. IsEdit desk n out.place j w v out.rest) (sym its) (edit j v same);
+    windows = windows;
+    moves = λ part p. ap (λ by. content_bit (Some (layered_window desk.font w)) part (moved_from a.window by (Content a.window part) p)) still ∙ content part p;
+  }
+
+  pub brought_sound : (a : Arrangement) → a.window ≡ s → a.by ≡ None → a.windows ≡ brought s desk.windows → IsSoundArrangement a desk
+  brought_sound a its still windows = stays a 0 w its still refl (windows ∙ ap (brought s) out.is ∙ brought_is desk.font s out.place w out.rest out.serial free) (λ part p. refl)
+
+  pub shown_sound : (a : Arrangement) (shown : Bool) → a.window ≡ s → a.by ≡ None → a.windows ≡ changed s (with_shown shown) desk.windows → IsSoundArrangement a desk
+  shown_sound a shown its still windows = stays a out.place (with_shown shown w) its still refl (windows ∙ ap (changed s (with_shown shown)) out.is ∙ changed_is desk.font s out.place w out.rest out.serial free (with_shown shown)) (λ part p. refl)
+
+  pub sent_sound : (a : Arrangement) (b : sending.SendBehind) → b.window ≡ s → a.window ≡ s → a.by ≡ None → a.windows ≡ behind_this b.behind (record_with s desk.windows) (without s desk.windows) → IsSoundArrangement a desk
+  sent_sound a b named its still windows = stays a (place_after b.behind out.rest) w its still refl
+      (windows ∙ ap (λ ws. behind_this b.behind (record_with s ws) (without s ws)) out.is ∙ behind_is desk.font s out.place w out.rest out.serial free b.behind ∙ put_behind_is b.behind w out.rest)
+      (λ part p. refl)
+
+  pub moved_sound : (m : MoveWindow) → m.window ≡ s → IsSoundArrangement (moved m desk.windows) desk
+  moved_sound m named = by_select m.select refl
+    where
+      there : List WindowRecord
+      there = changed m.window (at_place m.place) desk.windows
+
+      there_is : there ≡ put_in out.place (at_place m.place w) out.rest
+      there_is = ap (λ n. changed n (at_place m.place) desk.windows) named ∙ ap (changed s (at_place m.place)) out.is ∙ changed_is desk.font s out.place w out.rest out.serial free (at_place m.place)
+
+      way : (moved m desk.windows).by ≡ Some (minus m.place w.place)
+      way = ap (λ n. way_to m.place (record_with n desk.windows)) named ∙ ap (way_to m.place) found
+
+      came : (part : layers.Part) (p : Point) → content_bit (Some (layered_window desk.font w)) part (moved_from m.window (moved m desk.windows).by (Content m.window part) p) ≡ content_bit (Some (layered_window desk.font (at_place m.place w))) part p
+      came part p =
+          ap (λ by. content_bit (Some (layered_window desk.font w)) part (moved_from m.window by (Content m.window part) p)) way
+          ∙ ap (λ b. content_bit (Some (layered_window desk.font w)) part (if b then minus p (minus m.place w.place) else p)) (same_number m.window)
+          ∙ (λ k. layers_at part (record { h = same_way p.h m.place.h w.place.h k; v = same_way p.v m.place.v w.place.v k }))
+        where
+          layers_at : layers.Part → Point → Bool
+          layers_at q local = layer_bit (layers.layer_of q (layered_window desk.font w).layers) local
+
+      windows_are : (b : Bool) → m.select ≡ b → (j : ℕ) × ((moved m desk.windows).windows ≡ put_in j (at_place m.place w) out.rest)
+      windows_are true e = (0, ap (λ c. if c then brought m.window there else there) e ∙ (λ k. brought (named k) (there_is k)) ∙ brought_is desk.font s out.place (at_place m.place w) out.rest out.serial free)
+      windows_are false e = (out.place, ap (λ c. if c then brought m.window there else there) e ∙ there_is)
+
+      by_select : (b : Bool) → m.select ≡ b → IsSoundArrangement (moved m desk.windows) desk
+      by_select b e = record {
+        old = w;
+        new = at_place m.place w;
+        place = out.place;
+        to = (windows_are b e).0;
+        rest = out.rest;
+        edit = subst (λ n. IsEdit desk n out.place (windows_are b e).0 w (at_place m.place w) out.rest) (sym named) (edit (windows_are b e).0 (at_place m.place w) refl);
+        windows = (windows_are b e).1;
+        moves = came;
+      }
+
+-- every call that nothing refuses has a sound effect
+pub effect_is_sound : (call : WindowCall) (desk : FullDesk) → layers.IsDesk (layered_desk desk) → IsRefusal call desk None → IsSoundEffect (effect_of call desk) desk
+effect_is_sound (New w) desk distinct e = tt
+effect_is_sound (Draw d) desk distinct e = tt
+effect_is_sound (Find p) desk distinct e = tt
+effect_is_sound Front desk distinct e = tt
+effect_is_sound (Info s) desk distinct e = tt
+effect_is_sound (Select s) desk distinct e = let w = there_of true (record_with s desk.windows) None e in brought_sound desk distinct s w.0 w.1 _ refl refl refl
+effect_is_sound (BringToFront s) desk distinct e = let w = there_of true (record_with s desk.windows) None e in brought_sound desk distinct s w.0 w.1 _ refl refl refl
+effect_is_sound (Show s) desk distinct e = let w = there_of true (record_with s desk.windows) None e in shown_sound desk distinct s w.0 w.1 _ true refl refl refl
+effect_is_sound (Hide s) desk distinct e = let w = there_of true (record_with s desk.windows) None e in shown_sound desk distinct s w.0 w.1 _ false refl refl refl
+effect_is_sound (ShowHide c) desk distinct e = let w = there_of true (record_with c.window desk.windows) None e in shown_sound desk distinct c.window w.0 w.1 _ c.shown refl refl refl
+effect_is_sound (SendBehind b) desk distinct e = let w = there_of true (record_with b.window desk.windows) _ e in sent_sound desk distinct b.window w.0 w.1 _ b refl refl refl refl
+effect_is_sound (Move m) desk distinct e = let w = there_of true (record_with m.window desk.windows) _ e in moved_sound desk distinct m.window w.0 w.1 m refl

@@ -1,0 +1,178 @@
+-- The seats of windows of which one is put anew.
+use Rattle.std.proofs.Common.{◌≡◌, ℕ, zero, suc, ◌+◌, ◌<◌, ◌≤◌, if◌then◌else◌, List, [], ◌∷◌, length, get_or, map, Option, None, Some, true, refl, sym, ap, ◌∙◌, subst, arith}
+use Rattle.std.specs.Prelude.{All}
+use Rattle.std.specs.List.{insert, remove}
+use Rattle.std.proofs.lemmas.Option.{slice_get_read}
+use Rattle.std.proofs.lemmas.List.Elements.{All-head, All-tail}
+use Rattle.std.proofs.lemmas.List.Sorted.{length_permutation}
+use Rattle.def_iface.specs.declared.taken.Taken.{Taken}
+use Rattle.def_iface.specs.Meaning.{Loan}
+use Rattle.def_iface.specs.Desk.{Desk}
+use Rattle.def_iface.specs.Change.{State}
+use Rattle.window_list.specs.declared.window.Window.{Window}
+use Rattle.window_list.specs.Ranks.{insert_option, moved}
+use Rattle.window_list.specs.Lists.{edit}
+use Rattle.vis_update.specs.declared.area.Area.{Area}
+use Rattle.vis_update.specs.declared.plan.Seat.{Seat}
+use Rattle.vis_update.specs.Records.{WindowRecord, record_of}
+use Rattle.vis_update.specs.Places.{is_placed}
+use Rattle.vis_update.specs.Areas.{IsArea, IsGray}
+use Rattle.vis_update.specs.Seats.{stand_of, seat_stand, IsPlacedSeat, IsNearSeat, IsArranged}
+use Rattle.window_mgr.specs.declared.arrange.Edit.{Edit}
+use Rattle.window_mgr.specs.declared.manager.WindowManager.{WindowManager}
+use Rattle.window_mgr.specs.FullDesk.{FullDesk, layered_desk, layered_state}
+use Rattle.window_mgr.specs.Edits.{put_record, records_put, IsAt, AreSeatsAfter, IsDeskOfEdit, IsPlaceable, SameSize}
+use Rattle.window_mgr.specs.Finding.{front_of}
+use Rattle.window_mgr.specs.Kept.{IsKept}
+use Rattle.window_mgr.specs.Records.{state_of}
+use Rattle.window_mgr.specs.Seats.{AreSeatsOf, first_seated}
+use Rattle.window_mgr.specs.Whole.{IsSettled}
+use Rattle.window_mgr.proofs.PaintLemmas.{settled_in}
+use Rattle.vis_update.proofs.PlaceLemmas.{placed_from}
+use Rattle.window_mgr.proofs.PutIn.{put_in, put_is_insert, taken_out, All-out, All-put, map-put, put_permutes}
+use Rattle.window_mgr.proofs.Seating.{seat_at, seats_stand, seats_had, seats_placed, seats_near, sides}
+
+module _ {X Y : Type 0} (f : X → Y) where
+  pub map-insert : (i : ℕ) (x : X) (xs : List X) → map f (insert xs i x) ≡ put_in i (f x) (map f xs)
+  map-insert i x xs = ap (map f) (sym (put_is_insert i x xs)) ∙ map-put f i x xs
+
+  pub map-remove : (xs : List X) (i : ℕ) → map f (remove xs i) ≡ remove (map f xs) i
+  map-remove [] zero = refl
+  map-remove [] (suc i) = refl
+  map-remove (x ∷ xs) zero = refl
+  map-remove (x ∷ xs) (suc i) = ap (λ ys. f x ∷ ys) (map-remove xs i)
+
+-- the element at a place is one
+pub same_at : {X : Type 0} (xs : List X) (i : ℕ) (x y : X) → i < length xs → x ≡ get_or xs i x → y ≡ get_or xs i y → x ≡ y
+same_at [] i x y low e f = absurd (omega arith)
+same_at (z ∷ xs) zero x y low e f = e ∙ sym f
+same_at (z ∷ xs) (suc i) x y low e f = same_at xs i x y (omega arith) e f
+
+-- there is an element at each place
+pub there_is : {X : Type 0} (xs : List X) (i : ℕ) → i < length xs → (x : X) × (x ≡ get_or xs i x)
+there_is [] i low = absurd (omega arith)
+there_is (x ∷ xs) zero low = (x, refl)
+there_is (x ∷ xs) (suc i) low = there_is xs i (omega arith)
+
+pub length-put : {X : Type 0} (i : ℕ) (x : X) (xs : List X) → length (put_in i x xs) ≡ length xs + 1
+length-put i x xs = let e = length_permutation (x ∷ xs) (put_in i x xs) (put_permutes i x xs) in omega arith
+
+pub length-anew : {X : Type 0} (xs : List X) (i j : ℕ) (x : X) → i < length xs → length (insert (remove xs i) j x) ≡ length xs
+length-anew xs i j x low =
+    let y = there_is xs i low in
+    ap length (sym (put_is_insert j x (remove xs i))) ∙ length-put j x (remove xs i) ∙ sym (length-put i y.0 (remove xs i)) ∙ ap length (sym (taken_out xs i y.0 low y.1))
+
+-- an element that is changed after it was put in is put in changed
+pub edit_put : {X : Type 0} (f : X → X) (i : ℕ) (x : X) (xs : List X) → i ≤ length xs → edit f i (put_in i x xs) ≡ put_in i (f x) xs
+edit_put f zero x xs low = refl
+edit_put f (suc i) x [] low = absurd (omega arith)
+edit_put f (suc i) x (y ∷ ys) low = ap (λ zs. y ∷ zs) (edit_put f i x ys (omega arith))
+
+-- an element that was moved to another place, and changed there, was put anew
+pub moved_anew : {X : Type 0} (f : X → X) (xs : List X) (i j : ℕ) (x : X) → i < length xs → j < length xs → x ≡ get_or xs i x → edit f j (moved xs i j) ≡ insert (remove xs i) j (f x)
+moved_anew f xs i j x low to x_is =
+    let rest = length-put i x (remove xs i) in
+    let all = ap length (taken_out xs i x low x_is) in
+    ap (λ (o : Option _). edit f j (insert_option (remove xs i) j o)) (slice_get_read xs (length xs) i x refl low x_is)
+    ∙ ap (edit f j) (sym (put_is_insert j x (remove xs i)))
+    ∙ edit_put f j x (remove xs i) (omega arith)
+    ∙ put_is_insert j (f x) (remove xs i)
+
+pub lengths_of : {V : Type 0} {H : V → Type 0} (ws : List (Window V H)) (areas : List Area) (seats : List (Seat V H)) → AreSeatsOf ws areas seats → length seats ≡ length ws
+lengths_of [] [] [] its = refl
+lengths_of (w ∷ ws) (a ∷ areas) (s ∷ seats) its = ap suc (lengths_of ws areas seats its.1)
+lengths_of [] [] (s ∷ seats) its = absurd its
+lengths_of [] (a ∷ areas) seats its = absurd its
+lengths_of (w ∷ ws) [] seats its = absurd its
+lengths_of (w ∷ ws) (a ∷ areas) [] its = absurd its
+
+module _ {V : Type 0} {H : V → Type 0} (loan : Taken V H → Loan) (t : WindowManager V H) (kept : IsKept loan t) (e : Edit) (seats : List (Seat V H)) (S : AreSeatsAfter e t.windows.records.items t.areas.items seats) (low : e.at < length t.windows.records.items) where
+  within : e.at < length S.all
+  within = let n = lengths_of t.windows.records.items t.areas.items S.all S.are in omega arith
+
+  pub as_many_seats : length seats ≡ length t.windows.records.items
+  as_many_seats = ap length S.is ∙ length-anew S.all e.at e.to (record S.seat { place = e.place; size = e.size; shown = e.shown }) within ∙ lengths_of t.windows.records.items t.areas.items S.all S.are
+
+  -- what holds of all seats but in their places
+  all_anew : (P : Seat V H → Type 0) → All P S.all → P (record S.seat { place = e.place; size = e.size; shown = e.shown }) → All P seats
+  all_anew P all one =
+      subst (All P) (put_is_insert e.to (record S.seat { place = e.place; size = e.size; shown = e.shown }) (remove S.all e.at) ∙ sym S.is)
+      (All-put P e.to (record S.seat { place = e.place; size = e.size; shown = e.shown }) (remove S.all e.at) one (All-tail P S.seat (remove S.all e.at) (All-out P e.at S.seat (remove S.all e.at) (subst (All P) (taken_out S.all e.at S.seat within S.at) all))))
+
+  one_of : (P : Seat V H → Type 0) → All P S.all → P S.seat
+  one_of P all = All-head P S.seat (remove S.all e.at) (All-out P e.at S.seat (remove S.all e.at) (subst (All P) (taken_out S.all e.at S.seat within S.at) all))
+
+  abbrev before : State
+  before = layered_state (state_of loan t [])
+
+  had : All (λ (s : Seat V H). IsArea before.desk before.stale s.serial s.area.now) seats
+  had =
+      let all = seats_had loan before t.windows.records.items t.areas.items S.all S.are kept.areas in
+      all_anew (λ (s : Seat V H). IsArea before.desk before.stale s.serial s.area.now) all (one_of (λ (s : Seat V H). IsArea before.desk before.stale s.serial s.area.now) all)
+
+  pub near_edit : All IsNearSeat seats
+  near_edit = let side = sides loan t kept in seats_near before.desk before.stale seats side.0 side.1 had
+
+  pub placed_edit : IsPlaceable loan e t.windows.records.items → All (IsPlacedSeat loan) seats
+  placed_edit may =
+      let w = there_is t.windows.records.items e.at low in
+      let its = seat_at t.windows.records.items t.areas.items S.all e.at w.0 S.seat S.are low w.1 S.at in
+      all_anew (IsPlacedSeat loan) (seats_placed loan t.windows.records.items t.areas.items S.all S.are kept.settled)
+      ((λ i. is_placed (Some (loan (its.1.taken i)).definition) e.place e.size) ∙ may w.0 w.1)
+
+  module _ (w : Window V H) (w_is : IsAt t.windows.records.items e.at w) where
+    seat_put : seat_stand loan (record S.seat { place = e.place; size = e.size; shown = e.shown }) ≡ stand_of (put_record e (record_of loan w))
+    seat_put =
+        let its = seat_at t.windows.records.items t.areas.items S.all e.at w S.seat S.are low w_is S.at in
+        λ i. record {
+          serial = its.1.serial i;
+          place = e.place;
+          shown = e.shown;
+          structure = (loan (its.1.taken i)).definition.structure e.size;
+          content = (loan (its.1.taken i)).definition.content e.size;
+        }
+
+    -- the seats stand as the windows do
+    pub seats_put : map (seat_stand loan) seats ≡ map stand_of (records_put loan e w t)
+    seats_put =
+        ap (map (seat_stand loan)) S.is
+        ∙ map-insert (seat_stand loan) e.to (record S.seat { place = e.place; size = e.size; shown = e.shown }) (remove S.all e.at)
+        ∙ (λ i. put_in e.to (seat_put i) ((map-remove (seat_stand loan) S.all e.at ∙ ap (λ xs. remove xs e.at) (seats_stand loan t.windows.records.items t.areas.items S.all S.are) ∙ sym (map-remove stand_of (map (record_of loan) t.windows.records.items) e.at) ∙ ap (map stand_of) (sym (map-remove (record_of loan) t.windows.records.items e.at))) i))
+        ∙ sym (map-insert stand_of e.to (put_record e (record_of loan w)) (map (record_of loan) (remove t.windows.records.items e.at)))
+
+    pub arranged_edit : (after : FullDesk) → IsDeskOfEdit loan e t w after → IsArranged loan after.font before (layered_desk after) after.windows t.gray seats
+    arranged_edit after D = record {
+      desk = refl;
+      distinct = D.distinct;
+      gray_is = subst (λ (d : Desk). IsGray d t.gray) (sym D.screen) kept.gray;
+      stands = seats_put ∙ sym D.stands;
+      areas = had;
+    }
+
+    -- and the first visible one is the same
+    pub front_put : first_seated seats ≡ front_of (records_put loan e w t)
+    front_put = first_stand seats (records_put loan e w t) seats_put
+      where
+        first_stand : (ss : List (Seat V H)) (ws : List WindowRecord) → map (seat_stand loan) ss ≡ map stand_of ws → first_seated ss ≡ front_of ws
+        first_stand [] [] e = refl
+        first_stand [] (v ∷ vs) e = absurd (cc)
+        first_stand (s ∷ ss) [] e = absurd (cc)
+        first_stand (s ∷ ss) (v ∷ vs) e =
+            let here : seat_stand loan s ≡ stand_of v = cc in
+            let behind : map (seat_stand loan) ss ≡ map stand_of vs = cc in
+            λ i. if (here i).shown then Some (here i).serial else first_stand ss vs behind i
+
+-- a window that stays where it is, with its size, may be there
+pub may_stay : {V : Type 0} {H : V → Type 0} (loan : Taken V H → Loan) (e : Edit) (ws : List (Window V H)) (x : Window V H) → e.at < length ws → IsAt ws e.at x → e.place ≡ x.place → e.size ≡ x.size → All IsSettled (map (record_of loan) ws) → IsPlaceable loan e ws
+may_stay loan e ws x low x_is place_is size_is settled w w_is =
+    let same : x ≡ w = same_at ws e.at x w low x_is w_is in
+    let its = settled_in loan ws e.at w low w_is settled in
+    (λ i. is_placed (Some (loan w.taken).definition) ((place_is ∙ ap (λ (z : Window _ _). z.place) same) i) ((size_is ∙ ap (λ (z : Window _ _). z.size) same) i))
+    ∙ placed_from (loan w.taken).definition w.place w.size its.placed its.fits its.inside
+
+pub may_stay_as : {V : Type 0} {H : V → Type 0} (loan : Taken V H → Loan) (e f : Edit) (ws : List (Window V H)) (x : Window V H) → e ≡ f → f.at < length ws → IsAt ws f.at x → f.place ≡ x.place → f.size ≡ x.size → All IsSettled (map (record_of loan) ws) → IsPlaceable loan e ws
+may_stay_as loan e f ws x same low x_is place_is size_is settled = subst (λ (y : Edit). IsPlaceable loan y ws) (sym same) (may_stay loan f ws x low x_is place_is size_is settled)
+
+-- and has its size
+pub same_size : {V : Type 0} {H : V → Type 0} (e : Edit) (ws : List (Window V H)) (x : Window V H) → e.at < length ws → IsAt ws e.at x → e.size ≡ x.size → SameSize e ws
+same_size e ws x low x_is size_is w w_is = size_is ∙ ap (λ (z : Window _ _). z.size) (same_at ws e.at x w low x_is w_is)

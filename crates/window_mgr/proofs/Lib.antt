@@ -1,0 +1,29 @@
+-- Lemmas on steps.
+pub mod EachChanged
+pub mod DimLemmas
+pub mod PaintLemmas
+pub mod BeginLemmas
+pub mod SlotLemmas
+pub mod RefusalLemmas
+pub mod SameDeskLemmas
+pub mod Committing
+pub mod Arranged
+pub mod Seating
+pub mod PutIn
+pub mod Rearranged
+pub mod EditSeats
+pub mod EditCalls
+pub mod NewWindowLemmas
+pub mod KeptLemmas
+pub mod DrawnLayers
+pub mod DrawRefusals
+pub mod DrawLemmas
+pub mod DrawSteps
+mod EmptyLemmas
+pub mod FindLemmas
+pub mod ClosingLemmas
+pub mod Arrangements
+pub mod Sending
+pub mod Steps
+pub mod Running
+pub mod Sayings

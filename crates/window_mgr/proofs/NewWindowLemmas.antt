@@ -1,0 +1,249 @@
+-- The step of a new window.
+use Rattle.std.proofs.Common.{◌≡◌, ℕ, ◌<◌, ◌≤◌, nat_lt, nat_le, Bool, true, false, not, ◌&&◌, ◌||◌, ◌==◌, if◌then◌else◌, List, [], ◌∷◌, length, map, Option, None, Some, pos, refl, sym, ap, ◌∙◌, subst, arith}
+use Rattle.std.specs.Prelude.{All, is_none}
+use Rattle.std.proofs.lemmas.Bool.Decides.{nat_tests}
+use Rattle.std.proofs.lemmas.List.{length-map}
+use Rattle.std.proofs.lemmas.List.Elements.{All-cons}
+use Rattle.tb_geom.specs.declared.point.Point.{Point}
+use Rattle.tb_geom.specs.declared.refusal.Refusal.{Refusal}
+use Rattle.tb_geom.specs.declared.refusal.Refusal.TheVariants.{OutOfRange, TooLong, TooMany}
+use Rattle.tb_geom.specs.declared.rect.Rect.{Rect}
+use Rattle.tb_geom.specs.Rects.{in_plane, is_in_range, moved}
+use Rattle.bit_map.specs.Bits.{Bits}
+use Rattle.def_iface.specs.declared.taken.Taken.{Taken}
+use Rattle.def_iface.specs.declared.size.Size.{Size}
+use Rattle.def_iface.specs.Sizes.{is_size}
+use Rattle.def_iface.specs.Meaning.{Definition, Loan, IsBegun, is_fitting}
+use Rattle.def_iface.specs.Stocked.{SlotView, IsTaken, IsPutBack}
+use Rattle.def_iface.specs.Desk as layers
+use Rattle.def_iface.specs.Desk.{Desk, on_screen}
+use Rattle.def_iface.specs.Owner.{own_bit}
+use Rattle.def_iface.specs.Owner.Owner.{Frame}
+use Rattle.def_iface.proofs.Owning.{own_bit-behind}
+use Rattle.def_iface.specs.Change as plain
+use Rattle.window_mgr.specs.declared.call.NewWindow.{NewWindow}
+use Rattle.window_mgr.specs.declared.manager.WindowManager.{WindowManager}
+use Rattle.vis_update.specs.declared.plan.Plan.{Plan}
+use Rattle.vis_update.specs.declared.plan.Touch.{Touch}
+use Rattle.window_list.specs.declared.window.Window.{Window}
+use Rattle.vis_update.specs.Records.{WindowRecord, layered_window}
+use Rattle.window_mgr.specs.FullDesk.{FullDesk, AreBelow, AreNumbered, layered_desk, layered_state}
+use Rattle.vis_update.specs.Records.{record_of}
+use Rattle.window_mgr.specs.Records.{desk_of, state_of}
+use Rattle.window_mgr.specs.Refused.{first_refusal, judged_refusals, is_full, longest_text, most_windows}
+use Rattle.vis_update.specs.Places.{is_placed}
+use Rattle.window_mgr.specs.Step.{IsMade, IsNotMade}
+use Rattle.window_mgr.specs.Effects.{IsNewWindow, new_record, desk_with}
+use Rattle.window_mgr.specs.Arrange.{unhighlighted}
+use Rattle.window_mgr.specs.Planned.{IsPlanWith, IsAdded, IsUnplanned, SameDesk, new_touch}
+use Rattle.window_list.specs.Lists.{dimmed}
+use Rattle.vis_update.specs.Plans.{IsPlan}
+use Rattle.vis_update.specs.Touches.{change_of, draws_whole, is_this}
+use Rattle.window_mgr.specs.Whole.{IsWhole, IsSound, IsSettled}
+use Rattle.window_mgr.specs.Commits.{IsPlanDrawn}
+use Rattle.window_mgr.proofs.SlotLemmas.{stocked_with, put_back_is_old}
+use Rattle.window_mgr.proofs.RefusalLemmas.{refusal_is, unplanned_is_refused}
+use Rattle.window_mgr.proofs.SameDeskLemmas.{plan_stays, stays_unchanged}
+use Rattle.vis_update.proofs.PlaceLemmas.{placed_parts}
+use Rattle.window_mgr.proofs.Committing.{turned}
+use Rattle.window_mgr.proofs.Arranged.{IsArrangedCall, is_left as arranged_is_left, is_whole as arranged_is_whole}
+use Rattle.window_mgr.proofs.DimLemmas.{windows_behind, settled_behind, stocked_behind, records_behind}
+use Rattle.window_mgr.proofs.Running.{layered_desk-with, next_is_free, numbered_with}
+
+-- what it says that a place, a title and the count of windows refuse nothing
+record Unrefused (w : NewWindow) (placed : Bool) (count : ℕ) (next : Option ℕ) : Type 0 where
+  placed_is : placed ≡ true
+  title : nat_lt longest_text (length w.title) ≡ false
+  room : is_full count next ≡ false
+
+unrefused : (w : NewWindow) (placed : Bool) (count : ℕ) (next : Option ℕ) → first_refusal (judged_refusals w placed count next) ≡ None → Unrefused w placed count next
+unrefused w placed count next e = by_tests placed (nat_lt longest_text (length w.title)) (is_full count next) refl refl refl e
+  where
+    by_tests : (a b c : Bool) → placed ≡ a → nat_lt longest_text (length w.title) ≡ b → is_full count next ≡ c → (if not a then Some OutOfRange else (if b then Some TooLong else (if c then Some TooMany else None))) ≡ None → Unrefused w placed count next
+    by_tests true true c ea eb ec e = absurd (cc)
+    by_tests true false true ea eb ec e = absurd (cc)
+    by_tests true false false ea eb ec e = record { placed_is = ea; title = eb; room = ec }
+    by_tests false b c ea eb ec e = absurd (cc)
+
+-- a window that nothing refuses has a size that fits it
+pub unrefused_fits : (w : NewWindow) (d : Definition) (count : ℕ) (next : Option ℕ) → first_refusal (judged_refusals w (is_placed (Some d) w.place w.size) count next) ≡ None → is_fitting d w.size ≡ true
+unrefused_fits w d count next e = (placed_parts d w.place w.size (unrefused w _ count next e).placed_is).fits
+
+-- and it may stand where it is to be
+pub unrefused_placed : (w : NewWindow) (d : Definition) (count : ℕ) (next : Option ℕ) → first_refusal (judged_refusals w (is_placed (Some d) w.place w.size) count next) ≡ None → is_placed (Some d) w.place w.size ≡ true
+unrefused_placed w d count next e = (unrefused w _ count next e).placed_is
+
+-- and its place is a point
+pub unrefused_place : (w : NewWindow) (d : Definition) (count : ℕ) (next : Option ℕ) → first_refusal (judged_refusals w (is_placed (Some d) w.place w.size) count next) ≡ None → in_plane w.place ≡ true
+unrefused_place w d count next e = (placed_parts d w.place w.size (unrefused w _ count next e).placed_is).place_in
+
+-- and its structure there lies in the range of coordinates
+pub unrefused_inside : (w : NewWindow) (d : Definition) (count : ℕ) (next : Option ℕ) → first_refusal (judged_refusals w (is_placed (Some d) w.place w.size) count next) ≡ None → is_in_range (moved (d.bounds w.size) w.place.h w.place.v) ≡ true
+unrefused_inside w d count next e = (placed_parts d w.place w.size (unrefused w _ count next e).placed_is).moved
+
+-- a desk that may get one more window has less than there may be
+fewer_before : (count : ℕ) (next : Option ℕ) → is_full count next ≡ false → count < most_windows
+fewer_before count next e = by_test (nat_le most_windows count) refl e
+  where
+    by_test : (b : Bool) → nat_le most_windows count ≡ b → (b || is_none next) ≡ false → count < most_windows
+    by_test true t e = absurd (cc)
+    by_test false t e = grind (arith, nat_tests)
+
+length_behind : (active : Option ℕ) (b : Bool) (ws : List WindowRecord) → length (windows_behind active b ws) ≡ length ws
+length_behind active true ws = length-map ws (unhighlighted active)
+length_behind active false ws = refl
+
+-- the record of a new window is settled
+pub settled_new : (w : NewWindow) (n slot : ℕ) (d begun : Definition) → IsBegun w.size d begun → is_placed (Some d) w.place w.size ≡ true → IsSettled (new_record w n slot begun)
+settled_new w n slot d begun live placed =
+    let its = placed_parts d w.place w.size placed in
+    record {
+      origin = refl;
+      placed = its.place_in;
+      live = live.live;
+      told = live.told;
+      fits = ap (λ (b : Size → Rect). is_size w.size && is_in_range (b w.size)) live.regions.bounds ∙ its.fits;
+      inside = ap (λ (b : Size → Rect). is_in_range (moved (b w.size) w.place.h w.place.v)) live.regions.bounds ∙ its.moved;
+    }
+
+-- so are all windows, with a new one in front
+pub settled_added : {V : Type 0} {H : V → Type 0} (loan : Taken V H → Loan) (w : NewWindow) (n slot : ℕ) (d begun : Definition) (added : Window V H) (active : Option ℕ) (ws items : List (Window V H)) → record_of loan added ≡ new_record w n slot begun → items ≡ added ∷ (if w.shown then map (dimmed active) ws else ws) → IsBegun w.size d begun → is_placed (Some d) w.place w.size ≡ true → All IsSettled (map (record_of loan) ws) → All IsSettled (map (record_of loan) items)
+settled_added loan w n slot d begun added active ws items seen items_are live placed settled =
+    subst (All IsSettled) (λ i. sym (ap (map (record_of loan)) items_are ∙ (λ j. seen j ∷ records_behind loan active w.shown ws j)) i)
+    (All-cons IsSettled _ _ (settled_new w n slot d begun live placed) (settled_behind active w.shown (map (record_of loan) ws) settled))
+
+module _ {V : Type 0} {H : V → Type 0} (loan : Taken V H → Loan) where
+  -- all that is known where a window was added
+  pub record IsNew (w : NewWindow) (n : ℕ) (taken : Loan) (touch : Touch) (plan : Plan) (t planned new : WindowManager V H) (slots left : List SlotView) : Type 0 where
+    pub whole : IsWhole loan t slots
+    pub same : SameDesk t planned
+    pub unrefused_is : first_refusal (judged_refusals w (is_placed (Some taken.definition) w.place w.size) (length t.windows.records.items) t.windows.next) ≡ None
+    pub touch_is : touch ≡ new_touch w n planned.windows.active
+    pub plan_with : IsPlanWith loan w n taken.definition touch planned plan
+    pub number : planned.windows.next ≡ Some n
+    pub added : IsAdded loan w n taken touch plan planned new
+    pub took : IsTaken w.kind taken slots left
+
+  module _ (w : NewWindow) (n : ℕ) (taken : Loan) (touch : Touch) (plan : Plan) (t planned new : WindowManager V H) (slots left : List SlotView) (N : IsNew w n taken touch plan t planned new slots left) where
+    abbrev before : FullDesk
+    before = desk_of loan t slots
+
+    -- the desk with the new window in front
+    abbrev after : FullDesk
+    after = record (desk_with w n taken.slot N.added.begun before) { stock = left }
+
+    next_is : t.windows.next ≡ Some n
+    next_is = sym N.same.next ∙ N.number
+
+    below : AreBelow n before.windows
+    below = subst (λ (k : Option ℕ). AreNumbered k before.windows) next_is N.whole.sound.numbered
+
+    free : layers.window_of n (layered_desk before).windows ≡ None
+    free = next_is_free t.font n before.windows below
+
+    -- as layers, the desk after is the desk before with one more window
+    layers_are : layered_desk after ≡ record (layered_desk before) { windows = layered_window t.font (new_record w n taken.slot N.added.begun) ∷ (layered_desk before).windows }
+    layers_are = layered_desk-with w n taken.slot N.added.begun before left
+
+    -- the plan, said of the desk before the call
+    plan_is : IsPlan touch (layered_state (state_of loan t slots)) (layered_desk after) t.desktop after.windows plan
+    plan_is =
+        let back : SameDesk planned t = record { screen = sym N.same.screen; bar = sym N.same.bar; font = sym N.same.font; gray = sym N.same.gray; desktop = sym N.same.desktop; windows = sym N.same.windows; areas = sym N.same.areas; active = sym N.same.active; next = sym N.same.next } in
+        plan_stays loan planned t [] [] back refl w n taken.definition touch plan N.plan_with taken.slot N.added.begun N.added.live.regions
+
+    windows_are : map (record_of loan) new.windows.records.items ≡ after.windows
+    windows_are =
+        ap (map (record_of loan)) N.added.windows
+        ∙ (λ i. N.added.seen i ∷ map (record_of loan) (if w.shown then map (dimmed (N.same.active i)) (N.same.windows i) else N.same.windows i))
+        ∙ ap (λ (ws : List WindowRecord). new_record w n taken.slot N.added.begun ∷ ws) (records_behind loan t.windows.active w.shown t.windows.records.items)
+
+    drawn : IsPlanDrawn plan touch.by t.font after.windows t.screen new.screen
+    drawn = subst (λ (x : List ℕ × List WindowRecord × Bits). IsPlanDrawn plan touch.by x.0 x.1 x.2 new.screen) (λ i. (N.same.font i, windows_are i, N.same.screen i)) N.added.drawn
+
+    desk_is : desk_of loan new left ≡ after
+    desk_is = λ i. record {
+      width = pos (drawn.width i);
+      height = pos (drawn.height i);
+      bar = (N.added.bar ∙ N.same.bar) i;
+      font = (N.added.font ∙ N.same.font) i;
+      windows = windows_are i;
+      active = (N.added.active ∙ ap (λ a. if w.shown then Some n else a) N.same.active) i;
+      next = N.added.next i;
+      stock = left;
+    }
+
+    -- the frames of other windows stay
+    frames : (s : ℕ) (p : Point) → draws_whole touch s ≡ false → own_bit (layered_desk before) (Frame s) p ≡ own_bit (layered_desk after) (Frame s) p
+    frames s p e =
+        sym (own_bit-behind (layered_desk before) (layered_window t.font (new_record w n taken.slot N.added.begun)) (layered_desk before).windows p (Frame s) (ap not (turned s n (first_is (s == n) (is_this touch.also s) (ap (λ (x : Touch). s == x.window || is_this touch.also s) (sym N.touch_is) ∙ e)))))
+        ∙ sym (ap (λ d. own_bit d (Frame s) p) layers_are)
+      where
+        first_is : (a b : Bool) → (a || b) ≡ false → a ≡ false
+        first_is true b f = f
+        first_is false b f = refl
+
+    settled : IsSettled (new_record w n taken.slot N.added.begun)
+    settled = record {
+      origin = refl;
+      placed = unrefused_place w _ _ _ N.unrefused_is;
+      live = N.added.live.live;
+      told = N.added.live.told;
+      fits = ap (λ (b : Size → Rect). is_size w.size && is_in_range (b w.size)) N.added.live.regions.bounds ∙ unrefused_fits w _ _ _ N.unrefused_is;
+      inside = ap (λ (b : Size → Rect). is_in_range (moved (b w.size) w.place.h w.place.v)) N.added.live.regions.bounds ∙ unrefused_inside w _ _ _ N.unrefused_is;
+    }
+
+    few_after : length after.windows ≤ most_windows
+    few_after =
+        let fewer : length t.windows.records.items < most_windows = fewer_before _ t.windows.next (unrefused w _ (length t.windows.records.items) t.windows.next N.unrefused_is).room in
+        let records : length before.windows ≡ length t.windows.records.items = length-map t.windows.records.items (record_of loan) in
+        let same : length (windows_behind t.windows.active w.shown before.windows) ≡ length before.windows = length_behind t.windows.active w.shown before.windows in
+        omega arith
+
+    sound_after : IsSound after
+    sound_after = record {
+      screen = N.whole.sound.screen;
+      distinct = subst layers.IsDesk (sym layers_are) (free, ((refl, tt), N.whole.sound.distinct));
+      numbered = numbered_with w n taken.slot N.added.begun before below;
+      few = few_after;
+      settled = All-cons IsSettled _ _ settled (settled_behind t.windows.active w.shown before.windows N.whole.sound.settled);
+      stocked = stocked_with w.kind taken slots left N.took _ _ refl (stocked_behind t.windows.active w.shown before.windows slots N.whole.sound.stocked);
+    }
+
+    arranged : IsArrangedCall loan touch t new slots left after plan
+    arranged = record {
+      whole = N.whole;
+      screen = refl;
+      sound = sound_after;
+      frames = frames;
+      planned = plan_is;
+      drawn = drawn;
+      desk_is = desk_is;
+      areas = N.added.areas;
+      desktop = N.added.desktop;
+      gray = N.added.gray ∙ N.same.gray;
+    }
+
+    pub is_whole : IsWhole loan new left
+    is_whole = arranged_is_whole loan touch t new slots left after plan arranged
+
+    pub is_new_window : IsNewWindow w n (state_of loan t slots) (state_of loan new left)
+    is_new_window = record {
+      loan = taken;
+      begun = N.added.begun;
+      numbered = next_is;
+      taken = N.took;
+      live = N.added.live;
+      desk = desk_is;
+      pixels = subst (λ (x : Touch). plain.IsChanged (change_of x) (layered_state (state_of loan t slots)) (layered_state (state_of loan new left))) N.touch_is (arranged_is_left loan touch t new slots left after plan arranged).1;
+    }
+
+    -- the call was done
+    pub is_made : IsMade w n (state_of loan t slots) (state_of loan new left)
+    is_made = (refusal_is loan w taken t slots left N.took ∙ N.unrefused_is, is_new_window)
+
+  -- the call was refused: the definition is back in its slot
+  pub is_not_made : (w : NewWindow) (e : Refusal) (taken : Loan) (t planned : WindowManager V H) (slots left back : List SlotView) → IsWhole loan t slots → IsTaken w.kind taken slots left → IsUnplanned w (is_placed (Some taken.definition) w.place w.size) (length t.windows.records.items) t.windows.next e → SameDesk t planned → IsPutBack taken left back → IsNotMade w e (state_of loan t slots) (state_of loan planned back)
+  is_not_made w e taken t planned slots left back whole took unplanned same back_is = (
+    unplanned_is_refused loan w taken t slots left took e unplanned,
+    stays_unchanged loan t planned slots back same (put_back_is_old w.kind taken slots left took back back_is),
+  )

@@ -1,0 +1,177 @@
+-- Steps and runs keep a right state right.
+use Rattle.std.proofs.Common.{◌≡◌, ℕ, ◌+◌, ◌^◌, nat_lt, Bool, true, false, ◌==◌, if◌then◌else◌, List, [], ◌∷◌, ◌++◌, map, Option, None, Some, Result, Ok, Err, refl, sym, ap, ◌∙◌, subst, arith}
+use Rattle.std.proofs.lemmas.Bool.{and_parts}
+use Rattle.std.proofs.lemmas.Bool.Decides.{nat_tests}
+use Rattle.tb_geom.specs.declared.point.Point.{Point}
+use Rattle.tb_geom.specs.declared.refusal.Refusal.{Refusal}
+use Rattle.draw_port.specs.declared.shapes.Op.{Op}
+use Rattle.def_iface.specs.Meaning.{Definition}
+use Rattle.def_iface.specs.Desk as layers
+use Rattle.def_iface.specs.Owner.{Owner, owner, owner_among, is_content}
+use Rattle.def_iface.specs.Owner.Owner.{Bar}
+use Rattle.def_iface.specs.Scratch.{scratch}
+use Rattle.def_iface.specs.Change as plain
+use Rattle.def_iface.proofs.Owning.{is_other, owner_is_other, own_bit-behind, same_owner-true}
+use Rattle.def_iface.proofs.Changing.{stays_right}
+use Rattle.window_mgr.specs.declared.call.WindowCall.{WindowCall}
+use Rattle.window_mgr.specs.declared.call.Drawing.{Drawing}
+use Rattle.window_mgr.specs.declared.call.NewWindow.{NewWindow}
+use Rattle.window_mgr.specs.declared.call.WindowReply.{WindowReply}
+use Rattle.vis_update.specs.Records.{WindowRecord, layered_window}
+use Rattle.window_mgr.specs.FullDesk.{FullDesk, FullState, IsRight, AreBelow, AreNumbered, layered_desk, layered_state}
+use Rattle.window_mgr.specs.Step.{IsStep}
+use Rattle.window_mgr.specs.Effects.{IsNewWindow, IsDrawn, IsUnchanged, IsArrangement, Effect, IsEffect, effect_of, new_record, desk_with, with_operation, draw_change}
+use Rattle.window_mgr.specs.Effects.Effect.{Makes, Draws, Arranges, Tells}
+use Rattle.window_mgr.specs.Arrange.{unhighlighted, Arrangement, activation_of, desk_activated}
+use Rattle.window_mgr.specs.Finding.{front_of}
+use Rattle.vis_update.specs.Touches.{moving}
+use Rattle.window_mgr.proofs.EachChanged.{below_map, numbered_map}
+use Rattle.window_mgr.proofs.DrawnLayers.{draw_is_sound}
+use Rattle.window_mgr.proofs.Rearranged.{edited, edit_is_sound, numbered_now}
+use Rattle.window_mgr.proofs.Arrangements.{IsSoundArrangement, IsSoundEffect, effect_is_sound}
+
+-- ---- a window in front of others
+
+layered_window-unhighlighted : (font : List ℕ) (active : Option ℕ) (w : WindowRecord) → layered_window font (unhighlighted active w) ≡ layered_window font w
+layered_window-unhighlighted font None w = refl
+layered_window-unhighlighted font (Some s) w = by_test (w.serial == s)
+  where
+    by_test : (b : Bool) → layered_window font (if b then record w { highlighted = false } else w) ≡ layered_window font w
+    by_test true = refl
+    by_test false = refl
+
+layered_windows-unhighlighted : (font : List ℕ) (active : Option ℕ) (ws : List WindowRecord) → map (layered_window font) (map (unhighlighted active) ws) ≡ map (layered_window font) ws
+layered_windows-unhighlighted font active [] = refl
+layered_windows-unhighlighted font active (w ∷ ws) = λ i. layered_window-unhighlighted font active w i ∷ layered_windows-unhighlighted font active ws i
+
+-- as layers, a desk with a new window has just one window more
+pub layered_desk-with : (w : NewWindow) (serial slot : ℕ) (d : Definition) (desk : FullDesk) (stock : _) → layered_desk (record (desk_with w serial slot d desk) { stock = stock }) ≡ record (layered_desk desk) { windows = layered_window desk.font (new_record w serial slot d) ∷ map (layered_window desk.font) desk.windows }
+layered_desk-with w serial slot d desk stock =
+    ap (λ ws. record (layered_desk desk) { windows = layered_window desk.font (new_record w serial slot d) ∷ ws }) (by_shown w.shown)
+  where
+    by_shown : (b : Bool) → map (layered_window desk.font) (if b then map (unhighlighted desk.active) desk.windows else desk.windows) ≡ map (layered_window desk.font) desk.windows
+    by_shown true = layered_windows-unhighlighted desk.font desk.active desk.windows
+    by_shown false = refl
+
+same_serial : (active : Option ℕ) (w : WindowRecord) → (unhighlighted active w).serial ≡ w.serial
+same_serial None w = refl
+same_serial (Some s) w = by_test (w.serial == s)
+  where
+    by_test : (b : Bool) → (if b then record w { highlighted = false } else w).serial ≡ w.serial
+    by_test true = refl
+    by_test false = refl
+
+numbered-more : (next : ℕ) (ws : List WindowRecord) → AreBelow next ws → AreBelow (next + 1) ws
+numbered-more next [] h = tt
+numbered-more next (w ∷ ws) h = let below = h.0 in (omega arith, numbered-more next ws h.1)
+
+-- the number of the next window is no window's
+pub next_is_free : (font : List ℕ) (next : ℕ) (ws : List WindowRecord) → AreBelow next ws → layers.window_of next (map (layered_window font) ws) ≡ None
+next_is_free font next [] h = refl
+next_is_free font next (w ∷ ws) h =
+    let below = h.0 in
+    let other : (w.serial == next) ≡ false = grind (arith, nat_tests) in
+    rw other (next_is_free font next ws h.1)
+
+-- ---- a new window is a sound change
+
+not_the_bar : (s : ℕ) (b : Bool) (o : Owner) → is_other s o ≡ true → is_other s (if b then Bar else o) ≡ true
+not_the_bar s true o e = refl
+not_the_bar s false o e = e
+
+new_is_sound : (before : plain.State) (w : layers.Window) → layers.IsDesk before.desk → layers.window_of w.serial before.desk.windows ≡ None → layers.AreParts w.layers → plain.IsSound plain.no_change before (record before.desk { windows = w ∷ before.desk.windows })
+new_is_sound before w desk free parts = record {
+  desk = (free, (parts, desk));
+  kept = λ p on content afresh taken put drawn there.
+      let after = record before.desk { windows = w ∷ before.desk.windows } in
+      let o = owner after p in
+      let was : owner before.desk p ≡ o = same_owner-true (owner before.desk p) o (and_parts _ _ there).1 in
+      let other : is_other w.serial (owner before.desk p) ≡ true = not_the_bar w.serial (layers.in_bar before.desk p) (owner_among before.desk.windows p) (owner_is_other before.desk.windows p w.serial free) in
+      sym (own_bit-behind before.desk w before.desk.windows p o (subst (λ (x : Owner). is_other w.serial x ≡ true) was other));
+  right = λ p on taken. absurd (cc);
+}
+
+-- the windows of a desk with a new window are numbered, it by the last number
+pub numbered_with : (w : NewWindow) (serial slot : ℕ) (d : Definition) (desk : FullDesk) → AreBelow serial desk.windows → AreNumbered (desk_with w serial slot d desk).next (desk_with w serial slot d desk).windows
+numbered_with w serial slot d desk below = after_number _ (nat_lt (serial + 1) (2 ^ 64)) (omega arith, by_shown w.shown)
+  where
+    after_number : (ws : List WindowRecord) (b : Bool) → AreBelow (serial + 1) ws → AreNumbered (if b then Some (serial + 1) else None) ws
+    after_number ws true h = h
+    after_number ws false h = tt
+
+    by_shown : (b : Bool) → AreBelow (serial + 1) (if b then map (unhighlighted desk.active) desk.windows else desk.windows)
+    by_shown true = below_map (unhighlighted desk.active) (same_serial desk.active) _ desk.windows (numbered-more serial desk.windows below)
+    by_shown false = numbered-more serial desk.windows below
+
+new_stays_right : (w : NewWindow) (serial : ℕ) (before after : FullState) → IsRight before → IsNewWindow w serial before after → IsRight after
+new_stays_right w serial before after right new =
+    let new_window = layered_window before.desk.font (new_record w serial new.loan.slot new.begun) in
+    let below : AreBelow serial before.desk.windows = subst (λ (n : Option ℕ). AreNumbered n before.desk.windows) new.numbered right.numbered in
+    let desk : layered_desk after.desk ≡ record (layered_desk before.desk) { windows = new_window ∷ map (layered_window before.desk.font) before.desk.windows } =
+    ap layered_desk new.desk ∙ layered_desk-with w serial new.loan.slot new.begun before.desk after.desk.stock in
+    let sound = new_is_sound (layered_state before) new_window right.plain.desk (next_is_free before.desk.font serial before.desk.windows below) (refl, tt) in
+    record {
+      plain = stays_right plain.no_change (layered_state before) (layered_state after) right.plain (subst (plain.IsSound plain.no_change (layered_state before)) (sym desk) sound) new.pixels;
+      numbered = subst (λ (d : FullDesk). AreNumbered d.next d.windows) (sym new.desk) (numbered_with w serial new.loan.slot new.begun before.desk below);
+    }
+
+-- ---- an operation is a sound change
+
+pub drawn_serial : (s : ℕ) (op : Op) (w : WindowRecord) → (with_operation s op w).serial ≡ w.serial
+drawn_serial s op w = by_test (w.serial == s)
+  where
+    by_test : (b : Bool) → (if b then record w { picture = w.picture ++ op ∷ [] } else w).serial ≡ w.serial
+    by_test true = refl
+    by_test false = refl
+
+draw_stays_right : (d : Drawing) (before after : FullState) → IsRight before → IsDrawn d before after → IsRight after
+draw_stays_right d before after right drawn =
+    let change = draw_change before.desk.font d.window drawn.window drawn.operation in
+    let sound = draw_is_sound before.desk d.window drawn.window drawn.operation drawn.found before.stale before.image right.plain.desk in
+    record {
+      plain = stays_right change (layered_state before) (layered_state after) right.plain (subst (plain.IsSound change (layered_state before)) (sym (ap layered_desk drawn.desk)) sound) drawn.pixels;
+      numbered = subst (λ (x : FullDesk). AreNumbered x.next x.windows) (sym drawn.desk) (numbered_map (with_operation d.window drawn.operation) (drawn_serial d.window drawn.operation) before.desk.next before.desk.windows right.numbered);
+    }
+
+-- ---- steps and runs
+
+unchanged_stays_right : (before after : FullState) → IsRight before → IsUnchanged before after → IsRight after
+unchanged_stays_right before after right same =
+    let desk = ap layered_desk same.desk in
+    let on_before = λ (p : Point) (on : layers.on_screen (layered_desk after.desk) p ≡ true). subst (λ (d : layers.Desk). layers.on_screen d p ≡ true) desk on in
+    record {
+      plain = record {
+        desk = subst layers.IsDesk (sym desk) right.plain.desk;
+        right = λ p on fresh.
+            let there = on_before p on in
+            same.image p there
+            ∙ right.plain.right p there (sym (same.stale p there) ∙ fresh)
+            ∙ ap (λ (d : layers.Desk). scratch d p) (sym desk);
+        content = λ p on old.
+            let there = on_before p on in
+            subst (λ (d : layers.Desk). is_content (owner d p) ≡ true) (sym desk) (right.plain.content p there (sym (same.stale p there) ∙ old));
+      };
+      numbered = subst (λ (d : FullDesk). AreNumbered d.next d.windows) (sym same.desk) right.numbered;
+    }
+
+arranged_stays_right : (a : Arrangement) (before after : FullState) → IsRight before → IsSoundArrangement a before.desk → IsArrangement a before after → IsRight after
+arranged_stays_right a before after right E arranged =
+    let activation = activation_of a.activates a.window before.desk.active (front_of a.windows) in
+    let desk_is : after.desk ≡ edited before.desk a.window E.place E.to E.old E.new E.rest E.edit activation =
+    arranged.desk ∙ ap (λ ws. desk_activated ws activation before.desk) E.windows in
+    let change = moving a.window a.by in
+    let sound = edit_is_sound before.desk a.window E.place E.to E.old E.new E.rest E.edit activation right.plain.desk before.stale before.image a.by E.moves in
+    record {
+      plain = stays_right change (layered_state before) (layered_state after) right.plain (subst (plain.IsSound change (layered_state before)) (sym (ap layered_desk desk_is)) sound) arranged.pixels;
+      numbered = subst (λ (x : FullDesk). AreNumbered x.next x.windows) (sym desk_is) (numbered_now before.desk a.window E.place E.to E.old E.new E.rest E.edit activation right.numbered);
+    }
+
+effect_stays_right : (effect : Effect) (answer : WindowReply) (before after : FullState) → IsRight before → IsSoundEffect effect before.desk → IsEffect effect answer before after → IsRight after
+effect_stays_right (Makes w) answer before after right sound done = new_stays_right w done.0 before after right done.2
+effect_stays_right (Draws d) answer before after right sound done = draw_stays_right d before after right done.1
+effect_stays_right (Arranges a) answer before after right sound done = arranged_stays_right a before after right sound done.1
+effect_stays_right (Tells r) answer before after right sound done = unchanged_stays_right before after right done.1
+
+pub step_stays_right : (call : WindowCall) (answer : Result WindowReply Refusal) (before after : FullState) → IsRight before → IsStep call answer before after → IsRight after
+step_stays_right call (Ok answer) before after right step = effect_stays_right (effect_of call before.desk) answer before after right (effect_is_sound call before.desk right.plain.desk step.0) step.1
+step_stays_right call (Err e) before after right step = unchanged_stays_right before after right step.1

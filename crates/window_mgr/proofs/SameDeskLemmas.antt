@@ -1,0 +1,70 @@
+-- A window manager that gained room alone.
+use Rattle.std.proofs.Common.{◌≡◌, ℕ, List, [], map, pos, sym, ap, subst}
+use Rattle.std.specs.Prelude.{All}
+use Rattle.tb_geom.specs.Pixels.{Pixels}
+use Rattle.bit_map.specs.Bits.{Bits, bit}
+use Rattle.def_iface.specs.declared.taken.Taken.{Taken}
+use Rattle.def_iface.specs.Meaning.{Definition, Loan}
+use Rattle.def_iface.specs.Stocked.{SlotView}
+use Rattle.window_mgr.specs.declared.call.NewWindow.{NewWindow}
+use Rattle.window_mgr.specs.declared.manager.WindowManager.{WindowManager}
+use Rattle.vis_update.specs.declared.area.Area.{Area}
+use Rattle.vis_update.specs.declared.plan.Plan.{Plan}
+use Rattle.vis_update.specs.declared.plan.Touch.{Touch}
+use Rattle.window_mgr.specs.FullDesk.{FullDesk, FullState, layered_desk, layered_state}
+use Rattle.vis_update.specs.Records.{record_of}
+use Rattle.window_mgr.specs.Records.{desk_of, state_of}
+use Rattle.vis_update.specs.Areas.{stale_in}
+use Rattle.window_mgr.specs.Effects.{IsUnchanged, desk_with}
+use Rattle.window_mgr.specs.Whole.{IsWhole, IsSettled, IsSound, AreFramesShown}
+use Rattle.vis_update.specs.Areas.{IsGray, IsDesktop, AreAreas}
+use Rattle.window_mgr.specs.Planned.{SameDesk, IsPlanWith}
+use Rattle.vis_update.specs.Plans.{IsPlan}
+
+-- the windows are settled as they were
+pub settled_stay : {V : Type 0} {H : V → Type 0} (loan : Taken V H → Loan) (t u : WindowManager V H) → SameDesk t u → All IsSettled (map (record_of loan) t.windows.records.items) → All IsSettled (map (record_of loan) u.windows.records.items)
+settled_stay loan t u same settled = subst (λ ws. All IsSettled (map (record_of loan) ws)) (sym same.windows) settled
+
+module _ {V : Type 0} {H : V → Type 0} (loan : Taken V H → Loan) (t u : WindowManager V H) (slots back : List SlotView) (same : SameDesk t u) (kept : back ≡ slots) where
+  desk_stays : desk_of loan u back ≡ desk_of loan t slots
+  desk_stays = λ i. record {
+    width = pos (ap (λ (s : Bits). s.width) same.screen i);
+    height = pos (ap (λ (s : Bits). s.height) same.screen i);
+    bar = same.bar i;
+    font = same.font i;
+    windows = map (record_of loan) (same.windows i);
+    active = same.active i;
+    next = same.next i;
+    stock = kept i;
+  }
+
+  pub state_stays : state_of loan u back ≡ state_of loan t slots
+  state_stays = λ i. record { desk = desk_stays i; stale = stale_in (same.areas i); image = bit (same.screen i) }
+
+  -- nothing changed
+  pub stays_unchanged : IsUnchanged (state_of loan t slots) (state_of loan u back)
+  stays_unchanged = record {
+    desk = desk_stays;
+    stale = λ p on. ap (λ (s : FullState). s.stale p) state_stays;
+    image = λ p on. ap (λ (s : FullState). s.image p) state_stays;
+  }
+
+  -- what was whole is whole
+  pub stays_whole : IsWhole loan t slots → IsWhole loan u back
+  stays_whole whole = record {
+    sound = subst IsSound (sym desk_stays) whole.sound;
+    gray = subst (λ (x : FullDesk × Pixels). IsGray (layered_desk x.0) x.1) (λ i. (sym desk_stays i, sym same.gray i)) whole.gray;
+    desktop = subst (λ (x : FullDesk × Pixels). IsDesktop (layered_desk x.0) x.1) (λ i. (sym desk_stays i, sym same.desktop i)) whole.desktop;
+    areas = subst (λ (x : FullDesk × List Area). AreAreas (layered_desk x.0) (stale_in x.1) x.0.windows x.1) (λ i. (sym desk_stays i, sym same.areas i)) whole.areas;
+    frames = subst AreFramesShown (sym state_stays) whole.frames;
+  }
+
+  -- what was planned is still right
+  pub plan_stays : (w : NewWindow) (n : ℕ) (d : Definition) (touch : Touch) (plan : Plan) → IsPlanWith loan w n d touch t plan → IsPlanWith loan w n d touch u plan
+  plan_stays w n d touch plan h slot begun regions =
+      subst (λ (x : FullState × Pixels). IsPlan touch (layered_state x.0) (layered_desk (desk_with w n slot begun x.0.desk)) x.1 (desk_with w n slot begun x.0.desk).windows plan)
+      (λ i. (record (sym state_stays i) { desk = record (sym state_stays i).desk { stock = [] } }, sym same.desktop i)) (h slot begun regions)
+
+  -- the same, where the window's number goes by another name
+  pub plan_stays_by : (w : NewWindow) (k n : ℕ) (d : Definition) (touch : Touch) (plan : Plan) → k ≡ n → IsPlanWith loan w k d touch t plan → IsPlanWith loan w n d touch u plan
+  plan_stays_by w k n d touch plan e h = plan_stays w n d touch plan (subst (λ j. IsPlanWith loan w j d touch t plan) e h)

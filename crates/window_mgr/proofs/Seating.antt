@@ -1,0 +1,274 @@
+-- The windows of a desk as they are, behind a new one.
+use Rattle.std.proofs.Common.{◌≡◌, ℕ, zero, suc, ◌+◌, ◌<◌, ◌==◌, Bool, true, false, ◌&&◌, not, if◌then◌else◌, ℤ, pos, List, [], ◌∷◌, ◌++◌, length, get_or, take, map, Option, None, Some, refl, sym, ap, ◌∙◌, subst, arith}
+use Rattle.std.specs.Prelude.{All}
+use Rattle.std.proofs.Math.Seq.{take-length}
+use Rattle.std.proofs.lemmas.List.{take_more, length-map}
+use Rattle.std.proofs.lemmas.List.Elements.{All-nil, All-cons, All-head, All-tail, All-weaker}
+use Rattle.std.proofs.lemmas.Bool.{and_parts, false≢true}
+use Rattle.std.proofs.lemmas.Int.{ints}
+use Rattle.tb_geom.specs.Points.{PixelSet}
+use Rattle.tb_geom.specs.Pixels.{Pixels, holds}
+use Rattle.tb_geom.specs.Rects.{between}
+use Rattle.tb_geom.specs.declared.point.Point.{Point}
+use Rattle.def_iface.specs.declared.taken.Taken.{Taken}
+use Rattle.def_iface.specs.Meaning.{Definition, Loan, SameRegions}
+use Rattle.def_iface.specs.Desk as layers
+use Rattle.def_iface.specs.Owner.{Owner, owner, owner_among, same_owner}
+use Rattle.def_iface.specs.Owner.Owner.{Bar, Frame}
+use Rattle.def_iface.specs.Change.{State}
+use Rattle.def_iface.proofs.Owning.{is_other, owner_is_other}
+use Rattle.window_mgr.specs.declared.call.NewWindow.{NewWindow}
+use Rattle.window_mgr.specs.declared.manager.WindowManager.{WindowManager}
+use Rattle.vis_update.specs.declared.area.Area.{Area}
+use Rattle.vis_update.specs.declared.plan.Seat.{Seat}
+use Rattle.window_list.specs.declared.window.Window.{Window}
+use Rattle.vis_update.specs.Records.{WindowRecord}
+use Rattle.window_mgr.specs.FullDesk.{FullDesk, AreNumbered, layered_desk, layered_state}
+use Rattle.window_mgr.specs.Kept.{IsKept}
+use Rattle.vis_update.specs.Records.{record_of}
+use Rattle.window_mgr.specs.Records.{desk_of, state_of}
+use Rattle.vis_update.specs.Areas.{stale_in}
+use Rattle.vis_update.specs.Places.{is_placed}
+use Rattle.vis_update.specs.Seats.{stand_of, seat_stand, IsPlacedSeat, IsNearSeat, IsSeatOf, IsArranged}
+use Rattle.vis_update.specs.Areas.{IsNowhere, IsNear}
+use Rattle.window_mgr.specs.Seats.{AreSeatsOf, AreSeatsBehind}
+use Rattle.window_mgr.specs.Effects.{new_record, desk_with}
+use Rattle.window_mgr.specs.Arrange.{unhighlighted}
+use Rattle.vis_update.specs.Areas.{IsArea, AreAreas, is_content_of}
+use Rattle.window_mgr.specs.Whole.{IsSettled, is_screen_side}
+use Rattle.vis_update.proofs.Others.{not_content, not_same_frame}
+use Rattle.vis_update.proofs.PlaceLemmas.{placed_from}
+use Rattle.window_mgr.proofs.Running.{layered_desk-with, next_is_free}
+
+-- a window that loses its highlighting stands where it stood
+stand-unhighlighted : (active : Option ℕ) (w : WindowRecord) → stand_of (unhighlighted active w) ≡ stand_of w
+stand-unhighlighted None w = refl
+stand-unhighlighted (Some s) w = by_test (w.serial == s)
+  where
+    by_test : (b : Bool) → stand_of (if b then record w { highlighted = false } else w) ≡ stand_of w
+    by_test true = refl
+    by_test false = refl
+
+stands-behind : (active : Option ℕ) (b : Bool) (ws : List WindowRecord) → map stand_of (if b then map (unhighlighted active) ws else ws) ≡ map stand_of ws
+stands-behind active false ws = refl
+stands-behind active true [] = refl
+stands-behind active true (w ∷ ws) = λ i. stand-unhighlighted active w i ∷ stands-behind active true ws i
+
+-- ---- the list of seats, as it grows
+
+module _ {V : Type 0} {H : V → Type 0} where
+  seats_snoc : (ws : List (Window V H)) (areas : List Area) (seats : List (Seat V H)) (w : Window V H) (a : Area) (s : Seat V H) → AreSeatsOf ws areas seats → IsSeatOf w a s → AreSeatsOf (ws ++ w ∷ []) (areas ++ a ∷ []) (seats ++ s ∷ [])
+  seats_snoc [] [] [] w a s h one = (one, tt)
+  seats_snoc (v ∷ ws) (b ∷ areas) (r ∷ seats) w a s h one = (h.0, seats_snoc ws areas seats w a s h.1 one)
+  seats_snoc [] [] (r ∷ seats) w a s h one = absurd h
+  seats_snoc [] (b ∷ areas) seats w a s h one = absurd h
+  seats_snoc (v ∷ ws) [] seats w a s h one = absurd h
+  seats_snoc (v ∷ ws) (b ∷ areas) [] w a s h one = absurd h
+
+  -- one seat more
+  pub seats_of_more : (ws : List (Window V H)) (areas : List Area) (seats more : List (Seat V H)) (i : ℕ) (w : Window V H) (a : Area) (s : Seat V H) → more ≡ seats ++ s ∷ [] → w ≡ get_or ws i w → a ≡ get_or areas i a → i < length ws → i < length areas → AreSeatsOf (take i ws) (take i areas) seats → IsSeatOf w a s → AreSeatsOf (take (i + 1) ws) (take (i + 1) areas) more
+  seats_of_more ws areas seats more i w a s e w_is a_is low within h one =
+      subst (λ (x : List (Window V H) × List Area × List (Seat V H)). AreSeatsOf x.0 x.1 x.2) (λ k. (sym (take_more ws i w low) k, sym (take_more areas i a within) k, sym e k))
+      (seats_snoc (take i ws) (take i areas) seats (get_or ws i w) (get_or areas i a) s h (subst (λ (x : Window V H × Area). IsSeatOf x.0 x.1 s) (λ k. (w_is k, a_is k)) one))
+
+  -- and all of them
+  pub all_seats_of : (ws : List (Window V H)) (areas : List Area) (seats : List (Seat V H)) (i : ℕ) → i ≡ length ws → length areas ≡ length ws → AreSeatsOf (take i ws) (take i areas) seats → AreSeatsOf ws areas seats
+  all_seats_of ws areas seats i all same h =
+      subst (λ (x : List (Window V H) × List Area). AreSeatsOf x.0 x.1 seats) (λ k. ((ap (λ n. take n ws) all ∙ take-length ws) k, (ap (λ n. take n areas) (all ∙ sym same) ∙ take-length areas) k)) h
+
+  -- the seat at a place is that of the window there
+  pub seat_at : (ws : List (Window V H)) (areas : List Area) (seats : List (Seat V H)) (i : ℕ) (w : Window V H) (s : Seat V H) → AreSeatsOf ws areas seats → i < length ws → w ≡ get_or ws i w → s ≡ get_or seats i s → (a : Area) × IsSeatOf w a s
+  seat_at [] areas seats i w s its low w_is s_is = absurd (omega arith)
+  seat_at (v ∷ ws) (a ∷ areas) (r ∷ seats) zero w s its low w_is s_is = (a, subst (λ (x : Window V H × Seat V H). IsSeatOf x.0 a x.1) (λ k. (sym w_is k, sym s_is k)) its.0)
+  seat_at (v ∷ ws) (a ∷ areas) (r ∷ seats) (suc i) w s its low w_is s_is = seat_at ws areas seats i w s its.1 (omega arith) w_is s_is
+  seat_at (v ∷ ws) [] seats i w s its low w_is s_is = absurd its
+  seat_at (v ∷ ws) (a ∷ areas) [] i w s its low w_is s_is = absurd its
+
+  -- one seat more, behind the first
+  pub seats_more : (front : Seat V H) (ws : List (Window V H)) (areas : List Area) (seats more : List (Seat V H)) (i : ℕ) (w : Window V H) (a : Area) (s : Seat V H) → more ≡ seats ++ s ∷ [] → w ≡ get_or ws i w → a ≡ get_or areas i a → i < length ws → i < length areas → AreSeatsBehind front (take i ws) (take i areas) seats → IsSeatOf w a s → AreSeatsBehind front (take (i + 1) ws) (take (i + 1) areas) more
+  seats_more front ws areas (r ∷ seats) more i w a s e w_is a_is low within h one =
+      subst (λ (x : List (Window V H) × List Area × List (Seat V H)). AreSeatsBehind front x.0 x.1 x.2) (λ k. (sym (take_more ws i w low) k, sym (take_more areas i a within) k, sym e k))
+      (h.0, seats_snoc (take i ws) (take i areas) seats (get_or ws i w) (get_or areas i a) s h.1 (subst (λ (x : Window V H × Area). IsSeatOf x.0 x.1 s) (λ k. (w_is k, a_is k)) one))
+  seats_more front ws areas [] more i w a s e w_is a_is low within h one = absurd h
+
+  -- and the whole list
+  pub all_seats : (front : Seat V H) (ws : List (Window V H)) (areas : List Area) (seats : List (Seat V H)) (i : ℕ) → i ≡ length ws → length areas ≡ length ws → AreSeatsBehind front (take i ws) (take i areas) seats → AreSeatsBehind front ws areas seats
+  all_seats front ws areas seats i all same h =
+      subst (λ (x : List (Window V H) × List Area). AreSeatsBehind front x.0 x.1 seats) (λ k. ((ap (λ n. take n ws) all ∙ take-length ws) k, (ap (λ n. take n areas) (all ∙ sym same) ∙ take-length areas) k)) h
+
+  -- one seat more than there are windows
+  pub seats_length : (front : Seat V H) (ws : List (Window V H)) (areas : List Area) (seats : List (Seat V H)) → AreSeatsBehind front ws areas seats → length seats ≡ length ws + 1
+  seats_length front ws areas [] h = absurd h
+  seats_length front ws areas (s ∷ seats) h = let rest = by_lists ws areas seats h.1 in omega arith
+    where
+      by_lists : (vs : List (Window V H)) (olds : List Area) (ss : List (Seat V H)) → AreSeatsOf vs olds ss → length ss ≡ length vs
+      by_lists [] [] [] its = refl
+      by_lists (v ∷ vs) (a ∷ olds) (r ∷ ss) its = ap suc (by_lists vs olds ss its.1)
+      by_lists [] [] (r ∷ ss) its = absurd its
+      by_lists [] (a ∷ olds) ss its = absurd its
+      by_lists (v ∷ vs) [] ss its = absurd its
+      by_lists (v ∷ vs) (a ∷ olds) [] its = absurd its
+
+-- what of a desk's screen something has is near
+near_screen : (desk : layers.Desk) (r : Pixels) (its : Point → Bool) → is_screen_side desk.width ≡ true → is_screen_side desk.height ≡ true → ((p : Point) → holds r p ≡ (layers.on_screen desk p && its p)) → IsNear r
+near_screen desk r its wide high r_is p e =
+    let on = and_parts (between (pos 0) p.h desk.width) (between (pos 0) p.v desk.height) (and_parts (layers.on_screen desk p) (its p) (sym (r_is p) ∙ e)).0 in
+    λ i. side desk.width p.h wide on.0 i && side desk.height p.v high on.1 i
+  where
+    side : (n x : ℤ) → is_screen_side n ≡ true → between (pos 0) x n ≡ true → between (pos 0) x (pos 1024) ≡ true
+    side n x a b = grind (arith, ints)
+
+-- a window manager's screen has the sides of one
+pub sides : {V : Type 0} {H : V → Type 0} (loan : Taken V H → Loan) (t : WindowManager V H) → IsKept loan t → (is_screen_side (pos t.screen.width) ≡ true) × (is_screen_side (pos t.screen.height) ≡ true)
+sides loan t kept =
+    let one = and_parts (is_screen_side (pos t.screen.width)) _ kept.screen in
+    let two = and_parts (is_screen_side (pos t.screen.height)) _ one.1 in
+    (one.0, two.0)
+
+pub gray_near : {V : Type 0} {H : V → Type 0} (loan : Taken V H → Loan) (t : WindowManager V H) → IsKept loan t → IsNear t.gray
+gray_near loan t kept = let s = sides loan t kept in near_screen (layered_desk (desk_of loan t [])) t.gray (λ p. not (layers.in_bar (layered_desk (desk_of loan t [])) p)) s.0 s.1 kept.gray
+
+-- the pixels of a window's area are the screen's
+area_near : (desk : layers.Desk) (stale : PixelSet) (n : ℕ) (a : Area) → is_screen_side desk.width ≡ true → is_screen_side desk.height ≡ true → IsArea desk stale n a → IsNear a.visible × IsNear a.update
+area_near desk stale n a wide high its =
+    let visible = near_screen desk a.visible (λ p. is_content_of n (owner desk p)) wide high its.visible in
+    (visible, (λ p e. visible p (and_parts (holds a.visible p) (stale p) (sym (its.update p) ∙ e)).0))
+
+pub seats_near : {V : Type 0} {H : V → Type 0} (desk : layers.Desk) (stale : PixelSet) (seats : List (Seat V H)) → is_screen_side desk.width ≡ true → is_screen_side desk.height ≡ true → All (λ s. IsArea desk stale s.serial s.area.now) seats → All IsNearSeat seats
+seats_near desk stale seats wide high all = All-weaker (λ s. IsArea desk stale s.serial s.area.now) IsNearSeat (λ s its. area_near desk stale s.serial s.area.now wide high its) seats all
+
+-- there are as many areas as windows
+pub as_many : {V : Type 0} {H : V → Type 0} (loan : Taken V H → Loan) (t : WindowManager V H) → IsKept loan t → length t.areas.items ≡ length t.windows.records.items
+as_many loan t kept = by_lists (desk_of loan t []).windows t.areas.items kept.areas ∙ length-map t.windows.records.items (record_of loan)
+  where
+    by_lists : (ws : List WindowRecord) (areas : List Area) → AreAreas (layered_desk (desk_of loan t [])) (stale_in t.areas.items) ws areas → length areas ≡ length ws
+    by_lists [] [] its = refl
+    by_lists (w ∷ ws) (a ∷ areas) its = ap suc (by_lists ws areas its.1)
+    by_lists [] (a ∷ areas) its = absurd its
+    by_lists (w ∷ ws) [] its = absurd its
+
+module _ {V : Type 0} {H : V → Type 0} (loan : Taken V H → Loan) where
+  -- ---- windows that stay as they are
+
+  pub seat_is_stand : (w : Window V H) (a : Area) (s : Seat V H) → IsSeatOf w a s → seat_stand loan s ≡ stand_of (record_of loan w)
+  seat_is_stand w a s its = λ i. record {
+    serial = its.serial i;
+    place = its.place i;
+    shown = its.shown i;
+    structure = (loan (its.taken i)).definition.structure (its.size i);
+    content = (loan (its.taken i)).definition.content (its.size i);
+  }
+
+  pub seats_stand : (ws : List (Window V H)) (areas : List Area) (seats : List (Seat V H)) → AreSeatsOf ws areas seats → map (seat_stand loan) seats ≡ map stand_of (map (record_of loan) ws)
+  seats_stand [] [] [] its = refl
+  seats_stand (w ∷ ws) (a ∷ areas) (s ∷ seats) its = λ i. seat_is_stand w a s its.0 i ∷ seats_stand ws areas seats its.1 i
+  seats_stand [] [] (s ∷ seats) its = absurd its
+  seats_stand [] (a ∷ areas) seats its = absurd its
+  seats_stand (w ∷ ws) [] seats its = absurd its
+  seats_stand (w ∷ ws) (a ∷ areas) [] its = absurd its
+
+  pub seats_had : (before : State) (ws : List (Window V H)) (areas : List Area) (seats : List (Seat V H)) → AreSeatsOf ws areas seats → AreAreas before.desk before.stale (map (record_of loan) ws) areas → All (λ s. IsArea before.desk before.stale s.serial s.area.now) seats
+  seats_had before [] [] [] its had = All-nil (λ s. IsArea before.desk before.stale s.serial s.area.now)
+  seats_had before (w ∷ ws) (a ∷ areas) (s ∷ seats) its had =
+      All-cons (λ s. IsArea before.desk before.stale s.serial s.area.now) s seats
+      (subst (λ (x : ℕ × Area). IsArea before.desk before.stale x.0 x.1) (λ i. (sym its.0.serial i, sym its.0.area i)) had.0)
+      (seats_had before ws areas seats its.1 had.1)
+  seats_had before [] [] (s ∷ seats) its had = absurd its
+  seats_had before [] (a ∷ areas) seats its had = absurd its
+  seats_had before (w ∷ ws) [] seats its had = absurd its
+  seats_had before (w ∷ ws) (a ∷ areas) [] its had = absurd its
+
+  seat_placed : (w : Window V H) (a : Area) (s : Seat V H) → IsSeatOf w a s → IsSettled (record_of loan w) → IsPlacedSeat loan s
+  seat_placed w a s its settled =
+      (λ i. is_placed (Some (loan (its.taken i)).definition) (its.place i) (its.size i)) ∙ placed_from (record_of loan w).definition w.place w.size settled.placed settled.fits settled.inside
+
+  pub seats_placed : (ws : List (Window V H)) (areas : List Area) (seats : List (Seat V H)) → AreSeatsOf ws areas seats → All IsSettled (map (record_of loan) ws) → All (IsPlacedSeat loan) seats
+  seats_placed [] [] [] its settled = All-nil (IsPlacedSeat loan)
+  seats_placed (w ∷ ws) (a ∷ areas) (s ∷ seats) its settled =
+      All-cons (IsPlacedSeat loan) s seats (seat_placed w a s its.0 (All-head IsSettled (record_of loan w) (map (record_of loan) ws) settled))
+      (seats_placed ws areas seats its.1 (All-tail IsSettled (record_of loan w) (map (record_of loan) ws) settled))
+  seats_placed [] [] (s ∷ seats) its settled = absurd its
+  seats_placed [] (a ∷ areas) seats its settled = absurd its
+  seats_placed (w ∷ ws) [] seats its settled = absurd its
+  seats_placed (w ∷ ws) (a ∷ areas) [] its settled = absurd its
+
+  -- all may be where they are to be
+  pub all_placed : (front : Seat V H) (ws : List (Window V H)) (areas : List Area) (seats : List (Seat V H)) → AreSeatsBehind front ws areas seats → IsPlacedSeat loan front → All IsSettled (map (record_of loan) ws) → All (IsPlacedSeat loan) seats
+  all_placed front ws areas (s ∷ seats) its placed settled = All-cons (IsPlacedSeat loan) s seats (subst (IsPlacedSeat loan) (sym its.0) placed) (seats_placed ws areas seats its.1 settled)
+  all_placed front ws areas [] its placed settled = absurd its
+
+  -- ---- and a new one in front
+
+  -- the seat of a new window of this number and definition, which had no pixel
+  pub record IsNewSeat (w : NewWindow) (n : ℕ) (d : Definition) (s : Seat V H) : Type 0 where
+    pub serial : s.serial ≡ n
+    pub place : s.place ≡ w.place
+    pub size : s.size ≡ w.size
+    pub shown : s.shown ≡ w.shown
+    pub definition : (loan s.taken.now).definition ≡ d
+    pub nowhere : IsNowhere s.area.now
+
+  module _ (w : NewWindow) (n slot : ℕ) (d begun : Definition) (t : WindowManager V H) (kept : IsKept loan t) (next : t.windows.next ≡ Some n) (regions : SameRegions d begun) (front : Seat V H) (new : IsNewSeat w n d front) where
+    abbrev before : State
+    before = layered_state (state_of loan t [])
+
+    abbrev after : FullDesk
+    after = desk_with w n slot begun (desk_of loan t [])
+
+    free : layers.window_of n before.desk.windows ≡ None
+    free = next_is_free t.font n (desk_of loan t []).windows (subst (λ (k : Option ℕ). AreNumbered k (desk_of loan t []).windows) next kept.numbered)
+
+    distinct : layers.IsDesk (layered_desk after)
+    distinct = subst layers.IsDesk (sym (layered_desk-with w n slot begun (desk_of loan t []) [])) (free, ((refl, tt), kept.distinct))
+
+    front_stand : seat_stand loan front ≡ stand_of (new_record w n slot begun)
+    front_stand =
+        (λ i. record {
+          serial = new.serial i;
+          place = new.place i;
+          shown = new.shown i;
+          structure = (new.definition i).structure (new.size i);
+          content = (new.definition i).content (new.size i);
+        })
+        ∙ (λ i. record { serial = n; place = w.place; shown = w.shown; structure = sym regions.structure i w.size; content = sym regions.content i w.size })
+
+    -- a window that was not there had no pixel
+    front_had : IsArea before.desk before.stale front.serial front.area.now
+    front_had = record {
+      visible = λ p. new.nowhere.visible p ∙ sym (off (layers.on_screen before.desk p) _ (ap (λ k. is_content_of k (owner before.desk p)) new.serial ∙ not_content n (owner before.desk p) (other p)));
+      update = λ p. new.nowhere.update p ∙ sym (ap (λ b. b && before.stale p) (new.nowhere.visible p));
+      frame = λ p. new.nowhere.frame p ∙ sym (off (layers.on_screen before.desk p) _ (ap (λ k. same_owner (owner before.desk p) (Frame k)) new.serial ∙ not_same_frame n (owner before.desk p) (other p)));
+    }
+      where
+        off : (x y : Bool) → y ≡ false → (x && y) ≡ false
+        off true y e = e
+        off false y e = refl
+
+        in_bar : (b : Bool) (o : Owner) → is_other n o ≡ true → is_other n (if b then Bar else o) ≡ true
+        in_bar true o e = refl
+        in_bar false o e = e
+
+        other : (p : Point) → is_other n (owner before.desk p) ≡ true
+        other p = in_bar (layers.in_bar before.desk p) (owner_among before.desk.windows p) (owner_is_other before.desk.windows p n free)
+
+    pub arranged : (seats : List (Seat V H)) → AreSeatsBehind front t.windows.records.items t.areas.items seats → IsArranged loan t.font before (layered_desk after) after.windows t.gray seats
+    arranged (s ∷ seats) its = record {
+      desk = refl;
+      distinct = distinct;
+      gray_is = kept.gray;
+      stands = (λ i. (ap (seat_stand loan) its.0 ∙ front_stand) i ∷ (seats_stand t.windows.records.items t.areas.items seats its.1 ∙ sym (stands-behind t.windows.active w.shown (desk_of loan t []).windows)) i);
+      areas = All-cons (λ s. IsArea before.desk before.stale s.serial s.area.now) s seats
+          (subst (λ (x : Seat V H). IsArea before.desk before.stale x.serial x.area.now) (sym its.0) front_had)
+          (seats_had before t.windows.records.items t.areas.items seats its.1 kept.areas);
+    }
+    arranged [] its = absurd its
+
+  -- all seats are near, with one in front that had no pixel
+  pub all_near : (t : WindowManager V H) → IsKept loan t → (front : Seat V H) → IsNowhere front.area.now → (seats : List (Seat V H)) → AreSeatsBehind front t.windows.records.items t.areas.items seats → All IsNearSeat seats
+  all_near t kept front nowhere (s ∷ seats) its =
+      let side = sides loan t kept in
+      let was : State = layered_state (state_of loan t []) in
+      All-cons IsNearSeat s seats
+      (subst IsNearSeat (sym its.0) ((λ p e. absurd (false≢true (sym (nowhere.visible p) ∙ e))), (λ p e. absurd (false≢true (sym (nowhere.update p) ∙ e)))))
+      (seats_near was.desk was.stale seats side.0 side.1 (seats_had was t.windows.records.items t.areas.items seats its.1 kept.areas))
+  all_near t kept front nowhere [] its = absurd its

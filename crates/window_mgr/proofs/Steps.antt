@@ -1,0 +1,183 @@
+-- The steps of the calls that arrange windows.
+use Rattle.std.proofs.Common.{◌≡◌, inr, ℕ, ◌<◌, ◌&&◌, not, Bool, true, false, if◌then◌else◌, List, [], ◌∷◌, length, map, Option, None, Some, Result, Ok, Err, refl, sym, ap, ◌∙◌, subst}
+use Rattle.std.specs.Prelude.{is_none}
+use Rattle.std.specs.List.{insert, remove}
+use Rattle.tb_geom.specs.declared.point.Point.{Point}
+use Rattle.tb_geom.specs.declared.refusal.Refusal.{Refusal}
+use Rattle.tb_geom.specs.declared.refusal.Refusal.TheVariants.{NoSuchWindow, OutOfRange}
+use Rattle.tb_geom.specs.Points.{minus}
+use Rattle.tb_geom.specs.Rects.{in_plane}
+use Rattle.def_iface.specs.declared.taken.Taken.{Taken}
+use Rattle.def_iface.specs.Meaning.{Loan}
+use Rattle.def_iface.specs.Stocked.{SlotView}
+use Rattle.def_iface.specs.Desk as layers
+use Rattle.window_list.specs.declared.window.Window.{Window}
+use Rattle.vis_update.specs.Records.{WindowRecord, layered_window, record_of}
+use Rattle.vis_update.specs.Places.{is_placed}
+use Rattle.window_mgr.specs.declared.arrange.Activates.{Activates}
+use Rattle.window_mgr.specs.declared.arrange.Activates.TheVariants.{Nothing, Itself, ItselfIfFront, FrontInItsPlace, NextInItsPlace}
+use Rattle.window_mgr.specs.declared.arrange.Edit.{Edit}
+use Rattle.window_mgr.specs.declared.call.MoveWindow.{MoveWindow}
+use Rattle.window_mgr.specs.declared.call.SendBehind as sending
+use Rattle.window_mgr.specs.declared.call.ShowHide as showing
+use Rattle.window_mgr.specs.declared.call.WindowCall.{WindowCall}
+use Rattle.window_mgr.specs.declared.call.WindowCall.TheVariants.{Show, Hide, ShowHide, Select, BringToFront, SendBehind, Move}
+use Rattle.window_mgr.specs.declared.call.WindowReply.{WindowReply}
+use Rattle.window_mgr.specs.declared.manager.WindowManager.{WindowManager}
+use Rattle.window_mgr.specs.FullDesk.{FullDesk}
+use Rattle.window_mgr.specs.Arrange.{Arrangement, at_place, with_shown, is_visible, if_visible, brought, changed, put_behind, way_to, behind_this, without}
+use Rattle.window_mgr.specs.Edits.{put_record, records_put, stays_put, IsAt, IsRearranged, IsPlaceBehind, IsPlaceable}
+use Rattle.window_mgr.specs.Effects.{Effect, IsEffect, IsArrangement, effect_of}
+use Rattle.window_mgr.specs.Effects.Effect.{Arranges}
+use Rattle.window_mgr.specs.Finding.{record_with}
+use Rattle.window_mgr.specs.Records.{desk_of, state_of}
+use Rattle.window_mgr.specs.Refused.{IsRefusal, may_grow, may_be_at, first_refusal, is_missing, move_refusals}
+use Rattle.window_mgr.specs.Step.{IsStep}
+use Rattle.window_mgr.specs.Whole.{IsWhole}
+use Rattle.window_mgr.proofs.PutIn.{put_in, put_is_insert, taken_out, map-put, IsFree, distinct_out}
+use Rattle.vis_update.proofs.PlaceLemmas.{placed_parts}
+use Rattle.window_mgr.proofs.EditSeats.{same_at}
+use Rattle.window_mgr.proofs.Arrangements.{found_is, brought_is, changed_is, behind_is}
+
+module _ {V : Type 0} {H : V → Type 0} (loan : Taken V H → Loan) (t new : WindowManager V H) (slots : List SlotView) (whole : IsWhole loan t slots) (i s : ℕ) (x : Window V H) (low : i < length t.windows.records.items) (x_is : IsAt t.windows.records.items i x) (serial : x.serial ≡ s) where
+  abbrev desk : FullDesk
+  desk = desk_of loan t slots
+
+  abbrev others : List WindowRecord
+  others = map (record_of loan) (remove t.windows.records.items i)
+
+  windows : desk.windows ≡ put_in i (record_of loan x) others
+  windows = ap (map (record_of loan)) (taken_out t.windows.records.items i x low x_is) ∙ map-put (record_of loan) i x (remove t.windows.records.items i)
+
+  free : IsFree t.font s others
+  free = subst (λ n. IsFree t.font n others) serial (distinct_out t.font i (record_of loan x) others (subst (λ ws. layers.AreWindows (map (layered_window t.font) ws)) windows whole.sound.distinct)).0
+
+  pub found : record_with s desk.windows ≡ Some (record_of loan x)
+  found = ap (record_with s) windows ∙ found_is t.font s i (record_of loan x) others serial free
+
+  -- the window is there, so that it refuses nothing
+  pub not_missing : first_refusal ((is_missing s desk.windows, NoSuchWindow) ∷ []) ≡ None
+  not_missing = ap (λ o. if is_none o then Some NoSuchWindow else None) found
+
+  -- a call that arranges the windows as the edit does makes its step
+  edit_step : (call : WindowCall) (e : Edit) (activates : Activates) (by : Option Point) (result : Result WindowReply Refusal) (a : Arrangement) → e.at ≡ i → effect_of call desk ≡ Arranges a → may_grow call ≡ true → IsRefusal call desk None
+      → a ≡ record { window = x.serial; by = by; windows = records_put loan e x t; activates = activates }
+      → IsRearranged loan e activates by result t new slots → IsStep call result (state_of loan t slots) (state_of loan new slots)
+  edit_step call e activates by (Ok answer) a at is grows allowed a_is done = (
+    allowed,
+    subst (λ (f : Effect). IsEffect f answer (state_of loan t slots) (state_of loan new slots)) (sym is)
+        (done.0, subst (λ (y : Arrangement). IsArrangement y (state_of loan t slots) (state_of loan new slots)) (sym a_is) (done.1 x (subst (λ k. IsAt t.windows.records.items k x) (sym at) x_is))),
+  )
+  edit_step call e activates by (Err refusal) a at is grows allowed a_is done = (inr (allowed, (grows, done.0)), done.1)
+
+  -- the windows, this one put elsewhere or changed
+  brought_so : brought s desk.windows ≡ insert others 0 (record_of loan x)
+  brought_so = ap (brought s) windows ∙ brought_is t.font s i (record_of loan x) others serial free ∙ put_is_insert 0 (record_of loan x) others
+
+  changed_so : (f : WindowRecord → WindowRecord) → changed s f desk.windows ≡ insert others i (f (record_of loan x))
+  changed_so f = ap (changed s f) windows ∙ changed_is t.font s i (record_of loan x) others serial free f ∙ put_is_insert i (f (record_of loan x)) others
+
+  -- ---- one by one
+
+  pub select_step : (e : Edit) (activates : Activates) (result : Result WindowReply Refusal) → e ≡ record (stays_put i x) { to = 0 } → activates ≡ (if x.shown then Itself else Nothing)
+      → IsRearranged loan e activates None result t new slots → IsStep (Select s) result (state_of loan t slots) (state_of loan new slots)
+  select_step e activates result e_is activates_is done =
+      edit_step (Select s) (record (stays_put i x) { to = 0 }) (if x.shown then Itself else Nothing) None result _ refl refl refl not_missing
+      (λ k. record { window = sym serial k; by = None; windows = brought_so k; activates = if_visible (found k) Itself })
+      (subst (λ (y : Edit × Activates). IsRearranged loan y.0 y.1 None result t new slots) (λ k. (e_is k, activates_is k)) done)
+
+  pub bring_step : (e : Edit) (result : Result WindowReply Refusal) → e ≡ record (stays_put i x) { to = 0 }
+      → IsRearranged loan e Nothing None result t new slots → IsStep (BringToFront s) result (state_of loan t slots) (state_of loan new slots)
+  bring_step e result e_is done =
+      edit_step (BringToFront s) (record (stays_put i x) { to = 0 }) Nothing None result _ refl refl refl not_missing
+      (λ k. record { window = sym serial k; by = None; windows = brought_so k; activates = Nothing })
+      (subst (λ (y : Edit). IsRearranged loan y Nothing None result t new slots) e_is done)
+
+  pub show_step : (e : Edit) (activates : Activates) (result : Result WindowReply Refusal) → e ≡ record (stays_put i x) { shown = true } → activates ≡ (if not x.shown then ItselfIfFront else Nothing)
+      → IsRearranged loan e activates None result t new slots → IsStep (Show s) result (state_of loan t slots) (state_of loan new slots)
+  show_step e activates result e_is activates_is done =
+      edit_step (Show s) (record (stays_put i x) { shown = true }) (if not x.shown then ItselfIfFront else Nothing) None result _ refl refl refl not_missing
+      (λ k. record { window = sym serial k; by = None; windows = changed_so (with_shown true) k; activates = (ap (λ o. if is_visible o then Nothing else ItselfIfFront) found ∙ turned x.shown) k })
+      (subst (λ (y : Edit × Activates). IsRearranged loan y.0 y.1 None result t new slots) (λ k. (e_is k, activates_is k)) done)
+    where
+      turned : (b : Bool) → (if b then Nothing else ItselfIfFront) ≡ (if not b then ItselfIfFront else Nothing)
+      turned true = refl
+      turned false = refl
+
+  pub hide_step : (e : Edit) (activates : Activates) (result : Result WindowReply Refusal) → e ≡ record (stays_put i x) { shown = false } → activates ≡ (if x.shown then FrontInItsPlace else Nothing)
+      → IsRearranged loan e activates None result t new slots → IsStep (Hide s) result (state_of loan t slots) (state_of loan new slots)
+  hide_step e activates result e_is activates_is done =
+      edit_step (Hide s) (record (stays_put i x) { shown = false }) (if x.shown then FrontInItsPlace else Nothing) None result _ refl refl refl not_missing
+      (λ k. record { window = sym serial k; by = None; windows = changed_so (with_shown false) k; activates = if_visible (found k) FrontInItsPlace })
+      (subst (λ (y : Edit × Activates). IsRearranged loan y.0 y.1 None result t new slots) (λ k. (e_is k, activates_is k)) done)
+
+  pub show_hide_step : (c : showing.ShowHide) (e : Edit) (result : Result WindowReply Refusal) → s ≡ c.window → e ≡ record (stays_put i x) { shown = c.shown }
+      → IsRearranged loan e Nothing None result t new slots → IsStep (ShowHide c) result (state_of loan t slots) (state_of loan new slots)
+  show_hide_step c e result named e_is done =
+      edit_step (ShowHide c) (record (stays_put i x) { shown = c.shown }) Nothing None result _ refl refl refl (subst (λ n. first_refusal ((is_missing n desk.windows, NoSuchWindow) ∷ []) ≡ None) named not_missing)
+      (λ k. record { window = sym (serial ∙ named) k; by = None; windows = (ap (λ n. changed n (with_shown c.shown) desk.windows) (sym named) ∙ changed_so (with_shown c.shown)) k; activates = Nothing })
+      (subst (λ (y : Edit). IsRearranged loan y Nothing None result t new slots) e_is done)
+
+  pub send_step : (b : sending.SendBehind) (to : ℕ) (e : Edit) (result : Result WindowReply Refusal) → s ≡ b.window → IsPlaceBehind loan b i t to → e ≡ record (stays_put i x) { to = to }
+      → IsRearranged loan e NextInItsPlace None result t new slots → IsStep (SendBehind b) result (state_of loan t slots) (state_of loan new slots)
+  send_step b to e result named place e_is done =
+      edit_step (SendBehind b) (record (stays_put i x) { to = to }) NextInItsPlace None result _ refl refl refl place.unrefused
+      (λ k. record { window = sym (serial ∙ named) k; by = None; windows = sent_so k; activates = NextInItsPlace })
+      (subst (λ (y : Edit). IsRearranged loan y NextInItsPlace None result t new slots) e_is done)
+    where
+      sent_so : behind_this b.behind (record_with b.window desk.windows) (without b.window desk.windows) ≡ insert others to (record_of loan x)
+      sent_so =
+          ap (λ n. behind_this b.behind (record_with n desk.windows) (without n desk.windows)) (sym named)
+          ∙ ap (λ ws. behind_this b.behind (record_with s ws) (without s ws)) windows
+          ∙ behind_is t.font s i (record_of loan x) others serial free b.behind
+          ∙ place.is (record_of loan x)
+
+  -- ---- and a window that moves
+
+  pub may_move : (m : MoveWindow) (b : Bool) → s ≡ m.window → b ≡ is_placed (Some (loan x.taken).definition) m.place x.size → first_refusal (move_refusals m desk) ≡ (if b then None else Some OutOfRange)
+  may_move m b named placed =
+      (λ k. first_refusal ((is_none (here k), NoSuchWindow) ∷ (not (may_be_at m.place (here k)), OutOfRange) ∷ []))
+      ∙ ap (λ c. if not c then Some OutOfRange else None) (sym placed) ∙ by_test b
+    where
+      here : record_with m.window desk.windows ≡ Some (record_of loan x)
+      here = ap (λ n. record_with n desk.windows) (sym named) ∙ found
+
+      by_test : (c : Bool) → (if not c then Some OutOfRange else None) ≡ (if c then None else Some OutOfRange)
+      by_test true = refl
+      by_test false = refl
+
+  -- a window that may move
+  module _ (m : MoveWindow) (placed : is_placed (Some (loan x.taken).definition) m.place x.size ≡ true) where
+    pub arrives : in_plane m.place ≡ true
+    arrives = (placed_parts (loan x.taken).definition m.place x.size placed).place_in
+
+    pub may_arrive : (e : Edit) → e.at ≡ i → e.place ≡ m.place → e.size ≡ x.size → IsPlaceable loan e t.windows.records.items
+    may_arrive e at place size w w_is =
+        (λ k. is_placed (Some (loan (same_at t.windows.records.items i w x low (subst (λ n. IsAt t.windows.records.items n w) at w_is) x_is k).taken).definition) (place k) (size k)) ∙ placed
+
+  pub move_step : (m : MoveWindow) (e : Edit) (activates : Activates) (by : Point) (result : Result WindowReply Refusal) → s ≡ m.window → first_refusal (move_refusals m desk) ≡ None
+      → e ≡ record { at = i; to = if m.select then 0 else i; place = m.place; size = x.size; shown = x.shown } → activates ≡ (if m.select && x.shown then Itself else Nothing) → by ≡ minus m.place x.place
+      → IsRearranged loan e activates (Some by) result t new slots → IsStep (Move m) result (state_of loan t slots) (state_of loan new slots)
+  move_step m e activates by result named allowed e_is activates_is by_is done =
+      edit_step (Move m) (record { at = i; to = if m.select then 0 else i; place = m.place; size = x.size; shown = x.shown }) (if m.select && x.shown then Itself else Nothing) (Some (minus m.place x.place)) result _ refl refl refl allowed
+      (λ k. record {
+        window = sym (serial ∙ named) k;
+        by = (ap (way_to m.place) here) k;
+        windows = (by_select m.select) k;
+        activates = (ap (λ o. if m.select then if_visible o Itself else Nothing) here ∙ both m.select x.shown) k;
+      })
+      (subst (λ (y : Edit × Activates × Point). IsRearranged loan y.0 y.1 (Some y.2) result t new slots) (λ k. (e_is k, activates_is k, by_is k)) done)
+    where
+      here : record_with m.window desk.windows ≡ Some (record_of loan x)
+      here = ap (λ n. record_with n desk.windows) (sym named) ∙ found
+
+      there : changed m.window (at_place m.place) desk.windows ≡ put_in i (at_place m.place (record_of loan x)) others
+      there = ap (λ n. changed n (at_place m.place) desk.windows) (sym named) ∙ ap (changed s (at_place m.place)) windows ∙ changed_is t.font s i (record_of loan x) others serial free (at_place m.place)
+
+      both : (a b : Bool) → (if a then (if b then Itself else Nothing) else Nothing) ≡ (if a && b then Itself else Nothing)
+      both true b = refl
+      both false b = refl
+
+      by_select : (b : Bool) → (if b then brought m.window (changed m.window (at_place m.place) desk.windows) else changed m.window (at_place m.place) desk.windows) ≡ insert others (if b then 0 else i) (at_place m.place (record_of loan x))
+      by_select true = (λ k. brought (sym named k) (there k)) ∙ brought_is t.font s i (at_place m.place (record_of loan x)) others serial free ∙ put_is_insert 0 (at_place m.place (record_of loan x)) others
+      by_select false = there ∙ put_is_insert i (at_place m.place (record_of loan x)) others

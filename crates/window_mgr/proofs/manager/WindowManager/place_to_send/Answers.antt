@@ -1,0 +1,15 @@
+use Rattle.std.proofs.Common.{◌-◌, refl, ap}
+use Rattle.window_mgr.proofs.Sending as sending
+use Rattle.window_mgr.proofs.manager.WindowManager.place_to_send.Goals as goal
+
+pub returns-in_default : goal.returns-in_default
+returns-in_default g c = sending.last_of_all _ c.args.self.now c.requires.kept c.args.sent c.args.at c.requires.at c.in_default.is _ (ap (λ n. n - 1) c.len.ensures)
+
+pub returns-in_default-find : goal.returns-in_default-find
+returns-in_default-find g c = sending.missing _ c.args.self.now c.requires.kept c.args.sent c.args.at c.requires.at c.in-Some.front c.in-Some.is c.in_default-find.ensures
+
+pub returns-then-front-sent : goal.returns-then-front-sent
+returns-then-front-sent g c = sending.itself _ c.args.self.now c.requires.kept c.args.sent c.args.at c.requires.at c.in-Some.front c.in-Some-find.there c.in-Some.is c.in-Some-find.ensures c.if-front-sent.true
+
+pub returns : goal.returns
+returns g c = sending.another _ c.args.self.now c.requires.kept c.args.sent c.args.at c.requires.at c.in-Some.front c.in-Some-find.there c.in-Some.is c.in-Some-find.ensures c.if-front-sent.false _ c.place_behind.ensures

@@ -1,0 +1,14 @@
+use Rattle.std.proofs.Common.{rules, SFits, w32}
+use Rattle.std.proofs.lemmas.Int.{to_z-of_z}
+use Rattle.window_mgr.proofs.BeginLemmas.{is_ground}
+use Rattle.window_mgr.proofs.manager.empty_ground.Goals as goal
+
+pub returns-clause-painted : goal.returns-clause-painted
+returns-clause-painted c =
+    let fits_w : SFits w32 c.args.width = search rules in
+    let fits_h : SFits w32 c.args.height = search rules in
+    let fits_b : SFits w32 c.args.bar = search rules in
+    let sides = simp to_z-of_z at c.in_ok-screen.ensures.sides in
+    let pixels = simp to_z-of_z at c.in_ok-gray.ensures.pixels in
+    let painted = simp to_z-of_z at c.paint_empty.ensures in
+    is_ground c.args.width c.args.height c.args.bar c.in_ok-screen.screen _ _ c.in_ok-desktop.desktop c.in_ok-desktop.ensures.same sides c.in_ok-screen.ensures.white painted pixels

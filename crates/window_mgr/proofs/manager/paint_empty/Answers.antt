@@ -1,0 +1,12 @@
+use Rattle.std.proofs.Common.{ap, rules, SFits, w32}
+use Rattle.std.proofs.lemmas.Int.{to_z-of_z}
+use Rattle.tb_geom.specs.declared.rect.Rect.{Rect}
+use Rattle.window_mgr.proofs.BeginLemmas.{empty_painted}
+use Rattle.window_mgr.proofs.manager.paint_empty.Goals as goal
+
+pub returns : goal.returns
+returns c =
+    let bar : SFits w32 c.args.bar = search rules in
+    let right : SFits w32 c.bounds.result.right = search rules in
+    let row = simp to_z-of_z at c.last_row-last_row.ensures in
+    empty_painted c.args.bar c.bounds.result.right _ c.args.gray.now c.args.screen.now c.fill.new.map c.draw_rect.new.map (ap (λ (r : Rect). r.right) c.bounds.ensures.sides) row c.fill.ensures c.draw_rect.ensures

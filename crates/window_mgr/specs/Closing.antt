@@ -1,0 +1,32 @@
+-- What the end of a desk does to the stock.
+use Rattle.std.specs.Prelude.{◌≡◌, ℕ, List, map, Some, All, IfSome, slice_get, slice_set}
+use Rattle.def_iface.specs.declared.window_def.Stage.TheVariants.{Closed}
+use Rattle.def_iface.specs.Meaning.{Definition, Loan, SameRegions}
+use Rattle.def_iface.specs.Stocked.{SlotView, IsFull, holding}
+use Rattle.vis_update.specs.Records.{WindowRecord}
+
+-- a slot with a definition that is closed, and answers the regions of this one
+abbrev pub IsClosedSlot : Definition → SlotView → Type 0
+IsClosedSlot before s = (d : Definition) × (s.held ≡ Some d) × (d.stage ≡ Closed) × SameRegions before d
+
+-- the window's slot is there, with its definition, which is closed
+abbrev pub IsClosedAt : List SlotView → WindowRecord → Type 0
+IsClosedAt slots w = (s : SlotView) × (slice_get slots w.slot ≡ Some s) × IsClosedSlot w.definition s
+
+-- the definition was closed and put into its slot, which was there, and every other slot is as it was
+pub record IsShut (loan : Loan) (old new : List SlotView) : Type 0 where
+  pub definition : Definition
+  pub closed : definition.stage ≡ Closed
+  pub regions : SameRegions loan.definition definition
+  pub back : IfSome (slice_get old loan.slot) (λ s. new ≡ slice_set old loan.slot (holding (Some definition) s))
+
+-- the desk's windows were disposed of
+pub record IsClosed (windows : List WindowRecord) (old new : List SlotView) : Type 0 where
+  -- the same slots, for the same kinds
+  pub kinds : map (λ s. s.kind) new ≡ map (λ s. s.kind) old
+  -- every slot has a definition that no desk uses
+  pub full : All IsFull new
+  -- a slot that had one is as it was
+  pub others : (k : ℕ) (s : SlotView) → slice_get old k ≡ Some s → IsFull s → slice_get new k ≡ Some s
+  -- the slots of the windows have their definitions, which are closed
+  pub closed : All (IsClosedAt new) windows

@@ -1,0 +1,120 @@
+-- What calls do: the kinds of effect, and which has which.
+use Rattle.std.specs.Prelude.{◌≡◌, ℕ, true, if◌then◌else◌, ◌==◌, List, [], ◌∷◌, ◌++◌, map, Option, None, Some, pos}
+use Rattle.tb_geom.specs.declared.point.Point.{Point}
+use Rattle.tb_geom.specs.Points.{minus}
+use Rattle.draw_port.specs.declared.shapes.Op.{Op}
+use Rattle.draw_port.specs.Ops.{op_value}
+use Rattle.op_ref.specs.OpRefs.{IsMeant}
+use Rattle.def_iface.specs.Meaning.{Definition, Loan, IsBegun}
+use Rattle.def_iface.specs.Stocked.{IsTaken}
+use Rattle.def_iface.specs.Desk.{on_screen}
+use Rattle.def_iface.specs.Desk.Part.{Picture}
+use Rattle.def_iface.specs.Owner.{same_owner}
+use Rattle.def_iface.specs.Owner.Owner.{Content}
+use Rattle.def_iface.specs.Change.{Change, no_change, IsChanged}
+use Rattle.window_list.specs.Lists.{number_after}
+use Rattle.vis_update.specs.Records.{WindowRecord}
+use Rattle.vis_update.specs.Touches.{moving}
+use Rattle.window_mgr.specs.declared.call.WindowCall.{WindowCall}
+use Rattle.window_mgr.specs.declared.call.WindowCall.TheVariants.{New, Show, Hide, ShowHide, Select, BringToFront, SendBehind, Move, Draw, Find, Front, Info}
+use Rattle.window_mgr.specs.declared.call.Drawing.{Drawing}
+use Rattle.window_mgr.specs.declared.call.NewWindow.{NewWindow}
+use Rattle.window_mgr.specs.declared.call.WindowReply.{WindowReply}
+use Rattle.window_mgr.specs.declared.call.WindowReply.TheVariants as reply
+use Rattle.window_mgr.specs.FullDesk.{FullDesk, FullState, layered_desk, layered_state}
+use Rattle.window_mgr.specs.Finding.{record_with, found_at, front_of, info_of}
+use Rattle.window_mgr.specs.Arrange.{Arrangement, unhighlighted, desk_arranged, selected, brought_forward, sent_behind, moved, made_visible, made_hidden, made_so}
+
+-- the record that a new window gets; a visible one is highlighted
+abbrev pub new_record : NewWindow → ℕ → ℕ → Definition → WindowRecord
+new_record w serial slot d = record {
+  serial = serial;
+  place = w.place;
+  size = w.size;
+  shown = w.shown;
+  highlighted = w.shown;
+  title = w.title;
+  go_away = w.go_away;
+  picture = [];
+  origin = record { h = pos 0; v = pos 0 };
+  definition = d;
+  slot = slot;
+}
+
+-- a new window in front of all: a visible one becomes active, in place of the window that was
+abbrev pub desk_with : NewWindow → ℕ → ℕ → Definition → FullDesk → FullDesk
+desk_with w serial slot d desk = record desk {
+  windows = new_record w serial slot d ∷ (if w.shown then map (unhighlighted desk.active) desk.windows else desk.windows);
+  active = if w.shown then Some serial else desk.active;
+  next = number_after serial;
+}
+
+-- a new window was made, of this number
+pub record IsNewWindow (w : NewWindow) (serial : ℕ) (before after : FullState) : Type 0 where
+  pub loan : Loan
+  pub begun : Definition
+  pub numbered : before.desk.next ≡ Some serial
+  pub taken : IsTaken w.kind loan before.desk.stock after.desk.stock
+  pub live : IsBegun w.size loan.definition begun
+  pub desk : after.desk ≡ record (desk_with w serial loan.slot begun before.desk) { stock = after.desk.stock }
+  pub pixels : IsChanged no_change (layered_state before) (layered_state after)
+
+-- the window has the operation too, if it is the one of this serial
+abbrev pub with_operation : ℕ → Op → WindowRecord → WindowRecord
+with_operation s op w = if w.serial == s then record w { picture = w.picture ++ op ∷ [] } else w
+
+-- the change of a call that draws an operation, in this font, on every pixel that the picture of the window of this
+-- serial owns
+abbrev pub draw_change : List ℕ → ℕ → WindowRecord → Op → Change
+draw_change font s w op = record no_change {
+  drawn = λ o p value. if same_owner o (Content s Picture) then op_value font op (minus (minus p w.place) w.origin) value else value;
+}
+
+-- the operation was kept in the window's picture, and drawn
+pub record IsDrawn (d : Drawing) (before after : FullState) : Type 0 where
+  pub window : WindowRecord
+  pub operation : Op
+  pub found : record_with d.window before.desk.windows ≡ Some window
+  pub meant : IsMeant d.operation operation
+  pub desk : after.desk ≡ record before.desk { windows = map (with_operation d.window operation) before.desk.windows }
+  pub pixels : IsChanged (draw_change before.desk.font d.window window operation) (layered_state before) (layered_state after)
+
+-- nothing changed
+pub record IsUnchanged (before after : FullState) : Type 0 where
+  pub desk : after.desk ≡ before.desk
+  pub stale : (p : Point) → on_screen (layered_desk before.desk) p ≡ true → after.stale p ≡ before.stale p
+  pub image : (p : Point) → on_screen (layered_desk before.desk) p ≡ true → after.image p ≡ before.image p
+
+-- the windows were arranged so
+pub record IsArrangement (a : Arrangement) (before after : FullState) : Type 0 where
+  pub desk : after.desk ≡ desk_arranged a.windows a.activates a.window before.desk
+  pub pixels : IsChanged (moving a.window a.by) (layered_state before) (layered_state after)
+
+-- the kinds of effect that a call can have
+pub data Effect : Type 0 where
+  Makes : (window : NewWindow) → Effect
+  Draws : (drawing : Drawing) → Effect
+  Arranges : (arrangement : Arrangement) → Effect
+  Tells : (answer : WindowReply) → Effect
+
+-- the effect of a call that nothing refuses
+abbrev pub effect_of : WindowCall → FullDesk → Effect
+effect_of (New w) desk = Makes w
+effect_of (Draw d) desk = Draws d
+effect_of (Select s) desk = Arranges (selected s desk.windows)
+effect_of (BringToFront s) desk = Arranges (brought_forward s desk.windows)
+effect_of (SendBehind b) desk = Arranges (sent_behind b desk.windows)
+effect_of (Move m) desk = Arranges (moved m desk.windows)
+effect_of (Show s) desk = Arranges (made_visible s desk.windows)
+effect_of (Hide s) desk = Arranges (made_hidden s desk.windows)
+effect_of (ShowHide c) desk = Arranges (made_so c desk.windows)
+effect_of (Find p) desk = Tells (reply.Found (found_at desk p))
+effect_of Front desk = Tells (reply.Front (front_of desk.windows))
+effect_of (Info s) desk = Tells (info_of (record_with s desk.windows))
+
+-- what a call of such an effect answers and leaves: a call that tells changes nothing
+abbrev pub IsEffect : Effect → WindowReply → FullState → FullState → Type 0
+IsEffect (Makes w) answer before after = (serial : ℕ) × (answer ≡ reply.Made serial) × IsNewWindow w serial before after
+IsEffect (Draws d) answer before after = (answer ≡ reply.Done) × IsDrawn d before after
+IsEffect (Arranges a) answer before after = (answer ≡ reply.Done) × IsArrangement a before after
+IsEffect (Tells r) answer before after = (answer ≡ r) × IsUnchanged before after

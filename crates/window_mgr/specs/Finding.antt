@@ -1,0 +1,76 @@
+-- Whose a point is, as FindWindow answers it, and which window is the first visible one.
+use Rattle.std.specs.Prelude.{ℕ, if◌then◌else◌, ◌==◌, List, [], ◌∷◌, Option, None, Some}
+use Rattle.tb_geom.specs.declared.point.Point.{Point}
+use Rattle.tb_geom.specs.Points.{minus}
+use Rattle.def_iface.specs.declared.window_def.Hit.{Hit}
+use Rattle.def_iface.specs.declared.window_def.Hit.TheVariants as hit
+use Rattle.def_iface.specs.Desk.{on_screen}
+use Rattle.def_iface.specs.Owner.{Owner, owner}
+use Rattle.def_iface.specs.Owner.Owner.{Desktop, Bar, Frame, Content}
+use Rattle.window_mgr.specs.declared.call.WindowPart.{WindowPart}
+use Rattle.window_mgr.specs.declared.call.WindowPart.TheVariants as part
+use Rattle.window_mgr.specs.declared.call.Found.{Found}
+use Rattle.window_mgr.specs.declared.call.WindowReply.{WindowReply}
+use Rattle.window_mgr.specs.declared.call.WindowReply.TheVariants as reply
+use Rattle.vis_update.specs.Records.{WindowRecord}
+use Rattle.window_mgr.specs.FullDesk.{FullDesk, layered_desk}
+
+-- the part that FindWindow answers where a definition answers this hit
+abbrev pub part_of_hit : Hit → WindowPart
+part_of_hit hit.NoHit = part.InDesk
+part_of_hit hit.InContent = part.InContent
+part_of_hit hit.InDrag = part.InDrag
+part_of_hit hit.InGrow = part.InGrow
+part_of_hit hit.InGoAway = part.InGoAway
+part_of_hit hit.InZoomIn = part.InZoomIn
+part_of_hit hit.InZoomOut = part.InZoomOut
+
+-- the codes of the parts
+abbrev pub part_number : WindowPart → ℕ
+part_number part.InDesk = 0
+part_number part.InMenuBar = 1
+part_number part.InContent = 3
+part_number part.InDrag = 4
+part_number part.InGrow = 5
+part_number part.InGoAway = 6
+part_number part.InZoomIn = 7
+part_number part.InZoomOut = 8
+
+-- the record of the window of this serial
+abbrev pub record_with : ℕ → List WindowRecord → Option WindowRecord
+record_with s [] = None
+record_with s (w ∷ ws) = if w.serial == s then Some w else record_with s ws
+
+-- the part of the window that the point lies in, by its definition
+abbrev pub part_at : Option WindowRecord → Point → WindowPart
+part_at None p = part.InDesk
+part_at (Some w) p = part_of_hit (w.definition.hit (minus p w.place))
+
+-- no window, and this part
+abbrev pub found_none : WindowPart → Found
+found_none which = record { part = which; window = None }
+
+-- the window of this serial, and the part of it that the point lies in
+abbrev pub found_window : ℕ → List WindowRecord → Point → Found
+found_window s ws p = record { part = part_at (record_with s ws) p; window = Some s }
+
+-- what is found where this is the owner of the point
+abbrev pub found_by : List WindowRecord → Owner → Point → Found
+found_by ws Desktop p = found_none part.InDesk
+found_by ws Bar p = found_none part.InMenuBar
+found_by ws (Frame s) p = found_window s ws p
+found_by ws (Content s layer) p = found_window s ws p
+
+-- what is found at a point: that of the topmost owner, and nothing off the screen
+abbrev pub found_at : FullDesk → Point → Found
+found_at desk p = if on_screen (layered_desk desk) p then found_by desk.windows (owner (layered_desk desk) p) p else found_none part.InDesk
+
+-- the first visible window
+abbrev pub front_of : List WindowRecord → Option ℕ
+front_of [] = None
+front_of (w ∷ ws) = if w.shown then Some w.serial else front_of ws
+
+-- what is told of a window, if it is there
+abbrev pub info_of : Option WindowRecord → WindowReply
+info_of None = reply.Done
+info_of (Some w) = reply.Info (record { place = w.place; size = w.size; shown = w.shown; highlighted = w.highlighted })

@@ -1,0 +1,70 @@
+-- The whole desk as plain data, and its layers.
+use Rattle.std.specs.Prelude.{ℕ, ◌<◌, List, [], ◌∷◌, Option, None, Some, map, ℤ, pos}
+use Rattle.std.specs.Ordering.{int_eq}
+use Rattle.tb_geom.specs.Points.{PixelSet}
+use Rattle.bit_map.specs.declared.pattern.Pattern.{Pattern}
+use Rattle.bit_map.specs.Patterns.{pattern_bit}
+use Rattle.def_iface.specs.Stocked.{SlotView}
+use Rattle.def_iface.specs.Desk.{Desk}
+use Rattle.def_iface.specs.Change as plain
+use Rattle.vis_update.specs.Records.{WindowRecord, layered_window}
+
+-- the desk: no region and no saved pixel
+pub record FullDesk : Type 0 where
+  pub width : ℤ
+  pub height : ℤ
+  -- the rows of the menu bar
+  pub bar : ℤ
+  -- the bytes of the font of all texts
+  pub font : List ℕ
+  -- from front to back
+  pub windows : List WindowRecord
+  pub active : Option ℕ
+  -- the number of the next window, if one is left
+  pub next : Option ℕ
+  -- what the stock holds
+  pub stock : List SlotView
+
+-- the desk, the pixels of its update sets, and the image on its screen
+pub record FullState : Type 0 where
+  pub desk : FullDesk
+  pub stale : PixelSet
+  pub image : PixelSet
+
+-- the menu bar: white, and its last row, 19, black
+abbrev pub bar_picture : PixelSet
+bar_picture p = int_eq p.v (pos 19)
+
+-- the pattern of the desktop: black where row and column are both even or both odd
+abbrev pub gray : Pattern
+gray = record { rows = 0xAA ∷ 0x55 ∷ 0xAA ∷ 0x55 ∷ 0xAA ∷ 0x55 ∷ 0xAA ∷ 0x55 ∷ [] }
+
+-- the desk as layers
+abbrev pub layered_desk : FullDesk → Desk
+layered_desk d = record {
+  width = d.width;
+  height = d.height;
+  bar = d.bar;
+  bar_picture = bar_picture;
+  desktop = pattern_bit gray;
+  windows = map (layered_window d.font) d.windows;
+}
+
+abbrev pub layered_state : FullState → plain.State
+layered_state s = record { desk = layered_desk s.desk; stale = s.stale; image = s.image }
+
+-- each window's serial is below this one
+abbrev pub AreBelow : ℕ → List WindowRecord → Type 0
+AreBelow next [] = Unit {0}
+AreBelow next (w ∷ ws) = (w.serial < next) × AreBelow next ws
+
+-- each window's serial is below that of the next window, if there can be one
+abbrev pub AreNumbered : Option ℕ → List WindowRecord → Type 0
+AreNumbered None ws = Unit {0}
+AreNumbered (Some next) ws = AreBelow next ws
+
+-- a state whose pixels in no update set have the value that painting from nothing gives, and whose windows were all
+-- counted
+pub record IsRight (s : FullState) : Type 0 where
+  pub plain : plain.IsRight (layered_state s)
+  pub numbered : AreNumbered s.desk.next s.desk.windows

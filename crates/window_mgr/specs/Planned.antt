@@ -1,0 +1,112 @@
+-- A window that is planned, and one that was added; an operation that may be drawn, and one that was.
+use Rattle.std.specs.Prelude.{◌≡◌, ◌⊎◌, ℕ, ◌+◌, ◌<◌, Bool, if◌then◌else◌, List, [], ◌∷◌, ◌++◌, length, map, set, Option, None, Some, IsSomeAnd, slice_get, vec_len}
+use Rattle.tb_geom.specs.declared.refusal.Refusal.{Refusal}
+use Rattle.tb_geom.specs.declared.refusal.Refusal.TheVariants.{NoMemory}
+use Rattle.tb_geom.specs.Points.{minus}
+use Rattle.tb_geom.specs.Pixels.{holds}
+use Rattle.bit_blit.specs.Draws.{Draws}
+use Rattle.draw_port.specs.declared.shapes.Op.{Op}
+use Rattle.draw_port.specs.Ops.{op_value}
+use Rattle.op_ref.specs.OpRefs.{IsGood, IsMeant}
+use Rattle.def_iface.specs.declared.taken.Taken.{Taken}
+use Rattle.def_iface.specs.Meaning.{Definition, Loan, SameRegions, IsBegun}
+use Rattle.window_list.specs.declared.window.Window.{Window}
+use Rattle.window_list.specs.Lists.{dimmed, number_after}
+use Rattle.vis_update.specs.declared.plan.Plan.{Plan}
+use Rattle.vis_update.specs.declared.plan.Touch.{Touch}
+use Rattle.vis_update.specs.Records.{record_of}
+use Rattle.vis_update.specs.Plans.{IsPlan}
+use Rattle.window_mgr.specs.declared.call.Drawing.{Drawing}
+use Rattle.window_mgr.specs.declared.call.NewWindow.{NewWindow}
+use Rattle.window_mgr.specs.declared.manager.WindowManager.{WindowManager}
+use Rattle.window_mgr.specs.declared.new_window.Addition.{Addition}
+use Rattle.window_mgr.specs.declared.new_window.Ticket.{Ticket}
+use Rattle.window_mgr.specs.FullDesk.{layered_desk, layered_state}
+use Rattle.window_mgr.specs.Records.{desk_of, state_of}
+use Rattle.window_mgr.specs.Refused.{first_refusal, judged_refusals, most_operations}
+use Rattle.window_mgr.specs.Commits.{IsPlanDrawn}
+use Rattle.window_mgr.specs.Effects.{new_record, desk_with}
+
+-- why a window is not planned: a refusal by its place, its title or the count of windows, or want of memory
+abbrev pub IsUnplanned : NewWindow → Bool → ℕ → Option ℕ → Refusal → Type 0
+IsUnplanned w placed count next e =
+    (first_refusal (judged_refusals w placed count next) ≡ Some e)
+    ⊎ ((first_refusal (judged_refusals w placed count next) ≡ None) × (e ≡ NoMemory))
+
+-- what a new window does with the windows: it is drawn whole, and where it is visible so is the frame of the window that
+-- was active
+abbrev pub new_touch : NewWindow → ℕ → Option ℕ → Touch
+new_touch w serial active = record { window = serial; also = if w.shown then active else None; by = None }
+
+module _ {V : Type 0} {H : V → Type 0} where
+  -- the same desk, whatever room its lists have
+  pub record SameDesk (old new : WindowManager V H) : Type 0 where
+    pub screen : new.screen ≡ old.screen
+    pub bar : new.bar ≡ old.bar
+    pub font : new.font ≡ old.font
+    pub gray : new.gray ≡ old.gray
+    pub desktop : new.desktop ≡ old.desktop
+    pub windows : new.windows.records.items ≡ old.windows.records.items
+    pub areas : new.areas.items ≡ old.areas.items
+    pub active : new.windows.active ≡ old.windows.active
+    pub next : new.windows.next ≡ old.windows.next
+
+  -- nothing but want of memory refuses the operation in the window at this place
+  pub record MayDraw (d : Drawing) (t : WindowManager V H) (at : ℕ) : Type 0 where
+    pub good : IsGood d.operation
+    pub window : Window V H
+    pub there : slice_get t.windows.records.items at ≡ Some window
+    pub serial : window.serial ≡ d.window
+    pub room : length window.picture < most_operations
+
+  -- the window at this place has the operation, which was drawn on the pixels that its content owns
+  pub record IsDrawnAt (at : ℕ) (d : Drawing) (old new : WindowManager V H) : Type 0 where
+    pub window : Window V H
+    pub operation : Op
+    pub there : slice_get old.windows.records.items at ≡ Some window
+    pub meant : IsMeant d.operation operation
+    pub windows : new.windows.records.items ≡ set old.windows.records.items at (record window { picture = window.picture ++ operation ∷ [] })
+    pub pixels : IsSomeAnd (slice_get old.areas.items at) (λ area. Draws (holds area.visible) (λ p value. op_value old.font operation (minus (minus p window.place) window.origin) value) old.screen new.screen)
+    pub areas : new.areas.items ≡ old.areas.items
+    pub bar : new.bar ≡ old.bar
+    pub font : new.font ≡ old.font
+    pub gray : new.gray ≡ old.gray
+    pub desktop : new.desktop ≡ old.desktop
+    pub active : new.windows.active ≡ old.windows.active
+    pub next : new.windows.next ≡ old.windows.next
+
+  -- the number and the title of the window
+  pub record IsTicket (w : NewWindow) (t : WindowManager V H) (ticket : Ticket) : Type 0 where
+    pub next : t.windows.next ≡ Some ticket.serial
+    pub title : ticket.title.items ≡ w.title
+
+-- `loan` says what a definition that was taken means
+module _ {V : Type 0} {H : V → Type 0} (loan : Taken V H → Loan) where
+  -- all that changes on the screen once the window stands in front of the others, whichever slot its definition has
+  abbrev pub IsPlanWith : NewWindow → ℕ → Definition → Touch → WindowManager V H → Plan → Type 0
+  IsPlanWith w serial d touch t plan = (slot : ℕ) (begun : Definition) → SameRegions d begun → let after = desk_with w serial slot begun (desk_of loan t []) in
+      IsPlan touch (layered_state (state_of loan t [])) (layered_desk after) t.desktop after.windows plan
+
+  -- nothing refuses the window with this definition any more
+  pub record IsPlanned (w : NewWindow) (d : Definition) (t : WindowManager V H) (addition : Addition) : Type 0 where
+    pub ticket : IsTicket w t addition.ticket
+    pub touch : addition.touch ≡ new_touch w addition.ticket.serial t.windows.active
+    pub plan : IsPlanWith w addition.ticket.serial d addition.touch t addition.plan
+    pub some : vec_len addition.plan.parts ≡ length t.windows.records.items + 1
+    pub room : length t.windows.records.items < t.windows.records.capacity
+
+  -- the window was put in front of all others, and the plan was drawn
+  pub record IsAdded (w : NewWindow) (serial : ℕ) (taken : Loan) (touch : Touch) (plan : Plan) (old new : WindowManager V H) : Type 0 where
+    pub record_is : Window V H
+    pub begun : Definition
+    pub live : IsBegun w.size taken.definition begun
+    pub seen : record_of loan record_is ≡ new_record w serial taken.slot begun
+    pub windows : new.windows.records.items ≡ record_is ∷ (if w.shown then map (dimmed old.windows.active) old.windows.records.items else old.windows.records.items)
+    pub areas : new.areas.items ≡ plan.areas.items
+    pub desktop : new.desktop ≡ plan.desktop
+    pub drawn : IsPlanDrawn plan touch.by old.font (map (record_of loan) new.windows.records.items) old.screen new.screen
+    pub bar : new.bar ≡ old.bar
+    pub font : new.font ≡ old.font
+    pub gray : new.gray ≡ old.gray
+    pub active : new.windows.active ≡ (if w.shown then Some serial else old.windows.active)
+    pub next : new.windows.next ≡ number_after serial

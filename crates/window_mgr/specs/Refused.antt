@@ -1,0 +1,128 @@
+-- Why a call refuses: the first refusal of the written order whose condition holds.
+use Rattle.std.specs.Prelude.{◌≡◌, ℕ, Bool, true, false, not, ◌==◌, ◌||◌, if◌then◌else◌, List, [], ◌∷◌, ◌++◌, length, Option, None, Some, is_none, nat_le, nat_lt}
+use Rattle.tb_geom.specs.declared.point.Point.{Point}
+use Rattle.tb_geom.specs.declared.refusal.Refusal.{Refusal}
+use Rattle.tb_geom.specs.declared.refusal.Refusal.TheVariants.{NoSuchName, NoSuchWindow, OutOfRange, TooLong, TooMany, NoDefinition, BadRegion, BadSyntax}
+use Rattle.tb_geom.specs.Refusals.{number_of}
+use Rattle.tb_geom.specs.Rects.{in_plane}
+use Rattle.draw_port.specs.declared.shapes.Op.{Op}
+use Rattle.op_ref.specs.declared.op_ref.OpRef.{OpRef}
+use Rattle.op_ref.specs.OpRefs.{IsGood, IsRefused}
+use Rattle.def_iface.specs.Stocked.{has_kind, offered}
+use Rattle.vis_update.specs.Records.{WindowRecord}
+use Rattle.vis_update.specs.Places.{is_placed}
+use Rattle.vis_update.specs.Touches.{is_this}
+use Rattle.window_mgr.specs.declared.call.WindowCall.{WindowCall}
+use Rattle.window_mgr.specs.declared.call.WindowCall.TheVariants.{New, Show, Hide, ShowHide, Select, BringToFront, SendBehind, Move, Draw, Find, Front, Info}
+use Rattle.window_mgr.specs.declared.call.MoveWindow.{MoveWindow}
+use Rattle.window_mgr.specs.declared.call.NewWindow.{NewWindow}
+use Rattle.window_mgr.specs.declared.call.SendBehind as sending
+use Rattle.window_mgr.specs.Finding.{record_with}
+use Rattle.window_mgr.specs.FullDesk.{FullDesk}
+
+abbrev pub first_refusal : List (Bool × Refusal) → Option Refusal
+first_refusal [] = None
+first_refusal (c ∷ cs) = if c.0 then Some c.1 else first_refusal cs
+
+-- as many windows as there may be
+abbrev pub most_windows : ℕ
+most_windows = 64
+
+-- the longest text
+abbrev pub longest_text : ℕ
+longest_text = 255
+
+-- no window can be added to so many: there are as many as there may be, or no number is left for it
+abbrev pub is_full : ℕ → Option ℕ → Bool
+is_full count next = nat_le most_windows count || is_none next
+
+-- why a window may be refused whatever the stock holds: it may not be where it is to be, its title is too long, or
+-- there are too many
+abbrev pub judged_refusals : NewWindow → Bool → ℕ → Option ℕ → List (Bool × Refusal)
+judged_refusals w placed count next =
+    (not placed, OutOfRange) ∷ (nat_lt longest_text (length w.title), TooLong) ∷ (is_full count next, TooMany) ∷ []
+
+abbrev pub new_window_refusals : NewWindow → FullDesk → List (Bool × Refusal)
+new_window_refusals w desk =
+    (not (has_kind w.kind desk.stock), NoSuchName)
+    ∷ judged_refusals w (is_placed (offered w.kind desk.stock) w.place w.size) (length desk.windows) desk.next
+    ++ (is_none (offered w.kind desk.stock), NoDefinition) ∷ []
+
+-- the refusal is of bytes that have not their form
+abbrev pub is_formal : Refusal → Bool
+is_formal BadSyntax = true
+is_formal BadRegion = true
+is_formal _ = false
+
+-- what judging an operation finds: nothing, or why it is refused
+abbrev pub IsJudged : OpRef → Option Refusal → Type 0
+IsJudged op None = IsGood op
+IsJudged op (Some e) = IsRefused op e
+
+-- judging found this
+abbrev pub is_found : Refusal → Option Refusal → Bool
+is_found e None = false
+is_found e (Some f) = number_of f == number_of e
+
+-- the operations of the picture of a window, if there is one
+abbrev pub picture_of : Option WindowRecord → List Op
+picture_of None = []
+picture_of (Some w) = w.picture
+
+-- as many operations as a picture may have
+abbrev pub most_operations : ℕ
+most_operations = 1024
+
+-- why an operation in a window may be refused, where judging it found this: the bytes are no image or no region, there
+-- is no such window, a number is out of range, the text is too long, or the picture is full
+abbrev pub draw_refusals : Option Refusal → Option WindowRecord → List (Bool × Refusal)
+draw_refusals judged window =
+    (is_found BadSyntax judged, BadSyntax) ∷ (is_found BadRegion judged, BadRegion) ∷ (is_none window, NoSuchWindow)
+    ∷ (is_found OutOfRange judged, OutOfRange) ∷ (is_found TooLong judged, TooLong)
+    ∷ (nat_le most_operations (length (picture_of window)), TooMany) ∷ []
+
+-- the window may be at this place, if there is one
+abbrev pub may_be_at : Point → Option WindowRecord → Bool
+may_be_at place None = true
+may_be_at place (Some w) = is_placed (Some w.definition) place w.size
+
+-- there is no such window
+abbrev pub is_missing : ℕ → List WindowRecord → Bool
+is_missing s ws = is_none (record_with s ws)
+
+-- a window is named that there is not
+abbrev pub is_named_missing : Option ℕ → List WindowRecord → Bool
+is_named_missing None ws = false
+is_named_missing (Some s) ws = is_missing s ws
+
+-- why a window may not be sent behind another: one of them is missing, or they are one
+abbrev pub behind_refusals : sending.SendBehind → FullDesk → List (Bool × Refusal)
+behind_refusals b desk =
+    (is_missing b.window desk.windows, NoSuchWindow) ∷ (is_named_missing b.behind desk.windows, NoSuchWindow) ∷ (is_this b.behind b.window, OutOfRange) ∷ []
+
+-- why a window may not be moved: it is missing, or may not be there
+abbrev pub move_refusals : MoveWindow → FullDesk → List (Bool × Refusal)
+move_refusals m desk =
+    (is_missing m.window desk.windows, NoSuchWindow) ∷ (not (may_be_at m.place (record_with m.window desk.windows)), OutOfRange) ∷ []
+
+-- why the call refuses, want of memory aside
+abbrev pub IsRefusal : WindowCall → FullDesk → Option Refusal → Type 0
+IsRefusal (New w) desk why = first_refusal (new_window_refusals w desk) ≡ why
+IsRefusal (Draw d) desk why = (judged : Option Refusal) × IsJudged d.operation judged × (first_refusal (draw_refusals judged (record_with d.window desk.windows)) ≡ why)
+IsRefusal (SendBehind b) desk why = first_refusal (behind_refusals b desk) ≡ why
+IsRefusal (Move m) desk why = first_refusal (move_refusals m desk) ≡ why
+IsRefusal (Find p) desk why = first_refusal ((not (in_plane p), OutOfRange) ∷ []) ≡ why
+IsRefusal Front desk why = None ≡ why
+IsRefusal (Show s) desk why = first_refusal ((is_missing s desk.windows, NoSuchWindow) ∷ []) ≡ why
+IsRefusal (Hide s) desk why = first_refusal ((is_missing s desk.windows, NoSuchWindow) ∷ []) ≡ why
+IsRefusal (ShowHide c) desk why = first_refusal ((is_missing c.window desk.windows, NoSuchWindow) ∷ []) ≡ why
+IsRefusal (Select s) desk why = first_refusal ((is_missing s desk.windows, NoSuchWindow) ∷ []) ≡ why
+IsRefusal (BringToFront s) desk why = first_refusal ((is_missing s desk.windows, NoSuchWindow) ∷ []) ≡ why
+IsRefusal (Info s) desk why = first_refusal ((is_missing s desk.windows, NoSuchWindow) ∷ []) ≡ why
+
+-- the call may ask for memory
+abbrev pub may_grow : WindowCall → Bool
+may_grow (Find p) = false
+may_grow Front = false
+may_grow (Info s) = false
+may_grow _ = true

@@ -1,0 +1,75 @@
+-- What holds of a window manager and its stock between calls.
+use Rattle.std.specs.Prelude.{◌≡◌, ◌⊎◌, ℕ, ◌≤◌, Bool, true, false, ◌&&◌, ◌||◌, List, length, map, None, Some, All, AllPairs, Contains, slice_get, ℤ, pos, int_le, int_lt}
+use Rattle.std.specs.Ordering.{int_eq}
+use Rattle.tb_geom.specs.declared.point.Point.{Point}
+use Rattle.tb_geom.specs.Rects.{in_plane, is_in_range, moved}
+use Rattle.def_iface.specs.declared.taken.Taken.{Taken}
+use Rattle.def_iface.specs.declared.window_def.Stage.TheVariants.{Live}
+use Rattle.def_iface.specs.Meaning.{Loan, is_fitting}
+use Rattle.def_iface.specs.Stocked.{SlotView, IsFull, is_left}
+use Rattle.def_iface.specs.Desk.{IsDesk, on_screen}
+use Rattle.def_iface.specs.Owner.{owner, own_bit, is_content}
+use Rattle.vis_update.specs.Records.{WindowRecord}
+use Rattle.vis_update.specs.Areas.{AreAreas, IsGray, IsDesktop, stale_in}
+use Rattle.window_mgr.specs.declared.manager.WindowManager.{WindowManager}
+use Rattle.window_mgr.specs.FullDesk.{FullDesk, FullState, AreNumbered, layered_desk}
+use Rattle.window_mgr.specs.Records.{desk_of, state_of}
+use Rattle.window_mgr.specs.Refused.{most_windows}
+
+-- the window's definition is live, and was told the window's size, which fits it; its place and its picture's origin
+-- are points, and its structure lies in the range of coordinates there
+pub record IsSettled (w : WindowRecord) : Type 0 where
+  pub origin : in_plane w.origin ≡ true
+  pub placed : in_plane w.place ≡ true
+  pub live : w.definition.stage ≡ Live
+  pub told : w.definition.size ≡ w.size
+  pub fits : is_fitting w.definition w.size ≡ true
+  pub inside : is_in_range (moved (w.definition.bounds w.size) w.place.h w.place.v) ≡ true
+
+-- a slot has its definition back, or belongs to one of these windows and is empty
+abbrev pub IsSlot : List WindowRecord → List SlotView → ℕ → Type 0
+IsSlot windows slots k = (s : SlotView) → slice_get slots k ≡ Some s → IsFull s ⊎ ((s.held ≡ None) × Contains (map (λ w. w.slot) windows) k)
+
+-- the empty slots of the stock are those of the windows' definitions, each of another, and the definitions in the
+-- other slots are fresh or closed
+pub record IsStocked (windows : List WindowRecord) (slots : List SlotView) : Type 0 where
+  pub left : All (λ w. is_left w.slot slots ≡ true) windows
+  pub apart : AllPairs (λ v w. v.slot ≡ w.slot → ⊥) windows
+  pub others : (k : ℕ) → IsSlot windows slots k
+
+-- whether a screen may be so wide or so high
+abbrev pub is_screen_side : ℤ → Bool
+is_screen_side n = int_le (pos 8) n && int_le n (pos 1024)
+
+-- whether a menu bar may have so many rows
+abbrev pub is_bar : ℤ → Bool
+is_bar bar = int_eq bar (pos 0) || int_eq bar (pos 20)
+
+-- whether a screen may have this size and this many rows of menu bar
+abbrev pub is_screen : ℤ → ℤ → ℤ → Bool
+is_screen width height bar =
+    is_screen_side width && (is_screen_side height && (is_bar bar && int_lt bar height))
+
+-- the facts on the desk alone
+pub record IsSound (desk : FullDesk) : Type 0 where
+  pub screen : is_screen desk.width desk.height desk.bar ≡ true
+  pub distinct : IsDesk (layered_desk desk)
+  pub numbered : AreNumbered desk.next desk.windows
+  pub few : length desk.windows ≤ most_windows
+  pub settled : All IsSettled desk.windows
+  pub stocked : IsStocked desk.windows desk.stock
+
+-- frames, menu bar and desktop show what they are to show
+abbrev pub AreFramesShown : FullState → Type 0
+AreFramesShown s = let desk = layered_desk s.desk in
+    (p : Point) → on_screen desk p ≡ true → is_content (owner desk p) ≡ false → s.image p ≡ own_bit desk (owner desk p) p
+
+-- `loan` says what a definition that was taken means
+module _ {V : Type 0} {H : V → Type 0} (loan : Taken V H → Loan) where
+  -- a window manager and the slots of its stock, between calls
+  pub record IsWhole (t : WindowManager V H) (slots : List SlotView) : Type 0 where
+    pub sound : IsSound (desk_of loan t slots)
+    pub gray : IsGray (layered_desk (desk_of loan t slots)) t.gray
+    pub desktop : IsDesktop (layered_desk (desk_of loan t slots)) t.desktop
+    pub areas : AreAreas (layered_desk (desk_of loan t slots)) (stale_in t.areas.items) (desk_of loan t slots).windows t.areas.items
+    pub frames : AreFramesShown (state_of loan t slots)

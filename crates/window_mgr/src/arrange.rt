@@ -1,0 +1,271 @@
+//! One window put anew among the others, whichever call it is for.
+ghost use Rattle.std.specs.Prelude.{◌≡◌, ◌<◌, Some, None, All, MatchOption, IfOk, IfErr, length, map, vec_len};
+ghost use Rattle.vis_update.specs.Records.{record_of};
+ghost use Rattle.vis_update.specs.Seats.{seat_stand};
+ghost use Rattle.window_mgr.specs.Arrange.{activation_of, active_after, if_active};
+ghost use Rattle.window_mgr.specs.Edits.{relit_all, IsPutAnew, StandsAt, IsPlaceable, SameSize, AreSeatsAfter, AreSettledAfter, IsActivation, IsPlanOfEdit, IsCommitted, IsRearranged, stays_put};
+ghost use Rattle.window_mgr.specs.Finding.{record_with};
+ghost use Rattle.window_mgr.specs.Kept.{IsKept};
+ghost use Rattle.window_mgr.specs.Seats.{AreSeatsOf, first_seated};
+ghost use Rattle.window_mgr.specs.Whole.{IsWhole};
+
+use crate::{WindowManager, WindowReply};
+use def_iface::{Defined, Size, Stock, Stocked, Taken};
+use tb_geom::{Point, Refusal};
+use vis_update::{Plan, Seat, Touch, plan_of, seat_of};
+use window_list::Window;
+
+/// How one window is put anew: from which place of the list to which, counted without it, and how it
+/// stands then.
+#[derive(Clone, Copy)]
+pub struct Edit {
+    pub(crate) at: usize,
+    pub(crate) to: usize,
+    pub(crate) place: Point,
+    pub(crate) size: Size,
+    pub(crate) shown: bool,
+}
+
+/// Which window a call about one makes active.
+#[derive(Clone, Copy)]
+pub enum Activates {
+    /// No highlighting changes.
+    Nothing,
+    Itself,
+    /// Itself, where it is the first visible window then.
+    ItselfIfFront,
+    /// Where it was active, the first visible window, or none.
+    FrontInItsPlace,
+    /// Where it was active, the first visible window, if that is another.
+    NextInItsPlace,
+}
+
+/// What that comes to.
+#[derive(Clone, Copy)]
+pub enum Activation {
+    Stays,
+    /// This window becomes active, or none is.
+    Becomes(Option<u64>),
+}
+
+/// The plan of a window that is put anew, and what becomes active.
+#[derive(Drop)]
+struct Rearrangement {
+    plan: Plan,
+    activation: Activation,
+}
+
+impl Activates {
+    /// What it comes to for a window, where the active one and the first visible one after the call
+    /// are given.
+    fn activation(self, window: u64, active: Option<u64>, front: Option<u64>) -> Activation
+        ensures { result ≡ activation_of self window active front }
+    {
+        match self {
+            Activates::Nothing => Activation::Stays,
+            Activates::Itself => Activation::Becomes(Some(window)),
+            Activates::ItselfIfFront => if_active(front == Some(window), Some(window)),
+            Activates::FrontInItsPlace => if_active(active == Some(window), front),
+            Activates::NextInItsPlace => {
+                let leaves = active == Some(window) && (front.is_some() && front != Some(window));
+                if_active(leaves, front)
+            }
+        }
+    }
+}
+
+impl Activation {
+    /// Another window than this whose highlighting may change, where the active one is given.
+    fn also(self, window: u64, active: Option<u64>) -> Option<u64> {
+        match self {
+            Activation::Stays => None,
+            Activation::Becomes(becomes) => {
+                if active == Some(window) {
+                    becomes
+                } else {
+                    active
+                }
+            }
+        }
+    }
+}
+
+/// This window becomes active where that is so.
+fn if_active(becomes: bool, window: Option<u64>) -> Activation
+    ensures { result ≡ if_active becomes window }
+{
+    if becomes {
+        Activation::Becomes(window)
+    } else {
+        Activation::Stays
+    }
+}
+
+impl Edit {
+    /// The window at this place stays as it stands.
+    pub(crate) fn of(at: usize, window: &Window) -> Edit
+        ensures { result ≡ stays_put at window.now }
+    {
+        Edit {
+            at,
+            to: at,
+            place: window.place,
+            size: window.size,
+            shown: window.shown,
+        }
+    }
+}
+
+impl WindowManager {
+    /// The place of the window of this number in the list.
+    pub(crate) fn find(&self, window: u64) -> Option<usize>
+        ensures { MatchOption result
+            (record_with window (map (record_of ⟦<Taken as Defined>⟧.loan) self.now.windows.records.items) ≡ None)
+            (StandsAt self.now.windows.records.items window) }
+    {
+        self.windows.find(window)
+    }
+
+    /// Puts one window anew, its size as it was; its pixels come from so far away, if they move. NoMemory is the only
+    /// refusal.
+    pub(crate) fn rearrange(
+        &mut self,
+        edit: Edit,
+        activates: Activates,
+        by: Option<Point>,
+        _stock: &Stock,
+    ) -> Result<WindowReply, Refusal>
+        requires whole { IsWhole ⟦<Taken as Defined>⟧.loan self.old (⟦<Stock as Stocked>⟧.slots _stock.now) }
+        requires at { edit.at < length self.old.windows.records.items }
+        requires to { edit.to < length self.old.windows.records.items }
+        requires placed { IsPlaceable ⟦<Taken as Defined>⟧.loan edit self.old.windows.records.items }
+        requires size { SameSize edit self.old.windows.records.items }
+        ensures whole { IsWhole ⟦<Taken as Defined>⟧.loan self.new (⟦<Stock as Stocked>⟧.slots _stock.now) }
+        ensures left { IsRearranged ⟦<Taken as Defined>⟧.loan edit activates by result self.old self.new
+            (⟦<Stock as Stocked>⟧.slots _stock.now) }
+    {
+        let Ok(Rearrangement { plan, activation }) = self.plan_edit(edit, activates, by) else {
+            return Err(Refusal::NoMemory);
+        };
+        self.commit_edit(edit, activation, plan, by);
+        Ok(WindowReply::Done)
+    }
+
+    /// All that changes on the screen where one window is put anew, and all growth.
+    fn plan_edit(
+        &self,
+        edit: Edit,
+        activates: Activates,
+        by: Option<Point>,
+    ) -> Result<Rearrangement, Refusal>
+        requires kept { IsKept ⟦<Taken as Defined>⟧.loan self.now }
+        requires at { edit.at < length self.now.windows.records.items }
+        requires to { edit.to < length self.now.windows.records.items }
+        requires placed { IsPlaceable ⟦<Taken as Defined>⟧.loan edit self.now.windows.records.items }
+        ensures plan { IfOk result (λ r. IsPlanOfEdit ⟦<Taken as Defined>⟧.loan edit by self.now r.plan) }
+        ensures activation { IfOk result (λ r. IsActivation ⟦<Taken as Defined>⟧.loan edit activates self.now r.activation) }
+        ensures length { IfOk result (λ r. vec_len r.plan.parts ≡ length self.now.windows.records.items) }
+        ensures refused { IfErr result (λ e. e ≡ Refusal.NoMemory) }
+    {
+        let seats = self.seats_after(edit)?;
+        let window = self.windows.at(edit.at).serial;
+        let active = self.windows.active();
+        let activation = activates.activation(window, active, front_of(&seats));
+        let touch = Touch {
+            window,
+            also: activation.also(window, active),
+            by,
+        };
+        let plan = plan_of(self.alloc, &self.gray, &self.desktop, &seats, touch)?;
+        Ok(Rearrangement { plan, activation })
+    }
+
+    /// The windows as they are to be.
+    fn seats_after(&self, edit: Edit) -> Result<Vec<Seat<'_>>, Refusal>
+        requires areas { length self.now.areas.items ≡ length self.now.windows.records.items }
+        requires at { edit.at < length self.now.windows.records.items }
+        requires to { edit.to < length self.now.windows.records.items }
+        ensures seats { IfOk result (λ seats. AreSeatsAfter edit self.now.windows.records.items self.now.areas.items seats.items) }
+        ensures refused { IfErr result (λ e. e ≡ Refusal.NoMemory) }
+    {
+        let mut seats = self.seats()?;
+        let mut seat = seats.remove(edit.at);
+        seat.place = edit.place;
+        seat.size = edit.size;
+        seat.shown = edit.shown;
+        seats.insert(edit.to, seat).unwrap();
+        Ok(seats)
+    }
+
+    /// The windows as they are.
+    fn seats(&self) -> Result<Vec<Seat<'_>>, Refusal>
+        requires { length self.now.areas.items ≡ length self.now.windows.records.items }
+        ensures seats { IfOk result (λ seats. AreSeatsOf self.now.windows.records.items self.now.areas.items seats.items) }
+        ensures length { IfOk result (λ seats. vec_len seats ≡ length self.now.windows.records.items) }
+        ensures refused { IfErr result (λ e. e ≡ Refusal.NoMemory) }
+    {
+        let mut seats = Vec::with_capacity(self.alloc, self.windows.len())?;
+        for at in 0..self.windows.len() {
+            let seat = seat_of(self.windows.at(at), &self.areas[at]);
+            seats.push(seat).unwrap();
+        }
+        Ok(seats)
+    }
+
+    /// Puts one window anew, its size as it was.
+    fn put_anew(&mut self, edit: Edit)
+        requires at { edit.at < length self.old.windows.records.items }
+        requires to { edit.to < length self.old.windows.records.items }
+        ensures put { IsPutAnew edit self.old.windows.records.items self.new.windows.records.items }
+        ensures len { length self.new.windows.records.items ≡ length self.old.windows.records.items }
+        ensures active { self.new.windows.active ≡ self.old.windows.active }
+        ensures next { self.new.windows.next ≡ self.old.windows.next }
+        ensures others { self.new ≡ record self.old { windows = self.new.windows } }
+    {
+        self.windows.move_to(edit.at, edit.to);
+        self.windows.set_stand(edit.to, edit.place, edit.shown);
+    }
+
+    /// Makes a window active, or none, where that is so.
+    fn activate(&mut self, activation: Activation)
+        requires { 0 < length self.old.windows.records.items }
+        ensures windows { self.new.windows.records.items
+            ≡ relit_all activation self.old.windows.active self.old.windows.records.items }
+        ensures len { length self.new.windows.records.items ≡ length self.old.windows.records.items }
+        ensures active { self.new.windows.active ≡ active_after activation self.old.windows.active }
+        ensures next { self.new.windows.next ≡ self.old.windows.next }
+        ensures others { self.new ≡ record self.old { windows = self.new.windows } }
+    {
+        match activation {
+            Activation::Stays => {}
+            Activation::Becomes(window) => self.windows.set_active(window),
+        }
+    }
+
+    /// Puts one window anew, its size as it was, makes active what becomes so, and draws what a plan
+    /// says.
+    fn commit_edit(&mut self, edit: Edit, activation: Activation, plan: Plan, by: Option<Point>)
+        requires at { edit.at < length self.old.windows.records.items }
+        requires to { edit.to < length self.old.windows.records.items }
+        requires settled { AreSettledAfter ⟦<Taken as Defined>⟧.loan edit activation self.old.windows.active
+            self.old.windows.records.items }
+        requires parts { vec_len plan.parts ≡ length self.old.windows.records.items }
+        ensures { IsCommitted ⟦<Taken as Defined>⟧.loan edit activation plan by self.old self.new }
+    {
+        self.put_anew(edit);
+        self.activate(activation);
+        self.commit(plan, by);
+    }
+}
+
+/// The number of the first visible window, by the seats of all.
+fn front_of(seats: &[Seat<'_>]) -> Option<u64>
+    ensures { result ≡ first_seated seats.now }
+{
+    for seat in seats {
+        if seat.shown {
+            return Some(seat.serial);
+        }
+    }
+    None
+}

@@ -1,0 +1,210 @@
+//! The calls that arrange windows: each says how one window is put anew, and what becomes active.
+ghost use Rattle.std.specs.Prelude.{◌≡◌, [], Some, MatchResult, ◌+◌, ◌&&◌, nat_lt, if◌then◌else◌, true};
+ghost use Rattle.tb_geom.specs.Points.{minus};
+ghost use Rattle.tb_geom.specs.Rects.{in_plane};
+ghost use Rattle.window_mgr.specs.declared.call.WindowCall.TheVariants as asks;
+ghost use Rattle.window_mgr.specs.declared.arrange.Activates.TheVariants.{Nothing};
+ghost use Rattle.window_mgr.specs.Edits.{StandsAt, IsPlaceBehind};
+ghost use Rattle.window_mgr.specs.Kept.{IsKept};
+ghost use Rattle.window_mgr.specs.Records.{desk_of, state_of};
+ghost use Rattle.window_mgr.specs.Refused.{first_refusal, behind_refusals};
+ghost use Rattle.window_mgr.specs.Step.{IsStep};
+ghost use Rattle.window_mgr.specs.Whole.{IsWhole};
+
+use crate::arrange::{Activates, Edit};
+use crate::find::local;
+use crate::{MoveWindow, SendBehind, ShowHide, WindowManager, WindowReply};
+use def_iface::{Defined, Stock, Stocked, Taken};
+use tb_geom::{Point, Refusal};
+use vis_update::is_placed_with;
+
+impl WindowManager {
+    /// Brings a window to the front; a visible one becomes active.
+    pub(crate) fn select(&mut self, window: u64, stock: &Stock) -> Result<WindowReply, Refusal>
+        requires { IsWhole ⟦<Taken as Defined>⟧.loan self.old (⟦<Stock as Stocked>⟧.slots stock.now) }
+        ensures whole { IsWhole ⟦<Taken as Defined>⟧.loan self.new (⟦<Stock as Stocked>⟧.slots stock.now) }
+        ensures step { IsStep (asks.Select window) result
+            (state_of ⟦<Taken as Defined>⟧.loan self.old (⟦<Stock as Stocked>⟧.slots stock.now))
+            (state_of ⟦<Taken as Defined>⟧.loan self.new (⟦<Stock as Stocked>⟧.slots stock.now)) }
+    {
+        let Some(at) = self.find(window) else {
+            return Err(Refusal::NoSuchWindow);
+        };
+        let found = self.windows.at(at);
+        let activates = if_so(found.shown, Activates::Itself);
+        let mut edit = Edit::of(at, found);
+        edit.to = 0;
+        self.rearrange(edit, activates, None, stock)
+    }
+
+    /// Brings a window to the front.
+    pub(crate) fn bring_to_front(&mut self, window: u64, stock: &Stock) -> Result<WindowReply, Refusal>
+        requires { IsWhole ⟦<Taken as Defined>⟧.loan self.old (⟦<Stock as Stocked>⟧.slots stock.now) }
+        ensures whole { IsWhole ⟦<Taken as Defined>⟧.loan self.new (⟦<Stock as Stocked>⟧.slots stock.now) }
+        ensures step { IsStep (asks.BringToFront window) result
+            (state_of ⟦<Taken as Defined>⟧.loan self.old (⟦<Stock as Stocked>⟧.slots stock.now))
+            (state_of ⟦<Taken as Defined>⟧.loan self.new (⟦<Stock as Stocked>⟧.slots stock.now)) }
+    {
+        let Some(at) = self.find(window) else {
+            return Err(Refusal::NoSuchWindow);
+        };
+        let found = self.windows.at(at);
+        let mut edit = Edit::of(at, found);
+        edit.to = 0;
+        self.rearrange(edit, Activates::Nothing, None, stock)
+    }
+
+    /// Puts a window behind another or behind all.
+    pub(crate) fn send_behind(&mut self, sent: SendBehind, stock: &Stock) -> Result<WindowReply, Refusal>
+        requires { IsWhole ⟦<Taken as Defined>⟧.loan self.old (⟦<Stock as Stocked>⟧.slots stock.now) }
+        ensures whole { IsWhole ⟦<Taken as Defined>⟧.loan self.new (⟦<Stock as Stocked>⟧.slots stock.now) }
+        ensures step { IsStep (asks.SendBehind sent) result
+            (state_of ⟦<Taken as Defined>⟧.loan self.old (⟦<Stock as Stocked>⟧.slots stock.now))
+            (state_of ⟦<Taken as Defined>⟧.loan self.new (⟦<Stock as Stocked>⟧.slots stock.now)) }
+    {
+        let Some(at) = self.find(sent.window) else {
+            return Err(Refusal::NoSuchWindow);
+        };
+        let to = match self.place_to_send(sent, at) {
+            Ok(to) => to,
+            Err(refusal) => return Err(refusal),
+        };
+        let found = self.windows.at(at);
+        let mut edit = Edit::of(at, found);
+        edit.to = to;
+        self.rearrange(edit, Activates::NextInItsPlace, None, stock)
+    }
+
+    /// The place in the list, counted without the window at this place, where it is to go behind another.
+    fn place_to_send(&self, sent: SendBehind, at: usize) -> Result<usize, Refusal>
+        requires kept { IsKept ⟦<Taken as Defined>⟧.loan self.now }
+        requires at { StandsAt self.now.windows.records.items sent.window at }
+        ensures { MatchResult result (IsPlaceBehind ⟦<Taken as Defined>⟧.loan sent at self.now)
+            (λ e. first_refusal (behind_refusals sent (desk_of ⟦<Taken as Defined>⟧.loan self.now [])) ≡ Some e) }
+    {
+        let Some(front) = sent.behind else {
+            return Ok(self.windows.len() - 1);
+        };
+        let Some(there) = self.find(front) else {
+            return Err(Refusal::NoSuchWindow);
+        };
+        if front == sent.window {
+            return Err(Refusal::OutOfRange);
+        }
+        Ok(place_behind(there, at))
+    }
+
+    /// Moves a window, and selects it where that is asked.
+    pub(crate) fn move_window(&mut self, moved: MoveWindow, stock: &Stock) -> Result<WindowReply, Refusal>
+        requires { IsWhole ⟦<Taken as Defined>⟧.loan self.old (⟦<Stock as Stocked>⟧.slots stock.now) }
+        ensures whole { IsWhole ⟦<Taken as Defined>⟧.loan self.new (⟦<Stock as Stocked>⟧.slots stock.now) }
+        ensures step { IsStep (asks.Move moved) result
+            (state_of ⟦<Taken as Defined>⟧.loan self.old (⟦<Stock as Stocked>⟧.slots stock.now))
+            (state_of ⟦<Taken as Defined>⟧.loan self.new (⟦<Stock as Stocked>⟧.slots stock.now)) }
+    {
+        let Some(at) = self.find(moved.window) else {
+            return Err(Refusal::NoSuchWindow);
+        };
+        let found = self.windows.at(at);
+        if !is_placed_with(moved.place, found.size, &found.taken) {
+            return Err(Refusal::OutOfRange);
+        }
+        let activates = if_so(both(moved.select, found.shown), Activates::Itself);
+        let by = way(found.place, moved.place);
+        let mut edit = Edit::of(at, found);
+        edit.place = moved.place;
+        edit.to = place_in(moved.select, at);
+        self.rearrange(edit, activates, Some(by), stock)
+    }
+
+    /// Makes a window visible; it becomes active where it is the first visible one then.
+    pub(crate) fn show(&mut self, window: u64, stock: &Stock) -> Result<WindowReply, Refusal>
+        requires { IsWhole ⟦<Taken as Defined>⟧.loan self.old (⟦<Stock as Stocked>⟧.slots stock.now) }
+        ensures whole { IsWhole ⟦<Taken as Defined>⟧.loan self.new (⟦<Stock as Stocked>⟧.slots stock.now) }
+        ensures step { IsStep (asks.Show window) result
+            (state_of ⟦<Taken as Defined>⟧.loan self.old (⟦<Stock as Stocked>⟧.slots stock.now))
+            (state_of ⟦<Taken as Defined>⟧.loan self.new (⟦<Stock as Stocked>⟧.slots stock.now)) }
+    {
+        let Some(at) = self.find(window) else {
+            return Err(Refusal::NoSuchWindow);
+        };
+        let found = self.windows.at(at);
+        let activates = if_so(!found.shown, Activates::ItselfIfFront);
+        let mut edit = Edit::of(at, found);
+        edit.shown = true;
+        self.rearrange(edit, activates, None, stock)
+    }
+
+    /// Makes a window hidden; where it was active, the first visible one becomes so, or none.
+    pub(crate) fn hide(&mut self, window: u64, stock: &Stock) -> Result<WindowReply, Refusal>
+        requires { IsWhole ⟦<Taken as Defined>⟧.loan self.old (⟦<Stock as Stocked>⟧.slots stock.now) }
+        ensures whole { IsWhole ⟦<Taken as Defined>⟧.loan self.new (⟦<Stock as Stocked>⟧.slots stock.now) }
+        ensures step { IsStep (asks.Hide window) result
+            (state_of ⟦<Taken as Defined>⟧.loan self.old (⟦<Stock as Stocked>⟧.slots stock.now))
+            (state_of ⟦<Taken as Defined>⟧.loan self.new (⟦<Stock as Stocked>⟧.slots stock.now)) }
+    {
+        let Some(at) = self.find(window) else {
+            return Err(Refusal::NoSuchWindow);
+        };
+        let found = self.windows.at(at);
+        let activates = if_so(found.shown, Activates::FrontInItsPlace);
+        let mut edit = Edit::of(at, found);
+        edit.shown = false;
+        self.rearrange(edit, activates, None, stock)
+    }
+
+    /// Makes a window visible or hidden.
+    pub(crate) fn show_hide(&mut self, change: ShowHide, stock: &Stock) -> Result<WindowReply, Refusal>
+        requires { IsWhole ⟦<Taken as Defined>⟧.loan self.old (⟦<Stock as Stocked>⟧.slots stock.now) }
+        ensures whole { IsWhole ⟦<Taken as Defined>⟧.loan self.new (⟦<Stock as Stocked>⟧.slots stock.now) }
+        ensures step { IsStep (asks.ShowHide change) result
+            (state_of ⟦<Taken as Defined>⟧.loan self.old (⟦<Stock as Stocked>⟧.slots stock.now))
+            (state_of ⟦<Taken as Defined>⟧.loan self.new (⟦<Stock as Stocked>⟧.slots stock.now)) }
+    {
+        let Some(at) = self.find(change.window) else {
+            return Err(Refusal::NoSuchWindow);
+        };
+        let found = self.windows.at(at);
+        let mut edit = Edit::of(at, found);
+        edit.shown = change.shown;
+        self.rearrange(edit, Activates::Nothing, None, stock)
+    }
+}
+
+/// What is activated, where that is so.
+fn if_so(holds: bool, activates: Activates) -> Activates
+    ensures { result ≡ (if holds then activates else Nothing) }
+{
+    if holds { activates } else { Activates::Nothing }
+}
+
+/// Whether both hold.
+fn both(one: bool, other: bool) -> bool
+    ensures { result ≡ (one && other) }
+{
+    one && other
+}
+
+/// The place in the list, counted without a window, of what goes behind another: the places of both
+/// are given.
+fn place_behind(there: usize, at: usize) -> usize
+    ensures { result ≡ (if nat_lt there at then there + 1 else there) }
+{
+    if there < at { there + 1 } else { there }
+}
+
+/// The place in the list of a window that is brought to the front, or stays where it is.
+fn place_in(front: bool, at: usize) -> usize
+    ensures { result ≡ (if front then 0 else at) }
+{
+    if front { 0 } else { at }
+}
+
+/// How far it is from one place to another.
+fn way(from: Point, to: Point) -> Point
+    requires from { in_plane from ≡ true }
+    requires to { in_plane to ≡ true }
+    ensures { result ≡ minus to from }
+{
+    local(to, from)
+}

@@ -1,0 +1,153 @@
+//! What the Window Manager can be asked, and what it answers.
+
+use def_iface::Size;
+use op_ref::{BytesRef, OpRef};
+use tb_geom::Point;
+
+/// A call of the Window Manager. A window is named by its number; no window has the number 0, and
+/// one that is not there is NoSuchWindow. Texts and the bytes of operations are borrowed, so that a call
+/// takes no memory.
+#[derive(Drop)]
+pub enum WindowCall<'a> {
+    /// Makes a window in front of all others; a visible one becomes active.
+    New(NewWindow<'a>),
+    /// Makes a window visible, and active where it is the first visible one then (ShowWindow).
+    Show(u64),
+    /// Makes a window hidden; it keeps its place in the order (HideWindow). Where it was active, the
+    /// first visible window becomes so, or none.
+    Hide(u64),
+    /// Makes a window visible or hidden, and changes no highlighting (ShowHide).
+    ShowHide(ShowHide),
+    /// Brings a window to the front; a visible one becomes active (SelectWindow).
+    Select(u64),
+    /// Brings a window to the front, and changes no highlighting (BringToFront).
+    BringToFront(u64),
+    /// Puts a window behind another or behind all (SendBehind). Where it was active, the first visible
+    /// window becomes so.
+    SendBehind(SendBehind),
+    /// Moves a window, and selects it where that is asked (MoveWindow). OutOfRange where it may not be
+    /// there.
+    Move(MoveWindow),
+    /// Adds an operation to a window's picture, and draws it where the picture shows.
+    Draw(Drawing<'a>),
+    /// Whose a point of the screen is (FindWindow). A point outside the range of coordinates is
+    /// OutOfRange.
+    Find(Point),
+    /// Which window is the first visible one (FrontWindow).
+    Front,
+    /// Where a window stands, and how.
+    Info(u64),
+}
+
+/// A window that is to be visible, or hidden.
+#[derive(Clone, Copy, Debug, PartialEq, Eq)]
+pub struct ShowHide {
+    pub window: u64,
+    pub shown: bool,
+}
+
+/// A window that is to go behind another.
+#[derive(Clone, Copy, Debug, PartialEq, Eq)]
+pub struct SendBehind {
+    pub window: u64,
+    /// The window in front of it then, another than itself, or None: behind all others.
+    pub behind: Option<u64>,
+}
+
+/// A window that is to stand elsewhere.
+#[derive(Clone, Copy, Debug, PartialEq, Eq)]
+pub struct MoveWindow {
+    pub window: u64,
+    /// Where the content's 0 0 is to lie on the screen.
+    pub place: Point,
+    /// Whether it is selected too.
+    pub select: bool,
+}
+
+/// A window to be made (NewWindow: *Inside Macintosh* I, "The Window Manager").
+#[derive(Drop)]
+pub struct NewWindow<'a> {
+    /// The name of the kind, by which the stock finds a definition.
+    pub kind: BytesRef<'a>,
+    /// Where the content's 0 0 lies on the screen.
+    pub place: Point,
+    pub size: Size,
+    pub shown: bool,
+    /// Whether it has a go-away box.
+    pub go_away: bool,
+    /// At most 255 bytes.
+    pub title: BytesRef<'a>,
+}
+
+/// What is to be drawn in a window.
+#[derive(Drop)]
+pub struct Drawing<'a> {
+    /// The number of the window. No window has the number 0.
+    pub window: u64,
+    /// In the coordinates of the window's picture.
+    pub operation: OpRef<'a>,
+}
+
+/// A part of the screen, as FindWindow answers it (*Inside Macintosh* I, "The Window Manager").
+#[derive(Clone, Copy, Debug, PartialEq, Eq)]
+pub enum WindowPart {
+    /// The desktop, what lies off the screen, and a part of a window in which a click means nothing.
+    InDesk = 0,
+    InMenuBar = 1,
+    InContent = 3,
+    /// Where a window can be dragged.
+    InDrag = 4,
+    /// Where its size can be changed.
+    InGrow = 5,
+    /// The box that closes it.
+    InGoAway = 6,
+    /// The box that gives a zoomed window its own size back.
+    InZoomIn = 7,
+    /// The box that zooms it.
+    InZoomOut = 8,
+}
+
+impl WindowPart {
+    ghost use Rattle.std.specs.Prelude.{◌≡◌};
+    ghost use Rattle.window_mgr.specs.Finding.{part_number};
+
+    /// The code of the part.
+    pub fn number(self) -> u8
+        ensures { result ≡ part_number self }
+    {
+        self as u8
+    }
+}
+
+/// What FindWindow found at a point.
+#[derive(Clone, Copy, Debug, PartialEq, Eq)]
+pub struct Found {
+    pub part: WindowPart,
+    /// The window whose point it is, if it is one's.
+    pub window: Option<u64>,
+}
+
+/// What is told of a window.
+#[derive(Clone, Copy, Debug, PartialEq, Eq)]
+pub struct WindowInfo {
+    /// Where the content's 0 0 lies on the screen.
+    pub place: Point,
+    pub size: Size,
+    pub shown: bool,
+    pub highlighted: bool,
+}
+
+/// The value of a call that was done.
+#[derive(Drop)]
+pub enum WindowReply {
+    /// Nothing more than that it was done.
+    Done,
+    /// The number of a new window, from 1.
+    Made(u64),
+    /// Whose a point is.
+    Found(Found),
+    /// The number of the first visible window, if there is one.
+    Front(Option<u64>),
+    /// Where a window stands, and how.
+    Info(WindowInfo),
+}

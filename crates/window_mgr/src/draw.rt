@@ -1,0 +1,131 @@
+//! The call that draws.
+ghost use Rattle.std.specs.Prelude.{◌≡◌, ◌++◌, ◌∷◌, [], List, OnOk, Some, None, IfErr, MatchResult, MatchOption, IsSomeAnd, slice_get, true, ◌+ℤ◌};
+ghost use Rattle.tb_geom.specs.declared.point.Point.{Point};
+ghost use Rattle.tb_geom.specs.Points.{minus, plus};
+ghost use Rattle.tb_geom.specs.Rects.{in_plane, is_coordinate};
+ghost use Rattle.tb_geom.specs.Pixels.{holds};
+ghost use Rattle.bit_blit.specs.Draws.{Draws};
+ghost use Rattle.draw_port.specs.declared.shapes.Op.{Op};
+ghost use Rattle.draw_port.specs.Ops.{op_value};
+ghost use Rattle.window_mgr.specs.declared.call.WindowCall.TheVariants.{Draw};
+ghost use Rattle.window_mgr.specs.Finding.{record_with};
+ghost use Rattle.window_mgr.specs.Kept.{IsKept};
+ghost use Rattle.window_mgr.specs.Planned.{SameDesk, MayDraw, IsDrawnAt};
+ghost use Rattle.window_mgr.specs.Records.{desk_of};
+ghost use Rattle.window_mgr.specs.Refused.{IsRefusal, is_formal};
+
+use crate::{Drawing, WindowManager};
+use bit_map::BitMap;
+use def_iface::{Defined, Taken};
+use draw_port::{Canvas, Cut};
+use strike_font::Font;
+use tb_geom::{Point, Refusal};
+use vis_update::Area;
+use window_list::Window;
+
+/// As many operations as a picture may have.
+const MOST_OPERATIONS: usize = 1024;
+
+impl WindowManager {
+    /// The place of the window that is drawn in, where nothing but memory can refuse that.
+    pub(crate) fn place_to_draw(&self, drawing: &Drawing<'_>) -> Result<usize, Refusal>
+        requires { IsKept ⟦<Taken as Defined>⟧.loan self.now }
+        ensures { MatchResult result (MayDraw drawing.now self.now)
+            (λ e. IsRefusal (Draw drawing.now) (desk_of ⟦<Taken as Defined>⟧.loan self.now []) (Some e)) }
+    {
+        match (drawing.operation.judge(), self.find(drawing.window)) {
+            (Err(refusal), _) if is_formal(refusal) => Err(refusal),
+            (_, None) => Err(Refusal::NoSuchWindow),
+            (Err(refusal), Some(_)) => Err(refusal),
+            (Ok(()), Some(at)) => {
+                if self.windows.at(at).picture.ops().len() < MOST_OPERATIONS {
+                    Ok(at)
+                } else {
+                    Err(Refusal::TooMany)
+                }
+            }
+        }
+    }
+
+    /// Adds an operation to the picture of the window at this place, and draws it on each pixel of
+    /// the screen that the picture owns. NoMemory is the only refusal, and leaves the desk.
+    pub(crate) fn add_operation(&mut self, at: usize, drawing: &Drawing<'_>) -> Result<(), Refusal>
+        requires kept { IsKept ⟦<Taken as Defined>⟧.loan self.old }
+        requires may { MayDraw drawing.now self.old at }
+        ensures drawn { OnOk result (IsDrawnAt at drawing.now self.old self.new) }
+        ensures refused { IfErr result (λ e. (e ≡ Refusal.NoMemory) × SameDesk self.old self.new) }
+    {
+        let Ok(operation) = drawing.operation.to_op(self.alloc) else {
+            return Err(Refusal::NoMemory);
+        };
+        if self.windows.push_operation(at, operation).is_err() {
+            return Err(Refusal::NoMemory);
+        }
+        show_last(
+            &mut self.screen,
+            &self.areas[at],
+            self.windows.at(at),
+            &self.font,
+        );
+        Ok(())
+    }
+}
+
+/// Whether it is a refusal of bytes that have not their form, which comes before those of what a call
+/// names.
+fn is_formal(refusal: Refusal) -> bool
+    ensures { result ≡ is_formal refusal }
+{
+    match refusal {
+        Refusal::BadSyntax | Refusal::BadRegion => true,
+        _ => false,
+    }
+}
+
+/// Draws the last operation of a window's picture, if there is one, on the pixels of its content that
+/// show.
+fn show_last(screen: &mut BitMap, area: &Area, window: &Window, font: &Font)
+    requires placed { in_plane window.now.place ≡ true }
+    requires origin { in_plane window.now.origin ≡ true }
+    ensures { (before : List Op) (op : Op) → window.now.picture ≡ before ++ op ∷ []
+        → Draws (holds area.now.visible) (λ p value. op_value font.now op (minus (minus p window.now.place) window.now.origin) value)
+        screen.old screen.new }
+{
+    let Some(operation) = window.picture.ops().last() else {
+        return;
+    };
+    let cut = Cut {
+        inside: [Some(&area.visible), None, None],
+        outside: None,
+    };
+    let clip = area.visible.bbox();
+    let mut canvas = Canvas {
+        map: screen,
+        clip,
+        origin: picture_place(window.place, window.origin),
+        cut: &cut,
+        font,
+    };
+    canvas.paint(operation);
+}
+
+/// Where the 0 0 of a picture lies on the screen, whose origin in a window at this place is given.
+fn picture_place(place: Point, origin: Point) -> Point
+    requires placed { in_plane place ≡ true }
+    requires origin { in_plane origin ≡ true }
+    ensures { result ≡ plus place origin }
+{
+    Point {
+        h: sum(place.h, origin.h),
+        v: sum(place.v, origin.v),
+    }
+}
+
+/// The sum of two coordinates.
+fn sum(a: i32, b: i32) -> i32
+    requires a { is_coordinate a ≡ true }
+    requires b { is_coordinate b ≡ true }
+    ensures { result ≡ a +ℤ b }
+{
+    a + b
+}

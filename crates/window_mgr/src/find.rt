@@ -1,0 +1,138 @@
+//! The calls that ask whose a point is, and which window is in front.
+ghost use Rattle.std.specs.Prelude.{◌≡◌, if◌then◌else◌, Ok, Err, Some, [], ◌-ℤ◌, position, true};
+ghost use Rattle.tb_geom.specs.declared.refusal.Refusal.TheVariants.{OutOfRange};
+ghost use Rattle.tb_geom.specs.Points.{minus};
+ghost use Rattle.tb_geom.specs.Rects.{in_plane, is_coordinate};
+ghost use Rattle.def_iface.specs.Desk.{on_screen, in_bar};
+ghost use Rattle.window_mgr.specs.FullDesk.{layered_desk};
+ghost use Rattle.window_mgr.specs.Kept.{IsKept};
+ghost use Rattle.vis_update.specs.Areas.{area_has};
+ghost use Rattle.window_mgr.specs.Finding.{found_at, found_none, part_of_hit, front_of};
+ghost use Rattle.vis_update.specs.Records.{record_of};
+ghost use Rattle.window_mgr.specs.Records.{desk_of};
+ghost use Rattle.window_mgr.specs.Whole.{IsSettled};
+
+use crate::{Found, WindowManager, WindowPart};
+use def_iface::{Defined, Hit, Taken};
+use tb_geom::{Point, Refusal};
+use window_list::Window;
+
+impl WindowManager {
+    /// Whose the point of the screen is. OutOfRange where it lies outside the range of coordinates.
+    pub(crate) fn find_window(&self, point: Point) -> Result<Found, Refusal>
+        requires { IsKept ⟦<Taken as Defined>⟧.loan self.now }
+        ensures { result ≡ (if in_plane point
+            then Ok (found_at (desk_of ⟦<Taken as Defined>⟧.loan self.now []) point)
+            else Err OutOfRange) }
+    {
+        if point.is_in_range() {
+            Ok(self.found_at(point))
+        } else {
+            Err(Refusal::OutOfRange)
+        }
+    }
+
+    /// Whose the point is.
+    fn found_at(&self, point: Point) -> Found
+        requires asked { IsKept ⟦<Taken as Defined>⟧.loan self.now }
+        requires in_plane { in_plane point ≡ true }
+        ensures { result ≡ found_at (desk_of ⟦<Taken as Defined>⟧.loan self.now []) point }
+    {
+        if !self.is_on_screen(point) {
+            return found_none(WindowPart::InDesk);
+        }
+        if self.is_in_bar(point) {
+            return found_none(WindowPart::InMenuBar);
+        }
+        match self.window_at(point) {
+            Some(at) => found(self.windows.at(at), point),
+            None => found_none(WindowPart::InDesk),
+        }
+    }
+
+    /// Whether the screen has the pixel.
+    fn is_on_screen(&self, point: Point) -> bool
+        ensures { result ≡ on_screen (layered_desk (desk_of ⟦<Taken as Defined>⟧.loan self.now [])) point }
+    {
+        self.screen.bounds().contains(point)
+    }
+
+    /// Whether the pixel, if it is the screen's, is the menu bar's.
+    fn is_in_bar(&self, point: Point) -> bool
+        ensures { result ≡ in_bar (layered_desk (desk_of ⟦<Taken as Defined>⟧.loan self.now [])) point }
+    {
+        point.v < self.bar
+    }
+
+    /// The place of the window that owns the pixel.
+    fn window_at(&self, point: Point) -> Option<usize>
+        ensures { result ≡ position (area_has point) self.now.areas.items }
+    {
+        self.areas.iter().position(|area| area.has(point))
+    }
+
+    /// The first visible window.
+    pub(crate) fn front_window(&self) -> Option<u64>
+        ensures { result ≡ front_of (desk_of ⟦<Taken as Defined>⟧.loan self.now []).windows }
+    {
+        self.windows.front()
+    }
+}
+
+/// The window, and the part of it that the point of the screen lies in.
+fn found(window: &Window, point: Point) -> Found
+    requires settled { IsSettled (record_of ⟦<Taken as Defined>⟧.loan window.now) }
+    requires in_plane { in_plane point ≡ true }
+    ensures { result ≡ record {
+      part = part_of_hit ((⟦<Taken as Defined>⟧.loan window.now.taken).definition.hit (minus point window.now.place));
+      window = Some window.now.serial;
+    } }
+{
+    Found {
+        part: part_of_hit(window.taken.hit(local(point, window.place))),
+        window: Some(window.serial),
+    }
+}
+
+/// The point of the screen in the coordinates of a window at this place.
+pub(crate) fn local(point: Point, place: Point) -> Point
+    requires point { in_plane point ≡ true }
+    requires place { in_plane place ≡ true }
+    ensures { result ≡ minus point place }
+{
+    Point {
+        h: difference(point.h, place.h),
+        v: difference(point.v, place.v),
+    }
+}
+
+/// How far a coordinate lies past another.
+fn difference(there: i32, here: i32) -> i32
+    requires there { is_coordinate there ≡ true }
+    requires here { is_coordinate here ≡ true }
+    ensures { result ≡ there -ℤ here }
+{
+    there - here
+}
+
+/// No window, and this part.
+fn found_none(part: WindowPart) -> Found
+    ensures { result ≡ found_none part }
+{
+    Found { part, window: None }
+}
+
+/// The part that FindWindow answers where a definition answers this hit.
+fn part_of_hit(hit: Hit) -> WindowPart
+    ensures { result ≡ part_of_hit hit }
+{
+    match hit {
+        Hit::NoHit => WindowPart::InDesk,
+        Hit::InContent => WindowPart::InContent,
+        Hit::InDrag => WindowPart::InDrag,
+        Hit::InGrow => WindowPart::InGrow,
+        Hit::InGoAway => WindowPart::InGoAway,
+        Hit::InZoomIn => WindowPart::InZoomIn,
+        Hit::InZoomOut => WindowPart::InZoomOut,
+    }
+}

@@ -1,0 +1,44 @@
+//! The Window Manager: a desk of windows on one screen, and the calls that change it.
+//!
+//! What a desk is, a reader finds in `specs/`, and nowhere in code: `FullDesk` has the windows' records, from
+//! front to back, each with the operations of its picture, and no region and no saved pixel. `Step` says what a
+//! call leaves and answers (`IsStep`): a call that nothing refuses has its effect; a refused one changes nothing, and its
+//! answer is the first refusal of the written order whose condition holds (`Refused`), or NoMemory where no other
+//! holds and the call may ask for memory. There are few kinds of effect (`Effects`): a window is made, an operation is
+//! drawn, windows are arranged, something is told. How each call arranges the windows, and which becomes active, stands
+//! in `Arrange`.
+//!
+//! A `WindowManager` keeps more than the desk: the screen, and for each window the regions that its content and its frame
+//! own on the screen and what of the content is not yet drawn (`Area`). `Records` reads the desk and its state off it;
+//! `IsWhole` (in `Whole`) says that what is kept agrees with the desk. Every call keeps it.
+//!
+//! Definitions live outside, in a `Stock` that each call is handed. A window's record holds its definition together
+//! with the number of the slot that it came from, until the end puts it back Closed.
+//!
+//! A call is judged and takes all its memory before the first change: its plan (`vis_update`) says what each window will
+//! own and what changes on the screen, and `commit` draws it, whichever call it was made for. `arrange` puts one window
+//! anew among the others, `new_window` adds one, `draw` draws in one.
+//!
+//! Whose a pixel is, the calls that ask (`find`) read off the same regions: the window whose visible content or frame
+//! has it owns it. There may be 64 windows.
+#![tactic(auto)]
+
+mod arrange;
+mod arranging;
+mod call;
+mod close;
+mod commit;
+mod draw;
+mod find;
+pub mod laws;
+mod make;
+mod manager;
+mod new_window;
+#[cfg(test)]
+mod tests;
+
+pub use call::{
+    Drawing, Found, MoveWindow, NewWindow, SendBehind, ShowHide, WindowCall, WindowInfo, WindowPart,
+    WindowReply,
+};
+pub use manager::{NotBegun, WindowManager};

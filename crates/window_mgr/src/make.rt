@@ -1,0 +1,116 @@
+//! Calls, one by one.
+ghost use Rattle.std.specs.Prelude.{◌≡◌};
+ghost use Rattle.window_mgr.specs.declared.call.WindowCall.TheVariants.{New, Draw, Find, Front, Info};
+ghost use Rattle.window_mgr.specs.Records.{state_of};
+ghost use Rattle.window_mgr.specs.Step.{IsStep};
+ghost use Rattle.window_mgr.specs.Whole.{IsWhole};
+
+use crate::{Drawing, NewWindow, WindowCall, WindowInfo, WindowManager, WindowReply};
+use def_iface::{Defined, Stock, Stocked, Taken};
+use tb_geom::{Point, Refusal};
+use window_list::Window;
+
+impl WindowManager {
+    /// Makes one call, and gives its answer. A refused call changes nothing; which refusal comes
+    /// first where several would do stands with the call.
+    pub fn make(&mut self, call: &WindowCall<'_>, stock: &mut Stock) -> Result<WindowReply, Refusal>
+        requires { IsWhole ⟦<Taken as Defined>⟧.loan self.old (⟦<Stock as Stocked>⟧.slots stock.old) }
+        ensures whole { IsWhole ⟦<Taken as Defined>⟧.loan self.new (⟦<Stock as Stocked>⟧.slots stock.new) }
+        ensures step { IsStep call.now result
+            (state_of ⟦<Taken as Defined>⟧.loan self.old (⟦<Stock as Stocked>⟧.slots stock.old))
+            (state_of ⟦<Taken as Defined>⟧.loan self.new (⟦<Stock as Stocked>⟧.slots stock.new)) }
+    {
+        match call {
+            WindowCall::New(window) => self.answer_new(window, stock),
+            WindowCall::Show(window) => self.show(*window, stock),
+            WindowCall::Hide(window) => self.hide(*window, stock),
+            WindowCall::ShowHide(change) => self.show_hide(*change, stock),
+            WindowCall::Select(window) => self.select(*window, stock),
+            WindowCall::BringToFront(window) => self.bring_to_front(*window, stock),
+            WindowCall::SendBehind(sent) => self.send_behind(*sent, stock),
+            WindowCall::Move(moved) => self.move_window(*moved, stock),
+            WindowCall::Draw(drawing) => self.answer_draw(drawing, stock),
+            WindowCall::Find(point) => self.answer_find(*point, stock),
+            WindowCall::Front => self.answer_front(stock),
+            WindowCall::Info(window) => self.answer_info(*window, stock),
+        }
+    }
+
+    /// Makes a window, and answers its number.
+    fn answer_new(&mut self, window: &NewWindow<'_>, stock: &mut Stock) -> Result<WindowReply, Refusal>
+        requires { IsWhole ⟦<Taken as Defined>⟧.loan self.old (⟦<Stock as Stocked>⟧.slots stock.old) }
+        ensures whole { IsWhole ⟦<Taken as Defined>⟧.loan self.new (⟦<Stock as Stocked>⟧.slots stock.new) }
+        ensures step { IsStep (New window.now) result
+            (state_of ⟦<Taken as Defined>⟧.loan self.old (⟦<Stock as Stocked>⟧.slots stock.old))
+            (state_of ⟦<Taken as Defined>⟧.loan self.new (⟦<Stock as Stocked>⟧.slots stock.new)) }
+    {
+        Ok(WindowReply::Made(self.new_window(window, stock)?))
+    }
+
+    /// Adds an operation to the picture of a window, and draws it on each pixel of the screen that
+    /// the picture owns, to be redrawn or not. The refusal is the first of these: BadSyntax and
+    /// BadRegion as `OpRef::judge` has them, NoSuchWindow, OutOfRange and TooLong as it has them, TooMany
+    /// where the picture has 1024 operations, NoMemory.
+    fn answer_draw(&mut self, drawing: &Drawing<'_>, _stock: &Stock) -> Result<WindowReply, Refusal>
+        requires { IsWhole ⟦<Taken as Defined>⟧.loan self.old (⟦<Stock as Stocked>⟧.slots _stock.now) }
+        ensures whole { IsWhole ⟦<Taken as Defined>⟧.loan self.new (⟦<Stock as Stocked>⟧.slots _stock.now) }
+        ensures step { IsStep (Draw drawing.now) result
+            (state_of ⟦<Taken as Defined>⟧.loan self.old (⟦<Stock as Stocked>⟧.slots _stock.now))
+            (state_of ⟦<Taken as Defined>⟧.loan self.new (⟦<Stock as Stocked>⟧.slots _stock.now)) }
+    {
+        let at = self.place_to_draw(drawing)?;
+        match self.add_operation(at, drawing) {
+            Ok(()) => Ok(WindowReply::Done),
+            Err(refusal) => Err(refusal),
+        }
+    }
+
+    /// Answers whose a point of the screen is.
+    fn answer_find(&self, point: Point, _stock: &Stock) -> Result<WindowReply, Refusal>
+        requires { IsWhole ⟦<Taken as Defined>⟧.loan self.now (⟦<Stock as Stocked>⟧.slots _stock.now) }
+        ensures { IsStep (Find point) result
+            (state_of ⟦<Taken as Defined>⟧.loan self.now (⟦<Stock as Stocked>⟧.slots _stock.now))
+            (state_of ⟦<Taken as Defined>⟧.loan self.now (⟦<Stock as Stocked>⟧.slots _stock.now)) }
+    {
+        Ok(WindowReply::Found(self.find_window(point)?))
+    }
+
+    /// Answers which window is the first visible one.
+    fn answer_front(&self, _stock: &Stock) -> Result<WindowReply, Refusal>
+        ensures { IsStep Front result
+            (state_of ⟦<Taken as Defined>⟧.loan self.now (⟦<Stock as Stocked>⟧.slots _stock.now))
+            (state_of ⟦<Taken as Defined>⟧.loan self.now (⟦<Stock as Stocked>⟧.slots _stock.now)) }
+    {
+        Ok(WindowReply::Front(self.front_window()))
+    }
+
+    /// Tells how a window stands.
+    fn answer_info(&self, window: u64, _stock: &Stock) -> Result<WindowReply, Refusal>
+        requires { IsWhole ⟦<Taken as Defined>⟧.loan self.now (⟦<Stock as Stocked>⟧.slots _stock.now) }
+        ensures { IsStep (Info window) result
+            (state_of ⟦<Taken as Defined>⟧.loan self.now (⟦<Stock as Stocked>⟧.slots _stock.now))
+            (state_of ⟦<Taken as Defined>⟧.loan self.now (⟦<Stock as Stocked>⟧.slots _stock.now)) }
+    {
+        match self.find(window) {
+            Some(at) => Ok(WindowReply::Info(info_of(self.windows.at(at)))),
+            None => Err(Refusal::NoSuchWindow),
+        }
+    }
+}
+
+/// How a window stands.
+fn info_of(window: &Window) -> WindowInfo
+    ensures { result ≡ record {
+      place = window.now.place;
+      size = window.now.size;
+      shown = window.now.shown;
+      highlighted = window.now.highlighted;
+    } }
+{
+    WindowInfo {
+        place: window.place,
+        size: window.size,
+        shown: window.shown,
+        highlighted: window.highlighted,
+    }
+}

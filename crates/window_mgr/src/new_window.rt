@@ -1,0 +1,240 @@
+//! The call that makes a window.
+ghost use Rattle.std.specs.Prelude.{◌≡◌, ◌+◌, ◌++◌, ◌∷◌, [], true, map, if◌then◌else◌, Some, None, All, IfOk, IfErr, MatchResult, length, vec_len};
+ghost use Rattle.def_iface.specs.Meaning.{is_fitting};
+ghost use Rattle.vis_update.specs.Records.{record_of};
+ghost use Rattle.vis_update.specs.Places.{is_placed};
+ghost use Rattle.window_mgr.specs.Records.{desk_of, state_of};
+ghost use Rattle.window_mgr.specs.Refused.{first_refusal, judged_refusals};
+ghost use Rattle.window_mgr.specs.Kept.{IsKept};
+ghost use Rattle.window_mgr.specs.Planned.{IsPlanWith, IsUnplanned, SameDesk, IsTicket, IsPlanned, IsAdded};
+ghost use Rattle.window_mgr.specs.Seats.{AreSeatsBehind};
+ghost use Rattle.window_mgr.specs.Effects.{new_record};
+ghost use Rattle.window_mgr.specs.Step.{IsMade, IsNotMade};
+ghost use Rattle.window_mgr.specs.Whole.{IsWhole, IsSettled};
+
+use crate::{NewWindow, WindowManager};
+use def_iface::{Defined, Stage, Stock, Stocked, Taken};
+use draw_port::Picture;
+use std::alloc::Global;
+use tb_geom::{Point, Refusal};
+use vis_update::{Area, Plan, Seat, Touch, is_placed_alone, is_placed_with, plan_of, seat_of};
+use window_list::{Title, Window};
+
+/// As many windows as there may be.
+const MOST_WINDOWS: usize = 64;
+
+/// What a new window gets where its place, its title and the count of windows allow it.
+#[derive(Drop)]
+struct Ticket {
+    serial: u64,
+    title: Title,
+}
+
+/// What a new window gets, with all the memory that it needs.
+#[derive(Drop)]
+struct Addition {
+    ticket: Ticket,
+    touch: Touch,
+    plan: Plan,
+}
+
+impl WindowManager {
+    /// Makes a window in front of all others, and answers its number.
+    pub(crate) fn new_window(
+        &mut self,
+        window: &NewWindow<'_>,
+        stock: &mut Stock,
+    ) -> Result<u64, Refusal>
+        requires { IsWhole ⟦<Taken as Defined>⟧.loan self.old (⟦<Stock as Stocked>⟧.slots stock.old) }
+        ensures whole { IsWhole ⟦<Taken as Defined>⟧.loan self.new (⟦<Stock as Stocked>⟧.slots stock.new) }
+        ensures step { let before = state_of ⟦<Taken as Defined>⟧.loan self.old (⟦<Stock as Stocked>⟧.slots stock.old) in
+            let after = state_of ⟦<Taken as Defined>⟧.loan self.new (⟦<Stock as Stocked>⟧.slots stock.new) in
+            MatchResult result (λ serial. IsMade window.now serial before after)
+            (λ e. IsNotMade window.now e before after) }
+    {
+        match stock.take(window.kind.as_slice()) {
+            Ok(taken) => match self.plan_window(window, &taken) {
+                Ok(addition) => {
+                    let serial = addition.ticket.serial;
+                    self.add_window(window, addition, taken);
+                    Ok(serial)
+                }
+                Err(refusal) => {
+                    stock.put_back(taken);
+                    Err(refusal)
+                }
+            },
+            Err(Refusal::NoDefinition) => Err(self.refusal_without(window)),
+            Err(refusal) => Err(refusal),
+        }
+    }
+
+    /// All that can be refused of a window with this definition, and all growth.
+    fn plan_window(&mut self, window: &NewWindow<'_>, taken: &Taken) -> Result<Addition, Refusal>
+        requires { IsKept ⟦<Taken as Defined>⟧.loan self.old }
+        ensures same { SameDesk self.old self.new }
+        ensures ok { let d = (⟦<Taken as Defined>⟧.loan taken.now).definition in IfOk result (λ addition.
+            (first_refusal (judged_refusals window.now (is_placed (Some d) window.now.place window.now.size)
+            (length self.old.windows.records.items) self.old.windows.next) ≡ None)
+            × IsPlanned ⟦<Taken as Defined>⟧.loan window.now d self.new addition) }
+        ensures err { let d = (⟦<Taken as Defined>⟧.loan taken.now).definition in IfErr result (
+            IsUnplanned window.now (is_placed (Some d) window.now.place window.now.size)
+            (length self.old.windows.records.items) self.old.windows.next) }
+    {
+        let ticket = self.judge(window, is_placed_with(window.place, window.size, taken))?;
+        let touch = new_touch(window.shown, ticket.serial, self.windows.active());
+        let plan = self.plan_with(window, taken, touch)?;
+        self.windows.reserve()?;
+        Ok(Addition {
+            ticket,
+            touch,
+            plan,
+        })
+    }
+
+    /// Why a window is refused that no definition is left for.
+    fn refusal_without(&self, window: &NewWindow<'_>) -> Refusal
+        ensures { first_refusal (judged_refusals window.now (is_placed None window.now.place window.now.size)
+            (length (desk_of ⟦<Taken as Defined>⟧.loan self.now []).windows) self.now.windows.next
+            ++ (true, Refusal.NoDefinition) ∷ []) ≡ Some result }
+    {
+        match self.judge(window, is_placed_alone(window.place, window.size)) {
+            Ok(_ticket) => Refusal::NoDefinition,
+            Err(refusal) => refusal,
+        }
+    }
+
+    /// The ticket of a new window, where nothing but its definition and memory can refuse it.
+    fn judge(&self, window: &NewWindow<'_>, is_placed: bool) -> Result<Ticket, Refusal>
+        ensures { let refusals = judged_refusals window.now is_placed (length self.now.windows.records.items)
+            self.now.windows.next in
+            MatchResult result (λ ticket. (first_refusal refusals ≡ None) × IsTicket window.now self.now ticket)
+            (λ e. first_refusal refusals ≡ Some e) }
+    {
+        if !is_placed {
+            return Err(Refusal::OutOfRange);
+        }
+        let mut title = Title::new();
+        if title
+            .try_extend_from_slice(window.title.as_slice())
+            .is_err()
+        {
+            return Err(Refusal::TooLong);
+        }
+        match self.windows.next() {
+            Some(serial) if self.windows.len() < MOST_WINDOWS => Ok(Ticket { serial, title }),
+            _ => Err(Refusal::TooMany),
+        }
+    }
+
+    /// The plan of all windows, with a new one in front.
+    fn plan_with(
+        &self,
+        window: &NewWindow<'_>,
+        taken: &Taken,
+        touch: Touch,
+    ) -> Result<Plan, Refusal>
+        requires kept { IsKept ⟦<Taken as Defined>⟧.loan self.now }
+        requires placed { is_placed (Some (⟦<Taken as Defined>⟧.loan taken.now).definition)
+            window.now.place window.now.size ≡ true }
+        requires number { self.now.windows.next ≡ Some touch.window }
+        ensures plan { IfOk result (λ plan. IsPlanWith ⟦<Taken as Defined>⟧.loan window.now touch.window
+            (⟦<Taken as Defined>⟧.loan taken.now).definition touch self.now plan) }
+        ensures some { IfOk result (λ plan. vec_len plan.parts ≡ length self.now.windows.records.items + 1) }
+        ensures refused { IfErr result (λ e. e ≡ Refusal.NoMemory) }
+    {
+        let nothing = Area::empty(self.alloc);
+        let front = Seat {
+            serial: touch.window,
+            place: window.place,
+            size: window.size,
+            shown: window.shown,
+            taken,
+            area: &nothing,
+        };
+        let seats = self.seats_behind(front)?;
+        let plan = plan_of(self.alloc, &self.gray, &self.desktop, &seats, touch)?;
+        Ok(plan)
+    }
+
+    /// The windows as they are, behind a new one.
+    fn seats_behind<'a>(&'a self, front: Seat<'a>) -> Result<Vec<Seat<'a>>, Refusal>
+        requires { length self.now.areas.items ≡ length self.now.windows.records.items }
+        ensures seats { IfOk result (λ seats. AreSeatsBehind front.entry
+            self.now.windows.records.items self.now.areas.items seats.items) }
+        ensures refused { IfErr result (λ e. e ≡ Refusal.NoMemory) }
+    {
+        let mut seats = Vec::with_capacity(self.alloc, self.windows.len() + 1)?;
+        seats.push(front).unwrap();
+        for at in 0..self.windows.len() {
+            let seat = seat_of(self.windows.at(at), &self.areas[at]);
+            seats.push(seat).unwrap();
+        }
+        Ok(seats)
+    }
+
+    /// Puts a planned window in front of all others, and draws what changes.
+    fn add_window(&mut self, window: &NewWindow<'_>, addition: Addition, taken: Taken)
+        requires fresh { (⟦<Taken as Defined>⟧.loan taken).definition.stage ≡ Stage.Fresh }
+        requires fits { is_fitting (⟦<Taken as Defined>⟧.loan taken).definition window.now.size ≡ true }
+        requires may_stand { is_placed (Some (⟦<Taken as Defined>⟧.loan taken).definition)
+            window.now.place window.now.size ≡ true }
+        requires settled { All IsSettled (map (record_of ⟦<Taken as Defined>⟧.loan) self.old.windows.records.items) }
+        requires planned { IsPlanned ⟦<Taken as Defined>⟧.loan window.now
+            (⟦<Taken as Defined>⟧.loan taken).definition self.old addition }
+        ensures { IsAdded ⟦<Taken as Defined>⟧.loan window.now addition.ticket.serial (⟦<Taken as Defined>⟧.loan taken)
+            addition.touch addition.plan self.old self.new }
+    {
+        let Addition {
+            ticket,
+            touch,
+            plan,
+        } = addition;
+        let Ticket { serial, title } = ticket;
+        let mut taken = taken;
+        taken.begin(window.size);
+        let added = record_for(self.alloc, window, serial, title, taken);
+        self.windows.add(added);
+        self.commit(plan, touch.by);
+    }
+}
+
+/// What a new window does with the windows.
+fn new_touch(shown: bool, serial: u64, active: Option<u64>) -> Touch
+    ensures { result ≡ record { window = serial; also = if shown then active else None; by = None } }
+{
+    Touch {
+        window: serial,
+        also: if shown { active } else { None },
+        by: None,
+    }
+}
+
+/// The record of a new window, with its definition. A visible one is highlighted, and its picture is
+/// white.
+fn record_for(
+    alloc: Global,
+    window: &NewWindow<'_>,
+    serial: u64,
+    title: Title,
+    taken: Taken,
+) -> Window
+    requires { title.items ≡ window.now.title }
+    ensures seen { record_of ⟦<Taken as Defined>⟧.loan result ≡ new_record window.now serial
+        (⟦<Taken as Defined>⟧.loan taken).slot (⟦<Taken as Defined>⟧.loan taken).definition }
+    ensures serial { result.serial ≡ serial }
+    ensures shown { result.shown ≡ window.now.shown }
+{
+    Window {
+        serial,
+        place: window.place,
+        size: window.size,
+        shown: window.shown,
+        highlighted: window.shown,
+        go_away: window.go_away,
+        title,
+        picture: Picture::new(alloc),
+        origin: Point { h: 0, v: 0 },
+        taken,
+    }
+}
