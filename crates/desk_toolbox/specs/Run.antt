@@ -1,5 +1,5 @@
 -- A step of whichever manager, and a run of steps.
-use Rattle.std.specs.Prelude.{◌≡◌, ℕ, List, [], ◌∷◌, Option, Some, Result, Ok, Err}
+use Rattle.std.specs.Prelude.{◌≡◌, ℕ, List, [], ◌∷◌, ◌++◌, Option, Some, Result, Ok, Err}
 use Rattle.tb_geom.specs.declared.refusal.Refusal.{Refusal}
 use Rattle.desk_toolbox.specs.declared.call.Call.{Call}
 use Rattle.desk_toolbox.specs.declared.call.Call.TheVariants.{Window}
@@ -8,7 +8,8 @@ use Rattle.desk_toolbox.specs.declared.call.Reply.TheVariants as reply
 use Rattle.window_list.specs.Lists.{number_after}
 use Rattle.window_mgr.specs.FullDesk.{FullState}
 use Rattle.window_mgr.specs.Step as windows
-use Rattle.window_mgr.specs.declared.call.WindowReply.TheVariants.{Done, Made, Found, Front, Info}
+use Rattle.window_mgr.specs.declared.call.WindowReply.{WindowReply}
+use Rattle.window_mgr.specs.declared.call.WindowReply.TheVariants.{Made}
 
 -- one step: a call is a step of its manager
 abbrev pub IsStep : Call → Result Reply Refusal → FullState → FullState → Type 0
@@ -23,11 +24,16 @@ IsRun first (call ∷ calls) (answer ∷ answers) last = (middle : FullState) ×
 IsRun first [] (answer ∷ answers) last = ⊥
 IsRun first (call ∷ calls) [] last = ⊥
 
+-- the number of the window that was made, if one was
+abbrev pub number_made : WindowReply → List ℕ
+number_made (Made n) = n ∷ []
+number_made _ = []
+
 -- the numbers of the windows that were made
 abbrev pub made : List (Result Reply Refusal) → List ℕ
 made [] = []
-made (Ok (reply.Window (Made n)) ∷ answers) = n ∷ made answers
-made (_ ∷ answers) = made answers
+made (Ok (reply.Window answer) ∷ answers) = number_made answer ++ made answers
+made (Err e ∷ answers) = made answers
 
 -- the numbers follow each other, and the first is the next one
 abbrev pub AreCounted : Option ℕ → List ℕ → Type 0

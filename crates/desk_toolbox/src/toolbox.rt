@@ -1,5 +1,5 @@
 //! A Toolbox, and its calls one by one and in a row.
-ghost use Rattle.std.specs.Prelude.{◌≡◌, List, All, IfOk, IfErr};
+ghost use Rattle.std.specs.Prelude.{◌≡◌, true, if◌then◌else◌, List, All, IfOk, IfErr};
 ghost use Rattle.def_iface.specs.Stocked.{SlotView, IsFull};
 ghost use Rattle.window_mgr.specs.Begin.{IsEmptyDesk};
 ghost use Rattle.window_mgr.specs.Closing.{IsClosed};
@@ -66,6 +66,17 @@ impl Toolbox {
             (state_of ⟦<Taken as Defined>⟧.loan self.new.windows (⟦<Stock as Stocked>⟧.slots stock.new)) }
         ensures right { IsRight (state_of ⟦<Taken as Defined>⟧.loan self.old.windows (⟦<Stock as Stocked>⟧.slots stock.old))
             → IsRight (state_of ⟦<Taken as Defined>⟧.loan self.new.windows (⟦<Stock as Stocked>⟧.slots stock.new)) }
+    {
+        self.make(call, stock)
+    }
+
+    /// Makes one call.
+    fn make(&mut self, call: &Call<'_>, stock: &mut Stock) -> Result<Reply, Refusal>
+        requires { IsWhole ⟦<Taken as Defined>⟧.loan self.old.windows (⟦<Stock as Stocked>⟧.slots stock.old) }
+        ensures whole { IsWhole ⟦<Taken as Defined>⟧.loan self.new.windows (⟦<Stock as Stocked>⟧.slots stock.new) }
+        ensures step { IsStep call.now result
+            (state_of ⟦<Taken as Defined>⟧.loan self.old.windows (⟦<Stock as Stocked>⟧.slots stock.old))
+            (state_of ⟦<Taken as Defined>⟧.loan self.new.windows (⟦<Stock as Stocked>⟧.slots stock.new)) }
     {
         match call {
             Call::Window(call) => match self.windows.make(call, stock) {

@@ -34,8 +34,6 @@ pub mod laws;
 mod make;
 mod manager;
 mod new_window;
-#[cfg(test)]
-mod tests;
 
 pub use call::{
     Drawing, Found, MoveWindow, NewWindow, SendBehind, ShowHide, WindowCall, WindowInfo, WindowPart,

@@ -1,6 +1,5 @@
 use Rattle.std.proofs.Common.{rules, arith}
-use Rattle.desk_toolbox.proofs.Running.{run_stays_right}
-use Rattle.desk_toolbox.proofs.RunLemmas.{run_step}
+use Rattle.desk_toolbox.proofs.Runs.{run_stays_right, run_step}
 use Rattle.desk_toolbox.proofs.toolbox.Toolbox.run.Goals as goal
 
 pub loop-call-preserved : goal.loop-call-preserved

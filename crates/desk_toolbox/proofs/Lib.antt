@@ -1,0 +1,2 @@
+-- Lemmas on runs.
+pub mod Runs
