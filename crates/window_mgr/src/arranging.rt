@@ -38,7 +38,11 @@ impl WindowManager {
     }
 
     /// Brings a window to the front.
-    pub(crate) fn bring_to_front(&mut self, window: u64, stock: &Stock) -> Result<WindowReply, Refusal>
+    pub(crate) fn bring_to_front(
+        &mut self,
+        window: u64,
+        stock: &Stock,
+    ) -> Result<WindowReply, Refusal>
         requires { IsWhole ⟦<Taken as Defined>⟧.loan self.old (⟦<Stock as Stocked>⟧.slots stock.now) }
         ensures whole { IsWhole ⟦<Taken as Defined>⟧.loan self.new (⟦<Stock as Stocked>⟧.slots stock.now) }
         ensures step { IsStep (asks.BringToFront window) result
@@ -55,7 +59,11 @@ impl WindowManager {
     }
 
     /// Puts a window behind another or behind all.
-    pub(crate) fn send_behind(&mut self, sent: SendBehind, stock: &Stock) -> Result<WindowReply, Refusal>
+    pub(crate) fn send_behind(
+        &mut self,
+        sent: SendBehind,
+        stock: &Stock,
+    ) -> Result<WindowReply, Refusal>
         requires { IsWhole ⟦<Taken as Defined>⟧.loan self.old (⟦<Stock as Stocked>⟧.slots stock.now) }
         ensures whole { IsWhole ⟦<Taken as Defined>⟧.loan self.new (⟦<Stock as Stocked>⟧.slots stock.now) }
         ensures step { IsStep (asks.SendBehind sent) result
@@ -95,7 +103,11 @@ impl WindowManager {
     }
 
     /// Moves a window, and selects it where that is asked.
-    pub(crate) fn move_window(&mut self, moved: MoveWindow, stock: &Stock) -> Result<WindowReply, Refusal>
+    pub(crate) fn move_window(
+        &mut self,
+        moved: MoveWindow,
+        stock: &Stock,
+    ) -> Result<WindowReply, Refusal>
         requires { IsWhole ⟦<Taken as Defined>⟧.loan self.old (⟦<Stock as Stocked>⟧.slots stock.now) }
         ensures whole { IsWhole ⟦<Taken as Defined>⟧.loan self.new (⟦<Stock as Stocked>⟧.slots stock.now) }
         ensures step { IsStep (asks.Move moved) result
@@ -154,7 +166,11 @@ impl WindowManager {
     }
 
     /// Makes a window visible or hidden.
-    pub(crate) fn show_hide(&mut self, change: ShowHide, stock: &Stock) -> Result<WindowReply, Refusal>
+    pub(crate) fn show_hide(
+        &mut self,
+        change: ShowHide,
+        stock: &Stock,
+    ) -> Result<WindowReply, Refusal>
         requires { IsWhole ⟦<Taken as Defined>⟧.loan self.old (⟦<Stock as Stocked>⟧.slots stock.now) }
         ensures whole { IsWhole ⟦<Taken as Defined>⟧.loan self.new (⟦<Stock as Stocked>⟧.slots stock.now) }
         ensures step { IsStep (asks.ShowHide change) result

@@ -36,7 +36,7 @@ mod manager;
 mod new_window;
 
 pub use call::{
-    Drawing, Found, MoveWindow, NewWindow, SendBehind, ShowHide, WindowCall, WindowInfo, WindowPart,
-    WindowReply,
+    Drawing, Found, MoveWindow, NewWindow, SendBehind, ShowHide, WindowCall, WindowInfo,
+    WindowPart, WindowReply,
 };
 pub use manager::{NotBegun, WindowManager};

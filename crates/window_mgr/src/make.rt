@@ -37,7 +37,11 @@ impl WindowManager {
     }
 
     /// Makes a window, and answers its number.
-    fn answer_new(&mut self, window: &NewWindow<'_>, stock: &mut Stock) -> Result<WindowReply, Refusal>
+    fn answer_new(
+        &mut self,
+        window: &NewWindow<'_>,
+        stock: &mut Stock,
+    ) -> Result<WindowReply, Refusal>
         requires { IsWhole ⟦<Taken as Defined>⟧.loan self.old (⟦<Stock as Stocked>⟧.slots stock.old) }
         ensures whole { IsWhole ⟦<Taken as Defined>⟧.loan self.new (⟦<Stock as Stocked>⟧.slots stock.new) }
         ensures step { IsStep (New window.now) result

@@ -70,11 +70,13 @@ impl WindowManager {
             × (e.refusal ≡ (if whole.is_screen width height bar then Refusal.NoMemory else Refusal.OutOfRange))) }
     {
         match empty_ground(alloc, width, height, bar) {
-            Ok(Ground {
-                screen,
-                gray,
-                desktop,
-            }) => Ok(WindowManager {
+            Ok(
+                Ground {
+                    screen,
+                    gray,
+                    desktop,
+                },
+            ) => Ok(WindowManager {
                 alloc,
                 screen,
                 bar,

@@ -21,13 +21,13 @@ way-by-requires-clause-to g c =
 pub rearrange-requires-clause-placed : goal.rearrange-requires-clause-placed
 rearrange-requires-clause-placed g c =
     steps.may_arrive _ c.args.self.now c.args.self.now _ c.requires c.in-Some.at c.args.moved.window c.at-found.result.now c.in-Some.ensures.0 (search rules) (c.in-Some.ensures.1 c.at-found.result.now (search rules)) c.args.moved (search rules) (record c.of-edit.result { place = c.args.moved.place; to = c.place_in.result })
-        (ap (λ (e : Edit). e.at) c.of-edit.ensures) refl (ap (λ (e : Edit). e.size) c.of-edit.ensures)
+    (ap (λ (e : Edit). e.at) c.of-edit.ensures) refl (ap (λ (e : Edit). e.size) c.of-edit.ensures)
 
 pub returns-clause-step : goal.returns-clause-step
 returns-clause-step g c =
     steps.move_step _ c.args.self.now c.rearrange.new.self _ c.requires c.in-Some.at c.args.moved.window c.at-found.result.now c.in-Some.ensures.0 (search rules) (c.in-Some.ensures.1 c.at-found.result.now (search rules)) c.args.moved
-        _ _ _ _ refl
-        (steps.may_move _ c.args.self.now c.args.self.now _ c.requires c.in-Some.at c.args.moved.window c.at-found.result.now c.in-Some.ensures.0 (search rules) (c.in-Some.ensures.1 c.at-found.result.now (search rules)) c.args.moved true refl (search rules))
-        (λ k. record { at = (ap (λ (e : Edit). e.at) c.of-edit.ensures) k; to = c.place_in.ensures k; place = c.args.moved.place; size = (ap (λ (e : Edit). e.size) c.of-edit.ensures) k; shown = (ap (λ (e : Edit). e.shown) c.of-edit.ensures) k })
-        (c.if_so-activates.ensures ∙ ap (λ b. if b then Itself else Nothing) c.both.ensures)
-        c.way-by.ensures c.rearrange.ensures.left
+    _ _ _ _ refl
+    (steps.may_move _ c.args.self.now c.args.self.now _ c.requires c.in-Some.at c.args.moved.window c.at-found.result.now c.in-Some.ensures.0 (search rules) (c.in-Some.ensures.1 c.at-found.result.now (search rules)) c.args.moved true refl (search rules))
+    (λ k. record { at = (ap (λ (e : Edit). e.at) c.of-edit.ensures) k; to = c.place_in.ensures k; place = c.args.moved.place; size = (ap (λ (e : Edit). e.size) c.of-edit.ensures) k; shown = (ap (λ (e : Edit). e.shown) c.of-edit.ensures) k })
+    (c.if_so-activates.ensures ∙ ap (λ b. if b then Itself else Nothing) c.both.ensures)
+    c.way-by.ensures c.rearrange.ensures.left

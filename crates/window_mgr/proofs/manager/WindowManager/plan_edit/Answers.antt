@@ -25,8 +25,7 @@ pub returns-clause-plan : goal.returns-clause-plan
 returns-clause-plan g c w w_is =
     let low : c.args.edit.at < length c.args.self.now.windows.records.items = search rules in
     let plan = rw c.deref-2.ensures.value at c.in_ok-plan.ensures.plan in
-    let same = editing.same_at c.args.self.now.windows.records.items c.args.edit.at c.at.result.now w low (search rules) w_is in
-    (
+    let same = editing.same_at c.args.self.now.windows.records.items c.args.edit.at c.at.result.now w low (search rules) w_is in (
       c.also.result,
       λ after deskof. rw (ap (λ z. z.serial) same) at (plan _ _ _ _ (editing.arranged_edit _ c.args.self.now c.requires.kept c.args.edit c.in_ok-seats.seats.items c.in_ok-seats.ensures.seats low w w_is after deskof)),
     )
