@@ -1,5 +1,5 @@
 -- A call that arranges windows: what its plan, drawn, leaves.
-use Rattle.std.proofs.Common.{◌≡◌, ℕ, true, false, List, map, ℤ, pos, negsuc, refl, sym, ap, ◌∙◌, subst, arith, ◌&&◌}
+use Rattle.std.proofs.Common.{◌≡◌, ℕ, true, false, List, ℤ, pos, negsuc, refl, sym, ap, ◌∙◌, subst, arith, ◌&&◌}
 use Rattle.std.proofs.lemmas.Bool.Decides.{nat_tests}
 use Rattle.std.proofs.lemmas.Int.{ints}
 use Rattle.tb_geom.specs.declared.point.Point.{Point}

@@ -1,10 +1,10 @@
 -- How each call arranges the windows: it puts one of them anew among the others.
-use Rattle.std.proofs.Common.{◌≡◌, ℕ, zero, suc, ◌==◌, not, Bool, true, false, if◌then◌else◌, List, [], ◌∷◌, map, Option, None, Some, ℤ, pos, negsuc, ◌-ℤ◌, refl, sym, ap, ◌∙◌, subst, arith}
+use Rattle.std.proofs.Common.{◌≡◌, ℕ, suc, Bool, true, false, if◌then◌else◌, List, [], ◌∷◌, map, Option, None, Some, ℤ, pos, negsuc, ◌-ℤ◌, refl, sym, ap, ◌∙◌, subst, arith}
 use Rattle.std.specs.Prelude.{is_none}
 use Rattle.std.proofs.lemmas.Int.{ints}
 use Rattle.tb_geom.specs.declared.point.Point.{Point}
 use Rattle.tb_geom.specs.declared.refusal.Refusal.{Refusal}
-use Rattle.tb_geom.specs.declared.refusal.Refusal.TheVariants.{NoSuchWindow, OutOfRange}
+use Rattle.tb_geom.specs.declared.refusal.Refusal.TheVariants.{NoSuchWindow}
 use Rattle.tb_geom.specs.Points.{minus}
 use Rattle.def_iface.specs.Desk as layers
 use Rattle.def_iface.specs.Owner.{content_bit, layer_bit}
@@ -21,7 +21,7 @@ use Rattle.window_mgr.specs.Finding.{record_with}
 use Rattle.window_mgr.specs.Arrange.{Arrangement, put_behind, behind_this, in_front, without, brought, changed, at_place, with_shown, way_to, moved}
 use Rattle.window_mgr.specs.Effects.{Effect, effect_of}
 use Rattle.window_mgr.specs.Effects.Effect.{Makes, Draws, Arranges, Tells}
-use Rattle.window_mgr.specs.Refused.{IsRefusal, first_refusal}
+use Rattle.window_mgr.specs.Refused.{IsRefusal}
 use Rattle.window_mgr.proofs.PutIn.{put_in, IsFree, IsPut, is_put, IsTakenOut, out_of, distinct_out}
 use Rattle.window_mgr.proofs.Rearranged.{IsEdit}
 

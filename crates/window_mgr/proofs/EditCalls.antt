@@ -1,5 +1,5 @@
 -- What a call that puts one window anew leaves.
-use Rattle.std.proofs.Common.{◌≡◌, ℕ, ◌<◌, ◌==◌, ◌||◌, Bool, true, false, if◌then◌else◌, List, [], ◌∷◌, length, get_or, map, Option, None, Some, pos, refl, sym, ap, ◌∙◌, subst}
+use Rattle.std.proofs.Common.{◌≡◌, ℕ, ◌<◌, ◌==◌, ◌||◌, Bool, true, false, if◌then◌else◌, List, [], ◌∷◌, length, map, Option, None, Some, pos, refl, sym, ap, ◌∙◌, subst}
 use Rattle.std.specs.Prelude.{All}
 use Rattle.std.specs.List.{insert, remove}
 use Rattle.std.proofs.lemmas.List.Elements.{All-head, All-tail}
@@ -14,7 +14,7 @@ use Rattle.vis_update.specs.declared.plan.Plan.{Plan}
 use Rattle.vis_update.specs.declared.plan.Touch.{Touch}
 use Rattle.vis_update.specs.Records.{WindowRecord, record_of}
 use Rattle.vis_update.specs.Seats.{stand_of}
-use Rattle.vis_update.specs.Touches.{draws_whole, is_this, moving}
+use Rattle.vis_update.specs.Touches.{is_this, moving}
 use Rattle.def_iface.specs.Change.{IsChanged}
 use Rattle.vis_update.proofs.PlaceLemmas.{placed_parts}
 use Rattle.window_mgr.specs.declared.arrange.Activates.{Activates}
@@ -27,7 +27,6 @@ use Rattle.window_mgr.specs.Arrange.{activated, desk_activated, highlighted}
 use Rattle.window_mgr.specs.Commits.{IsPlanDrawn}
 use Rattle.window_mgr.specs.Edits.{put_record, put_window, records_put, relit_all, IsAt, IsPlanOfEdit, IsDeskOfEdit, IsPlaceable, SameSize, IsActivation, AreSettledAfter, IsCommitted}
 use Rattle.window_mgr.specs.Effects.{IsArrangement}
-use Rattle.window_mgr.specs.Finding.{front_of}
 use Rattle.window_mgr.specs.Records.{desk_of, state_of}
 use Rattle.window_mgr.specs.Whole.{IsWhole, IsSettled}
 use Rattle.window_mgr.proofs.PutIn.{put_in, put_is_insert, taken_out, All-out, All-put, map-put}

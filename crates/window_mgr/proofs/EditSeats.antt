@@ -1,5 +1,5 @@
 -- The seats of windows of which one is put anew.
-use Rattle.std.proofs.Common.{◌≡◌, ℕ, zero, suc, ◌+◌, ◌<◌, ◌≤◌, if◌then◌else◌, List, [], ◌∷◌, length, get_or, map, Option, None, Some, true, refl, sym, ap, ◌∙◌, subst, arith}
+use Rattle.std.proofs.Common.{◌≡◌, ℕ, zero, suc, ◌+◌, ◌<◌, ◌≤◌, if◌then◌else◌, List, [], ◌∷◌, length, get_or, map, Option, Some, refl, sym, ap, ◌∙◌, subst, arith}
 use Rattle.std.specs.Prelude.{All}
 use Rattle.std.specs.List.{insert, remove}
 use Rattle.std.proofs.lemmas.Option.{slice_get_read}
@@ -30,7 +30,8 @@ use Rattle.window_mgr.specs.Whole.{IsSettled}
 use Rattle.window_mgr.proofs.PaintLemmas.{settled_in}
 use Rattle.vis_update.proofs.PlaceLemmas.{placed_from}
 use Rattle.window_mgr.proofs.PutIn.{put_in, put_is_insert, taken_out, All-out, All-put, map-put, put_permutes}
-use Rattle.window_mgr.proofs.Seating.{seat_at, seats_stand, seats_had, seats_placed, seats_near, sides}
+use Rattle.window_mgr.proofs.Seating.{seat_at, seats_stand, seats_had, seats_placed, sides}
+use Rattle.vis_update.proofs.SeatLemmas.{seats_near}
 
 module _ {X Y : Type 0} (f : X → Y) where
   pub map-insert : (i : ℕ) (x : X) (xs : List X) → map f (insert xs i x) ≡ put_in i (f x) (map f xs)

@@ -1,22 +1,15 @@
 -- The windows of a desk as they are, behind a new one.
-use Rattle.std.proofs.Common.{◌≡◌, ℕ, zero, suc, ◌+◌, ◌<◌, ◌==◌, Bool, true, false, ◌&&◌, not, if◌then◌else◌, ℤ, pos, List, [], ◌∷◌, ◌++◌, length, get_or, take, map, Option, None, Some, refl, sym, ap, ◌∙◌, subst, arith}
+use Rattle.std.proofs.Common.{◌≡◌, ℕ, zero, suc, ◌+◌, ◌<◌, ◌==◌, Bool, true, false, if◌then◌else◌, ℤ, pos, ◌≤ℤ◌, List, [], ◌∷◌, ◌++◌, length, get_or, take, map, Option, None, Some, refl, sym, ap, ◌∙◌, subst, arith}
 use Rattle.std.specs.Prelude.{All}
 use Rattle.std.proofs.Math.Seq.{take-length}
 use Rattle.std.proofs.lemmas.List.{take_more, length-map}
-use Rattle.std.proofs.lemmas.List.Elements.{All-nil, All-cons, All-head, All-tail, All-weaker}
+use Rattle.std.proofs.lemmas.List.Elements.{All-nil, All-cons, All-head, All-tail}
 use Rattle.std.proofs.lemmas.Bool.{and_parts, false≢true}
 use Rattle.std.proofs.lemmas.Int.{ints}
-use Rattle.tb_geom.specs.Points.{PixelSet}
-use Rattle.tb_geom.specs.Pixels.{Pixels, holds}
-use Rattle.tb_geom.specs.Rects.{between}
-use Rattle.tb_geom.specs.declared.point.Point.{Point}
 use Rattle.def_iface.specs.declared.taken.Taken.{Taken}
 use Rattle.def_iface.specs.Meaning.{Definition, Loan, SameRegions}
 use Rattle.def_iface.specs.Desk as layers
-use Rattle.def_iface.specs.Owner.{Owner, owner, owner_among, same_owner}
-use Rattle.def_iface.specs.Owner.Owner.{Bar, Frame}
 use Rattle.def_iface.specs.Change.{State}
-use Rattle.def_iface.proofs.Owning.{is_other, owner_is_other}
 use Rattle.window_mgr.specs.declared.call.NewWindow.{NewWindow}
 use Rattle.window_mgr.specs.declared.manager.WindowManager.{WindowManager}
 use Rattle.vis_update.specs.declared.area.Area.{Area}
@@ -28,17 +21,16 @@ use Rattle.window_mgr.specs.Kept.{IsKept}
 use Rattle.vis_update.specs.Records.{record_of}
 use Rattle.window_mgr.specs.Records.{desk_of, state_of}
 use Rattle.vis_update.specs.Areas.{stale_in}
-use Rattle.vis_update.specs.Places.{is_placed}
 use Rattle.vis_update.specs.Seats.{stand_of, seat_stand, IsPlacedSeat, IsNearSeat, IsSeatOf, IsArranged}
 use Rattle.vis_update.specs.Areas.{IsNowhere, IsNear}
 use Rattle.window_mgr.specs.Seats.{AreSeatsOf, AreSeatsBehind}
 use Rattle.window_mgr.specs.Effects.{new_record, desk_with}
 use Rattle.window_mgr.specs.Arrange.{unhighlighted}
-use Rattle.vis_update.specs.Areas.{IsArea, AreAreas, is_content_of}
+use Rattle.vis_update.specs.Areas.{IsArea, AreAreas}
 use Rattle.window_mgr.specs.Whole.{IsSettled, is_screen_side}
-use Rattle.vis_update.proofs.Others.{not_content, not_same_frame}
 use Rattle.vis_update.proofs.PlaceLemmas.{placed_from}
 use Rattle.window_mgr.proofs.Running.{layered_desk-with, next_is_free}
+use Rattle.vis_update.proofs.SeatLemmas as seat
 
 -- a window that loses its highlighting stands where it stood
 stand-unhighlighted : (active : Option ℕ) (w : WindowRecord) → stand_of (unhighlighted active w) ≡ stand_of w
@@ -109,59 +101,29 @@ module _ {V : Type 0} {H : V → Type 0} where
       by_lists (v ∷ vs) [] ss its = absurd its
       by_lists (v ∷ vs) (a ∷ olds) [] its = absurd its
 
--- what of a desk's screen something has is near
-near_screen : (desk : layers.Desk) (r : Pixels) (its : Point → Bool) → is_screen_side desk.width ≡ true → is_screen_side desk.height ≡ true → ((p : Point) → holds r p ≡ (layers.on_screen desk p && its p)) → IsNear r
-near_screen desk r its wide high r_is p e =
-    let on = and_parts (between (pos 0) p.h desk.width) (between (pos 0) p.v desk.height) (and_parts (layers.on_screen desk p) (its p) (sym (r_is p) ∙ e)).0 in
-    λ i. side desk.width p.h wide on.0 i && side desk.height p.v high on.1 i
-  where
-    side : (n x : ℤ) → is_screen_side n ≡ true → between (pos 0) x n ≡ true → between (pos 0) x (pos 1024) ≡ true
-    side n x a b = grind (arith, ints)
+-- no side of a screen is longer than 1024
+low_side : (n : ℤ) → is_screen_side n ≡ true → n ≤ℤ pos 1024
+low_side n e = grind (arith, ints)
 
--- a window manager's screen has the sides of one
-pub sides : {V : Type 0} {H : V → Type 0} (loan : Taken V H → Loan) (t : WindowManager V H) → IsKept loan t → (is_screen_side (pos t.screen.width) ≡ true) × (is_screen_side (pos t.screen.height) ≡ true)
-sides loan t kept =
-    let one = and_parts (is_screen_side (pos t.screen.width)) _ kept.screen in
-    let two = and_parts (is_screen_side (pos t.screen.height)) _ one.1 in
-    (one.0, two.0)
+module _ {V : Type 0} {H : V → Type 0} (loan : Taken V H → Loan) (t : WindowManager V H) (kept : IsKept loan t) where
+  pub sides : (pos t.screen.width ≤ℤ pos 1024) × (pos t.screen.height ≤ℤ pos 1024)
+  sides =
+      let one = and_parts (is_screen_side (pos t.screen.width)) _ kept.screen in
+      (low_side (pos t.screen.width) one.0, low_side (pos t.screen.height) (and_parts (is_screen_side (pos t.screen.height)) _ one.1).0)
 
-pub gray_near : {V : Type 0} {H : V → Type 0} (loan : Taken V H → Loan) (t : WindowManager V H) → IsKept loan t → IsNear t.gray
-gray_near loan t kept = let s = sides loan t kept in near_screen (layered_desk (desk_of loan t [])) t.gray (λ p. not (layers.in_bar (layered_desk (desk_of loan t [])) p)) s.0 s.1 kept.gray
+  pub gray_near : IsNear t.gray
+  gray_near = seat.gray_near (layered_desk (desk_of loan t [])) t.gray sides.0 sides.1 kept.gray
 
--- the pixels of a window's area are the screen's
-area_near : (desk : layers.Desk) (stale : PixelSet) (n : ℕ) (a : Area) → is_screen_side desk.width ≡ true → is_screen_side desk.height ≡ true → IsArea desk stale n a → IsNear a.visible × IsNear a.update
-area_near desk stale n a wide high its =
-    let visible = near_screen desk a.visible (λ p. is_content_of n (owner desk p)) wide high its.visible in
-    (visible, (λ p e. visible p (and_parts (holds a.visible p) (stale p) (sym (its.update p) ∙ e)).0))
-
-pub seats_near : {V : Type 0} {H : V → Type 0} (desk : layers.Desk) (stale : PixelSet) (seats : List (Seat V H)) → is_screen_side desk.width ≡ true → is_screen_side desk.height ≡ true → All (λ s. IsArea desk stale s.serial s.area.now) seats → All IsNearSeat seats
-seats_near desk stale seats wide high all = All-weaker (λ s. IsArea desk stale s.serial s.area.now) IsNearSeat (λ s its. area_near desk stale s.serial s.area.now wide high its) seats all
-
--- there are as many areas as windows
-pub as_many : {V : Type 0} {H : V → Type 0} (loan : Taken V H → Loan) (t : WindowManager V H) → IsKept loan t → length t.areas.items ≡ length t.windows.records.items
-as_many loan t kept = by_lists (desk_of loan t []).windows t.areas.items kept.areas ∙ length-map t.windows.records.items (record_of loan)
-  where
-    by_lists : (ws : List WindowRecord) (areas : List Area) → AreAreas (layered_desk (desk_of loan t [])) (stale_in t.areas.items) ws areas → length areas ≡ length ws
-    by_lists [] [] its = refl
-    by_lists (w ∷ ws) (a ∷ areas) its = ap suc (by_lists ws areas its.1)
-    by_lists [] (a ∷ areas) its = absurd its
-    by_lists (w ∷ ws) [] its = absurd its
+  -- there are as many areas as windows
+  pub as_many : length t.areas.items ≡ length t.windows.records.items
+  as_many = seat.as_many (layered_desk (desk_of loan t [])) (stale_in t.areas.items) (desk_of loan t []).windows t.areas.items kept.areas ∙ length-map t.windows.records.items (record_of loan)
 
 module _ {V : Type 0} {H : V → Type 0} (loan : Taken V H → Loan) where
   -- ---- windows that stay as they are
 
-  pub seat_is_stand : (w : Window V H) (a : Area) (s : Seat V H) → IsSeatOf w a s → seat_stand loan s ≡ stand_of (record_of loan w)
-  seat_is_stand w a s its = λ i. record {
-    serial = its.serial i;
-    place = its.place i;
-    shown = its.shown i;
-    structure = (loan (its.taken i)).definition.structure (its.size i);
-    content = (loan (its.taken i)).definition.content (its.size i);
-  }
-
   pub seats_stand : (ws : List (Window V H)) (areas : List Area) (seats : List (Seat V H)) → AreSeatsOf ws areas seats → map (seat_stand loan) seats ≡ map stand_of (map (record_of loan) ws)
   seats_stand [] [] [] its = refl
-  seats_stand (w ∷ ws) (a ∷ areas) (s ∷ seats) its = λ i. seat_is_stand w a s its.0 i ∷ seats_stand ws areas seats its.1 i
+  seats_stand (w ∷ ws) (a ∷ areas) (s ∷ seats) its = λ i. seat.seat_is_stand loan w a s its.0 i ∷ seats_stand ws areas seats its.1 i
   seats_stand [] [] (s ∷ seats) its = absurd its
   seats_stand [] (a ∷ areas) seats its = absurd its
   seats_stand (w ∷ ws) [] seats its = absurd its
@@ -171,7 +133,7 @@ module _ {V : Type 0} {H : V → Type 0} (loan : Taken V H → Loan) where
   seats_had before [] [] [] its had = All-nil (λ s. IsArea before.desk before.stale s.serial s.area.now)
   seats_had before (w ∷ ws) (a ∷ areas) (s ∷ seats) its had =
       All-cons (λ s. IsArea before.desk before.stale s.serial s.area.now) s seats
-      (subst (λ (x : ℕ × Area). IsArea before.desk before.stale x.0 x.1) (λ i. (sym its.0.serial i, sym its.0.area i)) had.0)
+      (seat.seat_had before.desk before.stale w a s its.0 had.0)
       (seats_had before ws areas seats its.1 had.1)
   seats_had before [] [] (s ∷ seats) its had = absurd its
   seats_had before [] (a ∷ areas) seats its had = absurd its
@@ -179,8 +141,7 @@ module _ {V : Type 0} {H : V → Type 0} (loan : Taken V H → Loan) where
   seats_had before (w ∷ ws) (a ∷ areas) [] its had = absurd its
 
   seat_placed : (w : Window V H) (a : Area) (s : Seat V H) → IsSeatOf w a s → IsSettled (record_of loan w) → IsPlacedSeat loan s
-  seat_placed w a s its settled =
-      (λ i. is_placed (Some (loan (its.taken i)).definition) (its.place i) (its.size i)) ∙ placed_from (record_of loan w).definition w.place w.size settled.placed settled.fits settled.inside
+  seat_placed w a s its settled = seat.seat_placed loan w a s its (placed_from (record_of loan w).definition w.place w.size settled.placed settled.fits settled.inside)
 
   pub seats_placed : (ws : List (Window V H)) (areas : List Area) (seats : List (Seat V H)) → AreSeatsOf ws areas seats → All IsSettled (map (record_of loan) ws) → All (IsPlacedSeat loan) seats
   seats_placed [] [] [] its settled = All-nil (IsPlacedSeat loan)
@@ -234,22 +195,7 @@ module _ {V : Type 0} {H : V → Type 0} (loan : Taken V H → Loan) where
 
     -- a window that was not there had no pixel
     front_had : IsArea before.desk before.stale front.serial front.area.now
-    front_had = record {
-      visible = λ p. new.nowhere.visible p ∙ sym (off (layers.on_screen before.desk p) _ (ap (λ k. is_content_of k (owner before.desk p)) new.serial ∙ not_content n (owner before.desk p) (other p)));
-      update = λ p. new.nowhere.update p ∙ sym (ap (λ b. b && before.stale p) (new.nowhere.visible p));
-      frame = λ p. new.nowhere.frame p ∙ sym (off (layers.on_screen before.desk p) _ (ap (λ k. same_owner (owner before.desk p) (Frame k)) new.serial ∙ not_same_frame n (owner before.desk p) (other p)));
-    }
-      where
-        off : (x y : Bool) → y ≡ false → (x && y) ≡ false
-        off true y e = e
-        off false y e = refl
-
-        in_bar : (b : Bool) (o : Owner) → is_other n o ≡ true → is_other n (if b then Bar else o) ≡ true
-        in_bar true o e = refl
-        in_bar false o e = e
-
-        other : (p : Point) → is_other n (owner before.desk p) ≡ true
-        other p = in_bar (layers.in_bar before.desk p) (owner_among before.desk.windows p) (owner_is_other before.desk.windows p n free)
+    front_had = subst (λ k. IsArea before.desk before.stale k front.area.now) (sym new.serial) (seat.absent_area before.desk before.stale n front.area.now free new.nowhere)
 
     pub arranged : (seats : List (Seat V H)) → AreSeatsBehind front t.windows.records.items t.areas.items seats → IsArranged loan t.font before (layered_desk after) after.windows t.gray seats
     arranged (s ∷ seats) its = record {
@@ -270,5 +216,5 @@ module _ {V : Type 0} {H : V → Type 0} (loan : Taken V H → Loan) where
       let was : State = layered_state (state_of loan t []) in
       All-cons IsNearSeat s seats
       (subst IsNearSeat (sym its.0) ((λ p e. absurd (false≢true (sym (nowhere.visible p) ∙ e))), (λ p e. absurd (false≢true (sym (nowhere.update p) ∙ e)))))
-      (seats_near was.desk was.stale seats side.0 side.1 (seats_had was t.windows.records.items t.areas.items seats its.1 kept.areas))
+      (seat.seats_near was.desk was.stale seats side.0 side.1 (seats_had was t.windows.records.items t.areas.items seats its.1 kept.areas))
   all_near t kept front nowhere [] its = absurd its

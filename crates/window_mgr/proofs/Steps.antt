@@ -25,8 +25,8 @@ use Rattle.window_mgr.specs.declared.call.WindowCall.TheVariants.{Show, Hide, Sh
 use Rattle.window_mgr.specs.declared.call.WindowReply.{WindowReply}
 use Rattle.window_mgr.specs.declared.manager.WindowManager.{WindowManager}
 use Rattle.window_mgr.specs.FullDesk.{FullDesk}
-use Rattle.window_mgr.specs.Arrange.{Arrangement, at_place, with_shown, is_visible, if_visible, brought, changed, put_behind, way_to, behind_this, without}
-use Rattle.window_mgr.specs.Edits.{put_record, records_put, stays_put, IsAt, IsRearranged, IsPlaceBehind, IsPlaceable}
+use Rattle.window_mgr.specs.Arrange.{Arrangement, at_place, with_shown, is_visible, if_visible, brought, changed, way_to, behind_this, without}
+use Rattle.window_mgr.specs.Edits.{records_put, stays_put, IsAt, IsRearranged, IsPlaceBehind, IsPlaceable}
 use Rattle.window_mgr.specs.Effects.{Effect, IsEffect, IsArrangement, effect_of}
 use Rattle.window_mgr.specs.Effects.Effect.{Arranges}
 use Rattle.window_mgr.specs.Finding.{record_with}

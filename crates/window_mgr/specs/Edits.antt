@@ -1,5 +1,5 @@
 -- One window put anew among the others, as the code does it.
-use Rattle.std.specs.Prelude.{◌≡◌, ℕ, ◌<◌, Bool, true, List, [], length, map, Option, None, Some, All, Result, Ok, Err, slice_index_or}
+use Rattle.std.specs.Prelude.{◌≡◌, ℕ, ◌<◌, true, List, [], length, map, Option, None, Some, All, Result, Ok, Err, slice_index_or}
 use Rattle.std.specs.List.{insert, remove}
 use Rattle.tb_geom.specs.declared.point.Point.{Point}
 use Rattle.tb_geom.specs.declared.refusal.Refusal.{Refusal}

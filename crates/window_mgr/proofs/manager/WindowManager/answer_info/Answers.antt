@@ -1,5 +1,4 @@
-use Rattle.std.proofs.Common.{refl, ap, ◌∙◌, sym, rules}
-use Rattle.window_mgr.specs.Finding.{info_of}
+use Rattle.std.proofs.Common.{refl, rules}
 use Rattle.window_mgr.proofs.Steps as steps
 use Rattle.window_mgr.proofs.manager.WindowManager.answer_info.Goals as goal
 

@@ -1,4 +1,4 @@
-use Rattle.std.proofs.Common.{if◌then◌else◌, Some, ap, ◌∙◌, refl}
+use Rattle.std.proofs.Common.{ap, ◌∙◌, refl}
 use Rattle.window_mgr.specs.Arrange.{active_after}
 use Rattle.window_mgr.specs.Edits.{relit_all}
 use Rattle.window_mgr.proofs.manager.WindowManager.commit_edit.Goals as goal

@@ -1,4 +1,4 @@
-use Rattle.std.proofs.Common.{refl, ap, rules, sym, ◌∙◌, inl, false, true, if◌then◌else◌}
+use Rattle.std.proofs.Common.{refl, ap, rules, ◌∙◌, inl, false, true, if◌then◌else◌}
 use Rattle.window_mgr.specs.declared.arrange.Activates.TheVariants.{Nothing, Itself}
 use Rattle.window_mgr.specs.declared.arrange.Edit.{Edit}
 use Rattle.window_mgr.proofs.PaintLemmas.{settled_in}

@@ -1,4 +1,3 @@
-use Rattle.std.proofs.Common.{length}
 use Rattle.window_mgr.proofs.NewWindowLemmas as adding
 use Rattle.window_mgr.proofs.SlotLemmas as slots
 use Rattle.window_mgr.proofs.SameDeskLemmas as keeping

@@ -1,4 +1,4 @@
-use Rattle.std.proofs.Common.{◌-◌, refl, ap}
+use Rattle.std.proofs.Common.{◌-◌, ap}
 use Rattle.window_mgr.proofs.Sending as sending
 use Rattle.window_mgr.proofs.manager.WindowManager.place_to_send.Goals as goal
 

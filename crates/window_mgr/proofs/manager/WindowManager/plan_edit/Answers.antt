@@ -1,6 +1,5 @@
 use Rattle.std.proofs.Common.{◌<◌, length, rules, arith, ap, ◌∙◌}
 use Rattle.window_mgr.specs.Arrange.{activation_of}
-use Rattle.window_mgr.specs.Seats.{first_seated}
 use Rattle.window_mgr.proofs.Seating as arranging
 use Rattle.window_mgr.proofs.EditSeats as editing
 use Rattle.window_mgr.proofs.manager.WindowManager.plan_edit.Goals as goal

@@ -1,4 +1,4 @@
-use Rattle.std.proofs.Common.{true, false, inl, refl, ap, rules}
+use Rattle.std.proofs.Common.{inl, refl, ap, rules}
 use Rattle.window_mgr.specs.declared.arrange.Edit.{Edit}
 use Rattle.window_mgr.specs.Edits.{stays_put}
 use Rattle.window_mgr.proofs.EditSeats as seating

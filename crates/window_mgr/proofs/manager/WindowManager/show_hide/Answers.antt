@@ -1,8 +1,7 @@
-use Rattle.std.proofs.Common.{true, false, inl, refl, ap, rules}
+use Rattle.std.proofs.Common.{refl, ap, rules}
 use Rattle.window_mgr.specs.declared.arrange.Edit.{Edit}
 use Rattle.window_mgr.specs.Edits.{stays_put}
 use Rattle.window_mgr.proofs.EditSeats as seating
-use Rattle.window_mgr.proofs.KeptLemmas.{kept}
 use Rattle.window_mgr.proofs.Steps as steps
 use Rattle.window_mgr.proofs.manager.WindowManager.show_hide.Goals as goal
 
