@@ -2,6 +2,7 @@ pub mod Cuts
 mod Ends
 mod HexLaws
 mod HexLemmas
+mod HexOut
 mod LineLaws
 mod Mapped
 mod NameLemmas

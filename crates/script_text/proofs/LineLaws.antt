@@ -99,6 +99,11 @@ command-so verbs.Window = λ kind h v width height shown go_away title. tt
 command-so verbs.Draw = mapped-so _ drawing_shape drawing-so
 command-so verbs.Find = λ h v. tt
 command-so verbs.FrontWindow = tt
+command-so verbs.ShowHide = λ window shown. tt
+command-so verbs.Behind = λ window other. tt
+command-so verbs.Move = λ window h v select. tt
+command-so verbs.Size = λ window width height. tt
+command-so (verbs.OfWindow verb) = λ window. tt
 
 -- what a line says is a command, or that it names what there is not
 pub line-so : (line : List ℕ) (r : Result Command Refusal) → IsLine line r → IfErr r (λ e. e ≡ NoSuchName)

@@ -1,10 +1,10 @@
 -- What the definitions of numbers, verbs and lines say, in the words of their subject.
-use Rattle.std.proofs.Common.{◌≡◌, ℕ, zero, suc, ◌+◌, ◌-◌, ◌*◌, ◌^◌, ◌<◌, ◌&&◌, ◌↔◌, Bool, true, false, cond, eqb, if◌then◌else◌, List, [], ◌∷◌, ◌++◌, length, map, Option, Some, None, fold, decimal, Contains, bytes_eq, leb, refl, sym, ap, ◌∙◌, subst, arith}
+use Rattle.std.proofs.Common.{◌≡◌, ℕ, zero, suc, ◌+◌, ◌-◌, ◌*◌, ◌^◌, ◌<◌, ◌&&◌, ◌↔◌, Bool, true, false, cond, eqb, if◌then◌else◌, List, [], ◌∷◌, ◌++◌, length, map, Option, Some, None, fold, decimal, is_none, Contains, bytes_eq, leb, refl, sym, ap, ◌∙◌, subst, arith}
 use Rattle.std.specs.Char.{is_ascii_digit}
 use Rattle.std.specs.List.{slice_split, onto_first, list_all}
 use Rattle.std.specs.Str.{all_ascii_digits}
 use Rattle.std.specs.Str.Lines.{lines, lines_of_parts, strip_carriage_return}
-use Rattle.std.proofs.lemmas.Bool.{ne_eqb, le-leb}
+use Rattle.std.proofs.lemmas.Bool.{ne_eqb, le-leb, and_parts}
 use Rattle.std.proofs.lemmas.Fmt.{digits_value-decimal, digits_decimal, decimal_nonempty, length-decimal-le}
 use Rattle.std.proofs.lemmas.Str.Parse.{FoldsDigits, numerals_by_fold, tells_all_ascii_digits}
 use Rattle.std.proofs.lemmas.Slice.Eq.{bytes_eq-Decides}
@@ -59,17 +59,30 @@ found_is_in {A} word x (entry ∷ entries) h = by_test (bytes_eq entry.0 word) (
         (0, omega arith, ap (λ w. (w, entry.1)) (same refl) ∙ ap (λ v. (word, v)) here)
     by_test false same later e = let found = later e in (suc found.0, omega (arith, found.1), found.2)
 
-in_is_found : (word : List ℕ) (verb : Verb) → Contains verbs (word, verb) → named word verbs ≡ Some verb
-in_is_found word verb (zero, less, e) = subst (λ (p : List ℕ × Verb). named p.0 verbs ≡ Some p.1) e refl
-in_is_found word verb (suc zero, less, e) = subst (λ (p : List ℕ × Verb). named p.0 verbs ≡ Some p.1) e refl
-in_is_found word verb (suc (suc zero), less, e) = subst (λ (p : List ℕ × Verb). named p.0 verbs ≡ Some p.1) e refl
-in_is_found word verb (suc (suc (suc zero)), less, e) = subst (λ (p : List ℕ × Verb). named p.0 verbs ≡ Some p.1) e refl
-in_is_found word verb (suc (suc (suc (suc zero))), less, e) = subst (λ (p : List ℕ × Verb). named p.0 verbs ≡ Some p.1) e refl
-in_is_found word verb (suc (suc (suc (suc (suc zero)))), less, e) = subst (λ (p : List ℕ × Verb). named p.0 verbs ≡ Some p.1) e refl
-in_is_found word verb (suc (suc (suc (suc (suc (suc k))))), less, e) = absurd (omega (arith, less))
+-- no word stands twice in the table
+abbrev are_distinct : {A : Type 0} → List (List ℕ × A) → Bool
+are_distinct [] = true
+are_distinct (entry ∷ entries) = is_none (named entry.0 entries) && are_distinct entries
+
+in_is_found : {A : Type 0} (word : List ℕ) (x : A) (entries : List (List ℕ × A)) → are_distinct entries ≡ true → Contains entries (word, x) → named word entries ≡ Some x
+in_is_found word x [] distinct (k, less, e) = absurd (omega (arith, less))
+in_is_found {A} word x (entry ∷ entries) distinct (zero, less, e) =
+    subst (λ (p : List ℕ × A). (if bytes_eq entry.0 p.0 then Some entry.1 else named p.0 entries) ≡ Some p.1) e (rw ((bytes_eq-Decides entry.0 entry.0).1 refl) refl)
+in_is_found {A} word x (entry ∷ entries) distinct (suc k, less, e) =
+    by_test (bytes_eq entry.0 word) (bytes_eq-Decides entry.0 word).0 (and_parts (is_none (named entry.0 entries)) (are_distinct entries) distinct).0
+    (in_is_found word x entries (and_parts (is_none (named entry.0 entries)) (are_distinct entries) distinct).1 (k, omega (arith, less), e))
+  where
+    by_test : (b : Bool) → (b ≡ true → entry.0 ≡ word) → is_none (named entry.0 entries) ≡ true → named word entries ≡ Some x → (if b then Some entry.1 else named word entries) ≡ Some x
+    by_test true same none later =
+        let bad : false ≡ true = sym (ap is_none later) ∙ ap (λ w. is_none (named w entries)) (sym (same refl)) ∙ none in
+        cc
+    by_test false same none later = later
+
+verbs_are_distinct : are_distinct verbs ≡ true
+verbs_are_distinct = refl
 
 pub verb_is_of_the_table : (word : List ℕ) (verb : Verb) → named word verbs ≡ Some verb ↔ Contains verbs (word, verb)
-verb_is_of_the_table word verb = (found_is_in word verb verbs, in_is_found word verb)
+verb_is_of_the_table word verb = (found_is_in word verb verbs, in_is_found word verb verbs verbs_are_distinct)
 
 -- ---- lines
 

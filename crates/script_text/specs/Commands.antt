@@ -9,10 +9,12 @@ use Rattle.script_text.specs.declared.command.Command.{Command}
 use Rattle.script_text.specs.declared.command.Command.TheVariants.{Desk, Image, Call}
 use Rattle.script_text.specs.declared.verb.Verb.{Verb}
 use Rattle.script_text.specs.declared.verb.Verb.TheVariants as words
+use Rattle.script_text.specs.declared.verb.WindowVerb.TheVariants as window_words
 use Rattle.script_text.specs.Words.{◌>>=◌, word_at}
 use Rattle.script_text.specs.Names.{named}
 use Rattle.script_text.specs.Grammar.{Shape, done, number, flag, name, text, mapped, reading}
 use Rattle.script_text.specs.Drawings.{drawing_shape}
+use Rattle.script_text.specs.Windows.{of_window_shape, show_hide_shape, behind_shape, move_shape, size_shape}
 
 -- a window with its content at (h, v)
 abbrev pub window_of : List ℕ → ℤ → ℤ → ℤ → ℤ → Bool → Bool → List ℕ → NewWindow
@@ -59,6 +61,18 @@ verbs =
     ∷ (codes "draw", words.Draw)
     ∷ (codes "find", words.Find)
     ∷ (codes "frontwin", words.FrontWindow)
+    ∷ (codes "showhide", words.ShowHide)
+    ∷ (codes "behind", words.Behind)
+    ∷ (codes "move", words.Move)
+    ∷ (codes "size", words.Size)
+    ∷ (codes "close", words.OfWindow window_words.Close)
+    ∷ (codes "show", words.OfWindow window_words.Show)
+    ∷ (codes "hide", words.OfWindow window_words.Hide)
+    ∷ (codes "select", words.OfWindow window_words.Select)
+    ∷ (codes "front", words.OfWindow window_words.BringToFront)
+    ∷ (codes "info", words.OfWindow window_words.Info)
+    ∷ (codes "updatergn", words.OfWindow window_words.UpdateRegion)
+    ∷ (codes "visrgn", words.OfWindow window_words.VisibleRegion)
     ∷ []
 
 -- the words that follow a verb
@@ -69,6 +83,11 @@ shape_of words.Window = window_shape
 shape_of words.Draw = draw_shape
 shape_of words.Find = find_shape
 shape_of words.FrontWindow = frontwin_shape
+shape_of words.ShowHide = show_hide_shape
+shape_of words.Behind = behind_shape
+shape_of words.Move = move_shape
+shape_of words.Size = size_shape
+shape_of (words.OfWindow verb) = of_window_shape verb
 
 -- what is read after a first word that stands for a verb, or for none
 abbrev pub read_with : Option Verb → Option (List ℕ) → Result Command Refusal

@@ -1,6 +1,5 @@
 -- The words of `draw`: a window, perhaps a clip, and an operation with the words that follow its name.
-use Rattle.std.specs.Prelude.{ℕ, ℤ, pos, nat_abs, List, [], ◌∷◌, Option, Some, None, Ok, codes, if◌then◌else◌}
-use Rattle.std.specs.Int.{int_max}
+use Rattle.std.specs.Prelude.{ℕ, ℤ, List, [], ◌∷◌, Option, Some, None, Ok, codes, if◌then◌else◌}
 use Rattle.std.specs.Str.{bytes_eq}
 use Rattle.tb_geom.specs.declared.rect.Rect.{Rect}
 use Rattle.draw_port.specs.declared.shapes.Shade.{Shade}
@@ -16,6 +15,7 @@ use Rattle.script_text.specs.declared.operation.Operation.TheVariants as words
 use Rattle.script_text.specs.Words.{◌>>=◌}
 use Rattle.script_text.specs.Grammar.{Shape, done, never, number, name, text, hex, mapped}
 use Rattle.script_text.specs.Names.{named, known, source_modes, text_modes, shade_of}
+use Rattle.script_text.specs.Windows.{window_number}
 
 -- l t r b
 abbrev pub rect_shape : Shape Rect
@@ -73,10 +73,6 @@ operation_shape (Some words.VLine) = mapped (λ p. VLine p.0 p.1) line_shape
 operation_shape (Some words.Text) = mapped Text run_shape
 operation_shape (Some words.Bits) = mapped Bits bits_shape
 operation_shape (Some words.Rgn) = mapped (λ p. FillRgn p.0 p.1) region_shape
-
--- a window's number; a number below 1 is no window's, as 0 is
-abbrev pub window_number : ℤ → ℕ
-window_number window = nat_abs (int_max window (pos 0))
 
 -- an operation with its words, in a window with this clip
 abbrev pub clipped_shape : ℤ → Option (List ℕ) → List ℕ → Shape Drawing

@@ -7,4 +7,5 @@ pub mod Lines
 pub mod Names
 pub mod Replies
 pub mod Spelling
+pub mod Windows
 pub mod Words

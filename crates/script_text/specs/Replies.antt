@@ -1,10 +1,16 @@
 -- The one line of each reply.
-use Rattle.std.specs.Prelude.{ℕ, List, ◌++◌, Option, None, Some, Result, Ok, Err, codes, decimal}
+use Rattle.std.specs.Prelude.{ℕ, Bool, List, ◌++◌, Option, None, Some, Result, Ok, Err, codes, decimal, if◌then◌else◌}
+use Rattle.std.specs.Fmt.{signed_decimal}
 use Rattle.tb_geom.specs.declared.refusal.Refusal.{Refusal}
 use Rattle.tb_geom.specs.Refusals.{name_of, number_of}
+use Rattle.desk_toolbox.specs.declared.call.Found.{Found}
 use Rattle.desk_toolbox.specs.declared.call.Reply.{Reply}
-use Rattle.desk_toolbox.specs.declared.call.Reply.TheVariants.{Done, Window, Found, Front}
+use Rattle.desk_toolbox.specs.declared.call.Reply.TheVariants.{Window}
+use Rattle.desk_toolbox.specs.declared.call.WindowInfo.{WindowInfo}
+use Rattle.desk_toolbox.specs.declared.call.WindowReply.{WindowReply}
+use Rattle.desk_toolbox.specs.declared.call.WindowReply.TheVariants as window_reply
 use Rattle.desk_toolbox.specs.Finding.{part_number}
+use Rattle.script_text.specs.Hex.{hex_text}
 
 -- a call that was done and has no value
 abbrev pub done_text : List ℕ
@@ -19,10 +25,39 @@ abbrev pub window_number : Option ℕ → ℕ
 window_number None = 0
 window_number (Some window) = window
 
+-- a number
+abbrev pub number_text : ℕ → List ℕ
+number_text number = codes "ok " ++ (decimal number ++ codes "\n")
+
+-- the part that a point lies in, and the window
+abbrev pub found_text : Found → List ℕ
+found_text found = codes "ok " ++ (decimal (part_number found.part) ++ (codes " " ++ (decimal (window_number found.window) ++ codes "\n")))
+
+-- `1` for true, `0` for false
+abbrev pub flag_text : Bool → List ℕ
+flag_text flag = if flag then codes "1" else codes "0"
+
+-- where a window's content lies on the screen, its width and height, and whether the window is shown and highlighted
+abbrev pub info_text : WindowInfo → List ℕ
+info_text info =
+    codes "ok " ++ (signed_decimal info.place.h ++ (codes " " ++ (signed_decimal info.place.v
+    ++ (codes " " ++ (signed_decimal info.size.width ++ (codes " " ++ (signed_decimal info.size.height
+    ++ (codes " " ++ (flag_text info.shown ++ (codes " " ++ (flag_text info.highlighted ++ codes "\n")))))))))))
+
+-- a region, as its bytes: each is two digits, with the letters `A` to `F`
+abbrev pub region_text : List ℕ → List ℕ
+region_text bytes = codes "ok " ++ (hex_text 65 bytes ++ codes "\n")
+
+-- what the Window Manager answered
+abbrev pub window_reply_text : WindowReply → List ℕ
+window_reply_text window_reply.Done = done_text
+window_reply_text (window_reply.Made number) = number_text number
+window_reply_text (window_reply.Found found) = found_text found
+window_reply_text (window_reply.Front window) = number_text (window_number window)
+window_reply_text (window_reply.Info info) = info_text info
+window_reply_text (window_reply.Region bytes) = region_text bytes.items
+
 -- what a call answered
 abbrev pub reply_text : Result Reply Refusal → List ℕ
-reply_text (Ok Done) = done_text
-reply_text (Ok (Window number)) = codes "ok " ++ (decimal number ++ codes "\n")
-reply_text (Ok (Found found)) = codes "ok " ++ (decimal (part_number found.part) ++ (codes " " ++ (decimal (window_number found.window) ++ codes "\n")))
-reply_text (Ok (Front window)) = codes "ok " ++ (decimal (window_number window) ++ codes "\n")
+reply_text (Ok (Window reply)) = window_reply_text reply
 reply_text (Err e) = refused_text e

@@ -5,10 +5,11 @@
 ghost use Rattle.std.specs.Prelude.{◌≡◌, Option};
 ghost use Rattle.script_text.specs.Grammar.{reading};
 ghost use Rattle.script_text.specs.Names.{named};
-ghost use Rattle.script_text.specs.Drawings.{rect_shape, shaded_rect_shape, line_shape, run_shape, bits_shape, region_shape, operation_shape, operations, window_number, clipped_shape, clip_shape, drawing_shape};
+ghost use Rattle.script_text.specs.Drawings.{rect_shape, shaded_rect_shape, line_shape, run_shape, bits_shape, region_shape, operation_shape, operations, clipped_shape, clip_shape, drawing_shape};
 
 use crate::names::{shade, source_mode, text_mode};
 use crate::operation::{Operation, operation_of};
+use crate::windows::window_number;
 use crate::words::Words;
 use desk_toolbox::Drawing;
 use draw_port::Shade;
@@ -52,13 +53,6 @@ fn clipped<'a>(
         window: window_number(window),
         operation,
     })
-}
-
-/// The number by which a window is asked for: 0, which no window has, where the number is below 1.
-fn window_number(window: i32) -> u64
-    ensures { result ≡ window_number window }
-{
-    window.max(0) as u64
 }
 
 /// The words after an operation's name.

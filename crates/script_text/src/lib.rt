@@ -20,9 +20,11 @@ mod names;
 mod operation;
 mod parser;
 mod piece;
+mod region_line;
 mod reply_line;
 mod table;
 mod verb;
+mod windows;
 mod words;
 
 pub use command::{Command, DeskSize};

@@ -1,7 +1,8 @@
 //! Lines as commands.
 //!
 //! A line is a verb and the words that follow it: `specs/Spelling.antt` says which line says which command, and
-//! `specs/Commands.antt` how it is read. Each command has a function here that reads its words.
+//! `specs/Commands.antt` how it is read. Each command has a function that reads its words: those of windows that
+//! are there stand in `windows`.
 //! The form of a whole line is judged here, and then the names of modes and patterns; no range of a number, no kind
 //! of a window and no region.
 ghost use Rattle.std.specs.Prelude.{◌≡◌, ◌⊎◌, Result, Err};
@@ -15,6 +16,7 @@ ghost use Rattle.script_text.specs.Spelling.{IsLine};
 use crate::command::{Command, DeskSize};
 use crate::drawing::drawing;
 use crate::verb::{Verb, verb_of};
+use crate::windows::{behind, move_to, of_window, resize, show_hide};
 use crate::words::Words;
 use def_iface::Size;
 use desk_toolbox::{Call, NewWindow, WindowCall};
@@ -103,6 +105,11 @@ fn command<'a>(verb: Verb, words: Words<'a>) -> Result<Command<'a>, Refusal>
         Verb::Draw => draw(words),
         Verb::Find => find(words),
         Verb::FrontWindow => frontwin(words),
+        Verb::ShowHide => show_hide(words),
+        Verb::Behind => behind(words),
+        Verb::Move => move_to(words),
+        Verb::Size => resize(words),
+        Verb::OfWindow(verb) => of_window(verb, words),
     }
 }
 

@@ -1,9 +1,10 @@
 //! Replies as lines.
 ghost use Rattle.watched_io.specs.Writes.{Sends};
 ghost use Rattle.std.specs.Prelude.{◌≡◌, false};
-ghost use Rattle.script_text.specs.Replies.{done_text, reply_text, window_number};
+ghost use Rattle.script_text.specs.Replies.{done_text, refused_text, number_text, found_text, flag_text, info_text, reply_text, window_reply_text, window_number};
 
-use desk_toolbox::Reply;
+use crate::region_line::write_region;
+use desk_toolbox::{Found, Reply, WindowInfo, WindowReply};
 use itoa::Buffer;
 use tb_geom::Refusal;
 use watched_io::{Sink, send, send_all};
@@ -22,40 +23,102 @@ pub fn write_reply<S: Sink>(sink: &mut S, reply: &Result<Reply, Refusal>) -> Res
     requires { (S.output sink.old).has_failed ≡ false }
     ensures { Sends (S.output sink.old) (S.output sink.new) result (reply_text reply.now) }
 {
-    let mut number = Buffer::new();
-    match *reply {
-        Ok(Reply::Done) => write_done(sink),
-        Ok(Reply::Window(window)) => {
-            let pieces: [&[u8]; 3] = [b"ok ", number.format(window).as_bytes(), b"\n"];
-            send_all(sink, &pieces)
-        }
-        Ok(Reply::Found(found)) => {
-            let mut window = Buffer::new();
-            let pieces: [&[u8]; 5] = [
-                b"ok ",
-                number.format(found.part.number()).as_bytes(),
-                b" ",
-                window.format(window_number(found.window)).as_bytes(),
-                b"\n",
-            ];
-            send_all(sink, &pieces)
-        }
-        Ok(Reply::Front(window)) => {
-            let window = window_number(window);
-            let pieces: [&[u8]; 3] = [b"ok ", number.format(window).as_bytes(), b"\n"];
-            send_all(sink, &pieces)
-        }
-        Err(refusal) => {
-            let pieces: [&[u8]; 5] = [
-                b"refused ",
-                number.format(refusal.number()).as_bytes(),
-                b" ",
-                refusal.name().as_bytes(),
-                b"\n",
-            ];
-            send_all(sink, &pieces)
-        }
+    match reply {
+        Ok(Reply::Window(reply)) => write_window_reply(sink, reply),
+        Err(refusal) => write_refusal(sink, *refusal),
     }
+}
+
+/// Writes the line of a refusal.
+fn write_refusal<S: Sink>(sink: &mut S, refusal: Refusal) -> Result<(), Refusal>
+    requires { (S.output sink.old).has_failed ≡ false }
+    ensures { Sends (S.output sink.old) (S.output sink.new) result (refused_text refusal) }
+{
+    let mut number = Buffer::new();
+    let pieces: [&[u8]; 5] = [
+        b"refused ",
+        number.format(refusal.number()).as_bytes(),
+        b" ",
+        refusal.name().as_bytes(),
+        b"\n",
+    ];
+    send_all(sink, &pieces)
+}
+
+/// Writes the line of what the Window Manager answered.
+fn write_window_reply<S: Sink>(sink: &mut S, reply: &WindowReply) -> Result<(), Refusal>
+    requires { (S.output sink.old).has_failed ≡ false }
+    ensures { Sends (S.output sink.old) (S.output sink.new) result (window_reply_text reply.now) }
+{
+    match reply {
+        WindowReply::Done => write_done(sink),
+        WindowReply::Made(window) => write_number(sink, *window),
+        WindowReply::Found(found) => write_found(sink, *found),
+        WindowReply::Front(window) => write_number(sink, window_number(*window)),
+        WindowReply::Info(info) => write_info(sink, *info),
+        WindowReply::Region(bytes) => write_region(sink, bytes),
+    }
+}
+
+/// Writes the line of a number.
+fn write_number<S: Sink>(sink: &mut S, value: u64) -> Result<(), Refusal>
+    requires { (S.output sink.old).has_failed ≡ false }
+    ensures { Sends (S.output sink.old) (S.output sink.new) result (number_text value) }
+{
+    let mut number = Buffer::new();
+    let pieces: [&[u8]; 3] = [b"ok ", number.format(value).as_bytes(), b"\n"];
+    send_all(sink, &pieces)
+}
+
+/// Writes the line of whose a point is.
+fn write_found<S: Sink>(sink: &mut S, found: Found) -> Result<(), Refusal>
+    requires { (S.output sink.old).has_failed ≡ false }
+    ensures { Sends (S.output sink.old) (S.output sink.new) result (found_text found) }
+{
+    let mut part = Buffer::new();
+    let mut window = Buffer::new();
+    let pieces: [&[u8]; 5] = [
+        b"ok ",
+        part.format(found.part.number()).as_bytes(),
+        b" ",
+        window.format(window_number(found.window)).as_bytes(),
+        b"\n",
+    ];
+    send_all(sink, &pieces)
+}
+
+/// Writes the line of what a window's record says.
+fn write_info<S: Sink>(sink: &mut S, info: WindowInfo) -> Result<(), Refusal>
+    requires { (S.output sink.old).has_failed ≡ false }
+    ensures { Sends (S.output sink.old) (S.output sink.new) result (info_text info) }
+{
+    let mut left = Buffer::new();
+    let mut top = Buffer::new();
+    let mut width = Buffer::new();
+    let mut height = Buffer::new();
+    let pieces: [&[u8]; 13] = [
+        b"ok ",
+        left.format(info.place.h).as_bytes(),
+        b" ",
+        top.format(info.place.v).as_bytes(),
+        b" ",
+        width.format(info.size.width).as_bytes(),
+        b" ",
+        height.format(info.size.height).as_bytes(),
+        b" ",
+        flag_text(info.shown),
+        b" ",
+        flag_text(info.highlighted),
+        b"\n",
+    ];
+    send_all(sink, &pieces)
+}
+
+/// A flag as a line has it.
+fn flag_text(flag: bool) -> &'static [u8]
+    ensures { result.now ≡ flag_text flag }
+{
+    if flag { b"1" } else { b"0" }
 }
 
 /// A window by its number, and none by 0.

@@ -1,0 +1,115 @@
+//! The words of the commands for windows that are there.
+ghost use Rattle.std.specs.Prelude.{◌≡◌};
+ghost use Rattle.script_text.specs.Grammar.{reading};
+ghost use Rattle.script_text.specs.Windows.{window_number, other_window, call_of, of_window_shape, show_hide_shape, behind_shape, move_shape, size_shape};
+
+use crate::command::Command;
+use crate::verb::WindowVerb;
+use crate::words::Words;
+use def_iface::Size;
+use desk_toolbox::{Call, MoveWindow, SendBehind, ShowHide, SizeWindow, WindowCall};
+use tb_geom::{Point, Refusal};
+
+/// The number by which a window is asked for: 0, which no window has, where the number is below 1.
+pub fn window_number(window: i32) -> u64
+    ensures { result ≡ window_number window }
+{
+    window.max(0) as u64
+}
+
+/// The number of the window that is to be in front: None for 0, behind all others. A number below 0
+/// names no window, and not all of them.
+fn other_window(window: i32) -> Option<u64>
+    ensures { result ≡ other_window window }
+{
+    if window == 0 {
+        None
+    } else {
+        Some(window_number(window))
+    }
+}
+
+/// What a verb asks of the window that follows it.
+fn call_of<'a>(verb: WindowVerb, window: u64) -> WindowCall<'a>
+    ensures { result ≡ call_of verb window }
+{
+    match verb {
+        WindowVerb::Close => WindowCall::Close(window),
+        WindowVerb::Show => WindowCall::Show(window),
+        WindowVerb::Hide => WindowCall::Hide(window),
+        WindowVerb::Select => WindowCall::Select(window),
+        WindowVerb::BringToFront => WindowCall::BringToFront(window),
+        WindowVerb::Info => WindowCall::Info(window),
+        WindowVerb::UpdateRegion => WindowCall::UpdateRegion(window),
+        WindowVerb::VisibleRegion => WindowCall::VisibleRegion(window),
+    }
+}
+
+/// The words after a verb that asks something of one window: its number.
+pub fn of_window<'a>(verb: WindowVerb, words: Words<'a>) -> Result<Command<'a>, Refusal>
+    ensures { result ≡ reading (of_window_shape verb) words.entry }
+{
+    let (window, words) = words.number()?;
+    words.end()?;
+    let call = call_of(verb, window_number(window));
+    Ok(Command::Call(Call::Window(call)))
+}
+
+/// The words after `showhide`: a window, and whether it is to be shown.
+pub fn show_hide<'a>(words: Words<'a>) -> Result<Command<'a>, Refusal>
+    ensures { result ≡ reading show_hide_shape words.entry }
+{
+    let (window, words) = words.number()?;
+    let (shown, words) = words.flag()?;
+    words.end()?;
+    let window = window_number(window);
+    let change = ShowHide { window, shown };
+    Ok(Command::Call(Call::Window(WindowCall::ShowHide(change))))
+}
+
+/// The words after `behind`: a window, and the window that is to be in front of it.
+pub fn behind<'a>(words: Words<'a>) -> Result<Command<'a>, Refusal>
+    ensures { result ≡ reading behind_shape words.entry }
+{
+    let (window, words) = words.number()?;
+    let (other, words) = words.number()?;
+    words.end()?;
+    let window = window_number(window);
+    let behind = other_window(other);
+    let change = SendBehind { window, behind };
+    Ok(Command::Call(Call::Window(WindowCall::SendBehind(change))))
+}
+
+/// The words after `move`: a window, where its content is to lie on the screen, and whether the window
+/// comes to the front.
+pub fn move_to<'a>(words: Words<'a>) -> Result<Command<'a>, Refusal>
+    ensures { result ≡ reading move_shape words.entry }
+{
+    let (window, words) = words.number()?;
+    let (h, words) = words.number()?;
+    let (v, words) = words.number()?;
+    let (select, words) = words.flag()?;
+    words.end()?;
+    let window = window_number(window);
+    let place = Point { h, v };
+    let change = MoveWindow {
+        window,
+        place,
+        select,
+    };
+    Ok(Command::Call(Call::Window(WindowCall::Move(change))))
+}
+
+/// The words after `size`: a window, and the width and height of its content.
+pub fn resize<'a>(words: Words<'a>) -> Result<Command<'a>, Refusal>
+    ensures { result ≡ reading size_shape words.entry }
+{
+    let (window, words) = words.number()?;
+    let (width, words) = words.number()?;
+    let (height, words) = words.number()?;
+    words.end()?;
+    let window = window_number(window);
+    let size = Size { width, height };
+    let change = SizeWindow { window, size };
+    Ok(Command::Call(Call::Window(WindowCall::Size(change))))
+}
