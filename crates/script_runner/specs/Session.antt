@@ -5,7 +5,7 @@ use Rattle.tb_geom.specs.declared.refusal.Refusal.{Refusal}
 use Rattle.tb_geom.specs.declared.refusal.Refusal.TheVariants.{NoSuchName, OutOfRange, Busy}
 use Rattle.def_iface.specs.Stocked.{SlotView, has_kind}
 use Rattle.desk_toolbox.specs.declared.call.Call.TheVariants.{Window}
-use Rattle.desk_toolbox.specs.declared.call.WindowCall.TheVariants.{New, Draw, Find, Front}
+use Rattle.desk_toolbox.specs.declared.call.WindowCall.TheVariants.{New}
 use Rattle.desk_toolbox.specs.declared.call.Reply.{Reply}
 use Rattle.desk_toolbox.specs.FullDesk.{FullState, IsRight}
 use Rattle.desk_toolbox.specs.Begin.{empty_desk}
@@ -57,9 +57,7 @@ abbrev pub is_known : Command → List SlotView → Bool
 is_known (Desk size) slots = true
 is_known Image slots = true
 is_known (Call (Window (New w))) slots = has_kind w.kind slots
-is_known (Call (Window (Draw d))) slots = true
-is_known (Call (Window (Find p))) slots = true
-is_known (Call (Window Front)) slots = true
+is_known (Call (Window _)) slots = true
 
 -- whether a screen may have this size
 abbrev pub may_be : DeskSize → Bool

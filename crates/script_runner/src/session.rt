@@ -178,9 +178,7 @@ fn is_known_call(call: &WindowCall<'_>, stock: &Stock) -> bool
 {
     match call {
         WindowCall::New(window) => stock.has(window.kind.as_slice()),
-        WindowCall::Draw(_) => true,
-        WindowCall::Find(_) => true,
-        WindowCall::Front => true,
+        _ => true,
     }
 }
 

@@ -2,7 +2,7 @@
 //! pieces it is read and its answers are written, how a run ends whose reader or writer breaks at any moment, and what
 //! no script reaches. What a script can show is a row of `tests/rows`.
 //!
-//! `runs` tests `script_runner`, `lines` and `drawings` test `script_text`, `images` tests `screen_pbm`, and
+//! `runs` tests `script_runner`, `lines`, `drawings` and `windows` test `script_text`, `images` tests `screen_pbm`, and
 //! `reading` and `sending` test `watched_io`. `Script` and `Paper` are a reader and a writer that can be slow or break;
 //! they are proved, and no part of the program.
 #![tactic(auto)]
@@ -21,3 +21,5 @@ mod runs;
 pub mod script;
 #[cfg(test)]
 mod sending;
+#[cfg(test)]
+mod windows;

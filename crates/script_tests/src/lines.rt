@@ -1,32 +1,37 @@
 //! Lines and replies that no script of today reaches.
 use crate::paper::Paper;
-use desk_toolbox::{Call, Found, Reply, WindowCall, WindowPart};
+use desk_toolbox::{Call, Found, Reply, WindowCall, WindowPart, WindowReply};
 use script_text::{Command, parse, write_done, write_reply};
 use std::process::Abort;
 use tb_geom::Refusal;
 use watched_io::WatchedWriter;
 
 /// The line of a reply, which has to go out with one write.
-fn line_of(rt: &(impl Abort + AllocGlobal), reply: &Result<Reply, Refusal>) -> Vec<u8> {
+pub fn line_of(rt: &(impl Abort + AllocGlobal), reply: &Result<Reply, Refusal>) -> Vec<u8> {
     let mut paper = Paper::new(rt.alloc(), 100, 1);
     assert!(rt; write_reply(&mut WatchedWriter::new(&mut paper), reply) == Ok(()));
     paper.text
 }
 
+/// The reply with this value.
+pub fn answer(value: WindowReply) -> Result<Reply, Refusal> {
+    Ok(Reply::Window(value))
+}
+
 /// The reply that a point is of this part, of this window.
 fn found(part: WindowPart, window: Option<u64>) -> Result<Reply, Refusal> {
-    Ok(Reply::Found(Found { part, window }))
+    answer(WindowReply::Found(Found { part, window }))
 }
 
 #[test]
 fn a_reply_is_one_line_and_one_write(rt: HostRuntime) {
     let lines: [(Result<Reply, Refusal>, &[u8]); 8] = [
-        (Ok(Reply::Done), b"ok\n"),
-        (Ok(Reply::Window(7)), b"ok 7\n"),
-        (Ok(Reply::Window(u64::MAX)), b"ok 18446744073709551615\n"),
+        (answer(WindowReply::Done), b"ok\n"),
+        (answer(WindowReply::Made(7)), b"ok 7\n"),
+        (answer(WindowReply::Made(u64::MAX)), b"ok 18446744073709551615\n"),
         (found(WindowPart::InZoomOut, Some(12)), b"ok 8 12\n"),
         (found(WindowPart::InMenuBar, None), b"ok 1 0\n"),
-        (Ok(Reply::Front(None)), b"ok 0\n"),
+        (answer(WindowReply::Front(None)), b"ok 0\n"),
         (Err(Refusal::NoMemory), b"refused 1 NoMemory\n"),
         (Err(Refusal::NoSuchName), b"refused 20 NoSuchName\n"),
     ];

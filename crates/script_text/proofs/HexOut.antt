@@ -1,7 +1,7 @@
 -- Bytes as digits, part by part.
 use Rattle.std.proofs.Common.{◌≡◌, ℕ, ◌+◌, ◌/◌, ◌%◌, ◌<◌, List, [], ◌∷◌, ◌++◌, length, take, get_or, refl, sym, ap, ◌∙◌, append_assoc}
 use Rattle.std.proofs.lemmas.List.{take_more}
-use Rattle.script_text.specs.Hex.{hex_digit, hex_text}
+use Rattle.line_words.specs.Hex.{hex_digit, hex_text}
 
 -- one text after the other
 pub hex_text-append : (a : ℕ) (xs ys : List ℕ) → hex_text a (xs ++ ys) ≡ hex_text a xs ++ hex_text a ys

@@ -10,7 +10,7 @@ use Rattle.script_text.specs.declared.verb.Verb.{Verb}
 use Rattle.script_text.specs.declared.verb.Verb.TheVariants as verbs
 use Rattle.script_text.specs.declared.operation.Operation.{Operation}
 use Rattle.script_text.specs.declared.operation.Operation.TheVariants as words
-use Rattle.script_text.specs.Words.{◌>>=◌}
+use Rattle.line_words.specs.Words.{◌>>=◌}
 use Rattle.script_text.specs.Grammar.{Shape, done, never, number, flag, name, text, hex, mapped}
 use Rattle.script_text.specs.Names.{named, known, shade_of, pattern_modes, patterns, source_modes, text_modes}
 use Rattle.script_text.specs.Drawings.{operation_shape, operations, clipped_shape, clip_shape, drawing_shape}

@@ -1,7 +1,7 @@
 -- What is read of a shape that is mapped.
 use Rattle.std.proofs.Common.{◌≡◌, ℕ, List, Option, Some, None, Ok, Err, refl, ap, ◌∙◌}
 use Rattle.tb_geom.specs.declared.refusal.Refusal.{Refusal}
-use Rattle.script_text.specs.Words.{◌>>=◌, Field, number_at, flag_at, name_at, text_at, hex_at}
+use Rattle.line_words.specs.Words.{◌>>=◌, Field, number_at, flag_at, name_at, text_at, hex_at}
 use Rattle.script_text.specs.Grammar.{Shape, done, never, number, flag, name, text, hex, mapped, reading}
 
 -- so of what is left after a word, if it is so after every word

@@ -3,14 +3,15 @@ use Rattle.std.proofs.Common.{◌≡◌, ℕ, ℤ, ◌⊎◌, inl, inr, Bool, Li
 use Rattle.tb_geom.specs.declared.refusal.Refusal.{Refusal}
 use Rattle.tb_geom.specs.declared.refusal.Refusal.TheVariants.{BadSyntax}
 use Rattle.script_text.specs.declared.command.Command.{Command}
-use Rattle.script_text.specs.Hex.{hex_of}
-use Rattle.script_text.specs.Words.{◌>>=◌, Field, word_at, number_of, number_at, flag_of, flag_at, with_rest, name_at, hex_at, text_at}
+use Rattle.line_words.specs.Hex.{hex_of}
+use Rattle.line_words.specs.Words.{◌>>=◌, Field, word_at, number_of, number_at, flag_of, flag_at, with_rest, name_at, hex_at, text_at}
 use Rattle.script_text.specs.Grammar.{Shape, done, never, number, flag, text, name, hex, reading}
 use Rattle.script_text.specs.Names.{named}
 use Rattle.script_text.specs.Commands.{verbs, shape_of, command_of, read_with}
 use Rattle.script_text.specs.declared.verb.Verb.{Verb}
-use Rattle.script_text.proofs.WordLemmas.{HasWord, WordCases, NumberCases, FlagCases, NameCases, HexCases, TextCases, word_at-follows, word-cases, number-cases, number_at-at, flag-cases, flag_at-at, name-cases, name_at-at, hex-cases, hex_at-at, text-cases, text_at-at}
-use Rattle.script_text.specs.Spelling.{follows, IsSpelled, IsLine}
+use Rattle.line_words.proofs.WordLemmas.{HasWord, WordCases, NumberCases, FlagCases, NameCases, HexCases, TextCases, word_at-follows, word-cases, number-cases, number_at-at, flag-cases, flag_at-at, name-cases, name_at-at, hex-cases, hex_at-at, text-cases, text_at-at}
+use Rattle.line_words.specs.Forms.{follows}
+use Rattle.script_text.specs.Spelling.{IsSpelled, IsLine}
 
 -- what is read of this shape is in the grammar, or it is bad syntax
 abbrev Reads : {A : Type 0} → Shape A → Option (List ℕ) → Result A Refusal → Type 0

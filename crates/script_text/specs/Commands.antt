@@ -10,7 +10,7 @@ use Rattle.script_text.specs.declared.command.Command.TheVariants.{Desk, Image, 
 use Rattle.script_text.specs.declared.verb.Verb.{Verb}
 use Rattle.script_text.specs.declared.verb.Verb.TheVariants as words
 use Rattle.script_text.specs.declared.verb.WindowVerb.TheVariants as window_words
-use Rattle.script_text.specs.Words.{◌>>=◌, word_at}
+use Rattle.line_words.specs.Words.{◌>>=◌, word_at}
 use Rattle.script_text.specs.Names.{named}
 use Rattle.script_text.specs.Grammar.{Shape, done, number, flag, name, text, mapped, reading}
 use Rattle.script_text.specs.Drawings.{drawing_shape}

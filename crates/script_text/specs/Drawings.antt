@@ -12,7 +12,7 @@ use Rattle.op_ref.specs.OpRefs.{are_rows}
 use Rattle.desk_toolbox.specs.declared.call.Drawing.{Drawing}
 use Rattle.script_text.specs.declared.operation.Operation.{Operation}
 use Rattle.script_text.specs.declared.operation.Operation.TheVariants as words
-use Rattle.script_text.specs.Words.{◌>>=◌}
+use Rattle.line_words.specs.Words.{◌>>=◌}
 use Rattle.script_text.specs.Grammar.{Shape, done, never, number, name, text, hex, mapped}
 use Rattle.script_text.specs.Names.{named, known, source_modes, text_modes, shade_of}
 use Rattle.script_text.specs.Windows.{window_number}

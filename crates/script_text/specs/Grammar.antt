@@ -2,7 +2,7 @@
 use Rattle.std.specs.Prelude.{ℕ, ℤ, Bool, List, Option, Result, Ok, Err}
 use Rattle.tb_geom.specs.declared.refusal.Refusal.{Refusal}
 use Rattle.tb_geom.specs.declared.refusal.Refusal.TheVariants.{BadSyntax}
-use Rattle.script_text.specs.Words.{◌>>=◌, number_at, flag_at, name_at, text_at, hex_at, end_at}
+use Rattle.line_words.specs.Words.{◌>>=◌, number_at, flag_at, name_at, text_at, hex_at, end_at}
 
 -- what has to come next in a line, and how the line goes on after it, up to what all of it says; `never` is the shape of
 -- no line

@@ -2,10 +2,8 @@ pub mod Commands
 pub mod Drawings
 pub mod Grammar
 pub mod Held
-pub mod Hex
 pub mod Lines
 pub mod Names
 pub mod Replies
 pub mod Spelling
 pub mod Windows
-pub mod Words

@@ -6,7 +6,7 @@ use Rattle.tb_geom.specs.declared.refusal.Refusal.{Refusal}
 use Rattle.tb_geom.specs.declared.refusal.Refusal.TheVariants.{BadSyntax, TooLong}
 use Rattle.script_text.specs.declared.command.Command.{Command}
 use Rattle.script_text.specs.Commands.{command_of}
-use Rattle.script_text.specs.Words.{is_plain}
+use Rattle.line_words.specs.Words.{is_plain}
 
 -- one byte more at the front of the first part, or, where no newline comes, of what is left
 abbrev pub add_front : ℕ → List (List ℕ) × List ℕ → List (List ℕ) × List ℕ

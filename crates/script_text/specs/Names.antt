@@ -11,7 +11,7 @@ use Rattle.bit_map.specs.Modes.{source_name, pattern_name}
 use Rattle.draw_port.specs.declared.shapes.Shade.{Shade}
 use Rattle.draw_port.specs.declared.shapes.TextMode.{TextMode}
 use Rattle.draw_port.specs.declared.shapes.TextMode.TheVariants as texts
-use Rattle.script_text.specs.Words.{◌>>=◌}
+use Rattle.line_words.specs.Words.{◌>>=◌}
 
 -- what the first entry with a word stands for
 abbrev pub named : {A : Type 0} → List ℕ → List (List ℕ × A) → Option A

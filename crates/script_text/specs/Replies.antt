@@ -10,7 +10,7 @@ use Rattle.desk_toolbox.specs.declared.call.WindowInfo.{WindowInfo}
 use Rattle.desk_toolbox.specs.declared.call.WindowReply.{WindowReply}
 use Rattle.desk_toolbox.specs.declared.call.WindowReply.TheVariants as window_reply
 use Rattle.desk_toolbox.specs.Finding.{part_number}
-use Rattle.script_text.specs.Hex.{hex_text}
+use Rattle.line_words.specs.Hex.{hex_text}
 
 -- a call that was done and has no value
 abbrev pub done_text : List ℕ

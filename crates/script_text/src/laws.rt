@@ -1,6 +1,5 @@
-//! What the definitions of numbers, commands and lines say, in the words of their subject.
-ghost use Rattle.std.specs.Prelude.{◌≡◌, ◌⊎◌, ◌<◌, ◌^◌, ◌↔◌, ℕ, List, ◌∷◌, Some, Contains, Result, Ok, Err, IfErr, decimal};
-ghost use Rattle.std.specs.List.{AllByRecursion};
+//! What the definitions of commands and lines say, in the words of their subject.
+ghost use Rattle.std.specs.Prelude.{◌≡◌, ◌↔◌, ℕ, List, Some, Contains, Result, Ok, Err, IfErr};
 ghost use Rattle.std.specs.Str.Lines.{lines};
 ghost use Rattle.tb_geom.specs.declared.refusal.Refusal.{Refusal};
 ghost use Rattle.tb_geom.specs.declared.refusal.Refusal.TheVariants.{NoSuchName};
@@ -8,35 +7,10 @@ ghost use Rattle.bit_map.specs.declared.mode.Mode.{Mode};
 ghost use Rattle.bit_map.specs.Modes.{pattern_name, source_name};
 ghost use Rattle.script_text.specs.declared.command.Command.{Command};
 ghost use Rattle.script_text.specs.declared.verb.Verb.{Verb};
-ghost use Rattle.script_text.specs.Hex.{hex_of, hex_text};
-ghost use Rattle.script_text.specs.Words.{digits_value};
-ghost use Rattle.script_text.specs.Spelling.{IsDigits, IsLine};
+ghost use Rattle.script_text.specs.Spelling.{IsLine};
 ghost use Rattle.script_text.specs.Names.{named, known, pattern_modes, source_modes};
 ghost use Rattle.script_text.specs.Commands.{verbs};
 ghost use Rattle.script_text.specs.Lines.{lines_of};
-
-/// The digits that a reply has for a number stand for it in a line too.
-#[tactic(auto, using(crate::proofs::TextLaws::decimal_is_read))]
-pub fn written_numbers_are_read()
-    ensures { (n : ℕ) → n < 2 ^ 64 → digits_value (decimal n) ≡ n }
-{}
-
-/// Where a number is below 1,000,000,000, they are one to nine, as a line may have them.
-pub fn numbers_of_nine_digits_are_read()
-    ensures { (n : ℕ) → n < 10 ^ 9 → IsDigits (decimal n) n }
-{}
-
-/// A leading zero adds nothing.
-#[tactic(auto, using(crate::proofs::TextLaws::leading_zero))]
-pub fn a_leading_zero_adds_nothing()
-    ensures { (digits : List ℕ) → digits_value (48 ∷ digits) ≡ digits_value digits }
-{}
-
-/// Bytes that are written as hex digits, with the letters `A` to `F` or `a` to `f`, are read back.
-pub fn written_hex_is_read()
-    ensures { (a : ℕ) → (a ≡ 65) ⊎ (a ≡ 97) → (byte : ℕ) (bytes : List ℕ) → AllByRecursion (λ b. b < 256) (byte ∷ bytes)
-        → hex_of (hex_text a (byte ∷ bytes)) ≡ Some (byte ∷ bytes) }
-{}
 
 /// A first word stands for a verb exactly where the table has the two.
 pub fn a_verb_is_one_of_the_table()

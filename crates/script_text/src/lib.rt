@@ -13,19 +13,16 @@
 
 mod command;
 mod drawing;
-mod hex;
 pub mod laws;
 mod lines;
 mod names;
 mod operation;
 mod parser;
-mod piece;
 mod region_line;
 mod reply_line;
 mod table;
 mod verb;
 mod windows;
-mod words;
 
 pub use command::{Command, DeskSize};
 pub use lines::LineBuffer;

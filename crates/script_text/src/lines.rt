@@ -5,9 +5,9 @@ ghost use Rattle.std.specs.Str.Lines.{strip_carriage_return};
 ghost use Rattle.script_text.specs.Held.{pushed, said_held, said_last};
 ghost use Rattle.script_text.specs.Lines.{is_skipped, said};
 
-use crate::words::is_plain;
 use crate::{Command, parse};
 use arrayvec::ArrayVec;
+use line_words::is_plain;
 use std::marker::Model;
 use tb_geom::Refusal;
 

@@ -17,9 +17,9 @@ use crate::command::{Command, DeskSize};
 use crate::drawing::drawing;
 use crate::verb::{Verb, verb_of};
 use crate::windows::{behind, move_to, of_window, resize, show_hide};
-use crate::words::Words;
 use def_iface::Size;
 use desk_toolbox::{Call, NewWindow, WindowCall};
+use line_words::Words;
 use tb_geom::{Point, Refusal};
 
 /// The words after `desk`: the screen's width and height, and the rows of its menu bar.

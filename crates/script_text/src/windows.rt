@@ -5,9 +5,9 @@ ghost use Rattle.script_text.specs.Windows.{window_number, other_window, call_of
 
 use crate::command::Command;
 use crate::verb::WindowVerb;
-use crate::words::Words;
 use def_iface::Size;
 use desk_toolbox::{Call, MoveWindow, SendBehind, ShowHide, SizeWindow, WindowCall};
+use line_words::Words;
 use tb_geom::{Point, Refusal};
 
 /// The number by which a window is asked for: 0, which no window has, where the number is below 1.

@@ -1,6 +1,6 @@
 use Rattle.std.proofs.Common.{◌≡◌, ◌*◌, take}
 use Rattle.arrayvec.specs.ArrayVec.{array_vec_len}
-use Rattle.script_text.specs.Hex.{hex_text}
+use Rattle.line_words.specs.Hex.{hex_text}
 use Rattle.script_text.proofs.region_line.digits_of.Given as goal
 
 abbrev pub invariant-loop-byte : goal.invariant-loop-byte

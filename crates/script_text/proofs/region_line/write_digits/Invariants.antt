@@ -1,5 +1,5 @@
 use Rattle.std.proofs.Common.{◌≡◌, ℕ, List, ◌++◌, length}
-use Rattle.script_text.specs.Hex.{hex_text}
+use Rattle.line_words.specs.Hex.{hex_text}
 use Rattle.watched_io.specs.Writes.{Sent}
 use Rattle.script_text.proofs.region_line.write_digits.Given as goal
 

@@ -1,5 +1,5 @@
 use Rattle.std.proofs.Common.{[], ◌∷◌, ◌++◌, codes}
-use Rattle.script_text.specs.Hex.{hex_text}
+use Rattle.line_words.specs.Hex.{hex_text}
 use Rattle.watched_io.proofs.Written.{Sends-after, Sends-exit_first}
 use Rattle.script_text.proofs.region_line.write_region.Goals as goal
 

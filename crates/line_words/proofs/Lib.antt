@@ -1,0 +1,4 @@
+mod HexLaws
+mod HexLemmas
+mod NumberLaws
+pub mod WordLemmas

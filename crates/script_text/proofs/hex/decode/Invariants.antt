@@ -1,9 +1,0 @@
-use Rattle.std.proofs.Common.{◌≡◌, ◌*◌, ◌++◌, take, drop}
-use Rattle.script_text.specs.Hex.{hex_value}
-use Rattle.script_text.proofs.hex.decode.Given as goal
-
--- the bytes so far, and those of the digits that are left, are those of all digits
-abbrev pub invariant-loop-at : goal.invariant-loop-at
-invariant-loop-at l = record {
-  bytes : take l.at l.digits ++ hex_value (drop (2 * l.at) l.digits) ≡ hex_value l.fn.digits;
-}

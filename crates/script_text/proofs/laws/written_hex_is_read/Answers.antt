@@ -1,5 +1,0 @@
-use Rattle.script_text.proofs.HexLaws.{hex_is_read}
-use Rattle.script_text.proofs.laws.written_hex_is_read.Goals as goal
-
-pub returns : goal.returns
-returns c = hex_is_read
