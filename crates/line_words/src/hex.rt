@@ -9,7 +9,7 @@ use op_ref::BytesRef;
 
 /// The bytes that hex digits stand for, two digits each; None of other words. They lie where their
 /// digits were.
-pub fn hex_bytes<'a>(digits: Piece<'a>) -> Option<BytesRef<'a>>
+pub(crate) fn hex_bytes<'a>(digits: Piece<'a>) -> Option<BytesRef<'a>>
     ensures { result ≡ hex_of digits.entry }
 {
     if !is_hex_text(digits.as_slice()) {

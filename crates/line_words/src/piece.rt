@@ -22,7 +22,7 @@ impl<'a> Model for Piece<'a> {
 
 impl<'a> Piece<'a> {
     /// These bytes.
-    pub fn new(bytes: &'a mut [u8]) -> Piece<'a>
+    pub(crate) fn new(bytes: &'a mut [u8]) -> Piece<'a>
         ensures { result ≡ bytes.old }
     {
         Piece { bytes }
@@ -36,14 +36,14 @@ impl<'a> Piece<'a> {
     }
 
     /// The bytes, to be written to.
-    pub fn into_slice(self) -> &'a mut [u8]
+    pub(crate) fn into_slice(self) -> &'a mut [u8]
         ensures { result.now ≡ self.entry }
     {
         self.bytes
     }
 
     /// The bytes, for a command.
-    pub fn lent(self) -> BytesRef<'a>
+    pub(crate) fn lent(self) -> BytesRef<'a>
         ensures { result ≡ self.entry }
     {
         let bytes = self.bytes;
@@ -51,7 +51,7 @@ impl<'a> Piece<'a> {
     }
 
     /// The bytes before and after the first mark; where there is none, all of them and no others.
-    pub fn split_at(self, mark: u8) -> (Piece<'a>, Option<Piece<'a>>)
+    pub(crate) fn split_at(self, mark: u8) -> (Piece<'a>, Option<Piece<'a>>)
         ensures { result ≡ parts self.entry (split_at mark self.entry) }
     {
         let bytes = self.bytes;
@@ -70,7 +70,7 @@ impl<'a> Piece<'a> {
     }
 
     /// The first byte and the others, if there is one.
-    pub fn first(self) -> Option<(u8, Piece<'a>)>
+    pub(crate) fn first(self) -> Option<(u8, Piece<'a>)>
         ensures { result ≡ first_of self.entry }
     {
         let (first, others) = self.bytes.split_first_mut()?;
