@@ -28,7 +28,10 @@ fn a_reply_is_one_line_and_one_write(rt: HostRuntime) {
     let lines: [(Result<Reply, Refusal>, &[u8]); 8] = [
         (answer(WindowReply::Done), b"ok\n"),
         (answer(WindowReply::Made(7)), b"ok 7\n"),
-        (answer(WindowReply::Made(u64::MAX)), b"ok 18446744073709551615\n"),
+        (
+            answer(WindowReply::Made(u64::MAX)),
+            b"ok 18446744073709551615\n",
+        ),
         (found(WindowPart::InZoomOut, Some(12)), b"ok 8 12\n"),
         (found(WindowPart::InMenuBar, None), b"ok 1 0\n"),
         (answer(WindowReply::Front(None)), b"ok 0\n"),

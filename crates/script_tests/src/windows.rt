@@ -149,10 +149,7 @@ fn region_bytes(alloc: Global, count: usize) -> Result<Vec<u8>, Fail> {
 }
 
 /// The line of a region of 600 bytes, where so many writes go well.
-fn region_line(
-    alloc: Global,
-    writes: usize,
-) -> Result<(Result<(), Refusal>, Vec<u8>), Fail> {
+fn region_line(alloc: Global, writes: usize) -> Result<(Result<(), Refusal>, Vec<u8>), Fail> {
     let reply = answer(WindowReply::Region(region_bytes(alloc, 600)?));
     let mut paper = Paper::new(alloc, 2000, writes);
     let outcome = write_reply(&mut WatchedWriter::new(&mut paper), &reply);
