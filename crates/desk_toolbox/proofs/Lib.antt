@@ -1,2 +1,3 @@
 -- Lemmas on runs.
+pub mod Sayings
 pub mod Runs

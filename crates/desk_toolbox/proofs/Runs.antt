@@ -12,6 +12,8 @@ use Rattle.window_mgr.specs.Finding.{record_with, info_of}
 use Rattle.window_mgr.specs.Effects.{Effect, IsEffect, IsUnchanged, effect_of}
 use Rattle.window_mgr.specs.Effects.Effect.{Makes, Draws, Arranges, Tells}
 use Rattle.window_mgr.specs.Step as windows
+use Rattle.window_mgr.proofs.KeptKinds as kinds
+use Rattle.window_mgr.proofs.KeptKinds.{kinds_of}
 use Rattle.window_mgr.proofs.Running as windowing
 use Rattle.desk_toolbox.specs.declared.call.Call.{Call}
 use Rattle.desk_toolbox.specs.declared.call.Call.TheVariants.{Window}
@@ -24,6 +26,11 @@ use Rattle.desk_toolbox.specs.Run.{IsStep, IsRun, number_made, made, AreCounted}
 pub step_stays_right : (call : Call) (answer : Result Reply Refusal) (before after : FullState) → IsRight before → IsStep call answer before after → IsRight after
 step_stays_right (Window call) (Ok (reply.Window answer)) before after right step = windowing.step_stays_right call (Ok answer) before after right step
 step_stays_right (Window call) (Err e) before after right step = windowing.step_stays_right call (Err e) before after right step
+
+-- and the stock keeps its kinds
+pub step_keeps_kinds : (call : Call) (answer : Result Reply Refusal) (before after : FullState) → IsStep call answer before after → kinds_of after ≡ kinds_of before
+step_keeps_kinds (Window call) (Ok (reply.Window answer)) before after step = kinds.step_keeps_kinds call (Ok answer) before after step
+step_keeps_kinds (Window call) (Err e) before after step = kinds.step_keeps_kinds call (Err e) before after step
 
 pub run_stays_right : (first last : FullState) (calls : List Call) (answers : List (Result Reply Refusal)) → IsRight first → IsRun first calls answers last → IsRight last
 run_stays_right first last [] [] right run = subst IsRight (sym run) right

@@ -10,7 +10,7 @@ pub enum Call<'a> {
 }
 
 /// The value of a call that was done, by the manager that answered.
-#[derive(Drop)]
+#[derive(Clone, Copy, Debug, PartialEq, Eq)]
 pub enum Reply {
     Window(WindowReply),
 }

@@ -1,10 +1,55 @@
-//! What steps and runs say of each other.
-ghost use Rattle.std.specs.Prelude.{List, Result};
+//! What the definitions of a desk, of its steps and of runs say of each other.
+ghost use Rattle.std.specs.Prelude.{◌≡◌, Bool, List, map, Result};
+ghost use Rattle.std.specs.List.{find};
+ghost use Rattle.std.specs.Option.{option_map};
+ghost use Rattle.tb_geom.specs.declared.point.Point.{Point};
 ghost use Rattle.tb_geom.specs.declared.refusal.Refusal.{Refusal};
-ghost use Rattle.window_mgr.specs.FullDesk.{FullState, IsRight};
+ghost use Rattle.def_iface.specs.Desk.{IsDesk};
+ghost use Rattle.def_iface.specs.Owner.{owner, own_bit};
+ghost use Rattle.def_iface.specs.Scratch.{scratch};
+ghost use Rattle.vis_update.specs.Records.{WindowRecord};
+ghost use Rattle.window_mgr.specs.FullDesk.{FullDesk, FullState, IsRight, layered_desk};
+ghost use Rattle.window_mgr.specs.Finding.{front_of};
+ghost use Rattle.window_mgr.specs.Refused.{first_refusal};
 ghost use Rattle.desk_toolbox.specs.declared.call.Call.{Call};
 ghost use Rattle.desk_toolbox.specs.declared.call.Reply.{Reply};
-ghost use Rattle.desk_toolbox.specs.Run.{IsRun, made, AreCounted};
+ghost use Rattle.desk_toolbox.specs.Run.{IsStep, IsRun, made, AreCounted};
+
+/// Painting the desk from nothing, back to front, gives each pixel the value of its owner.
+#[tactic(auto, using(crate::proofs::Sayings::scratch_is_owners_on))]
+pub fn scratch_is_owners()
+    ensures { (desk : FullDesk) (p : Point) → IsDesk (layered_desk desk)
+        → scratch (layered_desk desk) p ≡ own_bit (layered_desk desk) (owner (layered_desk desk) p) p }
+{}
+
+/// The window that FrontWindow answers is the first of the list that is visible.
+#[tactic(auto, using(crate::proofs::Sayings::front_is_first))]
+pub fn front_is_the_first_visible()
+    ensures { (windows : List WindowRecord)
+        → front_of windows ≡ option_map (λ w. w.serial) (find (λ w. w.shown) windows) }
+{}
+
+/// A refusal is the first of the written order whose condition holds.
+#[tactic(auto, using(crate::proofs::Sayings::refusal_is_first))]
+pub fn a_refusal_is_the_first_that_holds()
+    ensures { (refusals : List (Bool × Refusal))
+        → first_refusal refusals ≡ option_map (λ r. r.1) (find (λ r. r.0) refusals) }
+{}
+
+/// Whatever a call does, the stock has the same slots, for the same kinds.
+#[tactic(auto, using(crate::proofs::Runs::step_keeps_kinds))]
+pub fn steps_keep_the_kinds()
+    ensures { (call : Call) (answer : Result Reply Refusal) (before after : FullState)
+        → IsStep call answer before after
+        → map (λ slot. slot.kind) after.desk.stock ≡ map (λ slot. slot.kind) before.desk.stock }
+{}
+
+/// A step keeps a right state right.
+#[tactic(auto, using(crate::proofs::Runs::step_stays_right))]
+pub fn steps_stay_right()
+    ensures { (call : Call) (answer : Result Reply Refusal) (before after : FullState)
+        → IsRight before → IsStep call answer before after → IsRight after }
+{}
 
 /// The windows that a run makes have numbers that follow each other: none is used again.
 #[tactic(auto, using(crate::proofs::Runs::made_are_counted))]

@@ -16,6 +16,7 @@ use def_iface::{Defined, Stock, Stocked, Taken};
 use std::alloc::Global;
 use strike_font::Font;
 use tb_geom::Refusal;
+use window_list::{Ranks, WindowList};
 use window_mgr::{NotBegun, WindowManager};
 
 /// A desk: its screen, its windows, and what of them has to be drawn.
@@ -43,7 +44,8 @@ impl Toolbox {
         ensures refused { IfErr result (λ e. (e.font ≡ font)
             × (e.refusal ≡ (if whole.is_screen width height bar then Refusal.NoMemory else Refusal.OutOfRange))) }
     {
-        match WindowManager::new(alloc, width, height, bar, font) {
+        let none = WindowList::new(Ranks::new(alloc));
+        match WindowManager::new(alloc, width, height, bar, font, none) {
             Ok(windows) => Ok(Toolbox { alloc, windows }),
             Err(refused) => Err(refused),
         }

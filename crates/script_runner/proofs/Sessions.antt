@@ -7,9 +7,9 @@ use Rattle.def_iface.specs.declared.taken.Taken.{Taken}
 use Rattle.def_iface.specs.Meaning.{Loan}
 use Rattle.def_iface.specs.Stocked.{SlotView}
 use Rattle.desk_toolbox.specs.declared.toolbox.Toolbox.{Toolbox}
-use Rattle.desk_toolbox.specs.Begin.{IsEmptyDesk}
-use Rattle.desk_toolbox.specs.Records.{state_of}
-use Rattle.desk_toolbox.specs.FullDesk.{FullState}
+use Rattle.window_mgr.specs.Begin.{IsEmptyDesk}
+use Rattle.window_mgr.specs.Records.{state_of}
+use Rattle.window_mgr.specs.FullDesk.{FullState}
 use Rattle.script_text.specs.declared.command.Command.{Command}
 use Rattle.script_text.specs.declared.command.DeskSize.{DeskSize}
 use Rattle.script_runner.specs.Session.{unmade, made, IsNewDesk, Opens, first_size, is_known, may_be, why_unmade}
@@ -19,9 +19,9 @@ use Rattle.watched_io.specs.Writes.{Output, Sends}
 
 -- the desk that the Toolbox made
 pub new_desk : {V : Type 0} {H : V → Type 0} (loan : Taken V H → Loan) (t : Toolbox V H) (font : List ℕ) (slots : List SlotView) (size wanted : DeskSize) → size ≡ wanted
-    → IsEmptyDesk loan size.width size.height size.bar font t slots → IsNewDesk wanted font slots (state_of loan t slots)
+    → IsEmptyDesk loan size.width size.height size.bar font t.windows slots → IsNewDesk wanted font slots (state_of loan t.windows slots)
 new_desk loan t font slots size wanted same empty =
-    subst (λ s. IsNewDesk s font slots (state_of loan t slots)) same (record { desk = empty.desk; drawn = empty.drawn; right = empty.right })
+    subst (λ s. IsNewDesk s font slots (state_of loan t.windows slots)) same (record { desk = empty.desk; drawn = empty.drawn; right = empty.right })
 
 -- the desk was made, and the command answered on it
 pub opened : {X : Type 0} (font : List ℕ) (slots : List SlotView) (command : Command) (first after : FullState) (old new : Output) (r : Result X Refusal)

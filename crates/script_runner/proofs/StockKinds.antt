@@ -3,8 +3,8 @@ use Rattle.std.proofs.Common.{◌≡◌, ℕ, List, [], ◌∷◌, map, Option, 
 use Rattle.tb_geom.specs.declared.refusal.Refusal.{Refusal}
 use Rattle.tb_geom.specs.declared.refusal.Refusal.TheVariants.{NoMemory, ReadFault, WriteFault}
 use Rattle.def_iface.specs.Stocked.{SlotView}
-use Rattle.desk_toolbox.specs.FullDesk.{FullState}
-use Rattle.desk_toolbox.proofs.Sayings.{step_keeps_kinds}
+use Rattle.window_mgr.specs.FullDesk.{FullState}
+use Rattle.desk_toolbox.proofs.Runs.{step_keeps_kinds}
 use Rattle.script_text.specs.declared.command.Command.{Command}
 use Rattle.script_text.specs.declared.command.Command.TheVariants.{Desk, Image, Call}
 use Rattle.script_text.specs.Lines.{said}

@@ -2,7 +2,7 @@
 use Rattle.std.specs.Prelude.{◌≡◌, ◌⊎◌, ℕ, true, List, Option, Some, Result, Ok, Err}
 use Rattle.tb_geom.specs.declared.refusal.Refusal.{Refusal}
 use Rattle.tb_geom.specs.declared.refusal.Refusal.TheVariants.{NoMemory}
-use Rattle.desk_toolbox.specs.FullDesk.{FullState}
+use Rattle.window_mgr.specs.FullDesk.{FullState}
 use Rattle.script_text.specs.declared.command.Command.{Command}
 use Rattle.script_runner.specs.Session.{SessionState, Answers, FirstAnswers, Obeys, SaidAnswers, makes_desk}
 use Rattle.watched_io.specs.Writes.{Output, Sends}

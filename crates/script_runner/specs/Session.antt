@@ -5,13 +5,13 @@ use Rattle.tb_geom.specs.declared.refusal.Refusal.{Refusal}
 use Rattle.tb_geom.specs.declared.refusal.Refusal.TheVariants.{NoSuchName, OutOfRange, Busy}
 use Rattle.def_iface.specs.Stocked.{SlotView, has_kind}
 use Rattle.desk_toolbox.specs.declared.call.Call.TheVariants.{Window}
-use Rattle.desk_toolbox.specs.declared.call.WindowCall.TheVariants.{New}
+use Rattle.window_mgr.specs.declared.call.WindowCall.TheVariants.{New}
 use Rattle.desk_toolbox.specs.declared.call.Reply.{Reply}
-use Rattle.desk_toolbox.specs.FullDesk.{FullState, IsRight}
-use Rattle.desk_toolbox.specs.Begin.{empty_desk}
-use Rattle.desk_toolbox.specs.Closing.{IsClosed}
-use Rattle.desk_toolbox.specs.Step.{IsStep}
-use Rattle.desk_toolbox.specs.Whole.{is_screen}
+use Rattle.window_mgr.specs.FullDesk.{FullState, IsRight}
+use Rattle.window_mgr.specs.Begin.{empty_desk}
+use Rattle.window_mgr.specs.Closing.{IsClosed}
+use Rattle.desk_toolbox.specs.Run.{IsStep}
+use Rattle.window_mgr.specs.Whole.{is_screen}
 use Rattle.script_text.specs.declared.command.Command.{Command}
 use Rattle.script_text.specs.declared.command.DeskSize.{DeskSize}
 use Rattle.script_text.specs.declared.command.Command.TheVariants.{Desk, Image, Call}

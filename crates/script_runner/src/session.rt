@@ -2,8 +2,8 @@
 ghost use Rattle.std.specs.Prelude.{◌≡◌, true, All, None, Some, OnOk, false};
 ghost use Rattle.def_iface.specs.Stocked.{IsFull};
 ghost use Rattle.desk_toolbox.specs.declared.call.Call.TheVariants as asks;
-ghost use Rattle.desk_toolbox.specs.Records.{state_of};
-ghost use Rattle.desk_toolbox.specs.Whole.{IsWhole};
+ghost use Rattle.window_mgr.specs.Records.{state_of};
+ghost use Rattle.window_mgr.specs.Whole.{IsWhole};
 ghost use Rattle.script_runner.specs.Session.{LeavesStock, first_size, is_known};
 ghost use Rattle.script_runner.specs.SessionViews.{session_of, IsReady};
 ghost use Rattle.script_runner.specs.Endings.{IsAnswered, IsFirstAnswered, CommandEnds, LineEnds};
@@ -189,13 +189,13 @@ fn first_answer<S: Sink>(
     stock: &mut Stock,
     sink: &mut S,
 ) -> Result<(), Refusal>
-    requires whole { IsWhole ⟦<Taken as Defined>⟧.loan desk.old (⟦<Stock as Stocked>⟧.slots stock.old) }
+    requires whole { IsWhole ⟦<Taken as Defined>⟧.loan desk.old.windows (⟦<Stock as Stocked>⟧.slots stock.old) }
     requires unfailed { (S.output sink.old).has_failed ≡ false }
-    ensures whole { IsWhole ⟦<Taken as Defined>⟧.loan desk.new (⟦<Stock as Stocked>⟧.slots stock.new) }
+    ensures whole { IsWhole ⟦<Taken as Defined>⟧.loan desk.new.windows (⟦<Stock as Stocked>⟧.slots stock.new) }
     ensures quiet { OnOk result ((S.output sink.new).has_failed ≡ false) }
     ensures answered { IsFirstAnswered
-        (state_of ⟦<Taken as Defined>⟧.loan desk.old (⟦<Stock as Stocked>⟧.slots stock.old)) command.now
-        (state_of ⟦<Taken as Defined>⟧.loan desk.new (⟦<Stock as Stocked>⟧.slots stock.new))
+        (state_of ⟦<Taken as Defined>⟧.loan desk.old.windows (⟦<Stock as Stocked>⟧.slots stock.old)) command.now
+        (state_of ⟦<Taken as Defined>⟧.loan desk.new.windows (⟦<Stock as Stocked>⟧.slots stock.new))
         (S.output sink.old) (S.output sink.new) result }
 {
     match command {
@@ -212,13 +212,13 @@ fn answer_on<S: Sink>(
     stock: &mut Stock,
     sink: &mut S,
 ) -> Result<(), Refusal>
-    requires whole { IsWhole ⟦<Taken as Defined>⟧.loan desk.old (⟦<Stock as Stocked>⟧.slots stock.old) }
+    requires whole { IsWhole ⟦<Taken as Defined>⟧.loan desk.old.windows (⟦<Stock as Stocked>⟧.slots stock.old) }
     requires unfailed { (S.output sink.old).has_failed ≡ false }
-    ensures whole { IsWhole ⟦<Taken as Defined>⟧.loan desk.new (⟦<Stock as Stocked>⟧.slots stock.new) }
+    ensures whole { IsWhole ⟦<Taken as Defined>⟧.loan desk.new.windows (⟦<Stock as Stocked>⟧.slots stock.new) }
     ensures quiet { OnOk result ((S.output sink.new).has_failed ≡ false) }
     ensures answered { IsAnswered
-        (state_of ⟦<Taken as Defined>⟧.loan desk.old (⟦<Stock as Stocked>⟧.slots stock.old)) command.now
-        (state_of ⟦<Taken as Defined>⟧.loan desk.new (⟦<Stock as Stocked>⟧.slots stock.new))
+        (state_of ⟦<Taken as Defined>⟧.loan desk.old.windows (⟦<Stock as Stocked>⟧.slots stock.old)) command.now
+        (state_of ⟦<Taken as Defined>⟧.loan desk.new.windows (⟦<Stock as Stocked>⟧.slots stock.new))
         (S.output sink.old) (S.output sink.new) result }
 {
     match command {

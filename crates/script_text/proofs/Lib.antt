@@ -1,6 +1,5 @@
 pub mod Cuts
 mod Ends
-mod HexOut
 mod LineLaws
 mod Mapped
 mod NameLemmas

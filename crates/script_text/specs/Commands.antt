@@ -3,8 +3,8 @@ use Rattle.std.specs.Prelude.{ℕ, ℤ, Bool, List, [], ◌∷◌, Option, Some,
 use Rattle.tb_geom.specs.declared.refusal.Refusal.{Refusal}
 use Rattle.tb_geom.specs.declared.refusal.Refusal.TheVariants.{BadSyntax}
 use Rattle.desk_toolbox.specs.declared.call.Call.TheVariants.{Window}
-use Rattle.desk_toolbox.specs.declared.call.WindowCall.TheVariants.{New, Draw, Find, Front}
-use Rattle.desk_toolbox.specs.declared.call.NewWindow.{NewWindow}
+use Rattle.window_mgr.specs.declared.call.WindowCall.TheVariants.{New, Draw, Find, Front}
+use Rattle.window_mgr.specs.declared.call.NewWindow.{NewWindow}
 use Rattle.script_text.specs.declared.command.Command.{Command}
 use Rattle.script_text.specs.declared.command.Command.TheVariants.{Desk, Image, Call}
 use Rattle.script_text.specs.declared.verb.Verb.{Verb}
@@ -14,7 +14,7 @@ use Rattle.line_words.specs.Words.{◌>>=◌, word_at}
 use Rattle.script_text.specs.Names.{named}
 use Rattle.script_text.specs.Grammar.{Shape, done, number, flag, name, text, mapped, reading}
 use Rattle.script_text.specs.Drawings.{drawing_shape}
-use Rattle.script_text.specs.Windows.{of_window_shape, show_hide_shape, behind_shape, move_shape, size_shape}
+use Rattle.script_text.specs.Windows.{of_window_shape, show_hide_shape, behind_shape, move_shape}
 
 -- a window with its content at (h, v)
 abbrev pub window_of : List ℕ → ℤ → ℤ → ℤ → ℤ → Bool → Bool → List ℕ → NewWindow
@@ -64,15 +64,11 @@ verbs =
     ∷ (codes "showhide", words.ShowHide)
     ∷ (codes "behind", words.Behind)
     ∷ (codes "move", words.Move)
-    ∷ (codes "size", words.Size)
-    ∷ (codes "close", words.OfWindow window_words.Close)
     ∷ (codes "show", words.OfWindow window_words.Show)
     ∷ (codes "hide", words.OfWindow window_words.Hide)
     ∷ (codes "select", words.OfWindow window_words.Select)
     ∷ (codes "front", words.OfWindow window_words.BringToFront)
     ∷ (codes "info", words.OfWindow window_words.Info)
-    ∷ (codes "updatergn", words.OfWindow window_words.UpdateRegion)
-    ∷ (codes "visrgn", words.OfWindow window_words.VisibleRegion)
     ∷ []
 
 -- the words that follow a verb
@@ -86,7 +82,6 @@ shape_of words.FrontWindow = frontwin_shape
 shape_of words.ShowHide = show_hide_shape
 shape_of words.Behind = behind_shape
 shape_of words.Move = move_shape
-shape_of words.Size = size_shape
 shape_of (words.OfWindow verb) = of_window_shape verb
 
 -- what is read after a first word that stands for a verb, or for none

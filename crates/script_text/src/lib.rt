@@ -18,7 +18,6 @@ mod lines;
 mod names;
 mod operation;
 mod parser;
-mod region_line;
 mod reply_line;
 mod table;
 mod verb;

@@ -26,4 +26,4 @@ pub mod Arrangements
 pub mod Sending
 pub mod Steps
 pub mod Running
-pub mod Sayings
+pub mod KeptKinds

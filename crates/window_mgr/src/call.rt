@@ -40,14 +40,14 @@ pub enum WindowCall<'a> {
 }
 
 /// A window that is to be visible, or hidden.
-#[derive(Clone, Copy)]
+#[derive(Clone, Copy, PartialEq, Eq)]
 pub struct ShowHide {
     pub window: u64,
     pub shown: bool,
 }
 
 /// A window that is to go behind another.
-#[derive(Clone, Copy)]
+#[derive(Clone, Copy, PartialEq, Eq)]
 pub struct SendBehind {
     pub window: u64,
     /// The window in front of it then, another than itself, or None: behind all others.
@@ -55,7 +55,7 @@ pub struct SendBehind {
 }
 
 /// A window that is to stand elsewhere.
-#[derive(Clone, Copy)]
+#[derive(Clone, Copy, PartialEq, Eq)]
 pub struct MoveWindow {
     pub window: u64,
     /// Where the content's 0 0 is to lie on the screen.
@@ -138,7 +138,7 @@ pub struct WindowInfo {
 }
 
 /// The value of a call that was done.
-#[derive(Drop)]
+#[derive(Clone, Copy, Debug, PartialEq, Eq)]
 pub enum WindowReply {
     /// Nothing more than that it was done.
     Done,

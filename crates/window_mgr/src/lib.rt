@@ -30,7 +30,6 @@ mod close;
 mod commit;
 mod draw;
 mod find;
-pub mod laws;
 mod make;
 mod manager;
 mod new_window;

@@ -1,5 +1,5 @@
 //! What a window manager keeps, and how it begins.
-ghost use Rattle.std.specs.Prelude.{◌≡◌, true, if◌then◌else◌, IfOk, IfErr, List, All, int_lt};
+ghost use Rattle.std.specs.Prelude.{◌≡◌, true, if◌then◌else◌, IfOk, IfErr, List, [], Some, None, All, int_lt};
 ghost use Rattle.def_iface.specs.Stocked.{SlotView, IsFull};
 ghost use Rattle.window_mgr.specs.Begin.{IsEmptyDesk, IsGround, IsEmptyPainted, last_row};
 ghost use Rattle.window_mgr.specs.Whole as whole;
@@ -12,7 +12,7 @@ use std::alloc::Global;
 use strike_font::Font;
 use tb_geom::{Point, Rect, Refusal};
 use vis_update::Area;
-use window_list::{Ranks, WindowList};
+use window_list::WindowList;
 
 /// A desk: its screen, its windows, and what of them has to be drawn.
 #[derive(Drop)]
@@ -52,9 +52,9 @@ pub struct NotBegun {
 }
 
 impl WindowManager {
-    /// A desk without windows, on a screen of `width` by `height` pixels whose first `bar` rows are
-    /// the menu bar's: white, the last of them black. The rest is gray. Its texts are drawn in the
-    /// font. OutOfRange where a side lies outside 8..=1024, or `bar` is neither 0 nor 20 or not less
+    /// A desk without windows, which are to lie in this empty list, on a screen of `width` by `height`
+    /// pixels whose first `bar` rows are the menu bar's: white, the last of them black. The rest is gray.
+    /// Its texts are drawn in the font. OutOfRange where a side lies outside 8..=1024, or `bar` is neither 0 nor 20 or not less
     /// than the height; else NoMemory is the only refusal. A refusal gives the font back.
     pub fn new(
         alloc: Global,
@@ -62,7 +62,11 @@ impl WindowManager {
         height: i32,
         bar: i32,
         font: Font,
+        windows: WindowList,
     ) -> Result<WindowManager, NotBegun>
+        requires none { windows.records.items ≡ [] }
+        requires active { windows.active ≡ None }
+        requires first { windows.next ≡ Some 1 }
         ensures begun { IfOk result (λ t. (slots : List SlotView) → All IsFull slots
             → IsEmptyDesk ⟦<Taken as Defined>⟧.loan width height bar font t slots) }
         ensures in_range { IfOk result (λ t. whole.is_screen width height bar ≡ true) }
@@ -83,7 +87,7 @@ impl WindowManager {
                 font,
                 gray,
                 desktop,
-                windows: WindowList::new(Ranks::new(alloc)),
+                windows,
                 areas: Vec::new(alloc),
             }),
             Err(refusal) => Err(NotBegun { refusal, font }),

@@ -15,8 +15,8 @@ returns-in-Ok-clause-begun g c slots full =
       ground = painted;
       rows = refl;
       texts = refl;
-      windows = c.new-in-Ok.ensures.windows;
-      areas = c.new-in-Ok-2.ensures.items;
-      active = c.new-in-Ok.ensures.active;
-      next = c.new-in-Ok.ensures.next;
+      windows = c.requires.none;
+      areas = c.new.ensures.items;
+      active = c.requires.active;
+      next = c.requires.first;
     }) slots full)

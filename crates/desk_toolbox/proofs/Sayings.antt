@@ -1,5 +1,5 @@
 -- Definitions in the words of their subject.
-use Rattle.std.proofs.Common.{◌≡◌, ℕ, Bool, true, false, if◌then◌else◌, List, [], ◌∷◌, map, Some, Result, Ok, Err, refl, ap}
+use Rattle.std.proofs.Common.{◌≡◌, Bool, true, false, if◌then◌else◌, List, [], ◌∷◌, Some, refl}
 use Rattle.std.specs.List.{find}
 use Rattle.std.specs.Option.{option_map}
 use Rattle.tb_geom.specs.declared.point.Point.{Point}
@@ -8,16 +8,10 @@ use Rattle.def_iface.specs.Desk.{IsDesk}
 use Rattle.def_iface.specs.Owner.{owner, own_bit}
 use Rattle.def_iface.specs.Scratch.{scratch}
 use Rattle.def_iface.proofs.Painting.{scratch_is_owners}
-use Rattle.window_mgr.specs.declared.call.WindowCall.{WindowCall}
-use Rattle.window_mgr.specs.declared.call.WindowReply.{WindowReply}
 use Rattle.vis_update.specs.Records.{WindowRecord}
-use Rattle.window_mgr.specs.FullDesk.{FullDesk, FullState, layered_desk}
+use Rattle.window_mgr.specs.FullDesk.{FullDesk, layered_desk}
 use Rattle.window_mgr.specs.Finding.{front_of}
 use Rattle.window_mgr.specs.Refused.{first_refusal}
-use Rattle.window_mgr.specs.Step.{IsStep}
-use Rattle.window_mgr.specs.Effects.{Effect, IsEffect, effect_of}
-use Rattle.window_mgr.specs.Effects.Effect.{Makes, Draws, Arranges, Tells}
-use Rattle.window_mgr.proofs.SlotLemmas.{kinds_when_taken}
 
 pub scratch_is_owners_on : (desk : FullDesk) (p : Point) → IsDesk (layered_desk desk) → scratch (layered_desk desk) p ≡ own_bit (layered_desk desk) (owner (layered_desk desk) p) p
 scratch_is_owners_on desk p distinct = scratch_is_owners (layered_desk desk) p distinct
@@ -37,17 +31,3 @@ refusal_is_first (r ∷ rs) = by_test r.0 (refusal_is_first rs)
     by_test : (b : Bool) → first_refusal rs ≡ option_map (λ r. r.1) (find (λ r. r.0) rs) → (if b then Some r.1 else first_refusal rs) ≡ option_map (λ r. r.1) (if b then Some r else find (λ r. r.0) rs)
     by_test true rest = refl
     by_test false rest = rest
-
--- the kinds of the stock that a desk uses
-abbrev kinds_of : FullState → List (List ℕ)
-kinds_of s = map (λ slot. slot.kind) s.desk.stock
-
-effect_keeps_kinds : (effect : Effect) (answer : WindowReply) (before after : FullState) → IsEffect effect answer before after → kinds_of after ≡ kinds_of before
-effect_keeps_kinds (Makes w) answer before after (n, is, new) = kinds_when_taken w.kind new.loan before.desk.stock after.desk.stock new.taken
-effect_keeps_kinds (Draws d) answer before after (is, drawn) = ap (λ (d : FullDesk). map (λ slot. slot.kind) d.stock) drawn.desk
-effect_keeps_kinds (Arranges a) answer before after (is, arranged) = ap (λ (d : FullDesk). map (λ slot. slot.kind) d.stock) arranged.desk
-effect_keeps_kinds (Tells r) answer before after (is, same) = ap (λ (d : FullDesk). map (λ slot. slot.kind) d.stock) same.desk
-
-pub step_keeps_kinds : (call : WindowCall) (answer : Result WindowReply Refusal) (before after : FullState) → IsStep call answer before after → kinds_of after ≡ kinds_of before
-step_keeps_kinds call (Ok answer) before after step = effect_keeps_kinds (effect_of call before.desk) answer before after step.1
-step_keeps_kinds call (Err e) before after step = ap (λ (d : FullDesk). map (λ slot. slot.kind) d.stock) step.1.desk

@@ -1,0 +1,24 @@
+-- Whatever a call does, the stock has the same slots, for the same kinds.
+use Rattle.std.proofs.Common.{◌≡◌, ℕ, List, map, Result, Ok, Err, ap}
+use Rattle.tb_geom.specs.declared.refusal.Refusal.{Refusal}
+use Rattle.window_mgr.specs.declared.call.WindowCall.{WindowCall}
+use Rattle.window_mgr.specs.declared.call.WindowReply.{WindowReply}
+use Rattle.window_mgr.specs.FullDesk.{FullDesk, FullState}
+use Rattle.window_mgr.specs.Step.{IsStep}
+use Rattle.window_mgr.specs.Effects.{Effect, IsEffect, effect_of}
+use Rattle.window_mgr.specs.Effects.Effect.{Makes, Draws, Arranges, Tells}
+use Rattle.window_mgr.proofs.SlotLemmas.{kinds_when_taken}
+
+-- the kinds of the stock that a desk uses
+abbrev pub kinds_of : FullState → List (List ℕ)
+kinds_of s = map (λ slot. slot.kind) s.desk.stock
+
+effect_keeps_kinds : (effect : Effect) (answer : WindowReply) (before after : FullState) → IsEffect effect answer before after → kinds_of after ≡ kinds_of before
+effect_keeps_kinds (Makes w) answer before after (n, is, new) = kinds_when_taken w.kind new.loan before.desk.stock after.desk.stock new.taken
+effect_keeps_kinds (Draws d) answer before after (is, drawn) = ap (λ (d : FullDesk). map (λ slot. slot.kind) d.stock) drawn.desk
+effect_keeps_kinds (Arranges a) answer before after (is, arranged) = ap (λ (d : FullDesk). map (λ slot. slot.kind) d.stock) arranged.desk
+effect_keeps_kinds (Tells r) answer before after (is, same) = ap (λ (d : FullDesk). map (λ slot. slot.kind) d.stock) same.desk
+
+pub step_keeps_kinds : (call : WindowCall) (answer : Result WindowReply Refusal) (before after : FullState) → IsStep call answer before after → kinds_of after ≡ kinds_of before
+step_keeps_kinds call (Ok answer) before after step = effect_keeps_kinds (effect_of call before.desk) answer before after step.1
+step_keeps_kinds call (Err e) before after step = ap (λ (d : FullDesk). map (λ slot. slot.kind) d.stock) step.1.desk
