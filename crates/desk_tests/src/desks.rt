@@ -6,7 +6,7 @@ ghost use Rattle.window_mgr.specs.Whole.{IsWhole};
 use crate::titled_window::Titled;
 use bit_map::BitMap;
 use def_iface::{Defined, Size, Stock, Stocked, Taken, WindowDef};
-use desk_toolbox::{Call, Drawing, Found, NewWindow, Reply, Toolbox, WindowCall, WindowPart};
+use desk_toolbox::{Call, Drawing, Found, NewWindow, Reply, Toolbox, WindowCall, WindowPart, WindowReply};
 use ground_tests::pixels::{Pixels, are_alike, mark};
 use op_ref::{BytesRef, OpRef, ShapeRef};
 use std::alloc::{AllocError, Global};
@@ -144,10 +144,10 @@ impl Ask {
 /// The answer that the point is of this part, of this window.
 macro_rules! found {
     ($part:ident, $window:expr) => {
-        Ok(Reply::Found(Found {
+        Ok(Reply::Window(WindowReply::Found(Found {
             part: WindowPart::$part,
             window: $window,
-        }))
+        })))
     };
 }
 
@@ -157,7 +157,7 @@ const TOO_LONG: &[u8] = &[b'x'; 256];
 
 /// What is asked of a desk in whose stock are three definitions, and the answers.
 const ASKED: [(Ask, Result<Reply, Refusal>); 17] = [
-    (Ask::Front, Ok(Reply::Front(None))),
+    (Ask::Front, Ok(Reply::Window(WindowReply::Front(None)))),
     (
         Ask::New(Opened {
             width: 0,
@@ -180,13 +180,13 @@ const ASKED: [(Ask, Result<Reply, Refusal>); 17] = [
         }),
         Err(Refusal::OutOfRange),
     ),
-    (Ask::New(WINDOW), Ok(Reply::Window(1))),
+    (Ask::New(WINDOW), Ok(Reply::Window(WindowReply::Made(1)))),
     (
         Ask::New(Opened {
             column: 9,
             ..WINDOW
         }),
-        Ok(Reply::Window(2)),
+        Ok(Reply::Window(WindowReply::Made(2))),
     ),
     (
         Ask::New(Opened {
@@ -194,10 +194,10 @@ const ASKED: [(Ask, Result<Reply, Refusal>); 17] = [
             title: LONGEST,
             ..WINDOW
         }),
-        Ok(Reply::Window(3)),
+        Ok(Reply::Window(WindowReply::Made(3))),
     ),
     (Ask::New(WINDOW), Err(Refusal::NoDefinition)),
-    (Ask::Front, Ok(Reply::Front(Some(2)))),
+    (Ask::Front, Ok(Reply::Window(WindowReply::Front(Some(2))))),
     (Ask::Find(point!(10, 25)), found!(InContent, Some(2))),
     (Ask::Find(point!(6, 25)), found!(InContent, Some(1))),
     (Ask::Find(point!(8, 21)), found!(InDrag, Some(2))),
@@ -263,7 +263,7 @@ fn a_window_is_made_once(rt: HostRuntime) -> Result<(), Fail> {
         return Err(Fail::from(Refusal::NoMemory));
     };
     assert!(rt; desk.call(&opening(UNKNOWN), &mut stock) == Err(Refusal::NoSuchName));
-    assert!(rt; desk.call(&opening(WINDOW), &mut stock) == Ok(Reply::Window(1)));
+    assert!(rt; desk.call(&opening(WINDOW), &mut stock) == Ok(Reply::Window(WindowReply::Made(1))));
     assert!(rt; shows(desk.screen(), 20, &[5]));
     desk.close(&mut stock);
     Ok(())
@@ -282,7 +282,7 @@ fn openings(alloc: Global) -> Result<Vec<Call<'static>>, AllocError> {
 fn numbered(alloc: Global) -> Result<Vec<Result<Reply, Refusal>>, AllocError> {
     let mut answers = Vec::new(alloc);
     for number in 1..65 {
-        answers.push(Ok(Reply::Window(number)))?;
+        answers.push(Ok(Reply::Window(WindowReply::Made(number))))?;
     }
     answers.push(Err(Refusal::TooMany))?;
     Ok(answers)
@@ -331,9 +331,9 @@ fn inversions(alloc: Global) -> Result<Vec<Call<'static>>, AllocError> {
 /// The answers to them.
 fn inverted(alloc: Global) -> Result<Vec<Result<Reply, Refusal>>, AllocError> {
     let mut answers = Vec::new(alloc);
-    answers.push(Ok(Reply::Window(1)))?;
+    answers.push(Ok(Reply::Window(WindowReply::Made(1))))?;
     for _ in 0..1024 {
-        answers.push(Ok(Reply::Done))?;
+        answers.push(Ok(Reply::Window(WindowReply::Done)))?;
     }
     answers.push(Err(Refusal::TooMany))?;
     Ok(answers)
