@@ -6,7 +6,9 @@ ghost use Rattle.window_mgr.specs.Whole.{IsWhole};
 use crate::titled_window::Titled;
 use bit_map::BitMap;
 use def_iface::{Defined, Size, Stock, Stocked, Taken, WindowDef};
-use desk_toolbox::{Call, Drawing, Found, NewWindow, Reply, Toolbox, WindowCall, WindowPart, WindowReply};
+use desk_toolbox::{
+    Call, Drawing, Found, NewWindow, Reply, Toolbox, WindowCall, WindowPart, WindowReply,
+};
 use ground_tests::pixels::{Pixels, are_alike, mark};
 use op_ref::{BytesRef, OpRef, ShapeRef};
 use std::alloc::{AllocError, Global};

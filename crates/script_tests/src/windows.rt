@@ -1,9 +1,7 @@
 //! Lines that ask something of windows that are there, and the replies that only they have.
 use crate::lines::{answer, line_of, said};
 use def_iface::Size;
-use desk_toolbox::{
-    Call, MoveWindow, SendBehind, ShowHide, WindowCall, WindowInfo, WindowReply,
-};
+use desk_toolbox::{Call, MoveWindow, SendBehind, ShowHide, WindowCall, WindowInfo, WindowReply};
 use script_text::Command;
 use tb_geom::{Point, Refusal};
 
