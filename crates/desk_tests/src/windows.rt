@@ -41,6 +41,12 @@ const SIZE: Size = Size {
     height: 2,
 };
 
+/// Another one.
+const WIDE: Size = Size {
+    width: 9,
+    height: 4,
+};
+
 /// A window of this number, highlighted where it is visible, with a white picture.
 fn window(alloc: Global, serial: u64, shown: bool, taken: Taken) -> Window
     ensures { result.taken ≡ taken }
@@ -87,17 +93,7 @@ fn there(windows: &WindowList, at: usize) -> Result<(), Refusal>
 /// Changes all of the window at this place that can be changed by itself.
 fn change(windows: &mut WindowList, at: usize) -> Result<(), Refusal> {
     there(windows, at)?;
-    windows.set_place(at, point!(7, -8));
-    there(windows, at)?;
-    windows.set_size(
-        at,
-        Size {
-            width: 5,
-            height: 6,
-        },
-    );
-    there(windows, at)?;
-    windows.set_shown(at, true);
+    windows.set_stand(at, point!(7, -8), true);
     there(windows, at)?;
     windows.set_highlighted(at, true);
     there(windows, at)?;
@@ -119,7 +115,7 @@ fn is_changed(windows: &WindowList, at: usize) -> bool {
         return false;
     }
     let window = windows.at(at);
-    let moved = window.place == point!(7, -8) && window.size.width == 5 && window.size.height == 6;
+    let moved = window.place == point!(7, -8);
     let seen = window.shown && window.highlighted && window.title.as_slice() == b"new".as_slice();
     moved && seen && window.picture.ops().len() == 1
 }
@@ -197,5 +193,23 @@ fn a_window_is_disposed_of_where_it_lies(rt: HostRuntime) -> Result<(), Fail> {
     windows.add(window(alloc, 1, false, taken));
     windows.dispose(0);
     assert!(rt; windows.len() == 1);
+    Ok(())
+}
+
+#[test]
+fn a_window_is_told_its_size_where_it_lies(rt: HostRuntime) -> Result<(), Fail> {
+    let alloc = rt.alloc();
+    let mut stock = Stock::new(alloc);
+    let first: Box<dyn WindowDef> = Box::new(alloc, Titled::new())?;
+    assert!(rt; stock.add(b"titled", first).is_ok());
+    let mut windows = WindowList::new(Ranks::new(alloc));
+    let mut taken = stock.take(b"titled")?;
+    assert!(rt; SIZE.is_in_range() && taken.bounds(SIZE).is_in_range());
+    taken.begin(SIZE);
+    assert!(rt; WIDE.is_in_range() && taken.bounds(WIDE).is_in_range());
+    windows.reserve()?;
+    windows.add(window(alloc, 1, false, taken));
+    windows.resize(0, WIDE);
+    assert!(rt; windows.len() == 1 && windows.at(0).size.width == WIDE.width);
     Ok(())
 }
