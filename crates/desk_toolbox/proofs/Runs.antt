@@ -3,10 +3,10 @@ use Rattle.std.proofs.Common.{◌≡◌, ℕ, ◌+◌, ◌<◌, List, [], ◌∷
 use Rattle.std.proofs.lemmas.List.{take_more}
 use Rattle.tb_geom.specs.declared.refusal.Refusal.{Refusal}
 use Rattle.window_mgr.specs.FullDesk.{FullDesk, FullState, IsRight}
-use Rattle.window_mgr.specs.declared.call.WindowCall.{WindowCall}
-use Rattle.window_mgr.specs.declared.call.WindowReply.{WindowReply}
-use Rattle.window_mgr.specs.declared.call.WindowReply.TheVariants.{Done, Made, Found, Front, Info}
-use Rattle.window_mgr.specs.declared.call.WindowCall.TheVariants as asks
+use Rattle.desk_call.specs.declared.window.WindowCall.{WindowCall}
+use Rattle.desk_call.specs.declared.window.WindowReply.{WindowReply}
+use Rattle.desk_call.specs.declared.window.WindowReply.TheVariants.{Done, Made, Found, Front, Info}
+use Rattle.desk_call.specs.declared.window.WindowCall.TheVariants as asks
 use Rattle.vis_update.specs.Records.{WindowRecord}
 use Rattle.window_mgr.specs.Finding.{record_with, info_of}
 use Rattle.window_mgr.specs.Effects.{Effect, IsEffect, IsUnchanged, effect_of}
@@ -15,10 +15,10 @@ use Rattle.window_mgr.specs.Step as windows
 use Rattle.window_mgr.proofs.KeptKinds as kinds
 use Rattle.window_mgr.proofs.KeptKinds.{kinds_of}
 use Rattle.window_mgr.proofs.Running as windowing
-use Rattle.desk_toolbox.specs.declared.call.Call.{Call}
-use Rattle.desk_toolbox.specs.declared.call.Call.TheVariants.{Window}
-use Rattle.desk_toolbox.specs.declared.call.Reply.{Reply}
-use Rattle.desk_toolbox.specs.declared.call.Reply.TheVariants as reply
+use Rattle.desk_call.specs.declared.call.Call.{Call}
+use Rattle.desk_call.specs.declared.call.Call.TheVariants.{Window}
+use Rattle.desk_call.specs.declared.call.Reply.{Reply}
+use Rattle.desk_call.specs.declared.call.Reply.TheVariants as reply
 use Rattle.desk_toolbox.specs.Run.{IsStep, IsRun, number_made, made, AreCounted}
 
 -- ---- what is right stays so

@@ -11,8 +11,8 @@ ghost use Rattle.vis_update.specs.Records.{WindowRecord};
 ghost use Rattle.window_mgr.specs.FullDesk.{FullDesk, FullState, IsRight, layered_desk};
 ghost use Rattle.window_mgr.specs.Finding.{front_of};
 ghost use Rattle.window_mgr.specs.Refused.{first_refusal};
-ghost use Rattle.desk_toolbox.specs.declared.call.Call.{Call};
-ghost use Rattle.desk_toolbox.specs.declared.call.Reply.{Reply};
+ghost use Rattle.desk_call.specs.declared.call.Call.{Call};
+ghost use Rattle.desk_call.specs.declared.call.Reply.{Reply};
 ghost use Rattle.desk_toolbox.specs.Run.{IsStep, IsRun, made, AreCounted};
 
 /// Painting the desk from nothing, back to front, gives each pixel the value of its owner.

@@ -7,13 +7,12 @@
 //! Definitions live outside, in a `Stock` that each call is handed; `Toolbox::close` puts them back Closed.
 #![tactic(auto)]
 
-mod call;
 pub mod laws;
 mod toolbox;
 
-pub use call::{Call, Reply};
-pub use toolbox::Toolbox;
-pub use window_mgr::{
-    Drawing, Found, MoveWindow, NewWindow, NotBegun, SendBehind, ShowHide, WindowCall, WindowInfo,
-    WindowPart, WindowReply,
+pub use desk_call::{
+    Call, Drawing, Found, MoveWindow, NewWindow, Reply, SendBehind, ShowHide, SizeWindow, WindowCall,
+    WindowInfo, WindowPart, WindowReply,
 };
+pub use toolbox::Toolbox;
+pub use window_mgr::NotBegun;

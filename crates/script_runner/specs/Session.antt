@@ -4,9 +4,9 @@ use Rattle.tb_geom.specs.declared.point.Point.{Point}
 use Rattle.tb_geom.specs.declared.refusal.Refusal.{Refusal}
 use Rattle.tb_geom.specs.declared.refusal.Refusal.TheVariants.{NoSuchName, OutOfRange, Busy}
 use Rattle.def_iface.specs.Stocked.{SlotView, has_kind}
-use Rattle.desk_toolbox.specs.declared.call.Call.TheVariants.{Window}
-use Rattle.window_mgr.specs.declared.call.WindowCall.TheVariants.{New}
-use Rattle.desk_toolbox.specs.declared.call.Reply.{Reply}
+use Rattle.desk_call.specs.declared.call.Call.TheVariants.{Window}
+use Rattle.desk_call.specs.declared.window.WindowCall.TheVariants.{New}
+use Rattle.desk_call.specs.declared.call.Reply.{Reply}
 use Rattle.window_mgr.specs.FullDesk.{FullState, IsRight}
 use Rattle.window_mgr.specs.Begin.{empty_desk}
 use Rattle.window_mgr.specs.Closing.{IsClosed}

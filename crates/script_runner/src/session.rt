@@ -1,7 +1,7 @@
 //! The desk of a script: none, until the first command makes it, with the font that waits for it.
 ghost use Rattle.std.specs.Prelude.{◌≡◌, true, All, None, Some, OnOk, false};
 ghost use Rattle.def_iface.specs.Stocked.{IsFull};
-ghost use Rattle.desk_toolbox.specs.declared.call.Call.TheVariants as asks;
+ghost use Rattle.desk_call.specs.declared.call.Call.TheVariants as asks;
 ghost use Rattle.window_mgr.specs.Records.{state_of};
 ghost use Rattle.window_mgr.specs.Whole.{IsWhole};
 ghost use Rattle.script_runner.specs.Session.{LeavesStock, first_size, is_known};

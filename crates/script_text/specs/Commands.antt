@@ -2,9 +2,9 @@
 use Rattle.std.specs.Prelude.{ℕ, ℤ, Bool, List, [], ◌∷◌, Option, Some, None, Result, Ok, Err, codes}
 use Rattle.tb_geom.specs.declared.refusal.Refusal.{Refusal}
 use Rattle.tb_geom.specs.declared.refusal.Refusal.TheVariants.{BadSyntax}
-use Rattle.desk_toolbox.specs.declared.call.Call.TheVariants.{Window}
-use Rattle.window_mgr.specs.declared.call.WindowCall.TheVariants.{New, Draw, Find, Front}
-use Rattle.window_mgr.specs.declared.call.NewWindow.{NewWindow}
+use Rattle.desk_call.specs.declared.call.Call.TheVariants.{Window}
+use Rattle.desk_call.specs.declared.window.WindowCall.TheVariants.{New, Draw, Find, Front}
+use Rattle.desk_call.specs.declared.window.NewWindow.{NewWindow}
 use Rattle.script_text.specs.declared.command.Command.{Command}
 use Rattle.script_text.specs.declared.command.Command.TheVariants.{Desk, Image, Call}
 use Rattle.script_text.specs.declared.verb.Verb.{Verb}

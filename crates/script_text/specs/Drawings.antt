@@ -9,7 +9,7 @@ use Rattle.op_ref.specs.declared.op_ref.BitsRef.{BitsRef}
 use Rattle.op_ref.specs.declared.op_ref.ShapeRef.{ShapeRef}
 use Rattle.op_ref.specs.declared.op_ref.ShapeRef.TheVariants.{Erase, Invert, Fill, Frame, HLine, VLine, Text, Bits, FillRgn}
 use Rattle.op_ref.specs.OpRefs.{are_rows}
-use Rattle.window_mgr.specs.declared.call.Drawing.{Drawing}
+use Rattle.desk_call.specs.declared.window.Drawing.{Drawing}
 use Rattle.script_text.specs.declared.operation.Operation.{Operation}
 use Rattle.script_text.specs.declared.operation.Operation.TheVariants as words
 use Rattle.line_words.specs.Words.{◌>>=◌}

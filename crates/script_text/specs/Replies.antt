@@ -3,13 +3,13 @@ use Rattle.std.specs.Prelude.{ℕ, Bool, List, ◌++◌, Option, None, Some, Res
 use Rattle.std.specs.Fmt.{signed_decimal}
 use Rattle.tb_geom.specs.declared.refusal.Refusal.{Refusal}
 use Rattle.tb_geom.specs.Refusals.{name_of, number_of}
-use Rattle.window_mgr.specs.declared.call.Found.{Found}
-use Rattle.desk_toolbox.specs.declared.call.Reply.{Reply}
-use Rattle.desk_toolbox.specs.declared.call.Reply.TheVariants.{Window}
-use Rattle.window_mgr.specs.declared.call.WindowInfo.{WindowInfo}
-use Rattle.window_mgr.specs.declared.call.WindowReply.{WindowReply}
-use Rattle.window_mgr.specs.declared.call.WindowReply.TheVariants as window_reply
-use Rattle.window_mgr.specs.Finding.{part_number}
+use Rattle.desk_call.specs.declared.window.Found.{Found}
+use Rattle.desk_call.specs.declared.call.Reply.{Reply}
+use Rattle.desk_call.specs.declared.call.Reply.TheVariants.{Window}
+use Rattle.desk_call.specs.declared.window.WindowInfo.{WindowInfo}
+use Rattle.desk_call.specs.declared.window.WindowReply.{WindowReply}
+use Rattle.desk_call.specs.declared.window.WindowReply.TheVariants as window_reply
+use Rattle.desk_call.specs.Parts.{part_number}
 
 -- a call that was done and has no value
 abbrev pub done_text : List ℕ

@@ -1,6 +1,6 @@
 //! What a line of a script asks for.
 
-use desk_toolbox::Call;
+use desk_call::Call;
 
 /// The size of a desk: the screen's width and height, and the rows of its menu bar.
 #[derive(Clone, Copy, Debug, PartialEq, Eq)]

@@ -10,7 +10,7 @@ ghost use Rattle.script_text.specs.Drawings.{rect_shape, shaded_rect_shape, line
 use crate::names::{shade, source_mode, text_mode};
 use crate::operation::{Operation, operation_of};
 use crate::windows::window_number;
-use desk_toolbox::Drawing;
+use desk_call::Drawing;
 use draw_port::Shade;
 use line_words::Words;
 use op_ref::{BitsRef, BytesRef, LineRef, OpRef, ShapeRef, TextRef};

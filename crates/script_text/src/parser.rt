@@ -18,7 +18,7 @@ use crate::drawing::drawing;
 use crate::verb::{Verb, verb_of};
 use crate::windows::{behind, move_to, of_window, show_hide};
 use def_iface::Size;
-use desk_toolbox::{Call, NewWindow, WindowCall};
+use desk_call::{Call, NewWindow, WindowCall};
 use line_words::Words;
 use tb_geom::{Point, Refusal};
 

@@ -3,7 +3,7 @@ ghost use Rattle.watched_io.specs.Writes.{Sends};
 ghost use Rattle.std.specs.Prelude.{◌≡◌, false};
 ghost use Rattle.script_text.specs.Replies.{done_text, refused_text, number_text, found_text, flag_text, info_text, reply_text, window_reply_text, window_number};
 
-use desk_toolbox::{Found, Reply, WindowInfo, WindowReply};
+use desk_call::{Found, Reply, WindowInfo, WindowReply};
 use itoa::Buffer;
 use tb_geom::Refusal;
 use watched_io::{Sink, send, send_all};

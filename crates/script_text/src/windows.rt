@@ -5,7 +5,7 @@ ghost use Rattle.script_text.specs.Windows.{window_number, other_window, call_of
 
 use crate::command::Command;
 use crate::verb::WindowVerb;
-use desk_toolbox::{Call, MoveWindow, SendBehind, ShowHide, WindowCall};
+use desk_call::{Call, MoveWindow, SendBehind, ShowHide, WindowCall};
 use line_words::Words;
 use tb_geom::{Point, Refusal};
 

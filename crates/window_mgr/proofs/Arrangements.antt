@@ -12,15 +12,17 @@ use Rattle.def_iface.specs.Owner.Owner.{Content}
 use Rattle.def_iface.proofs.Owning.{same_number}
 use Rattle.vis_update.specs.Records.{WindowRecord, layered_window}
 use Rattle.vis_update.specs.Touches.{moved_from, is_this}
-use Rattle.window_mgr.specs.declared.call.WindowCall.{WindowCall}
-use Rattle.window_mgr.specs.declared.call.WindowCall.TheVariants.{New, Show, Hide, ShowHide, Select, BringToFront, SendBehind, Move, Draw, Find, Front, Info}
-use Rattle.window_mgr.specs.declared.call.MoveWindow.{MoveWindow}
-use Rattle.window_mgr.specs.declared.call.SendBehind as sending
-use Rattle.window_mgr.specs.FullDesk.{FullDesk, layered_desk}
+use Rattle.desk_call.specs.declared.window.WindowCall.{WindowCall}
+use Rattle.desk_call.specs.declared.window.WindowCall.TheVariants.{New, Close, Show, Hide, ShowHide, Select, BringToFront, SendBehind, Move, Size, Draw, Find, Front, Info, VisibleRegion, UpdateRegion}
+use Rattle.desk_call.specs.declared.window.MoveWindow.{MoveWindow}
+use Rattle.desk_call.specs.declared.window.SendBehind as sending
+use Rattle.desk_call.specs.declared.window.SizeWindow.{SizeWindow}
+use Rattle.def_iface.specs.Meaning.{Definition}
+use Rattle.window_mgr.specs.FullDesk.{FullDesk, FullState, layered_desk}
 use Rattle.window_mgr.specs.Finding.{record_with}
-use Rattle.window_mgr.specs.Arrange.{Arrangement, put_behind, behind_this, in_front, without, brought, changed, at_place, with_shown, way_to, moved}
+use Rattle.window_mgr.specs.Arrange.{Arrangement, put_behind, behind_this, in_front, without, brought, changed, at_place, with_shown, with_size, way_to, moved, sized}
 use Rattle.window_mgr.specs.Effects.{Effect, effect_of}
-use Rattle.window_mgr.specs.Effects.Effect.{Makes, Draws, Arranges, Tells}
+use Rattle.window_mgr.specs.Effects.Effect.{Makes, Closes, Draws, Arranges, Sizes, Tells, Describes}
 use Rattle.window_mgr.specs.Refused.{IsRefusal}
 use Rattle.window_mgr.proofs.PutIn.{put_in, IsFree, IsPut, is_put, IsTakenOut, out_of, distinct_out}
 use Rattle.window_mgr.proofs.Rearranged.{IsEdit}
@@ -73,11 +75,15 @@ pub record IsSoundArrangement (a : Arrangement) (desk : FullDesk) : Type 0 where
   pub windows : a.windows ≡ put_in to new rest
   pub moves : (part : layers.Part) (p : Point) → content_bit (Some (layered_window desk.font old)) part (moved_from a.window a.by (Content a.window part) p) ≡ content_bit (Some (layered_window desk.font new)) part p
 
+-- what an effect says of itself is enough, but of an arrangement
 abbrev pub IsSoundEffect : Effect → FullDesk → Type 0
-IsSoundEffect (Makes w) desk = Unit {0}
-IsSoundEffect (Draws d) desk = Unit {0}
 IsSoundEffect (Arranges a) desk = IsSoundArrangement a desk
+IsSoundEffect (Makes w) desk = Unit {0}
+IsSoundEffect (Closes s) desk = Unit {0}
+IsSoundEffect (Draws d) desk = Unit {0}
+IsSoundEffect (Sizes z) desk = Unit {0}
 IsSoundEffect (Tells r) desk = Unit {0}
+IsSoundEffect (Describes region) desk = Unit {0}
 
 -- what is not missing is there
 there_of : (b : Bool) (o : Option WindowRecord) (r : Option Refusal) → (if is_none o then Some NoSuchWindow else r) ≡ None → (w : WindowRecord) × (o ≡ Some w)
@@ -124,6 +130,9 @@ module _ (desk : FullDesk) (distinct : layers.IsDesk (layered_desk desk)) (s : �
   pub shown_sound : (a : Arrangement) (shown : Bool) → a.window ≡ s → a.by ≡ None → a.windows ≡ changed s (with_shown shown) desk.windows → IsSoundArrangement a desk
   shown_sound a shown its still windows = stays a out.place (with_shown shown w) its still refl (windows ∙ ap (changed s (with_shown shown)) out.is ∙ changed_is desk.font s out.place w out.rest out.serial free (with_shown shown)) (λ part p. refl)
 
+  pub sized_sound : (z : SizeWindow) (d : Definition) → z.window ≡ s → IsSoundArrangement (sized z d desk.windows) desk
+  sized_sound z d named = stays (sized z d desk.windows) out.place (with_size z.size d w) named refl refl (ap (λ n. changed n (with_size z.size d) desk.windows) named ∙ ap (changed s (with_size z.size d)) out.is ∙ changed_is desk.font s out.place w out.rest out.serial free (with_size z.size d)) (λ part p. refl)
+
   pub sent_sound : (a : Arrangement) (b : sending.SendBehind) → b.window ≡ s → a.window ≡ s → a.by ≡ None → a.windows ≡ behind_this b.behind (record_with s desk.windows) (without s desk.windows) → IsSoundArrangement a desk
   sent_sound a b named its still windows = stays a (place_after b.behind out.rest) w its still refl
       (windows ∙ ap (λ ws. behind_this b.behind (record_with s ws) (without s ws)) out.is ∙ behind_is desk.font s out.place w out.rest out.serial free b.behind ∙ put_behind_is b.behind w out.rest)
@@ -167,16 +176,20 @@ module _ (desk : FullDesk) (distinct : layers.IsDesk (layered_desk desk)) (s : �
       }
 
 -- every call that nothing refuses has a sound effect
-pub effect_is_sound : (call : WindowCall) (desk : FullDesk) → layers.IsDesk (layered_desk desk) → IsRefusal call desk None → IsSoundEffect (effect_of call desk) desk
-effect_is_sound (New w) desk distinct e = tt
-effect_is_sound (Draw d) desk distinct e = tt
-effect_is_sound (Find p) desk distinct e = tt
-effect_is_sound Front desk distinct e = tt
-effect_is_sound (Info s) desk distinct e = tt
-effect_is_sound (Select s) desk distinct e = let w = there_of true (record_with s desk.windows) None e in brought_sound desk distinct s w.0 w.1 _ refl refl refl
-effect_is_sound (BringToFront s) desk distinct e = let w = there_of true (record_with s desk.windows) None e in brought_sound desk distinct s w.0 w.1 _ refl refl refl
-effect_is_sound (Show s) desk distinct e = let w = there_of true (record_with s desk.windows) None e in shown_sound desk distinct s w.0 w.1 _ true refl refl refl
-effect_is_sound (Hide s) desk distinct e = let w = there_of true (record_with s desk.windows) None e in shown_sound desk distinct s w.0 w.1 _ false refl refl refl
-effect_is_sound (ShowHide c) desk distinct e = let w = there_of true (record_with c.window desk.windows) None e in shown_sound desk distinct c.window w.0 w.1 _ c.shown refl refl refl
-effect_is_sound (SendBehind b) desk distinct e = let w = there_of true (record_with b.window desk.windows) _ e in sent_sound desk distinct b.window w.0 w.1 _ b refl refl refl refl
-effect_is_sound (Move m) desk distinct e = let w = there_of true (record_with m.window desk.windows) _ e in moved_sound desk distinct m.window w.0 w.1 m refl
+pub effect_is_sound : (call : WindowCall) (state : FullState) → layers.IsDesk (layered_desk state.desk) → IsRefusal call state None → IsSoundEffect (effect_of call state.desk) state.desk
+effect_is_sound (New w) state distinct e = tt
+effect_is_sound (Close s) state distinct e = tt
+effect_is_sound (Draw d) state distinct e = tt
+effect_is_sound (Size z) state distinct e = tt
+effect_is_sound (Find p) state distinct e = tt
+effect_is_sound Front state distinct e = tt
+effect_is_sound (Info s) state distinct e = tt
+effect_is_sound (VisibleRegion s) state distinct e = tt
+effect_is_sound (UpdateRegion s) state distinct e = tt
+effect_is_sound (Select s) state distinct e = let w = there_of true (record_with s state.desk.windows) None e in brought_sound state.desk distinct s w.0 w.1 _ refl refl refl
+effect_is_sound (BringToFront s) state distinct e = let w = there_of true (record_with s state.desk.windows) None e in brought_sound state.desk distinct s w.0 w.1 _ refl refl refl
+effect_is_sound (Show s) state distinct e = let w = there_of true (record_with s state.desk.windows) None e in shown_sound state.desk distinct s w.0 w.1 _ true refl refl refl
+effect_is_sound (Hide s) state distinct e = let w = there_of true (record_with s state.desk.windows) None e in shown_sound state.desk distinct s w.0 w.1 _ false refl refl refl
+effect_is_sound (ShowHide c) state distinct e = let w = there_of true (record_with c.window state.desk.windows) None e in shown_sound state.desk distinct c.window w.0 w.1 _ c.shown refl refl refl
+effect_is_sound (SendBehind b) state distinct e = let w = there_of true (record_with b.window state.desk.windows) _ e in sent_sound state.desk distinct b.window w.0 w.1 _ b refl refl refl refl
+effect_is_sound (Move m) state distinct e = let w = there_of true (record_with m.window state.desk.windows) _ e in moved_sound state.desk distinct m.window w.0 w.1 m refl

@@ -17,7 +17,7 @@ use Rattle.window_list.specs.Lists.{IsLastBox}
 use Rattle.vis_update.specs.Records.{WindowRecord}
 use Rattle.vis_update.specs.Records.{record_of}
 use Rattle.window_mgr.specs.Whole.{IsSettled, IsStocked, IsSlot}
-use Rattle.window_mgr.specs.Closing.{IsClosedAt, IsShut, IsClosed}
+use Rattle.window_mgr.specs.Closing.{loan_of, IsClosedAt, IsShut, IsClosed}
 use Rattle.window_mgr.proofs.SlotLemmas.{get-set_same, get-set_other, map-set}
 
 module _ {X : Type 0} where
@@ -80,10 +80,6 @@ shut_facts loan old new left shut = by_cases (slice_get old loan.slot) refl left
       regions = shut.regions;
       back = back;
     }
-
--- a window's definition, and its slot
-abbrev loan_of : WindowRecord → Loan
-loan_of w = record { definition = w.definition; slot = w.slot }
 
 left_parts : (ws : List WindowRecord) (w : WindowRecord) (slots : List SlotView) → IsStocked (ws ++ w ∷ []) slots → All (λ v. is_left v.slot slots ≡ true) ws × (is_left w.slot slots ≡ true)
 left_parts ws w slots stocked = All-pop (λ v. is_left v.slot slots ≡ true) (ws ++ w ∷ []) ws (Some w) refl stocked.left

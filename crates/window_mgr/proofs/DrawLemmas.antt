@@ -23,7 +23,7 @@ use Rattle.draw_port.specs.Origins.{is_near}
 use Rattle.op_ref.specs.OpRefs.{IsMeant}
 use Rattle.def_iface.specs.declared.taken.Taken.{Taken}
 use Rattle.def_iface.specs.Meaning.{Loan}
-use Rattle.window_mgr.specs.declared.call.Drawing.{Drawing}
+use Rattle.desk_call.specs.declared.window.Drawing.{Drawing}
 use Rattle.window_mgr.specs.declared.manager.WindowManager.{WindowManager}
 use Rattle.vis_update.specs.declared.area.Area.{Area}
 use Rattle.window_list.specs.declared.window.Window.{Window}

@@ -9,8 +9,8 @@ use Rattle.tb_geom.specs.declared.refusal.Refusal.TheVariants.{BadSyntax, BadReg
 use Rattle.op_ref.specs.OpRefs.{IsGood, IsRefused}
 use Rattle.def_iface.specs.declared.taken.Taken.{Taken}
 use Rattle.def_iface.specs.Meaning.{Loan}
-use Rattle.window_mgr.specs.declared.call.Drawing.{Drawing}
-use Rattle.window_mgr.specs.declared.call.WindowCall.TheVariants.{Draw}
+use Rattle.desk_call.specs.declared.window.Drawing.{Drawing}
+use Rattle.desk_call.specs.declared.window.WindowCall.TheVariants.{Draw}
 use Rattle.window_mgr.specs.declared.manager.WindowManager.{WindowManager}
 use Rattle.window_list.specs.declared.window.Window as code
 use Rattle.vis_update.specs.Records.{WindowRecord}
@@ -19,7 +19,7 @@ use Rattle.window_mgr.specs.Finding.{record_with}
 use Rattle.window_mgr.specs.Kept.{IsKept}
 use Rattle.window_mgr.specs.Planned.{MayDraw}
 use Rattle.vis_update.specs.Records.{record_of}
-use Rattle.window_mgr.specs.Records.{desk_of}
+use Rattle.window_mgr.specs.Records.{desk_of, state_of}
 use Rattle.window_mgr.specs.Refused.{IsRefusal, is_formal, most_operations}
 use Rattle.window_mgr.proofs.FindLemmas.{record_at}
 
@@ -47,7 +47,7 @@ module _ {V : Type 0} {H : V → Type 0} (loan : Taken V H → Loan) (t : Window
 
   -- the call refuses for this
   abbrev Refuses : Refusal → Type 0
-  Refuses e = IsRefusal (Draw d) desk (Some e)
+  Refuses e = IsRefusal (Draw d) (state_of loan t []) (Some e)
 
   -- bytes that have not their form come first
   pub formal_first : (e : Refusal) → IsRefused d.operation e → is_formal e ≡ true → Refuses e
@@ -100,7 +100,7 @@ module _ {V : Type 0} {H : V → Type 0} (loan : Taken V H → Loan) (t : Window
     pub may_draw : length x.picture < most_operations → MayDraw d t at
     may_draw few = record { good = good; window = x; there = there; serial = number; room = few }
 
-  pub unrefused : (at : ℕ) → MayDraw d t at → IsRefusal (Draw d) desk None
+  pub unrefused : (at : ℕ) → MayDraw d t at → IsRefusal (Draw d) (state_of loan t []) None
   unrefused at may =
       let few : length may.window.picture < 1024 = may.room in
       let test : nat_le 1024 (length may.window.picture) ≡ false = grind (arith, nat_tests) in

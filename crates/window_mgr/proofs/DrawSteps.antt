@@ -24,8 +24,8 @@ use Rattle.def_iface.specs.Scratch.{scratch}
 use Rattle.def_iface.specs.Change as plain
 use Rattle.def_iface.proofs.Owning.{same_number, same_owner-self, not_first}
 use Rattle.def_iface.proofs.Painting.{scratch_is_owners}
-use Rattle.window_mgr.specs.declared.call.Drawing.{Drawing}
-use Rattle.window_mgr.specs.declared.call.WindowCall.TheVariants.{Draw}
+use Rattle.desk_call.specs.declared.window.Drawing.{Drawing}
+use Rattle.desk_call.specs.declared.window.WindowCall.TheVariants.{Draw}
 use Rattle.window_mgr.specs.declared.manager.WindowManager.{WindowManager}
 use Rattle.vis_update.specs.declared.area.Area.{Area}
 use Rattle.window_list.specs.declared.window.Window.{Window}

@@ -34,7 +34,7 @@ use Rattle.window_mgr.specs.Records.{desk_of}
 use Rattle.vis_update.specs.Areas.{stale_in}
 use Rattle.window_mgr.specs.Kept.{IsKept}
 use Rattle.vis_update.specs.Areas.{area_has}
-use Rattle.window_mgr.specs.declared.call.WindowPart.TheVariants as part
+use Rattle.desk_call.specs.declared.window.WindowPart.TheVariants as part
 use Rattle.window_mgr.specs.Edits.{StandsAt}
 use Rattle.window_mgr.proofs.EditSeats.{there_is}
 use Rattle.window_mgr.specs.Finding.{front_of, record_with, found_by, found_none, found_window, found_at, part_at, part_of_hit}

@@ -1,13 +1,14 @@
 -- Whatever a call does, the stock has the same slots, for the same kinds.
 use Rattle.std.proofs.Common.{◌≡◌, ℕ, List, map, Result, Ok, Err, ap}
 use Rattle.tb_geom.specs.declared.refusal.Refusal.{Refusal}
-use Rattle.window_mgr.specs.declared.call.WindowCall.{WindowCall}
-use Rattle.window_mgr.specs.declared.call.WindowReply.{WindowReply}
+use Rattle.desk_call.specs.declared.window.WindowCall.{WindowCall}
+use Rattle.desk_call.specs.declared.window.WindowReply.{WindowReply}
 use Rattle.window_mgr.specs.FullDesk.{FullDesk, FullState}
 use Rattle.window_mgr.specs.Step.{IsStep}
 use Rattle.window_mgr.specs.Effects.{Effect, IsEffect, effect_of}
-use Rattle.window_mgr.specs.Effects.Effect.{Makes, Draws, Arranges, Tells}
+use Rattle.window_mgr.specs.Effects.Effect.{Makes, Closes, Draws, Arranges, Sizes, Tells, Describes}
 use Rattle.window_mgr.proofs.SlotLemmas.{kinds_when_taken}
+use Rattle.window_mgr.proofs.Closed.{closed_keeps_kinds}
 
 -- the kinds of the stock that a desk uses
 abbrev pub kinds_of : FullState → List (List ℕ)
@@ -17,7 +18,10 @@ effect_keeps_kinds : (effect : Effect) (answer : WindowReply) (before after : Fu
 effect_keeps_kinds (Makes w) answer before after (n, is, new) = kinds_when_taken w.kind new.loan before.desk.stock after.desk.stock new.taken
 effect_keeps_kinds (Draws d) answer before after (is, drawn) = ap (λ (d : FullDesk). map (λ slot. slot.kind) d.stock) drawn.desk
 effect_keeps_kinds (Arranges a) answer before after (is, arranged) = ap (λ (d : FullDesk). map (λ slot. slot.kind) d.stock) arranged.desk
+effect_keeps_kinds (Closes s) answer before after (is, closed) = closed_keeps_kinds s before after closed
+effect_keeps_kinds (Sizes z) answer before after (is, change) = ap (λ (d : FullDesk). map (λ slot. slot.kind) d.stock) change.arranged.desk
 effect_keeps_kinds (Tells r) answer before after (is, same) = ap (λ (d : FullDesk). map (λ slot. slot.kind) d.stock) same.desk
+effect_keeps_kinds (Describes region) answer before after (is, same) = ap (λ (d : FullDesk). map (λ slot. slot.kind) d.stock) same.desk
 
 pub step_keeps_kinds : (call : WindowCall) (answer : Result WindowReply Refusal) (before after : FullState) → IsStep call answer before after → kinds_of after ≡ kinds_of before
 step_keeps_kinds call (Ok answer) before after step = effect_keeps_kinds (effect_of call before.desk) answer before after step.1

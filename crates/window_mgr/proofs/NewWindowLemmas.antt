@@ -21,7 +21,7 @@ use Rattle.def_iface.specs.Owner.{own_bit}
 use Rattle.def_iface.specs.Owner.Owner.{Frame}
 use Rattle.def_iface.proofs.Owning.{own_bit-behind}
 use Rattle.def_iface.specs.Change as plain
-use Rattle.window_mgr.specs.declared.call.NewWindow.{NewWindow}
+use Rattle.desk_call.specs.declared.window.NewWindow.{NewWindow}
 use Rattle.window_mgr.specs.declared.manager.WindowManager.{WindowManager}
 use Rattle.vis_update.specs.declared.plan.Plan.{Plan}
 use Rattle.vis_update.specs.declared.plan.Touch.{Touch}

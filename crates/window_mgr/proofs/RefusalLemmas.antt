@@ -9,12 +9,12 @@ use Rattle.tb_geom.specs.declared.refusal.Refusal.TheVariants.{OutOfRange, TooLo
 use Rattle.def_iface.specs.declared.taken.Taken.{Taken}
 use Rattle.def_iface.specs.Meaning.{Definition, Loan}
 use Rattle.def_iface.specs.Stocked.{SlotView, IsTaken, is_kind, has_kind, offered}
-use Rattle.window_mgr.specs.declared.call.WindowCall.TheVariants.{New}
-use Rattle.window_mgr.specs.declared.call.NewWindow.{NewWindow}
+use Rattle.desk_call.specs.declared.window.WindowCall.TheVariants.{New}
+use Rattle.desk_call.specs.declared.window.NewWindow.{NewWindow}
 use Rattle.window_mgr.specs.declared.manager.WindowManager.{WindowManager}
 use Rattle.window_mgr.specs.FullDesk.{FullDesk}
 use Rattle.vis_update.specs.Records.{record_of}
-use Rattle.window_mgr.specs.Records.{desk_of}
+use Rattle.window_mgr.specs.Records.{desk_of, state_of}
 use Rattle.window_mgr.specs.Refused.{first_refusal, judged_refusals, new_window_refusals}
 use Rattle.vis_update.specs.Places.{is_placed}
 use Rattle.window_mgr.specs.Step.{IsCallRefused}
@@ -60,6 +60,6 @@ module _ {V : Type 0} {H : V → Type 0} (loan : Taken V H → Loan) (w : NewWin
       ∙ ap (λ n. first_refusal (judged_refusals w (is_placed (Some taken.definition) w.place w.size) n t.windows.next)) (length-map t.windows.records.items (record_of loan))
 
   -- what is not planned is refused for the written reason
-  pub unplanned_is_refused : (e : Refusal) → IsUnplanned w (is_placed (Some taken.definition) w.place w.size) (length t.windows.records.items) t.windows.next e → IsCallRefused (New w) e (desk_of loan t slots)
+  pub unplanned_is_refused : (e : Refusal) → IsUnplanned w (is_placed (Some taken.definition) w.place w.size) (length t.windows.records.items) t.windows.next e → IsCallRefused (New w) e (state_of loan t slots)
   unplanned_is_refused e (inl first) = inl (refusal_is ∙ first)
   unplanned_is_refused e (inr memory) = inr (refusal_is ∙ memory.0, (refl, memory.1))

@@ -13,22 +13,23 @@ use Rattle.def_iface.specs.Scratch.{scratch}
 use Rattle.def_iface.specs.Change as plain
 use Rattle.def_iface.proofs.Owning.{is_other, owner_is_other, own_bit-behind, same_owner-true}
 use Rattle.def_iface.proofs.Changing.{stays_right}
-use Rattle.window_mgr.specs.declared.call.WindowCall.{WindowCall}
-use Rattle.window_mgr.specs.declared.call.Drawing.{Drawing}
-use Rattle.window_mgr.specs.declared.call.NewWindow.{NewWindow}
-use Rattle.window_mgr.specs.declared.call.WindowReply.{WindowReply}
+use Rattle.desk_call.specs.declared.window.WindowCall.{WindowCall}
+use Rattle.desk_call.specs.declared.window.Drawing.{Drawing}
+use Rattle.desk_call.specs.declared.window.NewWindow.{NewWindow}
+use Rattle.desk_call.specs.declared.window.WindowReply.{WindowReply}
 use Rattle.vis_update.specs.Records.{WindowRecord, layered_window}
 use Rattle.window_mgr.specs.FullDesk.{FullDesk, FullState, IsRight, AreBelow, AreNumbered, layered_desk, layered_state}
 use Rattle.window_mgr.specs.Step.{IsStep}
 use Rattle.window_mgr.specs.Effects.{IsNewWindow, IsDrawn, IsUnchanged, IsArrangement, Effect, IsEffect, effect_of, new_record, desk_with, with_operation, draw_change}
-use Rattle.window_mgr.specs.Effects.Effect.{Makes, Draws, Arranges, Tells}
-use Rattle.window_mgr.specs.Arrange.{unhighlighted, Arrangement, activation_of, desk_activated}
+use Rattle.window_mgr.specs.Effects.Effect.{Makes, Closes, Draws, Arranges, Sizes, Tells, Describes}
+use Rattle.window_mgr.specs.Arrange.{unhighlighted, Arrangement, activation_of, desk_activated, sized}
 use Rattle.window_mgr.specs.Finding.{front_of}
 use Rattle.vis_update.specs.Touches.{moving}
 use Rattle.window_mgr.proofs.EachChanged.{below_map, numbered_map}
 use Rattle.window_mgr.proofs.DrawnLayers.{draw_is_sound}
 use Rattle.window_mgr.proofs.Rearranged.{edited, edit_is_sound, numbered_now}
-use Rattle.window_mgr.proofs.Arrangements.{IsSoundArrangement, IsSoundEffect, effect_is_sound}
+use Rattle.window_mgr.proofs.Arrangements.{IsSoundArrangement, IsSoundEffect, effect_is_sound, sized_sound}
+use Rattle.window_mgr.proofs.Closed.{closed_stays_right}
 
 -- ---- a window in front of others
 
@@ -170,8 +171,11 @@ effect_stays_right : (effect : Effect) (answer : WindowReply) (before after : Fu
 effect_stays_right (Makes w) answer before after right sound done = new_stays_right w done.0 before after right done.2
 effect_stays_right (Draws d) answer before after right sound done = draw_stays_right d before after right done.1
 effect_stays_right (Arranges a) answer before after right sound done = arranged_stays_right a before after right sound done.1
+effect_stays_right (Closes s) answer before after right sound done = closed_stays_right s before after right done.1
+effect_stays_right (Sizes z) answer before after right sound done = let change = done.1 in arranged_stays_right (sized z change.definition before.desk.windows) before after right (sized_sound before.desk right.plain.desk z.window change.window change.found z change.definition refl) change.arranged
 effect_stays_right (Tells r) answer before after right sound done = unchanged_stays_right before after right done.1
+effect_stays_right (Describes region) answer before after right sound done = unchanged_stays_right before after right done.1
 
 pub step_stays_right : (call : WindowCall) (answer : Result WindowReply Refusal) (before after : FullState) → IsRight before → IsStep call answer before after → IsRight after
-step_stays_right call (Ok answer) before after right step = effect_stays_right (effect_of call before.desk) answer before after right (effect_is_sound call before.desk right.plain.desk step.0) step.1
+step_stays_right call (Ok answer) before after right step = effect_stays_right (effect_of call before.desk) answer before after right (effect_is_sound call before right.plain.desk step.0) step.1
 step_stays_right call (Err e) before after right step = unchanged_stays_right before after right step.1

@@ -6,7 +6,7 @@ use Rattle.bit_map.specs.Bits.{Bits, bit}
 use Rattle.def_iface.specs.declared.taken.Taken.{Taken}
 use Rattle.def_iface.specs.Meaning.{Definition, Loan}
 use Rattle.def_iface.specs.Stocked.{SlotView}
-use Rattle.window_mgr.specs.declared.call.NewWindow.{NewWindow}
+use Rattle.desk_call.specs.declared.window.NewWindow.{NewWindow}
 use Rattle.window_mgr.specs.declared.manager.WindowManager.{WindowManager}
 use Rattle.vis_update.specs.declared.area.Area.{Area}
 use Rattle.vis_update.specs.declared.plan.Plan.{Plan}

@@ -15,7 +15,7 @@ use Rattle.def_iface.proofs.Owning.{same_number}
 use Rattle.window_list.specs.declared.window.Window.{Window}
 use Rattle.vis_update.specs.Records.{WindowRecord, layered_window, record_of}
 use Rattle.vis_update.specs.Touches.{is_this}
-use Rattle.window_mgr.specs.declared.call.SendBehind.{SendBehind}
+use Rattle.desk_call.specs.declared.window.SendBehind.{SendBehind}
 use Rattle.window_mgr.specs.declared.manager.WindowManager.{WindowManager}
 use Rattle.window_mgr.specs.FullDesk.{FullDesk}
 use Rattle.window_mgr.specs.Arrange.{put_behind}

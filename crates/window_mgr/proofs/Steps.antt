@@ -17,12 +17,12 @@ use Rattle.vis_update.specs.Places.{is_placed}
 use Rattle.window_mgr.specs.declared.arrange.Activates.{Activates}
 use Rattle.window_mgr.specs.declared.arrange.Activates.TheVariants.{Nothing, Itself, ItselfIfFront, FrontInItsPlace, NextInItsPlace}
 use Rattle.window_mgr.specs.declared.arrange.Edit.{Edit}
-use Rattle.window_mgr.specs.declared.call.MoveWindow.{MoveWindow}
-use Rattle.window_mgr.specs.declared.call.SendBehind as sending
-use Rattle.window_mgr.specs.declared.call.ShowHide as showing
-use Rattle.window_mgr.specs.declared.call.WindowCall.{WindowCall}
-use Rattle.window_mgr.specs.declared.call.WindowCall.TheVariants.{Show, Hide, ShowHide, Select, BringToFront, SendBehind, Move}
-use Rattle.window_mgr.specs.declared.call.WindowReply.{WindowReply}
+use Rattle.desk_call.specs.declared.window.MoveWindow.{MoveWindow}
+use Rattle.desk_call.specs.declared.window.SendBehind as sending
+use Rattle.desk_call.specs.declared.window.ShowHide as showing
+use Rattle.desk_call.specs.declared.window.WindowCall.{WindowCall}
+use Rattle.desk_call.specs.declared.window.WindowCall.TheVariants.{Show, Hide, ShowHide, Select, BringToFront, SendBehind, Move}
+use Rattle.desk_call.specs.declared.window.WindowReply.{WindowReply}
 use Rattle.window_mgr.specs.declared.manager.WindowManager.{WindowManager}
 use Rattle.window_mgr.specs.FullDesk.{FullDesk}
 use Rattle.window_mgr.specs.Arrange.{Arrangement, at_place, with_shown, is_visible, if_visible, brought, changed, way_to, behind_this, without}
@@ -60,7 +60,7 @@ module _ {V : Type 0} {H : V → Type 0} (loan : Taken V H → Loan) (t new : Wi
   not_missing = ap (λ o. if is_none o then Some NoSuchWindow else None) found
 
   -- a call that arranges the windows as the edit does makes its step
-  edit_step : (call : WindowCall) (e : Edit) (activates : Activates) (by : Option Point) (result : Result WindowReply Refusal) (a : Arrangement) → e.at ≡ i → effect_of call desk ≡ Arranges a → may_grow call ≡ true → IsRefusal call desk None
+  edit_step : (call : WindowCall) (e : Edit) (activates : Activates) (by : Option Point) (result : Result WindowReply Refusal) (a : Arrangement) → e.at ≡ i → effect_of call desk ≡ Arranges a → may_grow call ≡ true → IsRefusal call (state_of loan t slots) None
       → a ≡ record { window = x.serial; by = by; windows = records_put loan e x t; activates = activates }
       → IsRearranged loan e activates by result t new slots → IsStep call result (state_of loan t slots) (state_of loan new slots)
   edit_step call e activates by (Ok answer) a at is grows allowed a_is done = (

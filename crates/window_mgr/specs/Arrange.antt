@@ -8,9 +8,12 @@ use Rattle.window_mgr.specs.declared.arrange.Activates.{Activates}
 use Rattle.window_mgr.specs.declared.arrange.Activates.TheVariants.{Nothing, Itself, ItselfIfFront, FrontInItsPlace, NextInItsPlace}
 use Rattle.window_mgr.specs.declared.arrange.Activation.{Activation}
 use Rattle.window_mgr.specs.declared.arrange.Activation.TheVariants.{Stays, Becomes}
-use Rattle.window_mgr.specs.declared.call.MoveWindow.{MoveWindow}
-use Rattle.window_mgr.specs.declared.call.SendBehind.{SendBehind}
-use Rattle.window_mgr.specs.declared.call.ShowHide.{ShowHide}
+use Rattle.desk_call.specs.declared.window.MoveWindow.{MoveWindow}
+use Rattle.desk_call.specs.declared.window.SendBehind.{SendBehind}
+use Rattle.desk_call.specs.declared.window.ShowHide.{ShowHide}
+use Rattle.desk_call.specs.declared.window.SizeWindow.{SizeWindow}
+use Rattle.def_iface.specs.declared.size.Size.{Size}
+use Rattle.def_iface.specs.Meaning.{Definition}
 use Rattle.window_mgr.specs.FullDesk.{FullDesk}
 use Rattle.window_mgr.specs.Finding.{record_with, front_of}
 
@@ -105,6 +108,10 @@ at_place place w = record w { place = place }
 abbrev pub with_shown : Bool → WindowRecord → WindowRecord
 with_shown shown w = record w { shown = shown }
 
+-- the window with this size, and its definition, which was told so
+abbrev pub with_size : Size → Definition → WindowRecord → WindowRecord
+with_size size d w = record w { size = size; definition = d }
+
 abbrev pub is_visible : Option WindowRecord → Bool
 is_visible None = false
 is_visible (Some w) = w.shown
@@ -167,3 +174,7 @@ made_hidden s ws = record { window = s; by = None; windows = changed s (with_sho
 -- the window becomes visible or hidden, and no highlighting changes
 abbrev pub made_so : ShowHide → List WindowRecord → Arrangement
 made_so c ws = record { window = c.window; by = None; windows = changed c.window (with_shown c.shown) ws; activates = Nothing }
+
+-- the window has this size, and its definition, which was told so; no highlighting changes
+abbrev pub sized : SizeWindow → Definition → List WindowRecord → Arrangement
+sized z d ws = record { window = z.window; by = None; windows = changed z.window (with_size z.size d) ws; activates = Nothing }

@@ -13,6 +13,10 @@ IsClosedSlot before s = (d : Definition) × (s.held ≡ Some d) × (d.stage ≡ 
 abbrev pub IsClosedAt : List SlotView → WindowRecord → Type 0
 IsClosedAt slots w = (s : SlotView) × (slice_get slots w.slot ≡ Some s) × IsClosedSlot w.definition s
 
+-- a window's definition, and its slot
+abbrev pub loan_of : WindowRecord → Loan
+loan_of w = record { definition = w.definition; slot = w.slot }
+
 -- the definition was closed and put into its slot, which was there, and every other slot is as it was
 pub record IsShut (loan : Loan) (old new : List SlotView) : Type 0 where
   pub definition : Definition

@@ -21,14 +21,14 @@ use Rattle.window_mgr.specs.declared.arrange.Activates.{Activates}
 use Rattle.window_mgr.specs.declared.arrange.Activation.{Activation}
 use Rattle.window_mgr.specs.declared.arrange.Activation.TheVariants.{Stays, Becomes}
 use Rattle.window_mgr.specs.declared.arrange.Edit.{Edit}
-use Rattle.window_mgr.specs.declared.call.WindowReply.{WindowReply}
-use Rattle.window_mgr.specs.declared.call.WindowReply.TheVariants.{Done}
+use Rattle.desk_call.specs.declared.window.WindowReply.{WindowReply}
+use Rattle.desk_call.specs.declared.window.WindowReply.TheVariants.{Done}
 use Rattle.window_mgr.specs.declared.manager.WindowManager.{WindowManager}
 use Rattle.window_mgr.specs.FullDesk.{FullDesk, layered_desk, layered_state}
 use Rattle.window_mgr.specs.Records.{desk_of, state_of}
 use Rattle.window_mgr.specs.Arrange.{activation_of, active_after, put_behind}
 use Rattle.window_mgr.specs.Refused.{first_refusal, behind_refusals}
-use Rattle.window_mgr.specs.declared.call.SendBehind.{SendBehind}
+use Rattle.desk_call.specs.declared.window.SendBehind.{SendBehind}
 use Rattle.window_mgr.specs.Finding.{front_of}
 use Rattle.window_mgr.specs.Commits.{IsPlanDrawn}
 use Rattle.window_mgr.specs.Effects.{IsArrangement, IsUnchanged}

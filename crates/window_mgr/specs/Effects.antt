@@ -1,11 +1,13 @@
 -- What calls do: the kinds of effect, and which has which.
 use Rattle.std.specs.Prelude.{◌≡◌, ℕ, true, if◌then◌else◌, ◌==◌, List, [], ◌∷◌, ◌++◌, map, Some, pos}
 use Rattle.tb_geom.specs.declared.point.Point.{Point}
-use Rattle.tb_geom.specs.Points.{minus}
+use Rattle.tb_geom.specs.Points.{PixelSet, minus}
 use Rattle.draw_port.specs.declared.shapes.Op.{Op}
 use Rattle.draw_port.specs.Ops.{op_value}
 use Rattle.op_ref.specs.OpRefs.{IsMeant}
-use Rattle.def_iface.specs.Meaning.{Definition, Loan, IsBegun}
+use Rattle.def_iface.specs.declared.size.Size as sizes
+use Rattle.def_iface.specs.declared.window_def.Stage.TheVariants.{Live}
+use Rattle.def_iface.specs.Meaning.{Definition, Loan, SameRegions, IsBegun}
 use Rattle.def_iface.specs.Stocked.{IsTaken}
 use Rattle.def_iface.specs.Desk.{on_screen}
 use Rattle.def_iface.specs.Desk.Part.{Picture}
@@ -15,15 +17,19 @@ use Rattle.def_iface.specs.Change.{Change, no_change, IsChanged}
 use Rattle.window_list.specs.Lists.{number_after}
 use Rattle.vis_update.specs.Records.{WindowRecord}
 use Rattle.vis_update.specs.Touches.{moving}
-use Rattle.window_mgr.specs.declared.call.WindowCall.{WindowCall}
-use Rattle.window_mgr.specs.declared.call.WindowCall.TheVariants.{New, Show, Hide, ShowHide, Select, BringToFront, SendBehind, Move, Draw, Find, Front, Info}
-use Rattle.window_mgr.specs.declared.call.Drawing.{Drawing}
-use Rattle.window_mgr.specs.declared.call.NewWindow.{NewWindow}
-use Rattle.window_mgr.specs.declared.call.WindowReply.{WindowReply}
-use Rattle.window_mgr.specs.declared.call.WindowReply.TheVariants as reply
+use Rattle.desk_call.specs.declared.window.WindowCall.{WindowCall}
+use Rattle.desk_call.specs.declared.window.WindowCall.TheVariants.{New, Close, Show, Hide, ShowHide, Select, BringToFront, SendBehind, Move, Size, Draw, Find, Front, Info, VisibleRegion, UpdateRegion}
+use Rattle.desk_call.specs.declared.window.Drawing.{Drawing}
+use Rattle.desk_call.specs.declared.window.NewWindow.{NewWindow}
+use Rattle.desk_call.specs.declared.window.SizeWindow.{SizeWindow}
+use Rattle.window_mgr.specs.declared.arrange.Activates.TheVariants.{FrontInItsPlace}
+use Rattle.desk_call.specs.declared.window.WindowReply.{WindowReply}
+use Rattle.desk_call.specs.declared.window.WindowReply.TheVariants as reply
 use Rattle.window_mgr.specs.FullDesk.{FullDesk, FullState, layered_desk, layered_state}
 use Rattle.window_mgr.specs.Finding.{record_with, found_at, front_of, info_of}
-use Rattle.window_mgr.specs.Arrange.{Arrangement, unhighlighted, desk_arranged, selected, brought_forward, sent_behind, moved, made_visible, made_hidden, made_so}
+use Rattle.window_mgr.specs.Arrange.{Arrangement, unhighlighted, desk_arranged, without, selected, brought_forward, sent_behind, moved, made_visible, made_hidden, made_so, sized}
+use Rattle.window_mgr.specs.Closing.{IsShut, loan_of}
+use Rattle.window_mgr.specs.Telling.{IsRegionTold, visible_of, update_of}
 
 -- the record that a new window gets; a visible one is highlighted
 abbrev pub new_record : NewWindow → ℕ → ℕ → Definition → WindowRecord
@@ -90,16 +96,43 @@ pub record IsArrangement (a : Arrangement) (before after : FullState) : Type 0 w
   pub desk : after.desk ≡ desk_arranged a.windows a.activates a.window before.desk
   pub pixels : IsChanged (moving a.window a.by) (layered_state before) (layered_state after)
 
+-- a live definition was told this size
+pub record IsToldSize (size : sizes.Size) (old new : Definition) : Type 0 where
+  pub live : new.stage ≡ Live
+  pub told : new.size ≡ size
+  pub regions : SameRegions old new
+
+-- the window got this size, and its definition was told so
+pub record IsSized (z : SizeWindow) (before after : FullState) : Type 0 where
+  pub window : WindowRecord
+  pub definition : Definition
+  pub found : record_with z.window before.desk.windows ≡ Some window
+  pub told : IsToldSize z.size window.definition definition
+  pub arranged : IsArrangement (sized z definition before.desk.windows) before after
+
+-- the window of this serial is there no more, and its definition went back Closed into its slot; where it was active, the
+-- first visible window became so, or none
+pub record IsWindowClosed (s : ℕ) (before after : FullState) : Type 0 where
+  pub window : WindowRecord
+  pub found : record_with s before.desk.windows ≡ Some window
+  pub shut : IsShut (loan_of window) before.desk.stock after.desk.stock
+  pub desk : after.desk ≡ record (desk_arranged (without s before.desk.windows) FrontInItsPlace s before.desk) { stock = after.desk.stock }
+  pub pixels : IsChanged no_change (layered_state before) (layered_state after)
+
 -- the kinds of effect that a call can have
 pub data Effect : Type 0 where
   Makes : (window : NewWindow) → Effect
+  Closes : (window : ℕ) → Effect
   Draws : (drawing : Drawing) → Effect
   Arranges : (arrangement : Arrangement) → Effect
+  Sizes : (change : SizeWindow) → Effect
   Tells : (answer : WindowReply) → Effect
+  Describes : (region : FullState → PixelSet) → Effect
 
 -- the effect of a call that nothing refuses
 abbrev pub effect_of : WindowCall → FullDesk → Effect
 effect_of (New w) desk = Makes w
+effect_of (Close s) desk = Closes s
 effect_of (Draw d) desk = Draws d
 effect_of (Select s) desk = Arranges (selected s desk.windows)
 effect_of (BringToFront s) desk = Arranges (brought_forward s desk.windows)
@@ -108,13 +141,19 @@ effect_of (Move m) desk = Arranges (moved m desk.windows)
 effect_of (Show s) desk = Arranges (made_visible s desk.windows)
 effect_of (Hide s) desk = Arranges (made_hidden s desk.windows)
 effect_of (ShowHide c) desk = Arranges (made_so c desk.windows)
+effect_of (Size z) desk = Sizes z
 effect_of (Find p) desk = Tells (reply.Found (found_at desk p))
 effect_of Front desk = Tells (reply.Front (front_of desk.windows))
 effect_of (Info s) desk = Tells (info_of (record_with s desk.windows))
+effect_of (VisibleRegion s) desk = Describes (visible_of s)
+effect_of (UpdateRegion s) desk = Describes (update_of s)
 
--- what a call of such an effect answers and leaves: a call that tells changes nothing
+-- what a call of such an effect answers and leaves: a call that tells something, or describes a region, changes nothing
 abbrev pub IsEffect : Effect → WindowReply → FullState → FullState → Type 0
 IsEffect (Makes w) answer before after = (serial : ℕ) × (answer ≡ reply.Made serial) × IsNewWindow w serial before after
+IsEffect (Closes s) answer before after = (answer ≡ reply.Done) × IsWindowClosed s before after
 IsEffect (Draws d) answer before after = (answer ≡ reply.Done) × IsDrawn d before after
 IsEffect (Arranges a) answer before after = (answer ≡ reply.Done) × IsArrangement a before after
+IsEffect (Sizes z) answer before after = (answer ≡ reply.Done) × IsSized z before after
 IsEffect (Tells r) answer before after = (answer ≡ r) × IsUnchanged before after
+IsEffect (Describes region) answer before after = IsRegionTold (region before) answer × IsUnchanged before after

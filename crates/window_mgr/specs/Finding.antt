@@ -7,11 +7,11 @@ use Rattle.def_iface.specs.declared.window_def.Hit.TheVariants as hit
 use Rattle.def_iface.specs.Desk.{on_screen}
 use Rattle.def_iface.specs.Owner.{Owner, owner}
 use Rattle.def_iface.specs.Owner.Owner.{Desktop, Bar, Frame, Content}
-use Rattle.window_mgr.specs.declared.call.WindowPart.{WindowPart}
-use Rattle.window_mgr.specs.declared.call.WindowPart.TheVariants as part
-use Rattle.window_mgr.specs.declared.call.Found.{Found}
-use Rattle.window_mgr.specs.declared.call.WindowReply.{WindowReply}
-use Rattle.window_mgr.specs.declared.call.WindowReply.TheVariants as reply
+use Rattle.desk_call.specs.declared.window.WindowPart.{WindowPart}
+use Rattle.desk_call.specs.declared.window.WindowPart.TheVariants as part
+use Rattle.desk_call.specs.declared.window.Found.{Found}
+use Rattle.desk_call.specs.declared.window.WindowReply.{WindowReply}
+use Rattle.desk_call.specs.declared.window.WindowReply.TheVariants as reply
 use Rattle.vis_update.specs.Records.{WindowRecord}
 use Rattle.window_mgr.specs.FullDesk.{FullDesk, layered_desk}
 
@@ -24,17 +24,6 @@ part_of_hit hit.InGrow = part.InGrow
 part_of_hit hit.InGoAway = part.InGoAway
 part_of_hit hit.InZoomIn = part.InZoomIn
 part_of_hit hit.InZoomOut = part.InZoomOut
-
--- the codes of the parts
-abbrev pub part_number : WindowPart → ℕ
-part_number part.InDesk = 0
-part_number part.InMenuBar = 1
-part_number part.InContent = 3
-part_number part.InDrag = 4
-part_number part.InGrow = 5
-part_number part.InGoAway = 6
-part_number part.InZoomIn = 7
-part_number part.InZoomOut = 8
 
 -- the record of the window of this serial
 abbrev pub record_with : ℕ → List WindowRecord → Option WindowRecord

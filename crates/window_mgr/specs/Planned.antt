@@ -16,8 +16,8 @@ use Rattle.vis_update.specs.declared.plan.Plan.{Plan}
 use Rattle.vis_update.specs.declared.plan.Touch.{Touch}
 use Rattle.vis_update.specs.Records.{record_of}
 use Rattle.vis_update.specs.Plans.{IsPlan}
-use Rattle.window_mgr.specs.declared.call.Drawing.{Drawing}
-use Rattle.window_mgr.specs.declared.call.NewWindow.{NewWindow}
+use Rattle.desk_call.specs.declared.window.Drawing.{Drawing}
+use Rattle.desk_call.specs.declared.window.NewWindow.{NewWindow}
 use Rattle.window_mgr.specs.declared.manager.WindowManager.{WindowManager}
 use Rattle.window_mgr.specs.declared.new_window.Addition.{Addition}
 use Rattle.window_mgr.specs.declared.new_window.Ticket.{Ticket}

@@ -2,6 +2,7 @@
 use Rattle.std.specs.Prelude.{◌≡◌, ℕ, Bool, true, false, not, ◌==◌, ◌||◌, if◌then◌else◌, List, [], ◌∷◌, ◌++◌, length, Option, None, Some, is_none, nat_le, nat_lt}
 use Rattle.tb_geom.specs.declared.point.Point.{Point}
 use Rattle.tb_geom.specs.declared.refusal.Refusal.{Refusal}
+use Rattle.tb_geom.specs.Points.{PixelSet}
 use Rattle.tb_geom.specs.declared.refusal.Refusal.TheVariants.{NoSuchName, NoSuchWindow, OutOfRange, TooLong, TooMany, NoDefinition, BadRegion, BadSyntax}
 use Rattle.tb_geom.specs.Refusals.{number_of}
 use Rattle.tb_geom.specs.Rects.{in_plane}
@@ -12,13 +13,16 @@ use Rattle.def_iface.specs.Stocked.{has_kind, offered}
 use Rattle.vis_update.specs.Records.{WindowRecord}
 use Rattle.vis_update.specs.Places.{is_placed}
 use Rattle.vis_update.specs.Touches.{is_this}
-use Rattle.window_mgr.specs.declared.call.WindowCall.{WindowCall}
-use Rattle.window_mgr.specs.declared.call.WindowCall.TheVariants.{New, Show, Hide, ShowHide, Select, BringToFront, SendBehind, Move, Draw, Find, Front, Info}
-use Rattle.window_mgr.specs.declared.call.MoveWindow.{MoveWindow}
-use Rattle.window_mgr.specs.declared.call.NewWindow.{NewWindow}
-use Rattle.window_mgr.specs.declared.call.SendBehind as sending
+use Rattle.desk_call.specs.declared.window.WindowCall.{WindowCall}
+use Rattle.desk_call.specs.declared.window.WindowCall.TheVariants.{New, Close, Show, Hide, ShowHide, Select, BringToFront, SendBehind, Move, Size, Draw, Find, Front, Info, VisibleRegion, UpdateRegion}
+use Rattle.desk_call.specs.declared.window.MoveWindow.{MoveWindow}
+use Rattle.desk_call.specs.declared.window.NewWindow.{NewWindow}
+use Rattle.desk_call.specs.declared.window.SendBehind as sending
+use Rattle.desk_call.specs.declared.window.SizeWindow.{SizeWindow}
+use Rattle.def_iface.specs.declared.size.Size as sizes
 use Rattle.window_mgr.specs.Finding.{record_with}
-use Rattle.window_mgr.specs.FullDesk.{FullDesk}
+use Rattle.window_mgr.specs.FullDesk.{FullDesk, FullState}
+use Rattle.window_mgr.specs.Telling.{IsMeasured, visible_of, update_of}
 
 abbrev pub first_refusal : List (Bool × Refusal) → Option Refusal
 first_refusal [] = None
@@ -105,20 +109,43 @@ abbrev pub move_refusals : MoveWindow → FullDesk → List (Bool × Refusal)
 move_refusals m desk =
     (is_missing m.window desk.windows, NoSuchWindow) ∷ (not (may_be_at m.place (record_with m.window desk.windows)), OutOfRange) ∷ []
 
+-- the window may have this size, if there is one
+abbrev pub may_have_size : sizes.Size → Option WindowRecord → Bool
+may_have_size size None = true
+may_have_size size (Some w) = is_placed (Some w.definition) w.place size
+
+-- why a window may not get a size: it is missing, or may not have it
+abbrev pub size_refusals : SizeWindow → FullDesk → List (Bool × Refusal)
+size_refusals z desk =
+    (is_missing z.window desk.windows, NoSuchWindow) ∷ (not (may_have_size z.size (record_with z.window desk.windows)), OutOfRange) ∷ []
+
+-- why a call about one window may be refused that asks nothing more of it: it is missing
+abbrev pub window_refusals : ℕ → FullDesk → List (Bool × Refusal)
+window_refusals s desk = (is_missing s desk.windows, NoSuchWindow) ∷ []
+
+-- why a region of a window may not be told, where these are its pixels: the window is missing, or the bytes would be too
+-- long
+abbrev pub IsUntold : ℕ → PixelSet → FullDesk → Option Refusal → Type 0
+IsUntold s set desk why = (long : Bool) × IsMeasured set long × (first_refusal ((is_missing s desk.windows, NoSuchWindow) ∷ (long, TooLong) ∷ []) ≡ why)
+
 -- why the call refuses, want of memory aside
-abbrev pub IsRefusal : WindowCall → FullDesk → Option Refusal → Type 0
-IsRefusal (New w) desk why = first_refusal (new_window_refusals w desk) ≡ why
-IsRefusal (Draw d) desk why = (judged : Option Refusal) × IsJudged d.operation judged × (first_refusal (draw_refusals judged (record_with d.window desk.windows)) ≡ why)
-IsRefusal (SendBehind b) desk why = first_refusal (behind_refusals b desk) ≡ why
-IsRefusal (Move m) desk why = first_refusal (move_refusals m desk) ≡ why
-IsRefusal (Find p) desk why = first_refusal ((not (in_plane p), OutOfRange) ∷ []) ≡ why
-IsRefusal Front desk why = None ≡ why
-IsRefusal (Show s) desk why = first_refusal ((is_missing s desk.windows, NoSuchWindow) ∷ []) ≡ why
-IsRefusal (Hide s) desk why = first_refusal ((is_missing s desk.windows, NoSuchWindow) ∷ []) ≡ why
-IsRefusal (ShowHide c) desk why = first_refusal ((is_missing c.window desk.windows, NoSuchWindow) ∷ []) ≡ why
-IsRefusal (Select s) desk why = first_refusal ((is_missing s desk.windows, NoSuchWindow) ∷ []) ≡ why
-IsRefusal (BringToFront s) desk why = first_refusal ((is_missing s desk.windows, NoSuchWindow) ∷ []) ≡ why
-IsRefusal (Info s) desk why = first_refusal ((is_missing s desk.windows, NoSuchWindow) ∷ []) ≡ why
+abbrev pub IsRefusal : WindowCall → FullState → Option Refusal → Type 0
+IsRefusal (New w) state why = first_refusal (new_window_refusals w state.desk) ≡ why
+IsRefusal (Draw d) state why = (judged : Option Refusal) × IsJudged d.operation judged × (first_refusal (draw_refusals judged (record_with d.window state.desk.windows)) ≡ why)
+IsRefusal (SendBehind b) state why = first_refusal (behind_refusals b state.desk) ≡ why
+IsRefusal (Move m) state why = first_refusal (move_refusals m state.desk) ≡ why
+IsRefusal (Size z) state why = first_refusal (size_refusals z state.desk) ≡ why
+IsRefusal (Find p) state why = first_refusal ((not (in_plane p), OutOfRange) ∷ []) ≡ why
+IsRefusal Front state why = None ≡ why
+IsRefusal (VisibleRegion s) state why = IsUntold s (visible_of s state) state.desk why
+IsRefusal (UpdateRegion s) state why = IsUntold s (update_of s state) state.desk why
+IsRefusal (Close s) state why = first_refusal (window_refusals s state.desk) ≡ why
+IsRefusal (Show s) state why = first_refusal (window_refusals s state.desk) ≡ why
+IsRefusal (Hide s) state why = first_refusal (window_refusals s state.desk) ≡ why
+IsRefusal (ShowHide c) state why = first_refusal (window_refusals c.window state.desk) ≡ why
+IsRefusal (Select s) state why = first_refusal (window_refusals s state.desk) ≡ why
+IsRefusal (BringToFront s) state why = first_refusal (window_refusals s state.desk) ≡ why
+IsRefusal (Info s) state why = first_refusal (window_refusals s state.desk) ≡ why
 
 -- the call may ask for memory
 abbrev pub may_grow : WindowCall → Bool

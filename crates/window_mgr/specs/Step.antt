@@ -2,27 +2,27 @@
 use Rattle.std.specs.Prelude.{◌≡◌, ◌⊎◌, ℕ, true, None, Some, Result, Ok, Err}
 use Rattle.tb_geom.specs.declared.refusal.Refusal.{Refusal}
 use Rattle.tb_geom.specs.declared.refusal.Refusal.TheVariants.{NoMemory}
-use Rattle.window_mgr.specs.declared.call.WindowCall.{WindowCall}
-use Rattle.window_mgr.specs.declared.call.WindowCall.TheVariants.{New}
-use Rattle.window_mgr.specs.declared.call.NewWindow.{NewWindow}
-use Rattle.window_mgr.specs.declared.call.WindowReply.{WindowReply}
-use Rattle.window_mgr.specs.FullDesk.{FullDesk, FullState}
+use Rattle.desk_call.specs.declared.window.WindowCall.{WindowCall}
+use Rattle.desk_call.specs.declared.window.WindowCall.TheVariants.{New}
+use Rattle.desk_call.specs.declared.window.NewWindow.{NewWindow}
+use Rattle.desk_call.specs.declared.window.WindowReply.{WindowReply}
+use Rattle.window_mgr.specs.FullDesk.{FullState}
 use Rattle.window_mgr.specs.Refused.{IsRefusal, may_grow}
 use Rattle.window_mgr.specs.Effects.{IsNewWindow, IsUnchanged, IsEffect, effect_of}
 
 -- the call is refused for this: the first refusal of the written order whose condition holds, or, where there is none
 -- and the call may grow, want of memory
-abbrev pub IsCallRefused : WindowCall → Refusal → FullDesk → Type 0
-IsCallRefused call e desk = IsRefusal call desk (Some e) ⊎ (IsRefusal call desk None × ((may_grow call ≡ true) × (e ≡ NoMemory)))
+abbrev pub IsCallRefused : WindowCall → Refusal → FullState → Type 0
+IsCallRefused call e state = IsRefusal call state (Some e) ⊎ (IsRefusal call state None × ((may_grow call ≡ true) × (e ≡ NoMemory)))
 
 -- one step: a call that nothing refuses has its effect, and a refused one changes nothing
 abbrev pub IsStep : WindowCall → Result WindowReply Refusal → FullState → FullState → Type 0
-IsStep call (Ok answer) before after = IsRefusal call before.desk None × IsEffect (effect_of call before.desk) answer before after
-IsStep call (Err e) before after = IsCallRefused call e before.desk × IsUnchanged before after
+IsStep call (Ok answer) before after = IsRefusal call before None × IsEffect (effect_of call before.desk) answer before after
+IsStep call (Err e) before after = IsCallRefused call e before × IsUnchanged before after
 
 -- nothing refused a new window, and it was made, of this number
 abbrev pub IsMade : NewWindow → ℕ → FullState → FullState → Type 0
-IsMade w serial before after = IsRefusal (New w) before.desk None × IsNewWindow w serial before after
+IsMade w serial before after = IsRefusal (New w) before None × IsNewWindow w serial before after
 
 -- the call for a new window was refused
 abbrev pub IsNotMade : NewWindow → Refusal → FullState → FullState → Type 0

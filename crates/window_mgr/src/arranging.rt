@@ -2,7 +2,7 @@
 ghost use Rattle.std.specs.Prelude.{◌≡◌, [], Some, MatchResult, ◌+◌, ◌&&◌, nat_lt, if◌then◌else◌, true};
 ghost use Rattle.tb_geom.specs.Points.{minus};
 ghost use Rattle.tb_geom.specs.Rects.{in_plane};
-ghost use Rattle.window_mgr.specs.declared.call.WindowCall.TheVariants as asks;
+ghost use Rattle.desk_call.specs.declared.window.WindowCall.TheVariants as asks;
 ghost use Rattle.window_mgr.specs.declared.arrange.Activates.TheVariants.{Nothing};
 ghost use Rattle.window_mgr.specs.Edits.{StandsAt, IsPlaceBehind};
 ghost use Rattle.window_mgr.specs.Kept.{IsKept};

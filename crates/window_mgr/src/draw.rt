@@ -7,11 +7,11 @@ ghost use Rattle.tb_geom.specs.Pixels.{holds};
 ghost use Rattle.bit_blit.specs.Draws.{Draws};
 ghost use Rattle.draw_port.specs.declared.shapes.Op.{Op};
 ghost use Rattle.draw_port.specs.Ops.{op_value};
-ghost use Rattle.window_mgr.specs.declared.call.WindowCall.TheVariants.{Draw};
+ghost use Rattle.desk_call.specs.declared.window.WindowCall.TheVariants.{Draw};
 ghost use Rattle.window_mgr.specs.Finding.{record_with};
 ghost use Rattle.window_mgr.specs.Kept.{IsKept};
 ghost use Rattle.window_mgr.specs.Planned.{SameDesk, MayDraw, IsDrawnAt};
-ghost use Rattle.window_mgr.specs.Records.{desk_of};
+ghost use Rattle.window_mgr.specs.Records.{state_of};
 ghost use Rattle.window_mgr.specs.Refused.{IsRefusal, is_formal};
 
 use crate::{Drawing, WindowManager};
@@ -31,7 +31,7 @@ impl WindowManager {
     pub(crate) fn place_to_draw(&self, drawing: &Drawing<'_>) -> Result<usize, Refusal>
         requires { IsKept ⟦<Taken as Defined>⟧.loan self.now }
         ensures { MatchResult result (MayDraw drawing.now self.now)
-            (λ e. IsRefusal (Draw drawing.now) (desk_of ⟦<Taken as Defined>⟧.loan self.now []) (Some e)) }
+            (λ e. IsRefusal (Draw drawing.now) (state_of ⟦<Taken as Defined>⟧.loan self.now []) (Some e)) }
     {
         match (drawing.operation.judge(), self.find(drawing.window)) {
             (Err(refusal), _) if is_formal(refusal) => Err(refusal),

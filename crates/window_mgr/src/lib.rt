@@ -25,17 +25,19 @@
 
 mod arrange;
 mod arranging;
-mod call;
 mod close;
+mod close_window;
 mod commit;
 mod draw;
 mod find;
 mod make;
 mod manager;
 mod new_window;
+mod size;
+mod tell;
 
-pub use call::{
-    Drawing, Found, MoveWindow, NewWindow, SendBehind, ShowHide, WindowCall, WindowInfo,
+pub use manager::{NotBegun, WindowManager};
+pub use desk_call::{
+    Drawing, Found, MoveWindow, NewWindow, SendBehind, ShowHide, SizeWindow, WindowCall, WindowInfo,
     WindowPart, WindowReply,
 };
-pub use manager::{NotBegun, WindowManager};

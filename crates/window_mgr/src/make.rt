@@ -1,6 +1,6 @@
 //! Calls, one by one.
 ghost use Rattle.std.specs.Prelude.{◌≡◌};
-ghost use Rattle.window_mgr.specs.declared.call.WindowCall.TheVariants.{New, Draw, Find, Front, Info};
+ghost use Rattle.desk_call.specs.declared.window.WindowCall.TheVariants.{New, Draw, Find, Front, Info};
 ghost use Rattle.window_mgr.specs.Records.{state_of};
 ghost use Rattle.window_mgr.specs.Step.{IsStep};
 ghost use Rattle.window_mgr.specs.Whole.{IsWhole};
@@ -22,6 +22,7 @@ impl WindowManager {
     {
         match call {
             WindowCall::New(window) => self.answer_new(window, stock),
+            WindowCall::Close(window) => self.close_window(*window, stock),
             WindowCall::Show(window) => self.show(*window, stock),
             WindowCall::Hide(window) => self.hide(*window, stock),
             WindowCall::ShowHide(change) => self.show_hide(*change, stock),
@@ -29,10 +30,13 @@ impl WindowManager {
             WindowCall::BringToFront(window) => self.bring_to_front(*window, stock),
             WindowCall::SendBehind(sent) => self.send_behind(*sent, stock),
             WindowCall::Move(moved) => self.move_window(*moved, stock),
+            WindowCall::Size(sized) => self.size_window(*sized, stock),
             WindowCall::Draw(drawing) => self.answer_draw(drawing, stock),
             WindowCall::Find(point) => self.answer_find(*point, stock),
             WindowCall::Front => self.answer_front(stock),
             WindowCall::Info(window) => self.answer_info(*window, stock),
+            WindowCall::VisibleRegion(window) => self.answer_visible(*window, stock),
+            WindowCall::UpdateRegion(window) => self.answer_update(*window, stock),
         }
     }
 

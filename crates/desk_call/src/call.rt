@@ -1,6 +1,6 @@
 //! What a Toolbox can be asked, and what it answers.
 
-use window_mgr::{WindowCall, WindowReply};
+use crate::{WindowCall, WindowReply};
 
 /// A call of the Toolbox, by the manager that answers it. Texts and the bytes of operations are
 /// borrowed, so that a call takes no memory.
@@ -10,7 +10,7 @@ pub enum Call<'a> {
 }
 
 /// The value of a call that was done, by the manager that answered.
-#[derive(Clone, Copy, Debug, PartialEq, Eq)]
+#[derive(Debug, PartialEq, Eq, Drop)]
 pub enum Reply {
     Window(WindowReply),
 }

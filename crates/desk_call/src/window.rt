@@ -11,6 +11,9 @@ use tb_geom::Point;
 pub enum WindowCall<'a> {
     /// Makes a window in front of all others; a visible one becomes active.
     New(NewWindow<'a>),
+    /// Ends a window: its definition is disposed of, and goes back Closed into its slot (DisposeWindow).
+    /// Where it was active, the first visible window becomes so, or none.
+    Close(u64),
     /// Makes a window visible, and active where it is the first visible one then (ShowWindow).
     Show(u64),
     /// Makes a window hidden; it keeps its place in the order (HideWindow). Where it was active, the
@@ -28,6 +31,8 @@ pub enum WindowCall<'a> {
     /// Moves a window, and selects it where that is asked (MoveWindow). OutOfRange where it may not be
     /// there.
     Move(MoveWindow),
+    /// Gives a window another size (SizeWindow). OutOfRange where it may not have it.
+    Size(SizeWindow),
     /// Adds an operation to a window's picture, and draws it where the picture shows.
     Draw(Drawing<'a>),
     /// Whose a point of the screen is (FindWindow). A point outside the range of coordinates is
@@ -37,6 +42,12 @@ pub enum WindowCall<'a> {
     Front,
     /// Where a window stands, and how.
     Info(u64),
+    /// The bytes of a window's visible region, in the window's own coordinates: what of the screen its
+    /// content owns. TooLong where they are more than 32766.
+    VisibleRegion(u64),
+    /// The bytes of a window's update region, in the window's own coordinates: what of its visible
+    /// region is to be redrawn. TooLong where they are more than 32766.
+    UpdateRegion(u64),
 }
 
 /// A window that is to be visible, or hidden.
@@ -62,6 +73,14 @@ pub struct MoveWindow {
     pub place: Point,
     /// Whether it is selected too.
     pub select: bool,
+}
+
+/// A window that is to have another size.
+#[derive(Clone, Copy, PartialEq, Eq)]
+pub struct SizeWindow {
+    pub window: u64,
+    /// Of its content.
+    pub size: Size,
 }
 
 /// A window to be made (NewWindow: *Inside Macintosh* I, "The Window Manager").
@@ -109,7 +128,7 @@ pub enum WindowPart {
 
 impl WindowPart {
     ghost use Rattle.std.specs.Prelude.{◌≡◌};
-    ghost use Rattle.window_mgr.specs.Finding.{part_number};
+    ghost use Rattle.desk_call.specs.Parts.{part_number};
 
     /// The code of the part.
     pub fn number(self) -> u8
@@ -138,7 +157,7 @@ pub struct WindowInfo {
 }
 
 /// The value of a call that was done.
-#[derive(Clone, Copy, Debug, PartialEq, Eq)]
+#[derive(Debug, PartialEq, Eq, Drop)]
 pub enum WindowReply {
     /// Nothing more than that it was done.
     Done,
@@ -150,4 +169,6 @@ pub enum WindowReply {
     Front(Option<u64>),
     /// Where a window stands, and how.
     Info(WindowInfo),
+    /// A region, as its bytes (*Inside Macintosh* I, "QuickDraw": the type `Region`).
+    Region(Vec<u8>),
 }

@@ -1,0 +1,2 @@
+-- What the contracts speak of: the codes of the parts of the screen.
+pub mod Parts

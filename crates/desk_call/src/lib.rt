@@ -1,0 +1,14 @@
+//! What a Toolbox can be asked, and what it answers: plain values, with texts and bytes borrowed.
+//!
+//! A `Call` says which manager it is for, and has one case for each; so has a `Reply`. What a call does, its manager says
+//! (`window_mgr` for windows). A program that only reads or writes calls needs no more than this.
+#![tactic(auto)]
+
+mod call;
+mod window;
+
+pub use call::{Call, Reply};
+pub use window::{
+    Drawing, Found, MoveWindow, NewWindow, SendBehind, ShowHide, SizeWindow, WindowCall, WindowInfo,
+    WindowPart, WindowReply,
+};
