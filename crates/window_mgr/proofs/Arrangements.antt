@@ -7,6 +7,7 @@ use Rattle.tb_geom.specs.declared.refusal.Refusal.{Refusal}
 use Rattle.tb_geom.specs.declared.refusal.Refusal.TheVariants.{NoSuchWindow}
 use Rattle.tb_geom.specs.Points.{minus}
 use Rattle.def_iface.specs.Desk as layers
+use Rattle.def_iface.specs.Desk.Part.{Picture}
 use Rattle.def_iface.specs.Owner.{content_bit, layer_bit}
 use Rattle.def_iface.specs.Owner.Owner.{Content}
 use Rattle.def_iface.proofs.Owning.{same_number}
@@ -130,8 +131,12 @@ module _ (desk : FullDesk) (distinct : layers.IsDesk (layered_desk desk)) (s : �
   pub shown_sound : (a : Arrangement) (shown : Bool) → a.window ≡ s → a.by ≡ None → a.windows ≡ changed s (with_shown shown) desk.windows → IsSoundArrangement a desk
   shown_sound a shown its still windows = stays a out.place (with_shown shown w) its still refl (windows ∙ ap (changed s (with_shown shown)) out.is ∙ changed_is desk.font s out.place w out.rest out.serial free (with_shown shown)) (λ part p. refl)
 
+  -- whatever its size, the window's content has the same picture
   pub sized_sound : (z : SizeWindow) (d : Definition) → z.window ≡ s → IsSoundArrangement (sized z d desk.windows) desk
-  sized_sound z d named = stays (sized z d desk.windows) out.place (with_size z.size d w) named refl refl (ap (λ n. changed n (with_size z.size d) desk.windows) named ∙ ap (changed s (with_size z.size d)) out.is ∙ changed_is desk.font s out.place w out.rest out.serial free (with_size z.size d)) (λ part p. refl)
+  sized_sound z d named = stays (sized z d desk.windows) out.place (with_size z.size d w) named refl refl (ap (λ n. changed n (with_size z.size d) desk.windows) named ∙ ap (changed s (with_size z.size d)) out.is ∙ changed_is desk.font s out.place w out.rest out.serial free (with_size z.size d)) same_content
+    where
+      same_content : (part : layers.Part) (p : Point) → content_bit (Some (layered_window desk.font w)) part p ≡ content_bit (Some (layered_window desk.font (with_size z.size d w))) part p
+      same_content Picture p = refl
 
   pub sent_sound : (a : Arrangement) (b : sending.SendBehind) → b.window ≡ s → a.window ≡ s → a.by ≡ None → a.windows ≡ behind_this b.behind (record_with s desk.windows) (without s desk.windows) → IsSoundArrangement a desk
   sent_sound a b named its still windows = stays a (place_after b.behind out.rest) w its still refl

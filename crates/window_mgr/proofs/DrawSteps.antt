@@ -285,5 +285,5 @@ module _ {V : Type 0} {H : V → Type 0} (loan : Taken V H → Loan) (t new : Wi
 -- ---- the call that was refused for want of memory
 
 module _ {V : Type 0} {H : V → Type 0} (loan : Taken V H → Loan) (t u : WindowManager V H) (slots : List SlotView) (d : Drawing) (at : ℕ) (whole : IsWhole loan t slots) (may : MayDraw d t at) (same : SameDesk t u) where
-  pub no_memory : IsCallRefused (Draw d) NoMemory (desk_of loan t slots) × IsUnchanged (state_of loan t slots) (state_of loan u slots)
+  pub no_memory : IsCallRefused (Draw d) NoMemory (state_of loan t slots) × IsUnchanged (state_of loan t slots) (state_of loan u slots)
   no_memory = (inr (unrefused loan t (kept loan t slots whole) d at may, (refl, refl)), stays_unchanged loan t u slots slots same refl)
