@@ -5,12 +5,14 @@ use Rattle.tb_geom.specs.declared.refusal.Refusal.{Refusal}
 use Rattle.window_mgr.specs.FullDesk.{FullDesk, FullState, IsRight}
 use Rattle.desk_call.specs.declared.window.WindowCall.{WindowCall}
 use Rattle.desk_call.specs.declared.window.WindowReply.{WindowReply}
-use Rattle.desk_call.specs.declared.window.WindowReply.TheVariants.{Done, Made, Found, Front, Info}
+use Rattle.desk_call.specs.declared.window.WindowReply.TheVariants.{Done, Made, Found, Front, Info, Region}
 use Rattle.desk_call.specs.declared.window.WindowCall.TheVariants as asks
 use Rattle.vis_update.specs.Records.{WindowRecord}
 use Rattle.window_mgr.specs.Finding.{record_with, info_of}
 use Rattle.window_mgr.specs.Effects.{Effect, IsEffect, IsUnchanged, effect_of}
-use Rattle.window_mgr.specs.Effects.Effect.{Makes, Draws, Arranges, Tells}
+use Rattle.window_mgr.specs.Effects.Effect.{Makes, Closes, Draws, Arranges, Sizes, Tells, Describes}
+use Rattle.window_mgr.specs.Telling.{IsRegionTold}
+use Rattle.tb_geom.specs.Points.{PixelSet}
 use Rattle.window_mgr.specs.Step as windows
 use Rattle.window_mgr.proofs.KeptKinds as kinds
 use Rattle.window_mgr.proofs.KeptKinds.{kinds_of}
@@ -64,7 +66,10 @@ abbrev IsNumberless : Effect → Type 0
 IsNumberless (Makes w) = Unit {0}
 IsNumberless (Draws d) = Unit {0}
 IsNumberless (Arranges a) = Unit {0}
+IsNumberless (Closes s) = Unit {0}
+IsNumberless (Sizes z) = Unit {0}
 IsNumberless (Tells r) = number_made r ≡ []
+IsNumberless (Describes region) = Unit {0}
 
 numberless : (call : WindowCall) (desk : FullDesk) → IsNumberless (effect_of call desk)
 numberless (asks.New w) desk = tt
@@ -76,6 +81,10 @@ numberless (asks.Move m) desk = tt
 numberless (asks.Show s) desk = tt
 numberless (asks.Hide s) desk = tt
 numberless (asks.ShowHide c) desk = tt
+numberless (asks.Close s) desk = tt
+numberless (asks.Size z) desk = tt
+numberless (asks.VisibleRegion s) desk = tt
+numberless (asks.UpdateRegion s) desk = tt
 numberless (asks.Find p) desk = refl
 numberless asks.Front desk = refl
 numberless (asks.Info s) desk = by_window (record_with s desk.windows)
@@ -83,6 +92,15 @@ numberless (asks.Info s) desk = by_window (record_with s desk.windows)
     by_window : (o : Option WindowRecord) → number_made (info_of o) ≡ []
     by_window None = refl
     by_window (Some w) = refl
+
+-- nor is a region
+region_is_numberless : (set : PixelSet) (answer : WindowReply) → IsRegionTold set answer → number_made answer ≡ []
+region_is_numberless set (Region bytes) told = refl
+region_is_numberless set (Made n) told = absurd told
+region_is_numberless set Done told = refl
+region_is_numberless set (Found found) told = refl
+region_is_numberless set (Front front) told = refl
+region_is_numberless set (Info info) told = refl
 
 -- the numbers that follow an effect, with its own in front if it gave one
 effect_is_counted : (effect : Effect) (answer : WindowReply) (before after : FullState) (numbers : List ℕ) → IsNumberless effect → IsEffect effect answer before after → AreCounted after.desk.next numbers → AreCounted before.desk.next (number_made answer ++ numbers)
@@ -92,6 +110,12 @@ effect_is_counted (Draws d) answer before after numbers none (is, drawn) h =
     subst (λ (a : WindowReply). AreCounted before.desk.next (number_made a ++ numbers)) (sym is) (subst (λ (d : FullDesk). AreCounted d.next numbers) drawn.desk h)
 effect_is_counted (Arranges a) answer before after numbers none (is, arranged) h =
     subst (λ (a : WindowReply). AreCounted before.desk.next (number_made a ++ numbers)) (sym is) (subst (λ (d : FullDesk). AreCounted d.next numbers) arranged.desk h)
+effect_is_counted (Closes s) answer before after numbers none (is, closed) h =
+    subst (λ (a : WindowReply). AreCounted before.desk.next (number_made a ++ numbers)) (sym is) (subst (λ (d : FullDesk). AreCounted d.next numbers) closed.desk h)
+effect_is_counted (Sizes z) answer before after numbers none (is, sized) h =
+    subst (λ (a : WindowReply). AreCounted before.desk.next (number_made a ++ numbers)) (sym is) (subst (λ (d : FullDesk). AreCounted d.next numbers) sized.arranged.desk h)
+effect_is_counted (Describes region) answer before after numbers none (told, same) h =
+    subst (λ (ns : List ℕ). AreCounted before.desk.next (ns ++ numbers)) (sym (region_is_numberless (region before) answer told)) (counted_on before after numbers same h)
 effect_is_counted (Tells r) answer before after numbers none (is, same) h =
     subst (λ (ns : List ℕ). AreCounted before.desk.next (ns ++ numbers)) (sym (ap number_made is ∙ none)) (counted_on before after numbers same h)
 

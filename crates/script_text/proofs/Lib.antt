@@ -1,5 +1,6 @@
 pub mod Cuts
 mod Ends
+mod HexOut
 mod LineLaws
 mod Mapped
 mod NameLemmas

@@ -102,6 +102,7 @@ command-so verbs.FrontWindow = tt
 command-so verbs.ShowHide = λ window shown. tt
 command-so verbs.Behind = λ window other. tt
 command-so verbs.Move = λ window h v select. tt
+command-so verbs.Size = λ window width height. tt
 command-so (verbs.OfWindow verb) = λ window. tt
 
 -- what a line says is a command, or that it names what there is not

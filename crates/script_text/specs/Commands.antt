@@ -14,7 +14,7 @@ use Rattle.line_words.specs.Words.{◌>>=◌, word_at}
 use Rattle.script_text.specs.Names.{named}
 use Rattle.script_text.specs.Grammar.{Shape, done, number, flag, name, text, mapped, reading}
 use Rattle.script_text.specs.Drawings.{drawing_shape}
-use Rattle.script_text.specs.Windows.{of_window_shape, show_hide_shape, behind_shape, move_shape}
+use Rattle.script_text.specs.Windows.{of_window_shape, show_hide_shape, behind_shape, move_shape, size_shape}
 
 -- a window with its content at (h, v)
 abbrev pub window_of : List ℕ → ℤ → ℤ → ℤ → ℤ → Bool → Bool → List ℕ → NewWindow
@@ -64,11 +64,15 @@ verbs =
     ∷ (codes "showhide", words.ShowHide)
     ∷ (codes "behind", words.Behind)
     ∷ (codes "move", words.Move)
+    ∷ (codes "size", words.Size)
+    ∷ (codes "close", words.OfWindow window_words.Close)
     ∷ (codes "show", words.OfWindow window_words.Show)
     ∷ (codes "hide", words.OfWindow window_words.Hide)
     ∷ (codes "select", words.OfWindow window_words.Select)
     ∷ (codes "front", words.OfWindow window_words.BringToFront)
     ∷ (codes "info", words.OfWindow window_words.Info)
+    ∷ (codes "updatergn", words.OfWindow window_words.UpdateRegion)
+    ∷ (codes "visrgn", words.OfWindow window_words.VisibleRegion)
     ∷ []
 
 -- the words that follow a verb
@@ -82,6 +86,7 @@ shape_of words.FrontWindow = frontwin_shape
 shape_of words.ShowHide = show_hide_shape
 shape_of words.Behind = behind_shape
 shape_of words.Move = move_shape
+shape_of words.Size = size_shape
 shape_of (words.OfWindow verb) = of_window_shape verb
 
 -- what is read after a first word that stands for a verb, or for none

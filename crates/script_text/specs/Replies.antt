@@ -10,6 +10,7 @@ use Rattle.desk_call.specs.declared.window.WindowInfo.{WindowInfo}
 use Rattle.desk_call.specs.declared.window.WindowReply.{WindowReply}
 use Rattle.desk_call.specs.declared.window.WindowReply.TheVariants as window_reply
 use Rattle.desk_call.specs.Parts.{part_number}
+use Rattle.line_words.specs.Hex.{hex_text}
 
 -- a call that was done and has no value
 abbrev pub done_text : List ℕ
@@ -43,6 +44,10 @@ info_text info =
     ++ (codes " " ++ (signed_decimal info.size.width ++ (codes " " ++ (signed_decimal info.size.height
     ++ (codes " " ++ (flag_text info.shown ++ (codes " " ++ (flag_text info.highlighted ++ codes "\n")))))))))))
 
+-- a region, as its bytes: each is two digits, with the letters `A` to `F`
+abbrev pub region_text : List ℕ → List ℕ
+region_text bytes = codes "ok " ++ (hex_text 65 bytes ++ codes "\n")
+
 -- what the Window Manager answered
 abbrev pub window_reply_text : WindowReply → List ℕ
 window_reply_text window_reply.Done = done_text
@@ -50,6 +55,7 @@ window_reply_text (window_reply.Made number) = number_text number
 window_reply_text (window_reply.Found found) = found_text found
 window_reply_text (window_reply.Front window) = number_text (window_number window)
 window_reply_text (window_reply.Info info) = info_text info
+window_reply_text (window_reply.Region bytes) = region_text bytes.items
 
 -- what a call answered
 abbrev pub reply_text : Result Reply Refusal → List ℕ

@@ -22,11 +22,14 @@ other_window window = if int_eq window (pos 0) then None else Some (window_numbe
 
 -- what a verb asks of a window
 abbrev pub call_of : WindowVerb → ℕ → WindowCall
+call_of words.Close window = calls.Close window
 call_of words.Show window = calls.Show window
 call_of words.Hide window = calls.Hide window
 call_of words.Select window = calls.Select window
 call_of words.BringToFront window = calls.BringToFront window
 call_of words.Info window = calls.Info window
+call_of words.UpdateRegion window = calls.UpdateRegion window
+call_of words.VisibleRegion window = calls.VisibleRegion window
 
 -- W, after a verb that asks something of one window
 abbrev pub of_window_shape : WindowVerb → Shape Command
@@ -46,3 +49,8 @@ behind_shape = number (λ window. number (λ other.
 abbrev pub move_shape : Shape Command
 move_shape = number (λ window. number (λ h. number (λ v. flag (λ select.
     done (Ok (Call (Window (calls.Move (record { window = window_number window; place = record { h = h; v = v }; select = select })))))))))
+
+-- size W width height
+abbrev pub size_shape : Shape Command
+size_shape = number (λ window. number (λ width. number (λ height.
+    done (Ok (Call (Window (calls.Size (record { window = window_number window; size = record { width = width; height = height } }))))))))

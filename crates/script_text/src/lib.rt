@@ -18,6 +18,7 @@ mod lines;
 mod names;
 mod operation;
 mod parser;
+mod region_line;
 mod reply_line;
 mod table;
 mod verb;

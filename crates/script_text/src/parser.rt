@@ -16,7 +16,7 @@ ghost use Rattle.script_text.specs.Spelling.{IsLine};
 use crate::command::{Command, DeskSize};
 use crate::drawing::drawing;
 use crate::verb::{Verb, verb_of};
-use crate::windows::{behind, move_to, of_window, show_hide};
+use crate::windows::{behind, move_to, of_window, resize, show_hide};
 use def_iface::Size;
 use desk_call::{Call, NewWindow, WindowCall};
 use line_words::Words;
@@ -108,6 +108,7 @@ fn command<'a>(verb: Verb, words: Words<'a>) -> Result<Command<'a>, Refusal>
         Verb::ShowHide => show_hide(words),
         Verb::Behind => behind(words),
         Verb::Move => move_to(words),
+        Verb::Size => resize(words),
         Verb::OfWindow(verb) => of_window(verb, words),
     }
 }

@@ -3,6 +3,7 @@ ghost use Rattle.watched_io.specs.Writes.{Sends};
 ghost use Rattle.std.specs.Prelude.{◌≡◌, false};
 ghost use Rattle.script_text.specs.Replies.{done_text, refused_text, number_text, found_text, flag_text, info_text, reply_text, window_reply_text, window_number};
 
+use crate::region_line::write_region;
 use desk_call::{Found, Reply, WindowInfo, WindowReply};
 use itoa::Buffer;
 use tb_geom::Refusal;
@@ -55,6 +56,7 @@ fn write_window_reply<S: Sink>(sink: &mut S, reply: &WindowReply) -> Result<(), 
         WindowReply::Found(found) => write_found(sink, *found),
         WindowReply::Front(window) => write_number(sink, window_number(*window)),
         WindowReply::Info(info) => write_info(sink, *info),
+        WindowReply::Region(bytes) => write_region(sink, bytes),
     }
 }
 

@@ -1,11 +1,12 @@
 //! The words of the commands for windows that are there.
 ghost use Rattle.std.specs.Prelude.{◌≡◌};
 ghost use Rattle.script_text.specs.Grammar.{reading};
-ghost use Rattle.script_text.specs.Windows.{window_number, other_window, call_of, of_window_shape, show_hide_shape, behind_shape, move_shape};
+ghost use Rattle.script_text.specs.Windows.{window_number, other_window, call_of, of_window_shape, show_hide_shape, behind_shape, move_shape, size_shape};
 
 use crate::command::Command;
 use crate::verb::WindowVerb;
-use desk_call::{Call, MoveWindow, SendBehind, ShowHide, WindowCall};
+use def_iface::Size;
+use desk_call::{Call, MoveWindow, SendBehind, ShowHide, SizeWindow, WindowCall};
 use line_words::Words;
 use tb_geom::{Point, Refusal};
 
@@ -33,11 +34,14 @@ fn call_of<'a>(verb: WindowVerb, window: u64) -> WindowCall<'a>
     ensures { result ≡ call_of verb window }
 {
     match verb {
+        WindowVerb::Close => WindowCall::Close(window),
         WindowVerb::Show => WindowCall::Show(window),
         WindowVerb::Hide => WindowCall::Hide(window),
         WindowVerb::Select => WindowCall::Select(window),
         WindowVerb::BringToFront => WindowCall::BringToFront(window),
         WindowVerb::Info => WindowCall::Info(window),
+        WindowVerb::UpdateRegion => WindowCall::UpdateRegion(window),
+        WindowVerb::VisibleRegion => WindowCall::VisibleRegion(window),
     }
 }
 
@@ -94,4 +98,18 @@ pub fn move_to<'a>(words: Words<'a>) -> Result<Command<'a>, Refusal>
         select,
     };
     Ok(Command::Call(Call::Window(WindowCall::Move(change))))
+}
+
+/// The words after `size`: a window, and the width and height of its content.
+pub fn resize<'a>(words: Words<'a>) -> Result<Command<'a>, Refusal>
+    ensures { result ≡ reading size_shape words.entry }
+{
+    let (window, words) = words.number()?;
+    let (width, words) = words.number()?;
+    let (height, words) = words.number()?;
+    words.end()?;
+    let window = window_number(window);
+    let size = Size { width, height };
+    let change = SizeWindow { window, size };
+    Ok(Command::Call(Call::Window(WindowCall::Size(change))))
 }
