@@ -7,7 +7,7 @@ use Rattle.std.proofs.lemmas.List.{take_rest, drop-drop}
 use Rattle.std.proofs.lemmas.Bool.{eq-eqb, ne_eqb, cases_Bool, and_parts, cases_eq}
 use Rattle.tb_geom.specs.declared.refusal.Refusal.TheVariants.{BadSyntax}
 use Rattle.line_words.specs.Hex.{is_hex_text, hex_of}
-use Rattle.line_words.specs.Words.{◌>>=◌, Field, split_at, parts, word_at, is_digit, is_number_text, digits_value, digits_of, number_of, number_at, flag_of, flag_at, is_name, name_at, hex_at, is_plain, quoted_at, quoted_parts, after_quote, text_at}
+use Rattle.line_words.specs.Words.{◌>>=◌, Field, split_at, parts, word_at, is_digit, is_number_text, digits_value, digits_of, number_said, number_at, flag_of, flag_at, is_name, name_at, hex_at, is_plain, quoted_at, quoted_parts, after_quote, text_at}
 use Rattle.line_words.specs.Forms.{follows, HasNo, IsDigits, IsNumber, IsFlag, IsName, IsText, IsHex}
 
 -- the first mark: where it is, or that there is none
@@ -137,11 +137,11 @@ minus_text bs h =
     cc
 
 -- a number is read as what it stands for
-number_of-at : (word : List ℕ) (z : ℤ) → IsNumber word z → number_of word ≡ Some z
-unfolding number_of
-number_of-at [] z h = absurd h
-number_of-at (b ∷ bs) z (inl h) = rw h.0 (ap (option_map neg_ℤ) (digits_of-at bs h.1 h.2) ∙ ap (λ x. Some x) (sym h.3))
-number_of-at (b ∷ bs) z (inr h) =
+number_said-at : (word : List ℕ) (z : ℤ) → IsNumber word z → number_said word ≡ Some z
+unfolding number_said
+number_said-at [] z h = absurd h
+number_said-at (b ∷ bs) z (inl h) = rw h.0 (ap (option_map neg_ℤ) (digits_of-at bs h.1 h.2) ∙ ap (λ x. Some x) (sym h.3))
+number_said-at (b ∷ bs) z (inr h) =
     elim (cases_eq b 45) [
       | inl e ↦ absurd (minus_text bs (subst (λ x. is_number_text (x ∷ bs) ≡ true) e h.1.0))
       | inr ne ↦ rw (ne_eqb b 45 ne) (digits_of-at (b ∷ bs) h.0 h.1 ∙ ap (λ x. Some x) (sym h.2))
@@ -152,8 +152,8 @@ abbrev pub NumberCases : List ℕ → Option ℤ → Type 0
 NumberCases word None = Unit {0}
 NumberCases word (Some z) = IsNumber word z
 
-pub number-cases : (word : List ℕ) → NumberCases word (number_of word)
-unfolding number_of
+pub number-cases : (word : List ℕ) → NumberCases word (number_said word)
+unfolding number_said
 number-cases [] = tt
 number-cases (b ∷ bs) =
     elim (cases_eq b 45) [
@@ -169,7 +169,7 @@ number-cases (b ∷ bs) =
 
 pub number_at-at : (word : List ℕ) (more : Option (List ℕ)) (z : ℤ) → IsNumber word z → number_at (Some (word ++ follows more)) ≡ Ok (z, more)
 unfolding number_at
-number_at-at word more z h = rw (word_at-follows word more (number-spaceless word z h), number_of-at word z h) refl
+number_at-at word more z h = rw (word_at-follows word more (number-spaceless word z h), number_said-at word z h) refl
 
 -- Flags, likewise.
 flag-spaceless : (word : List ℕ) (b : Bool) → IsFlag word b → HasNo 32 word

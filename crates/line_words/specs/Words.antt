@@ -58,13 +58,13 @@ abbrev pub digits_of : List ℕ → Option ℤ
 digits_of bs = if is_number_text bs then Some (pos (digits_value bs)) else None
 
 -- what a minus sign or none, and 1 to 9 digits stand for
-unfoldable pub number_of : List ℕ → Option ℤ
-number_of [] = None
-number_of (b ∷ bs) = if b == 45 then option_map neg_ℤ (digits_of bs) else digits_of (b ∷ bs)
+unfoldable pub number_said : List ℕ → Option ℤ
+number_said [] = None
+number_said (b ∷ bs) = if b == 45 then option_map neg_ℤ (digits_of bs) else digits_of (b ∷ bs)
 
 -- a word that is a number
 unfoldable pub number_at : Option (List ℕ) → Field ℤ
-number_at rest = word_at rest >>= λ word. with_rest (number_of word.0) word.1
+number_at rest = word_at rest >>= λ word. with_rest (number_said word.0) word.1
 
 -- `0` is false, and `1` is true
 abbrev pub flag_of : List ℕ → Option Bool

@@ -7,7 +7,7 @@
 ghost use Rattle.std.specs.Prelude.{◌≡◌};
 ghost use Rattle.std.specs.Char.{is_ascii_alphanumeric};
 ghost use Rattle.std.specs.List.{list_all};
-ghost use Rattle.line_words.specs.Words.{word_at, number_at, number_of, flag_at, name_at, is_name, hex_at, text_at, quoted_at, after_quote, is_plain, digits_of, end_at};
+ghost use Rattle.line_words.specs.Words.{word_at, number_at, number_said, flag_at, name_at, is_name, hex_at, text_at, quoted_at, after_quote, is_plain, digits_of, end_at};
 
 use crate::hex::hex_bytes;
 use crate::piece::Piece;
@@ -145,9 +145,9 @@ fn digits(bytes: &[u8]) -> Option<i32>
 }
 
 /// What a word stands for as a number; None of a word that is none.
-#[tactic(auto, unfolding(crate::specs::Words::number_of))]
+#[tactic(auto, unfolding(crate::specs::Words::number_said))]
 fn read_number(text: &[u8]) -> Option<i32>
-    ensures { result ≡ number_of text.now }
+    ensures { result ≡ number_said text.now }
 {
     match text {
         [] => None,

@@ -4,7 +4,7 @@ use Rattle.tb_geom.specs.declared.refusal.Refusal.{Refusal}
 use Rattle.tb_geom.specs.declared.refusal.Refusal.TheVariants.{BadSyntax}
 use Rattle.script_text.specs.declared.command.Command.{Command}
 use Rattle.line_words.specs.Hex.{hex_of}
-use Rattle.line_words.specs.Words.{◌>>=◌, Field, word_at, number_of, number_at, flag_of, flag_at, with_rest, name_at, hex_at, text_at}
+use Rattle.line_words.specs.Words.{◌>>=◌, Field, word_at, number_said, number_at, flag_of, flag_at, with_rest, name_at, hex_at, text_at}
 use Rattle.script_text.specs.Grammar.{Shape, done, never, number, flag, text, name, hex, reading}
 use Rattle.script_text.specs.Names.{named}
 use Rattle.script_text.specs.Commands.{verbs, shape_of, command_of, read_with}
@@ -28,8 +28,8 @@ number-reads next ih rest p w None h = inr refl
 number-reads next ih rest p w (Some z) h = elim (ih z p.1) [ inl s ↦ inl (p.0, p.1, z, w.is, h, s) | inr e ↦ inr e ]
 
 number-word : {A : Type 0} (next : ℤ → Shape A) (ih : ReadsOn next) (rest : Option (List ℕ)) (w : Field (List ℕ)) → WordCases rest w
-    → Reads (number next) rest ((w >>= λ p. with_rest (number_of p.0) p.1) >>= λ x. reading (next x.0) x.1)
-number-word next ih rest (Ok p) h = number-reads next ih rest p h (number_of p.0) (number-cases p.0)
+    → Reads (number next) rest ((w >>= λ p. with_rest (number_said p.0) p.1) >>= λ x. reading (next x.0) x.1)
+number-word next ih rest (Ok p) h = number-reads next ih rest p h (number_said p.0) (number-cases p.0)
 number-word next ih rest (Err e) h = inr (ap (λ x. Err x) h)
 
 flag-reads : {A : Type 0} (next : Bool → Shape A) (ih : ReadsOn next) (rest : Option (List ℕ)) (p : List ℕ × Option (List ℕ)) → HasWord rest p

@@ -17,8 +17,8 @@ use Rattle.script_text.specs.Drawings.{drawing_shape}
 use Rattle.script_text.specs.Windows.{of_window_shape, show_hide_shape, behind_shape, move_shape, size_shape}
 
 -- a window with its content at (h, v)
-abbrev pub window_of : List ℕ → ℤ → ℤ → ℤ → ℤ → Bool → Bool → List ℕ → NewWindow
-window_of kind h v width height shown go_away title = record {
+abbrev pub new_window_of : List ℕ → ℤ → ℤ → ℤ → ℤ → Bool → Bool → List ℕ → NewWindow
+new_window_of kind h v width height shown go_away title = record {
   kind = kind;
   place = record { h = h; v = v };
   size = record { width = width; height = height };
@@ -38,7 +38,7 @@ image_shape = done (Ok Image)
 -- window KIND h v width height SHOWN GOAWAY "title"
 abbrev pub window_shape : Shape Command
 window_shape = name (λ kind. number (λ h. number (λ v. number (λ width. number (λ height. flag (λ shown. flag (λ go_away. text (λ title.
-    done (Ok (Call (Window (New (window_of kind h v width height shown go_away title)))))))))))))
+    done (Ok (Call (Window (New (new_window_of kind h v width height shown go_away title)))))))))))))
 
 -- draw W [clip HEX] OP
 abbrev pub draw_shape : Shape Command

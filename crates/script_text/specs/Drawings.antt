@@ -15,7 +15,7 @@ use Rattle.script_text.specs.declared.operation.Operation.TheVariants as words
 use Rattle.line_words.specs.Words.{◌>>=◌}
 use Rattle.script_text.specs.Grammar.{Shape, done, never, number, name, text, hex, mapped}
 use Rattle.script_text.specs.Names.{named, known, source_modes, text_modes, shade_of}
-use Rattle.script_text.specs.Windows.{window_number}
+use Rattle.script_text.specs.Windows.{named_window}
 
 -- l t r b
 abbrev pub rect_shape : Shape Rect
@@ -77,7 +77,7 @@ operation_shape (Some words.Rgn) = mapped (λ p. FillRgn p.0 p.1) region_shape
 -- an operation with its words, in a window with this clip
 abbrev pub clipped_shape : ℤ → Option (List ℕ) → List ℕ → Shape Drawing
 clipped_shape window clip word =
-    mapped (λ shape. record { window = window_number window; operation = record { clip = clip; shape = shape } }) (operation_shape (named word operations))
+    mapped (λ shape. record { window = named_window window; operation = record { clip = clip; shape = shape } }) (operation_shape (named word operations))
 
 -- HEX OP
 abbrev pub clip_shape : ℤ → Shape Drawing

@@ -12,13 +12,13 @@ use Rattle.script_text.specs.declared.verb.WindowVerb.TheVariants as words
 use Rattle.script_text.specs.Grammar.{Shape, done, number, flag}
 
 -- a window's number; a number below 1 is no window's, as 0 is
-abbrev pub window_number : ℤ → ℕ
-window_number window = nat_abs (int_max window (pos 0))
+abbrev pub named_window : ℤ → ℕ
+named_window window = nat_abs (int_max window (pos 0))
 
 -- the window that is to be in front of another; 0 is none, so that the other goes behind all, and a number below 0 is no
 -- window's
 abbrev pub other_window : ℤ → Option ℕ
-other_window window = if int_eq window (pos 0) then None else Some (window_number window)
+other_window window = if int_eq window (pos 0) then None else Some (named_window window)
 
 -- what a verb asks of a window
 abbrev pub call_of : WindowVerb → ℕ → WindowCall
@@ -33,24 +33,24 @@ call_of words.VisibleRegion window = calls.VisibleRegion window
 
 -- W, after a verb that asks something of one window
 abbrev pub of_window_shape : WindowVerb → Shape Command
-of_window_shape verb = number (λ window. done (Ok (Call (Window (call_of verb (window_number window))))))
+of_window_shape verb = number (λ window. done (Ok (Call (Window (call_of verb (named_window window))))))
 
 -- showhide W SHOWN
 abbrev pub show_hide_shape : Shape Command
 show_hide_shape = number (λ window. flag (λ shown.
-    done (Ok (Call (Window (calls.ShowHide (record { window = window_number window; shown = shown })))))))
+    done (Ok (Call (Window (calls.ShowHide (record { window = named_window window; shown = shown })))))))
 
 -- behind W X
 abbrev pub behind_shape : Shape Command
 behind_shape = number (λ window. number (λ other.
-    done (Ok (Call (Window (calls.SendBehind (record { window = window_number window; behind = other_window other })))))))
+    done (Ok (Call (Window (calls.SendBehind (record { window = named_window window; behind = other_window other })))))))
 
 -- move W h v SELECT
 abbrev pub move_shape : Shape Command
 move_shape = number (λ window. number (λ h. number (λ v. flag (λ select.
-    done (Ok (Call (Window (calls.Move (record { window = window_number window; place = record { h = h; v = v }; select = select })))))))))
+    done (Ok (Call (Window (calls.Move (record { window = named_window window; place = record { h = h; v = v }; select = select })))))))))
 
 -- size W width height
 abbrev pub size_shape : Shape Command
 size_shape = number (λ window. number (λ width. number (λ height.
-    done (Ok (Call (Window (calls.Size (record { window = window_number window; size = record { width = width; height = height } }))))))))
+    done (Ok (Call (Window (calls.Size (record { window = named_window window; size = record { width = width; height = height } }))))))))

@@ -9,7 +9,7 @@ ghost use Rattle.script_text.specs.Drawings.{rect_shape, shaded_rect_shape, line
 
 use crate::names::{shade, source_mode, text_mode};
 use crate::operation::{Operation, operation_of};
-use crate::windows::window_number;
+use crate::windows::named_window;
 use desk_call::Drawing;
 use draw_port::Shade;
 use line_words::Words;
@@ -50,7 +50,7 @@ fn clipped<'a>(
     let shape = operation(name, words)?;
     let operation = OpRef { clip, shape };
     Ok(Drawing {
-        window: window_number(window),
+        window: named_window(window),
         operation,
     })
 }

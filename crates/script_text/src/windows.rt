@@ -1,7 +1,7 @@
 //! The words of the commands for windows that are there.
 ghost use Rattle.std.specs.Prelude.{◌≡◌};
 ghost use Rattle.script_text.specs.Grammar.{reading};
-ghost use Rattle.script_text.specs.Windows.{window_number, other_window, call_of, of_window_shape, show_hide_shape, behind_shape, move_shape, size_shape};
+ghost use Rattle.script_text.specs.Windows.{named_window, other_window, call_of, of_window_shape, show_hide_shape, behind_shape, move_shape, size_shape};
 
 use crate::command::Command;
 use crate::verb::WindowVerb;
@@ -11,8 +11,8 @@ use line_words::Words;
 use tb_geom::{Point, Refusal};
 
 /// The number by which a window is asked for: 0, which no window has, where the number is below 1.
-pub fn window_number(window: i32) -> u64
-    ensures { result ≡ window_number window }
+pub fn named_window(window: i32) -> u64
+    ensures { result ≡ named_window window }
 {
     window.max(0) as u64
 }
@@ -25,7 +25,7 @@ fn other_window(window: i32) -> Option<u64>
     if window == 0 {
         None
     } else {
-        Some(window_number(window))
+        Some(named_window(window))
     }
 }
 
@@ -51,7 +51,7 @@ pub fn of_window<'a>(verb: WindowVerb, words: Words<'a>) -> Result<Command<'a>, 
 {
     let (window, words) = words.number()?;
     words.end()?;
-    let call = call_of(verb, window_number(window));
+    let call = call_of(verb, named_window(window));
     Ok(Command::Call(Call::Window(call)))
 }
 
@@ -62,7 +62,7 @@ pub fn show_hide<'a>(words: Words<'a>) -> Result<Command<'a>, Refusal>
     let (window, words) = words.number()?;
     let (shown, words) = words.flag()?;
     words.end()?;
-    let window = window_number(window);
+    let window = named_window(window);
     let change = ShowHide { window, shown };
     Ok(Command::Call(Call::Window(WindowCall::ShowHide(change))))
 }
@@ -74,7 +74,7 @@ pub fn behind<'a>(words: Words<'a>) -> Result<Command<'a>, Refusal>
     let (window, words) = words.number()?;
     let (other, words) = words.number()?;
     words.end()?;
-    let window = window_number(window);
+    let window = named_window(window);
     let behind = other_window(other);
     let change = SendBehind { window, behind };
     Ok(Command::Call(Call::Window(WindowCall::SendBehind(change))))
@@ -90,7 +90,7 @@ pub fn move_to<'a>(words: Words<'a>) -> Result<Command<'a>, Refusal>
     let (v, words) = words.number()?;
     let (select, words) = words.flag()?;
     words.end()?;
-    let window = window_number(window);
+    let window = named_window(window);
     let place = Point { h, v };
     let change = MoveWindow {
         window,
@@ -108,7 +108,7 @@ pub fn resize<'a>(words: Words<'a>) -> Result<Command<'a>, Refusal>
     let (width, words) = words.number()?;
     let (height, words) = words.number()?;
     words.end()?;
-    let window = window_number(window);
+    let window = named_window(window);
     let size = Size { width, height };
     let change = SizeWindow { window, size };
     Ok(Command::Call(Call::Window(WindowCall::Size(change))))
