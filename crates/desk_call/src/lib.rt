@@ -9,6 +9,6 @@ mod window;
 
 pub use call::{Call, Reply};
 pub use window::{
-    Drawing, Found, MoveWindow, NewWindow, SendBehind, ShowHide, SizeWindow, WindowCall, WindowInfo,
-    WindowPart, WindowReply,
+    Drawing, Found, MoveWindow, NewWindow, SendBehind, ShowHide, SizeWindow, WindowCall,
+    WindowInfo, WindowPart, WindowReply,
 };

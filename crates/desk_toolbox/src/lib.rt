@@ -11,8 +11,8 @@ pub mod laws;
 mod toolbox;
 
 pub use desk_call::{
-    Call, Drawing, Found, MoveWindow, NewWindow, Reply, SendBehind, ShowHide, SizeWindow, WindowCall,
-    WindowInfo, WindowPart, WindowReply,
+    Call, Drawing, Found, MoveWindow, NewWindow, Reply, SendBehind, ShowHide, SizeWindow,
+    WindowCall, WindowInfo, WindowPart, WindowReply,
 };
 pub use toolbox::Toolbox;
 pub use window_mgr::NotBegun;
