@@ -13,11 +13,12 @@ pub enum WindowCall<'a> {
     New(NewWindow<'a>),
     /// Ends a window: its definition is disposed of, and goes back Closed into its slot (DisposeWindow).
     /// Where it was active, the first visible window becomes so, or none.
-    Close(u64),
-    /// Makes a window visible, and active where it is the first visible one then (ShowWindow).
+    Dispose(u64),
+    /// Makes a hidden window visible, and active where it is the first visible one then (ShowWindow). A
+    /// visible one stays as it is.
     Show(u64),
-    /// Makes a window hidden; it keeps its place in the order (HideWindow). Where it was active, the
-    /// first visible window becomes so, or none.
+    /// Makes a visible window hidden; it keeps its place in the order (HideWindow). Where it was
+    /// active, the first visible window becomes so, or none. A hidden one stays as it is.
     Hide(u64),
     /// Makes a window visible or hidden, and changes no highlighting (ShowHide).
     ShowHide(ShowHide),
@@ -26,7 +27,7 @@ pub enum WindowCall<'a> {
     /// Brings a window to the front, and changes no highlighting (BringToFront).
     BringToFront(u64),
     /// Puts a window behind another or behind all (SendBehind). Where it was active, the first visible
-    /// window becomes so.
+    /// window becomes so, if that is another.
     SendBehind(SendBehind),
     /// Moves a window, and selects it where that is asked (MoveWindow). OutOfRange where it may not be
     /// there.

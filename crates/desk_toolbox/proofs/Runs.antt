@@ -10,7 +10,7 @@ use Rattle.desk_call.specs.declared.window.WindowCall.TheVariants as asks
 use Rattle.vis_update.specs.Records.{WindowRecord}
 use Rattle.window_mgr.specs.Finding.{record_with, info_of}
 use Rattle.window_mgr.specs.Effects.{Effect, IsEffect, IsUnchanged, effect_of}
-use Rattle.window_mgr.specs.Effects.Effect.{Makes, Closes, Draws, Arranges, Sizes, Tells, Describes}
+use Rattle.window_mgr.specs.Effects.Effect.{Makes, Disposes, Draws, Arranges, Sizes, Tells, Describes}
 use Rattle.window_mgr.specs.Telling.{IsRegionTold}
 use Rattle.tb_geom.specs.Points.{PixelSet}
 use Rattle.window_mgr.specs.Step as windows
@@ -66,7 +66,7 @@ abbrev IsNumberless : Effect → Type 0
 IsNumberless (Makes w) = Unit {0}
 IsNumberless (Draws d) = Unit {0}
 IsNumberless (Arranges a) = Unit {0}
-IsNumberless (Closes s) = Unit {0}
+IsNumberless (Disposes s) = Unit {0}
 IsNumberless (Sizes z) = Unit {0}
 IsNumberless (Tells r) = number_made r ≡ []
 IsNumberless (Describes region) = Unit {0}
@@ -81,7 +81,7 @@ numberless (asks.Move m) desk = tt
 numberless (asks.Show s) desk = tt
 numberless (asks.Hide s) desk = tt
 numberless (asks.ShowHide c) desk = tt
-numberless (asks.Close s) desk = tt
+numberless (asks.Dispose s) desk = tt
 numberless (asks.Size z) desk = tt
 numberless (asks.VisibleRegion s) desk = tt
 numberless (asks.UpdateRegion s) desk = tt
@@ -110,7 +110,7 @@ effect_is_counted (Draws d) answer before after numbers none (is, drawn) h =
     subst (λ (a : WindowReply). AreCounted before.desk.next (number_made a ++ numbers)) (sym is) (subst (λ (d : FullDesk). AreCounted d.next numbers) drawn.desk h)
 effect_is_counted (Arranges a) answer before after numbers none (is, arranged) h =
     subst (λ (a : WindowReply). AreCounted before.desk.next (number_made a ++ numbers)) (sym is) (subst (λ (d : FullDesk). AreCounted d.next numbers) arranged.desk h)
-effect_is_counted (Closes s) answer before after numbers none (is, closed) h =
+effect_is_counted (Disposes s) answer before after numbers none (is, closed) h =
     subst (λ (a : WindowReply). AreCounted before.desk.next (number_made a ++ numbers)) (sym is) (subst (λ (d : FullDesk). AreCounted d.next numbers) closed.desk h)
 effect_is_counted (Sizes z) answer before after numbers none (is, sized) h =
     subst (λ (a : WindowReply). AreCounted before.desk.next (number_made a ++ numbers)) (sym is) (subst (λ (d : FullDesk). AreCounted d.next numbers) sized.arranged.desk h)

@@ -22,7 +22,7 @@ fn asked<'a>(room: &'a mut [u8; 100], line: &[u8]) -> Option<WindowCall<'a>> {
 /// The letter of a command that names a window and nothing else, and the window.
 fn one_window(line: &[u8]) -> Option<(u8, u64)> {
     match asked(&mut [0; 100], line)? {
-        WindowCall::Close(window) => Some((b'c', window)),
+        WindowCall::Dispose(window) => Some((b'c', window)),
         WindowCall::Show(window) => Some((b's', window)),
         WindowCall::Hide(window) => Some((b'h', window)),
         WindowCall::Select(window) => Some((b'l', window)),

@@ -22,7 +22,7 @@ other_window window = if int_eq window (pos 0) then None else Some (named_window
 
 -- what a verb asks of a window
 abbrev pub call_of : WindowVerb → ℕ → WindowCall
-call_of words.Close window = calls.Close window
+call_of words.Close window = calls.Dispose window
 call_of words.Show window = calls.Show window
 call_of words.Hide window = calls.Hide window
 call_of words.Select window = calls.Select window

@@ -34,7 +34,7 @@ fn call_of<'a>(verb: WindowVerb, window: u64) -> WindowCall<'a>
     ensures { result ≡ call_of verb window }
 {
     match verb {
-        WindowVerb::Close => WindowCall::Close(window),
+        WindowVerb::Close => WindowCall::Dispose(window),
         WindowVerb::Show => WindowCall::Show(window),
         WindowVerb::Hide => WindowCall::Hide(window),
         WindowVerb::Select => WindowCall::Select(window),
