@@ -33,7 +33,8 @@ use Rattle.window_mgr.specs.declared.arrange.Edit.{Edit}
 use Rattle.window_mgr.specs.declared.manager.WindowManager.{WindowManager}
 use Rattle.window_mgr.specs.FullDesk.{FullDesk, layered_state}
 use Rattle.window_mgr.specs.Arrange.{changed, with_size, desk_activated}
-use Rattle.window_mgr.specs.Edits.{IsAt, put_record, stays_put, IsPlanOfEdit, IsDeskOfEdit, IsPlaceable}
+use Rattle.window_mgr.specs.Commits.{IsPlanDrawn}
+use Rattle.window_mgr.specs.Edits.{IsAt, StandsAt, put_record, stays_put, IsPlanOfEdit, IsDeskOfEdit, IsPlaceable}
 use Rattle.window_mgr.specs.Finding.{record_with}
 use Rattle.window_mgr.specs.Records.{desk_of, state_of}
 use Rattle.window_mgr.specs.Refused.{may_have_size, first_refusal, size_refusals}
@@ -210,32 +211,38 @@ module _ {V : Type 0} {H : V → Type 0} (loan : Taken V H → Loan) where
         sized_so : put_in i v others ≡ changed z.window (with_size z.size (loan N.committed.resized.taken).definition) (desk_of loan t slots).windows
         sized_so = put_is_insert i v others ∙ sym (steps.changed_so loan t new slots N.whole i z.window w N.low w_is (N.serial w w_is) (with_size z.size (loan N.committed.resized.taken).definition))
 
-  -- ---- whether the window may have the size
+  -- ---- the window that is found
 
-  module _ (t : WindowManager V H) (slots : List SlotView) (whole : IsWhole loan t slots) (i : ℕ) (z : SizeWindow) (x : Window V H) (low : i < length t.windows.records.items) (x_is : IsAt t.windows.records.items i x) where
-    pub may_size : (b : Bool) → x.serial ≡ z.window → b ≡ is_placed (Some (loan x.taken).definition) x.place z.size → first_refusal (size_refusals z (desk_of loan t slots)) ≡ (if b then None else Some OutOfRange)
-    may_size b serial placed =
+  module _ (t : WindowManager V H) (slots : List SlotView) (whole : IsWhole loan t slots) (i : ℕ) (z : SizeWindow) (found : StandsAt t.windows.records.items z.window i) (x : Window V H) (x_is : IsAt t.windows.records.items i x) where
+    pub may_size : (b : Bool) → b ≡ is_placed (Some (loan x.taken).definition) x.place z.size → first_refusal (size_refusals z (desk_of loan t slots)) ≡ (if b then None else Some OutOfRange)
+    may_size b placed =
         (λ k. first_refusal ((is_none (here k), NoSuchWindow) ∷ (not (may_have_size z.size (here k)), OutOfRange) ∷ []))
         ∙ ap (λ c. if not c then Some OutOfRange else None) (sym placed) ∙ by_test b
       where
         here : record_with z.window (desk_of loan t slots).windows ≡ Some (record_of loan x)
-        here = steps.found loan t t slots whole i z.window x low x_is serial
+        here = steps.found loan t t slots whole i z.window x found.0 x_is (found.1 x x_is)
 
         by_test : (c : Bool) → (if not c then Some OutOfRange else None) ≡ (if c then None else Some OutOfRange)
         by_test true = refl
         by_test false = refl
 
+    -- one that may have the size
     module _ (placed : is_placed (Some (loan x.taken).definition) x.place z.size ≡ true) where
       pub is_sizable : IsSizable loan i z.size t.windows.records.items
-      is_sizable w w_is = ap (λ (y : Window V H). is_placed (Some (loan y.taken).definition) y.place z.size) (same_at t.windows.records.items i w x low w_is x_is) ∙ placed
+      is_sizable w w_is = ap (λ (y : Window V H). is_placed (Some (loan y.taken).definition) y.place z.size) (same_at t.windows.records.items i w x found.0 w_is x_is) ∙ placed
 
-      pub may_have : (e : Edit) → e ≡ stays_put i x → IsPlaceable loan (record e { size = z.size }) t.windows.records.items
-      may_have e e_is = subst (λ (y : Edit). IsPlaceable loan (record y { size = z.size }) t.windows.records.items) (sym e_is)
-          (λ w w_is. ap (λ (y : Window V H). is_placed (Some (loan y.taken).definition) x.place z.size) (same_at t.windows.records.items i w x low w_is x_is) ∙ placed)
+      pub is_placeable : (e : Edit) → e ≡ stays_put i x → IsPlaceable loan (record e { size = z.size }) t.windows.records.items
+      is_placeable e e_is = subst (λ (y : Edit). IsPlaceable loan (record y { size = z.size }) t.windows.records.items) (sym e_is)
+          (λ w w_is. ap (λ (y : Window V H). is_placed (Some (loan y.taken).definition) x.place z.size) (same_at t.windows.records.items i w x found.0 w_is x_is) ∙ placed)
 
-    -- the plan is that of the window that stands there
-    pub planned_for : (plan : Plan) (e : Edit) → e ≡ stays_put i x → IsPlanOfEdit loan (record e { size = z.size }) None t plan
-        → (w : Window V H) → IsAt t.windows.records.items i w → IsPlanOfEdit loan (record (stays_put i w) { size = z.size }) None t plan
-    planned_for plan e e_is planned w w_is =
-        subst (λ (y : Window V H). IsPlanOfEdit loan (record (stays_put i y) { size = z.size }) None t plan) (same_at t.windows.records.items i x w low x_is w_is)
-        (subst (λ (y : Edit). IsPlanOfEdit loan (record y { size = z.size }) None t plan) e_is planned)
+      pub size_call : (plan : Plan) (new : WindowManager V H) (e : Edit) → e ≡ stays_put i x → IsPlanOfEdit loan (record e { size = z.size }) None t plan → IsSizeCommitted loan i z.size plan t new → IsSizeCall i z plan t new slots
+      size_call plan new e e_is planned committed = record {
+        whole = whole;
+        low = found.0;
+        serial = found.1;
+        may = is_sizable;
+        planned = λ w w_is.
+            subst (λ (y : Window V H). IsPlanOfEdit loan (record (stays_put i y) { size = z.size }) None t plan) (same_at t.windows.records.items i x w found.0 x_is w_is)
+            (subst (λ (y : Edit). IsPlanOfEdit loan (record y { size = z.size }) None t plan) e_is planned);
+        committed = committed;
+      }
