@@ -196,16 +196,19 @@ module _ {V : Type 0} {H : V → Type 0} (loan : Taken V H → Loan) where
     pub size_step : first_refusal (size_refusals z (desk_of loan t slots)) ≡ None → IsStep (asks.Size z) (Ok Done) (state_of loan t slots) (state_of loan new slots)
     size_step allowed = (
       allowed,
-      (refl, record {
-        window = record_of loan w;
-        definition = (loan N.committed.resized.taken).definition;
-        found = steps.found loan t new slots N.whole i z.window w N.low w_is (N.serial w w_is);
-        told = record { live = N.committed.resized.live; told = N.committed.resized.told; regions = N.committed.resized.regions };
-        arranged = record {
-          desk = size_is_left.0 ∙ ap (λ ws. desk_activated ws Stays (desk_of loan t slots)) sized_so;
-          pixels = subst (λ s. IsChanged (moving s None) (layered_state (state_of loan t slots)) (layered_state (state_of loan new slots))) (N.serial w w_is) size_is_left.1;
-        };
-      }),
+      (
+        refl,
+        record {
+          window = record_of loan w;
+          definition = (loan N.committed.resized.taken).definition;
+          found = steps.found loan t new slots N.whole i z.window w N.low w_is (N.serial w w_is);
+          told = record { live = N.committed.resized.live; told = N.committed.resized.told; regions = N.committed.resized.regions };
+          arranged = record {
+            desk = size_is_left.0 ∙ ap (λ ws. desk_activated ws Stays (desk_of loan t slots)) sized_so;
+            pixels = subst (λ s. IsChanged (moving s None) (layered_state (state_of loan t slots)) (layered_state (state_of loan new slots))) (N.serial w w_is) size_is_left.1;
+          };
+        },
+      ),
     )
       where
         sized_so : put_in i v others ≡ changed z.window (with_size z.size (loan N.committed.resized.taken).definition) (desk_of loan t slots).windows
