@@ -1,12 +1,10 @@
 -- What the call that gives a window another size leaves, and its step.
-use Rattle.std.proofs.Common.{◌≡◌, ℕ, zero, suc, ◌<◌, ◌==◌, ◌||◌, ◌&&◌, not, Bool, true, false, if◌then◌else◌, List, [], ◌∷◌, length, get_or, map, Option, None, Some, Ok, pos, refl, sym, ap, ◌∙◌, subst, arith}
+use Rattle.std.proofs.Common.{◌≡◌, ℕ, zero, suc, ◌<◌, ◌==◌, ◌||◌, ◌&&◌, not, Bool, true, false, if◌then◌else◌, List, [], ◌∷◌, length, get_or, map, None, Some, Ok, pos, refl, sym, ap, ◌∙◌, subst, arith}
 use Rattle.std.specs.Prelude.{All, slice_set, slice_get, is_none}
-use Rattle.std.specs.List.{insert, remove}
+use Rattle.std.specs.List.{remove}
 use Rattle.std.proofs.lemmas.List.{length-set}
 use Rattle.std.proofs.lemmas.List.Elements.{All-head, All-tail}
 use Rattle.std.proofs.lemmas.Option.{slice_get_read}
-use Rattle.tb_geom.specs.declared.rect.Rect.{Rect}
-use Rattle.tb_geom.specs.declared.refusal.Refusal.{Refusal}
 use Rattle.tb_geom.specs.declared.refusal.Refusal.TheVariants.{NoSuchWindow, OutOfRange}
 use Rattle.tb_geom.specs.Rects.{is_in_range, moved}
 use Rattle.def_iface.specs.declared.size.Size.{Size}
@@ -61,7 +59,7 @@ set_is_put (y ∷ ys) (suc i) x low = ap (λ zs. y ∷ zs) (set_is_put ys i x (o
 module _ {V : Type 0} {H : V → Type 0} (loan : Taken V H → Loan) where
   -- ---- a window of a list, and the list after it was resized
 
-  module _ (i : ℕ) (size : Size) (w : Window V H) (old new : List (Window V H)) (low : i < length old) (w_is : IsAt old i w) (R : IsResizedAt loan i size w old new) where
+  module _ {i : ℕ} {size : Size} {w : Window V H} {old new : List (Window V H)} (low : i < length old) (w_is : IsAt old i w) (R : IsResizedAt loan i size w old new) where
     abbrev pub rest : List WindowRecord
     rest = map (record_of loan) (remove old i)
 
@@ -127,20 +125,23 @@ module _ {V : Type 0} {H : V → Type 0} (loan : Taken V H → Loan) where
     w_is : IsAt t.windows.records.items i w
     w_is = N.committed.at
 
+    abbrev R : IsResizedAt loan i z.size w t.windows.records.items new.windows.records.items
+    R = N.committed.resized
+
     abbrev v : WindowRecord
-    v = resized i z.size w t.windows.records.items new.windows.records.items N.low w_is N.committed.resized
+    v = resized N.low w_is R
 
     abbrev others : List WindowRecord
-    others = rest i z.size w t.windows.records.items new.windows.records.items N.low w_is N.committed.resized
+    others = rest N.low w_is R
 
     edit : IsEdit (desk_of loan t slots) w.serial i i (record_of loan w) v others
-    edit = record { windows = records_were i z.size w t.windows.records.items new.windows.records.items N.low w_is N.committed.resized; serial = refl; same_serial = refl }
+    edit = record { windows = records_were N.low w_is R; serial = refl; same_serial = refl }
 
     abbrev left : FullDesk
     left = edited (desk_of loan t slots) w.serial i i (record_of loan w) v others edit Stays
 
     windows_are : map (record_of loan) new.windows.records.items ≡ left.windows
-    windows_are = records_are i z.size w t.windows.records.items new.windows.records.items N.low w_is N.committed.resized
+    windows_are = records_are N.low w_is R
 
     plan_is : IsPlanOfEdit loan (record (stays_put i w) { size = z.size }) None t plan
     plan_is = N.planned w w_is
@@ -154,7 +155,7 @@ module _ {V : Type 0} {H : V → Type 0} (loan : Taken V H → Loan) where
       screen = refl;
       stands =
           map-put stand_of i v others
-          ∙ (λ k. put_in i (stands i z.size w t.windows.records.items new.windows.records.items N.low w_is N.committed.resized k) (map stand_of others))
+          ∙ (λ k. put_in i (stands N.low w_is R k) (map stand_of others))
           ∙ sym (map-put stand_of i (put_record (record (stays_put i w) { size = z.size }) (record_of loan w)) others)
           ∙ ap (map stand_of) (put_is_insert i (put_record (record (stays_put i w) { size = z.size }) (record_of loan w)) others);
     }
@@ -164,7 +165,7 @@ module _ {V : Type 0} {H : V → Type 0} (loan : Taken V H → Loan) where
       whole = N.whole;
       screen = refl;
       sound = sound_now (desk_of loan t slots) w.serial i i (record_of loan w) v others edit Stays N.whole.sound refl
-          (resized_settled i z.size w t.windows.records.items new.windows.records.items N.low w_is N.committed.resized (N.may w w_is) N.whole.sound.settled);
+          (resized_settled N.low w_is R (N.may w w_is) N.whole.sound.settled);
       frames = λ n p quiet. ap (λ o. frame_bit o p) (others_found (desk_of loan t slots) w.serial i i (record_of loan w) v others edit Stays N.whole.sound.distinct n (turned n w.serial (first_is (n == w.serial) (is_this touch.also n) quiet)));
       planned = (plan_is w w_is).1 left deskof;
       drawn = subst (λ ws. IsPlanDrawn plan None t.font ws t.screen new.screen) windows_are N.committed.drawn;
@@ -200,9 +201,9 @@ module _ {V : Type 0} {H : V → Type 0} (loan : Taken V H → Loan) where
         refl,
         record {
           window = record_of loan w;
-          definition = (loan N.committed.resized.taken).definition;
+          definition = (loan R.taken).definition;
           found = steps.found loan t new slots N.whole i z.window w N.low w_is (N.serial w w_is);
-          told = record { live = N.committed.resized.live; told = N.committed.resized.told; regions = N.committed.resized.regions };
+          told = record { live = R.live; told = R.told; regions = R.regions };
           arranged = record {
             desk = size_is_left.0 ∙ ap (λ ws. desk_activated ws Stays (desk_of loan t slots)) sized_so;
             pixels = subst (λ s. IsChanged (moving s None) (layered_state (state_of loan t slots)) (layered_state (state_of loan new slots))) (N.serial w w_is) size_is_left.1;
@@ -211,8 +212,8 @@ module _ {V : Type 0} {H : V → Type 0} (loan : Taken V H → Loan) where
       ),
     )
       where
-        sized_so : put_in i v others ≡ changed z.window (with_size z.size (loan N.committed.resized.taken).definition) (desk_of loan t slots).windows
-        sized_so = put_is_insert i v others ∙ sym (steps.changed_so loan t new slots N.whole i z.window w N.low w_is (N.serial w w_is) (with_size z.size (loan N.committed.resized.taken).definition))
+        sized_so : put_in i v others ≡ changed z.window (with_size z.size (loan R.taken).definition) (desk_of loan t slots).windows
+        sized_so = put_is_insert i v others ∙ sym (steps.changed_so loan t new slots N.whole i z.window w N.low w_is (N.serial w w_is) (with_size z.size (loan R.taken).definition))
 
   -- ---- the window that is found
 

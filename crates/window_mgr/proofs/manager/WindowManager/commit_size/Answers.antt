@@ -21,13 +21,13 @@ pub commit-requires-clause-settled : goal.commit-requires-clause-settled
 commit-requires-clause-settled g c =
     let found = there_is c.args.self.now.windows.records.items c.args.at c.requires.at in
     let resized = rw (sizing.read_at c.args.self.now.windows.records.items c.args.at found.0 c.requires.at found.1) at c.resize.ensures.resized in
-    sizing.all_settled _ c.args.at c.args.size found.0 c.args.self.now.windows.records.items c.resize.new.self.records.items c.requires.at found.1 resized (c.requires.sizable found.0 found.1) c.requires.settled
+    sizing.all_settled _ c.requires.at found.1 resized (c.requires.sizable found.0 found.1) c.requires.settled
 
 pub commit-requires-clause-parts : goal.commit-requires-clause-parts
 commit-requires-clause-parts g c =
     let found = there_is c.args.self.now.windows.records.items c.args.at c.requires.at in
     let resized = rw (sizing.read_at c.args.self.now.windows.records.items c.args.at found.0 c.requires.at found.1) at c.resize.ensures.resized in
-    let many = sizing.as_many _ c.args.at c.args.size found.0 c.args.self.now.windows.records.items c.resize.new.self.records.items c.requires.at found.1 resized in
+    let many = sizing.as_many _ c.requires.at found.1 resized in
     let long = c.args.plan.parts.ok.0 in
     let parts = c.requires.parts in
     omega arith
