@@ -23,7 +23,7 @@ mod EmptyLemmas
 pub mod FindLemmas
 pub mod ClosingLemmas
 pub mod Arrangements
-pub mod Closed
+pub mod Disposed
 pub mod Sending
 pub mod Steps
 pub mod SizeCalls
