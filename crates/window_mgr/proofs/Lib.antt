@@ -26,5 +26,6 @@ pub mod Arrangements
 pub mod Disposed
 pub mod Sending
 pub mod Steps
+pub mod SizeCalls
 pub mod Running
 pub mod KeptKinds

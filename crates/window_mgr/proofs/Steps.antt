@@ -74,7 +74,7 @@ module _ {V : Type 0} {H : V → Type 0} (loan : Taken V H → Loan) (t new : Wi
   brought_so : brought s desk.windows ≡ insert others 0 (record_of loan x)
   brought_so = ap (brought s) windows ∙ brought_is t.font s i (record_of loan x) others serial free ∙ put_is_insert 0 (record_of loan x) others
 
-  changed_so : (f : WindowRecord → WindowRecord) → changed s f desk.windows ≡ insert others i (f (record_of loan x))
+  pub changed_so : (f : WindowRecord → WindowRecord) → changed s f desk.windows ≡ insert others i (f (record_of loan x))
   changed_so f = ap (changed s f) windows ∙ changed_is t.font s i (record_of loan x) others serial free f ∙ put_is_insert i (f (record_of loan x)) others
 
   -- ---- one by one

@@ -50,9 +50,9 @@ pub enum Activation {
 
 /// The plan of a window that is put anew, and what becomes active.
 #[derive(Drop)]
-struct Rearrangement {
-    plan: Plan,
-    activation: Activation,
+pub(crate) struct Rearrangement {
+    pub(crate) plan: Plan,
+    pub(crate) activation: Activation,
 }
 
 impl Activates {
@@ -152,7 +152,7 @@ impl WindowManager {
     }
 
     /// All that changes on the screen where one window is put anew, and all growth.
-    fn plan_edit(
+    pub(crate) fn plan_edit(
         &self,
         edit: Edit,
         activates: Activates,

@@ -17,7 +17,7 @@
 //!
 //! A call is judged and takes all its memory before the first change: its plan (`vis_update`) says what each window will
 //! own and what changes on the screen, and `commit` draws it, whichever call it was made for. `arrange` puts one window
-//! anew among the others, `new_window` adds one, `draw` draws in one.
+//! anew among the others, `size` gives one another size, `new_window` adds one, `draw` draws in one.
 //!
 //! Whose a pixel is, the calls that ask (`find`) read off the same regions: the window whose visible content or frame
 //! has it owns it. There may be 64 windows.
@@ -36,8 +36,8 @@ mod new_window;
 mod size;
 mod tell;
 
-pub use manager::{NotBegun, WindowManager};
 pub use desk_call::{
-    Drawing, Found, MoveWindow, NewWindow, SendBehind, ShowHide, SizeWindow, WindowCall, WindowInfo,
-    WindowPart, WindowReply,
+    Drawing, Found, MoveWindow, NewWindow, SendBehind, ShowHide, SizeWindow, WindowCall,
+    WindowInfo, WindowPart, WindowReply,
 };
+pub use manager::{NotBegun, WindowManager};

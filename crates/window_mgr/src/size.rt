@@ -1,12 +1,17 @@
 //! The call that gives a window another size.
+ghost use Rattle.std.specs.Prelude.{◌≡◌, ◌<◌, length, map, All, vec_len};
 ghost use Rattle.desk_call.specs.declared.window.WindowCall.TheVariants as asks;
+ghost use Rattle.vis_update.specs.Records.{record_of};
 ghost use Rattle.window_mgr.specs.Records.{state_of};
+ghost use Rattle.window_mgr.specs.Sizing.{IsSizable, IsSizeCommitted};
 ghost use Rattle.window_mgr.specs.Step.{IsStep};
-ghost use Rattle.window_mgr.specs.Whole.{IsWhole};
+ghost use Rattle.window_mgr.specs.Whole.{IsWhole, IsSettled};
 
+use crate::arrange::{Activates, Edit, Rearrangement};
 use crate::{SizeWindow, WindowManager, WindowReply};
-use def_iface::{Defined, Stock, Stocked, Taken};
+use def_iface::{Defined, Size, Stock, Stocked, Taken};
 use tb_geom::Refusal;
+use vis_update::{Plan, is_placed_with};
 
 impl WindowManager {
     /// Gives a window another size, and tells its definition.
@@ -21,6 +26,31 @@ impl WindowManager {
             (state_of ⟦<Taken as Defined>⟧.loan self.old (⟦<Stock as Stocked>⟧.slots stock.now))
             (state_of ⟦<Taken as Defined>⟧.loan self.new (⟦<Stock as Stocked>⟧.slots stock.now)) }
     {
-        Err(Refusal::NoMemory)
+        let Some(at) = self.find(sized.window) else {
+            return Err(Refusal::NoSuchWindow);
+        };
+        let found = self.windows.at(at);
+        if !is_placed_with(found.place, sized.size, &found.taken) {
+            return Err(Refusal::OutOfRange);
+        }
+        let mut edit = Edit::of(at, found);
+        edit.size = sized.size;
+        let Ok(Rearrangement { plan, .. }) = self.plan_edit(edit, Activates::Nothing, None) else {
+            return Err(Refusal::NoMemory);
+        };
+        self.commit_size(at, sized.size, plan);
+        Ok(WindowReply::Done)
+    }
+
+    /// Gives the window at this place of the list another size, tells its definition, and draws what a plan says.
+    fn commit_size(&mut self, at: usize, size: Size, plan: Plan)
+        requires at { at < length self.old.windows.records.items }
+        requires settled { All IsSettled (map (record_of ⟦<Taken as Defined>⟧.loan) self.old.windows.records.items) }
+        requires sizable { IsSizable ⟦<Taken as Defined>⟧.loan at size self.old.windows.records.items }
+        requires parts { vec_len plan.parts ≡ length self.old.windows.records.items }
+        ensures { IsSizeCommitted ⟦<Taken as Defined>⟧.loan at size plan self.old self.new }
+    {
+        self.windows.resize(at, size);
+        self.commit(plan, None);
     }
 }
