@@ -12,6 +12,7 @@ pub mod Seating
 pub mod PutIn
 pub mod Rearranged
 pub mod EditSeats
+pub mod RestSeats
 pub mod EditCalls
 pub mod NewWindowLemmas
 pub mod KeptLemmas
@@ -26,5 +27,6 @@ pub mod Arrangements
 pub mod Closed
 pub mod Sending
 pub mod Steps
+pub mod CloseCalls
 pub mod Running
 pub mod KeptKinds

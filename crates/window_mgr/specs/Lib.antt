@@ -14,5 +14,6 @@ pub mod Seats
 pub mod Commits
 pub mod Planned
 pub mod Edits
+pub mod Without
 pub mod Begin
 pub mod Closing
