@@ -1,0 +1,174 @@
+-- What a call that ends a window leaves.
+use Rattle.std.proofs.Common.{◌≡◌, ℕ, ◌+◌, ◌<◌, ◌==◌, ◌||◌, Bool, true, false, List, [], ◌∷◌, length, map, Option, None, Some, pos, refl, sym, ap, ◌∙◌, subst, arith}
+use Rattle.std.specs.Prelude.{All}
+use Rattle.std.specs.List.{remove}
+use Rattle.std.proofs.lemmas.List.Elements.{All-head, All-tail}
+use Rattle.std.proofs.lemmas.List.{length-map}
+use Rattle.def_iface.specs.declared.taken.Taken.{Taken}
+use Rattle.def_iface.specs.declared.window_def.Stage.TheVariants.{Live}
+use Rattle.def_iface.specs.Meaning.{Loan}
+use Rattle.def_iface.specs.Stocked.{SlotView, is_left}
+use Rattle.def_iface.specs.Owner.{frame_bit}
+use Rattle.def_iface.specs.Change.{IsChanged, no_change}
+use Rattle.window_list.specs.declared.window.Window.{Window}
+use Rattle.vis_update.specs.declared.plan.Plan.{Plan}
+use Rattle.vis_update.specs.declared.plan.Touch.{Touch}
+use Rattle.vis_update.specs.Records.{WindowRecord, record_of}
+use Rattle.vis_update.specs.Touches.{is_this}
+use Rattle.desk_call.specs.declared.window.WindowCall.TheVariants.{Close}
+use Rattle.desk_call.specs.declared.window.WindowReply.TheVariants.{Done}
+use Rattle.std.specs.Prelude.{Ok}
+use Rattle.window_mgr.specs.declared.arrange.Activates.TheVariants.{FrontInItsPlace}
+use Rattle.window_mgr.specs.declared.arrange.Activation.{Activation}
+use Rattle.window_mgr.specs.declared.manager.WindowManager.{WindowManager}
+use Rattle.window_mgr.specs.FullDesk.{FullDesk, layered_state}
+use Rattle.window_mgr.specs.Arrange.{activation_of, desk_activated, desk_arranged, without}
+use Rattle.window_mgr.specs.Closing.{IsShut}
+use Rattle.window_mgr.specs.Commits.{IsPlanDrawn}
+use Rattle.window_mgr.specs.Edits.{IsAt, relit_all}
+use Rattle.window_mgr.specs.Effects.{IsWindowClosed}
+use Rattle.window_mgr.specs.Finding.{front_of}
+use Rattle.window_mgr.specs.Records.{desk_of, state_of}
+use Rattle.window_mgr.specs.Step.{IsStep}
+use Rattle.window_mgr.specs.Whole.{IsWhole, IsSettled}
+use Rattle.window_mgr.specs.Without.{records_without, IsDeskWithout, IsPlanWithout, IsActivationWithout, IsTakenOff}
+use Rattle.window_mgr.proofs.PutIn.{put_in, taken_out, map-put, All-out, IsFree, distinct_out, is_put}
+use Rattle.window_mgr.proofs.Rearranged.{stands_lit}
+use Rattle.window_mgr.proofs.Closed.{IsOneOf, left, distinct_left, others_found, sound_left, settled_left, free_of}
+use Rattle.window_mgr.proofs.Committing.{turned}
+use Rattle.window_mgr.proofs.EditCalls.{relit_records}
+use Rattle.window_mgr.proofs.EditSeats.{there_is}
+use Rattle.window_mgr.proofs.Steps.{found, not_missing}
+use Rattle.window_mgr.proofs.Arranged.{IsArrangedCall, is_left as arranged_is_left, is_whole as arranged_is_whole}
+
+module _ {V : Type 0} {H : V → Type 0} (loan : Taken V H → Loan) where
+  -- ---- a window of the list, and the rest
+
+  module _ (t : WindowManager V H) (slots : List SlotView) (at : ℕ) (w : Window V H) (w_is : IsAt t.windows.records.items at w) (low : at < length t.windows.records.items) where
+    windows_were : (desk_of loan t slots).windows ≡ put_in at (record_of loan w) (records_without loan at t)
+    windows_were = ap (map (record_of loan)) (taken_out t.windows.records.items at w low w_is) ∙ map-put (record_of loan) at w (remove t.windows.records.items at)
+
+    one_of : IsOneOf (desk_of loan t slots) w.serial at (record_of loan w) (records_without loan at t)
+    one_of = record { windows = windows_were; serial = refl }
+
+    -- its definition is live
+    pub is_live : All IsSettled (desk_of loan t slots).windows → (loan w.taken).definition.stage ≡ Live
+    is_live all = (All-head IsSettled (record_of loan w) (records_without loan at t) (All-out IsSettled at (record_of loan w) (records_without loan at t) (subst (All IsSettled) windows_were all))).live
+
+    -- its slot is there, and empty
+    pub slot_is_left : All (λ v. is_left v.slot slots ≡ true) (desk_of loan t slots).windows → is_left (loan w.taken).slot slots ≡ true
+    slot_is_left all =
+        let P : WindowRecord → Type 0 = λ v. is_left v.slot slots ≡ true in
+        All-head P (record_of loan w) (records_without loan at t) (All-out P at (record_of loan w) (records_without loan at t) (subst (All P) windows_were all))
+
+  -- the rest is settled, whichever of it becomes active
+  pub rest_settled : (t : WindowManager V H) (slots : List SlotView) (at : ℕ) (a : Activation) → at < length t.windows.records.items → All IsSettled (desk_of loan t slots).windows
+      → All IsSettled (map (record_of loan) (relit_all a t.windows.active (remove t.windows.records.items at)))
+  rest_settled t slots at a low all =
+      let w = there_is t.windows.records.items at low in
+      subst (All IsSettled) (sym (relit_records loan a t.windows.active (remove t.windows.records.items at)))
+      (settled_left (desk_of loan t slots) w.0.serial at (record_of loan w.0) (records_without loan at t) (one_of t slots at w.0 w.1 low) a slots all)
+
+  -- ---- all that is known where a call ended a window
+
+  pub record IsCloseCall (s at : ℕ) (activation : Activation) (plan : Plan) (taken : Taken V H) (t new : WindowManager V H) (slots now : List SlotView) : Type 0 where
+    pub whole : IsWhole loan t slots
+    pub low : at < length t.windows.records.items
+    pub serial : (w : Window V H) → IsAt t.windows.records.items at w → w.serial ≡ s
+    pub becomes : IsActivationWithout loan at s t activation
+    pub planned : IsPlanWithout loan at s t plan
+    pub off : IsTakenOff loan at activation plan taken t new
+    pub shut : IsShut (loan taken) slots now
+
+  module _ (s at : ℕ) (activation : Activation) (plan : Plan) (taken : Taken V H) (t new : WindowManager V H) (slots now : List SlotView) (N : IsCloseCall s at activation plan taken t new slots now) where
+    abbrev w : Window V H
+    w = N.off.window
+
+    abbrev rest : List WindowRecord
+    rest = records_without loan at t
+
+    serial : w.serial ≡ s
+    serial = N.serial w N.off.there
+
+    one : IsOneOf (desk_of loan t slots) s at (record_of loan w) rest
+    one = record { windows = windows_were t slots at w N.off.there N.low; serial = serial }
+
+    abbrev after : FullDesk
+    after = left (desk_of loan t slots) s at (record_of loan w) rest one activation now
+
+    abbrev touch : Touch
+    touch = record { window = s; also = N.planned.0; by = None }
+
+    shut : IsShut (loan w.taken) slots now
+    shut = subst (λ (x : Taken V H). IsShut (loan x) slots now) N.off.its N.shut
+
+    windows_are : map (record_of loan) new.windows.records.items ≡ after.windows
+    windows_are = ap (map (record_of loan)) N.off.windows ∙ relit_records loan activation t.windows.active (remove t.windows.records.items at)
+
+    drawn : IsPlanDrawn plan None t.font after.windows t.screen new.screen
+    drawn = subst (λ ws. IsPlanDrawn plan None t.font ws t.screen new.screen) windows_are N.off.drawn
+
+    desk_without : IsDeskWithout loan at t after
+    desk_without = record {
+      distinct = distinct_left (desk_of loan t slots) s at (record_of loan w) rest one activation now N.whole.sound.distinct;
+      screen = refl;
+      stands = stands_lit t.windows.active activation rest;
+    }
+
+    close_arranged : IsArrangedCall loan touch t new slots now after plan
+    close_arranged = record {
+      whole = N.whole;
+      screen = refl;
+      sound = sound_left (desk_of loan t slots) s at (record_of loan w) rest one activation now N.whole.sound shut;
+      frames = λ n p quiet. ap (λ o. frame_bit o p) (others_found (desk_of loan t slots) s at (record_of loan w) rest one activation now N.whole.sound.distinct n (turned n s (first_is (n == s) (is_this touch.also n) quiet)));
+      planned = N.planned.1 after desk_without;
+      drawn = drawn;
+      desk_is = λ i. record {
+        width = pos (drawn.width i);
+        height = pos (drawn.height i);
+        bar = N.off.bar i;
+        font = N.off.font i;
+        windows = windows_are i;
+        active = N.off.active i;
+        next = N.off.next i;
+        stock = now;
+      };
+      areas = N.off.areas;
+      desktop = N.off.desktop;
+      gray = N.off.gray;
+    }
+      where
+        first_is : (x y : Bool) → (x || y) ≡ false → x ≡ false
+        first_is true y f = f
+        first_is false y f = refl
+
+    pub close_is_whole : IsWhole loan new now
+    close_is_whole = arranged_is_whole loan touch t new slots now after plan close_arranged
+
+    closed : IsWindowClosed s (state_of loan t slots) (state_of loan new now)
+    closed = record {
+      window = record_of loan w;
+      found = found loan t new slots N.whole at s w N.low N.off.there serial;
+      left = slot_is_left t slots at w N.off.there N.low N.whole.sound.stocked.left;
+      shut = shut;
+      desk = left_is.0 ∙ after_is;
+      pixels = left_is.1;
+    }
+      where
+        left_is : (desk_of loan new now ≡ after) × IsChanged no_change (layered_state (state_of loan t slots)) (layered_state (state_of loan new now))
+        left_is = arranged_is_left loan touch t new slots now after plan close_arranged
+
+        free : IsFree t.font s rest
+        free = free_of (desk_of loan t slots) s at (record_of loan w) rest one activation now N.whole.sound.distinct
+
+        rest_is : without s (desk_of loan t slots).windows ≡ rest
+        rest_is = ap (without s) one.windows ∙ (is_put t.font s at (record_of loan w) rest serial free).others
+
+        after_is : after ≡ record (desk_arranged (without s (desk_of loan t slots).windows) FrontInItsPlace s (desk_of loan t slots)) { stock = now }
+        after_is =
+            ap (λ a. record (desk_activated rest a (desk_of loan t slots)) { stock = now }) N.becomes
+            ∙ ap (λ ws. record (desk_arranged ws FrontInItsPlace s (desk_of loan t slots)) { stock = now }) (sym rest_is)
+
+    -- the call made its step
+    pub close_step : IsStep (Close s) (Ok Done) (state_of loan t slots) (state_of loan new now)
+    close_step = (not_missing loan t new slots N.whole at s w N.low N.off.there serial, (refl, closed))
