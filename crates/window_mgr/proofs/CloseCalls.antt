@@ -1,9 +1,10 @@
 -- What a call that ends a window leaves.
-use Rattle.std.proofs.Common.{◌≡◌, ℕ, ◌+◌, ◌<◌, ◌==◌, ◌||◌, Bool, true, false, List, [], ◌∷◌, length, map, Option, None, Some, pos, refl, sym, ap, ◌∙◌, subst, arith}
-use Rattle.std.specs.Prelude.{All}
+use Rattle.std.proofs.Common.{◌≡◌, inr, ℕ, ◌+◌, ◌<◌, ◌==◌, ◌||◌, Bool, true, false, List, [], ◌∷◌, length, map, Option, None, Some, pos, refl, sym, ap, ◌∙◌, subst, arith}
+use Rattle.std.specs.Prelude.{All, Ok, Err}
 use Rattle.std.specs.List.{remove}
 use Rattle.std.proofs.lemmas.List.Elements.{All-head, All-tail}
 use Rattle.std.proofs.lemmas.List.{length-map}
+use Rattle.tb_geom.specs.declared.refusal.Refusal.TheVariants.{NoMemory}
 use Rattle.def_iface.specs.declared.taken.Taken.{Taken}
 use Rattle.def_iface.specs.declared.window_def.Stage.TheVariants.{Live}
 use Rattle.def_iface.specs.Meaning.{Loan}
@@ -17,7 +18,6 @@ use Rattle.vis_update.specs.Records.{WindowRecord, record_of}
 use Rattle.vis_update.specs.Touches.{is_this}
 use Rattle.desk_call.specs.declared.window.WindowCall.TheVariants.{Close}
 use Rattle.desk_call.specs.declared.window.WindowReply.TheVariants.{Done}
-use Rattle.std.specs.Prelude.{Ok}
 use Rattle.window_mgr.specs.declared.arrange.Activates.TheVariants.{FrontInItsPlace}
 use Rattle.window_mgr.specs.declared.arrange.Activation.{Activation}
 use Rattle.window_mgr.specs.declared.manager.WindowManager.{WindowManager}
@@ -44,30 +44,37 @@ use Rattle.window_mgr.proofs.Arranged.{IsArrangedCall, is_left as arranged_is_le
 module _ {V : Type 0} {H : V → Type 0} (loan : Taken V H → Loan) where
   -- ---- a window of the list, and the rest
 
-  module _ (t : WindowManager V H) (slots : List SlotView) (at : ℕ) (w : Window V H) (w_is : IsAt t.windows.records.items at w) (low : at < length t.windows.records.items) where
-    windows_were : (desk_of loan t slots).windows ≡ put_in at (record_of loan w) (records_without loan at t)
+  module _ (t : WindowManager V H) (at : ℕ) (w : Window V H) (w_is : IsAt t.windows.records.items at w) (low : at < length t.windows.records.items) where
+    windows_were : map (record_of loan) t.windows.records.items ≡ put_in at (record_of loan w) (records_without loan at t)
     windows_were = ap (map (record_of loan)) (taken_out t.windows.records.items at w low w_is) ∙ map-put (record_of loan) at w (remove t.windows.records.items at)
 
-    one_of : IsOneOf (desk_of loan t slots) w.serial at (record_of loan w) (records_without loan at t)
-    one_of = record { windows = windows_were; serial = refl }
+    its_own : (P : WindowRecord → Type 0) → All P (map (record_of loan) t.windows.records.items) → P (record_of loan w)
+    its_own P all = All-head P (record_of loan w) (records_without loan at t) (All-out P at (record_of loan w) (records_without loan at t) (subst (All P) windows_were all))
 
-    -- its definition is live
-    pub is_live : All IsSettled (desk_of loan t slots).windows → (loan w.taken).definition.stage ≡ Live
-    is_live all = (All-head IsSettled (record_of loan w) (records_without loan at t) (All-out IsSettled at (record_of loan w) (records_without loan at t) (subst (All IsSettled) windows_were all))).live
+  -- the definition of a window that is taken off is live
+  pub is_live : (t new : WindowManager V H) (at : ℕ) (a : Activation) (plan : Plan) (taken : Taken V H) → IsTakenOff loan at a plan taken t new → at < length t.windows.records.items
+      → All IsSettled (map (record_of loan) t.windows.records.items) → (loan taken).definition.stage ≡ Live
+  is_live t new at a plan taken off low all = ap (λ x. (loan x).definition.stage) off.its ∙ (its_own t at off.window off.there low IsSettled all).live
 
-    -- its slot is there, and empty
-    pub slot_is_left : All (λ v. is_left v.slot slots ≡ true) (desk_of loan t slots).windows → is_left (loan w.taken).slot slots ≡ true
-    slot_is_left all =
-        let P : WindowRecord → Type 0 = λ v. is_left v.slot slots ≡ true in
-        All-head P (record_of loan w) (records_without loan at t) (All-out P at (record_of loan w) (records_without loan at t) (subst (All P) windows_were all))
+  -- its slot is there, and empty
+  pub slot_is_left : (t new : WindowManager V H) (slots : List SlotView) (at : ℕ) (a : Activation) (plan : Plan) (taken : Taken V H) → IsTakenOff loan at a plan taken t new → at < length t.windows.records.items
+      → All (λ v. is_left v.slot slots ≡ true) (map (record_of loan) t.windows.records.items) → is_left (loan taken).slot slots ≡ true
+  slot_is_left t new slots at a plan taken off low all = ap (λ x. is_left (loan x).slot slots) off.its ∙ its_own t at off.window off.there low (λ v. is_left v.slot slots ≡ true) all
+
+  -- where memory is wanting, nothing changed
+  pub no_memory : (t : WindowManager V H) (slots : List SlotView) (s at : ℕ) → IsWhole loan t slots → at < length t.windows.records.items → ((w : Window V H) → IsAt t.windows.records.items at w → w.serial ≡ s)
+      → IsStep (Close s) (Err NoMemory) (state_of loan t slots) (state_of loan t slots)
+  no_memory t slots s at whole low serial =
+      let w = there_is t.windows.records.items at low in
+      (inr (not_missing loan t t slots whole at s w.0 low w.1 (serial w.0 w.1), (refl, refl)), record { desk = refl; stale = λ p on. refl; image = λ p on. refl })
 
   -- the rest is settled, whichever of it becomes active
-  pub rest_settled : (t : WindowManager V H) (slots : List SlotView) (at : ℕ) (a : Activation) → at < length t.windows.records.items → All IsSettled (desk_of loan t slots).windows
+  pub rest_settled : (t : WindowManager V H) (at : ℕ) (a : Activation) → at < length t.windows.records.items → All IsSettled (map (record_of loan) t.windows.records.items)
       → All IsSettled (map (record_of loan) (relit_all a t.windows.active (remove t.windows.records.items at)))
-  rest_settled t slots at a low all =
+  rest_settled t at a low all =
       let w = there_is t.windows.records.items at low in
       subst (All IsSettled) (sym (relit_records loan a t.windows.active (remove t.windows.records.items at)))
-      (settled_left (desk_of loan t slots) w.0.serial at (record_of loan w.0) (records_without loan at t) (one_of t slots at w.0 w.1 low) a slots all)
+      (settled_left (desk_of loan t []) w.0.serial at (record_of loan w.0) (records_without loan at t) (record { windows = windows_were t at w.0 w.1 low; serial = refl }) a [] all)
 
   -- ---- all that is known where a call ended a window
 
@@ -91,7 +98,7 @@ module _ {V : Type 0} {H : V → Type 0} (loan : Taken V H → Loan) where
     serial = N.serial w N.off.there
 
     one : IsOneOf (desk_of loan t slots) s at (record_of loan w) rest
-    one = record { windows = windows_were t slots at w N.off.there N.low; serial = serial }
+    one = record { windows = windows_were t at w N.off.there N.low; serial = serial }
 
     abbrev after : FullDesk
     after = left (desk_of loan t slots) s at (record_of loan w) rest one activation now
@@ -149,7 +156,7 @@ module _ {V : Type 0} {H : V → Type 0} (loan : Taken V H → Loan) where
     closed = record {
       window = record_of loan w;
       found = found loan t new slots N.whole at s w N.low N.off.there serial;
-      left = slot_is_left t slots at w N.off.there N.low N.whole.sound.stocked.left;
+      left = its_own t at w N.off.there N.low (λ v. is_left v.slot slots ≡ true) N.whole.sound.stocked.left;
       shut = shut;
       desk = left_is.0 ∙ after_is;
       pixels = left_is.1;
