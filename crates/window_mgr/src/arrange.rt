@@ -58,7 +58,12 @@ pub(crate) struct Rearrangement {
 impl Activates {
     /// What it comes to for a window, where the active one and the first visible one after the call
     /// are given.
-    pub(crate) fn activation(self, window: u64, active: Option<u64>, front: Option<u64>) -> Activation
+    pub(crate) fn activation(
+        self,
+        window: u64,
+        active: Option<u64>,
+        front: Option<u64>,
+    ) -> Activation
         ensures { result ≡ activation_of self window active front }
     {
         match self {
