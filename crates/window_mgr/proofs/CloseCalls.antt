@@ -1,9 +1,8 @@
 -- What a call that ends a window leaves.
-use Rattle.std.proofs.Common.{◌≡◌, inr, ℕ, ◌+◌, ◌<◌, ◌==◌, ◌||◌, Bool, true, false, List, [], ◌∷◌, length, map, Option, None, Some, pos, refl, sym, ap, ◌∙◌, subst, arith}
+use Rattle.std.proofs.Common.{◌≡◌, inr, ℕ, ◌<◌, ◌==◌, ◌||◌, Bool, true, false, List, [], length, map, None, pos, refl, sym, ap, ◌∙◌, subst}
 use Rattle.std.specs.Prelude.{All, Ok, Err}
 use Rattle.std.specs.List.{remove}
-use Rattle.std.proofs.lemmas.List.Elements.{All-head, All-tail}
-use Rattle.std.proofs.lemmas.List.{length-map}
+use Rattle.std.proofs.lemmas.List.Elements.{All-head}
 use Rattle.tb_geom.specs.declared.refusal.Refusal.TheVariants.{NoMemory}
 use Rattle.def_iface.specs.declared.taken.Taken.{Taken}
 use Rattle.def_iface.specs.declared.window_def.Stage.TheVariants.{Live}
@@ -22,17 +21,16 @@ use Rattle.window_mgr.specs.declared.arrange.Activates.TheVariants.{FrontInItsPl
 use Rattle.window_mgr.specs.declared.arrange.Activation.{Activation}
 use Rattle.window_mgr.specs.declared.manager.WindowManager.{WindowManager}
 use Rattle.window_mgr.specs.FullDesk.{FullDesk, layered_state}
-use Rattle.window_mgr.specs.Arrange.{activation_of, desk_activated, desk_arranged, without}
+use Rattle.window_mgr.specs.Arrange.{desk_activated, desk_arranged, without}
 use Rattle.window_mgr.specs.Closing.{IsShut}
 use Rattle.window_mgr.specs.Commits.{IsPlanDrawn}
 use Rattle.window_mgr.specs.Edits.{IsAt, relit_all}
 use Rattle.window_mgr.specs.Effects.{IsWindowClosed}
-use Rattle.window_mgr.specs.Finding.{front_of}
 use Rattle.window_mgr.specs.Records.{desk_of, state_of}
 use Rattle.window_mgr.specs.Step.{IsStep}
 use Rattle.window_mgr.specs.Whole.{IsWhole, IsSettled}
 use Rattle.window_mgr.specs.Without.{records_without, IsDeskWithout, IsPlanWithout, IsActivationWithout, IsTakenOff}
-use Rattle.window_mgr.proofs.PutIn.{put_in, taken_out, map-put, All-out, IsFree, distinct_out, is_put}
+use Rattle.window_mgr.proofs.PutIn.{put_in, taken_out, map-put, All-out, IsFree, is_put}
 use Rattle.window_mgr.proofs.Rearranged.{stands_lit}
 use Rattle.window_mgr.proofs.Closed.{IsOneOf, left, distinct_left, others_found, sound_left, settled_left, free_of}
 use Rattle.window_mgr.proofs.Committing.{turned}

@@ -1,5 +1,5 @@
 -- A window that was closed: what holds of the desk after it.
-use Rattle.std.proofs.Common.{◌≡◌, ℕ, ◌+◌, ◌<◌, ◌≤◌, ◌==◌, not, Bool, true, false, if◌then◌else◌, List, [], ◌∷◌, ◌++◌, length, map, Option, None, Some, refl, sym, ap, ◌∙◌, subst, arith}
+use Rattle.std.proofs.Common.{◌≡◌, ℕ, ◌+◌, ◌≤◌, ◌==◌, not, Bool, true, false, if◌then◌else◌, List, [], ◌∷◌, ◌++◌, length, map, Option, None, Some, refl, sym, ap, ◌∙◌, subst, arith}
 use Rattle.std.specs.Prelude.{All}
 use Rattle.std.proofs.lemmas.Bool.{not-true}
 use Rattle.std.proofs.lemmas.List.Elements.{All-tail}
@@ -24,7 +24,7 @@ use Rattle.window_mgr.specs.Whole.{IsSound, IsSettled, IsStocked}
 use Rattle.window_mgr.proofs.PutIn.{put_in, put_permutes, put_last, IsFree, found_put, distinct_out, below_out, All-out, is_put, IsTakenOut, out_of}
 use Rattle.window_mgr.proofs.Rearranged.{layers_lit, length_lit, numbered_lit, settled_all, stocked_lit, stocked_put}
 use Rattle.window_mgr.proofs.SlotLemmas.{map-set}
-use Rattle.window_mgr.proofs.ClosingLemmas.{Shut, shut_facts, stocked_front}
+use Rattle.window_mgr.proofs.ClosingLemmas.{shut_facts, stocked_front}
 
 -- a window of a desk, at this place of the rest
 pub record IsOneOf (before : FullDesk) (s i : ℕ) (w : WindowRecord) (rest : List WindowRecord) : Type 0 where

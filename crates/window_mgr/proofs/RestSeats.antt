@@ -25,7 +25,7 @@ use Rattle.window_mgr.specs.Kept.{IsKept}
 use Rattle.window_mgr.specs.Records.{state_of}
 use Rattle.window_mgr.specs.Seats.{first_seated}
 use Rattle.window_mgr.specs.Without.{AreSeatsWithout, IsDeskWithout, records_without}
-use Rattle.window_mgr.proofs.PutIn.{put_in, taken_out, All-out}
+use Rattle.window_mgr.proofs.PutIn.{taken_out, All-out}
 use Rattle.window_mgr.proofs.Seating.{seats_stand, seats_had, seats_placed, sides}
 use Rattle.window_mgr.proofs.EditSeats.{map-remove, there_is, length-put, lengths_of, first_stand}
 

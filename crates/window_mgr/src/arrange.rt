@@ -1,7 +1,6 @@
 //! One window put anew among the others, whichever call it is for.
 ghost use Rattle.std.specs.Prelude.{◌≡◌, ◌<◌, Some, None, All, MatchOption, IfOk, IfErr, length, map, vec_len};
 ghost use Rattle.vis_update.specs.Records.{record_of};
-ghost use Rattle.vis_update.specs.Seats.{seat_stand};
 ghost use Rattle.window_mgr.specs.Arrange.{activation_of, active_after, if_active};
 ghost use Rattle.window_mgr.specs.Edits.{relit_all, IsPutAnew, StandsAt, IsPlaceable, SameSize, AreSeatsAfter, AreSettledAfter, IsActivation, IsPlanOfEdit, IsCommitted, IsRearranged, stays_put};
 ghost use Rattle.window_mgr.specs.Finding.{record_with};

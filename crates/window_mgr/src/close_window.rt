@@ -48,7 +48,8 @@ impl WindowManager {
         requires kept { IsKept ⟦<Taken as Defined>⟧.loan self.now }
         requires at { at < length self.now.windows.records.items }
         ensures plan { IfOk result (λ r. IsPlanWithout ⟦<Taken as Defined>⟧.loan at window self.now r.plan) }
-        ensures activation { IfOk result (λ r. IsActivationWithout ⟦<Taken as Defined>⟧.loan at window self.now r.activation) }
+        ensures activation { IfOk result (λ r.
+            IsActivationWithout ⟦<Taken as Defined>⟧.loan at window self.now r.activation) }
         ensures length { IfOk result (λ r. vec_len r.plan.parts + 1 ≡ length self.now.windows.records.items) }
         ensures refused { IfErr result (λ e. e ≡ Refusal.NoMemory) }
     {
@@ -68,7 +69,8 @@ impl WindowManager {
     fn seats_without(&self, at: usize) -> Result<Vec<Seat<'_>>, Refusal>
         requires areas { length self.now.areas.items ≡ length self.now.windows.records.items }
         requires at { at < length self.now.windows.records.items }
-        ensures seats { IfOk result (λ seats. AreSeatsWithout at self.now.windows.records.items self.now.areas.items seats.items) }
+        ensures seats { IfOk result (λ seats.
+            AreSeatsWithout at self.now.windows.records.items self.now.areas.items seats.items) }
         ensures refused { IfErr result (λ e. e ≡ Refusal.NoMemory) }
     {
         let mut seats = self.seats()?;
