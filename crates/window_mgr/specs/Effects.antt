@@ -110,8 +110,8 @@ pub record IsSized (z : SizeWindow) (before after : FullState) : Type 0 where
   pub told : IsToldSize z.size window.definition definition
   pub arranged : IsArrangement (sized z definition before.desk.windows) before after
 
--- the window of this serial is there no more, and its definition went back Closed into its slot; where it was active, the
--- first visible window became so, or none
+-- the window of this serial is there no more, and its definition went back Closed into its slot, which was there and
+-- empty; where it was active, the first visible window became so, or none
 pub record IsWindowClosed (s : ℕ) (before after : FullState) : Type 0 where
   pub window : WindowRecord
   pub found : record_with s before.desk.windows ≡ Some window
