@@ -24,9 +24,9 @@ mod EmptyLemmas
 pub mod FindLemmas
 pub mod ClosingLemmas
 pub mod Arrangements
-pub mod Closed
+pub mod Disposed
 pub mod Sending
 pub mod Steps
-pub mod CloseCalls
+pub mod DisposeCalls
 pub mod Running
 pub mod KeptKinds

@@ -17,7 +17,7 @@
 //!
 //! A call is judged and takes all its memory before the first change: its plan (`vis_update`) says what each window will
 //! own and what changes on the screen, and `commit` draws it, whichever call it was made for. `arrange` puts one window
-//! anew among the others, `new_window` adds one, `close_window` takes one out, `draw` draws in one.
+//! anew among the others, `new_window` adds one, `dispose_window` takes one out, `draw` draws in one.
 //!
 //! Whose a pixel is, the calls that ask (`find`) read off the same regions: the window whose visible content or frame
 //! has it owns it. There may be 64 windows.
@@ -26,7 +26,7 @@
 mod arrange;
 mod arranging;
 mod close;
-mod close_window;
+mod dispose_window;
 mod commit;
 mod draw;
 mod find;

@@ -17,7 +17,7 @@ use Rattle.window_mgr.specs.declared.arrange.Activates.TheVariants.{FrontInItsPl
 use Rattle.window_mgr.specs.declared.arrange.Activation.{Activation}
 use Rattle.window_mgr.specs.Arrange.{activated, activation_of, desk_activated, desk_arranged, without}
 use Rattle.window_mgr.specs.Closing.{IsShut, loan_of}
-use Rattle.window_mgr.specs.Effects.{IsWindowClosed}
+use Rattle.window_mgr.specs.Effects.{IsWindowDisposed}
 use Rattle.window_mgr.specs.Finding.{front_of}
 use Rattle.window_mgr.specs.FullDesk.{FullDesk, FullState, IsRight, AreNumbered, layered_desk, layered_state}
 use Rattle.window_mgr.specs.Whole.{IsSound, IsSettled, IsStocked}
@@ -109,8 +109,8 @@ module _ (before : FullDesk) (s i : ℕ) (w : WindowRecord) (rest : List WindowR
 
 -- ---- the step
 
-pub closed_stays_right : (s : ℕ) (before after : FullState) → IsRight before → IsWindowClosed s before after → IsRight after
-closed_stays_right s before after right closed =
+pub disposed_stays_right : (s : ℕ) (before after : FullState) → IsRight before → IsWindowDisposed s before after → IsRight after
+disposed_stays_right s before after right closed =
     let sound = close_is_sound before.desk s out.place closed.window out.rest one activation after.desk.stock right.plain.desk before.stale before.image in
     record {
       plain = stays_right plain.no_change (layered_state before) (layered_state after) right.plain (subst (plain.IsSound plain.no_change (layered_state before)) (sym (ap layered_desk desk_is)) sound) closed.pixels;
@@ -135,7 +135,7 @@ closed_stays_right s before after right closed =
     desk_is : after.desk ≡ left before.desk s out.place closed.window out.rest one activation after.desk.stock
     desk_is = closed.desk ∙ ap (λ ws. record (desk_arranged ws FrontInItsPlace s before.desk) { stock = after.desk.stock }) rest_is
 
-pub closed_keeps_kinds : (s : ℕ) (before after : FullState) → IsWindowClosed s before after → map (λ slot. slot.kind) after.desk.stock ≡ map (λ slot. slot.kind) before.desk.stock
-closed_keeps_kinds s before after closed =
+pub disposed_keeps_kinds : (s : ℕ) (before after : FullState) → IsWindowDisposed s before after → map (λ slot. slot.kind) after.desk.stock ≡ map (λ slot. slot.kind) before.desk.stock
+disposed_keeps_kinds s before after closed =
     let shut = shut_facts (loan_of closed.window) before.desk.stock after.desk.stock closed.left closed.shut in
     ap (map (λ slot. slot.kind)) shut.back ∙ map-set (λ (slot : SlotView). slot.kind) before.desk.stock closed.window.slot shut.view _ shut.found refl

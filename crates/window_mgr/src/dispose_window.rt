@@ -1,7 +1,7 @@
 //! The call that ends a window.
 ghost use Rattle.std.specs.Prelude.{◌≡◌, ◌+◌, ◌<◌, All, IfOk, IfErr, length, map, vec_len};
 ghost use Rattle.std.specs.List.{remove};
-ghost use Rattle.desk_call.specs.declared.window.WindowCall.TheVariants.{Close};
+ghost use Rattle.desk_call.specs.declared.window.WindowCall.TheVariants.{Dispose};
 ghost use Rattle.vis_update.specs.Records.{record_of};
 ghost use Rattle.window_mgr.specs.Edits.{relit_all};
 ghost use Rattle.window_mgr.specs.Kept.{IsKept};
@@ -21,14 +21,14 @@ use window_list::Window;
 impl WindowManager {
     /// Ends a window: its definition is disposed of, and put back Closed into its slot. Where it was
     /// active, the first visible window becomes so, or none.
-    pub(crate) fn close_window(
+    pub(crate) fn dispose_window(
         &mut self,
         window: u64,
         stock: &mut Stock,
     ) -> Result<WindowReply, Refusal>
         requires { IsWhole ⟦<Taken as Defined>⟧.loan self.old (⟦<Stock as Stocked>⟧.slots stock.old) }
         ensures whole { IsWhole ⟦<Taken as Defined>⟧.loan self.new (⟦<Stock as Stocked>⟧.slots stock.new) }
-        ensures step { IsStep (Close window) result
+        ensures step { IsStep (Dispose window) result
             (state_of ⟦<Taken as Defined>⟧.loan self.old (⟦<Stock as Stocked>⟧.slots stock.old))
             (state_of ⟦<Taken as Defined>⟧.loan self.new (⟦<Stock as Stocked>⟧.slots stock.new)) }
     {

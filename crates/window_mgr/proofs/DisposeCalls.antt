@@ -15,7 +15,7 @@ use Rattle.vis_update.specs.declared.plan.Plan.{Plan}
 use Rattle.vis_update.specs.declared.plan.Touch.{Touch}
 use Rattle.vis_update.specs.Records.{WindowRecord, record_of}
 use Rattle.vis_update.specs.Touches.{is_this}
-use Rattle.desk_call.specs.declared.window.WindowCall.TheVariants.{Close}
+use Rattle.desk_call.specs.declared.window.WindowCall.TheVariants.{Dispose}
 use Rattle.desk_call.specs.declared.window.WindowReply.TheVariants.{Done}
 use Rattle.window_mgr.specs.declared.arrange.Activates.TheVariants.{FrontInItsPlace}
 use Rattle.window_mgr.specs.declared.arrange.Activation.{Activation}
@@ -25,14 +25,14 @@ use Rattle.window_mgr.specs.Arrange.{desk_activated, desk_arranged, without}
 use Rattle.window_mgr.specs.Closing.{IsShut}
 use Rattle.window_mgr.specs.Commits.{IsPlanDrawn}
 use Rattle.window_mgr.specs.Edits.{IsAt, relit_all}
-use Rattle.window_mgr.specs.Effects.{IsWindowClosed}
+use Rattle.window_mgr.specs.Effects.{IsWindowDisposed}
 use Rattle.window_mgr.specs.Records.{desk_of, state_of}
 use Rattle.window_mgr.specs.Step.{IsStep}
 use Rattle.window_mgr.specs.Whole.{IsWhole, IsSettled}
 use Rattle.window_mgr.specs.Without.{records_without, IsDeskWithout, IsPlanWithout, IsActivationWithout, IsTakenOff}
 use Rattle.window_mgr.proofs.PutIn.{put_in, taken_out, map-put, All-out, IsFree, is_put}
 use Rattle.window_mgr.proofs.Rearranged.{stands_lit}
-use Rattle.window_mgr.proofs.Closed.{IsOneOf, left, distinct_left, others_found, sound_left, settled_left, free_of}
+use Rattle.window_mgr.proofs.Disposed.{IsOneOf, left, distinct_left, others_found, sound_left, settled_left, free_of}
 use Rattle.window_mgr.proofs.Committing.{turned}
 use Rattle.window_mgr.proofs.EditCalls.{relit_records}
 use Rattle.window_mgr.proofs.EditSeats.{there_is}
@@ -61,7 +61,7 @@ module _ {V : Type 0} {H : V → Type 0} (loan : Taken V H → Loan) where
 
   -- where memory is wanting, nothing changed
   pub no_memory : (t : WindowManager V H) (slots : List SlotView) (s at : ℕ) → IsWhole loan t slots → at < length t.windows.records.items → ((w : Window V H) → IsAt t.windows.records.items at w → w.serial ≡ s)
-      → IsStep (Close s) (Err NoMemory) (state_of loan t slots) (state_of loan t slots)
+      → IsStep (Dispose s) (Err NoMemory) (state_of loan t slots) (state_of loan t slots)
   no_memory t slots s at whole low serial =
       let w = there_is t.windows.records.items at low in
       (inr (not_missing loan t t slots whole at s w.0 low w.1 (serial w.0 w.1), (refl, refl)), record { desk = refl; stale = λ p on. refl; image = λ p on. refl })
@@ -150,7 +150,7 @@ module _ {V : Type 0} {H : V → Type 0} (loan : Taken V H → Loan) where
     pub close_is_whole : IsWhole loan new now
     close_is_whole = arranged_is_whole loan touch t new slots now after plan close_arranged
 
-    closed : IsWindowClosed s (state_of loan t slots) (state_of loan new now)
+    closed : IsWindowDisposed s (state_of loan t slots) (state_of loan new now)
     closed = record {
       window = record_of loan w;
       found = found loan t new slots N.whole at s w N.low N.off.there serial;
@@ -175,5 +175,5 @@ module _ {V : Type 0} {H : V → Type 0} (loan : Taken V H → Loan) where
             ∙ ap (λ ws. record (desk_arranged ws FrontInItsPlace s (desk_of loan t slots)) { stock = now }) (sym rest_is)
 
     -- the call made its step
-    pub close_step : IsStep (Close s) (Ok Done) (state_of loan t slots) (state_of loan new now)
+    pub close_step : IsStep (Dispose s) (Ok Done) (state_of loan t slots) (state_of loan new now)
     close_step = (not_missing loan t new slots N.whole at s w N.low N.off.there serial, (refl, closed))

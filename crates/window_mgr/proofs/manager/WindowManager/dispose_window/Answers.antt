@@ -1,6 +1,6 @@
-use Rattle.window_mgr.proofs.CloseCalls as closing
+use Rattle.window_mgr.proofs.DisposeCalls as closing
 use Rattle.window_mgr.proofs.KeptLemmas.{kept}
-use Rattle.window_mgr.proofs.manager.WindowManager.close_window.Goals as goal
+use Rattle.window_mgr.proofs.manager.WindowManager.dispose_window.Goals as goal
 
 pub plan_without-requires-clause-kept : goal.plan_without-requires-clause-kept
 plan_without-requires-clause-kept g c = kept _ c.args.self.now _ c.requires
