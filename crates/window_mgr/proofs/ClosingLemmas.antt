@@ -53,16 +53,16 @@ module _ {X : Type 0} where
       (subst (λ x. R (get_or (xs ++ y ∷ []) i d) x) (get_or-append_seam xs y [] d) (pairs i (length xs) d low (omega arith)))
 
 -- an empty slot got a closed definition
-record Shut (loan : Loan) (old new : List SlotView) : Type 0 where
-  view : SlotView
-  definition : Definition
-  found : slice_get old loan.slot ≡ Some view
-  empty : view.held ≡ None
-  closed : definition.stage ≡ Closed
-  regions : SameRegions loan.definition definition
-  back : new ≡ slice_set old loan.slot (holding (Some definition) view)
+pub record Shut (loan : Loan) (old new : List SlotView) : Type 0 where
+  pub view : SlotView
+  pub definition : Definition
+  pub found : slice_get old loan.slot ≡ Some view
+  pub empty : view.held ≡ None
+  pub closed : definition.stage ≡ Closed
+  pub regions : SameRegions loan.definition definition
+  pub back : new ≡ slice_set old loan.slot (holding (Some definition) view)
 
-shut_facts : (loan : Loan) (old new : List SlotView) → is_left loan.slot old ≡ true → IsShut loan old new → Shut loan old new
+pub shut_facts : (loan : Loan) (old new : List SlotView) → is_left loan.slot old ≡ true → IsShut loan old new → Shut loan old new
 shut_facts loan old new left shut = by_cases (slice_get old loan.slot) refl left shut.back
   where
     held_none : (o : Option Definition) → is_none o ≡ true → o ≡ None
@@ -98,7 +98,7 @@ module _ (ws : List WindowRecord) (w : WindowRecord) (old new : List SlotView) (
   here_full = (shut.definition, refl, inr shut.closed)
 
   -- the others are stocked, where the last window's slot has its definition
-  stocked_front : IsStocked ws new
+  pub stocked_front : IsStocked ws new
   stocked_front = record {
     left = λ k d low. ap (λ o. option_map_or (λ (s : SlotView). is_none s.held) o false) (elsewhere _ (pairs_last (λ a b. a.slot ≡ b.slot → ⊥) ws w stocked.apart k d low)) ∙ (left_parts ws w old stocked).0 k d low;
     apart = pairs_front (λ a b. a.slot ≡ b.slot → ⊥) ws w stocked.apart;

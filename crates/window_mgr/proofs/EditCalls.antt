@@ -53,7 +53,7 @@ module _ {V : Type 0} {H : V → Type 0} (loan : Taken V H → Loan) where
   relit_is : (former s : Option ℕ) (w : Window V H) → record_of loan (relit former s w) ≡ relit_record s former (record_of loan w)
   relit_is former s w = lit_record s (dimmed former w) ∙ ap (highlighted s) (dimmed_record loan former w)
 
-  relit_records : (a : Activation) (former : Option ℕ) (ws : List (Window V H)) → map (record_of loan) (relit_all a former ws) ≡ activated a former (map (record_of loan) ws)
+  pub relit_records : (a : Activation) (former : Option ℕ) (ws : List (Window V H)) → map (record_of loan) (relit_all a former ws) ≡ activated a former (map (record_of loan) ws)
   relit_records Stays former ws = refl
   relit_records (Becomes s) former ws = all ws
     where

@@ -87,6 +87,16 @@ lengths_of [] (a ∷ areas) seats its = absurd its
 lengths_of (w ∷ ws) [] seats its = absurd its
 lengths_of (w ∷ ws) (a ∷ areas) [] its = absurd its
 
+-- seats that stand as windows do have the same first visible one
+pub first_stand : {V : Type 0} {H : V → Type 0} (loan : Taken V H → Loan) (ss : List (Seat V H)) (ws : List WindowRecord) → map (seat_stand loan) ss ≡ map stand_of ws → first_seated ss ≡ front_of ws
+first_stand loan [] [] e = refl
+first_stand loan [] (v ∷ vs) e = absurd (cc)
+first_stand loan (s ∷ ss) [] e = absurd (cc)
+first_stand loan (s ∷ ss) (v ∷ vs) e =
+    let here : seat_stand loan s ≡ stand_of v = cc in
+    let behind : map (seat_stand loan) ss ≡ map stand_of vs = cc in
+    λ i. if (here i).shown then Some (here i).serial else first_stand loan ss vs behind i
+
 module _ {V : Type 0} {H : V → Type 0} (loan : Taken V H → Loan) (t : WindowManager V H) (kept : IsKept loan t) (e : Edit) (seats : List (Seat V H)) (S : AreSeatsAfter e t.windows.records.items t.areas.items seats) (low : e.at < length t.windows.records.items) where
   within : e.at < length S.all
   within = let n = lengths_of t.windows.records.items t.areas.items S.all S.are in omega arith
@@ -152,16 +162,7 @@ module _ {V : Type 0} {H : V → Type 0} (loan : Taken V H → Loan) (t : Window
 
     -- and the first visible one is the same
     pub front_put : first_seated seats ≡ front_of (records_put loan e w t)
-    front_put = first_stand seats (records_put loan e w t) seats_put
-      where
-        first_stand : (ss : List (Seat V H)) (ws : List WindowRecord) → map (seat_stand loan) ss ≡ map stand_of ws → first_seated ss ≡ front_of ws
-        first_stand [] [] e = refl
-        first_stand [] (v ∷ vs) e = absurd (cc)
-        first_stand (s ∷ ss) [] e = absurd (cc)
-        first_stand (s ∷ ss) (v ∷ vs) e =
-            let here : seat_stand loan s ≡ stand_of v = cc in
-            let behind : map (seat_stand loan) ss ≡ map stand_of vs = cc in
-            λ i. if (here i).shown then Some (here i).serial else first_stand ss vs behind i
+    front_put = first_stand loan seats (records_put loan e w t) seats_put
 
 -- a window that stays where it is, with its size, may be there
 pub may_stay : {V : Type 0} {H : V → Type 0} (loan : Taken V H → Loan) (e : Edit) (ws : List (Window V H)) (x : Window V H) → e.at < length ws → IsAt ws e.at x → e.place ≡ x.place → e.size ≡ x.size → All IsSettled (map (record_of loan) ws) → IsPlaceable loan e ws

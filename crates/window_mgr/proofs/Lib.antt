@@ -12,6 +12,7 @@ pub mod Seating
 pub mod PutIn
 pub mod Rearranged
 pub mod EditSeats
+pub mod RestSeats
 pub mod EditCalls
 pub mod NewWindowLemmas
 pub mod KeptLemmas
@@ -27,5 +28,6 @@ pub mod Disposed
 pub mod Sending
 pub mod Steps
 pub mod SizeCalls
+pub mod DisposeCalls
 pub mod Running
 pub mod KeptKinds

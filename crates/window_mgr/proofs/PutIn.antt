@@ -1,5 +1,5 @@
 -- A window among others, put at another place of them, or changed.
-use Rattle.std.proofs.Common.{◌≡◌, ℕ, zero, suc, ◌<◌, ◌==◌, Bool, true, false, if◌then◌else◌, List, [], ◌∷◌, length, get_or, map, Option, None, Some, refl, sym, ap, ◌∙◌, subst, arith}
+use Rattle.std.proofs.Common.{◌≡◌, ℕ, zero, suc, ◌<◌, ◌==◌, Bool, true, false, if◌then◌else◌, List, [], ◌∷◌, ◌++◌, length, get_or, map, Option, None, Some, refl, sym, ap, ◌∙◌, subst, arith}
 use Rattle.std.specs.Prelude.{All, AllPairs, Contains}
 use Rattle.std.specs.List.{insert, remove}
 use Rattle.std.specs.List.Sorted.{IsPermutation}
@@ -35,6 +35,11 @@ module _ {X : Type 0} where
   taken_out [] i x low e = absurd (omega arith)
   taken_out (y ∷ ys) zero x low e = ap (λ z. z ∷ ys) (sym e)
   taken_out (y ∷ ys) (suc i) x low e = ap (λ zs. y ∷ zs) (taken_out ys i x (omega arith) e)
+
+  -- behind all others
+  pub put_last : (xs : List X) (x : X) → put_in (length xs) x xs ≡ xs ++ x ∷ []
+  put_last [] x = refl
+  put_last (y ∷ ys) x = ap (λ zs. y ∷ zs) (put_last ys x)
 
   -- the same elements in another order
   pub put_permutes : (i : ℕ) (x : X) (xs : List X) → IsPermutation (x ∷ xs) (put_in i x xs)

@@ -69,11 +69,11 @@ module _ (former : Option ℕ) where
   stands_lit (Becomes s) ws = map-map stand_of (relit_record s former) stand_of (same_stand s former) ws
   stands_lit Stays ws = refl
 
-  length_lit : (a : Activation) (ws : List WindowRecord) → length (activated a former ws) ≡ length ws
+  pub length_lit : (a : Activation) (ws : List WindowRecord) → length (activated a former ws) ≡ length ws
   length_lit (Becomes s) ws = length-map ws (relit_record s former)
   length_lit Stays ws = refl
 
-  numbered_lit : (next : Option ℕ) (a : Activation) (ws : List WindowRecord) → AreNumbered next ws → AreNumbered next (activated a former ws)
+  pub numbered_lit : (next : Option ℕ) (a : Activation) (ws : List WindowRecord) → AreNumbered next ws → AreNumbered next (activated a former ws)
   numbered_lit next (Becomes s) ws numbered = numbered_map (relit_record s former) (same_serial s former) next ws numbered
   numbered_lit next Stays ws numbered = numbered
 
@@ -81,11 +81,28 @@ module _ (former : Option ℕ) where
   settled_all (Becomes s) ws all = settled_map (relit_record s former) (settled_lit s former) ws all
   settled_all Stays ws all = all
 
-  stocked_lit : (a : Activation) (ws : List WindowRecord) (slots : List SlotView) → IsStocked ws slots → IsStocked (activated a former ws) slots
+  pub stocked_lit : (a : Activation) (ws : List WindowRecord) (slots : List SlotView) → IsStocked ws slots → IsStocked (activated a former ws) slots
   stocked_lit (Becomes s) ws slots h = stocked_map (relit_record s former) (same_slot s former) ws slots h
   stocked_lit Stays ws slots h = h
 
 -- ---- one window put anew
+
+-- the slots, of which one window's is another window's now
+pub stocked_put : (i j : ℕ) (w v : WindowRecord) (rest : List WindowRecord) (slots : List SlotView) → v.slot ≡ w.slot → IsStocked (put_in i w rest) slots → IsStocked (put_in j v rest) slots
+stocked_put i j w v rest slots slot h =
+    let left = All-out (λ u. is_left u.slot slots ≡ true) i w rest h.left in
+    let apart = AllPairs-out (λ x y. x.slot ≡ y.slot → ⊥) turns i w rest h.apart in
+    record {
+      left = All-put (λ u. is_left u.slot slots ≡ true) j v rest (ap (λ k. is_left k slots) slot ∙ All-head (λ u. is_left u.slot slots ≡ true) w rest left) (All-tail (λ u. is_left u.slot slots ≡ true) w rest left);
+      apart = AllPairs-put (λ x y. x.slot ≡ y.slot → ⊥) turns j v rest (All-weaker (λ y. w.slot ≡ y.slot → ⊥) (λ y. v.slot ≡ y.slot → ⊥) (λ y apart e. apart (sym slot ∙ e)) rest apart.0) apart.1;
+      others = λ k t e. elim (h.others k t e) [
+        | inl full ↦ inl full
+        | inr none ↦ inr (none.0, Contains-put (λ (u : WindowRecord). u.slot) i j w v rest k slot none.1)
+      ];
+    }
+  where
+    turns : (x y : WindowRecord) → (x.slot ≡ y.slot → ⊥) → y.slot ≡ x.slot → ⊥
+    turns x y apart e = apart (sym e)
 
 -- a window of a desk, and as it is put anew: w and v are the window before and after, i and j its places among the rest
 pub record IsEdit (before : FullDesk) (s i j : ℕ) (w v : WindowRecord) (rest : List WindowRecord) : Type 0 where
@@ -177,21 +194,5 @@ module _ (before : FullDesk) (s i j : ℕ) (w v : WindowRecord) (rest : List Win
     numbered = numbered_now sound.numbered;
     few = subst (λ n. n ≤ 64) (sym (length_lit before.active b (put_in j v rest) ∙ length_permutation (v ∷ rest) (put_in j v rest) (put_permutes j v rest) ∙ sym (length_permutation (w ∷ rest) (put_in i w rest) (put_permutes i w rest)) ∙ ap (λ (ws : List WindowRecord). length ws) (sym E.windows))) sound.few;
     settled = settled_all before.active b (put_in j v rest) (All-put IsSettled j v rest settled (All-tail IsSettled w rest (All-out IsSettled i w rest (subst (All IsSettled) E.windows sound.settled))));
-    stocked = stocked_lit before.active b (put_in j v rest) before.stock (stocked (subst (λ ws. IsStocked ws before.stock) E.windows sound.stocked));
+    stocked = stocked_lit before.active b (put_in j v rest) before.stock (stocked_put i j w v rest before.stock slot (subst (λ ws. IsStocked ws before.stock) E.windows sound.stocked));
   }
-    where
-      turns : (x y : WindowRecord) → (x.slot ≡ y.slot → ⊥) → y.slot ≡ x.slot → ⊥
-      turns x y apart e = apart (sym e)
-
-      stocked : IsStocked (put_in i w rest) before.stock → IsStocked (put_in j v rest) before.stock
-      stocked h =
-          let left = All-out (λ u. is_left u.slot before.stock ≡ true) i w rest h.left in
-          let apart = AllPairs-out (λ x y. x.slot ≡ y.slot → ⊥) turns i w rest h.apart in
-          record {
-            left = All-put (λ u. is_left u.slot before.stock ≡ true) j v rest (ap (λ k. is_left k before.stock) slot ∙ All-head (λ u. is_left u.slot before.stock ≡ true) w rest left) (All-tail (λ u. is_left u.slot before.stock ≡ true) w rest left);
-            apart = AllPairs-put (λ x y. x.slot ≡ y.slot → ⊥) turns j v rest (All-weaker (λ y. w.slot ≡ y.slot → ⊥) (λ y. v.slot ≡ y.slot → ⊥) (λ y apart e. apart (sym slot ∙ e)) rest apart.0) apart.1;
-            others = λ k t e. elim (h.others k t e) [
-              | inl full ↦ inl full
-              | inr none ↦ inr (none.0, Contains-put (λ (u : WindowRecord). u.slot) i j w v rest k slot none.1)
-            ];
-          }

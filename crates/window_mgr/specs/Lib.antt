@@ -15,5 +15,6 @@ pub mod Commits
 pub mod Planned
 pub mod Edits
 pub mod Sizing
+pub mod Without
 pub mod Begin
 pub mod Closing

@@ -1,7 +1,6 @@
 //! One window put anew among the others, whichever call it is for.
 ghost use Rattle.std.specs.Prelude.{◌≡◌, ◌<◌, Some, None, All, MatchOption, IfOk, IfErr, length, map, vec_len};
 ghost use Rattle.vis_update.specs.Records.{record_of};
-ghost use Rattle.vis_update.specs.Seats.{seat_stand};
 ghost use Rattle.window_mgr.specs.Arrange.{activation_of, active_after, if_active};
 ghost use Rattle.window_mgr.specs.Edits.{relit_all, IsPutAnew, StandsAt, IsPlaceable, SameSize, AreSeatsAfter, AreSettledAfter, IsActivation, IsPlanOfEdit, IsCommitted, IsRearranged, stays_put};
 ghost use Rattle.window_mgr.specs.Finding.{record_with};
@@ -58,7 +57,12 @@ pub(crate) struct Rearrangement {
 impl Activates {
     /// What it comes to for a window, where the active one and the first visible one after the call
     /// are given.
-    fn activation(self, window: u64, active: Option<u64>, front: Option<u64>) -> Activation
+    pub(crate) fn activation(
+        self,
+        window: u64,
+        active: Option<u64>,
+        front: Option<u64>,
+    ) -> Activation
         ensures { result ≡ activation_of self window active front }
     {
         match self {
@@ -76,7 +80,7 @@ impl Activates {
 
 impl Activation {
     /// Another window than this whose highlighting may change, where the active one is given.
-    fn also(self, window: u64, active: Option<u64>) -> Option<u64> {
+    pub(crate) fn also(self, window: u64, active: Option<u64>) -> Option<u64> {
         match self {
             Activation::Stays => None,
             Activation::Becomes(becomes) => {
@@ -198,7 +202,7 @@ impl WindowManager {
     }
 
     /// The windows as they are.
-    fn seats(&self) -> Result<Vec<Seat<'_>>, Refusal>
+    pub(crate) fn seats(&self) -> Result<Vec<Seat<'_>>, Refusal>
         requires { length self.now.areas.items ≡ length self.now.windows.records.items }
         ensures seats { IfOk result (λ seats. AreSeatsOf self.now.windows.records.items self.now.areas.items seats.items) }
         ensures length { IfOk result (λ seats. vec_len seats ≡ length self.now.windows.records.items) }
@@ -227,7 +231,7 @@ impl WindowManager {
     }
 
     /// Makes a window active, or none, where that is so.
-    fn activate(&mut self, activation: Activation)
+    pub(crate) fn activate(&mut self, activation: Activation)
         requires { 0 < length self.old.windows.records.items }
         ensures windows { self.new.windows.records.items
             ≡ relit_all activation self.old.windows.active self.old.windows.records.items }
@@ -259,7 +263,7 @@ impl WindowManager {
 }
 
 /// The number of the first visible window, by the seats of all.
-fn front_of(seats: &[Seat<'_>]) -> Option<u64>
+pub(crate) fn front_of(seats: &[Seat<'_>]) -> Option<u64>
     ensures { result ≡ first_seated seats.now }
 {
     for seat in seats {

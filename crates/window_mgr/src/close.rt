@@ -38,7 +38,7 @@ fn put_all_away(windows: WindowList, stock: &mut Stock)
 }
 
 /// Ends the use of a window's definition.
-fn put_away(taken: Taken, stock: &mut Stock)
+pub(crate) fn put_away(taken: Taken, stock: &mut Stock)
     requires live { (⟦<Taken as Defined>⟧.loan taken).definition.stage ≡ Stage.Live }
     requires left { is_left (⟦<Taken as Defined>⟧.loan taken).slot (⟦<Stock as Stocked>⟧.slots stock.old) ≡ true }
     ensures { IsShut (⟦<Taken as Defined>⟧.loan taken)

@@ -1,12 +1,22 @@
 //! The call that ends a window.
+ghost use Rattle.std.specs.Prelude.{◌≡◌, ◌+◌, ◌<◌, All, IfOk, IfErr, length, map, vec_len};
+ghost use Rattle.std.specs.List.{remove};
 ghost use Rattle.desk_call.specs.declared.window.WindowCall.TheVariants.{Dispose};
+ghost use Rattle.vis_update.specs.Records.{record_of};
+ghost use Rattle.window_mgr.specs.Edits.{relit_all};
+ghost use Rattle.window_mgr.specs.Kept.{IsKept};
 ghost use Rattle.window_mgr.specs.Records.{state_of};
 ghost use Rattle.window_mgr.specs.Step.{IsStep};
-ghost use Rattle.window_mgr.specs.Whole.{IsWhole};
+ghost use Rattle.window_mgr.specs.Whole.{IsWhole, IsSettled};
+ghost use Rattle.window_mgr.specs.Without.{AreSeatsWithout, IsPlanWithout, IsActivationWithout, IsTakenOff};
 
+use crate::arrange::{Activates, Activation, Rearrangement, front_of};
+use crate::close::put_away;
 use crate::{WindowManager, WindowReply};
 use def_iface::{Defined, Stock, Stocked, Taken};
 use tb_geom::Refusal;
+use vis_update::{Plan, Seat, Touch, plan_of};
+use window_list::Window;
 
 impl WindowManager {
     /// Ends a window: its definition is disposed of, and put back Closed into its slot. Where it was
@@ -22,9 +32,63 @@ impl WindowManager {
             (state_of ⟦<Taken as Defined>⟧.loan self.old (⟦<Stock as Stocked>⟧.slots stock.old))
             (state_of ⟦<Taken as Defined>⟧.loan self.new (⟦<Stock as Stocked>⟧.slots stock.new)) }
     {
-        let Some(_at) = self.find(window) else {
+        let Some(at) = self.find(window) else {
             return Err(Refusal::NoSuchWindow);
         };
-        Err(Refusal::NoMemory)
+        let Ok(Rearrangement { plan, activation }) = self.plan_without(window, at) else {
+            return Err(Refusal::NoMemory);
+        };
+        let taken = self.take_off(at, activation, plan);
+        put_away(taken, stock);
+        Ok(WindowReply::Done)
+    }
+
+    /// All that changes on the screen where this window, at this place, is there no more, and all growth.
+    fn plan_without(&self, window: u64, at: usize) -> Result<Rearrangement, Refusal>
+        requires kept { IsKept ⟦<Taken as Defined>⟧.loan self.now }
+        requires at { at < length self.now.windows.records.items }
+        ensures plan { IfOk result (λ r. IsPlanWithout ⟦<Taken as Defined>⟧.loan at window self.now r.plan) }
+        ensures activation { IfOk result (λ r.
+            IsActivationWithout ⟦<Taken as Defined>⟧.loan at window self.now r.activation) }
+        ensures length { IfOk result (λ r. vec_len r.plan.parts + 1 ≡ length self.now.windows.records.items) }
+        ensures refused { IfErr result (λ e. e ≡ Refusal.NoMemory) }
+    {
+        let seats = self.seats_without(at)?;
+        let active = self.windows.active();
+        let activation = Activates::FrontInItsPlace.activation(window, active, front_of(&seats));
+        let touch = Touch {
+            window,
+            also: activation.also(window, active),
+            by: None,
+        };
+        let plan = plan_of(self.alloc, &self.gray, &self.desktop, &seats, touch)?;
+        Ok(Rearrangement { plan, activation })
+    }
+
+    /// The windows as they are, but the one at this place.
+    fn seats_without(&self, at: usize) -> Result<Vec<Seat<'_>>, Refusal>
+        requires areas { length self.now.areas.items ≡ length self.now.windows.records.items }
+        requires at { at < length self.now.windows.records.items }
+        ensures seats { IfOk result (λ seats.
+            AreSeatsWithout at self.now.windows.records.items self.now.areas.items seats.items) }
+        ensures refused { IfErr result (λ e. e ≡ Refusal.NoMemory) }
+    {
+        let mut seats = self.seats()?;
+        seats.remove(at);
+        Ok(seats)
+    }
+
+    /// Makes active what becomes so, takes the window at this place out, and draws what a plan says.
+    fn take_off(&mut self, at: usize, activation: Activation, plan: Plan) -> Taken
+        requires at { at < length self.old.windows.records.items }
+        requires settled { All IsSettled (map (record_of ⟦<Taken as Defined>⟧.loan)
+            (relit_all activation self.old.windows.active (remove self.old.windows.records.items at))) }
+        requires parts { vec_len plan.parts + 1 ≡ length self.old.windows.records.items }
+        ensures { IsTakenOff ⟦<Taken as Defined>⟧.loan at activation plan result self.old self.new }
+    {
+        self.activate(activation);
+        let Window { taken, .. } = self.windows.remove(at);
+        self.commit(plan, None);
+        taken
     }
 }

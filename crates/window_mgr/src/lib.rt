@@ -13,11 +13,12 @@
 //! `IsWhole` (in `Whole`) says that what is kept agrees with the desk. Every call keeps it.
 //!
 //! Definitions live outside, in a `Stock` that each call is handed. A window's record holds its definition together
-//! with the number of the slot that it came from, until the end puts it back Closed.
+//! with the number of the slot that it came from, until its end or the desk's puts it back Closed.
 //!
 //! A call is judged and takes all its memory before the first change: its plan (`vis_update`) says what each window will
 //! own and what changes on the screen, and `commit` draws it, whichever call it was made for. `arrange` puts one window
-//! anew among the others, `size` gives one another size, `new_window` adds one, `draw` draws in one.
+//! anew among the others, `size` gives one another size, `new_window` adds one, `dispose_window` takes one out, `draw`
+//! draws in one.
 //!
 //! Whose a pixel is, the calls that ask (`find`) read off the same regions: the window whose visible content or frame
 //! has it owns it. There may be 64 windows.
