@@ -22,6 +22,7 @@ pub mod DrawSteps
 mod EmptyLemmas
 pub mod FindLemmas
 pub mod ClosingLemmas
+pub mod TellLemmas
 pub mod Arrangements
 pub mod Closed
 pub mod Sending
