@@ -1,24 +1,23 @@
 -- A window's own regions, moved into its own coordinates.
-use Rattle.std.proofs.Common.{◌≡◌, ◌⊎◌, inl, inr, ℕ, ◌<◌, ◌==◌, ◌&&◌, Bool, true, false, if◌then◌else◌, List, [], ◌∷◌, length, get_or, map, Option, None, Some, Result, Ok, Err, ℤ, pos, negsuc, ◌+ℤ◌, ◌-ℤ◌, ◌≤ℤ◌, ◌<ℤ◌, neg_ℤ, refl, sym, ap, ◌∙◌, subst, arith, rules}
-use Rattle.std.specs.Prelude.{MatchResult, IfErr, OnOk, is_none, slice_get}
-use Rattle.std.proofs.Math.IntN.{neg_ℤ-neg_ℤ, +ℤ-neg_ℤ_cancel}
-use Rattle.std.proofs.lemmas.Bool.{and_parts, true≢false}
+use Rattle.std.proofs.Common.{◌≡◌, ◌⊎◌, inl, inr, ℕ, ◌<◌, ◌==◌, ◌&&◌, Bool, true, false, if◌then◌else◌, List, [], ◌∷◌, length, get_or, map, Option, None, Some, Result, Ok, Err, ℤ, pos, negsuc, ◌+ℤ◌, ◌-ℤ◌, ◌≤ℤ◌, ◌<ℤ◌, neg_ℤ, refl, sym, ap, ◌∙◌, subst, arith}
+use Rattle.std.specs.Prelude.{MatchResult, is_none, slice_get}
+use Rattle.std.proofs.Math.IntN.{neg_ℤ-neg_ℤ, +ℤ-neg_ℤ_cancel, +ℤ_idl}
+use Rattle.std.proofs.lemmas.Bool.{and_parts}
 use Rattle.std.proofs.lemmas.Bool.Decides.{nat_tests}
 use Rattle.std.proofs.lemmas.Int.{ints}
 use Rattle.std.proofs.lemmas.List.Elements.{All-nil}
 use Rattle.std.proofs.lemmas.Option.{slice_get-map, slice_get-get_or}
 use Rattle.std.specs.Option.{option_map}
-use Rattle.std.specs.Result.{IsOk}
 use Rattle.tb_geom.specs.declared.point.Point.{Point}
 use Rattle.tb_geom.specs.declared.rect.Rect.{Rect}
 use Rattle.tb_geom.specs.declared.refusal.Refusal.{Refusal}
-use Rattle.tb_geom.specs.declared.refusal.Refusal.TheVariants.{NoMemory, NoSuchWindow, OutOfRange, TooLong}
+use Rattle.tb_geom.specs.declared.refusal.Refusal.TheVariants.{NoMemory, NoSuchWindow, TooLong}
 use Rattle.tb_geom.specs.Points.{PixelSet, plus, minus}
 use Rattle.tb_geom.specs.Rects.{between, in_plane, is_coordinate, is_in_range, rect_holds}
 use Rattle.tb_geom.specs.Pixels.{Pixels, holds, pixels_where}
 use Rattle.tb_geom.proofs.PixelsLemmas.{same_holds, test_holds}
 use Rattle.tb_geom.proofs.RectLemmas.{sides_of}
-use Rattle.scan_region.specs.Moves.{StaysInRange, LeavesRange, is_pixel_in_range}
+use Rattle.scan_region.specs.Moves.{StaysInRange, is_pixel_in_range}
 use Rattle.region_bytes.specs.Points.{points_of, inverted}
 use Rattle.region_bytes.specs.Words.{bytes_of, words_of, box_of}
 use Rattle.region_bytes.specs.Bytes.{IsRegionBytes, IsUnwritten}
@@ -75,22 +74,17 @@ minus_back p o = λ i. record { h = back_one p.h o.h i; v = back_one p.v o.v i }
 measured_as : (set other : PixelSet) → ((p : Point) → set p ≡ other p) → (long : Bool) → IsMeasured set long → IsMeasured other long
 measured_as set other same long (region, is, measured) = (region, (λ p. is p ∙ same p), measured)
 
--- a move that stays in range is made
-pub is_made : {X : Type 0} (r : Pixels) (d : Point) (result : Result X Refusal) → StaysInRange r d → IfErr result (λ e. (e ≡ OutOfRange) × LeavesRange r d) → IsOk result
-is_made r d (Ok x) stays refused = search rules
-is_made r d (Err e) stays (is, (p, held, out)) = absurd (true≢false (sym (stays p held) ∙ out))
+-- the way back is where 0 0 is seen from the origin
+module _ (r : Pixels) (o b : Point) (b_is : b ≡ minus (record { h = pos 0; v = pos 0 }) o) where
+  is_way_back : b ≡ back o
+  is_way_back = b_is ∙ (λ i. record { h = +ℤ_idl (neg_ℤ o.h) i; v = +ℤ_idl (neg_ℤ o.v) i })
 
-pub when_made : {X : Type 0} {P : Type 0} (result : Result X Refusal) → IsOk result → OnOk result P → P
-when_made (Ok x) made h = h
-when_made (Err e) made h = absurd (search rules)
+  pub stays_there : ((p : Point) → holds r (plus p o) ≡ true → is_pixel_in_range p ≡ true) → StaysInRange r b
+  stays_there inside = subst (StaysInRange r) (sym is_way_back) (λ p e. inside (plus p (back o)) (ap (holds r) (again_there p o) ∙ e))
 
-module _ (r : Pixels) (o : Point) where
-  pub stays_there : ((p : Point) → holds r (plus p o) ≡ true → is_pixel_in_range p ≡ true) → StaysInRange r (back o)
-  stays_there inside p e = inside (plus p (back o)) (ap (holds r) (again_there p o) ∙ e)
-
-  module _ (m : Pixels) (moved : (p : Point) → holds m p ≡ holds r (minus p (back o))) where
+  module _ (m : Pixels) (moved : (p : Point) → holds m p ≡ holds r (minus p b)) where
     there : IsRegionOf (λ p. holds r (plus p o)) m
-    there p = moved p ∙ ap (holds r) (minus_back p o)
+    there p = moved p ∙ ap (λ w. holds r (minus p w)) is_way_back ∙ ap (holds r) (minus_back p o)
 
     pub stays_back : ((p : Point) → holds r p ≡ true → is_pixel_in_range p ≡ true) → StaysInRange m o
     stays_back inside p e = inside (plus p o) (sym (there p) ∙ e)

@@ -1,10 +1,10 @@
 //! The calls that tell a window's regions.
 ghost use Rattle.std.specs.Prelude.{◌≡◌, [], true, None, MatchResult};
 ghost use Rattle.tb_geom.specs.declared.point.Point.{Point};
-ghost use Rattle.tb_geom.specs.Points.{plus};
+ghost use Rattle.tb_geom.specs.Points.{plus, minus};
 ghost use Rattle.tb_geom.specs.Rects.{in_plane};
 ghost use Rattle.tb_geom.specs.Pixels.{holds};
-ghost use Rattle.scan_region.specs.Moves.{is_pixel_in_range};
+ghost use Rattle.scan_region.specs.Moves.{StaysInRange, is_pixel_in_range};
 ghost use Rattle.desk_call.specs.declared.window.WindowCall.TheVariants.{VisibleRegion, UpdateRegion};
 ghost use Rattle.window_mgr.specs.Kept.{IsKept};
 ghost use Rattle.window_mgr.specs.Records.{state_of};
@@ -13,6 +13,7 @@ ghost use Rattle.window_mgr.specs.Step.{IsStep, IsCallRefused};
 ghost use Rattle.window_mgr.specs.Telling.{AreRegionBytes, IsNotTold, visible_of, update_of};
 ghost use Rattle.window_mgr.specs.Whole.{IsWhole};
 
+use crate::find::local;
 use crate::{WindowManager, WindowReply};
 use def_iface::{Defined, Stock, Stocked, Taken};
 use scan_region::Region;
@@ -97,8 +98,16 @@ fn bytes_from(region: &mut Region, alloc: Global, origin: Point) -> Result<Vec<u
     ensures bytes { MatchResult result (λ bytes. AreRegionBytes (λ p. holds region.old (plus p origin)) bytes.items)
         (IsNotTold (λ p. holds region.old (plus p origin))) }
 {
-    region.offset(-origin.h, -origin.v).unwrap();
+    move_by(region, local(Point { h: 0, v: 0 }, origin));
     let bytes = region.to_bytes(alloc);
-    region.offset(origin.h, origin.v).unwrap();
+    move_by(region, origin);
     bytes
+}
+
+/// Moves a region, which stays in range.
+fn move_by(region: &mut Region, by: Point)
+    requires { StaysInRange region.old by }
+    ensures { (p : Point) → holds region.new p ≡ holds region.old (minus p by) }
+{
+    region.offset(by.h, by.v).unwrap();
 }
