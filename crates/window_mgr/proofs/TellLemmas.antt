@@ -1,10 +1,11 @@
 -- A window's own regions, moved into its own coordinates.
-use Rattle.std.proofs.Common.{◌≡◌, ◌⊎◌, inl, inr, ℕ, ◌<◌, ◌==◌, ◌&&◌, Bool, true, false, if◌then◌else◌, List, [], ◌∷◌, length, get_or, map, Option, None, Some, Result, Ok, Err, ℤ, pos, negsuc, ◌+ℤ◌, ◌-ℤ◌, ◌≤ℤ◌, ◌<ℤ◌, neg_ℤ, refl, sym, ap, ◌∙◌, subst, arith}
+use Rattle.std.proofs.Common.{◌≡◌, ◌⊎◌, inl, inr, ℕ, ◌<◌, ◌==◌, ◌&&◌, Bool, true, false, if◌then◌else◌, List, [], ◌∷◌, length, get_or, set, map, Option, None, Some, Result, Ok, Err, ℤ, pos, negsuc, ◌+ℤ◌, ◌-ℤ◌, ◌≤ℤ◌, ◌<ℤ◌, neg_ℤ, refl, sym, ap, ◌∙◌, subst, arith}
 use Rattle.std.specs.Prelude.{MatchResult, is_none, slice_get}
 use Rattle.std.proofs.Math.IntN.{neg_ℤ-neg_ℤ, +ℤ-neg_ℤ_cancel, +ℤ_idl}
 use Rattle.std.proofs.lemmas.Bool.{and_parts}
 use Rattle.std.proofs.lemmas.Bool.Decides.{nat_tests}
 use Rattle.std.proofs.lemmas.Int.{ints}
+use Rattle.std.proofs.lemmas.List.{set-get_or}
 use Rattle.std.proofs.lemmas.List.Elements.{All-nil}
 use Rattle.std.proofs.lemmas.Option.{slice_get-map, slice_get-get_or}
 use Rattle.std.specs.Option.{option_map}
@@ -176,6 +177,10 @@ not_bar s false o e = e
 
 -- ---- the regions of the window at a place of the list
 
+-- an area that is put back as it was
+pub put_back : (areas : List Area) (at : ℕ) (a b : Area) → a ≡ get_or areas at a → b ≡ a → set areas at b ≡ areas
+put_back areas at a b read same = ap (set areas at) (same ∙ read) ∙ set-get_or areas at a
+
 module _ {V : Type 0} {H : V → Type 0} (loan : Taken V H → Loan) (t : WindowManager V H) (kept : IsKept loan t) (s : ℕ) where
   abbrev desk : FullDesk
   desk = desk_of loan t []
@@ -196,7 +201,7 @@ module _ {V : Type 0} {H : V → Type 0} (loan : Taken V H → Loan) (t : Window
     found : record_with s desk.windows ≡ Some (record_of loan x)
     found = record_there loan t kept at s x (slice_get-get_or t.windows.records.items at x low ∙ ap Some (sym read)) serial
 
-    settled : IsSettled (record_of loan x)
+    pub settled : IsSettled (record_of loan x)
     settled = window_settled loan t kept at x (slice_get-get_or t.windows.records.items at x low ∙ ap Some (sym read))
 
     -- what the content owns is in range on the screen

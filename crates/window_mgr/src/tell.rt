@@ -7,6 +7,7 @@ ghost use Rattle.tb_geom.specs.Pixels.{holds};
 ghost use Rattle.scan_region.specs.Moves.{StaysInRange, is_pixel_in_range};
 ghost use Rattle.desk_call.specs.declared.window.WindowCall.TheVariants.{VisibleRegion, UpdateRegion};
 ghost use Rattle.window_mgr.specs.Kept.{IsKept};
+ghost use Rattle.window_mgr.specs.Planned.{SameDesk};
 ghost use Rattle.window_mgr.specs.Records.{state_of};
 ghost use Rattle.window_mgr.specs.Refused.{IsRefusal};
 ghost use Rattle.window_mgr.specs.Step.{IsStep, IsCallRefused};
@@ -60,7 +61,7 @@ impl WindowManager {
     /// The bytes of what of the screen a window's content owns, in the window's own coordinates.
     fn visible_bytes(&mut self, window: u64) -> Result<Vec<u8>, Refusal>
         requires { IsKept ⟦<Taken as Defined>⟧.loan self.old }
-        ensures same { self.new ≡ self.old }
+        ensures same { SameDesk self.old self.new }
         ensures told { let state = state_of ⟦<Taken as Defined>⟧.loan self.old [] in MatchResult result
             (λ bytes. IsRefusal (VisibleRegion window) state None × AreRegionBytes (visible_of window state) bytes.items)
             (λ e. IsCallRefused (VisibleRegion window) e state) }
@@ -75,7 +76,7 @@ impl WindowManager {
     /// The bytes of what of that is to be redrawn.
     fn update_bytes(&mut self, window: u64) -> Result<Vec<u8>, Refusal>
         requires { IsKept ⟦<Taken as Defined>⟧.loan self.old }
-        ensures same { self.new ≡ self.old }
+        ensures same { SameDesk self.old self.new }
         ensures told { let state = state_of ⟦<Taken as Defined>⟧.loan self.old [] in MatchResult result
             (λ bytes. IsRefusal (UpdateRegion window) state None × AreRegionBytes (update_of window state) bytes.items)
             (λ e. IsCallRefused (UpdateRegion window) e state) }
