@@ -36,8 +36,8 @@ mod new_window;
 mod size;
 mod tell;
 
-pub use manager::{NotBegun, WindowManager};
 pub use desk_call::{
-    Drawing, Found, MoveWindow, NewWindow, SendBehind, ShowHide, SizeWindow, WindowCall, WindowInfo,
-    WindowPart, WindowReply,
+    Drawing, Found, MoveWindow, NewWindow, SendBehind, ShowHide, SizeWindow, WindowCall,
+    WindowInfo, WindowPart, WindowReply,
 };
+pub use manager::{NotBegun, WindowManager};
