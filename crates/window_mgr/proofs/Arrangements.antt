@@ -14,7 +14,7 @@ use Rattle.def_iface.proofs.Owning.{same_number}
 use Rattle.vis_update.specs.Records.{WindowRecord, layered_window}
 use Rattle.vis_update.specs.Touches.{moved_from, is_this}
 use Rattle.desk_call.specs.declared.window.WindowCall.{WindowCall}
-use Rattle.desk_call.specs.declared.window.WindowCall.TheVariants.{New, Close, Show, Hide, ShowHide, Select, BringToFront, SendBehind, Move, Size, Draw, Find, Front, Info, VisibleRegion, UpdateRegion}
+use Rattle.desk_call.specs.declared.window.WindowCall.TheVariants.{New, Dispose, Show, Hide, ShowHide, Select, BringToFront, SendBehind, Move, Size, Draw, Find, Front, Info, VisibleRegion, UpdateRegion}
 use Rattle.desk_call.specs.declared.window.MoveWindow.{MoveWindow}
 use Rattle.desk_call.specs.declared.window.SendBehind as sending
 use Rattle.desk_call.specs.declared.window.SizeWindow.{SizeWindow}
@@ -23,7 +23,7 @@ use Rattle.window_mgr.specs.FullDesk.{FullDesk, FullState, layered_desk}
 use Rattle.window_mgr.specs.Finding.{record_with}
 use Rattle.window_mgr.specs.Arrange.{Arrangement, put_behind, behind_this, in_front, without, brought, changed, at_place, with_shown, with_size, way_to, moved, sized}
 use Rattle.window_mgr.specs.Effects.{Effect, effect_of}
-use Rattle.window_mgr.specs.Effects.Effect.{Makes, Closes, Draws, Arranges, Sizes, Tells, Describes}
+use Rattle.window_mgr.specs.Effects.Effect.{Makes, Disposes, Draws, Arranges, Sizes, Tells, Describes}
 use Rattle.window_mgr.specs.Refused.{IsRefusal}
 use Rattle.window_mgr.proofs.PutIn.{put_in, IsFree, IsPut, is_put, IsTakenOut, out_of, distinct_out}
 use Rattle.window_mgr.proofs.Rearranged.{IsEdit}
@@ -80,7 +80,7 @@ pub record IsSoundArrangement (a : Arrangement) (desk : FullDesk) : Type 0 where
 abbrev pub IsSoundEffect : Effect → FullDesk → Type 0
 IsSoundEffect (Arranges a) desk = IsSoundArrangement a desk
 IsSoundEffect (Makes w) desk = Unit {0}
-IsSoundEffect (Closes s) desk = Unit {0}
+IsSoundEffect (Disposes s) desk = Unit {0}
 IsSoundEffect (Draws d) desk = Unit {0}
 IsSoundEffect (Sizes z) desk = Unit {0}
 IsSoundEffect (Tells r) desk = Unit {0}
@@ -183,7 +183,7 @@ module _ (desk : FullDesk) (distinct : layers.IsDesk (layered_desk desk)) (s : �
 -- every call that nothing refuses has a sound effect
 pub effect_is_sound : (call : WindowCall) (state : FullState) → layers.IsDesk (layered_desk state.desk) → IsRefusal call state None → IsSoundEffect (effect_of call state.desk) state.desk
 effect_is_sound (New w) state distinct e = tt
-effect_is_sound (Close s) state distinct e = tt
+effect_is_sound (Dispose s) state distinct e = tt
 effect_is_sound (Draw d) state distinct e = tt
 effect_is_sound (Size z) state distinct e = tt
 effect_is_sound (Find p) state distinct e = tt

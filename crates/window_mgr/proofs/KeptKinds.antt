@@ -6,9 +6,9 @@ use Rattle.desk_call.specs.declared.window.WindowReply.{WindowReply}
 use Rattle.window_mgr.specs.FullDesk.{FullDesk, FullState}
 use Rattle.window_mgr.specs.Step.{IsStep}
 use Rattle.window_mgr.specs.Effects.{Effect, IsEffect, effect_of}
-use Rattle.window_mgr.specs.Effects.Effect.{Makes, Closes, Draws, Arranges, Sizes, Tells, Describes}
+use Rattle.window_mgr.specs.Effects.Effect.{Makes, Disposes, Draws, Arranges, Sizes, Tells, Describes}
 use Rattle.window_mgr.proofs.SlotLemmas.{kinds_when_taken}
-use Rattle.window_mgr.proofs.Closed.{closed_keeps_kinds}
+use Rattle.window_mgr.proofs.Disposed.{disposed_keeps_kinds}
 
 -- the kinds of the stock that a desk uses
 abbrev pub kinds_of : FullState → List (List ℕ)
@@ -18,7 +18,7 @@ effect_keeps_kinds : (effect : Effect) (answer : WindowReply) (before after : Fu
 effect_keeps_kinds (Makes w) answer before after (n, is, new) = kinds_when_taken w.kind new.loan before.desk.stock after.desk.stock new.taken
 effect_keeps_kinds (Draws d) answer before after (is, drawn) = ap (λ (d : FullDesk). map (λ slot. slot.kind) d.stock) drawn.desk
 effect_keeps_kinds (Arranges a) answer before after (is, arranged) = ap (λ (d : FullDesk). map (λ slot. slot.kind) d.stock) arranged.desk
-effect_keeps_kinds (Closes s) answer before after (is, closed) = closed_keeps_kinds s before after closed
+effect_keeps_kinds (Disposes s) answer before after (is, closed) = disposed_keeps_kinds s before after closed
 effect_keeps_kinds (Sizes z) answer before after (is, change) = ap (λ (d : FullDesk). map (λ slot. slot.kind) d.stock) change.arranged.desk
 effect_keeps_kinds (Tells r) answer before after (is, same) = ap (λ (d : FullDesk). map (λ slot. slot.kind) d.stock) same.desk
 effect_keeps_kinds (Describes region) answer before after (is, same) = ap (λ (d : FullDesk). map (λ slot. slot.kind) d.stock) same.desk

@@ -24,7 +24,7 @@ pub mod FindLemmas
 pub mod ClosingLemmas
 pub mod TellLemmas
 pub mod Arrangements
-pub mod Closed
+pub mod Disposed
 pub mod Sending
 pub mod Steps
 pub mod Running

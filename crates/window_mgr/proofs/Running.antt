@@ -21,7 +21,7 @@ use Rattle.vis_update.specs.Records.{WindowRecord, layered_window}
 use Rattle.window_mgr.specs.FullDesk.{FullDesk, FullState, IsRight, AreBelow, AreNumbered, layered_desk, layered_state}
 use Rattle.window_mgr.specs.Step.{IsStep}
 use Rattle.window_mgr.specs.Effects.{IsNewWindow, IsDrawn, IsUnchanged, IsArrangement, Effect, IsEffect, effect_of, new_record, desk_with, with_operation, draw_change}
-use Rattle.window_mgr.specs.Effects.Effect.{Makes, Closes, Draws, Arranges, Sizes, Tells, Describes}
+use Rattle.window_mgr.specs.Effects.Effect.{Makes, Disposes, Draws, Arranges, Sizes, Tells, Describes}
 use Rattle.window_mgr.specs.Arrange.{unhighlighted, Arrangement, activation_of, desk_activated, sized}
 use Rattle.window_mgr.specs.Finding.{front_of}
 use Rattle.vis_update.specs.Touches.{moving}
@@ -29,7 +29,7 @@ use Rattle.window_mgr.proofs.EachChanged.{below_map, numbered_map}
 use Rattle.window_mgr.proofs.DrawnLayers.{draw_is_sound}
 use Rattle.window_mgr.proofs.Rearranged.{edited, edit_is_sound, numbered_now}
 use Rattle.window_mgr.proofs.Arrangements.{IsSoundArrangement, IsSoundEffect, effect_is_sound, sized_sound}
-use Rattle.window_mgr.proofs.Closed.{closed_stays_right}
+use Rattle.window_mgr.proofs.Disposed.{disposed_stays_right}
 
 -- ---- a window in front of others
 
@@ -171,7 +171,7 @@ effect_stays_right : (effect : Effect) (answer : WindowReply) (before after : Fu
 effect_stays_right (Makes w) answer before after right sound done = new_stays_right w done.0 before after right done.2
 effect_stays_right (Draws d) answer before after right sound done = draw_stays_right d before after right done.1
 effect_stays_right (Arranges a) answer before after right sound done = arranged_stays_right a before after right sound done.1
-effect_stays_right (Closes s) answer before after right sound done = closed_stays_right s before after right done.1
+effect_stays_right (Disposes s) answer before after right sound done = disposed_stays_right s before after right done.1
 effect_stays_right (Sizes z) answer before after right sound done = let change = done.1 in arranged_stays_right (sized z change.definition before.desk.windows) before after right (sized_sound before.desk right.plain.desk z.window change.window change.found z change.definition refl) change.arranged
 effect_stays_right (Tells r) answer before after right sound done = unchanged_stays_right before after right done.1
 effect_stays_right (Describes region) answer before after right sound done = unchanged_stays_right before after right done.1

@@ -18,7 +18,7 @@ use Rattle.window_list.specs.Lists.{number_after}
 use Rattle.vis_update.specs.Records.{WindowRecord}
 use Rattle.vis_update.specs.Touches.{moving}
 use Rattle.desk_call.specs.declared.window.WindowCall.{WindowCall}
-use Rattle.desk_call.specs.declared.window.WindowCall.TheVariants.{New, Close, Show, Hide, ShowHide, Select, BringToFront, SendBehind, Move, Size, Draw, Find, Front, Info, VisibleRegion, UpdateRegion}
+use Rattle.desk_call.specs.declared.window.WindowCall.TheVariants.{New, Dispose, Show, Hide, ShowHide, Select, BringToFront, SendBehind, Move, Size, Draw, Find, Front, Info, VisibleRegion, UpdateRegion}
 use Rattle.desk_call.specs.declared.window.Drawing.{Drawing}
 use Rattle.desk_call.specs.declared.window.NewWindow.{NewWindow}
 use Rattle.desk_call.specs.declared.window.SizeWindow.{SizeWindow}
@@ -112,7 +112,7 @@ pub record IsSized (z : SizeWindow) (before after : FullState) : Type 0 where
 
 -- the window of this serial is there no more, and its definition went back Closed into its slot; where it was active, the
 -- first visible window became so, or none
-pub record IsWindowClosed (s : ℕ) (before after : FullState) : Type 0 where
+pub record IsWindowDisposed (s : ℕ) (before after : FullState) : Type 0 where
   pub window : WindowRecord
   pub found : record_with s before.desk.windows ≡ Some window
   pub shut : IsShut (loan_of window) before.desk.stock after.desk.stock
@@ -122,7 +122,7 @@ pub record IsWindowClosed (s : ℕ) (before after : FullState) : Type 0 where
 -- the kinds of effect that a call can have
 pub data Effect : Type 0 where
   Makes : (window : NewWindow) → Effect
-  Closes : (window : ℕ) → Effect
+  Disposes : (window : ℕ) → Effect
   Draws : (drawing : Drawing) → Effect
   Arranges : (arrangement : Arrangement) → Effect
   Sizes : (change : SizeWindow) → Effect
@@ -132,7 +132,7 @@ pub data Effect : Type 0 where
 -- the effect of a call that nothing refuses
 abbrev pub effect_of : WindowCall → FullDesk → Effect
 effect_of (New w) desk = Makes w
-effect_of (Close s) desk = Closes s
+effect_of (Dispose s) desk = Disposes s
 effect_of (Draw d) desk = Draws d
 effect_of (Select s) desk = Arranges (selected s desk.windows)
 effect_of (BringToFront s) desk = Arranges (brought_forward s desk.windows)
@@ -151,7 +151,7 @@ effect_of (UpdateRegion s) desk = Describes (update_of s)
 -- what a call of such an effect answers and leaves: a call that tells something, or describes a region, changes nothing
 abbrev pub IsEffect : Effect → WindowReply → FullState → FullState → Type 0
 IsEffect (Makes w) answer before after = (serial : ℕ) × (answer ≡ reply.Made serial) × IsNewWindow w serial before after
-IsEffect (Closes s) answer before after = (answer ≡ reply.Done) × IsWindowClosed s before after
+IsEffect (Disposes s) answer before after = (answer ≡ reply.Done) × IsWindowDisposed s before after
 IsEffect (Draws d) answer before after = (answer ≡ reply.Done) × IsDrawn d before after
 IsEffect (Arranges a) answer before after = (answer ≡ reply.Done) × IsArrangement a before after
 IsEffect (Sizes z) answer before after = (answer ≡ reply.Done) × IsSized z before after

@@ -14,7 +14,7 @@ use Rattle.vis_update.specs.Records.{WindowRecord}
 use Rattle.vis_update.specs.Places.{is_placed}
 use Rattle.vis_update.specs.Touches.{is_this}
 use Rattle.desk_call.specs.declared.window.WindowCall.{WindowCall}
-use Rattle.desk_call.specs.declared.window.WindowCall.TheVariants.{New, Close, Show, Hide, ShowHide, Select, BringToFront, SendBehind, Move, Size, Draw, Find, Front, Info, VisibleRegion, UpdateRegion}
+use Rattle.desk_call.specs.declared.window.WindowCall.TheVariants.{New, Dispose, Show, Hide, ShowHide, Select, BringToFront, SendBehind, Move, Size, Draw, Find, Front, Info, VisibleRegion, UpdateRegion}
 use Rattle.desk_call.specs.declared.window.MoveWindow.{MoveWindow}
 use Rattle.desk_call.specs.declared.window.NewWindow.{NewWindow}
 use Rattle.desk_call.specs.declared.window.SendBehind as sending
@@ -139,7 +139,7 @@ IsRefusal (Find p) state why = first_refusal ((not (in_plane p), OutOfRange) ∷
 IsRefusal Front state why = None ≡ why
 IsRefusal (VisibleRegion s) state why = IsUntold s (visible_of s state) state.desk why
 IsRefusal (UpdateRegion s) state why = IsUntold s (update_of s state) state.desk why
-IsRefusal (Close s) state why = first_refusal (window_refusals s state.desk) ≡ why
+IsRefusal (Dispose s) state why = first_refusal (window_refusals s state.desk) ≡ why
 IsRefusal (Show s) state why = first_refusal (window_refusals s state.desk) ≡ why
 IsRefusal (Hide s) state why = first_refusal (window_refusals s state.desk) ≡ why
 IsRefusal (ShowHide c) state why = first_refusal (window_refusals c.window state.desk) ≡ why

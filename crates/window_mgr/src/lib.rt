@@ -26,7 +26,7 @@
 mod arrange;
 mod arranging;
 mod close;
-mod close_window;
+mod dispose_window;
 mod commit;
 mod draw;
 mod find;

@@ -22,7 +22,7 @@ impl WindowManager {
     {
         match call {
             WindowCall::New(window) => self.answer_new(window, stock),
-            WindowCall::Close(window) => self.close_window(*window, stock),
+            WindowCall::Dispose(window) => self.dispose_window(*window, stock),
             WindowCall::Show(window) => self.show(*window, stock),
             WindowCall::Hide(window) => self.hide(*window, stock),
             WindowCall::ShowHide(change) => self.show_hide(*change, stock),
