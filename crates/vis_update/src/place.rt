@@ -3,7 +3,8 @@ ghost use Rattle.std.specs.Prelude.{◌≡◌, ◌&&◌, true, Some, None, IfOk,
 ghost use Rattle.tb_geom.specs.declared.point.Point.{Point};
 ghost use Rattle.tb_geom.specs.Points.{minus};
 ghost use Rattle.tb_geom.specs.Pixels.{holds};
-ghost use Rattle.tb_geom.specs.Rects.{is_in_range, moved};
+ghost use Rattle.tb_geom.specs.Rects.{is_in_range, moved, rect_holds};
+ghost use Rattle.def_iface.specs.Meaning.{IsWithin};
 ghost use Rattle.scan_region.specs.Moves.{StaysInRange};
 ghost use Rattle.vis_update.specs.Places.{IsRegionsAt, is_placed};
 
@@ -20,10 +21,13 @@ fn stays_in_range(judged: Rect, place: Point) -> bool
     judged.is_in_range() && judged.offset(place.h, place.v).is_ok()
 }
 
-/// Whether a window of this size and with this definition may be at the place.
+/// Whether a window of this size and with this definition may be at the place. Its content then lies in the box of its
+/// structure.
 #[tactic(auto, unfolding(crate::specs::Places::is_placed))]
 pub fn is_placed_with(place: Point, size: Size, taken: &Taken) -> bool
-    ensures { result ≡ is_placed (Some (⟦<Taken as Defined>⟧.loan taken.now).definition) place size }
+    ensures placed { result ≡ is_placed (Some (⟦<Taken as Defined>⟧.loan taken.now).definition) place size }
+    ensures within { result ≡ true → IsWithin ((⟦<Taken as Defined>⟧.loan taken.now).definition.content size)
+        (rect_holds ((⟦<Taken as Defined>⟧.loan taken.now).definition.bounds size)) }
 {
     place.is_in_range() && (size.is_in_range() && stays_in_range(taken.bounds(size), place))
 }

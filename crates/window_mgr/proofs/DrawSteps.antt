@@ -236,7 +236,7 @@ module _ {V : Type 0} {H : V → Type 0} (loan : Taken V H → Loan) (t new : Wi
   settled_more w its = by_test (w.serial == d.window)
     where
       by_test : (b : Bool) → IsSettled (if b then record w { picture = w.picture ++ D.operation ∷ [] } else w)
-      by_test true = record { origin = its.origin; placed = its.placed; live = its.live; told = its.told; fits = its.fits; inside = its.inside }
+      by_test true = record { origin = its.origin; placed = its.placed; live = its.live; told = its.told; fits = its.fits; inside = its.inside; within = its.within }
       by_test false = its
 
   same_slot : (w : WindowRecord) → (with_operation d.window D.operation w).slot ≡ w.slot

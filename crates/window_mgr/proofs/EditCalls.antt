@@ -4,8 +4,9 @@ use Rattle.std.specs.Prelude.{All}
 use Rattle.std.specs.List.{insert, remove}
 use Rattle.std.proofs.lemmas.List.Elements.{All-head, All-tail}
 use Rattle.tb_geom.specs.declared.point.Point.{Point}
+use Rattle.tb_geom.specs.Rects.{rect_holds}
 use Rattle.def_iface.specs.declared.taken.Taken.{Taken}
-use Rattle.def_iface.specs.Meaning.{Loan}
+use Rattle.def_iface.specs.Meaning.{Loan, IsWithin}
 use Rattle.def_iface.specs.Stocked.{SlotView}
 use Rattle.def_iface.specs.Owner.{frame_bit}
 use Rattle.window_list.specs.declared.window.Window.{Window}
@@ -89,7 +90,15 @@ module _ {V : Type 0} {H : V → Type 0} (loan : Taken V H → Loan) where
     put_settled may size_is all =
         let was = All-head IsSettled (record_of loan w) rest (All-out IsSettled e.at (record_of loan w) rest (subst (All IsSettled) windows_were all)) in
         let its = placed_parts (loan w.taken).definition e.place e.size (may w w_is) in
-        record { origin = was.origin; placed = its.place_in; live = was.live; told = was.told ∙ sym size_is; fits = its.fits; inside = its.moved }
+        record {
+          origin = was.origin;
+          placed = its.place_in;
+          live = was.live;
+          told = was.told ∙ sym size_is;
+          fits = its.fits;
+          inside = its.moved;
+          within = subst (λ s. IsWithin ((loan w.taken).definition.content s) (rect_holds ((loan w.taken).definition.bounds s))) (sym size_is) was.within;
+        }
 
     pub settled_after : IsPlaceable loan e t.windows.records.items → e.size ≡ w.size → All IsSettled (desk_of loan t slots).windows
         → All IsSettled (map (record_of loan) (relit_all a t.windows.active (insert (remove t.windows.records.items e.at) e.to (put_window e w))))

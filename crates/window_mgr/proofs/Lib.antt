@@ -23,6 +23,7 @@ pub mod DrawSteps
 mod EmptyLemmas
 pub mod FindLemmas
 pub mod ClosingLemmas
+pub mod TellLemmas
 pub mod Arrangements
 pub mod Disposed
 pub mod Sending

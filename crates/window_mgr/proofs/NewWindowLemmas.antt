@@ -8,12 +8,13 @@ use Rattle.tb_geom.specs.declared.point.Point.{Point}
 use Rattle.tb_geom.specs.declared.refusal.Refusal.{Refusal}
 use Rattle.tb_geom.specs.declared.refusal.Refusal.TheVariants.{OutOfRange, TooLong, TooMany}
 use Rattle.tb_geom.specs.declared.rect.Rect.{Rect}
-use Rattle.tb_geom.specs.Rects.{in_plane, is_in_range, moved}
+use Rattle.tb_geom.specs.Points.{PixelSet}
+use Rattle.tb_geom.specs.Rects.{in_plane, is_in_range, moved, rect_holds}
 use Rattle.bit_map.specs.Bits.{Bits}
 use Rattle.def_iface.specs.declared.taken.Taken.{Taken}
 use Rattle.def_iface.specs.declared.size.Size.{Size}
 use Rattle.def_iface.specs.Sizes.{is_size}
-use Rattle.def_iface.specs.Meaning.{Definition, Loan, IsBegun, is_fitting}
+use Rattle.def_iface.specs.Meaning.{Definition, Loan, IsBegun, IsWithin, is_fitting}
 use Rattle.def_iface.specs.Stocked.{SlotView, IsTaken, IsPutBack}
 use Rattle.def_iface.specs.Desk as layers
 use Rattle.def_iface.specs.Desk.{Desk, on_screen}
@@ -93,9 +94,14 @@ length_behind : (active : Option ℕ) (b : Bool) (ws : List WindowRecord) → le
 length_behind active true ws = length-map ws (unhighlighted active)
 length_behind active false ws = refl
 
+-- the content still lies in the box once the definition has begun
+begun_within : (size : Size) (d begun : Definition) → IsBegun size d begun → IsWithin (d.content size) (rect_holds (d.bounds size)) → IsWithin (begun.content size) (rect_holds (begun.bounds size))
+begun_within size d begun live within =
+    subst (λ (x : (Size → PixelSet) × (Size → Rect)). IsWithin (x.0 size) (rect_holds (x.1 size))) (λ i. (sym live.regions.content i, sym live.regions.bounds i)) within
+
 -- the record of a new window is settled
-pub settled_new : (w : NewWindow) (n slot : ℕ) (d begun : Definition) → IsBegun w.size d begun → is_placed (Some d) w.place w.size ≡ true → IsSettled (new_record w n slot begun)
-settled_new w n slot d begun live placed =
+pub settled_new : (w : NewWindow) (n slot : ℕ) (d begun : Definition) → IsBegun w.size d begun → is_placed (Some d) w.place w.size ≡ true → IsWithin (d.content w.size) (rect_holds (d.bounds w.size)) → IsSettled (new_record w n slot begun)
+settled_new w n slot d begun live placed within =
     let its = placed_parts d w.place w.size placed in
     record {
       origin = refl;
@@ -104,13 +110,14 @@ settled_new w n slot d begun live placed =
       told = live.told;
       fits = ap (λ (b : Size → Rect). is_size w.size && is_in_range (b w.size)) live.regions.bounds ∙ its.fits;
       inside = ap (λ (b : Size → Rect). is_in_range (moved (b w.size) w.place.h w.place.v)) live.regions.bounds ∙ its.moved;
+      within = begun_within w.size d begun live within;
     }
 
 -- so are all windows, with a new one in front
-pub settled_added : {V : Type 0} {H : V → Type 0} (loan : Taken V H → Loan) (w : NewWindow) (n slot : ℕ) (d begun : Definition) (added : Window V H) (active : Option ℕ) (ws items : List (Window V H)) → record_of loan added ≡ new_record w n slot begun → items ≡ added ∷ (if w.shown then map (dimmed active) ws else ws) → IsBegun w.size d begun → is_placed (Some d) w.place w.size ≡ true → All IsSettled (map (record_of loan) ws) → All IsSettled (map (record_of loan) items)
-settled_added loan w n slot d begun added active ws items seen items_are live placed settled =
+pub settled_added : {V : Type 0} {H : V → Type 0} (loan : Taken V H → Loan) (w : NewWindow) (n slot : ℕ) (d begun : Definition) (added : Window V H) (active : Option ℕ) (ws items : List (Window V H)) → record_of loan added ≡ new_record w n slot begun → items ≡ added ∷ (if w.shown then map (dimmed active) ws else ws) → IsBegun w.size d begun → is_placed (Some d) w.place w.size ≡ true → IsWithin (d.content w.size) (rect_holds (d.bounds w.size)) → All IsSettled (map (record_of loan) ws) → All IsSettled (map (record_of loan) items)
+settled_added loan w n slot d begun added active ws items seen items_are live placed within settled =
     subst (All IsSettled) (λ i. sym (ap (map (record_of loan)) items_are ∙ (λ j. seen j ∷ records_behind loan active w.shown ws j)) i)
-    (All-cons IsSettled _ _ (settled_new w n slot d begun live placed) (settled_behind active w.shown (map (record_of loan) ws) settled))
+    (All-cons IsSettled _ _ (settled_new w n slot d begun live placed within) (settled_behind active w.shown (map (record_of loan) ws) settled))
 
 module _ {V : Type 0} {H : V → Type 0} (loan : Taken V H → Loan) where
   -- all that is known where a window was added
@@ -123,6 +130,7 @@ module _ {V : Type 0} {H : V → Type 0} (loan : Taken V H → Loan) where
     pub number : planned.windows.next ≡ Some n
     pub added : IsAdded loan w n taken touch plan planned new
     pub took : IsTaken w.kind taken slots left
+    pub within : IsWithin (taken.definition.content w.size) (rect_holds (taken.definition.bounds w.size))
 
   module _ (w : NewWindow) (n : ℕ) (taken : Loan) (touch : Touch) (plan : Plan) (t planned new : WindowManager V H) (slots left : List SlotView) (N : IsNew w n taken touch plan t planned new slots left) where
     abbrev before : FullDesk
@@ -190,6 +198,7 @@ module _ {V : Type 0} {H : V → Type 0} (loan : Taken V H → Loan) where
       told = N.added.live.told;
       fits = ap (λ (b : Size → Rect). is_size w.size && is_in_range (b w.size)) N.added.live.regions.bounds ∙ unrefused_fits w _ _ _ N.unrefused_is;
       inside = ap (λ (b : Size → Rect). is_in_range (moved (b w.size) w.place.h w.place.v)) N.added.live.regions.bounds ∙ unrefused_inside w _ _ _ N.unrefused_is;
+      within = begun_within w.size taken.definition N.added.begun N.added.live N.within;
     }
 
     few_after : length after.windows ≤ most_windows

@@ -57,7 +57,7 @@ module _ (s former : Option ℕ) where
   same_serial w = relit_either (λ v. v.serial ≡ w.serial) w refl refl refl
 
   settled_lit : (w : WindowRecord) → IsSettled w → IsSettled (relit_record w)
-  settled_lit w its = relit_either IsSettled w its (record { origin = its.origin; placed = its.placed; live = its.live; told = its.told; fits = its.fits; inside = its.inside }) (record { origin = its.origin; placed = its.placed; live = its.live; told = its.told; fits = its.fits; inside = its.inside })
+  settled_lit w its = relit_either IsSettled w its (record { origin = its.origin; placed = its.placed; live = its.live; told = its.told; fits = its.fits; inside = its.inside; within = its.within }) (record { origin = its.origin; placed = its.placed; live = its.live; told = its.told; fits = its.fits; inside = its.inside; within = its.within })
 
 -- all windows, after an activation
 module _ (former : Option ℕ) where

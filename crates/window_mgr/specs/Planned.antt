@@ -4,12 +4,13 @@ use Rattle.tb_geom.specs.declared.refusal.Refusal.{Refusal}
 use Rattle.tb_geom.specs.declared.refusal.Refusal.TheVariants.{NoMemory}
 use Rattle.tb_geom.specs.Points.{minus}
 use Rattle.tb_geom.specs.Pixels.{holds}
+use Rattle.tb_geom.specs.Rects.{rect_holds}
 use Rattle.bit_blit.specs.Draws.{Draws}
 use Rattle.draw_port.specs.declared.shapes.Op.{Op}
 use Rattle.draw_port.specs.Ops.{op_value}
 use Rattle.op_ref.specs.OpRefs.{IsGood, IsMeant}
 use Rattle.def_iface.specs.declared.taken.Taken.{Taken}
-use Rattle.def_iface.specs.Meaning.{Definition, Loan, SameRegions, IsBegun}
+use Rattle.def_iface.specs.Meaning.{Definition, Loan, SameRegions, IsWithin, IsBegun}
 use Rattle.window_list.specs.declared.window.Window.{Window}
 use Rattle.window_list.specs.Lists.{dimmed, number_after}
 use Rattle.vis_update.specs.declared.plan.Plan.{Plan}
@@ -87,13 +88,14 @@ module _ {V : Type 0} {H : V → Type 0} (loan : Taken V H → Loan) where
   IsPlanWith w serial d touch t plan = (slot : ℕ) (begun : Definition) → SameRegions d begun → let after = desk_with w serial slot begun (desk_of loan t []) in
       IsPlan touch (layered_state (state_of loan t [])) (layered_desk after) t.desktop after.windows plan
 
-  -- nothing refuses the window with this definition any more
+  -- nothing refuses the window with this definition any more, whose content then lies in the box of its structure
   pub record IsPlanned (w : NewWindow) (d : Definition) (t : WindowManager V H) (addition : Addition) : Type 0 where
     pub ticket : IsTicket w t addition.ticket
     pub touch : addition.touch ≡ new_touch w addition.ticket.serial t.windows.active
     pub plan : IsPlanWith w addition.ticket.serial d addition.touch t addition.plan
     pub some : vec_len addition.plan.parts ≡ length t.windows.records.items + 1
     pub room : length t.windows.records.items < t.windows.records.capacity
+    pub within : IsWithin (d.content w.size) (rect_holds (d.bounds w.size))
 
   -- the window was put in front of all others, and the plan was drawn
   pub record IsAdded (w : NewWindow) (serial : ℕ) (taken : Loan) (touch : Touch) (plan : Plan) (old new : WindowManager V H) : Type 0 where

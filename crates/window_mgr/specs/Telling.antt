@@ -1,6 +1,8 @@
 -- The regions of a window, as they are told: in its own coordinates, as bytes.
-use Rattle.std.specs.Prelude.{◌≡◌, ℕ, Bool, true, false, ◌&&◌, List, Option, None, Some}
+use Rattle.std.specs.Prelude.{◌≡◌, ◌⊎◌, ℕ, Bool, true, false, ◌&&◌, List, Option, None, Some}
 use Rattle.tb_geom.specs.declared.point.Point.{Point}
+use Rattle.tb_geom.specs.declared.refusal.Refusal.{Refusal}
+use Rattle.tb_geom.specs.declared.refusal.Refusal.TheVariants.{NoMemory, TooLong}
 use Rattle.tb_geom.specs.Points.{PixelSet, plus}
 use Rattle.tb_geom.specs.Pixels.{Pixels, holds}
 use Rattle.region_bytes.specs.Bytes.{IsRegionBytes, IsTooLong}
@@ -42,6 +44,10 @@ IsMeasured set long = (region : Pixels) × IsRegionOf set region × IsLong long 
 -- these bytes are told: those of the region of these pixels
 abbrev pub AreRegionBytes : PixelSet → List ℕ → Type 0
 AreRegionBytes set bytes = (region : Pixels) × IsRegionOf set region × IsRegionBytes bytes region
+
+-- why the region of these pixels is not told: its bytes would be too long, or they would not and memory is refused
+abbrev pub IsNotTold : PixelSet → Refusal → Type 0
+IsNotTold set e = ((e ≡ TooLong) × IsMeasured set true) ⊎ ((e ≡ NoMemory) × IsMeasured set false)
 
 -- the answer is the region of these pixels
 abbrev pub IsRegionTold : PixelSet → WindowReply → Type 0

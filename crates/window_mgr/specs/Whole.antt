@@ -2,10 +2,10 @@
 use Rattle.std.specs.Prelude.{◌≡◌, ◌⊎◌, ℕ, ◌≤◌, Bool, true, false, ◌&&◌, ◌||◌, List, length, map, None, Some, All, AllPairs, Contains, slice_get, ℤ, pos, int_le, int_lt}
 use Rattle.std.specs.Ordering.{int_eq}
 use Rattle.tb_geom.specs.declared.point.Point.{Point}
-use Rattle.tb_geom.specs.Rects.{in_plane, is_in_range, moved}
+use Rattle.tb_geom.specs.Rects.{in_plane, is_in_range, moved, rect_holds}
 use Rattle.def_iface.specs.declared.taken.Taken.{Taken}
 use Rattle.def_iface.specs.declared.window_def.Stage.TheVariants.{Live}
-use Rattle.def_iface.specs.Meaning.{Loan, is_fitting}
+use Rattle.def_iface.specs.Meaning.{Loan, IsWithin, is_fitting}
 use Rattle.def_iface.specs.Stocked.{SlotView, IsFull, is_left}
 use Rattle.def_iface.specs.Desk.{IsDesk, on_screen}
 use Rattle.def_iface.specs.Owner.{owner, own_bit, is_content}
@@ -17,7 +17,7 @@ use Rattle.window_mgr.specs.Records.{desk_of, state_of}
 use Rattle.window_mgr.specs.Refused.{most_windows}
 
 -- the window's definition is live, and was told the window's size, which fits it; its place and its picture's origin
--- are points, and its structure lies in the range of coordinates there
+-- are points, its structure lies in the range of coordinates there, and its content in the box of its structure
 pub record IsSettled (w : WindowRecord) : Type 0 where
   pub origin : in_plane w.origin ≡ true
   pub placed : in_plane w.place ≡ true
@@ -25,6 +25,7 @@ pub record IsSettled (w : WindowRecord) : Type 0 where
   pub told : w.definition.size ≡ w.size
   pub fits : is_fitting w.definition w.size ≡ true
   pub inside : is_in_range (moved (w.definition.bounds w.size) w.place.h w.place.v) ≡ true
+  pub within : IsWithin (w.definition.content w.size) (rect_holds (w.definition.bounds w.size))
 
 -- a slot has its definition back, or belongs to one of these windows and is empty
 abbrev pub IsSlot : List WindowRecord → List SlotView → ℕ → Type 0

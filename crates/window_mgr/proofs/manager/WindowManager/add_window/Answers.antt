@@ -16,7 +16,7 @@ commit-requires-clause-settled g c =
     settled_added _ c.args.window.now c.args.addition.ticket.serial _ _ begun c.record_for-added.result c.args.self.now.windows.active c.args.self.now.windows.records.items _
     (c.record_for-added.ensures.seen ∙ ap (λ s. new_record c.args.window.now c.args.addition.ticket.serial s begun) c.begin.ensures.slot)
     (ap (λ l. l.records.items) c.add.ensures ∙ ap (λ b. c.record_for-added.result ∷ (if b then map (dimmed c.args.self.now.windows.active) c.args.self.now.windows.records.items else c.args.self.now.windows.records.items)) c.record_for-added.ensures.shown)
-    c.begin.ensures.begun c.requires.may_stand c.requires.settled
+    c.begin.ensures.begun c.requires.may_stand c.requires.planned.within c.requires.settled
 
 pub commit-requires-clause-parts : goal.commit-requires-clause-parts
 commit-requires-clause-parts g c =

@@ -30,6 +30,7 @@ returns-in-Ok-plan_window-clause-whole g c =
       number = c.in-Ok-plan_window.ensures.ok.1.ticket.next;
       added = c.add_window.ensures;
       took = slots.taken_named _ _ _ _ _ c.as_slice.ensures c.in-Ok.ensures.taken;
+      within = c.in-Ok-plan_window.ensures.ok.1.within;
     })
 
 pub returns-in-Ok-plan_window-clause-step : goal.returns-in-Ok-plan_window-clause-step
@@ -43,6 +44,7 @@ returns-in-Ok-plan_window-clause-step g c =
       number = c.in-Ok-plan_window.ensures.ok.1.ticket.next;
       added = c.add_window.ensures;
       took = slots.taken_named _ _ _ _ _ c.as_slice.ensures c.in-Ok.ensures.taken;
+      within = c.in-Ok-plan_window.ensures.ok.1.within;
     })
 
 pub add_window-requires-clause-settled : goal.add_window-requires-clause-settled
