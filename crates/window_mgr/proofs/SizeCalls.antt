@@ -6,11 +6,13 @@ use Rattle.std.proofs.lemmas.List.{length-set}
 use Rattle.std.proofs.lemmas.List.Elements.{All-head, All-tail}
 use Rattle.std.proofs.lemmas.Option.{slice_get_read}
 use Rattle.tb_geom.specs.declared.refusal.Refusal.TheVariants.{NoSuchWindow, OutOfRange}
-use Rattle.tb_geom.specs.Rects.{is_in_range, moved}
+use Rattle.tb_geom.specs.declared.rect.Rect.{Rect}
+use Rattle.tb_geom.specs.Points.{PixelSet}
+use Rattle.tb_geom.specs.Rects.{is_in_range, moved, rect_holds}
 use Rattle.def_iface.specs.declared.size.Size.{Size}
 use Rattle.def_iface.specs.declared.taken.Taken.{Taken}
 use Rattle.def_iface.specs.Sizes.{is_size}
-use Rattle.def_iface.specs.Meaning.{Loan}
+use Rattle.def_iface.specs.Meaning.{Loan, IsWithin}
 use Rattle.def_iface.specs.Stocked.{SlotView}
 use Rattle.def_iface.specs.Owner.{frame_bit}
 use Rattle.def_iface.specs.Change.{IsChanged}
@@ -36,7 +38,7 @@ use Rattle.window_mgr.specs.Edits.{IsAt, StandsAt, put_record, stays_put, IsPlan
 use Rattle.window_mgr.specs.Finding.{record_with}
 use Rattle.window_mgr.specs.Records.{desk_of, state_of}
 use Rattle.window_mgr.specs.Refused.{may_have_size, first_refusal, size_refusals}
-use Rattle.window_mgr.specs.Sizing.{IsSizable, IsSizeCommitted}
+use Rattle.window_mgr.specs.Sizing.{MayHave, IsSizable, IsSizeCommitted}
 use Rattle.window_mgr.specs.Step.{IsStep}
 use Rattle.window_mgr.specs.Whole.{IsWhole, IsSettled}
 use Rattle.window_mgr.proofs.PutIn.{put_in, put_is_insert, taken_out, map-put, All-out, All-put}
@@ -91,10 +93,10 @@ module _ {V : Type 0} {H : V → Type 0} (loan : Taken V H → Loan) where
     was_settled : All IsSettled (map (record_of loan) old) → All IsSettled (record_of loan w ∷ rest)
     was_settled all = All-out IsSettled i (record_of loan w) rest (subst (All IsSettled) records_were all)
 
-    resized_settled : is_placed (Some (loan w.taken).definition) w.place size ≡ true → All IsSettled (map (record_of loan) old) → IsSettled resized
+    resized_settled : MayHave loan size w → All IsSettled (map (record_of loan) old) → IsSettled resized
     resized_settled may all =
         let was = All-head IsSettled (record_of loan w) rest (was_settled all) in
-        let its = placed_parts (loan w.taken).definition w.place size may in
+        let its = placed_parts (loan w.taken).definition w.place size may.0 in
         record {
           origin = was.origin;
           placed = its.place_in;
@@ -102,9 +104,10 @@ module _ {V : Type 0} {H : V → Type 0} (loan : Taken V H → Loan) where
           told = R.told;
           fits = (λ k. is_size size && is_in_range (R.regions.bounds k size)) ∙ its.fits;
           inside = (λ k. is_in_range (moved (R.regions.bounds k size) w.place.h w.place.v)) ∙ its.moved;
+          within = subst (λ (x : (Size → PixelSet) × (Size → Rect)). IsWithin (x.0 size) (rect_holds (x.1 size))) (λ k. (sym R.regions.content k, sym R.regions.bounds k)) may.1;
         }
 
-    pub all_settled : is_placed (Some (loan w.taken).definition) w.place size ≡ true → All IsSettled (map (record_of loan) old) → All IsSettled (map (record_of loan) new)
+    pub all_settled : MayHave loan size w → All IsSettled (map (record_of loan) old) → All IsSettled (map (record_of loan) new)
     all_settled may all = subst (All IsSettled) (sym records_are) (All-put IsSettled i resized rest (resized_settled may all) (All-tail IsSettled (record_of loan w) rest (was_settled all)))
 
   -- ---- the call
@@ -231,13 +234,13 @@ module _ {V : Type 0} {H : V → Type 0} (loan : Taken V H → Loan) where
         by_test false = refl
 
     -- one that may have the size
-    module _ (placed : is_placed (Some (loan x.taken).definition) x.place z.size ≡ true) where
+    module _ (may : MayHave loan z.size x) where
       pub is_sizable : IsSizable loan i z.size t.windows.records.items
-      is_sizable w w_is = ap (λ (y : Window V H). is_placed (Some (loan y.taken).definition) y.place z.size) (same_at t.windows.records.items i w x found.0 w_is x_is) ∙ placed
+      is_sizable w w_is = subst (MayHave loan z.size) (same_at t.windows.records.items i x w found.0 x_is w_is) may
 
       pub is_placeable : (e : Edit) → e ≡ stays_put i x → IsPlaceable loan (record e { size = z.size }) t.windows.records.items
       is_placeable e e_is = subst (λ (y : Edit). IsPlaceable loan (record y { size = z.size }) t.windows.records.items) (sym e_is)
-          (λ w w_is. ap (λ (y : Window V H). is_placed (Some (loan y.taken).definition) x.place z.size) (same_at t.windows.records.items i w x found.0 w_is x_is) ∙ placed)
+          (λ w w_is. ap (λ (y : Window V H). is_placed (Some (loan y.taken).definition) x.place z.size) (same_at t.windows.records.items i w x found.0 w_is x_is) ∙ may.0)
 
       pub size_call : (plan : Plan) (new : WindowManager V H) (e : Edit) → e ≡ stays_put i x → IsPlanOfEdit loan (record e { size = z.size }) None t plan → IsSizeCommitted loan i z.size plan t new → IsSizeCall i z plan t new slots
       size_call plan new e e_is planned committed = record {

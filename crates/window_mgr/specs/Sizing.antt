@@ -2,7 +2,8 @@
 use Rattle.std.specs.Prelude.{◌≡◌, ℕ, true, List, map, None, Some}
 use Rattle.def_iface.specs.declared.size.Size.{Size}
 use Rattle.def_iface.specs.declared.taken.Taken.{Taken}
-use Rattle.def_iface.specs.Meaning.{Loan}
+use Rattle.tb_geom.specs.Rects.{rect_holds}
+use Rattle.def_iface.specs.Meaning.{Loan, IsWithin}
 use Rattle.window_list.specs.declared.window.Window.{Window}
 use Rattle.window_list.specs.Lists.{IsResizedAt}
 use Rattle.vis_update.specs.declared.plan.Plan.{Plan}
@@ -14,9 +15,13 @@ use Rattle.window_mgr.specs.Edits.{IsAt}
 
 -- `loan` says what a definition that was taken means
 module _ {V : Type 0} {H : V → Type 0} (loan : Taken V H → Loan) where
-  -- the window at this place of the list may have this size where it stands
+  -- the window may have this size where it stands, and its content then lies in the box of its structure
+  abbrev pub MayHave : Size → Window V H → Type 0
+  MayHave size w = let d = (loan w.taken).definition in (is_placed (Some d) w.place size ≡ true) × IsWithin (d.content size) (rect_holds (d.bounds size))
+
+  -- so may the window at this place of the list
   abbrev pub IsSizable : ℕ → Size → List (Window V H) → Type 0
-  IsSizable i size ws = (w : Window V H) → IsAt ws i w → is_placed (Some (loan w.taken).definition) w.place size ≡ true
+  IsSizable i size ws = (w : Window V H) → IsAt ws i w → MayHave size w
 
   -- the window at this place of the list has this size, its definition was told so, and the plan was drawn
   pub record IsSizeCommitted (i : ℕ) (size : Size) (plan : Plan) (old new : WindowManager V H) : Type 0 where

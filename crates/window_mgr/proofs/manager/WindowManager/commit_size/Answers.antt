@@ -15,7 +15,7 @@ pub resize-requires-clause-fits : goal.resize-requires-clause-fits
 resize-requires-clause-fits g c =
     let found = there_is c.args.self.now.windows.records.items c.args.at c.requires.at in
     rw (sizing.read_at c.args.self.now.windows.records.items c.args.at found.0 c.requires.at found.1)
-    (placed_parts _ found.0.place c.args.size (c.requires.sizable found.0 found.1)).fits
+    (placed_parts _ found.0.place c.args.size (c.requires.sizable found.0 found.1).0).fits
 
 pub commit-requires-clause-settled : goal.commit-requires-clause-settled
 commit-requires-clause-settled g c =
