@@ -6,7 +6,7 @@ ghost use Rattle.window_mgr.specs.Closing.{IsClosed};
 ghost use Rattle.window_mgr.specs.Effects.{IsUnchanged};
 ghost use Rattle.window_mgr.specs.FullDesk.{IsRight};
 ghost use Rattle.window_mgr.specs.Records.{desk_of, state_of};
-ghost use Rattle.window_mgr.specs.Whole as whole;
+ghost use Rattle.desk_ground.specs.Screens as screens;
 ghost use Rattle.window_mgr.specs.Whole.{IsWhole};
 ghost use Rattle.desk_toolbox.specs.Run.{IsStep, IsRun};
 
@@ -40,9 +40,9 @@ impl Toolbox {
     ) -> Result<Toolbox, NotBegun>
         ensures begun { IfOk result (λ t. (slots : List SlotView) → All IsFull slots
             → IsEmptyDesk ⟦<Taken as Defined>⟧.loan width height bar font t.windows slots) }
-        ensures in_range { IfOk result (λ t. whole.is_screen width height bar ≡ true) }
+        ensures in_range { IfOk result (λ t. screens.is_screen width height bar ≡ true) }
         ensures refused { IfErr result (λ e. (e.font ≡ font)
-            × (e.refusal ≡ (if whole.is_screen width height bar then Refusal.NoMemory else Refusal.OutOfRange))) }
+            × (e.refusal ≡ (if screens.is_screen width height bar then Refusal.NoMemory else Refusal.OutOfRange))) }
     {
         let none = WindowList::new(Ranks::new(alloc));
         match WindowManager::new(alloc, width, height, bar, font, none) {

@@ -11,7 +11,7 @@ use Rattle.window_mgr.specs.FullDesk.{FullState, IsRight}
 use Rattle.window_mgr.specs.Begin.{empty_desk}
 use Rattle.window_mgr.specs.Closing.{IsClosed}
 use Rattle.desk_toolbox.specs.Run.{IsStep}
-use Rattle.window_mgr.specs.Whole.{is_screen}
+use Rattle.desk_ground.specs.Screens.{is_screen}
 use Rattle.script_text.specs.declared.command.Command.{Command}
 use Rattle.script_text.specs.declared.command.DeskSize.{DeskSize}
 use Rattle.script_text.specs.declared.command.Command.TheVariants.{Desk, Image, Call}

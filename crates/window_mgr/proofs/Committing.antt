@@ -20,7 +20,8 @@ use Rattle.vis_update.specs.declared.plan.Part.{Part}
 use Rattle.vis_update.specs.declared.plan.Plan.{Plan}
 use Rattle.vis_update.specs.declared.plan.Touch.{Touch}
 use Rattle.vis_update.specs.Records.{WindowRecord, layered_window}
-use Rattle.window_mgr.specs.FullDesk.{FullDesk, FullState, layered_desk, layered_state, gray}
+use Rattle.window_mgr.specs.FullDesk.{FullDesk, FullState, layered_desk, layered_state}
+use Rattle.desk_ground.specs.Screens.{gray}
 use Rattle.window_mgr.specs.Commits.{painted_part, painted_parts, moved_bit, uncovered_bit, IsPlanDrawn}
 use Rattle.vis_update.specs.Touches.{change_of, draws_whole, moves}
 use Rattle.vis_update.specs.Plans.{IsPart, AreParts, IsPlan}

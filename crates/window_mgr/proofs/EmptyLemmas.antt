@@ -21,12 +21,15 @@ use Rattle.def_iface.specs.Scratch.{scratch}
 use Rattle.def_iface.proofs.Painting.{scratch_is_owners}
 use Rattle.window_mgr.specs.declared.manager.WindowManager.{WindowManager}
 use Rattle.vis_update.specs.declared.area.Area.{Area}
-use Rattle.window_mgr.specs.FullDesk.{FullDesk, gray, layered_desk}
+use Rattle.window_mgr.specs.FullDesk.{FullDesk, layered_desk}
+use Rattle.desk_ground.specs.Screens.{gray}
 use Rattle.vis_update.specs.Records.{record_of}
 use Rattle.window_mgr.specs.Records.{desk_of}
 use Rattle.vis_update.specs.Areas.{stale_in}
-use Rattle.window_mgr.specs.Begin.{IsGround, IsEmptyDesk, empty_desk}
-use Rattle.window_mgr.specs.Whole.{IsWhole, IsSound, is_bar, is_screen, is_screen_side}
+use Rattle.window_mgr.specs.Begin.{IsEmptyDesk, empty_desk}
+use Rattle.desk_ground.specs.Grounds.{IsGround}
+use Rattle.window_mgr.specs.Whole.{IsWhole, IsSound}
+use Rattle.desk_ground.specs.Screens.{is_bar, is_screen, is_screen_side}
 use Rattle.vis_update.specs.Areas.{IsGray, IsDesktop, AreAreas}
 use Rattle.window_mgr.proofs.Arranged.{between-is_below}
 

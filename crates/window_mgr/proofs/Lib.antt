@@ -2,7 +2,6 @@
 pub mod EachChanged
 pub mod DimLemmas
 pub mod PaintLemmas
-pub mod BeginLemmas
 pub mod SlotLemmas
 pub mod RefusalLemmas
 pub mod SameDeskLemmas

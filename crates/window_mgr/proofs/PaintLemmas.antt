@@ -24,11 +24,11 @@ use Rattle.vis_update.specs.declared.plan.Part.{Part}
 use Rattle.vis_update.specs.declared.plan.Plan.{Plan}
 use Rattle.window_list.specs.declared.window.Window.{Window}
 use Rattle.vis_update.specs.Records.{WindowRecord}
-use Rattle.window_mgr.specs.FullDesk.{gray}
+use Rattle.desk_ground.specs.Screens.{gray}
 use Rattle.vis_update.specs.Records.{record_of}
 use Rattle.window_mgr.specs.Commits.{IsPainted, ArePainted, IsMoved, IsPlanDrawn, painted_part, painted_parts}
 use Rattle.window_mgr.specs.Whole.{IsSettled}
-use Rattle.window_mgr.proofs.BeginLemmas.{origin, minus-origin}
+use Rattle.desk_ground.proofs.GroundLemmas.{origin, minus-origin}
 
 abbrev pub white : Pattern
 white = record { rows = 0 ∷ 0 ∷ 0 ∷ 0 ∷ 0 ∷ 0 ∷ 0 ∷ 0 ∷ [] }

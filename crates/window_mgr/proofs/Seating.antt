@@ -27,7 +27,8 @@ use Rattle.window_mgr.specs.Seats.{AreSeatsOf, AreSeatsBehind}
 use Rattle.window_mgr.specs.Effects.{new_record, desk_with}
 use Rattle.window_mgr.specs.Arrange.{unhighlighted}
 use Rattle.vis_update.specs.Areas.{IsArea, AreAreas}
-use Rattle.window_mgr.specs.Whole.{IsSettled, is_screen_side}
+use Rattle.window_mgr.specs.Whole.{IsSettled}
+use Rattle.desk_ground.specs.Screens.{is_screen_side}
 use Rattle.vis_update.proofs.PlaceLemmas.{placed_from}
 use Rattle.window_mgr.proofs.Running.{layered_desk-with, next_is_free}
 use Rattle.vis_update.proofs.SeatLemmas as seat

@@ -42,7 +42,8 @@ use Rattle.window_mgr.specs.Finding.{record_with}
 use Rattle.window_mgr.specs.Telling.{IsRegionOf, IsMeasured, AreRegionBytes, IsNotTold, seen_from, visible_of, update_of}
 use Rattle.window_mgr.specs.Refused.{IsUntold, first_refusal, is_missing}
 use Rattle.window_mgr.specs.Kept.{IsKept}
-use Rattle.window_mgr.specs.Whole.{IsSettled, is_screen_side}
+use Rattle.window_mgr.specs.Whole.{IsSettled}
+use Rattle.desk_ground.specs.Screens.{is_screen_side}
 use Rattle.window_mgr.proofs.Seating.{as_many}
 use Rattle.window_mgr.proofs.DrawRefusals.{record_there}
 use Rattle.window_mgr.proofs.DrawLemmas.{window_settled}

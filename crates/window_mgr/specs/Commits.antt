@@ -9,7 +9,7 @@ use Rattle.def_iface.specs.Meaning.{Definition}
 use Rattle.vis_update.specs.declared.plan.Part.{Part}
 use Rattle.vis_update.specs.declared.plan.Plan.{Plan}
 use Rattle.vis_update.specs.Records.{WindowRecord}
-use Rattle.window_mgr.specs.FullDesk.{gray}
+use Rattle.desk_ground.specs.Screens.{gray}
 
 -- a part was drawn: the frame's pixels of it, over white where content is new
 pub record IsPainted (part : Part) (place : Point) (d : Definition) (font : List ℕ) (old new : Bits) : Type 0 where

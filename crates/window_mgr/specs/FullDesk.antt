@@ -1,9 +1,9 @@
 -- The whole desk as plain data, and its layers.
-use Rattle.std.specs.Prelude.{ℕ, ◌<◌, List, [], ◌∷◌, Option, None, Some, map, ℤ, pos}
+use Rattle.std.specs.Prelude.{ℕ, ◌<◌, List, ◌∷◌, [], Option, None, Some, map, ℤ, pos}
 use Rattle.std.specs.Ordering.{int_eq}
 use Rattle.tb_geom.specs.Points.{PixelSet}
-use Rattle.bit_map.specs.declared.pattern.Pattern.{Pattern}
 use Rattle.bit_map.specs.Patterns.{pattern_bit}
+use Rattle.desk_ground.specs.Screens.{gray}
 use Rattle.def_iface.specs.Stocked.{SlotView}
 use Rattle.def_iface.specs.Desk.{Desk}
 use Rattle.def_iface.specs.Change as plain
@@ -34,10 +34,6 @@ pub record FullState : Type 0 where
 -- the menu bar: white, and its last row, 19, black
 abbrev pub bar_picture : PixelSet
 bar_picture p = int_eq p.v (pos 19)
-
--- the pattern of the desktop: black where row and column are both even or both odd
-abbrev pub gray : Pattern
-gray = record { rows = 0xAA ∷ 0x55 ∷ 0xAA ∷ 0x55 ∷ 0xAA ∷ 0x55 ∷ 0xAA ∷ 0x55 ∷ [] }
 
 -- the desk as layers
 abbrev pub layered_desk : FullDesk → Desk

@@ -7,7 +7,8 @@ use Rattle.vis_update.specs.Areas.{AreAreas, IsGray, IsDesktop, stale_in}
 use Rattle.window_mgr.specs.declared.manager.WindowManager.{WindowManager}
 use Rattle.window_mgr.specs.FullDesk.{AreNumbered, layered_desk}
 use Rattle.window_mgr.specs.Records.{desk_of}
-use Rattle.window_mgr.specs.Whole.{IsSettled, is_screen}
+use Rattle.window_mgr.specs.Whole.{IsSettled}
+use Rattle.desk_ground.specs.Screens.{is_screen}
 
 -- `loan` says what a definition that was taken means
 module _ {V : Type 0} {H : V → Type 0} (loan : Taken V H → Loan) where

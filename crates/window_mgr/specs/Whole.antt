@@ -1,6 +1,5 @@
 -- What holds of a window manager and its stock between calls.
-use Rattle.std.specs.Prelude.{◌≡◌, ◌⊎◌, ℕ, ◌≤◌, Bool, true, false, ◌&&◌, ◌||◌, List, length, map, None, Some, All, AllPairs, Contains, slice_get, ℤ, pos, int_le, int_lt}
-use Rattle.std.specs.Ordering.{int_eq}
+use Rattle.std.specs.Prelude.{◌≡◌, ◌⊎◌, ℕ, ◌≤◌, true, false, List, length, map, None, Some, All, AllPairs, Contains, slice_get}
 use Rattle.tb_geom.specs.declared.point.Point.{Point}
 use Rattle.tb_geom.specs.Rects.{in_plane, is_in_range, moved, rect_holds}
 use Rattle.def_iface.specs.declared.taken.Taken.{Taken}
@@ -15,6 +14,7 @@ use Rattle.window_mgr.specs.declared.manager.WindowManager.{WindowManager}
 use Rattle.window_mgr.specs.FullDesk.{FullDesk, FullState, AreNumbered, layered_desk}
 use Rattle.window_mgr.specs.Records.{desk_of, state_of}
 use Rattle.window_mgr.specs.Refused.{most_windows}
+use Rattle.desk_ground.specs.Screens.{is_screen}
 
 -- the window's definition is live, and was told the window's size, which fits it; its place and its picture's origin
 -- are points, its structure lies in the range of coordinates there, and its content in the box of its structure
@@ -37,19 +37,6 @@ pub record IsStocked (windows : List WindowRecord) (slots : List SlotView) : Typ
   pub left : All (λ w. is_left w.slot slots ≡ true) windows
   pub apart : AllPairs (λ v w. v.slot ≡ w.slot → ⊥) windows
   pub others : (k : ℕ) → IsSlot windows slots k
-
--- whether a screen may be so wide or so high
-abbrev pub is_screen_side : ℤ → Bool
-is_screen_side n = int_le (pos 8) n && int_le n (pos 1024)
-
--- whether a menu bar may have so many rows
-abbrev pub is_bar : ℤ → Bool
-is_bar bar = int_eq bar (pos 0) || int_eq bar (pos 20)
-
--- whether a screen may have this size and this many rows of menu bar
-abbrev pub is_screen : ℤ → ℤ → ℤ → Bool
-is_screen width height bar =
-    is_screen_side width && (is_screen_side height && (is_bar bar && int_lt bar height))
 
 -- the facts on the desk alone
 pub record IsSound (desk : FullDesk) : Type 0 where

@@ -17,8 +17,8 @@ use Rattle.bit_map.specs.Modes.{mode_bit}
 use Rattle.bit_map.specs.Patterns.{pattern_bit, bit_of, eighth_of}
 use Rattle.bit_blit.specs.Draws.{Draws}
 use Rattle.bit_blit.proofs.DrawsLemmas.{Draws-on_map}
-use Rattle.window_mgr.specs.FullDesk.{gray}
-use Rattle.window_mgr.specs.Begin.{last_row, below, IsEmptyPainted, IsGround}
+use Rattle.desk_ground.specs.Screens.{gray}
+use Rattle.desk_ground.specs.Grounds.{last_row, below, IsEmptyPainted, IsGround}
 
 abbrev pub black : Pattern
 black = record { rows = 255 ∷ 255 ∷ 255 ∷ 255 ∷ 255 ∷ 255 ∷ 255 ∷ 255 ∷ [] }

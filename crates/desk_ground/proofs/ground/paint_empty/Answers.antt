@@ -1,8 +1,8 @@
 use Rattle.std.proofs.Common.{ap, rules, SFits, w32}
 use Rattle.std.proofs.lemmas.Int.{to_z-of_z}
 use Rattle.tb_geom.specs.declared.rect.Rect.{Rect}
-use Rattle.window_mgr.proofs.BeginLemmas.{empty_painted}
-use Rattle.window_mgr.proofs.manager.paint_empty.Goals as goal
+use Rattle.desk_ground.proofs.GroundLemmas.{empty_painted}
+use Rattle.desk_ground.proofs.ground.paint_empty.Goals as goal
 
 pub returns : goal.returns
 returns c =

@@ -1,7 +1,7 @@
 use Rattle.std.proofs.Common.{rules, SFits, w32}
 use Rattle.std.proofs.lemmas.Int.{to_z-of_z}
-use Rattle.window_mgr.proofs.BeginLemmas.{is_ground}
-use Rattle.window_mgr.proofs.manager.empty_ground.Goals as goal
+use Rattle.desk_ground.proofs.GroundLemmas.{is_ground}
+use Rattle.desk_ground.proofs.ground.empty_ground.Goals as goal
 
 pub returns-clause-painted : goal.returns-clause-painted
 returns-clause-painted c =

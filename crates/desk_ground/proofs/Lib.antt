@@ -1,0 +1,2 @@
+-- How a screen without windows is painted.
+pub mod GroundLemmas

@@ -1,0 +1,3 @@
+-- What the contracts speak of: which screens there may be, and a screen without windows.
+pub mod Screens
+pub mod Grounds
