@@ -2,7 +2,7 @@
 use Rattle.std.proofs.Common.{◌≡◌, ℕ, ◌+◌, ◌<◌, List, [], ◌∷◌, ◌++◌, length, get_or, take, Option, None, Some, Result, Ok, Err, refl, sym, ap, ◌∙◌, subst}
 use Rattle.std.proofs.lemmas.List.{take_more}
 use Rattle.tb_geom.specs.declared.refusal.Refusal.{Refusal}
-use Rattle.window_mgr.specs.FullDesk.{FullDesk, FullState, IsRight}
+use Rattle.window_mgr.specs.FullDesk.{FullDesk, FullState, IsRightState}
 use Rattle.desk_call.specs.declared.window.WindowCall.{WindowCall}
 use Rattle.desk_call.specs.declared.window.WindowReply.{WindowReply}
 use Rattle.desk_call.specs.declared.window.WindowReply.TheVariants.{Done, Made, Found, Front, Info, Region}
@@ -21,11 +21,11 @@ use Rattle.desk_call.specs.declared.call.Call.{Call}
 use Rattle.desk_call.specs.declared.call.Call.TheVariants.{Window}
 use Rattle.desk_call.specs.declared.call.Reply.{Reply}
 use Rattle.desk_call.specs.declared.call.Reply.TheVariants as reply
-use Rattle.desk_toolbox.specs.Run.{IsStep, IsRun, number_made, made, AreCounted}
+use Rattle.desk_toolbox.specs.Run.{IsStep, IsRunOfCalls, number_made, made, AreCounted}
 
 -- ---- what is right stays so
 
-pub step_stays_right : (call : Call) (answer : Result Reply Refusal) (before after : FullState) → IsRight before → IsStep call answer before after → IsRight after
+pub step_stays_right : (call : Call) (answer : Result Reply Refusal) (before after : FullState) → IsRightState before → IsStep call answer before after → IsRightState after
 step_stays_right (Window call) (Ok (reply.Window answer)) before after right step = windowing.step_stays_right call (Ok answer) before after right step
 step_stays_right (Window call) (Err e) before after right step = windowing.step_stays_right call (Err e) before after right step
 
@@ -34,8 +34,8 @@ pub step_keeps_kinds : (call : Call) (answer : Result Reply Refusal) (before aft
 step_keeps_kinds (Window call) (Ok (reply.Window answer)) before after step = kinds.step_keeps_kinds call (Ok answer) before after step
 step_keeps_kinds (Window call) (Err e) before after step = kinds.step_keeps_kinds call (Err e) before after step
 
-pub run_stays_right : (first last : FullState) (calls : List Call) (answers : List (Result Reply Refusal)) → IsRight first → IsRun first calls answers last → IsRight last
-run_stays_right first last [] [] right run = subst IsRight (sym run) right
+pub run_stays_right : (first last : FullState) (calls : List Call) (answers : List (Result Reply Refusal)) → IsRightState first → IsRunOfCalls first calls answers last → IsRightState last
+run_stays_right first last [] [] right run = subst IsRightState (sym run) right
 run_stays_right first last [] (answer ∷ answers) right run = absurd run
 run_stays_right first last (call ∷ calls) [] right run = absurd run
 run_stays_right first last (call ∷ calls) (answer ∷ answers) right run =
@@ -43,16 +43,16 @@ run_stays_right first last (call ∷ calls) (answer ∷ answers) right run =
 
 -- ---- runs that go on
 
-run_more : (first middle last : FullState) (calls : List Call) (answers : List (Result Reply Refusal)) (call : Call) (answer : Result Reply Refusal) → IsRun first calls answers middle → IsStep call answer middle last → IsRun first (calls ++ call ∷ []) (answers ++ answer ∷ []) last
+run_more : (first middle last : FullState) (calls : List Call) (answers : List (Result Reply Refusal)) (call : Call) (answer : Result Reply Refusal) → IsRunOfCalls first calls answers middle → IsStep call answer middle last → IsRunOfCalls first (calls ++ call ∷ []) (answers ++ answer ∷ []) last
 run_more first middle last [] [] call answer r s = (last, subst (λ m. IsStep call answer m last) r s, refl)
 run_more first middle last (c ∷ calls) (a ∷ answers) call answer r s = (r.0, r.1, run_more r.0 middle last calls answers call answer r.2 s)
 run_more first middle last [] (a ∷ answers) call answer r s = absurd r
 run_more first middle last (c ∷ calls) [] call answer r s = absurd r
 
 -- a run of the calls so far goes on by the next
-pub run_step : (first middle last : FullState) (calls : List Call) (answers more : List (Result Reply Refusal)) (i : ℕ) (call : Call) (answer : Result Reply Refusal) → more ≡ answers ++ answer ∷ [] → call ≡ get_or calls i call → IsRun first (take i calls) answers middle → i < length calls → IsStep call answer middle last → IsRun first (take (i + 1) calls) more last
+pub run_step : (first middle last : FullState) (calls : List Call) (answers more : List (Result Reply Refusal)) (i : ℕ) (call : Call) (answer : Result Reply Refusal) → more ≡ answers ++ answer ∷ [] → call ≡ get_or calls i call → IsRunOfCalls first (take i calls) answers middle → i < length calls → IsStep call answer middle last → IsRunOfCalls first (take (i + 1) calls) more last
 run_step first middle last calls answers more i call answer e read r l s =
-    subst (λ (x : List Call × List (Result Reply Refusal)). IsRun first x.0 x.1 last) (λ k. (sym (take_more calls i call l) k, sym e k))
+    subst (λ (x : List Call × List (Result Reply Refusal)). IsRunOfCalls first x.0 x.1 last) (λ k. (sym (take_more calls i call l) k, sym e k))
     (run_more first middle last (take i calls) answers (get_or calls i call) answer r (subst (λ c. IsStep c answer middle last) read s))
 
 -- ---- windows are counted
@@ -119,7 +119,7 @@ effect_is_counted (Describes region) answer before after numbers none (told, sam
 effect_is_counted (Tells r) answer before after numbers none (is, same) h =
     subst (λ (ns : List ℕ). AreCounted before.desk.next (ns ++ numbers)) (sym (ap number_made is ∙ none)) (counted_on before after numbers same h)
 
-pub made_are_counted : (first last : FullState) (calls : List Call) (answers : List (Result Reply Refusal)) → IsRun first calls answers last → AreCounted first.desk.next (made answers)
+pub made_are_counted : (first last : FullState) (calls : List Call) (answers : List (Result Reply Refusal)) → IsRunOfCalls first calls answers last → AreCounted first.desk.next (made answers)
 made_are_counted first last [] [] run = tt
 made_are_counted first last [] (answer ∷ answers) run = absurd run
 made_are_counted first last (call ∷ calls) [] run = absurd run

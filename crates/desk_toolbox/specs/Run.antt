@@ -13,16 +13,16 @@ use Rattle.desk_call.specs.declared.window.WindowReply.TheVariants.{Made}
 
 -- one step: a call is a step of its manager
 abbrev pub IsStep : Call → Result Reply Refusal → FullState → FullState → Type 0
-IsStep (Window call) (Ok (reply.Window answer)) before after = windows.IsStep call (Ok answer) before after
-IsStep (Window call) (Err e) before after = windows.IsStep call (Err e) before after
+IsStep (Window call) (Ok (reply.Window answer)) before after = windows.IsWindowStep call (Ok answer) before after
+IsStep (Window call) (Err e) before after = windows.IsWindowStep call (Err e) before after
 
 -- from the first state these calls may have these answers and leave the last state: each step begins as the one before
 -- it ended
-abbrev pub IsRun : FullState → List Call → List (Result Reply Refusal) → FullState → Type 0
-IsRun first [] [] last = last ≡ first
-IsRun first (call ∷ calls) (answer ∷ answers) last = (middle : FullState) × IsStep call answer first middle × IsRun middle calls answers last
-IsRun first [] (answer ∷ answers) last = ⊥
-IsRun first (call ∷ calls) [] last = ⊥
+abbrev pub IsRunOfCalls : FullState → List Call → List (Result Reply Refusal) → FullState → Type 0
+IsRunOfCalls first [] [] last = last ≡ first
+IsRunOfCalls first (call ∷ calls) (answer ∷ answers) last = (middle : FullState) × IsStep call answer first middle × IsRunOfCalls middle calls answers last
+IsRunOfCalls first [] (answer ∷ answers) last = ⊥
+IsRunOfCalls first (call ∷ calls) [] last = ⊥
 
 -- the number of the window that was made, if one was
 abbrev pub number_made : WindowReply → List ℕ

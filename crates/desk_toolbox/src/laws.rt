@@ -8,12 +8,12 @@ ghost use Rattle.def_iface.specs.Desk.{IsDesk};
 ghost use Rattle.def_iface.specs.Owner.{owner, own_bit};
 ghost use Rattle.def_iface.specs.Scratch.{scratch};
 ghost use Rattle.vis_update.specs.Records.{WindowRecord};
-ghost use Rattle.window_mgr.specs.FullDesk.{FullDesk, FullState, IsRight, layered_desk};
+ghost use Rattle.window_mgr.specs.FullDesk.{FullDesk, FullState, IsRightState, layered_desk};
 ghost use Rattle.window_mgr.specs.Finding.{front_of};
 ghost use Rattle.window_mgr.specs.Refused.{first_refusal};
 ghost use Rattle.desk_call.specs.declared.call.Call.{Call};
 ghost use Rattle.desk_call.specs.declared.call.Reply.{Reply};
-ghost use Rattle.desk_toolbox.specs.Run.{IsStep, IsRun, made, AreCounted};
+ghost use Rattle.desk_toolbox.specs.Run.{IsStep, IsRunOfCalls, made, AreCounted};
 
 /// Painting the desk from nothing, back to front, gives each pixel the value of its owner.
 #[tactic(auto, using(crate::proofs::Sayings::scratch_is_owners_on))]
@@ -48,14 +48,14 @@ pub fn steps_keep_the_kinds()
 #[tactic(auto, using(crate::proofs::Runs::step_stays_right))]
 pub fn steps_stay_right()
     ensures { (call : Call) (answer : Result Reply Refusal) (before after : FullState)
-        → IsRight before → IsStep call answer before after → IsRight after }
+        → IsRightState before → IsStep call answer before after → IsRightState after }
 {}
 
 /// The windows that a run makes have numbers that follow each other: none is used again.
 #[tactic(auto, using(crate::proofs::Runs::made_are_counted))]
 pub fn windows_are_counted()
     ensures { (first last : FullState) (calls : List Call) (answers : List (Result Reply Refusal))
-        → IsRun first calls answers last → AreCounted first.desk.next (made answers) }
+        → IsRunOfCalls first calls answers last → AreCounted first.desk.next (made answers) }
 {}
 
 /// After any run from a right state each pixel of the screen in no update set has the value that
@@ -63,5 +63,5 @@ pub fn windows_are_counted()
 #[tactic(auto, using(crate::proofs::Runs::run_stays_right))]
 pub fn runs_stay_right()
     ensures { (first last : FullState) (calls : List Call) (answers : List (Result Reply Refusal))
-        → IsRight first → IsRun first calls answers last → IsRight last }
+        → IsRightState first → IsRunOfCalls first calls answers last → IsRightState last }
 {}

@@ -4,11 +4,11 @@ ghost use Rattle.def_iface.specs.Stocked.{SlotView, IsFull};
 ghost use Rattle.window_mgr.specs.Begin.{IsEmptyDesk};
 ghost use Rattle.window_mgr.specs.Closing.{IsClosed};
 ghost use Rattle.window_mgr.specs.Effects.{IsUnchanged};
-ghost use Rattle.window_mgr.specs.FullDesk.{IsRight};
+ghost use Rattle.window_mgr.specs.FullDesk.{IsRightState};
 ghost use Rattle.window_mgr.specs.Records.{desk_of, state_of};
 ghost use Rattle.desk_ground.specs.Screens as screens;
-ghost use Rattle.window_mgr.specs.Whole.{IsWhole};
-ghost use Rattle.desk_toolbox.specs.Run.{IsStep, IsRun};
+ghost use Rattle.window_mgr.specs.Whole.{IsWholeManager};
+ghost use Rattle.desk_toolbox.specs.Run.{IsStep, IsRunOfCalls};
 
 use crate::{Call, Reply};
 use bit_map::BitMap;
@@ -61,21 +61,21 @@ impl Toolbox {
     /// Makes one call, and gives its answer. A refused call changes nothing; which refusal comes
     /// first where several would do stands with the call.
     pub fn call(&mut self, call: &Call<'_>, stock: &mut Stock) -> Result<Reply, Refusal>
-        requires { IsWhole ⟦<Taken as Defined>⟧.loan self.old.windows (⟦<Stock as Stocked>⟧.slots stock.old) }
-        ensures whole { IsWhole ⟦<Taken as Defined>⟧.loan self.new.windows (⟦<Stock as Stocked>⟧.slots stock.new) }
+        requires { IsWholeManager ⟦<Taken as Defined>⟧.loan self.old.windows (⟦<Stock as Stocked>⟧.slots stock.old) }
+        ensures whole { IsWholeManager ⟦<Taken as Defined>⟧.loan self.new.windows (⟦<Stock as Stocked>⟧.slots stock.new) }
         ensures step { IsStep call.now result
             (state_of ⟦<Taken as Defined>⟧.loan self.old.windows (⟦<Stock as Stocked>⟧.slots stock.old))
             (state_of ⟦<Taken as Defined>⟧.loan self.new.windows (⟦<Stock as Stocked>⟧.slots stock.new)) }
-        ensures right { IsRight (state_of ⟦<Taken as Defined>⟧.loan self.old.windows (⟦<Stock as Stocked>⟧.slots stock.old))
-            → IsRight (state_of ⟦<Taken as Defined>⟧.loan self.new.windows (⟦<Stock as Stocked>⟧.slots stock.new)) }
+        ensures right { IsRightState (state_of ⟦<Taken as Defined>⟧.loan self.old.windows (⟦<Stock as Stocked>⟧.slots stock.old))
+            → IsRightState (state_of ⟦<Taken as Defined>⟧.loan self.new.windows (⟦<Stock as Stocked>⟧.slots stock.new)) }
     {
         self.make(call, stock)
     }
 
     /// Makes one call.
     fn make(&mut self, call: &Call<'_>, stock: &mut Stock) -> Result<Reply, Refusal>
-        requires { IsWhole ⟦<Taken as Defined>⟧.loan self.old.windows (⟦<Stock as Stocked>⟧.slots stock.old) }
-        ensures whole { IsWhole ⟦<Taken as Defined>⟧.loan self.new.windows (⟦<Stock as Stocked>⟧.slots stock.new) }
+        requires { IsWholeManager ⟦<Taken as Defined>⟧.loan self.old.windows (⟦<Stock as Stocked>⟧.slots stock.old) }
+        ensures whole { IsWholeManager ⟦<Taken as Defined>⟧.loan self.new.windows (⟦<Stock as Stocked>⟧.slots stock.new) }
         ensures step { IsStep call.now result
             (state_of ⟦<Taken as Defined>⟧.loan self.old.windows (⟦<Stock as Stocked>⟧.slots stock.old))
             (state_of ⟦<Taken as Defined>⟧.loan self.new.windows (⟦<Stock as Stocked>⟧.slots stock.new)) }
@@ -95,17 +95,17 @@ impl Toolbox {
         calls: &[Call<'_>],
         stock: &mut Stock,
     ) -> Result<Vec<Result<Reply, Refusal>>, Refusal>
-        requires { IsWhole ⟦<Taken as Defined>⟧.loan self.old.windows (⟦<Stock as Stocked>⟧.slots stock.old) }
-        ensures whole { IsWhole ⟦<Taken as Defined>⟧.loan self.new.windows (⟦<Stock as Stocked>⟧.slots stock.new) }
-        ensures run { IfOk result (λ answers. IsRun
+        requires { IsWholeManager ⟦<Taken as Defined>⟧.loan self.old.windows (⟦<Stock as Stocked>⟧.slots stock.old) }
+        ensures whole { IsWholeManager ⟦<Taken as Defined>⟧.loan self.new.windows (⟦<Stock as Stocked>⟧.slots stock.new) }
+        ensures run { IfOk result (λ answers. IsRunOfCalls
             (state_of ⟦<Taken as Defined>⟧.loan self.old.windows (⟦<Stock as Stocked>⟧.slots stock.old))
             calls.now answers.items
             (state_of ⟦<Taken as Defined>⟧.loan self.new.windows (⟦<Stock as Stocked>⟧.slots stock.new))) }
         ensures refused { IfErr result (λ e. (e ≡ Refusal.NoMemory) × IsUnchanged
             (state_of ⟦<Taken as Defined>⟧.loan self.old.windows (⟦<Stock as Stocked>⟧.slots stock.old))
             (state_of ⟦<Taken as Defined>⟧.loan self.new.windows (⟦<Stock as Stocked>⟧.slots stock.new))) }
-        ensures right { IsRight (state_of ⟦<Taken as Defined>⟧.loan self.old.windows (⟦<Stock as Stocked>⟧.slots stock.old))
-            → IsRight (state_of ⟦<Taken as Defined>⟧.loan self.new.windows (⟦<Stock as Stocked>⟧.slots stock.new)) }
+        ensures right { IsRightState (state_of ⟦<Taken as Defined>⟧.loan self.old.windows (⟦<Stock as Stocked>⟧.slots stock.old))
+            → IsRightState (state_of ⟦<Taken as Defined>⟧.loan self.new.windows (⟦<Stock as Stocked>⟧.slots stock.new)) }
     {
         let mut answers = Vec::with_capacity(self.alloc, calls.len())?;
         for call in calls {
@@ -118,7 +118,7 @@ impl Toolbox {
     /// Ends the desk: the definition of every window is disposed of, and put back Closed into its
     /// slot, while every other slot stays as it was. Takes no memory, and refuses nothing.
     pub fn close(self, stock: &mut Stock)
-        requires { IsWhole ⟦<Taken as Defined>⟧.loan self.windows (⟦<Stock as Stocked>⟧.slots stock.old) }
+        requires { IsWholeManager ⟦<Taken as Defined>⟧.loan self.windows (⟦<Stock as Stocked>⟧.slots stock.old) }
         ensures { IsClosed (desk_of ⟦<Taken as Defined>⟧.loan self.windows (⟦<Stock as Stocked>⟧.slots stock.old)).windows
             (⟦<Stock as Stocked>⟧.slots stock.old) (⟦<Stock as Stocked>⟧.slots stock.new) }
     {

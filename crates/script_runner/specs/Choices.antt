@@ -32,6 +32,6 @@ pub record IsChosen (words : List Text) (choices : Choices) : Type 0 where
   pub font : option_map (λ s. s.now) choices.font ≡ named_in (codes "FILE") words
 
 -- something is wrong with the words, and it is among what the error says; or there was no memory
-abbrev pub IsRefused : List Text → OptionsError → Type 0
-IsRefused words (Words e) = IsAmong (kind_of e) (faults_in words)
-IsRefused words (Memory e) = ⊤
+abbrev pub AreWordsRefused : List Text → OptionsError → Type 0
+AreWordsRefused words (Words e) = IsAmong (kind_of e) (faults_in words)
+AreWordsRefused words (Memory e) = ⊤

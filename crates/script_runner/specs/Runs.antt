@@ -30,7 +30,7 @@ module _ (first : SessionState) (input rest : Input) (old new : Output) (session
 
   -- a read failed, or there were as many as there may be and none came to the end; each line that was ended before is
   -- answered
-  pub record IsUnread : Type 0 where
+  pub record IsStoppedByRead : Type 0 where
     pub seen : List ℕ
     pub text : List ℕ
     pub read : Consumes input.remaining rest.remaining seen
@@ -39,7 +39,7 @@ module _ (first : SessionState) (input rest : Input) (old new : Output) (session
     pub why : IsCutOff rest
 
   -- a write failed: a front of the answers to the lines so far went out
-  pub record IsUnwritten : Type 0 where
+  pub record IsStoppedByWrite : Type 0 where
     pub seen : List ℕ
     pub ahead : List ℕ
     pub lines : List (List ℕ)
@@ -68,8 +68,8 @@ module _ (first : SessionState) (input rest : Input) (old new : Output) (session
 
   -- what stopped the script
   abbrev pub Stops : Refusal → Type 0
-  Stops ReadFault = IsUnread
-  Stops WriteFault = IsUnwritten
+  Stops ReadFault = IsStoppedByRead
+  Stops WriteFault = IsStoppedByWrite
   Stops NoMemory = IsDeskless
   Stops _ = ⊥
 

@@ -7,7 +7,7 @@ use Rattle.def_iface.specs.Stocked.{SlotView, has_kind}
 use Rattle.desk_call.specs.declared.call.Call.TheVariants.{Window}
 use Rattle.desk_call.specs.declared.window.WindowCall.TheVariants.{New}
 use Rattle.desk_call.specs.declared.call.Reply.{Reply}
-use Rattle.window_mgr.specs.FullDesk.{FullState, IsRight}
+use Rattle.window_mgr.specs.FullDesk.{FullState, IsRightState}
 use Rattle.window_mgr.specs.Begin.{empty_desk}
 use Rattle.window_mgr.specs.Closing.{IsClosed}
 use Rattle.desk_toolbox.specs.Run.{IsStep}
@@ -28,7 +28,7 @@ pub data SessionState : Type 0 where
 pub record IsNewDesk (size : DeskSize) (font : List ℕ) (slots : List SlotView) (s : FullState) : Type 0 where
   pub desk : s.desk ≡ empty_desk size.width size.height size.bar font slots
   pub drawn : (p : Point) → s.stale p ≡ false
-  pub right : IsRight s
+  pub right : IsRightState s
 
 -- the bytes of the screen as an image
 abbrev pub image_text : FullState → List ℕ

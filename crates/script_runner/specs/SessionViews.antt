@@ -5,7 +5,7 @@ use Rattle.def_iface.specs.Meaning.{Loan}
 use Rattle.def_iface.specs.Stocked.{SlotView, IsFull}
 use Rattle.desk_toolbox.specs.declared.toolbox.Toolbox.{Toolbox}
 use Rattle.window_mgr.specs.Records.{state_of}
-use Rattle.window_mgr.specs.Whole.{IsWhole}
+use Rattle.window_mgr.specs.Whole.{IsWholeManager}
 use Rattle.script_runner.specs.declared.session.Session.{Session}
 use Rattle.script_runner.specs.Session.{SessionState, unmade, made}
 
@@ -21,7 +21,7 @@ module _ {V : Type 0} {H : V → Type 0} (loan : Taken V H → Loan) where
   session_of s slots = state_with s.desk s.font slots
 
   abbrev pub IsReadyWith : Option (Toolbox V H) → Option (List ℕ) → List SlotView → Type 0
-  IsReadyWith (Some t) font slots = IsWhole loan t.windows slots
+  IsReadyWith (Some t) font slots = IsWholeManager loan t.windows slots
   IsReadyWith None (Some font) slots = All IsFull slots
   IsReadyWith None None slots = ⊥
 

@@ -1,7 +1,7 @@
 //! The command line: `desk [--font FILE] [SCRIPT]`.
 ghost use Rattle.std.specs.Prelude.{◌≡◌, IfOk, IfErr, OnOk, map, false, option_map, codes, []};
 ghost use Rattle.clap.specs.Words.{HasKind, app_of, rule_of, first_value, found_of};
-ghost use Rattle.script_runner.specs.Choices.{desk_app, word_rule, option_rule, faults_in, IsChosen, IsRefused};
+ghost use Rattle.script_runner.specs.Choices.{desk_app, word_rule, option_rule, faults_in, IsChosen, AreWordsRefused};
 
 use clap::error::ErrorKind;
 use clap::{Arg, ArgAction, ArgMatches, Command};
@@ -86,7 +86,7 @@ fn chosen<'a>(matches: &ArgMatches<'a>) -> Choices<'a>
 
 /// The error of a parse: want of memory by its own name, and all else as it is.
 fn refused(error: clap::Error) -> OptionsError
-    ensures { (words : _) → HasKind (faults_in words) error → IsRefused words result }
+    ensures { (words : _) → HasKind (faults_in words) error → AreWordsRefused words result }
 {
     if error.kind() == ErrorKind::OutOfMemory {
         OptionsError::Memory(AllocError)
@@ -101,7 +101,7 @@ fn refused(error: clap::Error) -> OptionsError
 pub fn options<'a, S: AsStr>(alloc: Global, words: &'a [S]) -> Result<Choices<'a>, OptionsError>
     ensures chosen { IfOk result (IsChosen (map S.text words.entry.now)) }
     ensures taken { OnOk result (faults_in (map S.text words.entry.now) ≡ []) }
-    ensures refused { IfErr result (IsRefused (map S.text words.entry.now)) }
+    ensures refused { IfErr result (AreWordsRefused (map S.text words.entry.now)) }
 {
     let command = match desk_command(alloc) {
         Ok(command) => command,

@@ -3,7 +3,7 @@ ghost use Rattle.std.specs.Prelude.{◌≡◌, true, All, None, Some, OnOk, fals
 ghost use Rattle.def_iface.specs.Stocked.{IsFull};
 ghost use Rattle.desk_call.specs.declared.call.Call.TheVariants as asks;
 ghost use Rattle.window_mgr.specs.Records.{state_of};
-ghost use Rattle.window_mgr.specs.Whole.{IsWhole};
+ghost use Rattle.window_mgr.specs.Whole.{IsWholeManager};
 ghost use Rattle.script_runner.specs.Session.{LeavesStock, first_size, is_known};
 ghost use Rattle.script_runner.specs.SessionViews.{session_of, IsReady};
 ghost use Rattle.script_runner.specs.Endings.{IsAnswered, IsFirstAnswered, CommandEnds, LineEnds};
@@ -189,9 +189,9 @@ fn first_answer<S: Sink>(
     stock: &mut Stock,
     sink: &mut S,
 ) -> Result<(), Refusal>
-    requires whole { IsWhole ⟦<Taken as Defined>⟧.loan desk.old.windows (⟦<Stock as Stocked>⟧.slots stock.old) }
+    requires whole { IsWholeManager ⟦<Taken as Defined>⟧.loan desk.old.windows (⟦<Stock as Stocked>⟧.slots stock.old) }
     requires unfailed { (S.output sink.old).has_failed ≡ false }
-    ensures whole { IsWhole ⟦<Taken as Defined>⟧.loan desk.new.windows (⟦<Stock as Stocked>⟧.slots stock.new) }
+    ensures whole { IsWholeManager ⟦<Taken as Defined>⟧.loan desk.new.windows (⟦<Stock as Stocked>⟧.slots stock.new) }
     ensures quiet { OnOk result ((S.output sink.new).has_failed ≡ false) }
     ensures answered { IsFirstAnswered
         (state_of ⟦<Taken as Defined>⟧.loan desk.old.windows (⟦<Stock as Stocked>⟧.slots stock.old)) command.now
@@ -212,9 +212,9 @@ fn answer_on<S: Sink>(
     stock: &mut Stock,
     sink: &mut S,
 ) -> Result<(), Refusal>
-    requires whole { IsWhole ⟦<Taken as Defined>⟧.loan desk.old.windows (⟦<Stock as Stocked>⟧.slots stock.old) }
+    requires whole { IsWholeManager ⟦<Taken as Defined>⟧.loan desk.old.windows (⟦<Stock as Stocked>⟧.slots stock.old) }
     requires unfailed { (S.output sink.old).has_failed ≡ false }
-    ensures whole { IsWhole ⟦<Taken as Defined>⟧.loan desk.new.windows (⟦<Stock as Stocked>⟧.slots stock.new) }
+    ensures whole { IsWholeManager ⟦<Taken as Defined>⟧.loan desk.new.windows (⟦<Stock as Stocked>⟧.slots stock.new) }
     ensures quiet { OnOk result ((S.output sink.new).has_failed ≡ false) }
     ensures answered { IsAnswered
         (state_of ⟦<Taken as Defined>⟧.loan desk.old.windows (⟦<Stock as Stocked>⟧.slots stock.old)) command.now

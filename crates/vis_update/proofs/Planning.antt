@@ -22,7 +22,7 @@ use Rattle.vis_update.specs.declared.plan.Touch.{Touch}
 use Rattle.vis_update.specs.Records.{WindowRecord, layered_window}
 use Rattle.vis_update.specs.Areas.{IsArea, is_content_of}
 use Rattle.vis_update.specs.Seats.{Stand, stand_of, seat_stand, IsArranged}
-use Rattle.vis_update.specs.Plans.{IsSwept, stale_after, AreAreasAfter, IsPart, AreParts, IsPlan}
+use Rattle.vis_update.specs.Plans.{IsSwept, stale_after, AreAreasAfter, IsPart, ArePlanParts, IsPlan}
 use Rattle.vis_update.specs.Touches.{change_of, way_of, came_from, draws_whole, moves}
 use Rattle.vis_update.proofs.Others.{AreOthers}
 use Rattle.vis_update.proofs.UpdateLemmas.{is_content_among, content_is_among}
@@ -85,7 +85,7 @@ module _ {V : Type 0} {H : V → Type 0} (loan : Taken V H → Loan) (t : Touch)
   -- all that the sweep gives
   record AllSwept (ws : List WindowRecord) (areas : List Area) (parts : List Part) (from upto last : PixelSet) : Type 0 where
     areas_are : AreAreasAfter (change_of t) before after ws areas
-    parts_are : AreParts t before after ws parts
+    parts_are : ArePlanParts t before after ws parts
     copied : (p : Point) → upto p ≡ (from p || (is_content_among ws (owner after p) && moved_in p))
     left : Reaches font after [] last
 

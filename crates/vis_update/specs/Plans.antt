@@ -41,16 +41,16 @@ pub record IsPart (t : Touch) (before : State) (after : Desk) (serial : ℕ) (pa
       && (draws_whole t serial || not (on_screen before.desk p && same_owner (owner before.desk p) (Frame serial))))
 
 -- each window has its part
-abbrev pub AreParts : Touch → State → Desk → List WindowRecord → List Part → Type 0
-AreParts t before after [] [] = Unit {0}
-AreParts t before after (w ∷ ws) (part ∷ parts) = IsPart t before after w.serial part × AreParts t before after ws parts
-AreParts t before after [] (part ∷ parts) = ⊥
-AreParts t before after (w ∷ ws) [] = ⊥
+abbrev pub ArePlanParts : Touch → State → Desk → List WindowRecord → List Part → Type 0
+ArePlanParts t before after [] [] = Unit {0}
+ArePlanParts t before after (w ∷ ws) (part ∷ parts) = IsPart t before after w.serial part × ArePlanParts t before after ws parts
+ArePlanParts t before after [] (part ∷ parts) = ⊥
+ArePlanParts t before after (w ∷ ws) [] = ⊥
 
 -- all that changes on the screen, where `desktop` was what of it no window owned
 pub record IsPlan (t : Touch) (before : State) (after : Desk) (desktop : Pixels) (windows : List WindowRecord) (plan : Plan) : Type 0 where
   pub areas : AreAreasAfter (change_of t) before after windows plan.areas.items
-  pub parts : AreParts t before after windows plan.parts.items
+  pub parts : ArePlanParts t before after windows plan.parts.items
   pub desktop_is : IsDesktop after plan.desktop
   pub uncovered : (p : Point) → holds plan.uncovered p ≡ (holds plan.desktop p && not (holds desktop p))
   pub copied : (p : Point) → holds plan.copied p

@@ -24,7 +24,7 @@ use Rattle.vis_update.specs.Areas.{stale_in}
 use Rattle.window_mgr.specs.Commits.{IsPlanDrawn}
 use Rattle.vis_update.specs.Touches.{change_of, draws_whole}
 use Rattle.vis_update.specs.Plans.{IsPlan}
-use Rattle.window_mgr.specs.Whole.{IsWhole, IsSound}
+use Rattle.window_mgr.specs.Whole.{IsWholeManager, IsSoundDesk}
 use Rattle.vis_update.specs.Areas.{IsGray, IsDesktop, AreAreas}
 use Rattle.window_mgr.proofs.Committing.{IsReady, plain_is, image_is, on_same}
 use Rattle.vis_update.proofs.UpdateLemmas.{areas_are, updated_is_stale}
@@ -37,9 +37,9 @@ between-is_below n (negsuc k) = refl
 module _ {V : Type 0} {H : V → Type 0} (loan : Taken V H → Loan) where
   -- all that is known where a call arranged windows
   pub record IsArrangedCall (touch : Touch) (t new : WindowManager V H) (slots left : List SlotView) (after : FullDesk) (plan : Plan) : Type 0 where
-    pub whole : IsWhole loan t slots
+    pub whole : IsWholeManager loan t slots
     pub screen : layered_desk after ≡ record (layered_desk (desk_of loan t slots)) { windows = (layered_desk after).windows }
-    pub sound : IsSound after
+    pub sound : IsSoundDesk after
     pub frames : (s : ℕ) (p : Point) → draws_whole touch s ≡ false → own_bit (layered_desk (desk_of loan t slots)) (Frame s) p ≡ own_bit (layered_desk after) (Frame s) p
     pub planned : IsPlan touch (layered_state (state_of loan t slots)) (layered_desk after) t.desktop after.windows plan
     pub drawn : IsPlanDrawn plan touch.by after.font after.windows t.screen new.screen
@@ -80,9 +80,9 @@ module _ {V : Type 0} {H : V → Type 0} (loan : Taken V H → Loan) where
       },
     )
 
-    pub is_whole : IsWhole loan new left
+    pub is_whole : IsWholeManager loan new left
     is_whole = record {
-      sound = subst IsSound (sym N.desk_is) N.sound;
+      sound = subst IsSoundDesk (sym N.desk_is) N.sound;
       gray = subst (λ (x : FullDesk × Pixels). IsGray (layered_desk x.0) x.1) (λ i. (sym N.desk_is i, sym N.gray i)) (subst (λ (d : Desk). IsGray d t.gray) (sym N.screen) N.whole.gray);
       desktop = subst (λ (x : FullDesk × Pixels). IsDesktop (layered_desk x.0) x.1) (λ i. (sym N.desk_is i, sym N.desktop i)) N.planned.desktop_is;
       areas = subst (λ (x : FullDesk × List Area). AreAreas (layered_desk x.0) (stale_in x.1) x.0.windows x.1) (λ i. (sym N.desk_is i, sym N.areas i)) (areas_are after.font (change_of touch) (layered_state (state_of loan t slots)) (layered_desk after) after.windows plan.areas.items refl N.planned.areas);

@@ -24,7 +24,7 @@ use Rattle.window_mgr.specs.FullDesk.{FullDesk, FullState, layered_desk, layered
 use Rattle.desk_ground.specs.Screens.{gray}
 use Rattle.window_mgr.specs.Commits.{painted_part, painted_parts, moved_bit, uncovered_bit, IsPlanDrawn}
 use Rattle.vis_update.specs.Touches.{change_of, draws_whole, moves}
-use Rattle.vis_update.specs.Plans.{IsPart, AreParts, IsPlan}
+use Rattle.vis_update.specs.Plans.{IsPart, ArePlanParts, IsPlan}
 use Rattle.vis_update.specs.Touches.{moved_from}
 use Rattle.window_mgr.specs.Whole.{AreFramesShown}
 use Rattle.vis_update.specs.Areas.{IsDesktop, is_content_of}
@@ -49,7 +49,7 @@ module _ (font : List ℕ) (t : Touch) (before : plain.State) (after : Desk) (p 
   AreApart [] = Unit {0}
   AreApart (w ∷ ws) = (is_other w.serial (owner after p) ≡ true) × AreApart ws
 
-  pub parts_elsewhere : (ws : List WindowRecord) (parts : List Part) (value : Bool) → AreParts t before after ws parts → AreApart ws → painted_parts font ws parts p value ≡ value
+  pub parts_elsewhere : (ws : List WindowRecord) (parts : List Part) (value : Bool) → ArePlanParts t before after ws parts → AreApart ws → painted_parts font ws parts p value ≡ value
   parts_elsewhere [] [] value its apart = refl
   parts_elsewhere (w ∷ ws) (part ∷ parts) value its apart =
       ap (λ b. painted_parts font ws parts p b) (part_elsewhere w part value its.0 apart.0) ∙ parts_elsewhere ws parts value its.1 apart.1
@@ -71,7 +71,7 @@ module _ (font : List ℕ) (t : Touch) (before : plain.State) (after : Desk) (p 
     pub its : IsPart t before after s part
     pub tells : painted_parts font ws parts p value ≡ painted_part font window part p value
 
-  pub alone : (s : ℕ) (found : layers.Window) (ws : List WindowRecord) (parts : List Part) (value : Bool) → ((n : ℕ) → (n == s) ≡ false → is_other n (owner after p) ≡ true) → AreParts t before after ws parts → layers.AreWindows (map (layered_window font) ws) → layers.window_of s (map (layered_window font) ws) ≡ Some found → IsAlone s found ws parts value
+  pub alone : (s : ℕ) (found : layers.Window) (ws : List WindowRecord) (parts : List Part) (value : Bool) → ((n : ℕ) → (n == s) ≡ false → is_other n (owner after p) ≡ true) → ArePlanParts t before after ws parts → layers.AreWindows (map (layered_window font) ws) → layers.window_of s (map (layered_window font) ws) ≡ Some found → IsAlone s found ws parts value
   alone s found [] [] value of its distinct e = absurd (cc)
   alone s found (w ∷ ws) (part ∷ parts) value of its distinct e = by_test (λ f. alone s found ws parts value of its.1 distinct.1.1 f) (w.serial == s) refl e
     where

@@ -24,11 +24,11 @@ use Rattle.window_mgr.specs.FullDesk.{FullDesk, layered_state}
 use Rattle.window_mgr.specs.Arrange.{desk_activated, desk_arranged, without}
 use Rattle.window_mgr.specs.Closing.{IsShut}
 use Rattle.window_mgr.specs.Commits.{IsPlanDrawn}
-use Rattle.window_mgr.specs.Edits.{IsAt, relit_all}
+use Rattle.window_mgr.specs.Edits.{IsWindowAt, relit_all}
 use Rattle.window_mgr.specs.Effects.{IsWindowDisposed}
 use Rattle.window_mgr.specs.Records.{desk_of, state_of}
-use Rattle.window_mgr.specs.Step.{IsStep}
-use Rattle.window_mgr.specs.Whole.{IsWhole, IsSettled}
+use Rattle.window_mgr.specs.Step.{IsWindowStep}
+use Rattle.window_mgr.specs.Whole.{IsWholeManager, IsSettled}
 use Rattle.window_mgr.specs.Without.{records_without, IsDeskWithout, IsPlanWithout, IsActivationWithout, IsTakenOff}
 use Rattle.window_mgr.proofs.PutIn.{put_in, taken_out, map-put, All-out, IsFree, is_put}
 use Rattle.window_mgr.proofs.Rearranged.{stands_lit}
@@ -42,7 +42,7 @@ use Rattle.window_mgr.proofs.Arranged.{IsArrangedCall, is_left as arranged_is_le
 module _ {V : Type 0} {H : V → Type 0} (loan : Taken V H → Loan) where
   -- ---- a window of the list, and the rest
 
-  module _ (t : WindowManager V H) (at : ℕ) (w : Window V H) (w_is : IsAt t.windows.records.items at w) (low : at < length t.windows.records.items) where
+  module _ (t : WindowManager V H) (at : ℕ) (w : Window V H) (w_is : IsWindowAt t.windows.records.items at w) (low : at < length t.windows.records.items) where
     windows_were : map (record_of loan) t.windows.records.items ≡ put_in at (record_of loan w) (records_without loan at t)
     windows_were = ap (map (record_of loan)) (taken_out t.windows.records.items at w low w_is) ∙ map-put (record_of loan) at w (remove t.windows.records.items at)
 
@@ -60,8 +60,8 @@ module _ {V : Type 0} {H : V → Type 0} (loan : Taken V H → Loan) where
   slot_is_left t new slots at a plan taken off low all = ap (λ x. is_left (loan x).slot slots) off.its ∙ its_own t at off.window off.there low (λ v. is_left v.slot slots ≡ true) all
 
   -- where memory is wanting, nothing changed
-  pub no_memory : (t : WindowManager V H) (slots : List SlotView) (s at : ℕ) → IsWhole loan t slots → at < length t.windows.records.items → ((w : Window V H) → IsAt t.windows.records.items at w → w.serial ≡ s)
-      → IsStep (Dispose s) (Err NoMemory) (state_of loan t slots) (state_of loan t slots)
+  pub no_memory : (t : WindowManager V H) (slots : List SlotView) (s at : ℕ) → IsWholeManager loan t slots → at < length t.windows.records.items → ((w : Window V H) → IsWindowAt t.windows.records.items at w → w.serial ≡ s)
+      → IsWindowStep (Dispose s) (Err NoMemory) (state_of loan t slots) (state_of loan t slots)
   no_memory t slots s at whole low serial =
       let w = there_is t.windows.records.items at low in
       (inr (not_missing loan t t slots whole at s w.0 low w.1 (serial w.0 w.1), (refl, refl)), record { desk = refl; stale = λ p on. refl; image = λ p on. refl })
@@ -77,9 +77,9 @@ module _ {V : Type 0} {H : V → Type 0} (loan : Taken V H → Loan) where
   -- ---- all that is known where a call ended a window
 
   pub record IsCloseCall (s at : ℕ) (activation : Activation) (plan : Plan) (taken : Taken V H) (t new : WindowManager V H) (slots now : List SlotView) : Type 0 where
-    pub whole : IsWhole loan t slots
+    pub whole : IsWholeManager loan t slots
     pub low : at < length t.windows.records.items
-    pub serial : (w : Window V H) → IsAt t.windows.records.items at w → w.serial ≡ s
+    pub serial : (w : Window V H) → IsWindowAt t.windows.records.items at w → w.serial ≡ s
     pub becomes : IsActivationWithout loan at s t activation
     pub planned : IsPlanWithout loan at s t plan
     pub off : IsTakenOff loan at activation plan taken t new
@@ -147,7 +147,7 @@ module _ {V : Type 0} {H : V → Type 0} (loan : Taken V H → Loan) where
         first_is true y f = f
         first_is false y f = refl
 
-    pub close_is_whole : IsWhole loan new now
+    pub close_is_whole : IsWholeManager loan new now
     close_is_whole = arranged_is_whole loan touch t new slots now after plan close_arranged
 
     closed : IsWindowDisposed s (state_of loan t slots) (state_of loan new now)
@@ -175,5 +175,5 @@ module _ {V : Type 0} {H : V → Type 0} (loan : Taken V H → Loan) where
             ∙ ap (λ ws. record (desk_arranged ws FrontInItsPlace s (desk_of loan t slots)) { stock = now }) (sym rest_is)
 
     -- the call made its step
-    pub close_step : IsStep (Dispose s) (Ok Done) (state_of loan t slots) (state_of loan new now)
+    pub close_step : IsWindowStep (Dispose s) (Ok Done) (state_of loan t slots) (state_of loan new now)
     close_step = (not_missing loan t new slots N.whole at s w N.low N.off.there serial, (refl, closed))

@@ -19,8 +19,8 @@ use Rattle.window_mgr.specs.Arrange.{activated, activation_of, desk_activated, d
 use Rattle.window_mgr.specs.Closing.{IsShut, loan_of}
 use Rattle.window_mgr.specs.Effects.{IsWindowDisposed}
 use Rattle.window_mgr.specs.Finding.{front_of}
-use Rattle.window_mgr.specs.FullDesk.{FullDesk, FullState, IsRight, AreNumbered, layered_desk, layered_state}
-use Rattle.window_mgr.specs.Whole.{IsSound, IsSettled, IsStocked}
+use Rattle.window_mgr.specs.FullDesk.{FullDesk, FullState, IsRightState, AreNumbered, layered_desk, layered_state}
+use Rattle.window_mgr.specs.Whole.{IsSoundDesk, IsSettled, IsStocked}
 use Rattle.window_mgr.proofs.PutIn.{put_in, put_permutes, put_last, IsFree, found_put, distinct_out, below_out, All-out, is_put, IsTakenOut, out_of}
 use Rattle.window_mgr.proofs.Rearranged.{layers_lit, length_lit, numbered_lit, settled_all, stocked_lit, stocked_put}
 use Rattle.window_mgr.proofs.SlotLemmas.{map-set}
@@ -91,7 +91,7 @@ module _ (before : FullDesk) (s i : ℕ) (w : WindowRecord) (rest : List WindowR
         by_owner p (Content n part) e other = ap (λ found. content_bit found part p) (others_found n (not-true (s == n) other))
 
   -- the desk is sound as it was
-  pub sound_left : IsSound before → IsShut (loan_of w) before.stock slots → IsSound left
+  pub sound_left : IsSoundDesk before → IsShut (loan_of w) before.stock slots → IsSoundDesk left
   sound_left sound shut = record {
     screen = sound.screen;
     distinct = distinct_left sound.distinct;
@@ -109,7 +109,7 @@ module _ (before : FullDesk) (s i : ℕ) (w : WindowRecord) (rest : List WindowR
 
 -- ---- the step
 
-pub disposed_stays_right : (s : ℕ) (before after : FullState) → IsRight before → IsWindowDisposed s before after → IsRight after
+pub disposed_stays_right : (s : ℕ) (before after : FullState) → IsRightState before → IsWindowDisposed s before after → IsRightState after
 disposed_stays_right s before after right closed =
     let sound = close_is_sound before.desk s out.place closed.window out.rest one activation after.desk.stock right.plain.desk before.stale before.image in
     record {

@@ -36,9 +36,9 @@ use Rattle.window_mgr.specs.Planned.{SameDesk, MayDraw, IsDrawnAt}
 use Rattle.vis_update.specs.Records.{record_of}
 use Rattle.window_mgr.specs.Records.{desk_of, state_of}
 use Rattle.vis_update.specs.Areas.{stale_in}
-use Rattle.window_mgr.specs.Effects.{IsDrawn, IsUnchanged, with_operation, draw_change}
+use Rattle.window_mgr.specs.Effects.{IsDrawn, IsUnchanged, with_drawn, draw_change}
 use Rattle.window_mgr.specs.Step.{IsCallRefused}
-use Rattle.window_mgr.specs.Whole.{IsWhole, IsSound, IsSettled}
+use Rattle.window_mgr.specs.Whole.{IsWholeManager, IsSoundDesk, IsSettled}
 use Rattle.vis_update.specs.Areas.{IsGray, IsDesktop, IsArea, AreAreas, is_content_of}
 use Rattle.window_mgr.proofs.DrawnLayers as drawn
 use Rattle.window_mgr.proofs.DrawRefusals.{record_there, unrefused}
@@ -89,7 +89,7 @@ not_stale desk stale (w ∷ ws) [] p its e = absurd its
 -- ---- a window that is put into its place
 
 -- a window of another number is as it was
-untouched : (font : List ℕ) (s : ℕ) (op : Op) (ws : List WindowRecord) → layers.window_of s (map (layered_window font) ws) ≡ None → map (with_operation s op) ws ≡ ws
+untouched : (font : List ℕ) (s : ℕ) (op : Op) (ws : List WindowRecord) → layers.window_of s (map (layered_window font) ws) ≡ None → map (with_drawn s op) ws ≡ ws
 untouched font s op [] none = refl
 untouched font s op (w ∷ ws) none =
     let first = not_first (w.serial == s) (layered_window font w) (layers.window_of s (map (layered_window font) ws)) none in
@@ -97,7 +97,7 @@ untouched font s op (w ∷ ws) none =
 
 module _ {V : Type 0} {H : V → Type 0} (loan : Taken V H → Loan) (font : List ℕ) (s : ℕ) (op : Op) where
   put_is_map : (ws : List (Window V H)) (i : ℕ) (x : Window V H) → layers.AreWindows (map (layered_window font) (map (record_of loan) ws)) → slice_get ws i ≡ Some x → (x.serial == s) ≡ true → x.serial ≡ s
-      → map (record_of loan) (set ws i (record x { picture = x.picture ++ op ∷ [] })) ≡ map (with_operation s op) (map (record_of loan) ws)
+      → map (record_of loan) (set ws i (record x { picture = x.picture ++ op ∷ [] })) ≡ map (with_drawn s op) (map (record_of loan) ws)
   put_is_map [] i x distinct there its number = absurd (cc)
   put_is_map (w ∷ ws) zero x distinct there its number =
       let same : w ≡ x = cc in
@@ -111,12 +111,12 @@ module _ {V : Type 0} {H : V → Type 0} (loan : Taken V H → Loan) (font : Lis
 
 -- ---- the desk before and after
 
-module _ {V : Type 0} {H : V → Type 0} (loan : Taken V H → Loan) (t new : WindowManager V H) (slots : List SlotView) (d : Drawing) (at : ℕ) (whole : IsWhole loan t slots) (may : MayDraw d t at) (D : IsDrawnAt at d t new) where
+module _ {V : Type 0} {H : V → Type 0} (loan : Taken V H → Loan) (t new : WindowManager V H) (slots : List SlotView) (d : Drawing) (at : ℕ) (whole : IsWholeManager loan t slots) (may : MayDraw d t at) (D : IsDrawnAt at d t new) where
   abbrev before : FullDesk
   before = desk_of loan t slots
 
   abbrev after : FullDesk
-  after = record before { windows = map (with_operation d.window D.operation) before.windows }
+  after = record before { windows = map (with_drawn d.window D.operation) before.windows }
 
   abbrev change : plain.Change
   change = draw_change t.font d.window (record_of loan D.window) D.operation
@@ -232,31 +232,31 @@ module _ {V : Type 0} {H : V → Type 0} (loan : Taken V H → Loan) (t new : Wi
 
   -- ---- what is kept
 
-  settled_more : (w : WindowRecord) → IsSettled w → IsSettled (with_operation d.window D.operation w)
+  settled_more : (w : WindowRecord) → IsSettled w → IsSettled (with_drawn d.window D.operation w)
   settled_more w its = by_test (w.serial == d.window)
     where
       by_test : (b : Bool) → IsSettled (if b then record w { picture = w.picture ++ D.operation ∷ [] } else w)
       by_test true = record { origin = its.origin; placed = its.placed; live = its.live; told = its.told; fits = its.fits; inside = its.inside; within = its.within }
       by_test false = its
 
-  same_slot : (w : WindowRecord) → (with_operation d.window D.operation w).slot ≡ w.slot
+  same_slot : (w : WindowRecord) → (with_drawn d.window D.operation w).slot ≡ w.slot
   same_slot w = by_test (w.serial == d.window)
     where
       by_test : (b : Bool) → (if b then record w { picture = w.picture ++ D.operation ∷ [] } else w).slot ≡ w.slot
       by_test true = refl
       by_test false = refl
 
-  sound_after : IsSound after
+  sound_after : IsSoundDesk after
   sound_after =
-      let long : length after.windows ≡ length before.windows = length-map before.windows (with_operation d.window D.operation) in
+      let long : length after.windows ≡ length before.windows = length-map before.windows (with_drawn d.window D.operation) in
       let few = whole.sound.few in
       record {
         screen = whole.sound.screen;
         distinct = after_distinct;
-        numbered = numbered_map (with_operation d.window D.operation) (drawn_serial d.window D.operation) before.next before.windows whole.sound.numbered;
+        numbered = numbered_map (with_drawn d.window D.operation) (drawn_serial d.window D.operation) before.next before.windows whole.sound.numbered;
         few = omega arith;
-        settled = settled_map (with_operation d.window D.operation) settled_more before.windows whole.sound.settled;
-        stocked = stocked_map (with_operation d.window D.operation) same_slot before.windows slots whole.sound.stocked;
+        settled = settled_map (with_drawn d.window D.operation) settled_more before.windows whole.sound.settled;
+        stocked = stocked_map (with_drawn d.window D.operation) same_slot before.windows slots whole.sound.stocked;
       }
 
   area_same : (n m : ℕ) (a : Area) → n ≡ m → IsArea (layered_desk before) (stale_in t.areas.items) n a → IsArea (layered_desk after) (stale_in t.areas.items) m a
@@ -266,15 +266,15 @@ module _ {V : Type 0} {H : V → Type 0} (loan : Taken V H → Loan) (t new : Wi
     frame = λ p. its.frame p ∙ (λ i. layers.on_screen (layered_desk before) p && same_owner (sym (owner_same p) i) (Frame (same i)));
   }
 
-  areas_same : (ws : List WindowRecord) (areas : List Area) → AreAreas (layered_desk before) (stale_in t.areas.items) ws areas → AreAreas (layered_desk after) (stale_in t.areas.items) (map (with_operation d.window D.operation) ws) areas
+  areas_same : (ws : List WindowRecord) (areas : List Area) → AreAreas (layered_desk before) (stale_in t.areas.items) ws areas → AreAreas (layered_desk after) (stale_in t.areas.items) (map (with_drawn d.window D.operation) ws) areas
   areas_same [] [] its = tt
-  areas_same (w ∷ ws) (a ∷ areas) its = (area_same w.serial (with_operation d.window D.operation w).serial a (sym (drawn_serial d.window D.operation w)) its.0, areas_same ws areas its.1)
+  areas_same (w ∷ ws) (a ∷ areas) its = (area_same w.serial (with_drawn d.window D.operation w).serial a (sym (drawn_serial d.window D.operation w)) its.0, areas_same ws areas its.1)
   areas_same [] (a ∷ areas) its = absurd its
   areas_same (w ∷ ws) [] its = absurd its
 
-  pub is_whole : IsWhole loan new slots
+  pub is_whole : IsWholeManager loan new slots
   is_whole = record {
-    sound = subst IsSound (sym desk_is) sound_after;
+    sound = subst IsSoundDesk (sym desk_is) sound_after;
     gray = subst (λ (x : FullDesk × Pixels). IsGray (layered_desk x.0) x.1) (λ i. (sym desk_is i, sym D.gray i)) whole.gray;
     desktop = subst (λ (x : FullDesk × Pixels). IsDesktop (layered_desk x.0) x.1) (λ i. (sym desk_is i, sym D.desktop i)) (λ p. whole.desktop p ∙ (λ i. layers.on_screen (layered_desk before) p && same_owner (sym (owner_same p) i) Desktop));
     areas = subst (λ (x : FullDesk × List Area). AreAreas (layered_desk x.0) (stale_in x.1) x.0.windows x.1) (λ i. (sym desk_is i, sym D.areas i)) (areas_same before.windows t.areas.items whole.areas);
@@ -284,6 +284,6 @@ module _ {V : Type 0} {H : V → Type 0} (loan : Taken V H → Loan) (t new : Wi
 
 -- ---- the call that was refused for want of memory
 
-module _ {V : Type 0} {H : V → Type 0} (loan : Taken V H → Loan) (t u : WindowManager V H) (slots : List SlotView) (d : Drawing) (at : ℕ) (whole : IsWhole loan t slots) (may : MayDraw d t at) (same : SameDesk t u) where
+module _ {V : Type 0} {H : V → Type 0} (loan : Taken V H → Loan) (t u : WindowManager V H) (slots : List SlotView) (d : Drawing) (at : ℕ) (whole : IsWholeManager loan t slots) (may : MayDraw d t at) (same : SameDesk t u) where
   pub no_memory : IsCallRefused (Draw d) NoMemory (state_of loan t slots) × IsUnchanged (state_of loan t slots) (state_of loan u slots)
   no_memory = (inr (unrefused loan t (kept loan t slots whole) d at may, (refl, refl)), stays_unchanged loan t u slots slots same refl)

@@ -15,7 +15,7 @@ use Rattle.def_iface.proofs.Owning.{same_number, same_owner-true, not_first}
 use Rattle.vis_update.specs.Records.{WindowRecord, layered_window}
 use Rattle.window_mgr.specs.FullDesk.{FullDesk, layered_desk}
 use Rattle.window_mgr.specs.Finding.{record_with}
-use Rattle.window_mgr.specs.Effects.{with_operation, draw_change}
+use Rattle.window_mgr.specs.Effects.{with_drawn, draw_change}
 
 module _ (font : List ℕ) (s : ℕ) (op : Op) where
   -- the windows as layers, and those with the operation
@@ -23,7 +23,7 @@ module _ (font : List ℕ) (s : ℕ) (op : Op) where
   bare ws = map (layered_window font) ws
 
   abbrev drawn : List WindowRecord → List layers.Window
-  drawn ws = map (layered_window font) (map (with_operation s op) ws)
+  drawn ws = map (layered_window font) (map (with_drawn s op) ws)
 
   abbrev one : Bool → WindowRecord → WindowRecord
   one b w = if b then record w { picture = w.picture ++ op ∷ [] } else w
@@ -100,7 +100,7 @@ module _ (font : List ℕ) (s : ℕ) (op : Op) where
 
 module _ (desk : FullDesk) (s : ℕ) (v : WindowRecord) (op : Op) (found : record_with s desk.windows ≡ Some v) where
   abbrev pub after : FullDesk
-  after = record desk { windows = map (with_operation s op) desk.windows }
+  after = record desk { windows = map (with_drawn s op) desk.windows }
 
   -- each pixel has the owner that it had
   pub owner_same : (p : Point) → owner (layered_desk after) p ≡ owner (layered_desk desk) p

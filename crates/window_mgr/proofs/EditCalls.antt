@@ -26,10 +26,10 @@ use Rattle.window_mgr.specs.declared.manager.WindowManager.{WindowManager}
 use Rattle.window_mgr.specs.FullDesk.{FullDesk, layered_state}
 use Rattle.window_mgr.specs.Arrange.{activated, desk_activated, highlighted}
 use Rattle.window_mgr.specs.Commits.{IsPlanDrawn}
-use Rattle.window_mgr.specs.Edits.{put_record, put_window, records_put, relit_all, IsAt, IsPlanOfEdit, IsDeskOfEdit, IsPlaceable, SameSize, IsActivation, AreSettledAfter, IsCommitted}
+use Rattle.window_mgr.specs.Edits.{put_record, put_window, records_put, relit_all, IsWindowAt, IsPlanOfEdit, IsDeskOfEdit, IsPlaceable, SameSize, IsActivation, AreSettledAfter, IsCommitted}
 use Rattle.window_mgr.specs.Effects.{IsArrangement}
 use Rattle.window_mgr.specs.Records.{desk_of, state_of}
-use Rattle.window_mgr.specs.Whole.{IsWhole, IsSettled}
+use Rattle.window_mgr.specs.Whole.{IsWholeManager, IsSettled}
 use Rattle.window_mgr.proofs.PutIn.{put_in, put_is_insert, taken_out, All-out, All-put, map-put}
 use Rattle.window_mgr.proofs.DimLemmas.{dimmed_record}
 use Rattle.window_mgr.proofs.Rearranged.{IsEdit, edited, sound_now, distinct_now, others_found, stands_lit, settled_all, relit_record}
@@ -64,7 +64,7 @@ module _ {V : Type 0} {H : V → Type 0} (loan : Taken V H → Loan) where
 
   -- ---- a window and the place of the edit
 
-  module _ (t : WindowManager V H) (slots : List SlotView) (e : Edit) (a : Activation) (w : Window V H) (w_is : IsAt t.windows.records.items e.at w) (low : e.at < length t.windows.records.items) where
+  module _ (t : WindowManager V H) (slots : List SlotView) (e : Edit) (a : Activation) (w : Window V H) (w_is : IsWindowAt t.windows.records.items e.at w) (low : e.at < length t.windows.records.items) where
     abbrev pub rest : List WindowRecord
     rest = map (record_of loan) (remove t.windows.records.items e.at)
 
@@ -108,7 +108,7 @@ module _ {V : Type 0} {H : V → Type 0} (loan : Taken V H → Loan) where
 
   -- all that is known where a call put one window anew
   pub record IsEditCall (e : Edit) (activates : Activates) (activation : Activation) (by : Option Point) (plan : Plan) (t new : WindowManager V H) (slots : List SlotView) : Type 0 where
-    pub whole : IsWhole loan t slots
+    pub whole : IsWholeManager loan t slots
     pub low : e.at < length t.windows.records.items
     pub may : IsPlaceable loan e t.windows.records.items
     pub same : SameSize e t.windows.records.items
@@ -120,7 +120,7 @@ module _ {V : Type 0} {H : V → Type 0} (loan : Taken V H → Loan) where
     abbrev w : Window V H
     w = N.committed.window
 
-    w_is : IsAt t.windows.records.items e.at w
+    w_is : IsWindowAt t.windows.records.items e.at w
     w_is = N.committed.at
 
     abbrev left : FullDesk
@@ -172,10 +172,10 @@ module _ {V : Type 0} {H : V → Type 0} (loan : Taken V H → Loan) where
         first_is true y f = f
         first_is false y f = refl
 
-    pub edit_is_whole : IsWhole loan new slots
+    pub edit_is_whole : IsWholeManager loan new slots
     edit_is_whole = arranged_is_whole loan touch t new slots slots left plan edit_arranged
 
-    pub edit_is_left : (v : Window V H) → IsAt t.windows.records.items e.at v
+    pub edit_is_left : (v : Window V H) → IsWindowAt t.windows.records.items e.at v
         → IsArrangement (record { window = v.serial; by = by; windows = records_put loan e v t; activates = activates }) (state_of loan t slots) (state_of loan new slots)
     edit_is_left v v_is = subst (λ (x : Window V H). IsArrangement (record { window = x.serial; by = by; windows = records_put loan e x t; activates = activates }) (state_of loan t slots) (state_of loan new slots)) (same_at t.windows.records.items e.at w v N.low w_is v_is) (record {
       desk = left_is.0 ∙ after_is t slots e activation w w_is N.low ∙ ap (λ x. desk_activated (records_put loan e w t) x (desk_of loan t slots)) (N.becomes w w_is);
@@ -186,6 +186,6 @@ module _ {V : Type 0} {H : V → Type 0} (loan : Taken V H → Loan) where
         left_is = arranged_is_left loan touch t new slots slots left plan edit_arranged
 
   -- every window is settled, whichever stands at the place
-  pub all_settled : (t : WindowManager V H) (slots : List SlotView) (e : Edit) (a : Activation) → IsWhole loan t slots → e.at < length t.windows.records.items → IsPlaceable loan e t.windows.records.items → SameSize e t.windows.records.items
+  pub all_settled : (t : WindowManager V H) (slots : List SlotView) (e : Edit) (a : Activation) → IsWholeManager loan t slots → e.at < length t.windows.records.items → IsPlaceable loan e t.windows.records.items → SameSize e t.windows.records.items
       → AreSettledAfter loan e a t.windows.active t.windows.records.items
   all_settled t slots e a whole low may same w w_is = settled_after t slots e a w w_is low may (same w w_is) whole.sound.settled

@@ -21,7 +21,7 @@ use Rattle.vis_update.specs.Seats.{stand_of, seat_stand, IsPlacedSeat, IsNearSea
 use Rattle.window_mgr.specs.declared.arrange.Edit.{Edit}
 use Rattle.window_mgr.specs.declared.manager.WindowManager.{WindowManager}
 use Rattle.window_mgr.specs.FullDesk.{FullDesk, layered_desk, layered_state}
-use Rattle.window_mgr.specs.Edits.{put_record, records_put, IsAt, AreSeatsAfter, IsDeskOfEdit, IsPlaceable, SameSize}
+use Rattle.window_mgr.specs.Edits.{put_record, records_put, IsWindowAt, AreSeatsAfter, IsDeskOfEdit, IsPlaceable, SameSize}
 use Rattle.window_mgr.specs.Finding.{front_of}
 use Rattle.window_mgr.specs.Kept.{IsKept}
 use Rattle.window_mgr.specs.Records.{state_of}
@@ -131,7 +131,7 @@ module _ {V : Type 0} {H : V → Type 0} (loan : Taken V H → Loan) (t : Window
       all_anew (IsPlacedSeat loan) (seats_placed loan t.windows.records.items t.areas.items S.all S.are kept.settled)
       ((λ i. is_placed (Some (loan (its.1.taken i)).definition) e.place e.size) ∙ may w.0 w.1)
 
-  module _ (w : Window V H) (w_is : IsAt t.windows.records.items e.at w) where
+  module _ (w : Window V H) (w_is : IsWindowAt t.windows.records.items e.at w) where
     seat_put : seat_stand loan (record S.seat { place = e.place; size = e.size; shown = e.shown }) ≡ stand_of (put_record e (record_of loan w))
     seat_put =
         let its = seat_at t.windows.records.items t.areas.items S.all e.at w S.seat S.are low w_is S.at in
@@ -165,16 +165,16 @@ module _ {V : Type 0} {H : V → Type 0} (loan : Taken V H → Loan) (t : Window
     front_put = first_stand loan seats (records_put loan e w t) seats_put
 
 -- a window that stays where it is, with its size, may be there
-pub may_stay : {V : Type 0} {H : V → Type 0} (loan : Taken V H → Loan) (e : Edit) (ws : List (Window V H)) (x : Window V H) → e.at < length ws → IsAt ws e.at x → e.place ≡ x.place → e.size ≡ x.size → All IsSettled (map (record_of loan) ws) → IsPlaceable loan e ws
+pub may_stay : {V : Type 0} {H : V → Type 0} (loan : Taken V H → Loan) (e : Edit) (ws : List (Window V H)) (x : Window V H) → e.at < length ws → IsWindowAt ws e.at x → e.place ≡ x.place → e.size ≡ x.size → All IsSettled (map (record_of loan) ws) → IsPlaceable loan e ws
 may_stay loan e ws x low x_is place_is size_is settled w w_is =
     let same : x ≡ w = same_at ws e.at x w low x_is w_is in
     let its = settled_in loan ws e.at w low w_is settled in
     (λ i. is_placed (Some (loan w.taken).definition) ((place_is ∙ ap (λ (z : Window _ _). z.place) same) i) ((size_is ∙ ap (λ (z : Window _ _). z.size) same) i))
     ∙ placed_from (loan w.taken).definition w.place w.size its.placed its.fits its.inside
 
-pub may_stay_as : {V : Type 0} {H : V → Type 0} (loan : Taken V H → Loan) (e f : Edit) (ws : List (Window V H)) (x : Window V H) → e ≡ f → f.at < length ws → IsAt ws f.at x → f.place ≡ x.place → f.size ≡ x.size → All IsSettled (map (record_of loan) ws) → IsPlaceable loan e ws
+pub may_stay_as : {V : Type 0} {H : V → Type 0} (loan : Taken V H → Loan) (e f : Edit) (ws : List (Window V H)) (x : Window V H) → e ≡ f → f.at < length ws → IsWindowAt ws f.at x → f.place ≡ x.place → f.size ≡ x.size → All IsSettled (map (record_of loan) ws) → IsPlaceable loan e ws
 may_stay_as loan e f ws x same low x_is place_is size_is settled = subst (λ (y : Edit). IsPlaceable loan y ws) (sym same) (may_stay loan f ws x low x_is place_is size_is settled)
 
 -- and has its size
-pub same_size : {V : Type 0} {H : V → Type 0} (e : Edit) (ws : List (Window V H)) (x : Window V H) → e.at < length ws → IsAt ws e.at x → e.size ≡ x.size → SameSize e ws
+pub same_size : {V : Type 0} {H : V → Type 0} (e : Edit) (ws : List (Window V H)) (x : Window V H) → e.at < length ws → IsWindowAt ws e.at x → e.size ≡ x.size → SameSize e ws
 same_size e ws x low x_is size_is w w_is = size_is ∙ ap (λ (z : Window _ _). z.size) (same_at ws e.at x w low x_is w_is)

@@ -28,7 +28,7 @@ use Rattle.window_mgr.specs.Records.{desk_of}
 use Rattle.vis_update.specs.Areas.{stale_in}
 use Rattle.window_mgr.specs.Begin.{IsEmptyDesk, empty_desk}
 use Rattle.desk_ground.specs.Grounds.{IsGround}
-use Rattle.window_mgr.specs.Whole.{IsWhole, IsSound}
+use Rattle.window_mgr.specs.Whole.{IsWholeManager, IsSoundDesk}
 use Rattle.desk_ground.specs.Screens.{is_bar, is_screen, is_screen_side}
 use Rattle.vis_update.specs.Areas.{IsGray, IsDesktop, AreAreas}
 use Rattle.window_mgr.proofs.Arranged.{between-is_below}
@@ -116,7 +116,7 @@ module _ {V : Type 0} {H : V → Type 0} (loan : Taken V H → Loan) (width heig
       by_bar true = refl
       by_bar false = refl
 
-  sound : IsSound empty
+  sound : IsSoundDesk empty
   sound = record {
     screen = B.screen;
     distinct = tt;
@@ -133,9 +133,9 @@ module _ {V : Type 0} {H : V → Type 0} (loan : Taken V H → Loan) (width heig
   none_stale : (p : Point) → stale_in t.areas.items p ≡ false
   none_stale p = ap (λ areas. stale_in areas p) B.areas
 
-  pub empty_is_whole : IsWhole loan t slots
+  pub empty_is_whole : IsWholeManager loan t slots
   empty_is_whole = record {
-    sound = subst IsSound (sym desk_is) sound;
+    sound = subst IsSoundDesk (sym desk_is) sound;
     gray = subst (λ (d : FullDesk). IsGray (layered_desk d) t.gray) (sym desk_is) gray_is;
     desktop = subst (λ (d : FullDesk). IsDesktop (layered_desk d) t.desktop) (sym desk_is) desktop_is;
     areas = subst (λ (x : FullDesk × List Area). AreAreas (layered_desk x.0) (stale_in x.1) x.0.windows x.1) (λ i. (sym desk_is i, sym B.areas i)) tt;

@@ -4,7 +4,7 @@ use Rattle.tb_geom.specs.declared.refusal.Refusal.{Refusal}
 use Rattle.desk_call.specs.declared.window.WindowCall.{WindowCall}
 use Rattle.desk_call.specs.declared.window.WindowReply.{WindowReply}
 use Rattle.window_mgr.specs.FullDesk.{FullDesk, FullState}
-use Rattle.window_mgr.specs.Step.{IsStep}
+use Rattle.window_mgr.specs.Step.{IsWindowStep}
 use Rattle.window_mgr.specs.Effects.{Effect, IsEffect, effect_of}
 use Rattle.window_mgr.specs.Effects.Effect.{Makes, Disposes, Draws, Arranges, Sizes, Tells, Describes}
 use Rattle.window_mgr.proofs.SlotLemmas.{kinds_when_taken}
@@ -23,6 +23,6 @@ effect_keeps_kinds (Sizes z) answer before after (is, change) = ap (λ (d : Full
 effect_keeps_kinds (Tells r) answer before after (is, same) = ap (λ (d : FullDesk). map (λ slot. slot.kind) d.stock) same.desk
 effect_keeps_kinds (Describes region) answer before after (is, same) = ap (λ (d : FullDesk). map (λ slot. slot.kind) d.stock) same.desk
 
-pub step_keeps_kinds : (call : WindowCall) (answer : Result WindowReply Refusal) (before after : FullState) → IsStep call answer before after → kinds_of after ≡ kinds_of before
+pub step_keeps_kinds : (call : WindowCall) (answer : Result WindowReply Refusal) (before after : FullState) → IsWindowStep call answer before after → kinds_of after ≡ kinds_of before
 step_keeps_kinds call (Ok answer) before after step = effect_keeps_kinds (effect_of call before.desk) answer before after step.1
 step_keeps_kinds call (Err e) before after step = ap (λ (d : FullDesk). map (λ slot. slot.kind) d.stock) step.1.desk

@@ -40,7 +40,7 @@ use Rattle.window_mgr.specs.Planned.{IsPlanWith, IsAdded, IsUnplanned, SameDesk,
 use Rattle.window_list.specs.Lists.{dimmed}
 use Rattle.vis_update.specs.Plans.{IsPlan}
 use Rattle.vis_update.specs.Touches.{change_of, draws_whole, is_this}
-use Rattle.window_mgr.specs.Whole.{IsWhole, IsSound, IsSettled}
+use Rattle.window_mgr.specs.Whole.{IsWholeManager, IsSoundDesk, IsSettled}
 use Rattle.window_mgr.specs.Commits.{IsPlanDrawn}
 use Rattle.window_mgr.proofs.SlotLemmas.{stocked_with, put_back_is_old}
 use Rattle.window_mgr.proofs.RefusalLemmas.{refusal_is, unplanned_is_refused}
@@ -122,7 +122,7 @@ settled_added loan w n slot d begun added active ws items seen items_are live pl
 module _ {V : Type 0} {H : V → Type 0} (loan : Taken V H → Loan) where
   -- all that is known where a window was added
   pub record IsNew (w : NewWindow) (n : ℕ) (taken : Loan) (touch : Touch) (plan : Plan) (t planned new : WindowManager V H) (slots left : List SlotView) : Type 0 where
-    pub whole : IsWhole loan t slots
+    pub whole : IsWholeManager loan t slots
     pub same : SameDesk t planned
     pub unrefused_is : first_refusal (judged_refusals w (is_placed (Some taken.definition) w.place w.size) (length t.windows.records.items) t.windows.next) ≡ None
     pub touch_is : touch ≡ new_touch w n planned.windows.active
@@ -208,7 +208,7 @@ module _ {V : Type 0} {H : V → Type 0} (loan : Taken V H → Loan) where
         let same : length (windows_behind t.windows.active w.shown before.windows) ≡ length before.windows = length_behind t.windows.active w.shown before.windows in
         omega arith
 
-    sound_after : IsSound after
+    sound_after : IsSoundDesk after
     sound_after = record {
       screen = N.whole.sound.screen;
       distinct = subst layers.IsDesk (sym layers_are) (free, ((refl, tt), N.whole.sound.distinct));
@@ -232,7 +232,7 @@ module _ {V : Type 0} {H : V → Type 0} (loan : Taken V H → Loan) where
       gray = N.added.gray ∙ N.same.gray;
     }
 
-    pub is_whole : IsWhole loan new left
+    pub is_whole : IsWholeManager loan new left
     is_whole = arranged_is_whole loan touch t new slots left after plan arranged
 
     pub is_new_window : IsNewWindow w n (state_of loan t slots) (state_of loan new left)
@@ -251,7 +251,7 @@ module _ {V : Type 0} {H : V → Type 0} (loan : Taken V H → Loan) where
     is_made = (refusal_is loan w taken t slots left N.took ∙ N.unrefused_is, is_new_window)
 
   -- the call was refused: the definition is back in its slot
-  pub is_not_made : (w : NewWindow) (e : Refusal) (taken : Loan) (t planned : WindowManager V H) (slots left back : List SlotView) → IsWhole loan t slots → IsTaken w.kind taken slots left → IsUnplanned w (is_placed (Some taken.definition) w.place w.size) (length t.windows.records.items) t.windows.next e → SameDesk t planned → IsPutBack taken left back → IsNotMade w e (state_of loan t slots) (state_of loan planned back)
+  pub is_not_made : (w : NewWindow) (e : Refusal) (taken : Loan) (t planned : WindowManager V H) (slots left back : List SlotView) → IsWholeManager loan t slots → IsTaken w.kind taken slots left → IsUnplanned w (is_placed (Some taken.definition) w.place w.size) (length t.windows.records.items) t.windows.next e → SameDesk t planned → IsPutBack taken left back → IsNotMade w e (state_of loan t slots) (state_of loan planned back)
   is_not_made w e taken t planned slots left back whole took unplanned same back_is = (
     unplanned_is_refused loan w taken t slots left took e unplanned,
     stays_unchanged loan t planned slots back same (put_back_is_old w.kind taken slots left took back back_is),

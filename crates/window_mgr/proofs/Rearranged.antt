@@ -19,7 +19,7 @@ use Rattle.window_mgr.specs.declared.arrange.Activation.{Activation}
 use Rattle.window_mgr.specs.declared.arrange.Activation.TheVariants.{Stays, Becomes}
 use Rattle.window_mgr.specs.FullDesk.{FullDesk, AreNumbered, layered_desk}
 use Rattle.window_mgr.specs.Arrange.{unhighlighted, highlighted, activated, desk_activated}
-use Rattle.window_mgr.specs.Whole.{IsSound, IsSettled, IsStocked}
+use Rattle.window_mgr.specs.Whole.{IsSoundDesk, IsSettled, IsStocked}
 use Rattle.window_mgr.proofs.PutIn.{put_in, IsFree, found_put, distinct_put, distinct_out, below_put, below_out, put_permutes, All-out, All-put, AllPairs-put, AllPairs-out, Contains-put}
 use Rattle.window_mgr.proofs.EachChanged.{map-map, settled_map, stocked_map, numbered_map}
 use Rattle.window_mgr.proofs.DimLemmas.{either}
@@ -187,7 +187,7 @@ module _ (before : FullDesk) (s i j : ℕ) (w v : WindowRecord) (rest : List Win
       by_next (Some n) h = let parts = below_out n i w rest h in below_put n j v rest (subst (λ k. k < n) (sym E.same_serial) parts.0) parts.1
 
   -- the desk is sound as it was
-  pub sound_now : IsSound before → v.slot ≡ w.slot → IsSettled v → IsSound edited
+  pub sound_now : IsSoundDesk before → v.slot ≡ w.slot → IsSettled v → IsSoundDesk edited
   sound_now sound slot settled = record {
     screen = sound.screen;
     distinct = distinct_now sound.distinct;

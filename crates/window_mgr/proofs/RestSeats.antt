@@ -18,7 +18,7 @@ use Rattle.vis_update.proofs.SeatLemmas.{seats_near}
 use Rattle.window_mgr.specs.declared.arrange.Activation.{Activation}
 use Rattle.window_mgr.specs.declared.arrange.Activation.TheVariants.{Stays, Becomes}
 use Rattle.window_mgr.specs.declared.manager.WindowManager.{WindowManager}
-use Rattle.window_mgr.specs.Edits.{IsAt, relit_all}
+use Rattle.window_mgr.specs.Edits.{IsWindowAt, relit_all}
 use Rattle.window_mgr.specs.Finding.{front_of}
 use Rattle.window_mgr.specs.FullDesk.{FullDesk, layered_desk, layered_state}
 use Rattle.window_mgr.specs.Kept.{IsKept}
@@ -68,10 +68,10 @@ module _ {V : Type 0} {H : V → Type 0} where
   -- the window that stood at the place has the same definition
   pub record WasAt (i : ℕ) (ws : List (Window V H)) (w : Window V H) : Type 0 where
     pub window : Window V H
-    pub there : IsAt ws i window
+    pub there : IsWindowAt ws i window
     pub its : w.taken ≡ window.taken
 
-  pub was_at : (a : Activation) (former : Option ℕ) (ws : List (Window V H)) (i : ℕ) (w : Window V H) → i < length ws → IsAt (relit_all a former ws) i w → WasAt i ws w
+  pub was_at : (a : Activation) (former : Option ℕ) (ws : List (Window V H)) (i : ℕ) (w : Window V H) → i < length ws → IsWindowAt (relit_all a former ws) i w → WasAt i ws w
   was_at Stays former ws i w low w_is = record { window = w; there = w_is; its = refl }
   was_at (Becomes s) former ws i w low w_is = among ws i low w_is
     where

@@ -18,9 +18,9 @@ use Rattle.desk_call.specs.declared.window.Drawing.{Drawing}
 use Rattle.desk_call.specs.declared.window.NewWindow.{NewWindow}
 use Rattle.desk_call.specs.declared.window.WindowReply.{WindowReply}
 use Rattle.vis_update.specs.Records.{WindowRecord, layered_window}
-use Rattle.window_mgr.specs.FullDesk.{FullDesk, FullState, IsRight, AreBelow, AreNumbered, layered_desk, layered_state}
-use Rattle.window_mgr.specs.Step.{IsStep}
-use Rattle.window_mgr.specs.Effects.{IsNewWindow, IsDrawn, IsUnchanged, IsArrangement, Effect, IsEffect, effect_of, new_record, desk_with, with_operation, draw_change}
+use Rattle.window_mgr.specs.FullDesk.{FullDesk, FullState, IsRightState, AreBelow, AreNumbered, layered_desk, layered_state}
+use Rattle.window_mgr.specs.Step.{IsWindowStep}
+use Rattle.window_mgr.specs.Effects.{IsNewWindow, IsDrawn, IsUnchanged, IsArrangement, Effect, IsEffect, effect_of, new_record, desk_with, with_drawn, draw_change}
 use Rattle.window_mgr.specs.Effects.Effect.{Makes, Disposes, Draws, Arranges, Sizes, Tells, Describes}
 use Rattle.window_mgr.specs.Arrange.{unhighlighted, Arrangement, activation_of, desk_activated, sized}
 use Rattle.window_mgr.specs.Finding.{front_of}
@@ -104,7 +104,7 @@ numbered_with w serial slot d desk below = after_number _ (nat_lt (serial + 1) (
     by_shown true = below_map (unhighlighted desk.active) (same_serial desk.active) _ desk.windows (numbered-more serial desk.windows below)
     by_shown false = numbered-more serial desk.windows below
 
-new_stays_right : (w : NewWindow) (serial : ℕ) (before after : FullState) → IsRight before → IsNewWindow w serial before after → IsRight after
+new_stays_right : (w : NewWindow) (serial : ℕ) (before after : FullState) → IsRightState before → IsNewWindow w serial before after → IsRightState after
 new_stays_right w serial before after right new =
     let new_window = layered_window before.desk.font (new_record w serial new.loan.slot new.begun) in
     let below : AreBelow serial before.desk.windows = subst (λ (n : Option ℕ). AreNumbered n before.desk.windows) new.numbered right.numbered in
@@ -118,25 +118,25 @@ new_stays_right w serial before after right new =
 
 -- ---- an operation is a sound change
 
-pub drawn_serial : (s : ℕ) (op : Op) (w : WindowRecord) → (with_operation s op w).serial ≡ w.serial
+pub drawn_serial : (s : ℕ) (op : Op) (w : WindowRecord) → (with_drawn s op w).serial ≡ w.serial
 drawn_serial s op w = by_test (w.serial == s)
   where
     by_test : (b : Bool) → (if b then record w { picture = w.picture ++ op ∷ [] } else w).serial ≡ w.serial
     by_test true = refl
     by_test false = refl
 
-draw_stays_right : (d : Drawing) (before after : FullState) → IsRight before → IsDrawn d before after → IsRight after
+draw_stays_right : (d : Drawing) (before after : FullState) → IsRightState before → IsDrawn d before after → IsRightState after
 draw_stays_right d before after right drawn =
     let change = draw_change before.desk.font d.window drawn.window drawn.operation in
     let sound = draw_is_sound before.desk d.window drawn.window drawn.operation drawn.found before.stale before.image right.plain.desk in
     record {
       plain = stays_right change (layered_state before) (layered_state after) right.plain (subst (plain.IsSound change (layered_state before)) (sym (ap layered_desk drawn.desk)) sound) drawn.pixels;
-      numbered = subst (λ (x : FullDesk). AreNumbered x.next x.windows) (sym drawn.desk) (numbered_map (with_operation d.window drawn.operation) (drawn_serial d.window drawn.operation) before.desk.next before.desk.windows right.numbered);
+      numbered = subst (λ (x : FullDesk). AreNumbered x.next x.windows) (sym drawn.desk) (numbered_map (with_drawn d.window drawn.operation) (drawn_serial d.window drawn.operation) before.desk.next before.desk.windows right.numbered);
     }
 
 -- ---- steps and runs
 
-unchanged_stays_right : (before after : FullState) → IsRight before → IsUnchanged before after → IsRight after
+unchanged_stays_right : (before after : FullState) → IsRightState before → IsUnchanged before after → IsRightState after
 unchanged_stays_right before after right same =
     let desk = ap layered_desk same.desk in
     let on_before = λ (p : Point) (on : layers.on_screen (layered_desk after.desk) p ≡ true). subst (λ (d : layers.Desk). layers.on_screen d p ≡ true) desk on in
@@ -155,7 +155,7 @@ unchanged_stays_right before after right same =
       numbered = subst (λ (d : FullDesk). AreNumbered d.next d.windows) (sym same.desk) right.numbered;
     }
 
-arranged_stays_right : (a : Arrangement) (before after : FullState) → IsRight before → IsSoundArrangement a before.desk → IsArrangement a before after → IsRight after
+arranged_stays_right : (a : Arrangement) (before after : FullState) → IsRightState before → IsSoundArrangement a before.desk → IsArrangement a before after → IsRightState after
 arranged_stays_right a before after right E arranged =
     let activation = activation_of a.activates a.window before.desk.active (front_of a.windows) in
     let desk_is : after.desk ≡ edited before.desk a.window E.place E.to E.old E.new E.rest E.edit activation =
@@ -167,7 +167,7 @@ arranged_stays_right a before after right E arranged =
       numbered = subst (λ (x : FullDesk). AreNumbered x.next x.windows) (sym desk_is) (numbered_now before.desk a.window E.place E.to E.old E.new E.rest E.edit activation right.numbered);
     }
 
-effect_stays_right : (effect : Effect) (answer : WindowReply) (before after : FullState) → IsRight before → IsSoundEffect effect before.desk → IsEffect effect answer before after → IsRight after
+effect_stays_right : (effect : Effect) (answer : WindowReply) (before after : FullState) → IsRightState before → IsSoundEffect effect before.desk → IsEffect effect answer before after → IsRightState after
 effect_stays_right (Makes w) answer before after right sound done = new_stays_right w done.0 before after right done.2
 effect_stays_right (Draws d) answer before after right sound done = draw_stays_right d before after right done.1
 effect_stays_right (Arranges a) answer before after right sound done = arranged_stays_right a before after right sound done.1
@@ -176,6 +176,6 @@ effect_stays_right (Sizes z) answer before after right sound done = let change =
 effect_stays_right (Tells r) answer before after right sound done = unchanged_stays_right before after right done.1
 effect_stays_right (Describes region) answer before after right sound done = unchanged_stays_right before after right done.1
 
-pub step_stays_right : (call : WindowCall) (answer : Result WindowReply Refusal) (before after : FullState) → IsRight before → IsStep call answer before after → IsRight after
+pub step_stays_right : (call : WindowCall) (answer : Result WindowReply Refusal) (before after : FullState) → IsRightState before → IsWindowStep call answer before after → IsRightState after
 step_stays_right call (Ok answer) before after right step = effect_stays_right (effect_of call before.desk) answer before after right (effect_is_sound call before right.plain.desk step.0) step.1
 step_stays_right call (Err e) before after right step = unchanged_stays_right before after right step.1

@@ -16,7 +16,7 @@ use Rattle.vis_update.specs.Records.{record_of}
 use Rattle.window_mgr.specs.Records.{desk_of, state_of}
 use Rattle.vis_update.specs.Areas.{stale_in}
 use Rattle.window_mgr.specs.Effects.{IsUnchanged, desk_with}
-use Rattle.window_mgr.specs.Whole.{IsWhole, IsSettled, IsSound, AreFramesShown}
+use Rattle.window_mgr.specs.Whole.{IsWholeManager, IsSettled, IsSoundDesk, AreFramesShown}
 use Rattle.vis_update.specs.Areas.{IsGray, IsDesktop, AreAreas}
 use Rattle.window_mgr.specs.Planned.{SameDesk, IsPlanWith}
 use Rattle.vis_update.specs.Plans.{IsPlan}
@@ -50,9 +50,9 @@ module _ {V : Type 0} {H : V → Type 0} (loan : Taken V H → Loan) (t u : Wind
   }
 
   -- what was whole is whole
-  pub stays_whole : IsWhole loan t slots → IsWhole loan u back
+  pub stays_whole : IsWholeManager loan t slots → IsWholeManager loan u back
   stays_whole whole = record {
-    sound = subst IsSound (sym desk_stays) whole.sound;
+    sound = subst IsSoundDesk (sym desk_stays) whole.sound;
     gray = subst (λ (x : FullDesk × Pixels). IsGray (layered_desk x.0) x.1) (λ i. (sym desk_stays i, sym same.gray i)) whole.gray;
     desktop = subst (λ (x : FullDesk × Pixels). IsDesktop (layered_desk x.0) x.1) (λ i. (sym desk_stays i, sym same.desktop i)) whole.desktop;
     areas = subst (λ (x : FullDesk × List Area). AreAreas (layered_desk x.0) (stale_in x.1) x.0.windows x.1) (λ i. (sym desk_stays i, sym same.areas i)) whole.areas;

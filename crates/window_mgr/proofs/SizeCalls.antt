@@ -34,13 +34,13 @@ use Rattle.window_mgr.specs.declared.manager.WindowManager.{WindowManager}
 use Rattle.window_mgr.specs.FullDesk.{FullDesk, layered_state}
 use Rattle.window_mgr.specs.Arrange.{changed, with_size, desk_activated}
 use Rattle.window_mgr.specs.Commits.{IsPlanDrawn}
-use Rattle.window_mgr.specs.Edits.{IsAt, StandsAt, put_record, stays_put, IsPlanOfEdit, IsDeskOfEdit, IsPlaceable}
+use Rattle.window_mgr.specs.Edits.{IsWindowAt, StandsAt, put_record, stays_put, IsPlanOfEdit, IsDeskOfEdit, IsPlaceable}
 use Rattle.window_mgr.specs.Finding.{record_with}
 use Rattle.window_mgr.specs.Records.{desk_of, state_of}
 use Rattle.window_mgr.specs.Refused.{may_have_size, first_refusal, size_refusals}
 use Rattle.window_mgr.specs.Sizing.{MayHave, IsSizable, IsSizeCommitted}
-use Rattle.window_mgr.specs.Step.{IsStep}
-use Rattle.window_mgr.specs.Whole.{IsWhole, IsSettled}
+use Rattle.window_mgr.specs.Step.{IsWindowStep}
+use Rattle.window_mgr.specs.Whole.{IsWholeManager, IsSettled}
 use Rattle.window_mgr.proofs.PutIn.{put_in, put_is_insert, taken_out, map-put, All-out, All-put}
 use Rattle.window_mgr.proofs.Rearranged.{IsEdit, edited, sound_now, distinct_now, others_found}
 use Rattle.window_mgr.proofs.EditSeats.{same_at}
@@ -61,7 +61,7 @@ set_is_put (y ∷ ys) (suc i) x low = ap (λ zs. y ∷ zs) (set_is_put ys i x (o
 module _ {V : Type 0} {H : V → Type 0} (loan : Taken V H → Loan) where
   -- ---- a window of a list, and the list after it was resized
 
-  module _ {i : ℕ} {size : Size} {w : Window V H} {old new : List (Window V H)} (low : i < length old) (w_is : IsAt old i w) (R : IsResizedAt loan i size w old new) where
+  module _ {i : ℕ} {size : Size} {w : Window V H} {old new : List (Window V H)} (low : i < length old) (w_is : IsWindowAt old i w) (R : IsResizedAt loan i size w old new) where
     abbrev pub rest : List WindowRecord
     rest = map (record_of loan) (remove old i)
 
@@ -114,18 +114,18 @@ module _ {V : Type 0} {H : V → Type 0} (loan : Taken V H → Loan) where
 
   -- all that is known where the call gave the window at this place another size
   pub record IsSizeCall (i : ℕ) (z : SizeWindow) (plan : Plan) (t new : WindowManager V H) (slots : List SlotView) : Type 0 where
-    pub whole : IsWhole loan t slots
+    pub whole : IsWholeManager loan t slots
     pub low : i < length t.windows.records.items
-    pub serial : (w : Window V H) → IsAt t.windows.records.items i w → w.serial ≡ z.window
+    pub serial : (w : Window V H) → IsWindowAt t.windows.records.items i w → w.serial ≡ z.window
     pub may : IsSizable loan i z.size t.windows.records.items
-    pub planned : (w : Window V H) → IsAt t.windows.records.items i w → IsPlanOfEdit loan (record (stays_put i w) { size = z.size }) None t plan
+    pub planned : (w : Window V H) → IsWindowAt t.windows.records.items i w → IsPlanOfEdit loan (record (stays_put i w) { size = z.size }) None t plan
     pub committed : IsSizeCommitted loan i z.size plan t new
 
   module _ (i : ℕ) (z : SizeWindow) (plan : Plan) (t new : WindowManager V H) (slots : List SlotView) (N : IsSizeCall i z plan t new slots) where
     abbrev w : Window V H
     w = N.committed.window
 
-    w_is : IsAt t.windows.records.items i w
+    w_is : IsWindowAt t.windows.records.items i w
     w_is = N.committed.at
 
     abbrev R : IsResizedAt loan i z.size w t.windows.records.items new.windows.records.items
@@ -191,13 +191,13 @@ module _ {V : Type 0} {H : V → Type 0} (loan : Taken V H → Loan) where
         first_is true y f = f
         first_is false y f = refl
 
-    pub size_is_whole : IsWhole loan new slots
+    pub size_is_whole : IsWholeManager loan new slots
     size_is_whole = arranged_is_whole loan touch t new slots slots left plan size_arranged
 
     size_is_left : (desk_of loan new slots ≡ left) × IsChanged (moving w.serial None) (layered_state (state_of loan t slots)) (layered_state (state_of loan new slots))
     size_is_left = arranged_is_left loan touch t new slots slots left plan size_arranged
 
-    pub size_step : first_refusal (size_refusals z (desk_of loan t slots)) ≡ None → IsStep (asks.Size z) (Ok Done) (state_of loan t slots) (state_of loan new slots)
+    pub size_step : first_refusal (size_refusals z (desk_of loan t slots)) ≡ None → IsWindowStep (asks.Size z) (Ok Done) (state_of loan t slots) (state_of loan new slots)
     size_step allowed = (
       allowed,
       (
@@ -220,7 +220,7 @@ module _ {V : Type 0} {H : V → Type 0} (loan : Taken V H → Loan) where
 
   -- ---- the window that is found
 
-  module _ (t : WindowManager V H) (slots : List SlotView) (whole : IsWhole loan t slots) (i : ℕ) (z : SizeWindow) (found : StandsAt t.windows.records.items z.window i) (x : Window V H) (x_is : IsAt t.windows.records.items i x) where
+  module _ (t : WindowManager V H) (slots : List SlotView) (whole : IsWholeManager loan t slots) (i : ℕ) (z : SizeWindow) (found : StandsAt t.windows.records.items z.window i) (x : Window V H) (x_is : IsWindowAt t.windows.records.items i x) where
     pub may_size : (b : Bool) → b ≡ is_placed (Some (loan x.taken).definition) x.place z.size → first_refusal (size_refusals z (desk_of loan t slots)) ≡ (if b then None else Some OutOfRange)
     may_size b placed =
         (λ k. first_refusal ((is_none (here k), NoSuchWindow) ∷ (not (may_have_size z.size (here k)), OutOfRange) ∷ []))

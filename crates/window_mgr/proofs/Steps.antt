@@ -26,20 +26,20 @@ use Rattle.desk_call.specs.declared.window.WindowReply.{WindowReply}
 use Rattle.window_mgr.specs.declared.manager.WindowManager.{WindowManager}
 use Rattle.window_mgr.specs.FullDesk.{FullDesk}
 use Rattle.window_mgr.specs.Arrange.{Arrangement, at_place, with_shown, is_visible, if_visible, brought, changed, way_to, behind_this, without}
-use Rattle.window_mgr.specs.Edits.{records_put, stays_put, IsAt, IsRearranged, IsPlaceBehind, IsPlaceable}
+use Rattle.window_mgr.specs.Edits.{records_put, stays_put, IsWindowAt, IsRearranged, IsPlaceBehind, IsPlaceable}
 use Rattle.window_mgr.specs.Effects.{Effect, IsEffect, IsArrangement, effect_of}
 use Rattle.window_mgr.specs.Effects.Effect.{Arranges}
 use Rattle.window_mgr.specs.Finding.{record_with}
 use Rattle.window_mgr.specs.Records.{desk_of, state_of}
 use Rattle.window_mgr.specs.Refused.{IsRefusal, may_grow, may_be_at, first_refusal, is_missing, move_refusals}
-use Rattle.window_mgr.specs.Step.{IsStep}
-use Rattle.window_mgr.specs.Whole.{IsWhole}
+use Rattle.window_mgr.specs.Step.{IsWindowStep}
+use Rattle.window_mgr.specs.Whole.{IsWholeManager}
 use Rattle.window_mgr.proofs.PutIn.{put_in, put_is_insert, taken_out, map-put, IsFree, distinct_out}
 use Rattle.vis_update.proofs.PlaceLemmas.{placed_parts}
 use Rattle.window_mgr.proofs.EditSeats.{same_at}
 use Rattle.window_mgr.proofs.Arrangements.{found_is, brought_is, changed_is, behind_is}
 
-module _ {V : Type 0} {H : V → Type 0} (loan : Taken V H → Loan) (t new : WindowManager V H) (slots : List SlotView) (whole : IsWhole loan t slots) (i s : ℕ) (x : Window V H) (low : i < length t.windows.records.items) (x_is : IsAt t.windows.records.items i x) (serial : x.serial ≡ s) where
+module _ {V : Type 0} {H : V → Type 0} (loan : Taken V H → Loan) (t new : WindowManager V H) (slots : List SlotView) (whole : IsWholeManager loan t slots) (i s : ℕ) (x : Window V H) (low : i < length t.windows.records.items) (x_is : IsWindowAt t.windows.records.items i x) (serial : x.serial ≡ s) where
   abbrev desk : FullDesk
   desk = desk_of loan t slots
 
@@ -62,11 +62,11 @@ module _ {V : Type 0} {H : V → Type 0} (loan : Taken V H → Loan) (t new : Wi
   -- a call that arranges the windows as the edit does makes its step
   edit_step : (call : WindowCall) (e : Edit) (activates : Activates) (by : Option Point) (result : Result WindowReply Refusal) (a : Arrangement) → e.at ≡ i → effect_of call desk ≡ Arranges a → may_grow call ≡ true → IsRefusal call (state_of loan t slots) None
       → a ≡ record { window = x.serial; by = by; windows = records_put loan e x t; activates = activates }
-      → IsRearranged loan e activates by result t new slots → IsStep call result (state_of loan t slots) (state_of loan new slots)
+      → IsRearranged loan e activates by result t new slots → IsWindowStep call result (state_of loan t slots) (state_of loan new slots)
   edit_step call e activates by (Ok answer) a at is grows allowed a_is done = (
     allowed,
     subst (λ (f : Effect). IsEffect f answer (state_of loan t slots) (state_of loan new slots)) (sym is)
-        (done.0, subst (λ (y : Arrangement). IsArrangement y (state_of loan t slots) (state_of loan new slots)) (sym a_is) (done.1 x (subst (λ k. IsAt t.windows.records.items k x) (sym at) x_is))),
+        (done.0, subst (λ (y : Arrangement). IsArrangement y (state_of loan t slots) (state_of loan new slots)) (sym a_is) (done.1 x (subst (λ k. IsWindowAt t.windows.records.items k x) (sym at) x_is))),
   )
   edit_step call e activates by (Err refusal) a at is grows allowed a_is done = (inr (allowed, (grows, done.0)), done.1)
 
@@ -80,21 +80,21 @@ module _ {V : Type 0} {H : V → Type 0} (loan : Taken V H → Loan) (t new : Wi
   -- ---- one by one
 
   pub select_step : (e : Edit) (activates : Activates) (result : Result WindowReply Refusal) → e ≡ record (stays_put i x) { to = 0 } → activates ≡ (if x.shown then Itself else Nothing)
-      → IsRearranged loan e activates None result t new slots → IsStep (Select s) result (state_of loan t slots) (state_of loan new slots)
+      → IsRearranged loan e activates None result t new slots → IsWindowStep (Select s) result (state_of loan t slots) (state_of loan new slots)
   select_step e activates result e_is activates_is done =
       edit_step (Select s) (record (stays_put i x) { to = 0 }) (if x.shown then Itself else Nothing) None result _ refl refl refl not_missing
       (λ k. record { window = sym serial k; by = None; windows = brought_so k; activates = if_visible (found k) Itself })
       (subst (λ (y : Edit × Activates). IsRearranged loan y.0 y.1 None result t new slots) (λ k. (e_is k, activates_is k)) done)
 
   pub bring_step : (e : Edit) (result : Result WindowReply Refusal) → e ≡ record (stays_put i x) { to = 0 }
-      → IsRearranged loan e Nothing None result t new slots → IsStep (BringToFront s) result (state_of loan t slots) (state_of loan new slots)
+      → IsRearranged loan e Nothing None result t new slots → IsWindowStep (BringToFront s) result (state_of loan t slots) (state_of loan new slots)
   bring_step e result e_is done =
       edit_step (BringToFront s) (record (stays_put i x) { to = 0 }) Nothing None result _ refl refl refl not_missing
       (λ k. record { window = sym serial k; by = None; windows = brought_so k; activates = Nothing })
       (subst (λ (y : Edit). IsRearranged loan y Nothing None result t new slots) e_is done)
 
   pub show_step : (e : Edit) (activates : Activates) (result : Result WindowReply Refusal) → e ≡ record (stays_put i x) { shown = true } → activates ≡ (if not x.shown then ItselfIfFront else Nothing)
-      → IsRearranged loan e activates None result t new slots → IsStep (Show s) result (state_of loan t slots) (state_of loan new slots)
+      → IsRearranged loan e activates None result t new slots → IsWindowStep (Show s) result (state_of loan t slots) (state_of loan new slots)
   show_step e activates result e_is activates_is done =
       edit_step (Show s) (record (stays_put i x) { shown = true }) (if not x.shown then ItselfIfFront else Nothing) None result _ refl refl refl not_missing
       (λ k. record { window = sym serial k; by = None; windows = changed_so (with_shown true) k; activates = (ap (λ o. if is_visible o then Nothing else ItselfIfFront) found ∙ turned x.shown) k })
@@ -105,21 +105,21 @@ module _ {V : Type 0} {H : V → Type 0} (loan : Taken V H → Loan) (t new : Wi
       turned false = refl
 
   pub hide_step : (e : Edit) (activates : Activates) (result : Result WindowReply Refusal) → e ≡ record (stays_put i x) { shown = false } → activates ≡ (if x.shown then FrontInItsPlace else Nothing)
-      → IsRearranged loan e activates None result t new slots → IsStep (Hide s) result (state_of loan t slots) (state_of loan new slots)
+      → IsRearranged loan e activates None result t new slots → IsWindowStep (Hide s) result (state_of loan t slots) (state_of loan new slots)
   hide_step e activates result e_is activates_is done =
       edit_step (Hide s) (record (stays_put i x) { shown = false }) (if x.shown then FrontInItsPlace else Nothing) None result _ refl refl refl not_missing
       (λ k. record { window = sym serial k; by = None; windows = changed_so (with_shown false) k; activates = if_visible (found k) FrontInItsPlace })
       (subst (λ (y : Edit × Activates). IsRearranged loan y.0 y.1 None result t new slots) (λ k. (e_is k, activates_is k)) done)
 
   pub show_hide_step : (c : showing.ShowHide) (e : Edit) (result : Result WindowReply Refusal) → s ≡ c.window → e ≡ record (stays_put i x) { shown = c.shown }
-      → IsRearranged loan e Nothing None result t new slots → IsStep (ShowHide c) result (state_of loan t slots) (state_of loan new slots)
+      → IsRearranged loan e Nothing None result t new slots → IsWindowStep (ShowHide c) result (state_of loan t slots) (state_of loan new slots)
   show_hide_step c e result named e_is done =
       edit_step (ShowHide c) (record (stays_put i x) { shown = c.shown }) Nothing None result _ refl refl refl (subst (λ n. first_refusal ((is_missing n desk.windows, NoSuchWindow) ∷ []) ≡ None) named not_missing)
       (λ k. record { window = sym (serial ∙ named) k; by = None; windows = (ap (λ n. changed n (with_shown c.shown) desk.windows) (sym named) ∙ changed_so (with_shown c.shown)) k; activates = Nothing })
       (subst (λ (y : Edit). IsRearranged loan y Nothing None result t new slots) e_is done)
 
   pub send_step : (b : sending.SendBehind) (to : ℕ) (e : Edit) (result : Result WindowReply Refusal) → s ≡ b.window → IsPlaceBehind loan b i t to → e ≡ record (stays_put i x) { to = to }
-      → IsRearranged loan e NextInItsPlace None result t new slots → IsStep (SendBehind b) result (state_of loan t slots) (state_of loan new slots)
+      → IsRearranged loan e NextInItsPlace None result t new slots → IsWindowStep (SendBehind b) result (state_of loan t slots) (state_of loan new slots)
   send_step b to e result named place e_is done =
       edit_step (SendBehind b) (record (stays_put i x) { to = to }) NextInItsPlace None result _ refl refl refl place.unrefused
       (λ k. record { window = sym (serial ∙ named) k; by = None; windows = sent_so k; activates = NextInItsPlace })
@@ -153,11 +153,11 @@ module _ {V : Type 0} {H : V → Type 0} (loan : Taken V H → Loan) (t new : Wi
 
     pub may_arrive : (e : Edit) → e.at ≡ i → e.place ≡ m.place → e.size ≡ x.size → IsPlaceable loan e t.windows.records.items
     may_arrive e at place size w w_is =
-        (λ k. is_placed (Some (loan (same_at t.windows.records.items i w x low (subst (λ n. IsAt t.windows.records.items n w) at w_is) x_is k).taken).definition) (place k) (size k)) ∙ placed
+        (λ k. is_placed (Some (loan (same_at t.windows.records.items i w x low (subst (λ n. IsWindowAt t.windows.records.items n w) at w_is) x_is k).taken).definition) (place k) (size k)) ∙ placed
 
   pub move_step : (m : MoveWindow) (e : Edit) (activates : Activates) (by : Point) (result : Result WindowReply Refusal) → s ≡ m.window → first_refusal (move_refusals m desk) ≡ None
       → e ≡ record { at = i; to = if m.select then 0 else i; place = m.place; size = x.size; shown = x.shown } → activates ≡ (if m.select && x.shown then Itself else Nothing) → by ≡ minus m.place x.place
-      → IsRearranged loan e activates (Some by) result t new slots → IsStep (Move m) result (state_of loan t slots) (state_of loan new slots)
+      → IsRearranged loan e activates (Some by) result t new slots → IsWindowStep (Move m) result (state_of loan t slots) (state_of loan new slots)
   move_step m e activates by result named allowed e_is activates_is by_is done =
       edit_step (Move m) (record { at = i; to = if m.select then 0 else i; place = m.place; size = x.size; shown = x.shown }) (if m.select && x.shown then Itself else Nothing) (Some (minus m.place x.place)) result _ refl refl refl allowed
       (λ k. record {

@@ -5,10 +5,10 @@ use Rattle.def_iface.specs.declared.taken.Taken.{Taken}
 use Rattle.def_iface.specs.Meaning.{Loan}
 use Rattle.def_iface.specs.Stocked.{SlotView}
 use Rattle.window_mgr.specs.declared.manager.WindowManager.{WindowManager}
-use Rattle.window_mgr.specs.FullDesk.{FullDesk, IsRight}
+use Rattle.window_mgr.specs.FullDesk.{FullDesk, IsRightState}
 use Rattle.window_mgr.specs.Records.{desk_of, state_of}
 use Rattle.vis_update.specs.Areas.{stale_in}
-use Rattle.window_mgr.specs.Whole.{IsWhole}
+use Rattle.window_mgr.specs.Whole.{IsWholeManager}
 
 -- the desk without windows; the first will have the number 1
 abbrev pub empty_desk : ℤ → ℤ → ℤ → List ℕ → List SlotView → FullDesk
@@ -29,5 +29,5 @@ module _ {V : Type 0} {H : V → Type 0} (loan : Taken V H → Loan) where
   pub record IsEmptyDesk (width height bar : ℤ) (font : List ℕ) (t : WindowManager V H) (slots : List SlotView) : Type 0 where
     pub desk : desk_of loan t slots ≡ empty_desk width height bar font slots
     pub drawn : (p : Point) → stale_in t.areas.items p ≡ false
-    pub whole : IsWhole loan t slots
-    pub right : IsRight (state_of loan t slots)
+    pub whole : IsWholeManager loan t slots
+    pub right : IsRightState (state_of loan t slots)

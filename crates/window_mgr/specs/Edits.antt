@@ -41,12 +41,12 @@ put_record e w = record w { place = e.place; size = e.size; shown = e.shown }
 
 module _ {V : Type 0} {H : V → Type 0} where
   -- the window at this place of the list
-  abbrev pub IsAt : List (Window V H) → ℕ → Window V H → Type 0
-  IsAt ws i w = w ≡ slice_index_or ws i w
+  abbrev pub IsWindowAt : List (Window V H) → ℕ → Window V H → Type 0
+  IsWindowAt ws i w = w ≡ slice_index_or ws i w
 
   -- the window of this serial stands at this place
   abbrev pub StandsAt : List (Window V H) → ℕ → ℕ → Type 0
-  StandsAt ws s i = (i < length ws) × ((w : Window V H) → IsAt ws i w → w.serial ≡ s)
+  StandsAt ws s i = (i < length ws) × ((w : Window V H) → IsWindowAt ws i w → w.serial ≡ s)
 
   -- the window stays as it stands
   abbrev pub stays_put : ℕ → Window V H → Edit
@@ -59,12 +59,12 @@ module _ {V : Type 0} {H : V → Type 0} where
   -- one of the windows was put anew
   pub record IsPutAnew (e : Edit) (old new : List (Window V H)) : Type 0 where
     pub window : Window V H
-    pub at : IsAt old e.at window
+    pub at : IsWindowAt old e.at window
     pub is : new ≡ insert (remove old e.at) e.to (put_window e window)
 
   -- the edit leaves the size
   abbrev pub SameSize : Edit → List (Window V H) → Type 0
-  SameSize e ws = (w : Window V H) → IsAt ws e.at w → e.size ≡ w.size
+  SameSize e ws = (w : Window V H) → IsWindowAt ws e.at w → e.size ≡ w.size
 
   -- the seats of the windows, one put anew
   pub record AreSeatsAfter (e : Edit) (ws : List (Window V H)) (areas : List Area) (seats : List (Seat V H)) : Type 0 where
@@ -83,11 +83,11 @@ module _ {V : Type 0} {H : V → Type 0} where
 module _ {V : Type 0} {H : V → Type 0} (loan : Taken V H → Loan) where
   -- the window at the place of an edit may be where it is to be
   abbrev pub IsPlaceable : Edit → List (Window V H) → Type 0
-  IsPlaceable e ws = (w : Window V H) → IsAt ws e.at w → is_placed (Some (loan w.taken).definition) e.place e.size ≡ true
+  IsPlaceable e ws = (w : Window V H) → IsWindowAt ws e.at w → is_placed (Some (loan w.taken).definition) e.place e.size ≡ true
 
   -- all windows will be settled
   abbrev pub AreSettledAfter : Edit → Activation → Option ℕ → List (Window V H) → Type 0
-  AreSettledAfter e activation former ws = (w : Window V H) → IsAt ws e.at w
+  AreSettledAfter e activation former ws = (w : Window V H) → IsWindowAt ws e.at w
       → All IsSettled (map (record_of loan) (relit_all activation former (insert (remove ws e.at) e.to (put_window e w))))
 
   -- a desk on which the windows stand as they do once one was put anew
@@ -98,7 +98,7 @@ module _ {V : Type 0} {H : V → Type 0} (loan : Taken V H → Loan) where
 
   -- the plan is right for each such desk, where pixels move so far; the frame of one more window may be drawn whole
   abbrev pub IsPlanOfEdit : Edit → Option Point → WindowManager V H → Plan → Type 0
-  IsPlanOfEdit e by t plan = (w : Window V H) → IsAt t.windows.records.items e.at w → (also : Option ℕ) × ((after : FullDesk) → IsDeskOfEdit e t w after
+  IsPlanOfEdit e by t plan = (w : Window V H) → IsWindowAt t.windows.records.items e.at w → (also : Option ℕ) × ((after : FullDesk) → IsDeskOfEdit e t w after
       → IsPlan (record { window = w.serial; also = also; by = by }) (layered_state (state_of loan t [])) (layered_desk after) t.desktop after.windows plan)
 
   -- nothing refuses that the window at this place goes behind another or behind all, and that is this place of the others
@@ -114,7 +114,7 @@ module _ {V : Type 0} {H : V → Type 0} (loan : Taken V H → Loan) where
   -- one window was put anew, another or it became active where that is so, and the plan was drawn
   pub record IsCommitted (e : Edit) (activation : Activation) (plan : Plan) (by : Option Point) (old new : WindowManager V H) : Type 0 where
     pub window : Window V H
-    pub at : IsAt old.windows.records.items e.at window
+    pub at : IsWindowAt old.windows.records.items e.at window
     pub windows : new.windows.records.items ≡ relit_all activation old.windows.active (insert (remove old.windows.records.items e.at) e.to (put_window e window))
     pub drawn : IsPlanDrawn plan by old.font (map (record_of loan) new.windows.records.items) old.screen new.screen
     pub areas : new.areas.items ≡ plan.areas.items
@@ -127,11 +127,11 @@ module _ {V : Type 0} {H : V → Type 0} (loan : Taken V H → Loan) where
 
   -- what the activation of the call comes to
   abbrev pub IsActivation : Edit → Activates → WindowManager V H → Activation → Type 0
-  IsActivation e activates t activation = (w : Window V H) → IsAt t.windows.records.items e.at w
+  IsActivation e activates t activation = (w : Window V H) → IsWindowAt t.windows.records.items e.at w
       → activation ≡ activation_of activates w.serial t.windows.active (front_of (records_put e w t))
 
   -- what a call that puts one window anew answers and leaves
   abbrev pub IsRearranged : Edit → Activates → Option Point → Result WindowReply Refusal → WindowManager V H → WindowManager V H → List SlotView → Type 0
-  IsRearranged e activates by (Ok answer) old new slots = (answer ≡ Done) × ((w : Window V H) → IsAt old.windows.records.items e.at w
+  IsRearranged e activates by (Ok answer) old new slots = (answer ≡ Done) × ((w : Window V H) → IsWindowAt old.windows.records.items e.at w
       → IsArrangement (record { window = w.serial; by = by; windows = records_put e w old; activates = activates }) (state_of loan old slots) (state_of loan new slots))
   IsRearranged e activates by (Err refusal) old new slots = (refusal ≡ NoMemory) × IsUnchanged (state_of loan old slots) (state_of loan new slots)

@@ -66,8 +66,8 @@ pub record IsNewWindow (w : NewWindow) (serial : ℕ) (before after : FullState)
   pub pixels : IsChanged no_change (layered_state before) (layered_state after)
 
 -- the window has the operation too, if it is the one of this serial
-abbrev pub with_operation : ℕ → Op → WindowRecord → WindowRecord
-with_operation s op w = if w.serial == s then record w { picture = w.picture ++ op ∷ [] } else w
+abbrev pub with_drawn : ℕ → Op → WindowRecord → WindowRecord
+with_drawn s op w = if w.serial == s then record w { picture = w.picture ++ op ∷ [] } else w
 
 -- the change of a call that draws an operation, in this font, on every pixel that the picture of the window of this
 -- serial owns
@@ -82,7 +82,7 @@ pub record IsDrawn (d : Drawing) (before after : FullState) : Type 0 where
   pub operation : Op
   pub found : record_with d.window before.desk.windows ≡ Some window
   pub meant : IsMeant d.operation operation
-  pub desk : after.desk ≡ record before.desk { windows = map (with_operation d.window operation) before.desk.windows }
+  pub desk : after.desk ≡ record before.desk { windows = map (with_drawn d.window operation) before.desk.windows }
   pub pixels : IsChanged (draw_change before.desk.font d.window window operation) (layered_state before) (layered_state after)
 
 -- nothing changed
@@ -103,7 +103,7 @@ pub record IsToldSize (size : sizes.Size) (old new : Definition) : Type 0 where
   pub regions : SameRegions old new
 
 -- the window got this size, and its definition was told so
-pub record IsSized (z : SizeWindow) (before after : FullState) : Type 0 where
+pub record IsWindowSized (z : SizeWindow) (before after : FullState) : Type 0 where
   pub window : WindowRecord
   pub definition : Definition
   pub found : record_with z.window before.desk.windows ≡ Some window
@@ -155,6 +155,6 @@ IsEffect (Makes w) answer before after = (serial : ℕ) × (answer ≡ reply.Mad
 IsEffect (Disposes s) answer before after = (answer ≡ reply.Done) × IsWindowDisposed s before after
 IsEffect (Draws d) answer before after = (answer ≡ reply.Done) × IsDrawn d before after
 IsEffect (Arranges a) answer before after = (answer ≡ reply.Done) × IsArrangement a before after
-IsEffect (Sizes z) answer before after = (answer ≡ reply.Done) × IsSized z before after
+IsEffect (Sizes z) answer before after = (answer ≡ reply.Done) × IsWindowSized z before after
 IsEffect (Tells r) answer before after = (answer ≡ r) × IsUnchanged before after
 IsEffect (Describes region) answer before after = IsRegionTold (region before) answer × IsUnchanged before after

@@ -61,6 +61,6 @@ AreNumbered (Some next) ws = AreBelow next ws
 
 -- a state whose pixels in no update set have the value that painting from nothing gives, and whose windows were all
 -- counted
-pub record IsRight (s : FullState) : Type 0 where
+pub record IsRightState (s : FullState) : Type 0 where
   pub plain : plain.IsRight (layered_state s)
   pub numbered : AreNumbered s.desk.next s.desk.windows

@@ -11,7 +11,7 @@ use Rattle.vis_update.specs.Records.{record_of}
 use Rattle.vis_update.specs.Places.{is_placed}
 use Rattle.window_mgr.specs.declared.manager.WindowManager.{WindowManager}
 use Rattle.window_mgr.specs.Commits.{IsPlanDrawn}
-use Rattle.window_mgr.specs.Edits.{IsAt}
+use Rattle.window_mgr.specs.Edits.{IsWindowAt}
 
 -- `loan` says what a definition that was taken means
 module _ {V : Type 0} {H : V → Type 0} (loan : Taken V H → Loan) where
@@ -21,12 +21,12 @@ module _ {V : Type 0} {H : V → Type 0} (loan : Taken V H → Loan) where
 
   -- so may the window at this place of the list
   abbrev pub IsSizable : ℕ → Size → List (Window V H) → Type 0
-  IsSizable i size ws = (w : Window V H) → IsAt ws i w → MayHave size w
+  IsSizable i size ws = (w : Window V H) → IsWindowAt ws i w → MayHave size w
 
   -- the window at this place of the list has this size, its definition was told so, and the plan was drawn
   pub record IsSizeCommitted (i : ℕ) (size : Size) (plan : Plan) (old new : WindowManager V H) : Type 0 where
     pub window : Window V H
-    pub at : IsAt old.windows.records.items i window
+    pub at : IsWindowAt old.windows.records.items i window
     pub resized : IsResizedAt loan i size window old.windows.records.items new.windows.records.items
     pub drawn : IsPlanDrawn plan None old.font (map (record_of loan) new.windows.records.items) old.screen new.screen
     pub areas : new.areas.items ≡ plan.areas.items

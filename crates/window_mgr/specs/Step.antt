@@ -16,9 +16,9 @@ abbrev pub IsCallRefused : WindowCall → Refusal → FullState → Type 0
 IsCallRefused call e state = IsRefusal call state (Some e) ⊎ (IsRefusal call state None × ((may_grow call ≡ true) × (e ≡ NoMemory)))
 
 -- one step: a call that nothing refuses has its effect, and a refused one changes nothing
-abbrev pub IsStep : WindowCall → Result WindowReply Refusal → FullState → FullState → Type 0
-IsStep call (Ok answer) before after = IsRefusal call before None × IsEffect (effect_of call before.desk) answer before after
-IsStep call (Err e) before after = IsCallRefused call e before × IsUnchanged before after
+abbrev pub IsWindowStep : WindowCall → Result WindowReply Refusal → FullState → FullState → Type 0
+IsWindowStep call (Ok answer) before after = IsRefusal call before None × IsEffect (effect_of call before.desk) answer before after
+IsWindowStep call (Err e) before after = IsCallRefused call e before × IsUnchanged before after
 
 -- nothing refused a new window, and it was made, of this number
 abbrev pub IsMade : NewWindow → ℕ → FullState → FullState → Type 0
@@ -26,4 +26,4 @@ IsMade w serial before after = IsRefusal (New w) before None × IsNewWindow w se
 
 -- the call for a new window was refused
 abbrev pub IsNotMade : NewWindow → Refusal → FullState → FullState → Type 0
-IsNotMade w e before after = IsStep (New w) (Err e) before after
+IsNotMade w e before after = IsWindowStep (New w) (Err e) before after

@@ -39,7 +39,7 @@ pub record IsStocked (windows : List WindowRecord) (slots : List SlotView) : Typ
   pub others : (k : ℕ) → IsSlot windows slots k
 
 -- the facts on the desk alone
-pub record IsSound (desk : FullDesk) : Type 0 where
+pub record IsSoundDesk (desk : FullDesk) : Type 0 where
   pub screen : is_screen desk.width desk.height desk.bar ≡ true
   pub distinct : IsDesk (layered_desk desk)
   pub numbered : AreNumbered desk.next desk.windows
@@ -55,8 +55,8 @@ AreFramesShown s = let desk = layered_desk s.desk in
 -- `loan` says what a definition that was taken means
 module _ {V : Type 0} {H : V → Type 0} (loan : Taken V H → Loan) where
   -- a window manager and the slots of its stock, between calls
-  pub record IsWhole (t : WindowManager V H) (slots : List SlotView) : Type 0 where
-    pub sound : IsSound (desk_of loan t slots)
+  pub record IsWholeManager (t : WindowManager V H) (slots : List SlotView) : Type 0 where
+    pub sound : IsSoundDesk (desk_of loan t slots)
     pub gray : IsGray (layered_desk (desk_of loan t slots)) t.gray
     pub desktop : IsDesktop (layered_desk (desk_of loan t slots)) t.desktop
     pub areas : AreAreas (layered_desk (desk_of loan t slots)) (stale_in t.areas.items) (desk_of loan t slots).windows t.areas.items

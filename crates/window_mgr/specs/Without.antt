@@ -17,7 +17,7 @@ use Rattle.window_mgr.specs.declared.manager.WindowManager.{WindowManager}
 use Rattle.window_mgr.specs.FullDesk.{FullDesk, layered_desk, layered_state}
 use Rattle.window_mgr.specs.Records.{desk_of, state_of}
 use Rattle.window_mgr.specs.Arrange.{activation_of, active_after}
-use Rattle.window_mgr.specs.Edits.{IsAt, relit_all}
+use Rattle.window_mgr.specs.Edits.{IsWindowAt, relit_all}
 use Rattle.window_mgr.specs.Finding.{front_of}
 use Rattle.window_mgr.specs.Commits.{IsPlanDrawn}
 use Rattle.window_mgr.specs.Seats.{AreSeatsOf}
@@ -55,7 +55,7 @@ module _ {V : Type 0} {H : V → Type 0} (loan : Taken V H → Loan) where
   -- was drawn
   pub record IsTakenOff (at : ℕ) (activation : Activation) (plan : Plan) (taken : Taken V H) (old new : WindowManager V H) : Type 0 where
     pub window : Window V H
-    pub there : IsAt old.windows.records.items at window
+    pub there : IsWindowAt old.windows.records.items at window
     pub its : taken ≡ window.taken
     pub windows : new.windows.records.items ≡ relit_all activation old.windows.active (remove old.windows.records.items at)
     pub drawn : IsPlanDrawn plan None old.font (map (record_of loan) new.windows.records.items) old.screen new.screen

@@ -6,7 +6,7 @@ ghost use Rattle.window_mgr.specs.Edits.{relit_all, IsPutAnew, StandsAt, IsPlace
 ghost use Rattle.window_mgr.specs.Finding.{record_with};
 ghost use Rattle.window_mgr.specs.Kept.{IsKept};
 ghost use Rattle.window_mgr.specs.Seats.{AreSeatsOf, first_seated};
-ghost use Rattle.window_mgr.specs.Whole.{IsWhole};
+ghost use Rattle.window_mgr.specs.Whole.{IsWholeManager};
 
 use crate::{WindowManager, WindowReply};
 use def_iface::{Defined, Size, Stock, Stocked, Taken};
@@ -139,12 +139,12 @@ impl WindowManager {
         by: Option<Point>,
         _stock: &Stock,
     ) -> Result<WindowReply, Refusal>
-        requires whole { IsWhole ⟦<Taken as Defined>⟧.loan self.old (⟦<Stock as Stocked>⟧.slots _stock.now) }
+        requires whole { IsWholeManager ⟦<Taken as Defined>⟧.loan self.old (⟦<Stock as Stocked>⟧.slots _stock.now) }
         requires at { edit.at < length self.old.windows.records.items }
         requires to { edit.to < length self.old.windows.records.items }
         requires placed { IsPlaceable ⟦<Taken as Defined>⟧.loan edit self.old.windows.records.items }
         requires size { SameSize edit self.old.windows.records.items }
-        ensures whole { IsWhole ⟦<Taken as Defined>⟧.loan self.new (⟦<Stock as Stocked>⟧.slots _stock.now) }
+        ensures whole { IsWholeManager ⟦<Taken as Defined>⟧.loan self.new (⟦<Stock as Stocked>⟧.slots _stock.now) }
         ensures left { IsRearranged ⟦<Taken as Defined>⟧.loan edit activates by result self.old self.new
             (⟦<Stock as Stocked>⟧.slots _stock.now) }
     {

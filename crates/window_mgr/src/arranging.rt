@@ -8,8 +8,8 @@ ghost use Rattle.window_mgr.specs.Edits.{StandsAt, IsPlaceBehind};
 ghost use Rattle.window_mgr.specs.Kept.{IsKept};
 ghost use Rattle.window_mgr.specs.Records.{desk_of, state_of};
 ghost use Rattle.window_mgr.specs.Refused.{first_refusal, behind_refusals};
-ghost use Rattle.window_mgr.specs.Step.{IsStep};
-ghost use Rattle.window_mgr.specs.Whole.{IsWhole};
+ghost use Rattle.window_mgr.specs.Step.{IsWindowStep};
+ghost use Rattle.window_mgr.specs.Whole.{IsWholeManager};
 
 use crate::arrange::{Activates, Edit};
 use crate::find::local;
@@ -21,9 +21,9 @@ use vis_update::is_placed_with;
 impl WindowManager {
     /// Brings a window to the front; a visible one becomes active.
     pub(crate) fn select(&mut self, window: u64, stock: &Stock) -> Result<WindowReply, Refusal>
-        requires { IsWhole ⟦<Taken as Defined>⟧.loan self.old (⟦<Stock as Stocked>⟧.slots stock.now) }
-        ensures whole { IsWhole ⟦<Taken as Defined>⟧.loan self.new (⟦<Stock as Stocked>⟧.slots stock.now) }
-        ensures step { IsStep (asks.Select window) result
+        requires { IsWholeManager ⟦<Taken as Defined>⟧.loan self.old (⟦<Stock as Stocked>⟧.slots stock.now) }
+        ensures whole { IsWholeManager ⟦<Taken as Defined>⟧.loan self.new (⟦<Stock as Stocked>⟧.slots stock.now) }
+        ensures step { IsWindowStep (asks.Select window) result
             (state_of ⟦<Taken as Defined>⟧.loan self.old (⟦<Stock as Stocked>⟧.slots stock.now))
             (state_of ⟦<Taken as Defined>⟧.loan self.new (⟦<Stock as Stocked>⟧.slots stock.now)) }
     {
@@ -43,9 +43,9 @@ impl WindowManager {
         window: u64,
         stock: &Stock,
     ) -> Result<WindowReply, Refusal>
-        requires { IsWhole ⟦<Taken as Defined>⟧.loan self.old (⟦<Stock as Stocked>⟧.slots stock.now) }
-        ensures whole { IsWhole ⟦<Taken as Defined>⟧.loan self.new (⟦<Stock as Stocked>⟧.slots stock.now) }
-        ensures step { IsStep (asks.BringToFront window) result
+        requires { IsWholeManager ⟦<Taken as Defined>⟧.loan self.old (⟦<Stock as Stocked>⟧.slots stock.now) }
+        ensures whole { IsWholeManager ⟦<Taken as Defined>⟧.loan self.new (⟦<Stock as Stocked>⟧.slots stock.now) }
+        ensures step { IsWindowStep (asks.BringToFront window) result
             (state_of ⟦<Taken as Defined>⟧.loan self.old (⟦<Stock as Stocked>⟧.slots stock.now))
             (state_of ⟦<Taken as Defined>⟧.loan self.new (⟦<Stock as Stocked>⟧.slots stock.now)) }
     {
@@ -64,9 +64,9 @@ impl WindowManager {
         sent: SendBehind,
         stock: &Stock,
     ) -> Result<WindowReply, Refusal>
-        requires { IsWhole ⟦<Taken as Defined>⟧.loan self.old (⟦<Stock as Stocked>⟧.slots stock.now) }
-        ensures whole { IsWhole ⟦<Taken as Defined>⟧.loan self.new (⟦<Stock as Stocked>⟧.slots stock.now) }
-        ensures step { IsStep (asks.SendBehind sent) result
+        requires { IsWholeManager ⟦<Taken as Defined>⟧.loan self.old (⟦<Stock as Stocked>⟧.slots stock.now) }
+        ensures whole { IsWholeManager ⟦<Taken as Defined>⟧.loan self.new (⟦<Stock as Stocked>⟧.slots stock.now) }
+        ensures step { IsWindowStep (asks.SendBehind sent) result
             (state_of ⟦<Taken as Defined>⟧.loan self.old (⟦<Stock as Stocked>⟧.slots stock.now))
             (state_of ⟦<Taken as Defined>⟧.loan self.new (⟦<Stock as Stocked>⟧.slots stock.now)) }
     {
@@ -108,9 +108,9 @@ impl WindowManager {
         moved: MoveWindow,
         stock: &Stock,
     ) -> Result<WindowReply, Refusal>
-        requires { IsWhole ⟦<Taken as Defined>⟧.loan self.old (⟦<Stock as Stocked>⟧.slots stock.now) }
-        ensures whole { IsWhole ⟦<Taken as Defined>⟧.loan self.new (⟦<Stock as Stocked>⟧.slots stock.now) }
-        ensures step { IsStep (asks.Move moved) result
+        requires { IsWholeManager ⟦<Taken as Defined>⟧.loan self.old (⟦<Stock as Stocked>⟧.slots stock.now) }
+        ensures whole { IsWholeManager ⟦<Taken as Defined>⟧.loan self.new (⟦<Stock as Stocked>⟧.slots stock.now) }
+        ensures step { IsWindowStep (asks.Move moved) result
             (state_of ⟦<Taken as Defined>⟧.loan self.old (⟦<Stock as Stocked>⟧.slots stock.now))
             (state_of ⟦<Taken as Defined>⟧.loan self.new (⟦<Stock as Stocked>⟧.slots stock.now)) }
     {
@@ -131,9 +131,9 @@ impl WindowManager {
 
     /// Makes a window visible; it becomes active where it is the first visible one then.
     pub(crate) fn show(&mut self, window: u64, stock: &Stock) -> Result<WindowReply, Refusal>
-        requires { IsWhole ⟦<Taken as Defined>⟧.loan self.old (⟦<Stock as Stocked>⟧.slots stock.now) }
-        ensures whole { IsWhole ⟦<Taken as Defined>⟧.loan self.new (⟦<Stock as Stocked>⟧.slots stock.now) }
-        ensures step { IsStep (asks.Show window) result
+        requires { IsWholeManager ⟦<Taken as Defined>⟧.loan self.old (⟦<Stock as Stocked>⟧.slots stock.now) }
+        ensures whole { IsWholeManager ⟦<Taken as Defined>⟧.loan self.new (⟦<Stock as Stocked>⟧.slots stock.now) }
+        ensures step { IsWindowStep (asks.Show window) result
             (state_of ⟦<Taken as Defined>⟧.loan self.old (⟦<Stock as Stocked>⟧.slots stock.now))
             (state_of ⟦<Taken as Defined>⟧.loan self.new (⟦<Stock as Stocked>⟧.slots stock.now)) }
     {
@@ -149,9 +149,9 @@ impl WindowManager {
 
     /// Makes a window hidden; where it was active, the first visible one becomes so, or none.
     pub(crate) fn hide(&mut self, window: u64, stock: &Stock) -> Result<WindowReply, Refusal>
-        requires { IsWhole ⟦<Taken as Defined>⟧.loan self.old (⟦<Stock as Stocked>⟧.slots stock.now) }
-        ensures whole { IsWhole ⟦<Taken as Defined>⟧.loan self.new (⟦<Stock as Stocked>⟧.slots stock.now) }
-        ensures step { IsStep (asks.Hide window) result
+        requires { IsWholeManager ⟦<Taken as Defined>⟧.loan self.old (⟦<Stock as Stocked>⟧.slots stock.now) }
+        ensures whole { IsWholeManager ⟦<Taken as Defined>⟧.loan self.new (⟦<Stock as Stocked>⟧.slots stock.now) }
+        ensures step { IsWindowStep (asks.Hide window) result
             (state_of ⟦<Taken as Defined>⟧.loan self.old (⟦<Stock as Stocked>⟧.slots stock.now))
             (state_of ⟦<Taken as Defined>⟧.loan self.new (⟦<Stock as Stocked>⟧.slots stock.now)) }
     {
@@ -171,9 +171,9 @@ impl WindowManager {
         change: ShowHide,
         stock: &Stock,
     ) -> Result<WindowReply, Refusal>
-        requires { IsWhole ⟦<Taken as Defined>⟧.loan self.old (⟦<Stock as Stocked>⟧.slots stock.now) }
-        ensures whole { IsWhole ⟦<Taken as Defined>⟧.loan self.new (⟦<Stock as Stocked>⟧.slots stock.now) }
-        ensures step { IsStep (asks.ShowHide change) result
+        requires { IsWholeManager ⟦<Taken as Defined>⟧.loan self.old (⟦<Stock as Stocked>⟧.slots stock.now) }
+        ensures whole { IsWholeManager ⟦<Taken as Defined>⟧.loan self.new (⟦<Stock as Stocked>⟧.slots stock.now) }
+        ensures step { IsWindowStep (asks.ShowHide change) result
             (state_of ⟦<Taken as Defined>⟧.loan self.old (⟦<Stock as Stocked>⟧.slots stock.now))
             (state_of ⟦<Taken as Defined>⟧.loan self.new (⟦<Stock as Stocked>⟧.slots stock.now)) }
     {

@@ -3,7 +3,7 @@ ghost use Rattle.std.specs.Prelude.{◌≡◌, true, All, map};
 ghost use Rattle.def_iface.specs.Stocked.{is_left};
 ghost use Rattle.vis_update.specs.Records.{record_of};
 ghost use Rattle.window_mgr.specs.Records.{desk_of};
-ghost use Rattle.window_mgr.specs.Whole.{IsWhole, IsSettled, IsStocked};
+ghost use Rattle.window_mgr.specs.Whole.{IsWholeManager, IsSettled, IsStocked};
 ghost use Rattle.window_mgr.specs.Closing.{IsShut, IsClosed};
 
 use crate::WindowManager;
@@ -14,7 +14,7 @@ impl WindowManager {
     /// Ends the desk: the definition of every window is disposed of, and put back Closed into its
     /// slot, while every other slot stays as it was. Takes no memory, and refuses nothing.
     pub fn close(self, stock: &mut Stock)
-        requires { IsWhole ⟦<Taken as Defined>⟧.loan self (⟦<Stock as Stocked>⟧.slots stock.old) }
+        requires { IsWholeManager ⟦<Taken as Defined>⟧.loan self (⟦<Stock as Stocked>⟧.slots stock.old) }
         ensures { IsClosed (desk_of ⟦<Taken as Defined>⟧.loan self (⟦<Stock as Stocked>⟧.slots stock.old)).windows
             (⟦<Stock as Stocked>⟧.slots stock.old) (⟦<Stock as Stocked>⟧.slots stock.new) }
     {

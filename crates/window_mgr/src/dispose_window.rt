@@ -6,8 +6,8 @@ ghost use Rattle.vis_update.specs.Records.{record_of};
 ghost use Rattle.window_mgr.specs.Edits.{relit_all};
 ghost use Rattle.window_mgr.specs.Kept.{IsKept};
 ghost use Rattle.window_mgr.specs.Records.{state_of};
-ghost use Rattle.window_mgr.specs.Step.{IsStep};
-ghost use Rattle.window_mgr.specs.Whole.{IsWhole, IsSettled};
+ghost use Rattle.window_mgr.specs.Step.{IsWindowStep};
+ghost use Rattle.window_mgr.specs.Whole.{IsWholeManager, IsSettled};
 ghost use Rattle.window_mgr.specs.Without.{AreSeatsWithout, IsPlanWithout, IsActivationWithout, IsTakenOff};
 
 use crate::arrange::{Activates, Activation, Rearrangement, front_of};
@@ -26,9 +26,9 @@ impl WindowManager {
         window: u64,
         stock: &mut Stock,
     ) -> Result<WindowReply, Refusal>
-        requires { IsWhole ⟦<Taken as Defined>⟧.loan self.old (⟦<Stock as Stocked>⟧.slots stock.old) }
-        ensures whole { IsWhole ⟦<Taken as Defined>⟧.loan self.new (⟦<Stock as Stocked>⟧.slots stock.new) }
-        ensures step { IsStep (Dispose window) result
+        requires { IsWholeManager ⟦<Taken as Defined>⟧.loan self.old (⟦<Stock as Stocked>⟧.slots stock.old) }
+        ensures whole { IsWholeManager ⟦<Taken as Defined>⟧.loan self.new (⟦<Stock as Stocked>⟧.slots stock.new) }
+        ensures step { IsWindowStep (Dispose window) result
             (state_of ⟦<Taken as Defined>⟧.loan self.old (⟦<Stock as Stocked>⟧.slots stock.old))
             (state_of ⟦<Taken as Defined>⟧.loan self.new (⟦<Stock as Stocked>⟧.slots stock.new)) }
     {

@@ -2,7 +2,7 @@
 //!
 //! What a desk is, a reader finds in `specs/`, and nowhere in code: `FullDesk` has the windows' records, from
 //! front to back, each with the operations of its picture, and no region and no saved pixel. `Step` says what a
-//! call leaves and answers (`IsStep`): a call that nothing refuses has its effect; a refused one changes nothing, and its
+//! call leaves and answers (`IsWindowStep`): a call that nothing refuses has its effect; a refused one changes nothing, and its
 //! answer is the first refusal of the written order whose condition holds (`Refused`), or NoMemory where no other
 //! holds and the call may ask for memory. There are few kinds of effect (`Effects`): a window is made, an operation is
 //! drawn, windows are arranged, something is told. How each call arranges the windows, and which becomes active, stands
@@ -10,7 +10,7 @@
 //!
 //! A `WindowManager` keeps more than the desk: the screen, and for each window the regions that its content and its frame
 //! own on the screen and what of the content is not yet drawn (`Area`). `Records` reads the desk and its state off it;
-//! `IsWhole` (in `Whole`) says that what is kept agrees with the desk. Every call keeps it.
+//! `IsWholeManager` (in `Whole`) says that what is kept agrees with the desk. Every call keeps it.
 //!
 //! Definitions live outside, in a `Stock` that each call is handed. A window's record holds its definition together
 //! with the number of the slot that it came from, until its end or the desk's puts it back Closed.

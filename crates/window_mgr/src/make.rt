@@ -2,8 +2,8 @@
 ghost use Rattle.std.specs.Prelude.{◌≡◌};
 ghost use Rattle.desk_call.specs.declared.window.WindowCall.TheVariants.{New, Draw, Find, Front, Info};
 ghost use Rattle.window_mgr.specs.Records.{state_of};
-ghost use Rattle.window_mgr.specs.Step.{IsStep};
-ghost use Rattle.window_mgr.specs.Whole.{IsWhole};
+ghost use Rattle.window_mgr.specs.Step.{IsWindowStep};
+ghost use Rattle.window_mgr.specs.Whole.{IsWholeManager};
 
 use crate::{Drawing, NewWindow, WindowCall, WindowInfo, WindowManager, WindowReply};
 use def_iface::{Defined, Stock, Stocked, Taken};
@@ -14,9 +14,9 @@ impl WindowManager {
     /// Makes one call, and gives its answer. A refused call changes nothing; which refusal comes
     /// first where several would do stands with the call.
     pub fn make(&mut self, call: &WindowCall<'_>, stock: &mut Stock) -> Result<WindowReply, Refusal>
-        requires { IsWhole ⟦<Taken as Defined>⟧.loan self.old (⟦<Stock as Stocked>⟧.slots stock.old) }
-        ensures whole { IsWhole ⟦<Taken as Defined>⟧.loan self.new (⟦<Stock as Stocked>⟧.slots stock.new) }
-        ensures step { IsStep call.now result
+        requires { IsWholeManager ⟦<Taken as Defined>⟧.loan self.old (⟦<Stock as Stocked>⟧.slots stock.old) }
+        ensures whole { IsWholeManager ⟦<Taken as Defined>⟧.loan self.new (⟦<Stock as Stocked>⟧.slots stock.new) }
+        ensures step { IsWindowStep call.now result
             (state_of ⟦<Taken as Defined>⟧.loan self.old (⟦<Stock as Stocked>⟧.slots stock.old))
             (state_of ⟦<Taken as Defined>⟧.loan self.new (⟦<Stock as Stocked>⟧.slots stock.new)) }
     {
@@ -46,9 +46,9 @@ impl WindowManager {
         window: &NewWindow<'_>,
         stock: &mut Stock,
     ) -> Result<WindowReply, Refusal>
-        requires { IsWhole ⟦<Taken as Defined>⟧.loan self.old (⟦<Stock as Stocked>⟧.slots stock.old) }
-        ensures whole { IsWhole ⟦<Taken as Defined>⟧.loan self.new (⟦<Stock as Stocked>⟧.slots stock.new) }
-        ensures step { IsStep (New window.now) result
+        requires { IsWholeManager ⟦<Taken as Defined>⟧.loan self.old (⟦<Stock as Stocked>⟧.slots stock.old) }
+        ensures whole { IsWholeManager ⟦<Taken as Defined>⟧.loan self.new (⟦<Stock as Stocked>⟧.slots stock.new) }
+        ensures step { IsWindowStep (New window.now) result
             (state_of ⟦<Taken as Defined>⟧.loan self.old (⟦<Stock as Stocked>⟧.slots stock.old))
             (state_of ⟦<Taken as Defined>⟧.loan self.new (⟦<Stock as Stocked>⟧.slots stock.new)) }
     {
@@ -60,9 +60,9 @@ impl WindowManager {
     /// BadRegion as `OpRef::judge` has them, NoSuchWindow, OutOfRange and TooLong as it has them, TooMany
     /// where the picture has 1024 operations, NoMemory.
     fn answer_draw(&mut self, drawing: &Drawing<'_>, _stock: &Stock) -> Result<WindowReply, Refusal>
-        requires { IsWhole ⟦<Taken as Defined>⟧.loan self.old (⟦<Stock as Stocked>⟧.slots _stock.now) }
-        ensures whole { IsWhole ⟦<Taken as Defined>⟧.loan self.new (⟦<Stock as Stocked>⟧.slots _stock.now) }
-        ensures step { IsStep (Draw drawing.now) result
+        requires { IsWholeManager ⟦<Taken as Defined>⟧.loan self.old (⟦<Stock as Stocked>⟧.slots _stock.now) }
+        ensures whole { IsWholeManager ⟦<Taken as Defined>⟧.loan self.new (⟦<Stock as Stocked>⟧.slots _stock.now) }
+        ensures step { IsWindowStep (Draw drawing.now) result
             (state_of ⟦<Taken as Defined>⟧.loan self.old (⟦<Stock as Stocked>⟧.slots _stock.now))
             (state_of ⟦<Taken as Defined>⟧.loan self.new (⟦<Stock as Stocked>⟧.slots _stock.now)) }
     {
@@ -75,8 +75,8 @@ impl WindowManager {
 
     /// Answers whose a point of the screen is.
     fn answer_find(&self, point: Point, _stock: &Stock) -> Result<WindowReply, Refusal>
-        requires { IsWhole ⟦<Taken as Defined>⟧.loan self.now (⟦<Stock as Stocked>⟧.slots _stock.now) }
-        ensures { IsStep (Find point) result
+        requires { IsWholeManager ⟦<Taken as Defined>⟧.loan self.now (⟦<Stock as Stocked>⟧.slots _stock.now) }
+        ensures { IsWindowStep (Find point) result
             (state_of ⟦<Taken as Defined>⟧.loan self.now (⟦<Stock as Stocked>⟧.slots _stock.now))
             (state_of ⟦<Taken as Defined>⟧.loan self.now (⟦<Stock as Stocked>⟧.slots _stock.now)) }
     {
@@ -85,7 +85,7 @@ impl WindowManager {
 
     /// Answers which window is the first visible one.
     fn answer_front(&self, _stock: &Stock) -> Result<WindowReply, Refusal>
-        ensures { IsStep Front result
+        ensures { IsWindowStep Front result
             (state_of ⟦<Taken as Defined>⟧.loan self.now (⟦<Stock as Stocked>⟧.slots _stock.now))
             (state_of ⟦<Taken as Defined>⟧.loan self.now (⟦<Stock as Stocked>⟧.slots _stock.now)) }
     {
@@ -94,8 +94,8 @@ impl WindowManager {
 
     /// Tells how a window stands.
     fn answer_info(&self, window: u64, _stock: &Stock) -> Result<WindowReply, Refusal>
-        requires { IsWhole ⟦<Taken as Defined>⟧.loan self.now (⟦<Stock as Stocked>⟧.slots _stock.now) }
-        ensures { IsStep (Info window) result
+        requires { IsWholeManager ⟦<Taken as Defined>⟧.loan self.now (⟦<Stock as Stocked>⟧.slots _stock.now) }
+        ensures { IsWindowStep (Info window) result
             (state_of ⟦<Taken as Defined>⟧.loan self.now (⟦<Stock as Stocked>⟧.slots _stock.now))
             (state_of ⟦<Taken as Defined>⟧.loan self.now (⟦<Stock as Stocked>⟧.slots _stock.now)) }
     {

@@ -10,7 +10,7 @@ ghost use Rattle.window_mgr.specs.Planned.{IsPlanWith, IsUnplanned, SameDesk, Is
 ghost use Rattle.window_mgr.specs.Seats.{AreSeatsBehind};
 ghost use Rattle.window_mgr.specs.Effects.{new_record};
 ghost use Rattle.window_mgr.specs.Step.{IsMade, IsNotMade};
-ghost use Rattle.window_mgr.specs.Whole.{IsWhole, IsSettled};
+ghost use Rattle.window_mgr.specs.Whole.{IsWholeManager, IsSettled};
 
 use crate::{NewWindow, WindowManager};
 use def_iface::{Defined, Stage, Stock, Stocked, Taken};
@@ -45,8 +45,8 @@ impl WindowManager {
         window: &NewWindow<'_>,
         stock: &mut Stock,
     ) -> Result<u64, Refusal>
-        requires { IsWhole ⟦<Taken as Defined>⟧.loan self.old (⟦<Stock as Stocked>⟧.slots stock.old) }
-        ensures whole { IsWhole ⟦<Taken as Defined>⟧.loan self.new (⟦<Stock as Stocked>⟧.slots stock.new) }
+        requires { IsWholeManager ⟦<Taken as Defined>⟧.loan self.old (⟦<Stock as Stocked>⟧.slots stock.old) }
+        ensures whole { IsWholeManager ⟦<Taken as Defined>⟧.loan self.new (⟦<Stock as Stocked>⟧.slots stock.new) }
         ensures step { let before = state_of ⟦<Taken as Defined>⟧.loan self.old (⟦<Stock as Stocked>⟧.slots stock.old) in
             let after = state_of ⟦<Taken as Defined>⟧.loan self.new (⟦<Stock as Stocked>⟧.slots stock.new) in
             MatchResult result (λ serial. IsMade window.now serial before after)

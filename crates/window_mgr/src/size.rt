@@ -4,8 +4,8 @@ ghost use Rattle.desk_call.specs.declared.window.WindowCall.TheVariants as asks;
 ghost use Rattle.vis_update.specs.Records.{record_of};
 ghost use Rattle.window_mgr.specs.Records.{state_of};
 ghost use Rattle.window_mgr.specs.Sizing.{IsSizable, IsSizeCommitted};
-ghost use Rattle.window_mgr.specs.Step.{IsStep};
-ghost use Rattle.window_mgr.specs.Whole.{IsWhole, IsSettled};
+ghost use Rattle.window_mgr.specs.Step.{IsWindowStep};
+ghost use Rattle.window_mgr.specs.Whole.{IsWholeManager, IsSettled};
 
 use crate::arrange::{Activates, Edit, Rearrangement};
 use crate::{SizeWindow, WindowManager, WindowReply};
@@ -20,9 +20,9 @@ impl WindowManager {
         sized: SizeWindow,
         stock: &Stock,
     ) -> Result<WindowReply, Refusal>
-        requires { IsWhole ⟦<Taken as Defined>⟧.loan self.old (⟦<Stock as Stocked>⟧.slots stock.now) }
-        ensures whole { IsWhole ⟦<Taken as Defined>⟧.loan self.new (⟦<Stock as Stocked>⟧.slots stock.now) }
-        ensures step { IsStep (asks.Size sized) result
+        requires { IsWholeManager ⟦<Taken as Defined>⟧.loan self.old (⟦<Stock as Stocked>⟧.slots stock.now) }
+        ensures whole { IsWholeManager ⟦<Taken as Defined>⟧.loan self.new (⟦<Stock as Stocked>⟧.slots stock.now) }
+        ensures step { IsWindowStep (asks.Size sized) result
             (state_of ⟦<Taken as Defined>⟧.loan self.old (⟦<Stock as Stocked>⟧.slots stock.now))
             (state_of ⟦<Taken as Defined>⟧.loan self.new (⟦<Stock as Stocked>⟧.slots stock.now)) }
     {

@@ -10,9 +10,9 @@ ghost use Rattle.window_mgr.specs.Kept.{IsKept};
 ghost use Rattle.window_mgr.specs.Planned.{SameDesk};
 ghost use Rattle.window_mgr.specs.Records.{state_of};
 ghost use Rattle.window_mgr.specs.Refused.{IsRefusal};
-ghost use Rattle.window_mgr.specs.Step.{IsStep, IsCallRefused};
+ghost use Rattle.window_mgr.specs.Step.{IsWindowStep, IsCallRefused};
 ghost use Rattle.window_mgr.specs.Telling.{AreRegionBytes, IsNotTold, visible_of, update_of};
-ghost use Rattle.window_mgr.specs.Whole.{IsWhole};
+ghost use Rattle.window_mgr.specs.Whole.{IsWholeManager};
 
 use crate::find::local;
 use crate::{WindowManager, WindowReply};
@@ -28,9 +28,9 @@ impl WindowManager {
         window: u64,
         _stock: &Stock,
     ) -> Result<WindowReply, Refusal>
-        requires { IsWhole ⟦<Taken as Defined>⟧.loan self.old (⟦<Stock as Stocked>⟧.slots _stock.now) }
-        ensures whole { IsWhole ⟦<Taken as Defined>⟧.loan self.new (⟦<Stock as Stocked>⟧.slots _stock.now) }
-        ensures step { IsStep (VisibleRegion window) result
+        requires { IsWholeManager ⟦<Taken as Defined>⟧.loan self.old (⟦<Stock as Stocked>⟧.slots _stock.now) }
+        ensures whole { IsWholeManager ⟦<Taken as Defined>⟧.loan self.new (⟦<Stock as Stocked>⟧.slots _stock.now) }
+        ensures step { IsWindowStep (VisibleRegion window) result
             (state_of ⟦<Taken as Defined>⟧.loan self.old (⟦<Stock as Stocked>⟧.slots _stock.now))
             (state_of ⟦<Taken as Defined>⟧.loan self.new (⟦<Stock as Stocked>⟧.slots _stock.now)) }
     {
@@ -46,9 +46,9 @@ impl WindowManager {
         window: u64,
         _stock: &Stock,
     ) -> Result<WindowReply, Refusal>
-        requires { IsWhole ⟦<Taken as Defined>⟧.loan self.old (⟦<Stock as Stocked>⟧.slots _stock.now) }
-        ensures whole { IsWhole ⟦<Taken as Defined>⟧.loan self.new (⟦<Stock as Stocked>⟧.slots _stock.now) }
-        ensures step { IsStep (UpdateRegion window) result
+        requires { IsWholeManager ⟦<Taken as Defined>⟧.loan self.old (⟦<Stock as Stocked>⟧.slots _stock.now) }
+        ensures whole { IsWholeManager ⟦<Taken as Defined>⟧.loan self.new (⟦<Stock as Stocked>⟧.slots _stock.now) }
+        ensures step { IsWindowStep (UpdateRegion window) result
             (state_of ⟦<Taken as Defined>⟧.loan self.old (⟦<Stock as Stocked>⟧.slots _stock.now))
             (state_of ⟦<Taken as Defined>⟧.loan self.new (⟦<Stock as Stocked>⟧.slots _stock.now)) }
     {

@@ -1,6 +1,6 @@
 use Rattle.std.proofs.Common.{◌<◌, length, ap, ◌∙◌, refl, subst, arith}
 use Rattle.std.specs.List.{remove}
-use Rattle.window_mgr.specs.Edits.{IsAt}
+use Rattle.window_mgr.specs.Edits.{IsWindowAt}
 use Rattle.window_mgr.proofs.RestSeats as resting
 use Rattle.window_mgr.proofs.manager.WindowManager.take_off.Goals as goal
 
@@ -21,7 +21,7 @@ commit-requires-clause-parts g c =
 pub returns : goal.returns
 returns g c =
     let was = resting.was_at c.args.activation c.args.self.now.windows.active c.args.self.now.windows.records.items c.args.at c.remove-taken.result c.requires.at
-    (subst (λ ws. IsAt ws c.args.at c.remove-taken.result) c.activate.ensures.windows c.remove-taken.ensures.value) in
+    (subst (λ ws. IsWindowAt ws c.args.at c.remove-taken.result) c.activate.ensures.windows c.remove-taken.ensures.value) in
     record {
       window = was.window;
       there = was.there;
