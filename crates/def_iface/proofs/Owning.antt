@@ -3,7 +3,7 @@ use Rattle.std.proofs.Common.{◌≡◌, ℕ, Bool, true, false, ◌==◌, ◌&&
 use Rattle.std.proofs.lemmas.Bool.{eqb-true, and_parts, not-true}
 use Rattle.std.proofs.lemmas.Bool.Decides.{nat_tests}
 use Rattle.tb_geom.specs.declared.point.Point.{Point}
-use Rattle.def_iface.specs.Desk.{Part, ContentLayer, Window, Desk, in_structure, local, window_of, layer_of, same_part}
+use Rattle.def_iface.specs.Desk.{Part, ContentLayer, LayeredWindow, LayeredDesk, in_structure, local, window_of, layer_of, same_part}
 use Rattle.def_iface.specs.Desk.Part.{Picture}
 use Rattle.def_iface.specs.Owner.{Owner, owner_among, owner_within, own_bit, same_owner}
 use Rattle.def_iface.specs.Owner.Owner.{Desktop, Bar, Frame, Content}
@@ -56,7 +56,7 @@ is_other s Bar = true
 is_other s (Frame t) = not (s == t)
 is_other s (Content t part) = not (s == t)
 
-other_within : (s : ℕ) (w : Window) (ls : List ContentLayer) (p : Point) → (w.serial == s) ≡ false → is_other s (owner_within w ls p) ≡ true
+other_within : (s : ℕ) (w : LayeredWindow) (ls : List ContentLayer) (p : Point) → (w.serial == s) ≡ false → is_other s (owner_within w ls p) ≡ true
 other_within s w [] p e = grind (arith, nat_tests)
 other_within s w (l ∷ ls) p e = one (l.extent (local w p)) (owner_within w ls p) (other_within s w ls p e)
   where
@@ -69,14 +69,14 @@ either_other s true o q k n = k
 either_other s false o q k n = n
 
 -- a serial that no window has owns no pixel
-pub owner_is_other : (ws : List Window) (p : Point) (s : ℕ) → window_of s ws ≡ None → is_other s (owner_among ws p) ≡ true
+pub owner_is_other : (ws : List LayeredWindow) (p : Point) (s : ℕ) → window_of s ws ≡ None → is_other s (owner_among ws p) ≡ true
 owner_is_other [] p s e = refl
 owner_is_other (w ∷ ws) p s e =
     let n = not_first (w.serial == s) w (window_of s ws) e in
     either_other s (in_structure w p) _ _ (other_within s w w.layers p n.0) (owner_is_other ws p s n.1)
 
 -- a window in front changes no value of the owners that are none of its layers
-pub own_bit-behind : (desk : Desk) (w : Window) (ws : List Window) (p : Point) (o : Owner) → is_other w.serial o ≡ true → own_bit (record desk { windows = w ∷ ws }) o p ≡ own_bit (record desk { windows = ws }) o p
+pub own_bit-behind : (desk : LayeredDesk) (w : LayeredWindow) (ws : List LayeredWindow) (p : Point) (o : Owner) → is_other w.serial o ≡ true → own_bit (record desk { windows = w ∷ ws }) o p ≡ own_bit (record desk { windows = ws }) o p
 own_bit-behind desk w ws p Desktop e = refl
 own_bit-behind desk w ws p Bar e = refl
 own_bit-behind desk w ws p (Frame s) e = rw (not-true (w.serial == s) e) refl

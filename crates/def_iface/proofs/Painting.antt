@@ -2,14 +2,14 @@
 use Rattle.std.proofs.Common.{◌≡◌, Bool, true, false, ◌&&◌, if◌then◌else◌, List, [], ◌∷◌, fold, Some, refl, sym, ◌∙◌, ap}
 use Rattle.std.proofs.lemmas.Grind.{fold-append}
 use Rattle.tb_geom.specs.declared.point.Point.{Point}
-use Rattle.def_iface.specs.Desk.{Part, ContentLayer, Window, Desk, IsDesk, AreParts, AreWindows, in_structure, in_bar, local, layer_of}
+use Rattle.def_iface.specs.Desk.{Part, ContentLayer, LayeredWindow, LayeredDesk, IsDesk, AreParts, AreWindows, in_structure, in_bar, local, layer_of}
 use Rattle.def_iface.specs.Owner.{Owner, owner, owner_among, owner_within, own_bit}
 use Rattle.def_iface.specs.Owner.Owner.{Bar, Frame, Content}
 use Rattle.def_iface.specs.Scratch.{painted, content_layers, window_layers, layers_of, scratch}
 use Rattle.def_iface.proofs.Owning.{same_number, same_part-self, owner_is_other, own_bit-behind, layer_of-behind}
 
 -- the value of the first content layer that holds the pixel, else the value under them
-first_value : Window → List ContentLayer → Point → Bool → Bool
+first_value : LayeredWindow → List ContentLayer → Point → Bool → Bool
 first_value w [] p under = under
 first_value w (l ∷ ls) p under = if l.extent (local w p) then l.picture (local w p) else first_value w ls p under
 
@@ -22,7 +22,7 @@ one_layer true e x y d = refl
 one_layer false e x y d = refl
 
 -- the content layers over what is under them
-content_painted : (w : Window) (ls : List ContentLayer) (p : Point) (under : Bool) → fold (painted p) under (content_layers w ls) ≡ (if in_structure w p then first_value w ls p under else under)
+content_painted : (w : LayeredWindow) (ls : List ContentLayer) (p : Point) (under : Bool) → fold (painted p) under (content_layers w ls) ≡ (if in_structure w p then first_value w ls p under else under)
 unfolding first_value
 content_painted w [] p under = same_both (in_structure w p) under
 content_painted w (l ∷ ls) p under =
@@ -31,11 +31,11 @@ content_painted w (l ∷ ls) p under =
     ∙ one_layer (in_structure w p) (l.extent (local w p)) (l.picture (local w p)) (first_value w ls p under) under
 
 -- the values that owners have are those of a window's frame and of these layers of its content
-record Shows (value : Owner → Bool) (w : Window) (ls : List ContentLayer) (p : Point) : Type 0 where
+record Shows (value : Owner → Bool) (w : LayeredWindow) (ls : List ContentLayer) (p : Point) : Type 0 where
   frame : value (Frame w.serial) ≡ w.frame (local w p)
   content : (part : Part) (l : ContentLayer) → layer_of part ls ≡ Some l → value (Content w.serial part) ≡ l.picture (local w p)
 
-first_is_owners : (value : Owner → Bool) (w : Window) (ls : List ContentLayer) (p : Point) → AreParts ls → Shows value w ls p → first_value w ls p (w.frame (local w p)) ≡ value (owner_within w ls p)
+first_is_owners : (value : Owner → Bool) (w : LayeredWindow) (ls : List ContentLayer) (p : Point) → AreParts ls → Shows value w ls p → first_value w ls p (w.frame (local w p)) ≡ value (owner_within w ls p)
 unfolding first_value
 first_is_owners value w [] p parts s = sym s.frame
 first_is_owners value w (l ∷ ls) p parts s = one (l.extent (local w p))
@@ -50,7 +50,7 @@ first_is_owners value w (l ∷ ls) p parts s = one (l.extent (local w p))
     one false here behind = behind
 
 -- a window over what is behind it
-one_window : (value : Owner → Bool) (w : Window) (p : Point) (behind : Bool) (o : Owner) → AreParts w.layers → Shows value w w.layers p → behind ≡ value o → fold (painted p) behind (window_layers w) ≡ value (if in_structure w p then owner_within w w.layers p else o)
+one_window : (value : Owner → Bool) (w : LayeredWindow) (p : Point) (behind : Bool) (o : Owner) → AreParts w.layers → Shows value w w.layers p → behind ≡ value o → fold (painted p) behind (window_layers w) ≡ value (if in_structure w p then owner_within w w.layers p else o)
 one_window value w p behind o parts s e =
     content_painted w w.layers p (if in_structure w p then w.frame (local w p) else behind)
     ∙ by_test (in_structure w p)
@@ -59,13 +59,13 @@ one_window value w p behind o parts s e =
     by_test true = first_is_owners value w w.layers p parts s
     by_test false = e
 
-shows_own : (desk : Desk) (w : Window) (ws : List Window) (p : Point) → Shows (λ o. own_bit (record desk { windows = w ∷ ws }) o p) w w.layers p
+shows_own : (desk : LayeredDesk) (w : LayeredWindow) (ws : List LayeredWindow) (p : Point) → Shows (λ o. own_bit (record desk { windows = w ∷ ws }) o p) w w.layers p
 shows_own desk w ws p = record {
   frame = rw (same_number w.serial) refl;
   content = λ part l e. rw (same_number w.serial, e) refl;
 }
 
-windows_painted : (desk : Desk) (ws : List Window) (p : Point) → AreWindows ws → fold (painted p) (desk.desktop p) (layers_of ws) ≡ own_bit (record desk { windows = ws }) (owner_among ws p) p
+windows_painted : (desk : LayeredDesk) (ws : List LayeredWindow) (p : Point) → AreWindows ws → fold (painted p) (desk.desktop p) (layers_of ws) ≡ own_bit (record desk { windows = ws }) (owner_among ws p) p
 windows_painted desk [] p h = refl
 windows_painted desk (w ∷ ws) p h =
     fold-append (painted p) (desk.desktop p) (layers_of ws) (window_layers w)
@@ -77,7 +77,7 @@ bar_painted value true x d o e f = e
 bar_painted value false x d o e f = f
 
 -- painting from nothing gives the owner's value
-pub scratch_is_owners : (desk : Desk) (p : Point) → IsDesk desk → scratch desk p ≡ own_bit desk (owner desk p) p
+pub scratch_is_owners : (desk : LayeredDesk) (p : Point) → IsDesk desk → scratch desk p ≡ own_bit desk (owner desk p) p
 scratch_is_owners desk p h =
     fold-append (painted p) (desk.desktop p) (layers_of desk.windows) _
     ∙ bar_painted (λ o. own_bit desk o p) (in_bar desk p) (desk.bar_picture p) _ (owner_among desk.windows p) refl (windows_painted desk desk.windows p h)

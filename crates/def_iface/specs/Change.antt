@@ -2,13 +2,13 @@
 use Rattle.std.specs.Prelude.{◌≡◌, Bool, true, false, not, ◌&&◌, if◌then◌else◌}
 use Rattle.tb_geom.specs.declared.point.Point.{Point}
 use Rattle.tb_geom.specs.Points.{PixelSet}
-use Rattle.def_iface.specs.Desk.{Desk, IsDesk, on_screen}
+use Rattle.def_iface.specs.Desk.{LayeredDesk, IsDesk, on_screen}
 use Rattle.def_iface.specs.Owner.{Owner, owner, own_bit, same_owner, is_content}
 use Rattle.def_iface.specs.Scratch.{scratch}
 
 -- a desk, the pixels of its update sets, and the image on its screen
 pub record State : Type 0 where
-  pub desk : Desk
+  pub desk : LayeredDesk
   -- a pixel can be in the update set of its own owner's window alone, so one set serves all windows
   pub stale : PixelSet
   pub image : PixelSet
@@ -39,7 +39,7 @@ no_change = record {
 }
 
 -- what a layer shows at p was on the screen before, and was the same layer's
-abbrev pub had : Change → Desk → Owner → Point → Bool
+abbrev pub had : Change → LayeredDesk → Owner → Point → Bool
 had c before o p = on_screen before (c.source o p) && same_owner (owner before (c.source o p)) o
 
 -- whether a pixel of this owner is in an update set after the change
@@ -52,7 +52,7 @@ stale_by c before o p =
     else (if had c before.desk o p then before.stale (c.source o p) else true))))
 
 -- the value of a pixel of this owner after the change
-abbrev pub image_by : Change → State → Desk → Owner → Point → Bool
+abbrev pub image_by : Change → State → LayeredDesk → Owner → Point → Bool
 image_by c before after o p =
     if not (is_content o) then scratch after p
     else (if c.afresh o p then scratch after p
@@ -67,7 +67,7 @@ pub record IsChanged (c : Change) (before after : State) : Type 0 where
 
 -- the desks go with the change: what a layer keeps, and the change neither draws afresh nor takes out or puts in, it
 -- shows as drawn on, and what is taken out is right
-pub record IsSound (c : Change) (before : State) (after : Desk) : Type 0 where
+pub record IsSound (c : Change) (before : State) (after : LayeredDesk) : Type 0 where
   pub desk : IsDesk after
   pub kept : (p : Point) → let o = owner after p in
       on_screen after p ≡ true → is_content o ≡ true → c.afresh o p ≡ false → c.taken o p ≡ false → c.added o p ≡ false

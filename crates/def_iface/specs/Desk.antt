@@ -15,7 +15,7 @@ pub record ContentLayer : Type 0 where
   pub picture : PixelSet
 
 -- a window: its content layers from front to back, over its frame; what is not its place is in its own coordinates
-pub record Window : Type 0 where
+pub record LayeredWindow : Type 0 where
   pub serial : ℕ
   -- where its own 0 0 lies on the screen
   pub place : Point
@@ -24,7 +24,7 @@ pub record Window : Type 0 where
   pub frame : PixelSet
   pub layers : List ContentLayer
 
-pub record Desk : Type 0 where
+pub record LayeredDesk : Type 0 where
   pub width : ℤ
   pub height : ℤ
   -- the rows of the menu bar, at the top
@@ -32,26 +32,26 @@ pub record Desk : Type 0 where
   pub bar_picture : PixelSet
   pub desktop : PixelSet
   -- from front to back
-  pub windows : List Window
+  pub windows : List LayeredWindow
 
 -- the pixel is one of the screen's
-abbrev pub on_screen : Desk → PixelSet
+abbrev pub on_screen : LayeredDesk → PixelSet
 on_screen desk p = between (pos 0) p.h desk.width && between (pos 0) p.v desk.height
 
--- the pixel is one of the menu bar's
-abbrev pub in_bar : Desk → PixelSet
+-- the pixel, if it is one of the screen's, is one of the menu bar's
+abbrev pub in_bar : LayeredDesk → PixelSet
 in_bar desk p = int_lt p.v desk.bar
 
 -- the pixel in the window's own coordinates
-abbrev pub local : Window → Point → Point
+abbrev pub local : LayeredWindow → Point → Point
 local w p = minus p w.place
 
 -- the window is visible, and its structure holds the pixel
-abbrev pub in_structure : Window → PixelSet
+abbrev pub in_structure : LayeredWindow → PixelSet
 in_structure w p = w.shown && w.structure (local w p)
 
 -- the window of this serial
-abbrev pub window_of : ℕ → List Window → Option Window
+abbrev pub window_of : ℕ → List LayeredWindow → Option LayeredWindow
 window_of s [] = None
 window_of s (w ∷ ws) = if w.serial == s then Some w else window_of s ws
 
@@ -69,9 +69,9 @@ AreParts [] = Unit {0}
 AreParts (l ∷ ls) = (layer_of l.part ls ≡ None) × AreParts ls
 
 -- each window has another serial, and each of its layers is another part
-abbrev pub AreWindows : List Window → Type 0
+abbrev pub AreWindows : List LayeredWindow → Type 0
 AreWindows [] = Unit {0}
 AreWindows (w ∷ ws) = (window_of w.serial ws ≡ None) × (AreParts w.layers × AreWindows ws)
 
-abbrev pub IsDesk : Desk → Type 0
+abbrev pub IsDesk : LayeredDesk → Type 0
 IsDesk desk = AreWindows desk.windows

@@ -52,7 +52,7 @@ IsDamage damage old new =
 abbrev pub IsWithin : PixelSet → PixelSet → Type 0
 IsWithin s t = (p : Point) → s p ≡ true → t p ≡ true
 
--- a fresh definition was made live, and told this size
+-- what a fresh definition is once it was made live and told this size; its picture and its parts are its own affair
 pub record IsBegun (size : Size) (old new : Definition) : Type 0 where
   pub live : new.stage ≡ Live
   pub told : new.size ≡ size

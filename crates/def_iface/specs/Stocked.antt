@@ -58,7 +58,7 @@ pub record IsTaken (kind : List ℕ) (loan : Loan) (old new : List SlotView) : T
 abbrev pub is_left : ℕ → List SlotView → Bool
 is_left slot slots = option_map_or (λ s. is_none s.held) (slice_get slots slot) false
 
--- the definition is in its slot, and every other slot is as it was
+-- the definition is in its slot, if that is there, and every other slot is as it was
 abbrev pub IsPutBack : Loan → List SlotView → List SlotView → Type 0
 IsPutBack loan old new = IfSome (slice_get old loan.slot) (λ s. new ≡ slice_set old loan.slot (holding (Some loan.definition) s))
 

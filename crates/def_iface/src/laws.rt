@@ -1,7 +1,7 @@
 //! What the definitions of the desk say of each other.
 ghost use Rattle.std.specs.Prelude.{◌≡◌};
 ghost use Rattle.tb_geom.specs.declared.point.Point.{Point};
-ghost use Rattle.def_iface.specs.Desk.{Desk, IsDesk};
+ghost use Rattle.def_iface.specs.Desk.{LayeredDesk, IsDesk};
 ghost use Rattle.def_iface.specs.Owner.{owner, own_bit};
 ghost use Rattle.def_iface.specs.Scratch.{scratch};
 ghost use Rattle.def_iface.specs.Change.{Change, State, IsChanged, IsSound, IsRight};
@@ -9,7 +9,7 @@ ghost use Rattle.def_iface.specs.Change.{Change, State, IsChanged, IsSound, IsRi
 /// Painting from nothing, back to front, gives each pixel the value of its owner.
 #[tactic(auto, using(crate::proofs::Painting::scratch_is_owners))]
 pub fn scratch_is_owners()
-    ensures { (desk : Desk) (p : Point) → IsDesk desk → scratch desk p ≡ own_bit desk (owner desk p) p }
+    ensures { (desk : LayeredDesk) (p : Point) → IsDesk desk → scratch desk p ≡ own_bit desk (owner desk p) p }
 {}
 
 /// A sound change keeps a right state right.

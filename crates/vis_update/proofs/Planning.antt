@@ -11,7 +11,7 @@ use Rattle.tb_geom.specs.Pixels.{Pixels, holds}
 use Rattle.def_iface.specs.declared.taken.Taken.{Taken}
 use Rattle.def_iface.specs.Meaning.{Loan}
 use Rattle.def_iface.specs.Desk as layers
-use Rattle.def_iface.specs.Desk.{Desk}
+use Rattle.def_iface.specs.Desk.{LayeredDesk}
 use Rattle.def_iface.specs.Owner.{Owner, owner, owner_among, same_owner, is_content}
 use Rattle.def_iface.specs.Owner.Owner.{Desktop, Bar, Frame, Content}
 use Rattle.def_iface.specs.Change.{State, had}
@@ -30,7 +30,7 @@ use Rattle.vis_update.proofs.Sweeping.{AreSwept}
 use Rattle.vis_update.proofs.Takings.{Reaches, Taking, taking, visible_is, frame_is, reaches_behind}
 use Rattle.vis_update.proofs.Sources.{kept_or_stale, stale_is, erase_is, copied_is}
 
-module _ {V : Type 0} {H : V → Type 0} (loan : Taken V H → Loan) (t : Touch) (font : List ℕ) (before : State) (after : Desk) where
+module _ {V : Type 0} {H : V → Type 0} (loan : Taken V H → Loan) (t : Touch) (font : List ℕ) (before : State) (after : LayeredDesk) where
   -- what one window takes, where the windows in front left what they should
   area_is : (first middle : PixelSet) (w : WindowRecord) (ws : List WindowRecord) (s : Seat V H) (a : Area) (part : Part) → seat_stand loan s ≡ stand_of w → layers.AreWindows (map (layered_window font) (w ∷ ws)) → Reaches font after (w ∷ ws) first → IsArea before.desk before.stale s.serial s.area.now → IsSwept loan t first s a part middle → IsArea after (stale_after (change_of t) before after) w.serial a × IsPart t before after w.serial part × Reaches font after ws middle
   area_is first middle w ws s a part same distinct reach was swept = (

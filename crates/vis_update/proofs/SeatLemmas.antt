@@ -11,7 +11,7 @@ use Rattle.tb_geom.specs.Rects.{between}
 use Rattle.def_iface.specs.declared.taken.Taken.{Taken}
 use Rattle.def_iface.specs.Meaning.{Loan}
 use Rattle.def_iface.specs.Desk as layers
-use Rattle.def_iface.specs.Desk.{Desk}
+use Rattle.def_iface.specs.Desk.{LayeredDesk}
 use Rattle.def_iface.specs.Owner.{Owner, owner, owner_among}
 use Rattle.def_iface.specs.Owner.Owner.{Bar}
 use Rattle.def_iface.proofs.Owning.{is_other, owner_is_other}
@@ -27,7 +27,7 @@ use Rattle.vis_update.proofs.Others.{not_content, not_same_frame}
 -- ---- areas on a screen
 
 -- what of a desk's screen something has is near
-near_screen : (desk : Desk) (r : Pixels) (its : Point → Bool) → desk.width ≤ℤ pos 1024 → desk.height ≤ℤ pos 1024 → ((p : Point) → holds r p ≡ (layers.on_screen desk p && its p)) → IsNear r
+near_screen : (desk : LayeredDesk) (r : Pixels) (its : Point → Bool) → desk.width ≤ℤ pos 1024 → desk.height ≤ℤ pos 1024 → ((p : Point) → holds r p ≡ (layers.on_screen desk p && its p)) → IsNear r
 near_screen desk r its wide high r_is p e =
     let on = and_parts (between (pos 0) p.h desk.width) (between (pos 0) p.v desk.height) (and_parts (layers.on_screen desk p) (its p) (sym (r_is p) ∙ e)).0 in
     λ i. side desk.width p.h wide on.0 i && side desk.height p.v high on.1 i
@@ -35,27 +35,27 @@ near_screen desk r its wide high r_is p e =
     side : (n x : ℤ) → n ≤ℤ pos 1024 → between (pos 0) x n ≡ true → between (pos 0) x (pos 1024) ≡ true
     side n x a b = grind (arith, ints)
 
-pub gray_near : (desk : Desk) (gray : Pixels) → desk.width ≤ℤ pos 1024 → desk.height ≤ℤ pos 1024 → IsGray desk gray → IsNear gray
+pub gray_near : (desk : LayeredDesk) (gray : Pixels) → desk.width ≤ℤ pos 1024 → desk.height ≤ℤ pos 1024 → IsGray desk gray → IsNear gray
 gray_near desk gray wide high its = near_screen desk gray (λ p. not (layers.in_bar desk p)) wide high its
 
 -- the pixels of a window's area are the screen's
-pub area_near : (desk : Desk) (stale : PixelSet) (n : ℕ) (a : Area) → desk.width ≤ℤ pos 1024 → desk.height ≤ℤ pos 1024 → IsArea desk stale n a → IsNear a.visible × IsNear a.update
+pub area_near : (desk : LayeredDesk) (stale : PixelSet) (n : ℕ) (a : Area) → desk.width ≤ℤ pos 1024 → desk.height ≤ℤ pos 1024 → IsArea desk stale n a → IsNear a.visible × IsNear a.update
 area_near desk stale n a wide high its =
     let visible = near_screen desk a.visible (λ p. is_content_of n (owner desk p)) wide high its.visible in
     (visible, (λ p e. visible p (and_parts (holds a.visible p) (stale p) (sym (its.update p) ∙ e)).0))
 
-pub seats_near : {V : Type 0} {H : V → Type 0} (desk : Desk) (stale : PixelSet) (seats : List (Seat V H)) → desk.width ≤ℤ pos 1024 → desk.height ≤ℤ pos 1024 → All (λ s. IsArea desk stale s.serial s.area.now) seats → All IsNearSeat seats
+pub seats_near : {V : Type 0} {H : V → Type 0} (desk : LayeredDesk) (stale : PixelSet) (seats : List (Seat V H)) → desk.width ≤ℤ pos 1024 → desk.height ≤ℤ pos 1024 → All (λ s. IsArea desk stale s.serial s.area.now) seats → All IsNearSeat seats
 seats_near desk stale seats wide high all = All-weaker (λ s. IsArea desk stale s.serial s.area.now) IsNearSeat (λ s its. area_near desk stale s.serial s.area.now wide high its) seats all
 
 -- there are as many areas as windows
-pub as_many : (desk : Desk) (stale : PixelSet) (ws : List WindowRecord) (areas : List Area) → AreAreas desk stale ws areas → length areas ≡ length ws
+pub as_many : (desk : LayeredDesk) (stale : PixelSet) (ws : List WindowRecord) (areas : List Area) → AreAreas desk stale ws areas → length areas ≡ length ws
 as_many desk stale [] [] its = refl
 as_many desk stale (w ∷ ws) (a ∷ areas) its = ap suc (as_many desk stale ws areas its.1)
 as_many desk stale [] (a ∷ areas) its = absurd its
 as_many desk stale (w ∷ ws) [] its = absurd its
 
 -- a window that is not on the desk has no pixel
-pub absent_area : (desk : Desk) (stale : PixelSet) (n : ℕ) (a : Area) → layers.window_of n desk.windows ≡ None → IsNowhere a → IsArea desk stale n a
+pub absent_area : (desk : LayeredDesk) (stale : PixelSet) (n : ℕ) (a : Area) → layers.window_of n desk.windows ≡ None → IsNowhere a → IsArea desk stale n a
 absent_area desk stale n a absent nowhere = record {
   visible = λ p. nowhere.visible p ∙ sym (off (layers.on_screen desk p) _ (not_content n (owner desk p) (other p)));
   update = λ p. nowhere.update p ∙ sym (ap (λ b. b && stale p) (nowhere.visible p));
@@ -76,7 +76,7 @@ absent_area desk stale n a absent nowhere = record {
 -- ---- the seat of a window that stays as it is
 
 module _ {V : Type 0} {H : V → Type 0} where
-  pub seat_had : (desk : Desk) (stale : PixelSet) (w : Window V H) (a : Area) (s : Seat V H) → IsSeatOf w a s → IsArea desk stale w.serial a → IsArea desk stale s.serial s.area.now
+  pub seat_had : (desk : LayeredDesk) (stale : PixelSet) (w : Window V H) (a : Area) (s : Seat V H) → IsSeatOf w a s → IsArea desk stale w.serial a → IsArea desk stale s.serial s.area.now
   seat_had desk stale w a s its had = subst (λ (x : ℕ × Area). IsArea desk stale x.0 x.1) (λ i. (sym its.serial i, sym its.area i)) had
 
 -- `loan` says what a definition that was taken means

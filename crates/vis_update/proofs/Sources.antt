@@ -5,7 +5,7 @@ use Rattle.std.proofs.lemmas.Bool.{and_parts, eqb-true}
 use Rattle.tb_geom.specs.declared.point.Point.{Point}
 use Rattle.tb_geom.specs.Points.{minus}
 use Rattle.def_iface.specs.Desk as layers
-use Rattle.def_iface.specs.Desk.{Desk}
+use Rattle.def_iface.specs.Desk.{LayeredDesk}
 use Rattle.def_iface.specs.Desk.Part.{Picture}
 use Rattle.def_iface.specs.Owner.{Owner, owner, same_owner}
 use Rattle.def_iface.specs.Owner.Owner.{Desktop, Bar, Frame, Content}
@@ -49,7 +49,7 @@ content_same n (Content s Picture) = sym (and_true (s == n))
     and_true false = refl
 
 -- what a window's content had before, wherever it moved from
-had_is : (t : Touch) (n : ℕ) (before : Desk) (o : Owner) (p : Point) → is_content_of n o ≡ true → let q = came_from (way_of t n) p in
+had_is : (t : Touch) (n : ℕ) (before : LayeredDesk) (o : Owner) (p : Point) → is_content_of n o ≡ true → let q = came_from (way_of t n) p in
     (layers.on_screen before q && is_content_of n (owner before q)) ≡ had (change_of t) before o p
 had_is t n before o p e =
     ap (λ q. layers.on_screen before q && is_content_of n (owner before q)) (sym (source_is t n p))
@@ -57,7 +57,7 @@ had_is t n before o p e =
     ∙ ap (λ x. had (change_of t) before x p) (sym (same_content n o e))
 
 -- a pixel of the window's content is stale as the change has it
-pub stale_is : (t : Touch) (n : ℕ) (before : State) (after : Desk) (p : Point) (v : Bool) → v ≡ (layers.on_screen after p && is_content_of n (owner after p)) → let q = came_from (way_of t n) p in
+pub stale_is : (t : Touch) (n : ℕ) (before : State) (after : LayeredDesk) (p : Point) (v : Bool) → v ≡ (layers.on_screen after p && is_content_of n (owner after p)) → let q = came_from (way_of t n) p in
     (v && (if layers.on_screen before.desk q && is_content_of n (owner before.desk q) then before.stale q else true)) ≡ (v && stale_by (change_of t) before (owner after p) p)
 stale_is t n before after p false e = refl
 stale_is t n before after p true e =
@@ -68,7 +68,7 @@ stale_is t n before after p true e =
     ∙ sym (ap (λ x. stale_by (change_of t) before x p) o)
 
 -- what of it is erased
-pub erase_is : (t : Touch) (n : ℕ) (before after : Desk) (p : Point) (v : Bool) → v ≡ (layers.on_screen after p && is_content_of n (owner after p)) → let q = came_from (way_of t n) p in
+pub erase_is : (t : Touch) (n : ℕ) (before after : LayeredDesk) (p : Point) (v : Bool) → v ≡ (layers.on_screen after p && is_content_of n (owner after p)) → let q = came_from (way_of t n) p in
     (v && not (layers.on_screen before q && is_content_of n (owner before q))) ≡ (v && not (had (change_of t) before (owner after p) p))
 erase_is t n before after p false e = refl
 erase_is t n before after p true e = ap not (had_is t n before (owner after p) p (and_parts (layers.on_screen after p) _ (sym e)).1)

@@ -5,7 +5,7 @@ use Rattle.tb_geom.specs.declared.point.Point.{Point}
 use Rattle.tb_geom.specs.Points.{PixelSet, minus}
 use Rattle.tb_geom.specs.Pixels.{holds}
 use Rattle.def_iface.specs.Desk as layers
-use Rattle.def_iface.specs.Desk.{Desk}
+use Rattle.def_iface.specs.Desk.{LayeredDesk}
 use Rattle.def_iface.specs.Desk.Part.{Picture}
 use Rattle.def_iface.specs.Owner.{Owner, owner, owner_among, same_owner}
 use Rattle.def_iface.specs.Owner.Owner.{Frame, Content}
@@ -17,7 +17,7 @@ use Rattle.vis_update.proofs.Others.{not_content, not_same_frame, AreOthers, oth
 
 -- of a pixel that the windows in front left, the owner is the first of these windows that has it; one that they took is
 -- none of theirs
-pub record Reaches (font : List ℕ) (desk : Desk) (ws : List WindowRecord) (rest : PixelSet) : Type 0 where
+pub record Reaches (font : List ℕ) (desk : LayeredDesk) (ws : List WindowRecord) (rest : PixelSet) : Type 0 where
   pub here : (p : Point) → rest p ≡ true → (layers.on_screen desk p ≡ true) × (owner desk p ≡ owner_among (map (layered_window font) ws) p)
   pub elsewhere : (p : Point) → rest p ≡ false → (layers.on_screen desk p ≡ false) ⊎ AreOthers ws (owner desk p)
 
@@ -64,7 +64,7 @@ none_of is_its false o e = refl
 none_of is_its true o (inl off) = absurd (false≢true (sym off))
 none_of is_its true o (inr e) = e
 
-module _ (font : List ℕ) (desk : Desk) (w : WindowRecord) (ws : List WindowRecord) (rest left_set : PixelSet) (a : Area) (distinct : layers.AreWindows (map (layered_window font) (w ∷ ws))) (reach : Reaches font desk (w ∷ ws) rest)
+module _ (font : List ℕ) (desk : LayeredDesk) (w : WindowRecord) (ws : List WindowRecord) (rest left_set : PixelSet) (a : Area) (distinct : layers.AreWindows (map (layered_window font) (w ∷ ws))) (reach : Reaches font desk (w ∷ ws) rest)
     (takes : (p : Point) → Taking w.serial (rest p) w.shown (w.definition.structure w.size (minus p w.place)) (w.definition.content w.size (minus p w.place)) (holds a.visible p) (holds a.frame p) (left_set p) (owner desk p) (owner_among (map (layered_window font) ws) p)) where
   -- the case of one pixel
   abbrev Here : Point → Type 0

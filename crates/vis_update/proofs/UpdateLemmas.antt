@@ -6,7 +6,7 @@ use Rattle.tb_geom.specs.declared.point.Point.{Point}
 use Rattle.tb_geom.specs.Points.{PixelSet, minus}
 use Rattle.tb_geom.specs.Pixels.{holds}
 use Rattle.def_iface.specs.Desk as layers
-use Rattle.def_iface.specs.Desk.{Desk}
+use Rattle.def_iface.specs.Desk.{LayeredDesk}
 use Rattle.def_iface.specs.Desk.Part.{Picture}
 use Rattle.def_iface.specs.Owner.{Owner, owner, owner_among, is_content}
 use Rattle.def_iface.specs.Owner.Owner.{Desktop, Bar, Frame, Content}
@@ -53,14 +53,14 @@ content_among font (w ∷ ws) p = by_structure (content_among font ws p) (layers
     by_structure rest false c = first_or w.serial (owner_among (map (layered_window font) ws) p) _ rest
 
 -- content that owns a pixel of a desk is that of one of its windows
-pub content_is_among : (font : List ℕ) (after : Desk) (ws : List WindowRecord) (p : Point) → after.windows ≡ map (layered_window font) ws → is_content_among ws (owner after p) ≡ is_content (owner after p)
+pub content_is_among : (font : List ℕ) (after : LayeredDesk) (ws : List WindowRecord) (p : Point) → after.windows ≡ map (layered_window font) ws → is_content_among ws (owner after p) ≡ is_content (owner after p)
 content_is_among font after ws p windows = among (layers.in_bar after p)
   where
     among : (b : Bool) → is_content_among ws (if b then Bar else owner_among after.windows p) ≡ is_content (if b then Bar else owner_among after.windows p)
     among true = no_content_among ws Bar refl
     among false = subst (λ vs. is_content_among ws (owner_among vs p) ≡ is_content (owner_among vs p)) (sym windows) (content_among font ws p)
 
-stale_among : (c : Change) (before : State) (after : Desk) (ws : List WindowRecord) (areas : List Area) (p : Point) → AreAreasAfter c before after ws areas → layers.on_screen after p ≡ true → stale_in areas p ≡ (is_content_among ws (owner after p) && stale_by c before (owner after p) p)
+stale_among : (c : Change) (before : State) (after : LayeredDesk) (ws : List WindowRecord) (areas : List Area) (p : Point) → AreAreasAfter c before after ws areas → layers.on_screen after p ≡ true → stale_in areas p ≡ (is_content_among ws (owner after p) && stale_by c before (owner after p) p)
 stale_among c before after [] [] p its on = refl
 stale_among c before after (w ∷ ws) (a ∷ areas) p its on =
     (λ i. (its.0.update p ∙ ap (λ b. b && stale_by c before (owner after p) p) (its.0.visible p ∙ ap (λ b. b && is_content_of w.serial (owner after p)) on)) i || stale_among c before after ws areas p its.1 on i)
@@ -76,7 +76,7 @@ stale_among c before after [] (a ∷ areas) p its on = absurd its
 stale_among c before after (w ∷ ws) [] p its on = absurd its
 
 -- the update regions are what a change makes stale
-pub updated_is_stale : (font : List ℕ) (c : Change) (before : State) (after : Desk) (ws : List WindowRecord) (areas : List Area) (p : Point) → after.windows ≡ map (layered_window font) ws → AreAreasAfter c before after ws areas → layers.on_screen after p ≡ true → stale_in areas p ≡ stale_by c before (owner after p) p
+pub updated_is_stale : (font : List ℕ) (c : Change) (before : State) (after : LayeredDesk) (ws : List WindowRecord) (areas : List Area) (p : Point) → after.windows ≡ map (layered_window font) ws → AreAreasAfter c before after ws areas → layers.on_screen after p ≡ true → stale_in areas p ≡ stale_by c before (owner after p) p
 updated_is_stale font c before after ws areas p windows its on =
     stale_among c before after ws areas p its on
     ∙ ap (λ b. b && stale_by c before (owner after p) p) (content_is_among font after ws p windows)
@@ -87,7 +87,7 @@ updated_is_stale font c before after ws areas p windows its on =
     content_only false t = refl
 
 -- each window's area is right of what is in the update regions
-areas_right : (c : Change) (before : State) (after : Desk) (stale : PixelSet) (ws : List WindowRecord) (areas : List Area) → ((p : Point) → layers.on_screen after p ≡ true → stale p ≡ stale_by c before (owner after p) p) → AreAreasAfter c before after ws areas → AreAreas after stale ws areas
+areas_right : (c : Change) (before : State) (after : LayeredDesk) (stale : PixelSet) (ws : List WindowRecord) (areas : List Area) → ((p : Point) → layers.on_screen after p ≡ true → stale p ≡ stale_by c before (owner after p) p) → AreAreasAfter c before after ws areas → AreAreas after stale ws areas
 areas_right c before after stale [] [] same its = tt
 areas_right c before after stale (w ∷ ws) (a ∷ areas) same its = (
   record {
@@ -104,5 +104,5 @@ areas_right c before after stale (w ∷ ws) (a ∷ areas) same its = (
 areas_right c before after stale [] (a ∷ areas) same its = absurd its
 areas_right c before after stale (w ∷ ws) [] same its = absurd its
 
-pub areas_are : (font : List ℕ) (c : Change) (before : State) (after : Desk) (ws : List WindowRecord) (areas : List Area) → after.windows ≡ map (layered_window font) ws → AreAreasAfter c before after ws areas → AreAreas after (stale_in areas) ws areas
+pub areas_are : (font : List ℕ) (c : Change) (before : State) (after : LayeredDesk) (ws : List WindowRecord) (areas : List Area) → after.windows ≡ map (layered_window font) ws → AreAreasAfter c before after ws areas → AreAreas after (stale_in areas) ws areas
 areas_are font c before after ws areas windows its = areas_right c before after (stale_in areas) ws areas (λ p on. updated_is_stale font c before after ws areas p windows its on) its

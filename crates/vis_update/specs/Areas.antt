@@ -5,7 +5,7 @@ use Rattle.tb_geom.specs.declared.point.Point.{Point}
 use Rattle.tb_geom.specs.Points.{PixelSet}
 use Rattle.tb_geom.specs.Pixels.{Pixels, holds}
 use Rattle.tb_geom.specs.Rects.{between}
-use Rattle.def_iface.specs.Desk.{Desk, on_screen, in_bar}
+use Rattle.def_iface.specs.Desk.{LayeredDesk, on_screen, in_bar}
 use Rattle.def_iface.specs.Owner.{Owner, owner, same_owner}
 use Rattle.def_iface.specs.Owner.Owner.{Desktop, Frame, Content}
 use Rattle.vis_update.specs.declared.area.Area.{Area}
@@ -18,13 +18,13 @@ is_content_of s _ = false
 
 -- the regions of the window of this serial: what of the screen its content owns, what of that is stale, and what its
 -- frame owns
-pub record IsArea (desk : Desk) (stale : PixelSet) (serial : ℕ) (a : Area) : Type 0 where
+pub record IsArea (desk : LayeredDesk) (stale : PixelSet) (serial : ℕ) (a : Area) : Type 0 where
   pub visible : (p : Point) → holds a.visible p ≡ (on_screen desk p && is_content_of serial (owner desk p))
   pub update : (p : Point) → holds a.update p ≡ (holds a.visible p && stale p)
   pub frame : (p : Point) → holds a.frame p ≡ (on_screen desk p && same_owner (owner desk p) (Frame serial))
 
 -- each window has its area
-abbrev pub AreAreas : Desk → PixelSet → List WindowRecord → List Area → Type 0
+abbrev pub AreAreas : LayeredDesk → PixelSet → List WindowRecord → List Area → Type 0
 AreAreas desk stale [] [] = Unit {0}
 AreAreas desk stale (w ∷ ws) (a ∷ areas) = IsArea desk stale w.serial a × AreAreas desk stale ws areas
 AreAreas desk stale [] (a ∷ areas) = ⊥
@@ -45,11 +45,11 @@ pub record IsNowhere (a : Area) : Type 0 where
   pub frame : (p : Point) → holds a.frame p ≡ false
 
 -- the gray region is the screen without the menu bar
-abbrev pub IsGray : Desk → Pixels → Type 0
+abbrev pub IsGray : LayeredDesk → Pixels → Type 0
 IsGray desk gray = (p : Point) → holds gray p ≡ (on_screen desk p && not (in_bar desk p))
 
 -- the desktop's region is what of the screen no window and no menu bar owns
-abbrev pub IsDesktop : Desk → Pixels → Type 0
+abbrev pub IsDesktop : LayeredDesk → Pixels → Type 0
 IsDesktop desk desktop = (p : Point) → holds desktop p ≡ (on_screen desk p && same_owner (owner desk p) Desktop)
 
 -- a pixel of the widest and highest screen

@@ -5,7 +5,7 @@ use Rattle.tb_geom.specs.Points.{PixelSet, minus}
 use Rattle.tb_geom.specs.Pixels.{Pixels, holds}
 use Rattle.def_iface.specs.declared.taken.Taken.{Taken}
 use Rattle.def_iface.specs.Meaning.{Loan, IsWithin}
-use Rattle.def_iface.specs.Desk.{Desk, on_screen}
+use Rattle.def_iface.specs.Desk.{LayeredDesk, on_screen}
 use Rattle.def_iface.specs.Owner.{owner, same_owner}
 use Rattle.def_iface.specs.Owner.Owner.{Frame}
 use Rattle.def_iface.specs.Change.{Change, State, had, stale_by}
@@ -20,11 +20,11 @@ use Rattle.vis_update.specs.Touches.{change_of, way_of, came_from, draws_whole, 
 use Rattle.vis_update.specs.Seats.{seat_stand}
 
 -- what is stale after a change
-abbrev pub stale_after : Change → State → Desk → PixelSet
+abbrev pub stale_after : Change → State → LayeredDesk → PixelSet
 stale_after c before after p = stale_by c before (owner after p) p
 
 -- each window has its area after a change
-abbrev pub AreAreasAfter : Change → State → Desk → List WindowRecord → List Area → Type 0
+abbrev pub AreAreasAfter : Change → State → LayeredDesk → List WindowRecord → List Area → Type 0
 AreAreasAfter c before after ws areas = AreAreas after (stale_after c before after) ws areas
 
 -- a part of which nothing is drawn
@@ -33,7 +33,7 @@ pub record IsEmptyPart (part : Part) : Type 0 where
   pub redraw : (p : Point) → holds part.redraw p ≡ false
 
 -- what is to be made white of a window's content, and drawn of its frame
-pub record IsPart (t : Touch) (before : State) (after : Desk) (serial : ℕ) (part : Part) : Type 0 where
+pub record IsPart (t : Touch) (before : State) (after : LayeredDesk) (serial : ℕ) (part : Part) : Type 0 where
   pub erase : (p : Point) → holds part.erase p
       ≡ ((on_screen after p && is_content_of serial (owner after p)) && not (had (change_of t) before.desk (owner after p) p))
   pub redraw : (p : Point) → holds part.redraw p
@@ -41,14 +41,14 @@ pub record IsPart (t : Touch) (before : State) (after : Desk) (serial : ℕ) (pa
       && (draws_whole t serial || not (on_screen before.desk p && same_owner (owner before.desk p) (Frame serial))))
 
 -- each window has its part
-abbrev pub ArePlanParts : Touch → State → Desk → List WindowRecord → List Part → Type 0
+abbrev pub ArePlanParts : Touch → State → LayeredDesk → List WindowRecord → List Part → Type 0
 ArePlanParts t before after [] [] = Unit {0}
 ArePlanParts t before after (w ∷ ws) (part ∷ parts) = IsPart t before after w.serial part × ArePlanParts t before after ws parts
 ArePlanParts t before after [] (part ∷ parts) = ⊥
 ArePlanParts t before after (w ∷ ws) [] = ⊥
 
 -- all that changes on the screen, where `desktop` was what of it no window owned
-pub record IsPlan (t : Touch) (before : State) (after : Desk) (desktop : Pixels) (windows : List WindowRecord) (plan : Plan) : Type 0 where
+pub record IsPlan (t : Touch) (before : State) (after : LayeredDesk) (desktop : Pixels) (windows : List WindowRecord) (plan : Plan) : Type 0 where
   pub areas : AreAreasAfter (change_of t) before after windows plan.areas.items
   pub parts : ArePlanParts t before after windows plan.parts.items
   pub desktop_is : IsDesktop after plan.desktop

@@ -29,7 +29,7 @@ pub record WindowRecord : Type 0 where
   pub slot : ℕ
 
 -- a window as layers, in this font: its picture over its frame
-abbrev pub layered_window : List ℕ → WindowRecord → layers.Window
+abbrev pub layered_window : List ℕ → WindowRecord → layers.LayeredWindow
 layered_window font w = record {
   serial = w.serial;
   place = w.place;

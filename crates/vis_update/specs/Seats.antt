@@ -5,7 +5,7 @@ use Rattle.tb_geom.specs.Points.{PixelSet}
 use Rattle.tb_geom.specs.Pixels.{Pixels}
 use Rattle.def_iface.specs.declared.taken.Taken.{Taken}
 use Rattle.def_iface.specs.Meaning.{Loan}
-use Rattle.def_iface.specs.Desk.{Desk, IsDesk}
+use Rattle.def_iface.specs.Desk.{LayeredDesk, IsDesk}
 use Rattle.def_iface.specs.Change.{State}
 use Rattle.window_list.specs.declared.window.Window.{Window}
 use Rattle.vis_update.specs.declared.area.Area.{Area}
@@ -61,7 +61,7 @@ module _ {V : Type 0} {H : V → Type 0} (loan : Taken V H → Loan) where
   IsPlacedSeat s = is_placed (Some (loan s.taken.now).definition) s.place s.size ≡ true
 
   -- the seats of the windows of a desk in this font, as a call leaves it, each with the area that its window had before
-  pub record IsArranged (font : List ℕ) (before : State) (after : Desk) (windows : List WindowRecord) (gray : Pixels) (seats : List (Seat V H)) : Type 0 where
+  pub record IsArranged (font : List ℕ) (before : State) (after : LayeredDesk) (windows : List WindowRecord) (gray : Pixels) (seats : List (Seat V H)) : Type 0 where
     pub desk : after.windows ≡ map (layered_window font) windows
     pub distinct : IsDesk after
     pub gray_is : IsGray after gray

@@ -7,7 +7,7 @@ ghost use Rattle.std.specs.Prelude.{◌≡◌, ◌&&◌, ◌||◌, not, is_some,
 ghost use Rattle.tb_geom.specs.declared.point.Point.{Point};
 ghost use Rattle.tb_geom.specs.Points.{minus};
 ghost use Rattle.tb_geom.specs.Pixels.{holds};
-ghost use Rattle.def_iface.specs.Desk.{Desk};
+ghost use Rattle.def_iface.specs.Desk.{LayeredDesk};
 ghost use Rattle.def_iface.specs.Change.{State};
 ghost use Rattle.vis_update.specs.Records.{WindowRecord};
 ghost use Rattle.vis_update.specs.Areas.{IsNear};
@@ -43,7 +43,7 @@ pub fn plan_of(
     requires placed { All (IsPlacedSeat ⟦<Taken as Defined>⟧.loan) seats.now }
     requires near { All IsNearSeat seats.now }
     requires near_gray { IsNear gray.now }
-    ensures plan { IfOk result (λ plan. (font : List ℕ) (before : State) (after : Desk) (windows : List WindowRecord)
+    ensures plan { IfOk result (λ plan. (font : List ℕ) (before : State) (after : LayeredDesk) (windows : List WindowRecord)
         → IsArranged ⟦<Taken as Defined>⟧.loan font before after windows gray.now seats.now
         → IsPlan touch before after desktop.now windows plan) }
     ensures length { IfOk result (λ plan. vec_len plan.parts ≡ length seats.now) }

@@ -10,7 +10,7 @@ use Rattle.def_iface.specs.declared.taken.Taken.{Taken}
 use Rattle.def_iface.specs.Meaning.{Loan}
 use Rattle.def_iface.specs.Stocked.{SlotView}
 use Rattle.def_iface.specs.Desk as layers
-use Rattle.def_iface.specs.Desk.{Desk}
+use Rattle.def_iface.specs.Desk.{LayeredDesk}
 use Rattle.def_iface.specs.Owner.{owner, own_bit, is_content}
 use Rattle.def_iface.specs.Owner.Owner.{Frame}
 use Rattle.def_iface.specs.Change as plain
@@ -73,9 +73,9 @@ module _ {V : Type 0} {H : V → Type 0} (loan : Taken V H → Loan) where
     is_left = (
       N.desk_is,
       record {
-        stale = subst (λ (d : Desk). (p : Point) → layers.on_screen d p ≡ true → stale_in new.areas.items p ≡ plain.stale_by (change_of touch) (layered_state (state_of loan t slots)) (owner d p) p) (sym (ap layered_desk N.desk_is))
+        stale = subst (λ (d : LayeredDesk). (p : Point) → layers.on_screen d p ≡ true → stale_in new.areas.items p ≡ plain.stale_by (change_of touch) (layered_state (state_of loan t slots)) (owner d p) p) (sym (ap layered_desk N.desk_is))
             (λ p on. ap (λ a. stale_in a p) N.areas ∙ updated_is_stale after.font (change_of touch) (layered_state (state_of loan t slots)) (layered_desk after) after.windows plan.areas.items p refl N.planned.areas on);
-        image = subst (λ (d : Desk). (p : Point) → layers.on_screen d p ≡ true → bit new.screen p ≡ plain.image_by (change_of touch) (layered_state (state_of loan t slots)) d (owner d p) p) (sym (ap layered_desk N.desk_is))
+        image = subst (λ (d : LayeredDesk). (p : Point) → layers.on_screen d p ≡ true → bit new.screen p ≡ plain.image_by (change_of touch) (layered_state (state_of loan t slots)) d (owner d p) p) (sym (ap layered_desk N.desk_is))
             (λ p on. image_is touch (state_of loan t slots) after t.desktop plan t.screen new.screen ready p (on_too p on));
       },
     )
@@ -83,9 +83,9 @@ module _ {V : Type 0} {H : V → Type 0} (loan : Taken V H → Loan) where
     pub is_whole : IsWholeManager loan new left
     is_whole = record {
       sound = subst IsSoundDesk (sym N.desk_is) N.sound;
-      gray = subst (λ (x : FullDesk × Pixels). IsGray (layered_desk x.0) x.1) (λ i. (sym N.desk_is i, sym N.gray i)) (subst (λ (d : Desk). IsGray d t.gray) (sym N.screen) N.whole.gray);
+      gray = subst (λ (x : FullDesk × Pixels). IsGray (layered_desk x.0) x.1) (λ i. (sym N.desk_is i, sym N.gray i)) (subst (λ (d : LayeredDesk). IsGray d t.gray) (sym N.screen) N.whole.gray);
       desktop = subst (λ (x : FullDesk × Pixels). IsDesktop (layered_desk x.0) x.1) (λ i. (sym N.desk_is i, sym N.desktop i)) N.planned.desktop_is;
       areas = subst (λ (x : FullDesk × List Area). AreAreas (layered_desk x.0) (stale_in x.1) x.0.windows x.1) (λ i. (sym N.desk_is i, sym N.areas i)) (areas_are after.font (change_of touch) (layered_state (state_of loan t slots)) (layered_desk after) after.windows plan.areas.items refl N.planned.areas);
-      frames = subst (λ (d : Desk). (p : Point) → layers.on_screen d p ≡ true → is_content (owner d p) ≡ false → bit new.screen p ≡ own_bit d (owner d p) p) (sym (ap layered_desk N.desk_is))
+      frames = subst (λ (d : LayeredDesk). (p : Point) → layers.on_screen d p ≡ true → is_content (owner d p) ≡ false → bit new.screen p ≡ own_bit d (owner d p) p) (sym (ap layered_desk N.desk_is))
           (λ p on. plain_is touch (state_of loan t slots) after t.desktop plan t.screen new.screen ready p (on_too p on));
     }

@@ -8,7 +8,7 @@ use Rattle.tb_geom.specs.Pixels.{Pixels, holds}
 use Rattle.bit_map.specs.Bits.{Bits, on_map, bit}
 use Rattle.bit_map.specs.Patterns.{pattern_bit}
 use Rattle.def_iface.specs.Desk as layers
-use Rattle.def_iface.specs.Desk.{Desk}
+use Rattle.def_iface.specs.Desk.{LayeredDesk}
 use Rattle.def_iface.specs.Desk.Part.{Picture}
 use Rattle.def_iface.specs.Owner.{Owner, owner, owner_among, owner_within, own_bit, same_owner, is_content, frame_bit}
 use Rattle.def_iface.specs.Owner.Owner.{Desktop, Bar, Frame, Content}
@@ -32,7 +32,7 @@ use Rattle.vis_update.proofs.Others.{not_content, not_same_frame}
 
 -- ---- the parts of windows, at one pixel
 
-module _ (font : List ℕ) (t : Touch) (before : plain.State) (after : Desk) (p : Point) where
+module _ (font : List ℕ) (t : Touch) (before : plain.State) (after : LayeredDesk) (p : Point) where
   -- a part whose window has not the pixel changes nothing
   part_elsewhere : (w : WindowRecord) (part : Part) (value : Bool) → IsPart t before after w.serial part → is_other w.serial (owner after p) ≡ true → painted_part font w part p value ≡ value
   part_elsewhere w part value its other =
@@ -64,14 +64,14 @@ module _ (font : List ℕ) (t : Touch) (before : plain.State) (after : Desk) (p 
       (of w.serial first.0, apart_from s ws of first.1)
 
   -- the window of this serial has the pixel: its part alone tells
-  pub record IsAlone (s : ℕ) (found : layers.Window) (ws : List WindowRecord) (parts : List Part) (value : Bool) : Type 0 where
+  pub record IsAlone (s : ℕ) (found : layers.LayeredWindow) (ws : List WindowRecord) (parts : List Part) (value : Bool) : Type 0 where
     pub window : WindowRecord
     pub part : Part
     pub is : layered_window font window ≡ found
     pub its : IsPart t before after s part
     pub tells : painted_parts font ws parts p value ≡ painted_part font window part p value
 
-  pub alone : (s : ℕ) (found : layers.Window) (ws : List WindowRecord) (parts : List Part) (value : Bool) → ((n : ℕ) → (n == s) ≡ false → is_other n (owner after p) ≡ true) → ArePlanParts t before after ws parts → layers.AreWindows (map (layered_window font) ws) → layers.window_of s (map (layered_window font) ws) ≡ Some found → IsAlone s found ws parts value
+  pub alone : (s : ℕ) (found : layers.LayeredWindow) (ws : List WindowRecord) (parts : List Part) (value : Bool) → ((n : ℕ) → (n == s) ≡ false → is_other n (owner after p) ≡ true) → ArePlanParts t before after ws parts → layers.AreWindows (map (layered_window font) ws) → layers.window_of s (map (layered_window font) ws) ≡ Some found → IsAlone s found ws parts value
   alone s found [] [] value of its distinct e = absurd (cc)
   alone s found (w ∷ ws) (part ∷ parts) value of its distinct e = by_test (λ f. alone s found ws parts value of its.1 distinct.1.1 f) (w.serial == s) refl e
     where
@@ -99,7 +99,7 @@ module _ (font : List ℕ) (t : Touch) (before : plain.State) (after : Desk) (p 
 
 -- ---- owners
 
-not_bar_within : (w : layers.Window) (ls : List layers.ContentLayer) (p : Point) → same_owner (owner_within w ls p) Bar ≡ false
+not_bar_within : (w : layers.LayeredWindow) (ls : List layers.ContentLayer) (p : Point) → same_owner (owner_within w ls p) Bar ≡ false
 not_bar_within w [] p = refl
 not_bar_within w (l ∷ ls) p = by_test (not_bar_within w ls p) (l.extent (layers.local w p))
   where
@@ -107,7 +107,7 @@ not_bar_within w (l ∷ ls) p = by_test (not_bar_within w ls p) (l.extent (layer
     by_test behind true = refl
     by_test behind false = behind
 
-not_bar_among : (ws : List layers.Window) (p : Point) → same_owner (owner_among ws p) Bar ≡ false
+not_bar_among : (ws : List layers.LayeredWindow) (p : Point) → same_owner (owner_among ws p) Bar ≡ false
 not_bar_among [] p = refl
 not_bar_among (w ∷ ws) p = by_test (not_bar_among ws p) (layers.in_structure w p)
   where
@@ -144,10 +144,10 @@ pub record IsReady (t : Touch) (before : FullState) (after : FullDesk) (desktop 
   pub drawn : IsPlanDrawn plan t.by after.font after.windows old new
 
 module _ (t : Touch) (before : FullState) (after : FullDesk) (desktop : Pixels) (plan : Plan) (old new : Bits) (R : IsReady t before after desktop plan old new) where
-  abbrev was : Desk
+  abbrev was : LayeredDesk
   was = layered_desk before.desk
 
-  abbrev is : Desk
+  abbrev is : LayeredDesk
   is = layered_desk after
 
   pub on_same : (p : Point) → layers.on_screen is p ≡ layers.on_screen was p
@@ -221,14 +221,14 @@ module _ (t : Touch) (before : FullState) (after : FullDesk) (desktop : Pixels) 
         by_bar false f = absurd (false≢true (sym (not_bar_among is.windows p) ∙ ap (λ o. same_owner o Bar) (ap (λ b. if b then Bar else owner_among is.windows p) (sym f) ∙ e)))
 
     -- the window of an owner that has a serial
-    found : (s : ℕ) → is_other s (owner is p) ≡ false → (v : layers.Window) × (layers.window_of s is.windows ≡ Some v)
+    found : (s : ℕ) → is_other s (owner is p) ≡ false → (v : layers.LayeredWindow) × (layers.window_of s is.windows ≡ Some v)
     found s its = by_window (layers.window_of s is.windows) refl
       where
         by_bar : (b : Bool) (o : Owner) → is_other s o ≡ true → is_other s (if b then Bar else o) ≡ true
         by_bar true o e = refl
         by_bar false o e = e
 
-        by_window : (v : Option layers.Window) → layers.window_of s is.windows ≡ v → (v : layers.Window) × (layers.window_of s is.windows ≡ Some v)
+        by_window : (v : Option layers.LayeredWindow) → layers.window_of s is.windows ≡ v → (v : layers.LayeredWindow) × (layers.window_of s is.windows ≡ Some v)
         by_window None e = absurd (false≢true (sym its ∙ by_bar (layers.in_bar is p) (owner_among is.windows p) (owner_is_other is.windows p s e)))
         by_window (Some v) e = (v, e)
 
@@ -240,7 +240,7 @@ module _ (t : Touch) (before : FullState) (after : FullDesk) (desktop : Pixels) 
         ∙ table (draws_whole t s) (same_owner (owner was p) (Frame s)) refl refl
         ∙ shown
       where
-        there : (v : layers.Window) × (layers.window_of s is.windows ≡ Some v)
+        there : (v : layers.LayeredWindow) × (layers.window_of s is.windows ≡ Some v)
         there = found s (ap (is_other s) e ∙ ap not (same_number s))
 
         one : IsAlone after.font t (layered_state before) is p s there.0 after.windows plan.parts.items under
@@ -253,7 +253,7 @@ module _ (t : Touch) (before : FullState) (after : FullDesk) (desktop : Pixels) 
         erase = one.its.erase p ∙ (λ i. (on_now i && is_content_of s (e i)) && not (plain.had (change_of t) was (e i) p))
 
         shown : one.window.definition.picture after.font (minus p one.window.place) ≡ own_bit is (Frame s) p
-        shown = ap (λ (v : layers.Window). v.frame (layers.local v p)) one.is ∙ ap (λ v. frame_bit v p) (sym there.1)
+        shown = ap (λ (v : layers.LayeredWindow). v.frame (layers.local v p)) one.is ∙ ap (λ v. frame_bit v p) (sym there.1)
 
         table : (w b : Bool) → draws_whole t s ≡ w → same_owner (owner was p) (Frame s) ≡ b → (if w || not b then one.window.definition.picture after.font (minus p one.window.place) else (if false then false else under)) ≡ one.window.definition.picture after.font (minus p one.window.place)
         table true b ew eb = refl
@@ -268,7 +268,7 @@ module _ (t : Touch) (before : FullState) (after : FullDesk) (desktop : Pixels) 
         ∙ (λ i. if redraw i then one.window.definition.picture after.font (minus p one.window.place) else (if erase i then false else under))
         ∙ by_had (plain.had (change_of t) was (Content s Picture) p) refl
       where
-        there : (v : layers.Window) × (layers.window_of s is.windows ≡ Some v)
+        there : (v : layers.LayeredWindow) × (layers.window_of s is.windows ≡ Some v)
         there = found s (ap (is_other s) e ∙ ap not (same_number s))
 
         one : IsAlone after.font t (layered_state before) is p s there.0 after.windows plan.parts.items under

@@ -16,7 +16,7 @@ use Rattle.def_iface.specs.declared.taken.Taken.{Taken}
 use Rattle.def_iface.specs.Meaning.{Loan}
 use Rattle.def_iface.specs.Stocked.{SlotView}
 use Rattle.def_iface.specs.Desk as layers
-use Rattle.def_iface.specs.Desk.{Desk}
+use Rattle.def_iface.specs.Desk.{LayeredDesk}
 use Rattle.def_iface.specs.Desk.Part.{Picture}
 use Rattle.def_iface.specs.Owner.{Owner, owner, own_bit, same_owner, is_content}
 use Rattle.def_iface.specs.Owner.Owner.{Desktop, Bar, Frame, Content}
@@ -75,7 +75,7 @@ content_is_picture s (Content t Picture) = sym (and_true (t == s))
     and_true false = refl
 
 -- what is no content is in no update region
-not_stale : (desk : Desk) (stale : PixelSet) (ws : List WindowRecord) (areas : List Area) (p : Point) → AreAreas desk stale ws areas → is_content (owner desk p) ≡ false → stale_in areas p ≡ false
+not_stale : (desk : LayeredDesk) (stale : PixelSet) (ws : List WindowRecord) (areas : List Area) (p : Point) → AreAreas desk stale ws areas → is_content (owner desk p) ≡ false → stale_in areas p ≡ false
 not_stale desk stale [] [] p its e = refl
 not_stale desk stale (w ∷ ws) (a ∷ areas) p its e =
     λ i. ((its.0.update p ∙ ap (λ b. b && stale p) (its.0.visible p ∙ ap (λ b. layers.on_screen desk p && b) (no_content w.serial (owner desk p) e) ∙ and_false (layers.on_screen desk p))) i) || not_stale desk stale ws areas p its.1 e i
@@ -214,9 +214,9 @@ module _ {V : Type 0} {H : V → Type 0} (loan : Taken V H → Loan) (t new : Wi
 
   changed : plain.IsChanged change (layered_state (state_of loan t slots)) (layered_state (state_of loan new slots))
   changed = record {
-    stale = subst (λ (k : Desk). (p : Point) → layers.on_screen k p ≡ true → stale_in new.areas.items p ≡ plain.stale_by change (layered_state (state_of loan t slots)) (owner k p) p) (sym (ap layered_desk desk_is))
+    stale = subst (λ (k : LayeredDesk). (p : Point) → layers.on_screen k p ≡ true → stale_in new.areas.items p ≡ plain.stale_by change (layered_state (state_of loan t slots)) (owner k p) p) (sym (ap layered_desk desk_is))
         (λ p on. ap (λ areas. stale_in areas p) D.areas ∙ stale_is p on ∙ ap (λ o. plain.stale_by change (layered_state (state_of loan t slots)) o p) (sym (owner_same p)));
-    image = subst (λ (k : Desk). (p : Point) → layers.on_screen k p ≡ true → bit new.screen p ≡ plain.image_by change (layered_state (state_of loan t slots)) k (owner k p) p) (sym (ap layered_desk desk_is))
+    image = subst (λ (k : LayeredDesk). (p : Point) → layers.on_screen k p ≡ true → bit new.screen p ≡ plain.image_by change (layered_state (state_of loan t slots)) k (owner k p) p) (sym (ap layered_desk desk_is))
         (λ p on. image_is p on ∙ ap (λ o. plain.image_by change (layered_state (state_of loan t slots)) (layered_desk after) o p) (sym (owner_same p)));
   }
 
@@ -278,7 +278,7 @@ module _ {V : Type 0} {H : V → Type 0} (loan : Taken V H → Loan) (t new : Wi
     gray = subst (λ (x : FullDesk × Pixels). IsGray (layered_desk x.0) x.1) (λ i. (sym desk_is i, sym D.gray i)) whole.gray;
     desktop = subst (λ (x : FullDesk × Pixels). IsDesktop (layered_desk x.0) x.1) (λ i. (sym desk_is i, sym D.desktop i)) (λ p. whole.desktop p ∙ (λ i. layers.on_screen (layered_desk before) p && same_owner (sym (owner_same p) i) Desktop));
     areas = subst (λ (x : FullDesk × List Area). AreAreas (layered_desk x.0) (stale_in x.1) x.0.windows x.1) (λ i. (sym desk_is i, sym D.areas i)) (areas_same before.windows t.areas.items whole.areas);
-    frames = subst (λ (k : Desk). (p : Point) → layers.on_screen k p ≡ true → is_content (owner k p) ≡ false → bit new.screen p ≡ own_bit k (owner k p) p) (sym (ap layered_desk desk_is))
+    frames = subst (λ (k : LayeredDesk). (p : Point) → layers.on_screen k p ≡ true → is_content (owner k p) ≡ false → bit new.screen p ≡ own_bit k (owner k p) p) (sym (ap layered_desk desk_is))
         (λ p on e. plain_is p on (ap is_content (sym (owner_same p)) ∙ e) ∙ ap (λ o. own_bit (layered_desk after) o p) (sym (owner_same p)));
   }
 

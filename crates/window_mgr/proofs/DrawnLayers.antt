@@ -19,10 +19,10 @@ use Rattle.window_mgr.specs.Effects.{with_drawn, draw_change}
 
 module _ (font : List ℕ) (s : ℕ) (op : Op) where
   -- the windows as layers, and those with the operation
-  abbrev bare : List WindowRecord → List layers.Window
+  abbrev bare : List WindowRecord → List layers.LayeredWindow
   bare ws = map (layered_window font) ws
 
-  abbrev drawn : List WindowRecord → List layers.Window
+  abbrev drawn : List WindowRecord → List layers.LayeredWindow
   drawn ws = map (layered_window font) (map (with_drawn s op) ws)
 
   abbrev one : Bool → WindowRecord → WindowRecord
@@ -59,7 +59,7 @@ module _ (font : List ℕ) (s : ℕ) (op : Op) where
   -- ---- what the owners show
 
   -- where a window is found or not, and in both cases shows the same
-  found_or : {X : Type 0} (f : Option layers.Window → X) (c : Bool) (v w : layers.Window) (behind behind_w : Option layers.Window) → f (Some v) ≡ f (Some w) → f behind ≡ f behind_w → f (if c then Some v else behind) ≡ f (if c then Some w else behind_w)
+  found_or : {X : Type 0} (f : Option layers.LayeredWindow → X) (c : Bool) (v w : layers.LayeredWindow) (behind behind_w : Option layers.LayeredWindow) → f (Some v) ≡ f (Some w) → f behind ≡ f behind_w → f (if c then Some v else behind) ≡ f (if c then Some w else behind_w)
   found_or f true v w behind behind_w here rest = here
   found_or f false v w behind behind_w here rest = rest
 

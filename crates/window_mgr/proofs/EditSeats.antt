@@ -7,7 +7,7 @@ use Rattle.std.proofs.lemmas.List.Elements.{All-head, All-tail}
 use Rattle.std.proofs.lemmas.List.Sorted.{length_permutation}
 use Rattle.def_iface.specs.declared.taken.Taken.{Taken}
 use Rattle.def_iface.specs.Meaning.{Loan}
-use Rattle.def_iface.specs.Desk.{Desk}
+use Rattle.def_iface.specs.Desk.{LayeredDesk}
 use Rattle.def_iface.specs.Change.{State}
 use Rattle.window_list.specs.declared.window.Window.{Window}
 use Rattle.window_list.specs.Ranks.{insert_option, moved}
@@ -155,7 +155,7 @@ module _ {V : Type 0} {H : V → Type 0} (loan : Taken V H → Loan) (t : Window
     arranged_edit after D = record {
       desk = refl;
       distinct = D.distinct;
-      gray_is = subst (λ (d : Desk). IsGray d t.gray) (sym D.screen) kept.gray;
+      gray_is = subst (λ (d : LayeredDesk). IsGray d t.gray) (sym D.screen) kept.gray;
       stands = seats_put ∙ sym D.stands;
       areas = had;
     }

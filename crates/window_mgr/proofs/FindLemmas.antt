@@ -18,7 +18,7 @@ use Rattle.tb_geom.specs.Rects.{is_coordinate}
 use Rattle.def_iface.specs.declared.taken.Taken.{Taken}
 use Rattle.def_iface.specs.Meaning.{Loan}
 use Rattle.def_iface.specs.Desk as layers
-use Rattle.def_iface.specs.Desk.{Desk}
+use Rattle.def_iface.specs.Desk.{LayeredDesk}
 use Rattle.def_iface.specs.Desk.Part.{Picture}
 use Rattle.def_iface.specs.Owner.{Owner, owner, owner_among, same_owner}
 use Rattle.def_iface.specs.Owner.Owner.{Desktop, Bar, Frame, Content}
@@ -54,7 +54,7 @@ position-None f xs e i d within =
 -- ---- the window at a place of the list
 
 -- each area is its window's
-pub area_at : (desk : Desk) (stale : PixelSet) (ws : List WindowRecord) (areas : List Area) (i : ℕ) (d : Area) → AreAreas desk stale ws areas → i < length areas → (v : WindowRecord) × (slice_get ws i ≡ Some v) × IsArea desk stale v.serial (get_or areas i d)
+pub area_at : (desk : LayeredDesk) (stale : PixelSet) (ws : List WindowRecord) (areas : List Area) (i : ℕ) (d : Area) → AreAreas desk stale ws areas → i < length areas → (v : WindowRecord) × (slice_get ws i ≡ Some v) × IsArea desk stale v.serial (get_or areas i d)
 area_at desk stale [] [] i d h within = absurd (omega arith)
 area_at desk stale (w ∷ ws) (a ∷ areas) zero d h within = (w, refl, h.0)
 area_at desk stale (w ∷ ws) (a ∷ areas) (suc i) d h within = area_at desk stale ws areas i d h.1 (omega arith)
@@ -82,7 +82,7 @@ record_at font (w ∷ ws) (suc i) v distinct e = rw (not_among font w.serial ws 
 -- ---- whose the pixel is
 
 -- a window whose area has the pixel is its owner's
-found_there : (desk : Desk) (stale : PixelSet) (ws : List WindowRecord) (v : WindowRecord) (a : Area) (p : Point) → IsArea desk stale v.serial a → area_has p a ≡ true → found_by ws (owner desk p) p ≡ found_window v.serial ws p
+found_there : (desk : LayeredDesk) (stale : PixelSet) (ws : List WindowRecord) (v : WindowRecord) (a : Area) (p : Point) → IsArea desk stale v.serial a → area_has p a ≡ true → found_by ws (owner desk p) p ≡ found_window v.serial ws p
 found_there desk stale ws v a p its has = by_visible (holds a.visible p) refl
   where
     content_is : (o : Owner) → is_content_of v.serial o ≡ true → found_by ws o p ≡ found_window v.serial ws p
@@ -119,7 +119,7 @@ nowhere font (w ∷ ws) p none = by_structure (nowhere font ws p) (layers.in_str
         behind ∙ rest (subst (λ o. NoneHas ws o) behind none.1)
 
 -- where no area has a pixel of the screen, no window has it
-none_has : (desk : Desk) (stale : PixelSet) (ws : List WindowRecord) (areas : List Area) (p : Point) → layers.on_screen desk p ≡ true → AreAreas desk stale ws areas → ((i : ℕ) (d : Area) → i < length areas → area_has p (get_or areas i d) ≡ false) → NoneHas ws (owner desk p)
+none_has : (desk : LayeredDesk) (stale : PixelSet) (ws : List WindowRecord) (areas : List Area) (p : Point) → layers.on_screen desk p ≡ true → AreAreas desk stale ws areas → ((i : ℕ) (d : Area) → i < length areas → area_has p (get_or areas i d) ≡ false) → NoneHas ws (owner desk p)
 none_has desk stale [] [] p on h none = tt
 none_has desk stale (w ∷ ws) (a ∷ areas) p on h none = (here, none_has desk stale ws areas p on h.1 (λ i d within. none (suc i) d (omega arith)))
   where
@@ -137,7 +137,7 @@ none_has desk stale (w ∷ ws) [] p on h none = absurd h
 -- ---- what is found on a window manager
 
 module _ {V : Type 0} {H : V → Type 0} (loan : Taken V H → Loan) (t : WindowManager V H) (A : IsKept loan t) (p : Point) where
-  abbrev desk : Desk
+  abbrev desk : LayeredDesk
   desk = layered_desk (desk_of loan t [])
 
   abbrev windows : List WindowRecord

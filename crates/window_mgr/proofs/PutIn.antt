@@ -125,7 +125,7 @@ module _ (font : List ℕ) where
       let apart = by_test (w.serial == y.serial) (layers.window_of y.serial (map (layered_window font) ys)) (sym (found_put y.serial i w ys behind.0) ∙ distinct.0) in
       ((λ k. if turned w.serial y.serial apart.0 k then Some (layered_window font y) else behind.0 k), (apart.1, (distinct.1.0, behind.1)))
     where
-      by_test : (b : Bool) (o : Option layers.Window) → (if b then Some (layered_window font w) else o) ≡ None → (b ≡ false) × (o ≡ None)
+      by_test : (b : Bool) (o : Option layers.LayeredWindow) → (if b then Some (layered_window font w) else o) ≡ None → (b ≡ false) × (o ≡ None)
       by_test b o e = not_first b (layered_window font w) o e
 
   -- ---- the window of a serial, taken out

@@ -6,7 +6,7 @@ use Rattle.std.proofs.lemmas.List.{length-map}
 use Rattle.std.proofs.lemmas.List.Elements.{All-tail}
 use Rattle.def_iface.specs.declared.taken.Taken.{Taken}
 use Rattle.def_iface.specs.Meaning.{Loan}
-use Rattle.def_iface.specs.Desk.{Desk}
+use Rattle.def_iface.specs.Desk.{LayeredDesk}
 use Rattle.def_iface.specs.Change.{State}
 use Rattle.window_list.specs.declared.window.Window.{Window}
 use Rattle.window_list.specs.Lists.{relit, lit, dimmed}
@@ -120,7 +120,7 @@ module _ {V : Type 0} {H : V → Type 0} (loan : Taken V H → Loan) (t : Window
   arranged_rest after D = record {
     desk = refl;
     distinct = D.distinct;
-    gray_is = subst (λ (d : Desk). IsGray d t.gray) (sym D.screen) kept.gray;
+    gray_is = subst (λ (d : LayeredDesk). IsGray d t.gray) (sym D.screen) kept.gray;
     stands = seats_rest ∙ sym D.stands;
     areas = had;
   }

@@ -80,7 +80,7 @@ not_the_bar : (s : ℕ) (b : Bool) (o : Owner) → is_other s o ≡ true → is_
 not_the_bar s true o e = refl
 not_the_bar s false o e = e
 
-new_is_sound : (before : plain.State) (w : layers.Window) → layers.IsDesk before.desk → layers.window_of w.serial before.desk.windows ≡ None → layers.AreParts w.layers → plain.IsSound plain.no_change before (record before.desk { windows = w ∷ before.desk.windows })
+new_is_sound : (before : plain.State) (w : layers.LayeredWindow) → layers.IsDesk before.desk → layers.window_of w.serial before.desk.windows ≡ None → layers.AreParts w.layers → plain.IsSound plain.no_change before (record before.desk { windows = w ∷ before.desk.windows })
 new_is_sound before w desk free parts = record {
   desk = (free, (parts, desk));
   kept = λ p on content afresh taken put drawn there.
@@ -139,7 +139,7 @@ draw_stays_right d before after right drawn =
 unchanged_stays_right : (before after : FullState) → IsRightState before → IsUnchanged before after → IsRightState after
 unchanged_stays_right before after right same =
     let desk = ap layered_desk same.desk in
-    let on_before = λ (p : Point) (on : layers.on_screen (layered_desk after.desk) p ≡ true). subst (λ (d : layers.Desk). layers.on_screen d p ≡ true) desk on in
+    let on_before = λ (p : Point) (on : layers.on_screen (layered_desk after.desk) p ≡ true). subst (λ (d : layers.LayeredDesk). layers.on_screen d p ≡ true) desk on in
     record {
       plain = record {
         desk = subst layers.IsDesk (sym desk) right.plain.desk;
@@ -147,10 +147,10 @@ unchanged_stays_right before after right same =
             let there = on_before p on in
             same.image p there
             ∙ right.plain.right p there (sym (same.stale p there) ∙ fresh)
-            ∙ ap (λ (d : layers.Desk). scratch d p) (sym desk);
+            ∙ ap (λ (d : layers.LayeredDesk). scratch d p) (sym desk);
         content = λ p on old.
             let there = on_before p on in
-            subst (λ (d : layers.Desk). is_content (owner d p) ≡ true) (sym desk) (right.plain.content p there (sym (same.stale p there) ∙ old));
+            subst (λ (d : layers.LayeredDesk). is_content (owner d p) ≡ true) (sym desk) (right.plain.content p there (sym (same.stale p there) ∙ old));
       };
       numbered = subst (λ (d : FullDesk). AreNumbered d.next d.windows) (sym same.desk) right.numbered;
     }

@@ -39,7 +39,7 @@ abbrev pub active_after : Activation → Option ℕ → Option ℕ
 active_after Stays former = former
 active_after (Becomes s) former = s
 
--- this window becomes active where that is so, or none does
+-- where that is so this window becomes active, or none is; else nothing changes
 abbrev pub if_active : Bool → Option ℕ → Activation
 if_active true s = Becomes s
 if_active false s = Stays
@@ -76,7 +76,7 @@ abbrev pub without : ℕ → List WindowRecord → List WindowRecord
 without s [] = []
 without s (w ∷ ws) = if w.serial == s then ws else w ∷ without s ws
 
--- the windows, and this one behind the one of that serial, or behind all
+-- the windows, and this one behind the one of that serial, or behind all where there is none
 abbrev pub put_behind : Option ℕ → WindowRecord → List WindowRecord → List WindowRecord
 put_behind s w [] = w ∷ []
 put_behind s w (v ∷ vs) = if is_this s v.serial then v ∷ w ∷ vs else v ∷ put_behind s w vs

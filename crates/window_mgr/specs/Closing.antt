@@ -17,7 +17,7 @@ IsClosedAt slots w = (s : SlotView) × (slice_get slots w.slot ≡ Some s) × Is
 abbrev pub loan_of : WindowRecord → Loan
 loan_of w = record { definition = w.definition; slot = w.slot }
 
--- the definition was closed and put into its slot, which was there, and every other slot is as it was
+-- the definition was closed and put into its slot, if that was there, and every other slot is as it was
 pub record IsShut (loan : Loan) (old new : List SlotView) : Type 0 where
   pub definition : Definition
   pub closed : definition.stage ≡ Closed

@@ -96,7 +96,7 @@ pub record IsArrangement (a : Arrangement) (before after : FullState) : Type 0 w
   pub desk : after.desk ≡ desk_arranged a.windows a.activates a.window before.desk
   pub pixels : IsChanged (moving a.window a.by) (layered_state before) (layered_state after)
 
--- a live definition was told this size
+-- what a live definition is once it was told this size
 pub record IsToldSize (size : sizes.Size) (old new : Definition) : Type 0 where
   pub live : new.stage ≡ Live
   pub told : new.size ≡ size

@@ -5,7 +5,7 @@ use Rattle.tb_geom.specs.Points.{PixelSet}
 use Rattle.bit_map.specs.Patterns.{pattern_bit}
 use Rattle.desk_ground.specs.Screens.{gray}
 use Rattle.def_iface.specs.Stocked.{SlotView}
-use Rattle.def_iface.specs.Desk.{Desk}
+use Rattle.def_iface.specs.Desk.{LayeredDesk}
 use Rattle.def_iface.specs.Change as plain
 use Rattle.vis_update.specs.Records.{WindowRecord, layered_window}
 
@@ -36,7 +36,7 @@ abbrev pub bar_picture : PixelSet
 bar_picture p = int_eq p.v (pos 19)
 
 -- the desk as layers
-abbrev pub layered_desk : FullDesk → Desk
+abbrev pub layered_desk : FullDesk → LayeredDesk
 layered_desk d = record {
   width = d.width;
   height = d.height;
