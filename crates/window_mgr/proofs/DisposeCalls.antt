@@ -76,7 +76,7 @@ module _ {V : Type 0} {H : V → Type 0} (loan : Taken V H → Loan) where
 
   -- ---- all that is known where a call ended a window
 
-  pub record IsCloseCall (s at : ℕ) (activation : Activation) (plan : Plan) (taken : Taken V H) (t new : WindowManager V H) (slots now : List SlotView) : Type 0 where
+  pub record IsDisposeCall (s at : ℕ) (activation : Activation) (plan : Plan) (taken : Taken V H) (t new : WindowManager V H) (slots now : List SlotView) : Type 0 where
     pub whole : IsWholeManager loan t slots
     pub low : at < length t.windows.records.items
     pub serial : (w : Window V H) → IsWindowAt t.windows.records.items at w → w.serial ≡ s
@@ -85,7 +85,7 @@ module _ {V : Type 0} {H : V → Type 0} (loan : Taken V H → Loan) where
     pub off : IsTakenOff loan at activation plan taken t new
     pub shut : IsShut (loan taken) slots now
 
-  module _ (s at : ℕ) (activation : Activation) (plan : Plan) (taken : Taken V H) (t new : WindowManager V H) (slots now : List SlotView) (N : IsCloseCall s at activation plan taken t new slots now) where
+  module _ (s at : ℕ) (activation : Activation) (plan : Plan) (taken : Taken V H) (t new : WindowManager V H) (slots now : List SlotView) (N : IsDisposeCall s at activation plan taken t new slots now) where
     abbrev w : Window V H
     w = N.off.window
 
@@ -120,8 +120,8 @@ module _ {V : Type 0} {H : V → Type 0} (loan : Taken V H → Loan) where
       stands = stands_lit t.windows.active activation rest;
     }
 
-    close_arranged : IsArrangedCall loan touch t new slots now after plan
-    close_arranged = record {
+    dispose_arranged : IsArrangedCall loan touch t new slots now after plan
+    dispose_arranged = record {
       whole = N.whole;
       screen = refl;
       sound = sound_left (desk_of loan t slots) s at (record_of loan w) rest one activation now N.whole.sound shut;
@@ -147,8 +147,8 @@ module _ {V : Type 0} {H : V → Type 0} (loan : Taken V H → Loan) where
         first_is true y f = f
         first_is false y f = refl
 
-    pub close_is_whole : IsWholeManager loan new now
-    close_is_whole = arranged_is_whole loan touch t new slots now after plan close_arranged
+    pub dispose_is_whole : IsWholeManager loan new now
+    dispose_is_whole = arranged_is_whole loan touch t new slots now after plan dispose_arranged
 
     closed : IsWindowDisposed s (state_of loan t slots) (state_of loan new now)
     closed = record {
@@ -161,7 +161,7 @@ module _ {V : Type 0} {H : V → Type 0} (loan : Taken V H → Loan) where
     }
       where
         left_is : (desk_of loan new now ≡ after) × IsChanged no_change (layered_state (state_of loan t slots)) (layered_state (state_of loan new now))
-        left_is = arranged_is_left loan touch t new slots now after plan close_arranged
+        left_is = arranged_is_left loan touch t new slots now after plan dispose_arranged
 
         free : IsFree t.font s rest
         free = free_of (desk_of loan t slots) s at (record_of loan w) rest one activation now N.whole.sound.distinct
@@ -175,5 +175,5 @@ module _ {V : Type 0} {H : V → Type 0} (loan : Taken V H → Loan) where
             ∙ ap (λ ws. record (desk_arranged ws FrontInItsPlace s (desk_of loan t slots)) { stock = now }) (sym rest_is)
 
     -- the call made its step
-    pub close_step : IsWindowStep (Dispose s) (Ok Done) (state_of loan t slots) (state_of loan new now)
-    close_step = (not_missing loan t new slots N.whole at s w N.low N.off.there serial, (refl, closed))
+    pub dispose_step : IsWindowStep (Dispose s) (Ok Done) (state_of loan t slots) (state_of loan new now)
+    dispose_step = (not_missing loan t new slots N.whole at s w N.low N.off.there serial, (refl, closed))

@@ -1,4 +1,4 @@
--- A window that was closed: what holds of the desk after it.
+-- A window that was disposed of: what holds of the desk after it.
 use Rattle.std.proofs.Common.{◌≡◌, ℕ, ◌≤◌, ◌==◌, Bool, true, false, if◌then◌else◌, List, [], ◌∷◌, ◌++◌, length, map, Option, None, Some, refl, sym, ap, ◌∙◌, subst, arith}
 use Rattle.std.specs.Prelude.{All}
 use Rattle.std.proofs.lemmas.Bool.{not-true}
@@ -77,8 +77,8 @@ module _ (before : FullDesk) (s i : ℕ) (w : WindowRecord) (rest : List WindowR
         in_bar true o e = refl
         in_bar false o e = e
 
-    pub close_is_sound : (stale image : Point → Bool) → plain.IsSound plain.no_change (record { desk = layered_desk before; stale = stale; image = image }) (layered_desk left)
-    close_is_sound stale image = record {
+    pub disposal_is_sound : (stale image : Point → Bool) → plain.IsSound plain.no_change (record { desk = layered_desk before; stale = stale; image = image }) (layered_desk left)
+    disposal_is_sound stale image = record {
       desk = distinct_left;
       kept = λ p on content afresh taken put drawn there. by_owner p (owner (layered_desk left) p) content (other_owner p);
       right = λ p on taken. absurd (cc);
@@ -111,7 +111,7 @@ module _ (before : FullDesk) (s i : ℕ) (w : WindowRecord) (rest : List WindowR
 
 pub disposed_stays_right : (s : ℕ) (before after : FullState) → IsRightState before → IsWindowDisposed s before after → IsRightState after
 disposed_stays_right s before after right closed =
-    let sound = close_is_sound before.desk s out.place closed.window out.rest one activation after.desk.stock right.plain.desk before.stale before.image in
+    let sound = disposal_is_sound before.desk s out.place closed.window out.rest one activation after.desk.stock right.plain.desk before.stale before.image in
     record {
       plain = stays_right plain.no_change (layered_state before) (layered_state after) right.plain (subst (plain.IsSound plain.no_change (layered_state before)) (sym (ap layered_desk desk_is)) sound) closed.pixels;
       numbered = subst (λ (d : FullDesk). AreNumbered d.next d.windows) (sym desk_is) (numbered_left before.desk s out.place closed.window out.rest one activation after.desk.stock right.numbered);

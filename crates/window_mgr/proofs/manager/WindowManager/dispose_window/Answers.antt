@@ -22,7 +22,7 @@ returns-in_default-plan_without-clause-step g c =
 
 pub returns-clause-whole : goal.returns-clause-whole
 returns-clause-whole g c =
-    closing.close_is_whole _ c.args.window c.in-Some.at _ _ c.take_off-taken.result c.args.self.now c.take_off-taken.new.self _ _ (record {
+    closing.dispose_is_whole _ c.args.window c.in-Some.at _ _ c.take_off-taken.result c.args.self.now c.take_off-taken.new.self _ _ (record {
       whole = c.requires;
       low = c.in-Some.ensures.0;
       serial = c.in-Some.ensures.1;
@@ -34,7 +34,7 @@ returns-clause-whole g c =
 
 pub returns-clause-step : goal.returns-clause-step
 returns-clause-step g c =
-    closing.close_step _ c.args.window c.in-Some.at _ _ c.take_off-taken.result c.args.self.now c.take_off-taken.new.self _ _ (record {
+    closing.dispose_step _ c.args.window c.in-Some.at _ _ c.take_off-taken.result c.args.self.now c.take_off-taken.new.self _ _ (record {
       whole = c.requires;
       low = c.in-Some.ensures.0;
       serial = c.in-Some.ensures.1;
