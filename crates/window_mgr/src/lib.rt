@@ -27,8 +27,8 @@
 mod arrange;
 mod arranging;
 mod close;
-mod dispose_window;
 mod commit;
+mod dispose_window;
 mod draw;
 mod find;
 mod make;
