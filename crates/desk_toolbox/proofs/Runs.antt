@@ -13,7 +13,6 @@ use Rattle.window_mgr.specs.Effects.{Effect, IsEffect, IsUnchanged, effect_of}
 use Rattle.window_mgr.specs.Effects.Effect.{Makes, Disposes, Draws, Arranges, Sizes, Tells, Describes}
 use Rattle.window_mgr.specs.Telling.{IsRegionTold}
 use Rattle.tb_geom.specs.Points.{PixelSet}
-use Rattle.window_mgr.specs.Step as windows
 use Rattle.window_mgr.proofs.KeptKinds as kinds
 use Rattle.window_mgr.proofs.KeptKinds.{kinds_of}
 use Rattle.window_mgr.proofs.Running as windowing

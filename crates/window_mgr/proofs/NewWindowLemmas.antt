@@ -17,7 +17,6 @@ use Rattle.def_iface.specs.Sizes.{is_size}
 use Rattle.def_iface.specs.Meaning.{Definition, Loan, IsBegun, IsWithin, is_fitting}
 use Rattle.def_iface.specs.Stocked.{SlotView, IsTaken, IsPutBack}
 use Rattle.def_iface.specs.Desk as layers
-use Rattle.def_iface.specs.Desk.{LayeredDesk, on_screen}
 use Rattle.def_iface.specs.Owner.{own_bit}
 use Rattle.def_iface.specs.Owner.Owner.{Frame}
 use Rattle.def_iface.proofs.Owning.{own_bit-behind}
