@@ -8,7 +8,7 @@ use Rattle.tb_geom.specs.Points.{PixelSet, minus}
 use Rattle.tb_geom.specs.Rects.{between}
 use Rattle.bit_map.specs.Bits.{is_below}
 use Rattle.bit_map.specs.Images.{Image, image_holds}
-use Rattle.bit_blit.specs.Sources.{IsNear}
+use Rattle.bit_blit.specs.Sources.{IsNearSource}
 
 both : (a b : Bool) → (a && b) ≡ true → (a ≡ true) × (b ≡ true)
 both true b e = (refl, e)
@@ -19,7 +19,7 @@ below-near limit (pos n) l e = grind (arith, ints, nat_tests)
 below-near limit (negsuc n) l e = absurd (cc)
 
 -- images are sources
-pub image-near : (i : Image) → i.width ≤ 65535 → i.height ≤ 65535 → IsNear (image_holds i)
+pub image-near : (i : Image) → i.width ≤ 65535 → i.height ≤ 65535 → IsNearSource (image_holds i)
 unfolding image_holds
 image-near i w h p e =
     let t = both (is_below i.width p.h) (is_below i.height p.v) e in
@@ -37,7 +37,7 @@ abbrev pub stopped : Point → Point → Point
 stopped p o = record { h = saturate_signed w32 (p.h -ℤ o.h); v = saturate_signed w32 (p.v -ℤ o.v) }
 
 -- no source has a pixel at which one of the numbers stopped
-pub stopped-same : (p o : Point) (s : PixelSet) → IsNear s → (s (stopped p o) ≡ s (minus p o)) × (s (stopped p o) ≡ true → stopped p o ≡ minus p o)
+pub stopped-same : (p o : Point) (s : PixelSet) → IsNearSource s → (s (stopped p o) ≡ s (minus p o)) × (s (stopped p o) ≡ true → stopped p o ≡ minus p o)
 stopped-same p o s near = (by_test (s (stopped p o)) (s (minus p o)) refl refl, here)
   where
     here : s (stopped p o) ≡ true → stopped p o ≡ minus p o

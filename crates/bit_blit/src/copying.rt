@@ -9,7 +9,7 @@ ghost use Rattle.bit_map.specs.Bits.{on_map, bit};
 ghost use Rattle.bit_map.specs.Images.{image_holds, image_bit};
 ghost use Rattle.bit_map.specs.Modes.{mode_bit};
 ghost use Rattle.bit_blit.specs.Draws.{Draws};
-ghost use Rattle.bit_blit.specs.Sources.{IsNear};
+ghost use Rattle.bit_blit.specs.Sources.{IsNearSource};
 
 use crate::walk::{Rule, draw_region};
 use bit_map::{BitImage, BitMap, Mode};
@@ -25,7 +25,7 @@ pub trait Source {
     /// Whether the source has the pixel at a point.
     fn contains(&self, point: Point) -> bool
         ensures value { result ≡ has self.now point }
-        ensures near { IsNear (has self.now) };
+        ensures near { IsNearSource (has self.now) };
 
     /// The bit at a point that the source has.
     fn bit(&self, point: Point) -> bool
@@ -100,7 +100,7 @@ impl<S: Source> Rule for Copied<'_, S> {
 
 /// The point as seen from the origin. Where that is no point, it is one that no source has.
 fn from_origin(point: Point, origin: Point) -> Point
-    ensures { (s : PixelSet) → IsNear s → (s result ≡ s (minus point origin))
+    ensures { (s : PixelSet) → IsNearSource s → (s result ≡ s (minus point origin))
         × (s result ≡ true → result ≡ minus point origin) }
 {
     Point {

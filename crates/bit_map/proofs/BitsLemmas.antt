@@ -8,7 +8,7 @@ use Rattle.std.proofs.lemmas.Nat.{mul-add-lt, div-mul-add, mod-mul-add}
 use Rattle.tb_geom.specs.declared.point.Point.{Point}
 use Rattle.tb_geom.specs.declared.rect.Rect.{Rect}
 use Rattle.tb_geom.specs.Rects.{between, rect_holds}
-use Rattle.bit_map.specs.Bits.{Bits, IsWhole, is_below, on_map, bit, is_point, bounds_of}
+use Rattle.bit_map.specs.Bits.{Bits, IsWholeMap, is_below, on_map, bit, is_point, bounds_of}
 
 both_true : (a b : Bool) → (a && b) ≡ true → (a ≡ true) × (b ≡ true)
 both_true true b e = (refl, e)
@@ -51,7 +51,7 @@ on_map-sides m p on =
     record { right = not_negative m.width p.h both.0; across = below_limit m.width p.h both.0; below = not_negative m.height p.v both.1; down = below_limit m.height p.v both.1 }
 
 -- the place of a point of the map lies in the list
-pub place_in : (m : Bits) (p : Point) → IsWhole m.width m.height m.black → IsOn m p → nat_abs p.v * m.width + nat_abs p.h < length m.black
+pub place_in : (m : Bits) (p : Point) → IsWholeMap m.width m.height m.black → IsOn m p → nat_abs p.v * m.width + nat_abs p.h < length m.black
 place_in m p whole at = omega (arith, whole.all, mul-add-lt (nat_abs p.v) m.width (nat_abs p.h) m.height at.down at.across)
 
 -- the bit at a point of the map stands at its place
@@ -112,7 +112,7 @@ same_place m q p on_q on_p e =
     (λ i. int_eq (sh i) q.h && int_eq (sv i) q.v) ∙ is_point-here q
 
 -- the bits of a map after a write into its list
-pub bit-set : (a b : Bits) (q : Point) (value : Bool) → IsWhole a.width a.height a.black → on_map a q ≡ true → b.black ≡ set a.black (nat_abs q.v * a.width + nat_abs q.h) value → b.width ≡ a.width → b.height ≡ a.height → (p : Point) → bit b p ≡ cond (is_point q p) value (bit a p)
+pub bit-set : (a b : Bits) (q : Point) (value : Bool) → IsWholeMap a.width a.height a.black → on_map a q ≡ true → b.black ≡ set a.black (nat_abs q.v * a.width + nat_abs q.h) value → b.width ≡ a.width → b.height ≡ a.height → (p : Point) → bit b p ≡ cond (is_point q p) value (bit a p)
 bit-set a b q value whole on_q written width height p = by_place (on_map a p) refl
   where
     place : Point → ℕ

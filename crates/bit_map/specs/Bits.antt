@@ -12,7 +12,7 @@ pub record Bits : Type 0 where
   pub black : List Bool
 
 -- the list has a bit for each pixel, and no side is longer than 32767
-pub record IsWhole (width height : ℕ) (black : List Bool) : Type 0 where
+pub record IsWholeMap (width height : ℕ) (black : List Bool) : Type 0 where
   pub all : length black ≡ height * width
   pub across : width ≤ 32767
   pub down : height ≤ 32767

@@ -17,13 +17,13 @@ pub struct BitMap {
 }
 
 impl Model for BitMap {
-    ghost use Rattle.bit_map.specs.Bits.{Bits, IsWhole};
+    ghost use Rattle.bit_map.specs.Bits.{Bits, IsWholeMap};
 
     ghost Value = { Bits };
 
     ghost view = { λ m. record { width = m.width; height = m.height; black = m.bits.items } };
 
-    ghost invariant = { λ m. IsWhole m.width m.height m.bits.items };
+    ghost invariant = { λ m. IsWholeMap m.width m.height m.bits.items };
 }
 
 /// Whether a map may have a side of this length: 0..=32767.

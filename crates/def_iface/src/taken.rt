@@ -1,5 +1,5 @@
 //! A definition on its way: out of its slot, in a window's record, and back.
-ghost use Rattle.std.specs.Prelude.{◌≡◌, true, IfOk, IfErr};
+ghost use Rattle.std.specs.Prelude.{◌≡◌, true, IfOk};
 ghost use Rattle.tb_geom.specs.declared.point.Point.{Point};
 ghost use Rattle.tb_geom.specs.Rects.{IsBoxOf, rect_holds, is_empty_rect, empty_rect};
 ghost use Rattle.tb_geom.specs.Pixels.{holds};
@@ -10,8 +10,8 @@ ghost use Rattle.def_iface.specs.Meaning.{Loan, SameRegions, IsWithin, IsBegun, 
 
 use crate::{Hit, Size, Stage, WindowChange, WindowDef, WindowRegions};
 use draw_port::Canvas;
-use std::alloc::Global;
-use tb_geom::{Point, Rect, Refusal};
+use std::alloc::{AllocError, Global};
+use tb_geom::{Point, Rect};
 
 /// A definition that was taken out of a stock, and the number of its slot there. The two travel
 /// together until they are put back.
@@ -47,8 +47,8 @@ impl Taken {
         self.definition.bounds(size)
     }
 
-    /// Structure and content of a window of this size, local to it. NoMemory is the only refusal.
-    pub fn regions_for(&self, alloc: Global, size: Size) -> Result<WindowRegions, Refusal>
+    /// Structure and content of a window of this size, local to it.
+    pub fn regions_for(&self, alloc: Global, size: Size) -> Result<WindowRegions, AllocError>
         requires { is_fitting (⟦<Taken as Defined>⟧.loan self.now).definition size ≡ true }
         ensures structure { IfOk result (λ r. (p : Point)
             → holds r.structure p ≡ (⟦<Taken as Defined>⟧.loan self.now).definition.structure size p) }
@@ -57,7 +57,6 @@ impl Taken {
         ensures within { IfOk result (λ r. IsWithin (holds r.content) (holds r.structure)) }
         ensures boxed { IfOk result (λ r. IsWithin (holds r.structure)
             (rect_holds ((⟦<Taken as Defined>⟧.loan self.now).definition.bounds size))) }
-        ensures refused { IfErr result (λ e. e ≡ Refusal.NoMemory) }
     {
         self.definition.regions_for(alloc, size)
     }

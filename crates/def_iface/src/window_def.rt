@@ -1,5 +1,5 @@
 //! The interface of a window's definition.
-ghost use Rattle.std.specs.Prelude.{◌≡◌, true, IfOk, IfErr};
+ghost use Rattle.std.specs.Prelude.{◌≡◌, true, IfOk};
 ghost use Rattle.tb_geom.specs.declared.point.Point.{Point};
 ghost use Rattle.tb_geom.specs.Points.{minus};
 ghost use Rattle.tb_geom.specs.Rects.{IsBoxOf, rect_holds, is_empty_rect, empty_rect};
@@ -12,8 +12,8 @@ ghost use Rattle.def_iface.specs.Meaning.{Definition, SameRegions, IsDamage, IsW
 use crate::Size;
 use draw_port::Canvas;
 use scan_region::Region;
-use std::alloc::Global;
-use tb_geom::{Point, Rect, Refusal};
+use std::alloc::{AllocError, Global};
+use tb_geom::{Point, Rect};
 
 /// Where a definition stands in its life. It is Fresh when it is made, Live from `begin` on, and
 /// Closed for good from `dispose` on.
@@ -87,16 +87,15 @@ pub trait WindowDef: Drop {
         ensures regions { SameRegions (meaning self.old) (meaning self.new) }
         ensures damage { IsDamage result (meaning self.old) (meaning self.new) };
 
-    /// Structure and content of a window of this size. NoMemory is the only refusal.
-    fn regions_for(&self, alloc: Global, size: Size) -> Result<WindowRegions, Refusal>
+    /// Structure and content of a window of this size.
+    fn regions_for(&self, alloc: Global, size: Size) -> Result<WindowRegions, AllocError>
         requires { is_fitting (meaning self.now) size ≡ true }
         ensures structure { IfOk result (λ r. (p : Point)
             → holds r.structure p ≡ (meaning self.now).structure size p) }
         ensures content { IfOk result (λ r. (p : Point)
             → holds r.content p ≡ (meaning self.now).content size p) }
         ensures within { IfOk result (λ r. IsWithin (holds r.content) (holds r.structure)) }
-        ensures boxed { IfOk result (λ r. IsWithin (holds r.structure) (rect_holds ((meaning self.now).bounds size))) }
-        ensures refused { IfErr result (λ e. e ≡ Refusal.NoMemory) };
+        ensures boxed { IfOk result (λ r. IsWithin (holds r.structure) (rect_holds ((meaning self.now).bounds size))) };
 
     /// The exact box of the structure of a window of this size, 0 0 0 0 where it has no pixel. It takes
     /// no memory. The content lies in the structure, whether there is memory for the two as regions or not.

@@ -7,8 +7,8 @@ use bit_map::{Mode, Pattern};
 use def_iface::{Hit, Size, Stage, WindowChange, WindowDef, WindowRegions};
 use draw_port::Canvas;
 use scan_region::Region;
-use std::alloc::Global;
-use tb_geom::{Point, Rect, Refusal};
+use std::alloc::{AllocError, Global};
+use tb_geom::{Point, Rect};
 
 /// The definition of a titled window. It is dragged by its frame.
 #[derive(Drop)]
@@ -63,9 +63,9 @@ impl WindowDef for Titled {
         damage
     }
 
-    fn regions_for(&self, alloc: Global, size: Size) -> Result<WindowRegions, Refusal> {
-        let structure = Region::from_rect(alloc, titled_box(size))?;
-        let content = Region::from_rect(alloc, size.rect())?;
+    fn regions_for(&self, alloc: Global, size: Size) -> Result<WindowRegions, AllocError> {
+        let structure = Region::from_rect_in_range(alloc, titled_box(size))?;
+        let content = Region::from_rect_in_range(alloc, size.rect())?;
         Ok(WindowRegions { structure, content })
     }
 

@@ -12,7 +12,7 @@ use Rattle.bit_map.proofs.BitsLemmas.{on_map-sides}
 use Rattle.bit_blit.specs.Draws.{Draws}
 use Rattle.bit_blit.proofs.DrawsLemmas.{Draws-over, Draws-same, Draws-where}
 use Rattle.draw_port.proofs.PlacedLemmas.{image-around}
-use Rattle.draw_port.specs.Origins.{is_near}
+use Rattle.draw_port.specs.Origins.{is_near_origin}
 use Rattle.draw_port.specs.Places.{stopped, is_far, Encloses}
 use Rattle.draw_port.specs.Cuts.{cut_holds}
 use Rattle.draw_port.specs.Ops.{clip_holds, run_holds, text_mode, shape_holds, shape_value, op_holds, op_value, picture_value}
@@ -39,14 +39,14 @@ seen_number limit (pos n) o l a b e = grind (arith, ints)
 seen_number limit (negsuc n) o l a b e = absurd (omega (arith, ints))
 
 -- seen from a near origin, a pixel of a map is not far
-seen_near : (m : Bits) (p o : Point) → m.width ≤ 32767 → m.height ≤ 32767 → is_near o ≡ true → on_map m p ≡ true → is_far (minus p o) ≡ false
+seen_near : (m : Bits) (p o : Point) → m.width ≤ 32767 → m.height ≤ 32767 → is_near_origin o ≡ true → on_map m p ≡ true → is_far (minus p o) ≡ false
 seen_near m p o w h near on =
     let at = on_map-sides m p on in
     let n = both (between (negsuc 999999999) o.h (pos 1000000000)) (between (negsuc 999999999) o.v (pos 1000000000)) near in
     λ i. not (seen_number m.width p.h o.h w at.right at.across n.0 i && seen_number m.height p.v o.v h at.below at.down n.1 i)
 
 -- and its numbers are those of 32 bits
-pub stopped-near : (m : Bits) (p o : Point) → m.width ≤ 32767 → m.height ≤ 32767 → is_near o ≡ true → on_map m p ≡ true → stopped p o ≡ minus p o
+pub stopped-near : (m : Bits) (p o : Point) → m.width ≤ 32767 → m.height ≤ 32767 → is_near_origin o ≡ true → on_map m p ≡ true → stopped p o ≡ minus p o
 stopped-near m p o w h near on =
     let at = on_map-sides m p on in
     let n = both (between (negsuc 999999999) o.h (pos 1000000000)) (between (negsuc 999999999) o.v (pos 1000000000)) near in
@@ -60,7 +60,7 @@ cut_table true false x y d e = refl
 cut_table false cut x y d e = refl
 
 -- what a rule of the canvas draws in a rectangle of the map, where it leaves what the cut takes away
-pub seen_drawn : (c : Canvas) (area : Rect) (value : Point → Bool → Bool) (old new : Bits) → old.width ≤ 32767 → old.height ≤ 32767 → is_near c.origin ≡ true
+pub seen_drawn : (c : Canvas) (area : Rect) (value : Point → Bool → Bool) (old new : Bits) → old.width ≤ 32767 → old.height ≤ 32767 → is_near_origin c.origin ≡ true
     → Draws (rect_holds area) (λ p d. if cut_holds c.cut.now p then value (stopped p c.origin) d else d) old new
     → Draws (λ p. rect_holds area p && cut_holds c.cut.now p) (λ p d. value (canvas_point c p) d) old new
 seen_drawn c area value old new w h near drawn =
@@ -84,7 +84,7 @@ placed_drawn c rect area value old new shared drawn = Draws-where _ _ value old 
     one p on = ap (λ b. b && cut_holds c.cut.now p) (shared p) ∙ turned (rect_holds c.clip p) (rect_holds rect (canvas_point c p)) (cut_holds c.cut.now p)
 
 -- a set of pixels that is drawn in a rectangle around it is drawn on the canvas
-pub boxed_drawn : (c : Canvas) (box : Rect) (holds : PixelSet) (value : Point → Bool → Bool) (old new : Bits) → old.width ≤ 32767 → old.height ≤ 32767 → is_near c.origin ≡ true
+pub boxed_drawn : (c : Canvas) (box : Rect) (holds : PixelSet) (value : Point → Bool → Bool) (old new : Bits) → old.width ≤ 32767 → old.height ≤ 32767 → is_near_origin c.origin ≡ true
     → Encloses box holds
     → Draws (λ p. canvas_holds c p && rect_holds box (canvas_point c p)) (λ p d. cond (holds (canvas_point c p)) (value (canvas_point c p) d) d) old new
     → Draws (λ p. canvas_holds c p && holds (canvas_point c p)) (λ p d. value (canvas_point c p) d) old new
@@ -104,7 +104,7 @@ in_table true t x d = refl
 in_table false t x d = refl
 
 -- an operation that is drawn in the rectangle around it is drawn on the canvas
-pub op_drawn : (c : Canvas) (op : Op) (box : Rect) (old new : Bits) → old.width ≤ 32767 → old.height ≤ 32767 → is_near c.origin ≡ true
+pub op_drawn : (c : Canvas) (op : Op) (box : Rect) (old new : Bits) → old.width ≤ 32767 → old.height ≤ 32767 → is_near_origin c.origin ≡ true
     → Encloses box (op_holds c.font.now op)
     → Draws (λ p. canvas_holds c p && rect_holds box (canvas_point c p)) (painted_by c op) old new
     → Draws (canvas_holds c) (painted_by c op) old new
@@ -114,7 +114,7 @@ op_drawn c op box old new w h near around drawn =
     (boxed_drawn c box (op_holds c.font.now op) (λ q d. shape_value op.shape q d) old new w h near around drawn)
 
 -- bits are copied where the image has the pixel
-pub bits_drawn : (c : Canvas) (box : Rect) (made image : Image) (place : Point) (mode : Mode) (old new : Bits) → old.width ≤ 32767 → old.height ≤ 32767 → is_near c.origin ≡ true → made ≡ image
+pub bits_drawn : (c : Canvas) (box : Rect) (made image : Image) (place : Point) (mode : Mode) (old new : Bits) → old.width ≤ 32767 → old.height ≤ 32767 → is_near_origin c.origin ≡ true → made ≡ image
     → Encloses box (λ p. between place.h p.h (place.h +ℤ pos image.width) && between place.v p.v (place.v +ℤ pos image.height))
     → Draws (λ p. canvas_holds c p && rect_holds box (canvas_point c p)) (λ p d. if image_holds made (minus (canvas_point c p) place) then mode_bit mode (image_bit made (minus (canvas_point c p) place)) d else d) old new
     → Draws (λ p. canvas_holds c p && image_holds image (minus (canvas_point c p) place)) (λ p d. mode_bit mode (image_bit image (minus (canvas_point c p) place)) d) old new

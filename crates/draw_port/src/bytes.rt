@@ -1,8 +1,8 @@
 //! The bytes that operations own.
-ghost use Rattle.std.specs.Prelude.{◌≡◌, ◌<◌, ◌≤◌, length, IfOk, IfErr, MatchResult};
+ghost use Rattle.std.specs.Prelude.{◌≡◌, ◌<◌, ◌≤◌, length, IfOk, MatchResult};
 
 use arrayvec::ArrayVec;
-use std::alloc::Global;
+use std::alloc::{AllocError, Global};
 use std::marker::Model;
 use tb_geom::Refusal;
 
@@ -21,10 +21,9 @@ impl Model for Bytes {
 }
 
 impl Bytes {
-    /// A copy of these bytes. It refuses only for want of memory.
-    pub fn new(alloc: Global, bytes: &[u8]) -> Result<Bytes, Refusal>
-        ensures same { IfOk result (λ copy. copy ≡ bytes.now) }
-        ensures refused { IfErr result (λ e. e ≡ Refusal.NoMemory) }
+    /// A copy of these bytes.
+    pub fn new(alloc: Global, bytes: &[u8]) -> Result<Bytes, AllocError>
+        ensures { IfOk result (λ copy. copy ≡ bytes.now) }
     {
         let bytes = bytes.to_vec(alloc)?;
         Ok(Bytes { bytes })

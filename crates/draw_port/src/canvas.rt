@@ -1,6 +1,6 @@
 //! What is drawn on.
 ghost use Rattle.std.specs.Prelude.{◌≡◌, true};
-ghost use Rattle.draw_port.specs.Origins.{is_near};
+ghost use Rattle.draw_port.specs.Origins.{is_near_origin};
 
 use crate::cut::Cut;
 use bit_map::BitMap;
@@ -20,5 +20,5 @@ pub struct Canvas<'a> {
     pub cut: &'a Cut<'a>,
     /// The font of texts.
     pub font: &'a Font,
-    ghost near: { is_near origin ≡ true },
+    ghost near: { is_near_origin origin ≡ true },
 }

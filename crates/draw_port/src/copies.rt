@@ -1,11 +1,10 @@
 //! Copies of operations.
-ghost use Rattle.std.specs.Prelude.{◌≡◌, IfOk, IfErr};
+ghost use Rattle.std.specs.Prelude.{◌≡◌, IfOk};
 
 use crate::bytes::Bytes;
 use crate::shapes::{Op, RowsOfBits, Shape, TextRun};
 use scan_region::Region;
-use std::alloc::Global;
-use tb_geom::Refusal;
+use std::alloc::{AllocError, Global};
 
 impl TextRun {
     fn copy(&self) -> TextRun
@@ -20,9 +19,8 @@ impl TextRun {
 }
 
 impl RowsOfBits {
-    fn copy(&self, alloc: Global) -> Result<RowsOfBits, Refusal>
-        ensures same { IfOk result (λ rows. rows ≡ self.now) }
-        ensures refused { IfErr result (λ e. e ≡ Refusal.NoMemory) }
+    fn copy(&self, alloc: Global) -> Result<RowsOfBits, AllocError>
+        ensures { IfOk result (λ rows. rows ≡ self.now) }
     {
         Ok(RowsOfBits {
             place: self.place,
@@ -35,9 +33,8 @@ impl RowsOfBits {
 }
 
 impl Shape {
-    fn copy(&self, alloc: Global) -> Result<Shape, Refusal>
-        ensures same { IfOk result (λ shape. shape ≡ self.now) }
-        ensures refused { IfErr result (λ e. e ≡ Refusal.NoMemory) }
+    fn copy(&self, alloc: Global) -> Result<Shape, AllocError>
+        ensures { IfOk result (λ shape. shape ≡ self.now) }
     {
         Ok(match self {
             Shape::Erase(rect) => Shape::Erase(*rect),
@@ -54,9 +51,8 @@ impl Shape {
 }
 
 /// The same clip once more.
-fn copy_clip(clip: &Option<Region>, alloc: Global) -> Result<Option<Region>, Refusal>
-    ensures same { IfOk result (λ copy. copy ≡ clip.now) }
-    ensures refused { IfErr result (λ e. e ≡ Refusal.NoMemory) }
+fn copy_clip(clip: &Option<Region>, alloc: Global) -> Result<Option<Region>, AllocError>
+    ensures { IfOk result (λ copy. copy ≡ clip.now) }
 {
     match clip {
         None => Ok(None),
@@ -65,10 +61,9 @@ fn copy_clip(clip: &Option<Region>, alloc: Global) -> Result<Option<Region>, Ref
 }
 
 impl Op {
-    /// An equal operation, in the same coordinates. It refuses only for want of memory.
-    pub fn copy(&self, alloc: Global) -> Result<Op, Refusal>
-        ensures same { IfOk result (λ op. op ≡ self.now) }
-        ensures refused { IfErr result (λ e. e ≡ Refusal.NoMemory) }
+    /// An equal operation, in the same coordinates.
+    pub fn copy(&self, alloc: Global) -> Result<Op, AllocError>
+        ensures { IfOk result (λ op. op ≡ self.now) }
     {
         Ok(Op {
             clip: copy_clip(&self.clip, alloc)?,

@@ -3,7 +3,7 @@ ghost use Rattle.std.specs.Prelude.{◌≡◌, ◌++◌, ◌∷◌, [], List, �
 ghost use Rattle.draw_port.specs.Ops.{picture_bit};
 
 use crate::shapes::Op;
-use std::alloc::Global;
+use std::alloc::{AllocError, Global};
 use std::marker::Model;
 use strike_font::Font;
 use tb_geom::{Point, Refusal};
@@ -40,10 +40,9 @@ impl Picture {
         }
     }
 
-    /// An equal picture. It refuses only for want of memory.
-    pub fn copy(&self, alloc: Global) -> Result<Picture, Refusal>
-        ensures same { IfOk result (λ picture. picture ≡ self.now) }
-        ensures refused { IfErr result (λ e. e ≡ Refusal.NoMemory) }
+    /// An equal picture.
+    pub fn copy(&self, alloc: Global) -> Result<Picture, AllocError>
+        ensures { IfOk result (λ picture. picture ≡ self.now) }
     {
         let mut ops = Vec::with_capacity(alloc, self.ops.len())?;
         for op in &self.ops {

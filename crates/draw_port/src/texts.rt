@@ -2,7 +2,7 @@
 ghost use Rattle.std.specs.Prelude.{◌≡◌, ◌+◌, ◌*◌, ◌^◌, ◌<◌, ◌≤◌, ◌≤ℤ◌, ◌-ℤ◌, ℤ, pos, true, false, ◌&&◌, length, if◌then◌else◌};
 ghost use Rattle.bit_map.specs.Modes.{mode_bit};
 ghost use Rattle.bit_blit.specs.Draws.{Draws};
-ghost use Rattle.strike_font.specs.Record.{row_words};
+ghost use Rattle.strike_font.specs.Record.{words_of_row};
 ghost use Rattle.strike_font.specs.Text.{glyphs_pixel, glyph_pixel, glyph_rect, IsSized};
 ghost use Rattle.draw_port.specs.Canvases.{canvas_holds, canvas_point, clipped_holds, SameFrame};
 ghost use Rattle.draw_port.specs.Ops.{clip_holds};
@@ -86,7 +86,7 @@ struct Put<'a> {
     clip: &'a Option<Region>,
     ghost short: { length before.now ≤ 65535 },
     ghost near: { across ≤ 255 * 65535 },
-    ghost within: { glyph.first + glyph.columns ≤ 16 * row_words font.now },
+    ghost within: { glyph.first + glyph.columns ≤ 16 * words_of_row font.now },
     ghost reached: { (x y : ℤ) → pos reach ≤ℤ x → glyphs_pixel font.now before.now 0 x y ≡ false },
 }
 

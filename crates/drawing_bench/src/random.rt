@@ -2,8 +2,8 @@
 ghost use Rattle.std.specs.Prelude.{pos, ◌≤ℤ◌, ◌<ℤ◌};
 
 use scan_region::Region;
-use std::alloc::Global;
-use tb_geom::{Rect, Refusal};
+use std::alloc::{AllocError, Global};
+use tb_geom::Rect;
 
 /// The state of the generator, which begins at 1: each number is the high part of the next state.
 #[derive(Drop)]
@@ -51,16 +51,10 @@ impl Random {
     }
 
     /// The region of the next `count` rectangles.
-    pub fn region(&mut self, alloc: Global, count: usize) -> Result<Region, Refusal> {
-        let nothing = Rect {
-            left: 0,
-            top: 0,
-            right: 0,
-            bottom: 0,
-        };
-        let mut region = Region::from_rect(alloc, nothing)?;
+    pub fn region(&mut self, alloc: Global, count: usize) -> Result<Region, AllocError> {
+        let mut region = Region::empty(alloc);
         for _ in 0..count {
-            let one = Region::from_rect(alloc, self.rect())?;
+            let one = Region::from_rect_in_range(alloc, self.rect())?;
             region = region.union(alloc, &one)?;
         }
         Ok(region)

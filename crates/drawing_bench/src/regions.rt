@@ -2,7 +2,7 @@
 
 use crate::random::Random;
 use scan_region::Region;
-use std::alloc::Global;
+use std::alloc::{AllocError, Global};
 use tb_geom::Refusal;
 
 /// How many rectangles a region is made of.
@@ -29,7 +29,7 @@ fn sum_of_bytes(bytes: &[u8]) -> u32 {
 }
 
 /// Unites two regions.
-pub fn unite(alloc: Global, rounds: u32) -> Result<u32, Refusal> {
+pub fn unite(alloc: Global, rounds: u32) -> Result<u32, AllocError> {
     let mut random = Random::new();
     let first = random.region(alloc, RECTANGLES)?;
     let second = random.region(alloc, RECTANGLES)?;

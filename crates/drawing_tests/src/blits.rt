@@ -31,7 +31,7 @@ fn around_the_sheet(alloc: Global) -> Result<Region, Refusal> {
     let outer = Region::from_rect(alloc, rect!(-20, -30, 9, 40))?;
     let inner = Region::from_rect(alloc, rect!(3, 2, 6, 8))?;
     let right = Region::from_rect(alloc, rect!(11, 5, 300, 60))?;
-    outer.diff(alloc, &inner)?.union(alloc, &right)
+    Ok(outer.diff(alloc, &inner)?.union(alloc, &right)?)
 }
 
 /// Places of the pattern's origin.

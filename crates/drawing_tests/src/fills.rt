@@ -1,6 +1,6 @@
 //! Fills of a canvas against a loop over all pixels of a map.
 ghost use Rattle.std.specs.Prelude.{◌≡◌, true};
-ghost use Rattle.draw_port.specs.Origins.{is_near};
+ghost use Rattle.draw_port.specs.Origins.{is_near_origin};
 
 use crate::sheet::{MIXED, SHEET, Sheet, inked};
 use bit_map::{BitMap, Mode};
@@ -68,7 +68,7 @@ impl Filling {
 
     /// The sheet, filled under the cut.
     fn map(&self, alloc: Global, font: &Font, cut: &Cut<'_>) -> Result<BitMap, Refusal>
-        requires { is_near self.now.origin ≡ true }
+        requires { is_near_origin self.now.origin ≡ true }
     {
         let mut map = map_of(alloc, &Sheet, 13, 11)?;
         let mut canvas = Canvas {
@@ -88,7 +88,7 @@ impl Filling {
 
 /// Whether a canvas may have its 0 0 here.
 fn is_near(origin: Point) -> bool
-    ensures { result ≡ is_near origin }
+    ensures { result ≡ is_near_origin origin }
 {
     (-1000000000 <= origin.h && origin.h < 1000000000)
         && (-1000000000 <= origin.v && origin.v < 1000000000)

@@ -5,7 +5,7 @@ use bit_map::{Mode, Pattern};
 use draw_port::{Bytes, Line, Op, Picture, RowsOfBits, Shape, ShortText, TextMode, TextRun};
 use font_tests::small::SMALL;
 use scan_region::Region;
-use std::alloc::Global;
+use std::alloc::{AllocError, Global};
 use std::test::Fail;
 use strike_font::Font;
 use tb_geom::{Point, Refusal};
@@ -45,7 +45,7 @@ fn bits(
     height: u16,
     mode: Mode,
     rows: &[u8],
-) -> Result<Shape, Refusal> {
+) -> Result<Shape, AllocError> {
     let rows = Bytes::new(alloc, rows)?;
     Ok(Shape::Bits(RowsOfBits {
         place,

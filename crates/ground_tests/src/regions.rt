@@ -2,7 +2,7 @@
 
 use crate::pixels::{Pixels, is_region_of, mark, picture, pixel, region_of};
 use scan_region::{Region, Span};
-use std::alloc::Global;
+use std::alloc::{AllocError, Global};
 use std::test::Fail;
 use tb_geom::{Point, Rect, Refusal};
 
@@ -23,7 +23,7 @@ const OPERATORS: [Operator; 4] = [
 ];
 
 impl Operator {
-    fn region(self, alloc: Global, a: &Region, b: &Region) -> Result<Region, Refusal> {
+    fn region(self, alloc: Global, a: &Region, b: &Region) -> Result<Region, AllocError> {
         match self {
             Operator::Sect => a.sect(alloc, b),
             Operator::Union => a.union(alloc, b),

@@ -8,7 +8,7 @@ use Rattle.std.proofs.lemmas.Bool.{eq-eqb, ne_eqb, cases_Bool, and_parts, cases_
 use Rattle.tb_geom.specs.declared.refusal.Refusal.TheVariants.{BadSyntax}
 use Rattle.line_words.specs.Hex.{is_hex_text, hex_of}
 use Rattle.line_words.specs.Words.{◌>>=◌, Field, split_at, parts, word_at, is_digit, is_number_text, digits_value, digits_of, number_said, number_at, flag_of, flag_at, is_name, name_at, hex_at, is_plain, quoted_at, quoted_parts, after_quote, text_at}
-use Rattle.line_words.specs.Forms.{follows, HasNo, IsDigits, IsNumber, IsFlag, IsName, IsText, IsHex}
+use Rattle.line_words.specs.Forms.{follows, HasNo, IsDigits, IsNumber, IsFlag, IsName, IsPlainText, IsHex}
 
 -- the first mark: where it is, or that there is none
 abbrev Splits : ℕ → List ℕ → Option (List ℕ × List ℕ) → Type 0
@@ -278,14 +278,14 @@ hex_at-at word more bytes h = rw (word_at-follows word more (hex-spaceless word 
 -- what is left is this text and this after it
 pub record HasText (rest : Option (List ℕ)) (p : List ℕ × Option (List ℕ)) : Type 0 where
   pub is : rest ≡ Some (34 ∷ (p.0 ++ 34 ∷ follows p.1))
-  pub plain : IsText p.0
+  pub plain : IsPlainText p.0
 
 -- what is read is in the grammar
 abbrev pub TextCases : Option (List ℕ) → Field (List ℕ) → Type 0
 TextCases rest (Ok p) = HasText rest p
 TextCases rest (Err e) = e ≡ BadSyntax
 
-after-cases : (xs t after : List ℕ) → xs ≡ t ++ 34 ∷ after → IsText t → TextCases (Some (34 ∷ xs)) (after_quote t after)
+after-cases : (xs t after : List ℕ) → xs ≡ t ++ 34 ∷ after → IsPlainText t → TextCases (Some (34 ∷ xs)) (after_quote t after)
 after-cases xs t [] e h = record { is = ap (λ l. Some (34 ∷ l)) e; plain = h }
 after-cases xs t (b ∷ rest) e h =
     elim (cases_eq b 32) [
@@ -315,6 +315,6 @@ after-at : (t : List ℕ) (more : Option (List ℕ)) → after_quote t (follows 
 after-at t None = refl
 after-at t (Some more) = refl
 
-pub text_at-at : (t : List ℕ) (more : Option (List ℕ)) → IsText t → text_at (Some (34 ∷ (t ++ 34 ∷ follows more))) ≡ Ok (t, more)
+pub text_at-at : (t : List ℕ) (more : Option (List ℕ)) → IsPlainText t → text_at (Some (34 ∷ (t ++ 34 ∷ follows more))) ≡ Ok (t, more)
 unfolding text_at quoted_at
 text_at-at t more h = ap quoted_parts (split_at-mark 34 t (follows more) h.1) ∙ rw h.0 (after-at t more)

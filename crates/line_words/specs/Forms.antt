@@ -34,8 +34,8 @@ IsName [] = ⊥
 IsName (b ∷ bs) = (is_ascii_alphabetic b ≡ true) × (list_all is_ascii_alphanumeric bs ≡ true)
 
 -- bytes that a line may have, and no quote among them
-abbrev pub IsText : List ℕ → Type 0
-IsText t = (list_all is_plain t ≡ true) × HasNo 34 t
+abbrev pub IsPlainText : List ℕ → Type 0
+IsPlainText t = (list_all is_plain t ≡ true) × HasNo 34 t
 
 -- an even count of hex digits, at least two, that stand for the bytes
 abbrev pub IsHex : List ℕ → List ℕ → Type 0

@@ -30,16 +30,16 @@ is_line l = in_plane l.start && (int_le (pos 0) l.count && int_le l.count (pos 1
 
 -- each number of a shape lies in its range: a coordinate in -16384..16383, the count of a line in 0..1024, and the sides
 -- of an image are 256 at most
-abbrev pub is_near : ShapeRef → Bool
-is_near (EraseRef r) = is_in_range r
-is_near (InvertRef r) = is_in_range r
-is_near (FillRef r k) = is_in_range r
-is_near (FrameRef r k) = is_in_range r
-is_near (HLineRef l k) = is_line l
-is_near (VLineRef l k) = is_line l
-is_near (RunRef t) = in_plane t.pen
-is_near (ImageRef b) = in_plane b.place && (int_le b.width (pos 256) && int_le b.height (pos 256))
-is_near (FillRgnRef bytes k) = true
+abbrev pub is_shape_in_range : ShapeRef → Bool
+is_shape_in_range (EraseRef r) = is_in_range r
+is_shape_in_range (InvertRef r) = is_in_range r
+is_shape_in_range (FillRef r k) = is_in_range r
+is_shape_in_range (FrameRef r k) = is_in_range r
+is_shape_in_range (HLineRef l k) = is_line l
+is_shape_in_range (VLineRef l k) = is_line l
+is_shape_in_range (RunRef t) = in_plane t.pen
+is_shape_in_range (ImageRef b) = in_plane b.place && (int_le b.width (pos 256) && int_le b.height (pos 256))
+is_shape_in_range (FillRgnRef bytes k) = true
 
 -- whether a text has more than 255 characters
 abbrev pub is_long : ShapeRef → Bool
@@ -56,8 +56,8 @@ abbrev pub HasForm : List ℕ → Type 0
 HasForm bytes = (rows : List PointRow) × IsForm bytes rows
 
 -- they have it, and a coordinate lies outside -16384..16383
-abbrev pub LeavesRange : List ℕ → Type 0
-LeavesRange bytes = (rows : List PointRow) × IsForm bytes rows × (All IsInRange rows → ⊥)
+abbrev pub IsFormOutOfRange : List ℕ → Type 0
+IsFormOutOfRange bytes = (rows : List PointRow) × IsForm bytes rows × (All IsInRange rows → ⊥)
 
 -- they are a region's
 abbrev pub IsRegion : List ℕ → Type 0
@@ -71,7 +71,7 @@ HasSome (Some bytes) P = P bytes
 -- where there are bytes, they are a region's; or they are, but for a coordinate out of range
 abbrev pub Stands : Option (List ℕ) → Bool → Type 0
 Stands given true = IfSome given IsRegion
-Stands given false = HasSome given LeavesRange
+Stands given false = HasSome given IsFormOutOfRange
 
 -- the bytes of each region of the operation, of its clip and of its shape, are as P says
 abbrev pub EachRegion : (List ℕ → Type 0) → OpRef → Type 0
@@ -85,7 +85,7 @@ SomeRegion P op = HasSome op.clip P ⊎ HasSome (region_of op.shape) P
 pub record IsGood (op : OpRef) : Type 0 where
   pub rows : has_rows op.shape ≡ true
   pub regions : EachRegion IsRegion op
-  pub near : is_near op.shape ≡ true
+  pub near : is_shape_in_range op.shape ≡ true
   pub short : is_long op.shape ≡ false
 
 -- the bytes of one of its regions have not the form, and its image has its rows
@@ -97,13 +97,13 @@ pub record IsBadlyFormed (op : OpRef) : Type 0 where
 pub record IsFarOut (op : OpRef) : Type 0 where
   pub rows : has_rows op.shape ≡ true
   pub formed : EachRegion HasForm op
-  pub far : (is_near op.shape ≡ false) ⊎ SomeRegion LeavesRange op
+  pub far : (is_shape_in_range op.shape ≡ false) ⊎ SomeRegion IsFormOutOfRange op
 
 -- its text is long; nothing of the above is wrong
 pub record IsOverlong (op : OpRef) : Type 0 where
   pub rows : has_rows op.shape ≡ true
   pub regions : EachRegion IsRegion op
-  pub near : is_near op.shape ≡ true
+  pub near : is_shape_in_range op.shape ≡ true
   pub long : is_long op.shape ≡ true
 
 -- why an operation is refused

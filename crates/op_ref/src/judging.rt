@@ -1,6 +1,6 @@
 //! Why operations that calls carry are refused.
 ghost use Rattle.std.specs.Prelude.{◌≡◌, Some, MatchResult};
-ghost use Rattle.op_ref.specs.OpRefs.{are_rows, has_rows, is_line, is_near, is_long, region_of, HasForm, HasSome, Stands, IsGood, IsRefused};
+ghost use Rattle.op_ref.specs.OpRefs.{are_rows, has_rows, is_line, is_shape_in_range, is_long, region_of, HasForm, HasSome, Stands, IsGood, IsRefused};
 
 use crate::op_ref::{BitsRef, BytesRef, LineRef, OpRef, ShapeRef};
 use region_bytes::RegionBytes;
@@ -81,7 +81,7 @@ impl ShapeRef<'_> {
 
     /// Whether each number of the shape lies in its range.
     fn is_near(&self) -> bool
-        ensures { result ≡ is_near self.now }
+        ensures { result ≡ is_shape_in_range self.now }
     {
         match self {
             ShapeRef::Erase(rect) | ShapeRef::Invert(rect) => rect.is_in_range(),
@@ -116,7 +116,7 @@ impl LineRef {
 impl BitsRef<'_> {
     /// Whether the image lies at a coordinate, and is no wider or higher than 256.
     fn is_near(&self) -> bool
-        ensures { result ≡ is_near (ShapeRef.Bits self.now) }
+        ensures { result ≡ is_shape_in_range (ShapeRef.Bits self.now) }
     {
         self.place.is_in_range() && (self.width <= 256 && self.height <= 256)
     }

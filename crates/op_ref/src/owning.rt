@@ -1,12 +1,12 @@
 //! Operations made of those that calls carry.
-ghost use Rattle.std.specs.Prelude.{◌≡◌, ◌⊎◌, ◌≤◌, ◌≤ℤ◌, pos, nat_abs, true, false, length, MatchResult};
+ghost use Rattle.std.specs.Prelude.{◌≡◌, ◌⊎◌, ◌≤◌, ◌≤ℤ◌, pos, nat_abs, true, false, length, IfOk, MatchResult};
 ghost use Rattle.region_bytes.specs.Bytes.{IsRegionBytes};
-ghost use Rattle.op_ref.specs.OpRefs.{has_rows, is_near, is_line, is_long, IsGood, IsRefused, IsMeant, MeansShape, MeansClip};
+ghost use Rattle.op_ref.specs.OpRefs.{has_rows, is_shape_in_range, is_line, is_long, IsGood, IsRefused, IsMeant, MeansShape, MeansClip};
 
 use crate::op_ref::{BitsRef, BytesRef, LineRef, OpRef, ShapeRef, TextRef};
 use draw_port::{Bytes, Line, Op, RowsOfBits, Shape, ShortText, TextRun};
 use scan_region::Region;
-use std::alloc::Global;
+use std::alloc::{AllocError, Global};
 use tb_geom::Refusal;
 
 impl OpRef<'_> {
@@ -26,17 +26,17 @@ impl OpRef<'_> {
 }
 
 /// The region of bytes that were judged, so that only memory can be refused.
-fn to_region(bytes: &BytesRef, alloc: Global) -> Result<Region, Refusal>
-    ensures { MatchResult result (IsRegionBytes bytes.now) (λ e. e ≡ Refusal.NoMemory) }
+fn to_region(bytes: &BytesRef, alloc: Global) -> Result<Region, AllocError>
+    ensures { IfOk result (IsRegionBytes bytes.now) }
 {
     match Region::from_bytes(alloc, bytes.as_slice()) {
         Ok(region) => Ok(region),
-        Err(_) => Err(Refusal::NoMemory),
+        Err(_) => Err(AllocError),
     }
 }
 
-fn to_clip(clip: &Option<BytesRef>, alloc: Global) -> Result<Option<Region>, Refusal>
-    ensures { MatchResult result (MeansClip clip.now) (λ e. e ≡ Refusal.NoMemory) }
+fn to_clip(clip: &Option<BytesRef>, alloc: Global) -> Result<Option<Region>, AllocError>
+    ensures { IfOk result (MeansClip clip.now) }
 {
     match clip {
         None => Ok(None),
@@ -45,11 +45,11 @@ fn to_clip(clip: &Option<BytesRef>, alloc: Global) -> Result<Option<Region>, Ref
 }
 
 impl ShapeRef<'_> {
-    fn to_shape(&self, alloc: Global) -> Result<Shape, Refusal>
+    fn to_shape(&self, alloc: Global) -> Result<Shape, AllocError>
         requires rows { has_rows self.now ≡ true }
-        requires near { is_near self.now ≡ true }
+        requires near { is_shape_in_range self.now ≡ true }
         requires short { is_long self.now ≡ false }
-        ensures { MatchResult result (MeansShape self.now) (λ e. e ≡ Refusal.NoMemory) }
+        ensures { IfOk result (MeansShape self.now) }
     {
         match self {
             ShapeRef::Erase(rect) => Ok(Shape::Erase(*rect)),
@@ -58,7 +58,7 @@ impl ShapeRef<'_> {
             ShapeRef::Frame(rect, shade) => Ok(Shape::Frame(*rect, *shade)),
             ShapeRef::HLine(line, shade) => Ok(Shape::HLine(line.to_line(), *shade)),
             ShapeRef::VLine(line, shade) => Ok(Shape::VLine(line.to_line(), *shade)),
-            ShapeRef::Text(run) => Ok(Shape::Text(run.to_run()?)),
+            ShapeRef::Text(run) => Ok(Shape::Text(run.to_run())),
             ShapeRef::Bits(bits) => Ok(Shape::Bits(bits.to_rows(alloc)?)),
             ShapeRef::FillRgn(bytes, shade) => Ok(Shape::FillRgn(to_region(bytes, alloc)?, *shade)),
         }
@@ -78,27 +78,23 @@ impl LineRef {
 }
 
 impl TextRef<'_> {
-    fn to_run(&self) -> Result<TextRun, Refusal>
+    fn to_run(&self) -> TextRun
         requires { length self.now.text ≤ 255 }
-        ensures { MatchResult result
-            (λ run. run ≡ record { pen = self.now.pen; mode = self.now.mode; text = self.now.text })
-            (λ e. e ≡ Refusal.NoMemory) }
+        ensures { result ≡ record { pen = self.now.pen; mode = self.now.mode; text = self.now.text } }
     {
-        Ok(TextRun {
+        TextRun {
             pen: self.pen,
             mode: self.mode,
-            text: ShortText::new(self.text.as_slice())?,
-        })
+            text: ShortText::new(self.text.as_slice()).unwrap(),
+        }
     }
 }
 
 impl BitsRef<'_> {
-    fn to_rows(&self, alloc: Global) -> Result<RowsOfBits, Refusal>
+    fn to_rows(&self, alloc: Global) -> Result<RowsOfBits, AllocError>
         requires wide { (pos 0 ≤ℤ self.now.width) × (self.now.width ≤ℤ pos 256) }
         requires high { (pos 0 ≤ℤ self.now.height) × (self.now.height ≤ℤ pos 256) }
-        ensures { MatchResult result
-            (λ rows. rows ≡ record { place = self.now.place; width = nat_abs self.now.width; height = nat_abs self.now.height; mode = self.now.mode; rows = self.now.rows })
-            (λ e. e ≡ Refusal.NoMemory) }
+        ensures { IfOk result (λ rows. rows ≡ record { place = self.now.place; width = nat_abs self.now.width; height = nat_abs self.now.height; mode = self.now.mode; rows = self.now.rows }) }
     {
         Ok(RowsOfBits {
             place: self.place,

@@ -7,7 +7,7 @@ use Rattle.tb_geom.specs.declared.point.Point.{Point}
 use Rattle.tb_geom.specs.Points.{PixelSet}
 use Rattle.region_bytes.specs.Edges.{differ}
 use Rattle.region_bytes.specs.Points.{inverted}
-use Rattle.region_bytes.specs.Walk.{IsDown, IsAhead, IsAt, pixel_at}
+use Rattle.region_bytes.specs.Walk.{IsDown, IsAhead, IsWalkAt, pixel_at}
 use Rattle.region_bytes.proofs.Edges.{int_le-true, int_le-false}
 
 down_tail : (p : Point) (rest : List Point) → IsDown (p ∷ rest) → IsDown rest
@@ -58,7 +58,7 @@ ahead_turned s left v old new points rest p e l turn size a =
 
 -- no more points up to the row
 pub ahead_at : (s : PixelSet) (left v : ℤ) (columns : List Bool) (points : List Point) → ((p : Point) (rest : List Point) → points ≡ p ∷ rest → v <ℤ p.v)
-    → IsAhead s left v columns points → IsAt s left v columns points
+    → IsAhead s left v columns points → IsWalkAt s left v columns points
 ahead_at s left v columns points past a = record {
   row = λ k m. sym (differ-none _) ∙ ap (differ (get_or columns k false)) (sym (none_below points (left +ℤ pos k) v (all points past a.down))) ∙ a.rows k v m (omega (arith, ints));
   ahead = a;

@@ -25,6 +25,6 @@ pub record IsAhead (s : PixelSet) (left v : ℤ) (columns : List Bool) (points :
   pub down : IsDown points
 
 -- the columns are the pixels of row v, from left on, and the points that are left make of them those of each row below
-pub record IsAt (s : PixelSet) (left v : ℤ) (columns : List Bool) (points : List Point) : Type 0 where
+pub record IsWalkAt (s : PixelSet) (left v : ℤ) (columns : List Bool) (points : List Point) : Type 0 where
   pub row : (k : ℕ) → k < length columns → slice_index_or columns k false ≡ s (pixel_at left v k)
   pub ahead : IsAhead s left v columns points

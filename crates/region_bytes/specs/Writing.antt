@@ -20,7 +20,7 @@ abbrev pub AreWritten : RegionWriter → List PointRow → Type 0
 AreWritten out rows = IsWritten out (flat_map row_words rows) (points_of rows)
 
 -- the words and points of all rows of a region are
-pub record IsWhole (out : RegionWriter) : Type 0 where
+pub record IsWholeWriter (out : RegionWriter) : Type 0 where
   pub rows : List PointRow
   pub canonical : IsCanonical rows
   pub in_range : All IsInRange rows

@@ -4,7 +4,7 @@ ghost use Rattle.tb_geom.specs.declared.point.Point.{Point};
 ghost use Rattle.tb_geom.specs.Rects.{IsBoxOf, is_empty_rect, empty_rect};
 ghost use Rattle.tb_geom.specs.Pixels.{holds};
 ghost use Rattle.region_bytes.specs.Points.{inverted};
-ghost use Rattle.region_bytes.specs.Walk.{IsDown, IsAt, pixel_at};
+ghost use Rattle.region_bytes.specs.Walk.{IsDown, IsWalkAt, pixel_at};
 ghost use Rattle.region_bytes.specs.Bytes.{IsRegionBytes, IsBad};
 
 use crate::parting::parted;
@@ -117,7 +117,7 @@ impl<'a> RegionBytes<'a> {
     pub fn row_at(&self, left: i32, v: i32, columns: &mut [bool]) -> Points<'a>
         ensures row { (k : ℕ) → k < length columns.old
             → slice_index_or columns.new k false ≡ holds self.now (pixel_at left v k) }
-        ensures walk { IsAt (holds self.now) left v columns.new result }
+        ensures walk { IsWalkAt (holds self.now) left v columns.new result }
     {
         clear(columns);
         let mut points = self.points();

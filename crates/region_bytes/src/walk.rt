@@ -3,7 +3,7 @@ ghost use Rattle.std.specs.Prelude.{◌≡◌, ℕ, ◌<◌, ◌∷◌, false, L
 ghost use Rattle.tb_geom.specs.declared.point.Point.{Point};
 ghost use Rattle.tb_geom.specs.Points.{PixelSet};
 ghost use Rattle.region_bytes.specs.Edges.{differ};
-ghost use Rattle.region_bytes.specs.Walk.{IsAhead, IsAt};
+ghost use Rattle.region_bytes.specs.Walk.{IsAhead, IsWalkAt};
 
 use crate::points::Points;
 use tb_geom::Point;
@@ -13,14 +13,14 @@ impl<'a> Points<'a> {
     /// below it. It takes the points that this needs, and no memory.
     pub fn go_to(&mut self, left: i32, v: i32, columns: &mut [bool])
         ensures { (s : PixelSet) (u : ℤ) → u ≤ℤ v
-            → IsAt s left u columns.old self.old → IsAt s left v columns.new self.new }
+            → IsWalkAt s left u columns.old self.old → IsWalkAt s left v columns.new self.new }
     {
         self.turn_to(left, v, columns);
     }
 
     /// Turns the columns by the points at the row `v` and above it.
     pub(crate) fn turn_to(&mut self, left: i32, v: i32, columns: &mut [bool])
-        ensures { (s : PixelSet) → IsAhead s left v columns.old self.old → IsAt s left v columns.new self.new }
+        ensures { (s : PixelSet) → IsAhead s left v columns.old self.old → IsWalkAt s left v columns.new self.new }
     {
         while let Some(point) = self.next_up_to(v) {
             turn_from(columns, left, point.h);

@@ -6,7 +6,7 @@ ghost use Rattle.region_bytes.specs.Edges.{IsCoordinate};
 ghost use Rattle.region_bytes.specs.Points.{PointRow, IsCanonical, points_of};
 ghost use Rattle.region_bytes.specs.Words.{word_bytes, box_words, data_words, bytes_of};
 ghost use Rattle.region_bytes.specs.Bytes.{IsWord};
-ghost use Rattle.region_bytes.specs.Writing.{IsWritten, IsWhole, IsBoxOfCoordinates};
+ghost use Rattle.region_bytes.specs.Writing.{IsWritten, IsWholeWriter, IsBoxOfCoordinates};
 
 use crate::bounds::grown;
 use std::alloc::{AllocError, Global};
@@ -75,7 +75,7 @@ impl RegionWriter {
     /// The bytes of the region, where these are the words and points of its rows. TooLong where they
     /// would be more than 32766, else it refuses only for want of memory.
     pub fn finish(self, alloc: Global) -> Result<Vec<u8>, Refusal>
-        requires { IsWhole self }
+        requires { IsWholeWriter self }
         ensures { (rows : List PointRow) → IsWritten self (data_words rows) (points_of rows)
             → IsCanonical rows → MatchResult result
             (λ bytes. (bytes.items ≡ bytes_of rows) × (length bytes.items ≤ 32766))

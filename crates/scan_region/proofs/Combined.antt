@@ -6,7 +6,7 @@ use Rattle.std.specs.Int.{int_min}
 use Rattle.std.proofs.lemmas.Bool.{cases_lt}
 use Rattle.std.proofs.lemmas.List.{get_or_push, get_or_append_left, length_push}
 use Rattle.scan_region.specs.Edges.{applied, inside, is_odd, IsRising, IsCoordinate}
-use Rattle.scan_region.specs.Cursor.{IsAt}
+use Rattle.scan_region.specs.Cursor.{IsCursorAt}
 use Rattle.scan_region.specs.declared.kernel.Cursor.{Cursor}
 use Rattle.scan_region.specs.declared.kernel.Operator.{Operator}
 use Rattle.scan_region.specs.declared.kernel.Operator.TheVariants.{Union, Intersection, Difference, SymmetricDifference}
@@ -15,8 +15,8 @@ use Rattle.region_bytes.proofs.Edges.{inside-push_before, inside-push_after, is_
 -- the edges up to a column `upto` are combined: so far they are those of the edges that both cursors passed
 pub record Combined (a b edges : List ℤ) (o : Operator) (p q : Cursor) (within : Bool) : Type 0 where
   pub upto : ℤ
-  pub a_at : IsAt a p upto
-  pub b_at : IsAt b q upto
+  pub a_at : IsCursorAt a p upto
+  pub b_at : IsCursorAt b q upto
   pub now : within ≡ applied o p.inside q.inside
   pub so_far : (h : ℤ) → inside edges h ≡ applied o (inside (take p.next a) h) (inside (take q.next b) h)
   pub below : (k : ℕ) → k < length edges → get_or edges k (pos 0) ≤ℤ upto
@@ -53,8 +53,8 @@ each_push P xs y each h k n =
 
 -- both cursors pass the column h
 pub record Passes (a b : List ℤ) (p q p' q' : Cursor) (h : ℤ) : Type 0 where
-  pub a_at : IsAt a p' h
-  pub b_at : IsAt b q' h
+  pub a_at : IsCursorAt a p' h
+  pub b_at : IsCursorAt b q' h
   pub a_before : (k : ℤ) → k <ℤ h → inside (take p'.next a) k ≡ inside (take p.next a) k
   pub b_before : (k : ℤ) → k <ℤ h → inside (take q'.next b) k ≡ inside (take q.next b) k
 
@@ -96,7 +96,7 @@ Combined-push a b edges o p q p' q' w h s l t n fits =
 abbrev before : List ℤ → List ℤ → ℤ
 before a b = int_min (get_or a 0 (pos 0)) (get_or b 0 (pos 0)) -ℤ pos 1
 
-start_at : (a : List ℤ) (x : ℤ) → x <ℤ get_or a 0 (pos 0) → IsAt a (record { next = 0; inside = false }) x
+start_at : (a : List ℤ) (x : ℤ) → x <ℤ get_or a 0 (pos 0) → IsCursorAt a (record { next = 0; inside = false }) x
 unfolding inside is_odd
 start_at a x f = record { within = omega arith; seen = λ h l. refl; ahead = λ _. f; odd = refl }
 

@@ -8,7 +8,7 @@ use Rattle.std.proofs.lemmas.Bool.{and_parts, false≢true}
 use Rattle.std.proofs.lemmas.Bool.Decides.{Decides-int_eq}
 use Rattle.std.proofs.lemmas.List.{take_more}
 use Rattle.scan_region.specs.Edges.{differ, applied, inside, IsRising}
-use Rattle.scan_region.specs.Cursor.{IsAt}
+use Rattle.scan_region.specs.Cursor.{IsCursorAt}
 use Rattle.scan_region.specs.declared.kernel.Cursor.{Cursor}
 use Rattle.scan_region.specs.declared.kernel.Operator.{Operator}
 use Rattle.scan_region.specs.declared.kernel.Operator.TheVariants.{Union, Intersection, Difference, SymmetricDifference}
@@ -22,8 +22,8 @@ not-beq false true = refl
 not-beq false false = refl
 
 -- a cursor before the column of an edge comes to be past it
-pub IsAt-hit : (xs : List ℤ) (at : Cursor) (x h : ℤ) → IsRising xs → IsAt xs at x → x <ℤ h → at.next < length xs → get_or xs at.next (pos 0) ≡ h → IsAt xs (record { next = at.next + 1; inside = not at.inside }) h
-IsAt-hit xs at x h r i l w e =
+pub IsCursorAt-hit : (xs : List ℤ) (at : Cursor) (x h : ℤ) → IsRising xs → IsCursorAt xs at x → x <ℤ h → at.next < length xs → get_or xs at.next (pos 0) ≡ h → IsCursorAt xs (record { next = at.next + 1; inside = not at.inside }) h
+IsCursorAt-hit xs at x h r i l w e =
     record {
       within = omega arith;
       seen = λ k le. ap (λ l. inside l k) (take_more xs at.next (pos 0) w) ∙ ap (λ y. inside (take at.next xs ++ y ∷ []) k) e ∙ inside-push_after (take at.next xs) h k le ∙ ap not (i.seen k (omega (arith, ints)));
@@ -32,8 +32,8 @@ IsAt-hit xs at x h r i l w e =
     }
 
 -- where no edge lies up to a column, the cursor is past that too
-pub IsAt-miss : (xs : List ℤ) (at : Cursor) (x h : ℤ) → IsAt xs at x → x <ℤ h → (at.next < length xs → h <ℤ get_or xs at.next (pos 0)) → IsAt xs at h
-IsAt-miss xs at x h i l a =
+pub IsCursorAt-miss : (xs : List ℤ) (at : Cursor) (x h : ℤ) → IsCursorAt xs at x → x <ℤ h → (at.next < length xs → h <ℤ get_or xs at.next (pos 0)) → IsCursorAt xs at h
+IsCursorAt-miss xs at x h i l a =
     record {
       within = i.within;
       seen = λ k le. i.seen k (omega (arith, ints));

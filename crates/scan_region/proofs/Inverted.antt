@@ -16,7 +16,7 @@ use Rattle.region_bytes.proofs.Edges.{int_le-true, int_le-false, inside-nil, IsR
 use Rattle.region_bytes.proofs.Written.{AreWritten-push}
 use Rattle.region_bytes.proofs.Rows.{in_rows-push, nil_has, past_rows, inverted-points_of}
 use Rattle.scan_region.specs.Edges.{differ, applied, inside, is_odd, IsRising, IsRow, IsCoordinate}
-use Rattle.scan_region.specs.Rows.{EdgeRow, has_in_rows, top_of, with_row, AreRows, IsGoodRow, IsTop}
+use Rattle.scan_region.specs.Rows.{EdgeRow, has_in_rows, row_top, with_row, AreRows, IsGoodRow, IsTop}
 use Rattle.scan_region.specs.Inverted.{IsChange, IsTurned, IsInverted, IsInvertedIn, AreInverted}
 use Rattle.scan_region.specs.declared.kernel.Cursor.{Cursor}
 use Rattle.scan_region.specs.declared.kernel.Operator.{Operator}
@@ -112,18 +112,18 @@ columns_in_range xs g = All-from_get_or IsCoordinate xs (pos 0) g.in_range
 record IsPushed (rows : List PointRow) (v : ℤ) (columns : List ℤ) : Type 0 where
   are_rows : ArePointRows (with_row rows v columns)
   in_range : All IsInRange (with_row rows v columns)
-  below : (k : ℕ) → k < length (map top_of (with_row rows v columns)) → get_or (map top_of (with_row rows v columns)) k (pos 0) ≤ℤ v
+  below : (k : ℕ) → k < length (map row_top (with_row rows v columns)) → get_or (map row_top (with_row rows v columns)) k (pos 0) ≤ℤ v
 
-IsPushed-with_row : (rows : List PointRow) (upto v : ℤ) (columns : List ℤ) → ArePointRows rows → All IsInRange rows → ((k : ℕ) → k < length (map top_of rows) → get_or (map top_of rows) k (pos 0) ≤ℤ upto) → upto <ℤ v → IsCoordinate v → IsRow columns → IsPushed rows v columns
+IsPushed-with_row : (rows : List PointRow) (upto v : ℤ) (columns : List ℤ) → ArePointRows rows → All IsInRange rows → ((k : ℕ) → k < length (map row_top rows) → get_or (map row_top rows) k (pos 0) ≤ℤ upto) → upto <ℤ v → IsCoordinate v → IsRow columns → IsPushed rows v columns
 IsPushed-with_row rows upto v [] r n b l c g = record { are_rows = r; in_range = n; below = λ k m. let f = b k m in omega (arith, ints) }
 IsPushed-with_row rows upto v (x ∷ xs) r n b l c g =
     record {
       are_rows = record {
-        rising = rw (map_push top_of rows (v, x ∷ xs)) (IsRising-push (map top_of rows) upto v r.rising b l);
+        rising = rw (map_push row_top rows (v, x ∷ xs)) (IsRising-push (map row_top rows) upto v r.rising b l);
         each = All-push IsPointRow rows (v, x ∷ xs) r.each (record { rising = g.rising; even = g.even; some = omega arith });
       };
       in_range = All-push IsInRange rows (v, x ∷ xs) n (c, columns_in_range (x ∷ xs) g);
-      below = rw (map_push top_of rows (v, x ∷ xs)) (each_push (λ z. z ≤ℤ v) (map top_of rows) v (λ k m. let f = b k m in omega (arith, ints)) (omega (arith, ints)));
+      below = rw (map_push row_top rows (v, x ∷ xs)) (each_push (λ z. z ≤ℤ v) (map row_top rows) v (λ k m. let f = b k m in omega (arith, ints)) (omega (arith, ints)));
     }
 
 -- with the change in the row v, rows of points have the pixels up to that row
@@ -164,12 +164,12 @@ pub record IsReadIn (rows : List EdgeRow) (i : ℕ) (out : RegionWriter) (last :
   pub inverted : IsInvertedIn out (has_in_rows rows) last (below -ℤ pos 1)
   pub below_in : IsCoordinate below
   pub last_row : IsRow last
-  pub ahead : (k : ℕ) → i ≤ k → k < length rows → below ≤ℤ get_or (map top_of rows) k (pos 0)
-  pub behind : (k : ℕ) → k < i → k < length rows → get_or (map top_of rows) k (pos 0) <ℤ below
+  pub ahead : (k : ℕ) → i ≤ k → k < length rows → below ≤ℤ get_or (map row_top rows) k (pos 0)
+  pub behind : (k : ℕ) → k < i → k < length rows → get_or (map row_top rows) k (pos 0) <ℤ below
 
 -- where no row lies at w, there is no pixel
-pub no_row : (rows : List EdgeRow) (h w : ℤ) → ((k : ℕ) → k < length rows → get_or (map top_of rows) k (pos 0) ≡ w → ⊥) → has_in_rows rows h w ≡ false
-no_row rows h w all = no_row_at rows h w (λ k d l e. all k l (get_or-map top_of rows k d (pos 0) l ∙ e))
+pub no_row : (rows : List EdgeRow) (h w : ℤ) → ((k : ℕ) → k < length rows → get_or (map row_top rows) k (pos 0) ≡ w → ⊥) → has_in_rows rows h w ≡ false
+no_row rows h w all = no_row_at rows h w (λ k d l e. all k l (get_or-map row_top rows k d (pos 0) l ∙ e))
 
 inverted_none : (t : ℤ → ℤ → Bool) (upto : ℤ) → ((h w : ℤ) → w ≤ℤ upto → t h w ≡ false) → IsInverted t [] [] upto
 inverted_none t upto out =
@@ -181,8 +181,8 @@ inverted_none t upto out =
       so_far = λ h v l. nil_has h v ∙ sym (out h v l);
     }
 
-top_in : (rows : List EdgeRow) (k : ℕ) → All IsGoodRow rows → k < length rows → IsTop (get_or (map top_of rows) k (pos 0))
-top_in rows k all l = let d : EdgeRow = (pos 0, []) in subst IsTop (sym (get_or-map top_of rows k d (pos 0) l)) (all k d l).0
+top_in : (rows : List EdgeRow) (k : ℕ) → All IsGoodRow rows → k < length rows → IsTop (get_or (map row_top rows) k (pos 0))
+top_in rows k all l = let d : EdgeRow = (pos 0, []) in subst IsTop (sym (get_or-map row_top rows k d (pos 0) l)) (all k d l).0
 
 -- before any row is read none is inverted
 pub IsReadIn-none : (rows : List EdgeRow) (out : RegionWriter) → AreRows rows → IsWritten out [] [] → IsReadIn rows 0 out [] (negsuc 16383)
@@ -201,23 +201,23 @@ IsReadIn-none rows out r w =
     }
 
 -- the place of a row
-pub top_here : (rows : List EdgeRow) (i : ℕ) (row : EdgeRow) → i < length rows → row ≡ get_or rows i row → get_or (map top_of rows) i (pos 0) ≡ row.0
-top_here rows i row l e = get_or-map top_of rows i row (pos 0) l ∙ ap top_of (sym e)
+pub top_here : (rows : List EdgeRow) (i : ℕ) (row : EdgeRow) → i < length rows → row ≡ get_or rows i row → get_or (map row_top rows) i (pos 0) ≡ row.0
+top_here rows i row l e = get_or-map row_top rows i row (pos 0) l ∙ ap row_top (sym e)
 
 -- at a row of edges the pixels are those of the row
-pub here_inside : (rows : List EdgeRow) (i : ℕ) (row : EdgeRow) (h : ℤ) → IsRising (map top_of rows) → i < length rows → row ≡ get_or rows i row → has_in_rows rows h row.0 ≡ inside row.1 h
-here_inside rows i row h r l e = row_at rows i row h row.0 r l (ap top_of (sym e)) ∙ ap (λ (z : EdgeRow). inside z.1 h) (sym e)
+pub here_inside : (rows : List EdgeRow) (i : ℕ) (row : EdgeRow) (h : ℤ) → IsRising (map row_top rows) → i < length rows → row ≡ get_or rows i row → has_in_rows rows h row.0 ≡ inside row.1 h
+here_inside rows i row h r l e = row_at rows i row h row.0 r l (ap row_top (sym e)) ∙ ap (λ (z : EdgeRow). inside z.1 h) (sym e)
 
 -- between the rows read and those ahead there is no pixel
 pub between_rows : (rows : List EdgeRow) (i : ℕ) (out : RegionWriter) (last : List ℤ) (below : ℤ) (row : EdgeRow) → IsReadIn rows i out last below → AreRows rows → i < length rows → row ≡ get_or rows i row → (h w : ℤ) → below ≤ℤ w → w <ℤ row.0 → has_in_rows rows h w ≡ false
 between_rows rows i out last below row s r l e h w m n =
     let top = top_here rows i row l e in
-    let len : length (map top_of rows) ≡ length rows = length-map rows top_of in
+    let len : length (map row_top rows) ≡ length rows = length-map rows row_top in
     no_row rows h w (λ k o p. elim (cases_lt k i) [
       | inl q ↦ (let b = s.behind k q o in omega (arith, ints))
       | inr q ↦ elim (cases_lt i k) [
         | inl u ↦ (let b = r.rising.rises i k u (omega arith) in omega (arith, ints))
-        | inr u ↦ (let same : k ≡ i = omega arith in let there = ap (λ j. get_or (map top_of rows) j (pos 0)) same ∙ top in omega (arith, ints))
+        | inr u ↦ (let same : k ≡ i = omega arith in let there = ap (λ j. get_or (map row_top rows) j (pos 0)) same ∙ top in omega (arith, ints))
       ]
     ])
 
@@ -225,7 +225,7 @@ between_rows rows i out last below row s r l e h w m n =
 pub IsReadIn-more : (rows : List EdgeRow) (i : ℕ) (out : RegionWriter) (row : EdgeRow) → AreRows rows → i < length rows → row ≡ get_or rows i row → IsInvertedIn out (has_in_rows rows) row.1 row.0 → IsGoodRow row → IsReadIn rows (i + 1) out row.1 (row.0 +ℤ pos 1)
 IsReadIn-more rows i out row r l e v good =
     let top = top_here rows i row l e in
-    let len : length (map top_of rows) ≡ length rows = length-map rows top_of in
+    let len : length (map row_top rows) ≡ length rows = length-map rows row_top in
     let back : row.0 ≡ (row.0 +ℤ pos 1) -ℤ pos 1 = omega (arith, ints) in
     let low = good.0.0 in
     let high = good.0.1 in
@@ -236,7 +236,7 @@ IsReadIn-more rows i out row r l e v good =
       ahead = λ k m n. (let b = r.rising.rises i k (omega arith) (omega arith) in omega (arith, ints));
       behind = λ k m n. elim (cases_lt k i) [
         | inl q ↦ (let b = r.rising.rises k i q (omega arith) in omega (arith, ints))
-        | inr q ↦ (let same : k ≡ i = omega arith in let there = ap (λ j. get_or (map top_of rows) j (pos 0)) same ∙ top in omega (arith, ints))
+        | inr q ↦ (let same : k ≡ i = omega arith in let there = ap (λ j. get_or (map row_top rows) j (pos 0)) same ∙ top in omega (arith, ints))
       ];
     }
 

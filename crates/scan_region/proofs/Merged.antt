@@ -10,7 +10,7 @@ use Rattle.std.proofs.lemmas.List.{take_more, get_or-map, length-map, map_push}
 use Rattle.std.proofs.lemmas.List.Elements.{All-push, All-nil}
 use Rattle.scan_region.specs.declared.kernel.Operator.{Operator}
 use Rattle.scan_region.specs.Edges.{applied, inside, IsRising, IsRow}
-use Rattle.scan_region.specs.Rows.{EdgeRow, has_in_rows, top_of, with_row, AreRows, IsGoodRow, IsTop}
+use Rattle.scan_region.specs.Rows.{EdgeRow, has_in_rows, row_top, with_row, AreRows, IsGoodRow, IsTop}
 use Rattle.scan_region.specs.RowsAt.{RowsAt}
 use Rattle.scan_region.proofs.Edges.{applied-none}
 use Rattle.scan_region.proofs.Combined.{IsRising-push, each_push}
@@ -62,15 +62,15 @@ none_inside_nil b v w h = sym ((λ i. b || (int_eq v w && inside-nil h i)) ∙ a
 -- ---- the rows that are read
 
 -- the place that a read of a row gives
-pub top_read : (rows : List EdgeRow) (i : ℕ) (row : EdgeRow) → i < length rows → row ≡ get_or rows i row → get_or (map top_of rows) i (pos 0) ≡ row.0
-top_read rows i row l e = get_or-map top_of rows i row (pos 0) l ∙ ap top_of (sym e)
+pub top_read : (rows : List EdgeRow) (i : ℕ) (row : EdgeRow) → i < length rows → row ≡ get_or rows i row → get_or (map row_top rows) i (pos 0) ≡ row.0
+top_read rows i row l e = get_or-map row_top rows i row (pos 0) l ∙ ap row_top (sym e)
 
 -- where the next row is further down, the row v is read
-pub RowsAt-miss : (rows : List EdgeRow) (next : ℕ) (x v : ℤ) → RowsAt rows next x → x <ℤ v → (next < length rows → v <ℤ get_or (map top_of rows) next (pos 0)) → RowsAt rows next v
+pub RowsAt-miss : (rows : List EdgeRow) (next : ℕ) (x v : ℤ) → RowsAt rows next x → x <ℤ v → (next < length rows → v <ℤ get_or (map row_top rows) next (pos 0)) → RowsAt rows next v
 RowsAt-miss rows next x v s l a = record { within = s.within; seen = λ h w m. s.seen h w (omega (arith, ints)); ahead = a }
 
 -- where it is the next row, it is read with that row
-pub RowsAt-hit : (rows : List EdgeRow) (next : ℕ) (row : EdgeRow) (x v : ℤ) → IsRising (map top_of rows) → next < length rows → row ≡ get_or rows next row → row.0 ≡ v → RowsAt rows next x → x <ℤ v → RowsAt rows (next + 1) v
+pub RowsAt-hit : (rows : List EdgeRow) (next : ℕ) (row : EdgeRow) (x v : ℤ) → IsRising (map row_top rows) → next < length rows → row ≡ get_or rows next row → row.0 ≡ v → RowsAt rows next x → x <ℤ v → RowsAt rows (next + 1) v
 RowsAt-hit rows next row x v r n e is s l =
     record {
       within = omega arith;
@@ -78,8 +78,8 @@ RowsAt-hit rows next row x v r n e is s l =
           has_in_rows-more rows next row h w n e
           ∙ (λ i. s.seen h w (omega (arith, ints)) i || (int_eq-apart row.0 w (λ same. omega (arith, ints)) i && inside row.1 h));
       ahead = λ m.
-          let top : get_or (map top_of rows) next (pos 0) ≡ v = top_read rows next row n e ∙ is in
-          let len : length (map top_of rows) ≡ length rows = length-map rows top_of in
+          let top : get_or (map row_top rows) next (pos 0) ≡ v = top_read rows next row n e ∙ is in
+          let len : length (map row_top rows) ≡ length rows = length-map rows row_top in
           let up = r.rises next (next + 1) (omega arith) (omega arith) in
           omega (arith, ints);
     }
@@ -92,7 +92,7 @@ pub record Merged (a b rows : List EdgeRow) (o : Operator) (i j : ℕ) : Type 0 
   pub a_at : RowsAt a i upto
   pub b_at : RowsAt b j upto
   pub so_far : (h v : ℤ) → has_in_rows rows h v ≡ applied o (has_in_rows (take i a) h v) (has_in_rows (take j b) h v)
-  pub below : (k : ℕ) → k < length (map top_of rows) → get_or (map top_of rows) k (pos 0) ≤ℤ upto
+  pub below : (k : ℕ) → k < length (map row_top rows) → get_or (map row_top rows) k (pos 0) ≤ℤ upto
   pub rows_ok : AreRows rows
 
 -- one pixel: t says whether it is in the row that is merged, p, q and r whether it is in the rows before, of a, of b and of both
@@ -136,9 +136,9 @@ Merged-push a b rows o i j i' j' row d e s l t good =
       a_at = t.a_at;
       b_at = t.b_at;
       so_far = λ h w. has_in_rows-push rows row h w ∙ merged_pixel a b rows o i j i' j' row.0 d e row.1 s l t h w;
-      below = rw (map_push top_of rows row) (each_push (λ z. z ≤ℤ row.0) (map top_of rows) row.0 (λ k m. let b = s.below k m in omega (arith, ints)) (omega (arith, ints)));
+      below = rw (map_push row_top rows row) (each_push (λ z. z ≤ℤ row.0) (map row_top rows) row.0 (λ k m. let b = s.below k m in omega (arith, ints)) (omega (arith, ints)));
       rows_ok = record {
-        rising = rw (map_push top_of rows row) (IsRising-push (map top_of rows) s.upto row.0 s.rows_ok.rising s.below l);
+        rising = rw (map_push row_top rows row) (IsRising-push (map row_top rows) s.upto row.0 s.rows_ok.rising s.below l);
         each = All-push IsGoodRow rows row s.rows_ok.each good;
       };
     }
@@ -150,9 +150,9 @@ Merged-with_row a b rows o i j i' j' v d e (x ∷ xs) s l t top row = Merged-pus
 
 -- a row above the first of either region
 top_before : List EdgeRow → List EdgeRow → ℤ
-top_before a b = int_min (get_or (map top_of a) 0 (pos 0)) (get_or (map top_of b) 0 (pos 0)) -ℤ pos 1
+top_before a b = int_min (get_or (map row_top a) 0 (pos 0)) (get_or (map row_top b) 0 (pos 0)) -ℤ pos 1
 
-rows_start : (a : List EdgeRow) (x : ℤ) → x <ℤ get_or (map top_of a) 0 (pos 0) → RowsAt a 0 x
+rows_start : (a : List EdgeRow) (x : ℤ) → x <ℤ get_or (map row_top a) 0 (pos 0) → RowsAt a 0 x
 rows_start a x f = record { within = omega arith; seen = λ h v l. has_in_rows-nil h v; ahead = λ _. f }
 
 -- no rows are the rows of a region

@@ -14,7 +14,7 @@ use Rattle.tb_geom.specs.Points.{minus}
 use Rattle.tb_geom.specs.Rects.{between}
 use Rattle.tb_geom.specs.Pixels.{Pixels, holds, pixels_where}
 use Rattle.scan_region.specs.Edges.{differ, inside, is_odd, IsRising, IsRow, IsCoordinate}
-use Rattle.scan_region.specs.Rows.{EdgeRow, has_in_rows, top_of, AreRows, IsGoodRow, IsTop}
+use Rattle.scan_region.specs.Rows.{EdgeRow, has_in_rows, row_top, AreRows, IsGoodRow, IsTop}
 use Rattle.scan_region.specs.Moves.{is_pixel_in_range, moved_row, moved_rows, StaysInRange, LeavesRange}
 use Rattle.scan_region.proofs.InPlace.{coordinate_fits}
 use Rattle.scan_region.proofs.Merged.{has_in_rows-more, has-taken, int_eq-same}
@@ -138,9 +138,9 @@ fits_before_last xs row two =
 
 -- they are rows of a region
 pub AreRows-moved : (rows : List EdgeRow) (d : Point) → AreRows rows → All IsGoodRow (moved_rows rows d) → AreRows (moved_rows rows d)
-AreRows-moved rows d r all = record { rising = subst IsRising (sym (tops rows)) (IsRising-moved (map top_of rows) d.v r.rising); each = all }
+AreRows-moved rows d r all = record { rising = subst IsRising (sym (tops rows)) (IsRising-moved (map row_top rows) d.v r.rising); each = all }
   where
-    tops : (rows : List EdgeRow) → map top_of (moved_rows rows d) ≡ map (λ x. x +ℤ d.v) (map top_of rows)
+    tops : (rows : List EdgeRow) → map row_top (moved_rows rows d) ≡ map (λ x. x +ℤ d.v) (map row_top rows)
     tops [] = refl
     tops (row ∷ rows) = ap (λ l. (row.0 +ℤ d.v) ∷ l) (tops rows)
 

@@ -7,7 +7,7 @@ use Rattle.std.proofs.lemmas.List.Elements.{All-head, All-tail}
 use Rattle.tb_geom.specs.declared.point.Point.{Point}
 use Rattle.tb_geom.specs.Pixels.{Pixels, has, holds, pixels_where}
 use Rattle.scan_region.specs.Edges.{inside, IsRising}
-use Rattle.scan_region.specs.Rows.{EdgeRow, has_in_rows, top_of, AreRows, IsGoodRow}
+use Rattle.scan_region.specs.Rows.{EdgeRow, has_in_rows, row_top, AreRows, IsGoodRow}
 use Rattle.scan_region.proofs.Merged.{has_in_rows-nil, int_eq-same, int_eq-apart}
 use Rattle.scan_region.proofs.Plane.{has_view, has_viewed}
 use Rattle.region_bytes.proofs.Edges.{rising_tail, rising_head, first_in, same_edges}
@@ -15,10 +15,10 @@ use Rattle.region_bytes.proofs.Edges.{rising_tail, rising_head, first_in, same_e
 -- ---- the rows
 
 tail_rows : (row : EdgeRow) (rows : List EdgeRow) → AreRows (row ∷ rows) → AreRows rows
-tail_rows row rows c = record { rising = rising_tail row.0 (map top_of rows) c.rising; each = All-tail IsGoodRow row rows c.each }
+tail_rows row rows c = record { rising = rising_tail row.0 (map row_top rows) c.rising; each = All-tail IsGoodRow row rows c.each }
 
 -- up to a row above all of them, rows have no pixel
-above_out : (rows : List EdgeRow) (h v : ℤ) → ((k : ℕ) → k < length (map top_of rows) → v <ℤ get_or (map top_of rows) k (pos 0)) → has_in_rows rows h v ≡ false
+above_out : (rows : List EdgeRow) (h v : ℤ) → ((k : ℕ) → k < length (map row_top rows) → v <ℤ get_or (map row_top rows) k (pos 0)) → has_in_rows rows h v ≡ false
 unfolding has_in_rows
 above_out [] h v all = refl
 above_out (row ∷ rows) h v all =
@@ -26,22 +26,22 @@ above_out (row ∷ rows) h v all =
     (λ i. (int_eq-apart row.0 v (λ same. omega (arith, ints)) i && inside row.1 h) || above_out rows h v (λ k l. all (suc k) (omega arith)) i)
 
 -- at its first row a region has the pixels of that row, and above it none
-pub first_row : (row : EdgeRow) (rows : List EdgeRow) (h : ℤ) → IsRising (map top_of (row ∷ rows)) → has_in_rows (row ∷ rows) h row.0 ≡ inside row.1 h
+pub first_row : (row : EdgeRow) (rows : List EdgeRow) (h : ℤ) → IsRising (map row_top (row ∷ rows)) → has_in_rows (row ∷ rows) h row.0 ≡ inside row.1 h
 unfolding has_in_rows
 first_row row rows h r =
-    (λ i. (int_eq-same row.0 i && inside row.1 h) || above_out rows h row.0 (rising_head row.0 (map top_of rows) r) i) ∙ or-false _
+    (λ i. (int_eq-same row.0 i && inside row.1 h) || above_out rows h row.0 (rising_head row.0 (map row_top rows) r) i) ∙ or-false _
 
 above_first : (row : EdgeRow) (rows : List EdgeRow) (h v : ℤ) → AreRows (row ∷ rows) → v <ℤ row.0 → has_in_rows (row ∷ rows) h v ≡ false
 unfolding has_in_rows
 above_first row rows h v c l =
-    (λ i. (int_eq-apart row.0 v (λ same. omega (arith, ints)) i && inside row.1 h) || above_out rows h v (λ k n. let f = rising_head row.0 (map top_of rows) c.rising k n in omega (arith, ints)) i)
+    (λ i. (int_eq-apart row.0 v (λ same. omega (arith, ints)) i && inside row.1 h) || above_out rows h v (λ k n. let f = rising_head row.0 (map row_top rows) c.rising k n in omega (arith, ints)) i)
 
 -- the pixels of the rows below the first one
 rest_at : (row : EdgeRow) (rows : List EdgeRow) (h v : ℤ) → AreRows (row ∷ rows) → (row.0 <ℤ v → has_in_rows (row ∷ rows) h v ≡ has_in_rows rows h v) × (v ≤ℤ row.0 → has_in_rows rows h v ≡ false)
 unfolding has_in_rows
 rest_at row rows h v c = (
   λ l. (λ i. (int_eq-apart row.0 v (λ same. omega (arith, ints)) i && inside row.1 h) || has_in_rows rows h v),
-  λ l. above_out rows h v (λ k n. let f = rising_head row.0 (map top_of rows) c.rising k n in omega (arith, ints)),
+  λ l. above_out rows h v (λ k n. let f = rising_head row.0 (map row_top rows) c.rising k n in omega (arith, ints)),
 )
 
 row_tails : (row : EdgeRow) (a b : List EdgeRow) → AreRows (row ∷ a) → AreRows (row ∷ b) → ((h v : ℤ) → has_in_rows (row ∷ a) h v ≡ has_in_rows (row ∷ b) h v) → (h v : ℤ) → has_in_rows a h v ≡ has_in_rows b h v

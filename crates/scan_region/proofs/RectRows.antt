@@ -8,7 +8,7 @@ use Rattle.std.proofs.lemmas.List.Elements.{All-push}
 use Rattle.tb_geom.specs.declared.rect.Rect.{Rect}
 use Rattle.tb_geom.specs.Rects.{between, is_coordinate, is_in_range}
 use Rattle.scan_region.specs.Edges.{inside, is_odd, IsRow, IsCoordinate}
-use Rattle.scan_region.specs.Rows.{EdgeRow, has_in_rows, top_of, AreRows, IsGoodRow}
+use Rattle.scan_region.specs.Rows.{EdgeRow, has_in_rows, row_top, AreRows, IsGoodRow}
 use Rattle.scan_region.proofs.Combined.{IsRising-push, each_push}
 use Rattle.scan_region.proofs.Merged.{has_in_rows-nil, has_in_rows-push, AreRows-nil}
 
@@ -57,7 +57,7 @@ sides_in_range r e =
 -- the rows of a rectangle from its top up to the row v
 pub record RunsUpTo (rows : List EdgeRow) (r : Rect) (v : ℤ) : Type 0 where
   pub pixels : (h w : ℤ) → has_in_rows rows h w ≡ (between r.left h r.right && between r.top w v)
-  pub below : (k : ℕ) → k < length (map top_of rows) → get_or (map top_of rows) k (pos 0) <ℤ v
+  pub below : (k : ℕ) → k < length (map row_top rows) → get_or (map row_top rows) k (pos 0) <ℤ v
   pub rows_ok : AreRows rows
 
 no_row : (b : Bool) (t w : ℤ) → false ≡ (b && between t w t)
@@ -80,9 +80,9 @@ pub RunsUpTo-more : (rows : List EdgeRow) (r : Rect) (v : ℤ) (row : EdgeRow) �
 RunsUpTo-more rows r v row s t e run good =
     record {
       pixels = λ h w. has_in_rows-push rows row h w ∙ (λ i. s.pixels h w i || (int_eq (e i) w && run h i)) ∙ one_more (between r.left h r.right) r.top v w t;
-      below = rw (map_push top_of rows row) (each_push (λ z. z <ℤ (v +ℤ pos 1)) (map top_of rows) row.0 (λ k m. let b = s.below k m in omega (arith, ints)) (omega (arith, ints)));
+      below = rw (map_push row_top rows row) (each_push (λ z. z <ℤ (v +ℤ pos 1)) (map row_top rows) row.0 (λ k m. let b = s.below k m in omega (arith, ints)) (omega (arith, ints)));
       rows_ok = record {
-        rising = rw (map_push top_of rows row) (IsRising-push (map top_of rows) (v -ℤ pos 1) row.0 s.rows_ok.rising (λ k m. let b = s.below k m in omega (arith, ints)) (omega (arith, ints)));
+        rising = rw (map_push row_top rows row) (IsRising-push (map row_top rows) (v -ℤ pos 1) row.0 s.rows_ok.rising (λ k m. let b = s.below k m in omega (arith, ints)) (omega (arith, ints)));
         each = All-push IsGoodRow rows row s.rows_ok.each good;
       };
     }

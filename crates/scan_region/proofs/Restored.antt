@@ -13,7 +13,7 @@ use Rattle.region_bytes.proofs.Rows.{above_first, canonical_tail, nil_has, diffe
 use Rattle.region_bytes.proofs.Written.{data_words-cons, closed_rows}
 use Rattle.region_bytes.proofs.Decoded.{same_data, columns_told, told_in_range, not_end}
 use Rattle.scan_region.specs.Edges.{differ, inside, IsRow, IsCoordinate}
-use Rattle.scan_region.specs.Rows.{EdgeRow, has_in_rows, top_of, with_row, AreRows, IsGoodRow, IsTop}
+use Rattle.scan_region.specs.Rows.{EdgeRow, has_in_rows, row_top, with_row, AreRows, IsGoodRow, IsTop}
 use Rattle.scan_region.specs.Restored.{IsRowData, IsMadeTo}
 use Rattle.scan_region.proofs.Combined.{IsRising-push, each_push}
 use Rattle.scan_region.proofs.Inverted.{no_row}
@@ -37,7 +37,7 @@ has-with_row rows v (x ∷ xs) h w = has_in_rows-push rows (v, x ∷ xs) h w
 -- below the rows that are made there is no pixel
 made_out : (t : ℤ → ℤ → Bool) (rows : List EdgeRow) (v : ℤ) → IsMadeTo t rows v → (h w : ℤ) → v ≤ℤ w → has_in_rows rows h w ≡ false
 made_out t rows v s h w l =
-    let len : length (map top_of rows) ≡ length rows = length-map rows top_of in
+    let len : length (map row_top rows) ≡ length rows = length-map rows row_top in
     no_row rows h w (λ k m e. let b = s.above k (omega arith) in omega (arith, ints))
 
 -- before any row is made
@@ -75,13 +75,13 @@ IsMadeTo-more t rows edges v s here top row =
     rows_ok : (edges : List ℤ) → IsRow edges → AreRows (with_row rows v edges)
     rows_ok [] row = s.are_rows
     rows_ok (x ∷ xs) row = record {
-      rising = rw (map_push top_of rows (v, x ∷ xs)) (IsRising-push (map top_of rows) (v -ℤ pos 1) v s.are_rows.rising (λ k m. let b = s.above k m in omega (arith, ints)) (omega (arith, ints)));
+      rising = rw (map_push row_top rows (v, x ∷ xs)) (IsRising-push (map row_top rows) (v -ℤ pos 1) v s.are_rows.rising (λ k m. let b = s.above k m in omega (arith, ints)) (omega (arith, ints)));
       each = All-push IsGoodRow rows (v, x ∷ xs) s.are_rows.each (top, row, omega arith);
     }
 
-    above_ok : (edges : List ℤ) → (k : ℕ) → k < length (map top_of (with_row rows v edges)) → get_or (map top_of (with_row rows v edges)) k (pos 0) <ℤ (v +ℤ pos 1)
+    above_ok : (edges : List ℤ) → (k : ℕ) → k < length (map row_top (with_row rows v edges)) → get_or (map row_top (with_row rows v edges)) k (pos 0) <ℤ (v +ℤ pos 1)
     above_ok [] = λ k m. let b = s.above k m in omega (arith, ints)
-    above_ok (x ∷ xs) = rw (map_push top_of rows (v, x ∷ xs)) (each_push (λ z. z <ℤ (v +ℤ pos 1)) (map top_of rows) v (λ k m. let b = s.above k m in omega (arith, ints)) (omega (arith, ints)))
+    above_ok (x ∷ xs) = rw (map_push row_top rows (v, x ∷ xs)) (each_push (λ z. z <ℤ (v +ℤ pos 1)) (map row_top rows) v (λ k m. let b = s.above k m in omega (arith, ints)) (omega (arith, ints)))
 
 -- ---- rows of points
 
@@ -153,9 +153,9 @@ next_from words rows last below row ahead given r n low made rest =
         are_rows = canonical_tail row ahead r;
         ahead_in = All-tail IsInRange row ahead n;
         lower = λ k d l.
-            let len : length (map top_of ahead) ≡ length ahead = length-map ahead top_of in
-            let up = rising_head row.0 (map top_of ahead) r.rising k (omega arith) in
-            let at = get_or-map top_of ahead k d (pos 0) l in
+            let len : length (map row_top ahead) ≡ length ahead = length-map ahead row_top in
+            let up = rising_head row.0 (map row_top ahead) r.rising k (omega arith) in
+            let at = get_or-map row_top ahead k d (pos 0) l in
             omega (arith, ints);
         ahead_left = refl;
         made = filled (in_rows given.points) made (λ h v l m. rest h v l ∙ ap (differ (inside last h)) (above_first row ahead h v r m) ∙ differ-false _);

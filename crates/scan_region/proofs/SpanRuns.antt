@@ -13,7 +13,7 @@ use Rattle.tb_geom.specs.declared.point.Point.{Point}
 use Rattle.tb_geom.specs.Rects.{between}
 use Rattle.tb_geom.specs.Pixels.{Pixels, pixels_where}
 use Rattle.scan_region.specs.Edges.{differ, inside, is_odd, IsRising}
-use Rattle.scan_region.specs.Rows.{EdgeRow, has_in_rows, top_of, AreRows, IsGoodRow}
+use Rattle.scan_region.specs.Rows.{EdgeRow, has_in_rows, row_top, AreRows, IsGoodRow}
 use Rattle.scan_region.specs.Runs.{runs_of, all_runs}
 use Rattle.scan_region.specs.Scan.{span_holds, IsScan, IsRun, Precedes}
 use Rattle.scan_region.specs.declared.spans.Span.{Span}
@@ -110,7 +110,7 @@ runs-all_runs (row ∷ rows) all =
     (runs-all_runs rows (All-tail IsGoodRow row rows all))
 
 -- the spans of rows below the row w lie below it
-below-all_runs : (w : ℤ) (rows : List EdgeRow) → All IsGoodRow rows → ((k : ℕ) → k < length (map top_of rows) → w <ℤ get_or (map top_of rows) k (pos 0)) → All (λ s. w <ℤ s.v) (all_runs rows)
+below-all_runs : (w : ℤ) (rows : List EdgeRow) → All IsGoodRow rows → ((k : ℕ) → k < length (map row_top rows) → w <ℤ get_or (map row_top rows) k (pos 0)) → All (λ s. w <ℤ s.v) (all_runs rows)
 unfolding all_runs
 below-all_runs w [] all f = All-nil (λ s. w <ℤ s.v)
 below-all_runs w (row ∷ rows) all f =
@@ -132,13 +132,13 @@ order-runs_of w (a ∷ b ∷ es) rest r below o =
     (All-weaker (λ s. w <ℤ s.v) (Precedes span) (λ s f. inl f) _ below))
     (order-runs_of w es rest (rising_tail b es (rising_tail a (b ∷ es) r)) below o)
 
-order-all_runs : (rows : List EdgeRow) → All IsGoodRow rows → IsRising (map top_of rows) → AllPairs Precedes (all_runs rows)
+order-all_runs : (rows : List EdgeRow) → All IsGoodRow rows → IsRising (map row_top rows) → AllPairs Precedes (all_runs rows)
 unfolding all_runs
 order-all_runs [] all r = λ i j d m n. absurd (omega arith)
 order-all_runs (row ∷ rows) all r =
     order-runs_of row.0 row.1 (all_runs rows) (All-head IsGoodRow row rows all).1.rising
     (below-all_runs row.0 rows (All-tail IsGoodRow row rows all) (λ k n. r.rises 0 (suc k) (omega arith) (omega arith)))
-    (order-all_runs rows (All-tail IsGoodRow row rows all) (rising_tail row.0 (map top_of rows) r))
+    (order-all_runs rows (All-tail IsGoodRow row rows all) (rising_tail row.0 (map row_top rows) r))
 
 -- the spans of the rows of a region are those of its pixels
 pub IsScan-all_runs : (rows : List EdgeRow) (s : Pixels) → pixels_where (has_in_rows rows) ≡ s → AreRows rows → IsScan (all_runs rows) s

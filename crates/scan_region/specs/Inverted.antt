@@ -6,7 +6,7 @@ use Rattle.region_bytes.specs.Words.{data_words}
 use Rattle.region_bytes.specs.Writing.{IsWritten, AreWritten}
 use Rattle.region_bytes.specs.declared.writing.RegionWriter.{RegionWriter}
 use Rattle.scan_region.specs.Edges.{differ, inside, IsRow}
-use Rattle.scan_region.specs.Rows.{EdgeRow, has_in_rows, top_of, with_row}
+use Rattle.scan_region.specs.Rows.{EdgeRow, has_in_rows, row_top, with_row}
 
 -- the columns are those at which two rows come to differ or to be the same
 pub record IsChange (columns last now : List ℤ) : Type 0 where
@@ -29,7 +29,7 @@ pub record IsTurned (out : RegionWriter) (rows : List PointRow) (v : ℤ) (last 
 pub record IsInverted (target : ℤ → ℤ → Bool) (rows : List PointRow) (last : List ℤ) (upto : ℤ) : Type 0 where
   pub are_rows : ArePointRows rows
   pub in_range : All IsInRange rows
-  pub below : (k : ℕ) → k < length (map top_of rows) → slice_index_or (map top_of rows) k (pos 0) ≤ℤ upto
+  pub below : (k : ℕ) → k < length (map row_top rows) → slice_index_or (map row_top rows) k (pos 0) ≤ℤ upto
   pub left : (h v : ℤ) → upto ≤ℤ v → in_rows rows h v ≡ inside last h
   pub so_far : (h v : ℤ) → v ≤ℤ upto → in_rows rows h v ≡ target h v
 

@@ -18,8 +18,8 @@ with_row rows v [] = rows
 with_row rows v (x ∷ xs) = rows ++ (v, x ∷ xs) ∷ []
 
 -- the place of a row
-abbrev pub top_of : EdgeRow → ℤ
-top_of row = row.0
+abbrev pub row_top : EdgeRow → ℤ
+row_top row = row.0
 
 -- the number lies in -16384..16382: a row here has its lower side in range too
 abbrev pub IsTop : ℤ → Type 0
@@ -31,5 +31,5 @@ IsGoodRow row = IsTop row.0 × IsRow row.1 × (0 < length row.1)
 
 -- the rows of a region rise, and each is in range and has pixels
 pub record AreRows (rows : List EdgeRow) : Type 0 where
-  pub rising : IsRising (map top_of rows)
+  pub rising : IsRising (map row_top rows)
   pub each : All IsGoodRow rows

@@ -1,9 +1,9 @@
 -- How far a region has been read.
 use Rattle.std.specs.Prelude.{◌≡◌, ℕ, ◌<◌, ◌≤◌, false, List, map, length, take, slice_index_or, ℤ, pos, ◌<ℤ◌}
-use Rattle.scan_region.specs.Rows.{EdgeRow, has_in_rows, top_of}
+use Rattle.scan_region.specs.Rows.{EdgeRow, has_in_rows, row_top}
 
 -- the rows before `next` are those up to the row x
 pub record RowsAt (rows : List EdgeRow) (next : ℕ) (x : ℤ) : Type 0 where
   pub within : next ≤ length rows
   pub seen : (h v : ℤ) → x <ℤ v → has_in_rows (take next rows) h v ≡ false
-  pub ahead : next < length rows → x <ℤ slice_index_or (map top_of rows) next (pos 0)
+  pub ahead : next < length rows → x <ℤ slice_index_or (map row_top rows) next (pos 0)

@@ -1,6 +1,6 @@
 //! The row kernel: the pixels that an operator keeps of two rows.
 ghost use Rattle.std.specs.Prelude.{◌≡◌, ℕ, ◌+◌, ◌<◌, ◌≤◌, ◌&&◌, length, IfSome, IfNone, IfOk, ℤ, pos, ◌<ℤ◌, ◌≤ℤ◌, slice_index_or, take, ◌⊎◌};
-ghost use Rattle.scan_region.specs.Cursor.{IsAt};
+ghost use Rattle.scan_region.specs.Cursor.{IsCursorAt};
 ghost use Rattle.scan_region.specs.Edges.{applied, inside, is_odd, IsRising, IsRow};
 
 use std::alloc::{AllocError, Global};
@@ -49,7 +49,7 @@ pub fn past(edges: &[i32], at: Cursor, h: i32) -> Cursor
     requires within { at.next ≤ length edges.now }
     requires least { at.next < length edges.now → h ≤ℤ slice_index_or edges.now at.next (pos 0) }
     ensures within { result.next ≤ length edges.now }
-    ensures at { (x : ℤ) → IsAt edges.now at x → x <ℤ h → IsAt edges.now result h }
+    ensures at { (x : ℤ) → IsCursorAt edges.now at x → x <ℤ h → IsCursorAt edges.now result h }
     ensures before { (k : ℤ) → k <ℤ h
         → inside (take result.next edges.now) k ≡ inside (take at.next edges.now) k }
     ensures on { at.next ≤ result.next }

@@ -2,7 +2,7 @@
 ghost use Rattle.std.specs.Prelude.{◌≡◌, ◌⊎◌, ℕ, ◌+◌, ◌<◌, ◌≤◌, ◌||◌, ◌&&◌, length, map, take, ℤ, pos, ◌<ℤ◌, ◌≤ℤ◌, slice_index_or, IfSome, IfNone, IfOk, OnOk};
 ghost use Rattle.std.specs.Ordering.{int_eq};
 ghost use Rattle.scan_region.specs.Edges.{inside, IsRow, applied};
-ghost use Rattle.scan_region.specs.Rows.{has_in_rows, top_of, with_row, AreRows, IsTop};
+ghost use Rattle.scan_region.specs.Rows.{has_in_rows, row_top, with_row, AreRows, IsTop};
 ghost use Rattle.scan_region.specs.RowsAt.{RowsAt};
 
 use crate::kernel::{Operator, combine_rows};
@@ -20,13 +20,13 @@ struct RowRead<'a> {
 fn read_row<'a>(rows: &'a [Row], next: usize, v: i32) -> RowRead<'a>
     requires rows { AreRows rows.now }
     requires within { next ≤ length rows.now }
-    requires least { next < length rows.now → v ≤ℤ slice_index_or (map top_of rows.now) next (pos 0) }
+    requires least { next < length rows.now → v ≤ℤ slice_index_or (map row_top rows.now) next (pos 0) }
     ensures row { IsRow result.edges.now }
     ensures pixels { (h w : ℤ) → has_in_rows (take result.next rows.now) h w
         ≡ (has_in_rows (take next rows.now) h w || (int_eq v w && inside result.edges.now h)) }
     ensures at { (x : ℤ) → RowsAt rows.now next x → x <ℤ v → RowsAt rows.now result.next v }
     ensures on { next ≤ result.next }
-    ensures hit { next < length rows.now → slice_index_or (map top_of rows.now) next (pos 0) ≡ v
+    ensures hit { next < length rows.now → slice_index_or (map row_top rows.now) next (pos 0) ≡ v
         → result.next ≡ next + 1 }
 {
     match rows.get(next) {
@@ -44,12 +44,12 @@ fn next_row(a: &[Row], i: usize, b: &[Row], j: usize) -> Option<i32>
     requires b_rows { AreRows b.now }
     ensures none { IfNone result ((length a.now ≤ i) × (length b.now ≤ j)) }
     ensures least_a { IfSome result (λ v.
-        i < length a.now → v ≤ℤ slice_index_or (map top_of a.now) i (pos 0)) }
+        i < length a.now → v ≤ℤ slice_index_or (map row_top a.now) i (pos 0)) }
     ensures least_b { IfSome result (λ v.
-        j < length b.now → v ≤ℤ slice_index_or (map top_of b.now) j (pos 0)) }
+        j < length b.now → v ≤ℤ slice_index_or (map row_top b.now) j (pos 0)) }
     ensures here { IfSome result (λ v.
-        ((i < length a.now) × (slice_index_or (map top_of a.now) i (pos 0) ≡ v))
-        ⊎ ((j < length b.now) × (slice_index_or (map top_of b.now) j (pos 0) ≡ v))) }
+        ((i < length a.now) × (slice_index_or (map row_top a.now) i (pos 0) ≡ v))
+        ⊎ ((j < length b.now) × (slice_index_or (map row_top b.now) j (pos 0) ≡ v))) }
     ensures in_range { IfSome result IsTop }
 {
     match (a.get(i), b.get(j)) {

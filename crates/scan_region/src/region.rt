@@ -70,6 +70,14 @@ impl Region {
         if !rect.is_in_range() {
             return Err(Refusal::OutOfRange);
         }
+        Ok(Region::from_rect_in_range(alloc, rect)?)
+    }
+
+    /// The pixels of a rectangle whose sides lie in -16384..=16383.
+    pub fn from_rect_in_range(alloc: Global, rect: Rect) -> Result<Region, AllocError>
+        requires { is_in_range rect ≡ true }
+        ensures { IfOk result (λ region. (p : Point) → holds region p ≡ rect_holds rect p) }
+    {
         let rows = rect_rows(alloc, rect)?;
         Ok(Region { rows })
     }
@@ -86,50 +94,45 @@ impl Region {
     }
 
     /// A region of the same pixels (*Inside Macintosh* I, "QuickDraw": `CopyRgn`), in the same
-    /// coordinate space. It refuses only for want of memory.
-    pub fn copy(&self, alloc: Global) -> Result<Region, Refusal>
-        ensures same { IfOk result (λ region. region ≡ self.now) }
-        ensures refused { IfErr result (λ e. e ≡ Refusal.NoMemory) }
+    /// coordinate space.
+    pub fn copy(&self, alloc: Global) -> Result<Region, AllocError>
+        ensures { IfOk result (λ region. region ≡ self.now) }
     {
         let rows = copy_rows(alloc, self.rows.as_slice())?;
         Ok(Region { rows })
     }
 
     /// The pixels of both regions.
-    pub fn sect(&self, alloc: Global, other: &Region) -> Result<Region, Refusal>
-        ensures pixels { IfOk result (λ region. (p : Point)
+    pub fn sect(&self, alloc: Global, other: &Region) -> Result<Region, AllocError>
+        ensures { IfOk result (λ region. (p : Point)
             → holds region p ≡ (holds self.now p && holds other.now p)) }
-        ensures refused { IfErr result (λ e. e ≡ Refusal.NoMemory) }
     {
-        Ok(self.combined(alloc, other, Operator::Intersection)?)
+        self.combined(alloc, other, Operator::Intersection)
     }
 
     /// The pixels of either region.
-    pub fn union(&self, alloc: Global, other: &Region) -> Result<Region, Refusal>
-        ensures pixels { IfOk result (λ region. (p : Point)
+    pub fn union(&self, alloc: Global, other: &Region) -> Result<Region, AllocError>
+        ensures { IfOk result (λ region. (p : Point)
             → holds region p ≡ (holds self.now p || holds other.now p)) }
-        ensures refused { IfErr result (λ e. e ≡ Refusal.NoMemory) }
     {
-        Ok(self.combined(alloc, other, Operator::Union)?)
+        self.combined(alloc, other, Operator::Union)
     }
 
     /// The pixels of this region that the other lacks.
-    pub fn diff(&self, alloc: Global, other: &Region) -> Result<Region, Refusal>
-        ensures pixels { IfOk result (λ region. (p : Point)
+    pub fn diff(&self, alloc: Global, other: &Region) -> Result<Region, AllocError>
+        ensures { IfOk result (λ region. (p : Point)
             → holds region p ≡ (holds self.now p && not (holds other.now p))) }
-        ensures refused { IfErr result (λ e. e ≡ Refusal.NoMemory) }
     {
-        Ok(self.combined(alloc, other, Operator::Difference)?)
+        self.combined(alloc, other, Operator::Difference)
     }
 
     /// The pixels of one of the two regions alone, in the coordinate space of both (*Inside Macintosh*
-    /// I, "QuickDraw": `XorRgn`). It refuses only for want of memory.
-    pub fn xor(&self, alloc: Global, other: &Region) -> Result<Region, Refusal>
-        ensures pixels { IfOk result (λ region. (p : Point)
+    /// I, "QuickDraw": `XorRgn`).
+    pub fn xor(&self, alloc: Global, other: &Region) -> Result<Region, AllocError>
+        ensures { IfOk result (λ region. (p : Point)
             → holds region p ≡ differ (holds self.now p) (holds other.now p)) }
-        ensures refused { IfErr result (λ e. e ≡ Refusal.NoMemory) }
     {
-        Ok(self.combined(alloc, other, Operator::SymmetricDifference)?)
+        self.combined(alloc, other, Operator::SymmetricDifference)
     }
 
     /// Moves the region `dh` columns to the right and `dv` rows down, taking no memory. OutOfRange,

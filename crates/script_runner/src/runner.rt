@@ -61,7 +61,7 @@ fn make_font(alloc: Global, asked: Option<&[u8]>) -> Result<Font, Refusal>
 {
     match asked {
         Some(bytes) => Font::from_bytes(alloc, bytes),
-        None => Font::built_in(alloc),
+        None => Ok(Font::built_in(alloc)?),
     }
 }
 

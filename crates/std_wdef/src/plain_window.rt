@@ -7,8 +7,8 @@ use bit_map::{Mode, Pattern};
 use def_iface::{Hit, Size, Stage, WindowChange, WindowDef, WindowRegions};
 use draw_port::Canvas;
 use scan_region::Region;
-use std::alloc::Global;
-use tb_geom::{Point, Rect, Refusal};
+use std::alloc::{AllocError, Global};
+use tb_geom::{Point, Rect};
 
 /// The definition of a plain window. Its content is the whole rectangle of its size, and its structure
 /// reaches one pixel further on every side.
@@ -64,9 +64,9 @@ impl WindowDef for PlainWindow {
         damage
     }
 
-    fn regions_for(&self, alloc: Global, size: Size) -> Result<WindowRegions, Refusal> {
-        let structure = Region::from_rect(alloc, plain_box(size))?;
-        let content = Region::from_rect(alloc, size.rect())?;
+    fn regions_for(&self, alloc: Global, size: Size) -> Result<WindowRegions, AllocError> {
+        let structure = Region::from_rect_in_range(alloc, plain_box(size))?;
+        let content = Region::from_rect_in_range(alloc, size.rect())?;
         Ok(WindowRegions { structure, content })
     }
 

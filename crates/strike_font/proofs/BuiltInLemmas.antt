@@ -1,10 +1,8 @@
 -- The built-in font's record, computed.
-use Rattle.std.proofs.Common.{◌≡◌, ◌⊎◌, ℕ, zero, suc, ◌+◌, ◌-◌, ◌*◌, ◌<◌, ◌≤◌, ℤ, pos, negsuc, ◌+ℤ◌, ◌-ℤ◌, Bool, true, false, not, ◌&&◌, if◌then◌else◌, nat_eq, nat_lt, List, slice_index, Result, Ok, Err, refl, ap, ◌∙◌, arith, inl, inr}
-use Rattle.std.specs.Prelude.{IfOk, IfErr, MatchResult, int_le}
+use Rattle.std.proofs.Common.{◌≡◌, ◌⊎◌, ℕ, zero, suc, ◌+◌, ◌-◌, ◌*◌, ◌<◌, ◌≤◌, ℤ, pos, negsuc, ◌+ℤ◌, ◌-ℤ◌, Bool, true, false, not, ◌&&◌, nat_eq, nat_lt, List, slice_index, refl, ap, arith, inl, inr}
+use Rattle.std.specs.Prelude.{int_le}
 use Rattle.std.proofs.lemmas.Bool.{cases_eq, cases_lt, lt-ltb}
 use Rattle.std.proofs.lemmas.Int.{ints}
-use Rattle.tb_geom.specs.declared.refusal.Refusal.{Refusal}
-use Rattle.tb_geom.specs.declared.refusal.Refusal.TheVariants.{NoMemory, BadFont}
 use Rattle.strike_font.specs.declared.built_in.TheConstants.{RECORD}
 use Rattle.strike_font.specs.Record.{is_font, word, first_char, last_char, last_symbol, strike_words, location, entry, good_fields, good_head, has_tables, good_tables, kern, ascent, descent, height, gap}
 use Rattle.strike_font.specs.Text.{image_bit, symbol_of, glyph_of, glyph_bit, glyph_pixel}
@@ -179,8 +177,3 @@ record_looks = record {
   wide = λ c. ap (λ g. g.width) (glyph-place RECORD record_is c);
   pixels = table-pixel RECORD record_is;
 }
-
--- what reading the record's bytes gives
-pub built_in_font : (r : Result (List ℕ) Refusal) → IfOk r (λ font. font ≡ RECORD) → IfErr r (λ e. e ≡ (if is_font RECORD then NoMemory else BadFont)) → MatchResult r IsBuiltIn (λ e. e ≡ NoMemory)
-built_in_font (Ok font) e f = rw e record_looks
-built_in_font (Err refusal) e f = f ∙ ap (λ b. if b then NoMemory else BadFont) record_accepted

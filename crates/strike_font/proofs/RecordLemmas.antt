@@ -5,7 +5,7 @@ use Rattle.std.proofs.lemmas.Int.{ints}
 use Rattle.std.proofs.lemmas.Nat.{mul-add-lt}
 use Rattle.std.specs.Prelude.{ℤ, pos, negsuc, ◌≤ℤ◌, ◌<ℤ◌}
 use Rattle.tb_geom.specs.Rects.{between}
-use Rattle.strike_font.specs.Record.{rising, location, is_font, entry, IsFont, has_tables, good_tables, good_head, good_fields, good_chars, is_within, is_font_type, has_head, last_symbol, row_words, height, ascent, descent, kern, strike_words, word}
+use Rattle.strike_font.specs.Record.{rising, location, is_font, entry, IsFont, has_tables, good_tables, good_head, good_fields, good_chars, is_within, is_font_type, has_head, last_symbol, words_of_row, height, ascent, descent, kern, strike_words, word}
 
 -- locations that fail to rise do so in any longer part too
 pub rising-false : (bs : List ℕ) (k n : ℕ) → k ≤ n → rising bs k ≡ false → rising bs n ≡ false
@@ -94,15 +94,15 @@ pub font_facts : (bs : List ℕ) → is_font bs ≡ true → IsFont bs
 unfolding is_font good_head good_fields has_tables good_tables
 font_facts bs e =
     let parts = four (has_head bs) (good_head bs) (has_tables bs) (good_tables bs) e in
-    let tables = three (rising bs (last_symbol bs + 1)) (nat_le (location bs (last_symbol bs + 1)) (16 * row_words bs)) (not (nat_eq (entry bs (last_symbol bs)) 65535)) parts.3 in
+    let tables = three (rising bs (last_symbol bs + 1)) (nat_le (location bs (last_symbol bs + 1)) (16 * words_of_row bs)) (not (nat_eq (entry bs (last_symbol bs)) 65535)) parts.3 in
     let head = three (is_font_type (word bs 0)) (good_chars bs) (good_fields bs) parts.1 in
-    let fields = six (is_within 1 (height bs) 127) (is_within 0 (ascent bs) 127) (is_within 0 (descent bs) 127) (between (negsuc 127) (kern bs) (pos 128)) (is_within 0 (row_words bs) 2047) (is_within 1 (word bs 8) 32767) head.2 in
+    let fields = six (is_within 1 (height bs) 127) (is_within 0 (ascent bs) 127) (is_within 0 (descent bs) 127) (between (negsuc 127) (kern bs) (pos 128)) (is_within 0 (words_of_row bs) 2047) (is_within 1 (word bs 8) 32767) head.2 in
     let room = both-le (2 * (strike_words bs + (last_symbol bs + 2))) (length bs) (2 * (8 + word bs 8 + (last_symbol bs + 2))) (length bs) parts.2 in
-    let last = le-true (location bs (last_symbol bs + 1)) (16 * row_words bs) tables.1 in
+    let last = le-true (location bs (last_symbol bs + 1)) (16 * words_of_row bs) tables.1 in
     let tall = within-high 1 (height bs) 127 fields.0 in
     let up = within-high 0 (ascent bs) 127 fields.1 in
     let down = within-high 0 (descent bs) 127 fields.2 in
-    let wide = within-high 0 (row_words bs) 2047 fields.4 in
+    let wide = within-high 0 (words_of_row bs) 2047 fields.4 in
     record {
       head = le-true 26 (length bs) parts.0;
       tables = record { locations_in = room.0; entries_in = room.1 };
@@ -118,7 +118,7 @@ font_facts bs e =
     }
 
 -- a byte of the image lies before the location table
-pub image-in : (bs : List ℕ) (w column row : ℕ) → IsFont bs → w ≡ word bs 12 → column < 16 * row_words bs → row < height bs → 26 + row * (2 * w) + column / 8 < length bs
+pub image-in : (bs : List ℕ) (w column row : ℕ) → IsFont bs → w ≡ word bs 12 → column < 16 * words_of_row bs → row < height bs → 26 + row * (2 * w) + column / 8 < length bs
 unfolding strike_words
 image-in bs w column row f e cin rin =
     let t : 2 * (13 + w * height bs + (last_symbol bs + 2)) ≤ length bs = rw e f.tables.locations_in in

@@ -42,8 +42,8 @@ ascent bs = word bs 9
 abbrev pub descent : List ℕ → ℕ
 descent bs = word bs 10
 
-abbrev pub row_words : List ℕ → ℕ
-row_words bs = word bs 12
+abbrev pub words_of_row : List ℕ → ℕ
+words_of_row bs = word bs 12
 
 -- the missing symbol, which comes after that of the last character
 unfoldable pub last_symbol : List ℕ → ℕ
@@ -51,7 +51,7 @@ last_symbol bs = gap (first_char bs) (last_char bs) + 1
 
 -- the words before the location table: the 13 of the head, and the bit image
 unfoldable pub strike_words : List ℕ → ℕ
-strike_words bs = 13 + row_words bs * height bs
+strike_words bs = 13 + words_of_row bs * height bs
 
 -- where a symbol's columns begin in the bit image, and so where those of the one before end
 unfoldable pub location : List ℕ → ℕ → ℕ
@@ -85,7 +85,7 @@ good_fields bs =
     && (is_within 0 (ascent bs) 127
     && (is_within 0 (descent bs) 127
     && (between (negsuc 127) (kern bs) (pos 128)
-    && (is_within 0 (row_words bs) 2047 && is_within 1 (word bs 8) 32767))))
+    && (is_within 0 (words_of_row bs) 2047 && is_within 1 (word bs 8) 32767))))
 
 -- all fields of the head that count
 unfoldable pub good_head : List ℕ → Bool
@@ -112,7 +112,7 @@ rising bs (suc n) = rising bs n && nat_le (location bs n) (location bs (suc n))
 unfoldable pub good_tables : List ℕ → Bool
 good_tables bs =
     rising bs (last_symbol bs + 1)
-    && (nat_le (location bs (last_symbol bs + 1)) (16 * row_words bs) && not (nat_eq (entry bs (last_symbol bs)) 65535))
+    && (nat_le (location bs (last_symbol bs + 1)) (16 * words_of_row bs) && not (nat_eq (entry bs (last_symbol bs)) 65535))
 
 -- whether bytes are a FONT record; those after its parts do not count
 unfoldable pub is_font : List ℕ → Bool
@@ -123,11 +123,11 @@ pub record IsFont (bs : List ℕ) : Type 0 where
   pub head : 26 ≤ length bs
   pub tables : HasTables bs
   pub rising : (s : ℕ) → s ≤ last_symbol bs → location bs s ≤ location bs (s + 1)
-  pub ends : (s : ℕ) → s ≤ last_symbol bs + 1 → location bs s ≤ 16 * row_words bs
+  pub ends : (s : ℕ) → s ≤ last_symbol bs + 1 → location bs s ≤ 16 * words_of_row bs
   pub height_low : 0 < height bs
   pub height_high : height bs < 128
   pub ascent_high : ascent bs < 128
   pub descent_high : descent bs < 128
   pub kern_low : negsuc 127 ≤ℤ kern bs
   pub kern_high : kern bs <ℤ pos 128
-  pub row_high : row_words bs < 2048
+  pub row_high : words_of_row bs < 2048

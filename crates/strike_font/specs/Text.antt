@@ -5,7 +5,7 @@ use Rattle.tb_geom.specs.declared.rect.Rect.{Rect}
 use Rattle.tb_geom.specs.Points.{PixelSet}
 use Rattle.bit_map.specs.Patterns.{bit_of}
 use Rattle.strike_font.specs.declared.glyph.Glyph.{Glyph}
-use Rattle.strike_font.specs.Record.{first_char, last_char, kern, height, ascent, row_words, last_symbol, location, entry, gap}
+use Rattle.strike_font.specs.Record.{first_char, last_char, kern, height, ascent, words_of_row, last_symbol, location, entry, gap}
 
 -- the symbol that a character is drawn by: its own, or the missing symbol where the font lacks it
 unfoldable pub symbol_of : List ℕ → ℕ → ℕ
@@ -28,7 +28,7 @@ text_width font (c ∷ cs) = (glyph_of font c).width + text_width font cs
 
 -- the bit of the image in a column and a row, of which each takes 2 * rowWords bytes, the high bit left
 unfoldable pub image_bit : List ℕ → ℕ → ℕ → Bool
-image_bit font column row = bit_of (slice_index font (26 + row * (2 * row_words font) + column / 8)) (column % 8)
+image_bit font column row = bit_of (slice_index font (26 + row * (2 * words_of_row font) + column / 8)) (column % 8)
 
 -- the bit of a glyph in a column and a row; it has none outside its own
 abbrev pub glyph_bit : List ℕ → Glyph → ℤ → ℤ → Bool

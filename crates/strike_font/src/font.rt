@@ -1,14 +1,14 @@
 //! Fonts.
-ghost use Rattle.std.specs.Prelude.{◌≡◌, true, IfOk, IfErr, IsTrue, ◌↔◌, ◌≤◌, ◌<◌, ◌≤ℤ◌, ◌<ℤ◌, pos, negsuc, ◌*◌, ◌+◌, length, MatchResult, if◌then◌else◌};
+ghost use Rattle.std.specs.Prelude.{◌≡◌, true, IfOk, IfErr, IsTrue, ◌↔◌, ◌≤◌, ◌<◌, ◌≤ℤ◌, ◌<ℤ◌, pos, negsuc, ◌*◌, ◌+◌, length, if◌then◌else◌};
 ghost use Rattle.strike_font.specs.BuiltIn.{IsBuiltIn};
-ghost use Rattle.strike_font.specs.Record.{is_font, row_words, height, ascent, descent, kern};
+ghost use Rattle.strike_font.specs.Record.{is_font, words_of_row, height, ascent, descent, kern};
 ghost use Rattle.strike_font.specs.Text.{glyph_of, text_width, text_holds, glyph_pixel, glyphs_pixel, glyph_rect, IsSized, IsTextPixel};
 
 use crate::built_in::RECORD;
 use crate::glyph::{self, Glyph};
 use crate::record::{is_font, signed, word};
 use crate::text;
-use std::alloc::Global;
+use std::alloc::{AllocError, Global};
 use std::marker::Model;
 use tb_geom::{Point, Rect, Refusal};
 
@@ -48,11 +48,12 @@ impl Font {
     }
 
     /// The font that is built in, for the characters 32 to 126: each is 6 pixels wide, with 5 columns
-    /// of 8 rows, of which 7 lie above the baseline. It refuses only for want of memory.
-    pub fn built_in(alloc: Global) -> Result<Font, Refusal>
-        ensures { MatchResult result IsBuiltIn (λ e. e ≡ Refusal.NoMemory) }
+    /// of 8 rows, of which 7 lie above the baseline.
+    pub fn built_in(alloc: Global) -> Result<Font, AllocError>
+        ensures { IfOk result IsBuiltIn }
     {
-        Font::from_bytes(alloc, &RECORD)
+        let bytes = RECORD.to_vec(alloc)?;
+        Ok(Font { bytes })
     }
 
     /// How many rows each glyph has, the field fRectHeight: 1..=127.
@@ -92,7 +93,7 @@ impl Font {
     /// lacks it.
     pub fn glyph(&self, character: u8) -> Glyph
         ensures value { result ≡ glyph_of self.now character }
-        ensures within { result.first + result.columns ≤ 16 * row_words self.now }
+        ensures within { result.first + result.columns ≤ 16 * words_of_row self.now }
     {
         glyph::glyph_of(&self.bytes, character)
     }
@@ -100,7 +101,7 @@ impl Font {
     /// Whether a glyph of this font has the pixel `x` columns right of the pen and `y` rows below the
     /// baseline. Either may be negative, and is at most 2^34 either way.
     pub fn glyph_pixel(&self, glyph: Glyph, x: i64, y: i64) -> bool
-        requires within { glyph.first + glyph.columns ≤ 16 * row_words self.now }
+        requires within { glyph.first + glyph.columns ≤ 16 * words_of_row self.now }
         requires x_near { IsSized 34 x }
         requires y_near { IsSized 34 y }
         ensures { result ≡ glyph_pixel self.now glyph x y }

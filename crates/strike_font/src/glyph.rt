@@ -1,6 +1,6 @@
 //! Glyphs.
 ghost use Rattle.std.specs.Prelude.{◌≡◌, ◌+◌, ◌*◌, ◌^◌, ◌<◌, ◌≤◌, pos, negsuc, ◌-ℤ◌, ◌+ℤ◌, ◌≤ℤ◌, ◌<ℤ◌};
-ghost use Rattle.strike_font.specs.Record.{IsFont, last_symbol, row_words, height};
+ghost use Rattle.strike_font.specs.Record.{IsFont, last_symbol, words_of_row, height};
 ghost use Rattle.strike_font.specs.Text.{symbol_of, glyph_at, glyph_of, image_bit, glyph_bit, glyph_pixel, glyph_rect, IsSized};
 
 use crate::record::{entry, first_char, gap, last_char, last_symbol, location, signed, word};
@@ -43,7 +43,7 @@ fn glyph_at(bytes: &[u8], symbol: usize) -> Glyph
     requires font { IsFont bytes.now }
     requires symbol { symbol ≤ last_symbol bytes.now }
     ensures value { result ≡ glyph_at bytes.now symbol }
-    ensures within { result.first + result.columns ≤ 16 * row_words bytes.now }
+    ensures within { result.first + result.columns ≤ 16 * words_of_row bytes.now }
 {
     let first = location(bytes, symbol);
     let entry = entry(bytes, symbol);
@@ -60,7 +60,7 @@ fn glyph_at(bytes: &[u8], symbol: usize) -> Glyph
 pub fn glyph_of(bytes: &[u8], character: u8) -> Glyph
     requires { IsFont bytes.now }
     ensures value { result ≡ glyph_of bytes.now character }
-    ensures within { result.first + result.columns ≤ 16 * row_words bytes.now }
+    ensures within { result.first + result.columns ≤ 16 * words_of_row bytes.now }
 {
     glyph_at(bytes, symbol_of(bytes, character))
 }
@@ -69,7 +69,7 @@ pub fn glyph_of(bytes: &[u8], character: u8) -> Glyph
 #[tactic(auto, unfolding(crate::specs::Text::image_bit))]
 fn image_bit(bytes: &[u8], column: usize, row: u16) -> bool
     requires font { IsFont bytes.now }
-    requires column_in { column < 16 * row_words bytes.now }
+    requires column_in { column < 16 * words_of_row bytes.now }
     requires row_in { row < height bytes.now }
     ensures { result ≡ image_bit bytes.now column row }
 {
@@ -83,7 +83,7 @@ fn image_bit(bytes: &[u8], column: usize, row: u16) -> bool
 /// The bit of a glyph; it has none outside its own columns and rows.
 fn glyph_bit(bytes: &[u8], glyph: Glyph, column: i64, row: i64) -> bool
     requires font { IsFont bytes.now }
-    requires within { glyph.first + glyph.columns ≤ 16 * row_words bytes.now }
+    requires within { glyph.first + glyph.columns ≤ 16 * words_of_row bytes.now }
     ensures { result ≡ glyph_bit bytes.now glyph column row }
 {
     if column < 0 || row < 0 {
@@ -114,7 +114,7 @@ fn row_of(y: i64, ascent: u16) -> i64
 /// Whether a glyph has the pixel `x` columns right of the pen and `y` rows below the baseline.
 pub fn glyph_pixel(bytes: &[u8], glyph: Glyph, x: i64, y: i64) -> bool
     requires font { IsFont bytes.now }
-    requires within { glyph.first + glyph.columns ≤ 16 * row_words bytes.now }
+    requires within { glyph.first + glyph.columns ≤ 16 * words_of_row bytes.now }
     requires x_near { IsSized 34 x }
     requires y_near { IsSized 34 y }
     ensures { result ≡ glyph_pixel bytes.now glyph x y }

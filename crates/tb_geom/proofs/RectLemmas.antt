@@ -7,7 +7,7 @@ use Rattle.std.proofs.lemmas.Int.{ints, clamps}
 use Rattle.tb_geom.specs.declared.point.Point.{Point}
 use Rattle.tb_geom.specs.declared.rect.Rect.{Rect}
 use Rattle.tb_geom.specs.Points.{minus}
-use Rattle.tb_geom.specs.Rects.{rect_holds, is_empty_rect, moved, between, shared_rect, rect_around}
+use Rattle.tb_geom.specs.Rects.{rect_holds, is_empty_rect, moved_rect, between, shared_rect, rect_around}
 
 -- no number lies between two that do not rise
 between-none : (low x high : ℤ) → high ≤ℤ low → between low x high ≡ false
@@ -104,7 +104,7 @@ is_around a r some holds =
     record { left = f.left; top = f.top; right = omega (arith, ints); bottom = omega (arith, ints) }
 
 -- the pixels of a moved rectangle are those of the rectangle, moved
-pub holds-moved : (r : Rect) (dh dv : ℤ) (p : Point) → rect_holds (moved r dh dv) p ≡ rect_holds r (minus p (record { h = dh; v = dv }))
+pub holds-moved : (r : Rect) (dh dv : ℤ) (p : Point) → rect_holds (moved_rect r dh dv) p ≡ rect_holds r (minus p (record { h = dh; v = dv }))
 holds-moved r dh dv p = λ i. one r.left r.right dh p.h i && one r.top r.bottom dv p.v i
   where
     one : (low high d x : ℤ) → between (low +ℤ d) x (high +ℤ d) ≡ between low (x -ℤ d) high

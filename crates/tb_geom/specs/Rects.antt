@@ -39,8 +39,8 @@ abbrev pub is_in_range : Rect → Bool
 is_in_range r = is_coordinate r.left && (is_coordinate r.top && (is_coordinate r.right && is_coordinate r.bottom))
 
 -- the rectangle moved by dh columns and dv rows
-abbrev pub moved : Rect → ℤ → ℤ → Rect
-moved r dh dv = record { left = r.left +ℤ dh; top = r.top +ℤ dv; right = r.right +ℤ dh; bottom = r.bottom +ℤ dv }
+abbrev pub moved_rect : Rect → ℤ → ℤ → Rect
+moved_rect r dh dv = record { left = r.left +ℤ dh; top = r.top +ℤ dv; right = r.right +ℤ dh; bottom = r.bottom +ℤ dv }
 
 -- the rectangle of the greater first sides and the smaller last ones
 abbrev pub shared_rect : Rect → Rect → Rect

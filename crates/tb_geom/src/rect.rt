@@ -3,7 +3,7 @@ ghost use Rattle.std.specs.Prelude.{◌≡◌, ◌↔◌, false, true, ◌&&◌,
 ghost use Rattle.tb_geom.specs.Points.{minus};
 ghost use Rattle.tb_geom.specs.declared.point.Point.{Point};
 ghost use Rattle.tb_geom.specs.declared.rect.Rect.{Rect};
-ghost use Rattle.tb_geom.specs.Rects.{IsBoxOf, between, rect_holds, is_in_range, is_coordinate, moved, is_empty_rect, empty_rect, shared_rect, rect_around};
+ghost use Rattle.tb_geom.specs.Rects.{IsBoxOf, between, rect_holds, is_in_range, is_coordinate, moved_rect, is_empty_rect, empty_rect, shared_rect, rect_around};
 
 use crate::{Point, Refusal};
 
@@ -42,10 +42,10 @@ impl Rect {
     /// The rectangle moved `dh` columns to the right and `dv` rows down. OutOfRange exactly where
     /// a side of the moved rectangle leaves -16384..=16383.
     pub fn offset(self, dh: i32, dv: i32) -> Result<Rect, Refusal>
-        ensures sides { IfOk result (λ r. r ≡ moved self dh dv) }
+        ensures sides { IfOk result (λ r. r ≡ moved_rect self dh dv) }
         ensures pixels { IfOk result (λ r. (p : Point)
             → rect_holds r p ≡ rect_holds self (minus p (record { h = dh; v = dv }))) }
-        ensures in_range { is_ok result ≡ is_in_range (moved self dh dv) }
+        ensures in_range { is_ok result ≡ is_in_range (moved_rect self dh dv) }
         ensures refused { IfErr result (λ e. e ≡ Refusal.OutOfRange) }
     {
         if self.stays_in_range(dh, dv) {
@@ -57,8 +57,8 @@ impl Rect {
 
     /// The rectangle moved `dh` columns and `dv` rows, which leaves all sides in range.
     fn moved(self, dh: i32, dv: i32) -> Rect
-        requires { is_in_range (moved self dh dv) ≡ true }
-        ensures { result ≡ moved self dh dv }
+        requires { is_in_range (moved_rect self dh dv) ≡ true }
+        ensures { result ≡ moved_rect self dh dv }
     {
         Rect {
             left: self.left + dh,
@@ -70,7 +70,7 @@ impl Rect {
 
     /// Whether the rectangle, moved `dh` columns and `dv` rows, has all sides in -16384..=16383.
     fn stays_in_range(self, dh: i32, dv: i32) -> bool
-        ensures { result ≡ is_in_range (moved self dh dv) }
+        ensures { result ≡ is_in_range (moved_rect self dh dv) }
     {
         stays_in_range(self.left, dh)
             && (stays_in_range(self.top, dv)

@@ -5,7 +5,7 @@ use Rattle.std.proofs.lemmas.Int.{ints}
 use Rattle.tb_geom.specs.declared.point.Point.{Point}
 use Rattle.tb_geom.specs.declared.rect.Rect.{Rect}
 use Rattle.tb_geom.specs.Points.{minus, plus}
-use Rattle.tb_geom.specs.Rects.{rect_holds, between, is_in_range, is_coordinate, in_plane, moved}
+use Rattle.tb_geom.specs.Rects.{rect_holds, between, is_in_range, is_coordinate, in_plane, moved_rect}
 use Rattle.tb_geom.specs.Pixels.{Pixels, holds}
 use Rattle.tb_geom.proofs.RectLemmas.{sides_of}
 use Rattle.scan_region.specs.Moves.{StaysInRange, LeavesRange, is_pixel_in_range}
@@ -23,7 +23,7 @@ one_side : (low high d x : ℤ) → is_coordinate (low +ℤ d) ≡ true → is_c
 one_side low high d x a b l m = grind (arith, ints)
 
 -- what lies in a rectangle that stays in range stays in range
-pub stays_with_box : (s : Pixels) (box : Rect) (d : Point) → ((p : Point) → holds s p ≡ true → rect_holds box p ≡ true) → is_in_range (moved box d.h d.v) ≡ true → StaysInRange s d
+pub stays_with_box : (s : Pixels) (box : Rect) (d : Point) → ((p : Point) → holds s p ≡ true → rect_holds box p ≡ true) → is_in_range (moved_rect box d.h d.v) ≡ true → StaysInRange s d
 stays_with_box s box d within fits = λ p e.
     let sides = sides_of box p (within p e) in
     let l = and_parts (is_coordinate (box.left +ℤ d.h)) _ fits in
@@ -36,7 +36,7 @@ pub record IsPlaced (d : Definition) (place : Point) (size : Size) : Type 0 wher
   pub place_in : in_plane place ≡ true
   pub size_in : is_size size ≡ true
   pub fits : is_fitting d size ≡ true
-  pub moved : is_in_range (moved (d.bounds size) place.h place.v) ≡ true
+  pub moved : is_in_range (moved_rect (d.bounds size) place.h place.v) ≡ true
 
 pub placed_parts : (d : Definition) (place : Point) (size : Size) → is_placed (Some d) place size ≡ true → IsPlaced d place size
 unfolding is_placed
@@ -47,7 +47,7 @@ placed_parts d place size e =
     record { place_in = a.0; size_in = b.0; fits = λ i. b.0 i && c.0 i; moved = c.1 }
 
 -- and what is enough for it
-pub placed_from : (d : Definition) (place : Point) (size : Size) → in_plane place ≡ true → is_fitting d size ≡ true → is_in_range (moved (d.bounds size) place.h place.v) ≡ true → is_placed (Some d) place size ≡ true
+pub placed_from : (d : Definition) (place : Point) (size : Size) → in_plane place ≡ true → is_fitting d size ≡ true → is_in_range (moved_rect (d.bounds size) place.h place.v) ≡ true → is_placed (Some d) place size ≡ true
 unfolding is_placed
 placed_from d place size here fits inside =
     let parts = and_parts (is_size size) _ fits in

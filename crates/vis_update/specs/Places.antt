@@ -4,7 +4,7 @@ use Rattle.tb_geom.specs.declared.point.Point.{Point}
 use Rattle.tb_geom.specs.declared.rect.Rect.{Rect}
 use Rattle.tb_geom.specs.Points.{minus}
 use Rattle.tb_geom.specs.Pixels.{holds}
-use Rattle.tb_geom.specs.Rects.{in_plane, is_in_range, moved}
+use Rattle.tb_geom.specs.Rects.{in_plane, is_in_range, moved_rect}
 use Rattle.def_iface.specs.declared.size.Size.{Size}
 use Rattle.def_iface.specs.declared.window_def.WindowRegions.{WindowRegions}
 use Rattle.def_iface.specs.Sizes.{is_size, rect_of}
@@ -21,7 +21,7 @@ judged_rect (Some d) size = d.bounds size
 unfoldable pub is_placed : Option Definition → Point → Size → Bool
 is_placed d place size =
     in_plane place
-    && (is_size size && (is_in_range (judged_rect d size) && is_in_range (moved (judged_rect d size) place.h place.v)))
+    && (is_size size && (is_in_range (judged_rect d size) && is_in_range (moved_rect (judged_rect d size) place.h place.v)))
 
 -- structure and content of a window with this definition and size, on the screen
 pub record IsRegionsAt (place : Point) (size : Size) (d : Definition) (r : WindowRegions) : Type 0 where

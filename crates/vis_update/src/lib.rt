@@ -16,6 +16,6 @@ mod plan;
 mod sweep;
 
 pub use area::Area;
-pub use place::{is_placed_alone, is_placed_with};
+pub use place::{is_placed_alone, is_placed_with, regions_of};
 pub use plan::{Part, Plan, Seat, Touch, seat_of};
 pub use sweep::plan_of;

@@ -1,22 +1,22 @@
 //! Where a window may be.
-ghost use Rattle.std.specs.Prelude.{◌≡◌, ◌&&◌, true, Some, None, IfOk, IfErr};
+ghost use Rattle.std.specs.Prelude.{◌≡◌, ◌&&◌, true, Some, None, IfOk};
 ghost use Rattle.tb_geom.specs.declared.point.Point.{Point};
 ghost use Rattle.tb_geom.specs.Points.{minus};
 ghost use Rattle.tb_geom.specs.Pixels.{holds};
-ghost use Rattle.tb_geom.specs.Rects.{is_in_range, moved, rect_holds};
+ghost use Rattle.tb_geom.specs.Rects.{is_in_range, moved_rect, rect_holds};
 ghost use Rattle.def_iface.specs.Meaning.{IsWithin};
 ghost use Rattle.scan_region.specs.Moves.{StaysInRange};
 ghost use Rattle.vis_update.specs.Places.{IsRegionsAt, is_placed};
 
 use def_iface::{Defined, Size, Taken, WindowRegions};
 use scan_region::Region;
-use std::alloc::Global;
-use tb_geom::{Point, Rect, Refusal};
+use std::alloc::{AllocError, Global};
+use tb_geom::{Point, Rect};
 
 /// Whether the rectangle, local to a window, and the one moved to the window's place have all sides
 /// in the range of coordinates.
 fn stays_in_range(judged: Rect, place: Point) -> bool
-    ensures { result ≡ (is_in_range judged && is_in_range (moved judged place.h place.v)) }
+    ensures { result ≡ (is_in_range judged && is_in_range (moved_rect judged place.h place.v)) }
 {
     judged.is_in_range() && judged.offset(place.h, place.v).is_ok()
 }
@@ -40,17 +40,15 @@ pub fn is_placed_alone(place: Point, size: Size) -> bool
     place.is_in_range() && (size.is_in_range() && stays_in_range(size.rect(), place))
 }
 
-/// Structure and content of a window with this place, size and definition, on the screen. NoMemory
-/// is the only refusal.
-pub(crate) fn regions_of(
+/// Structure and content of a window with this place, size and definition, on the screen.
+pub fn regions_of(
     alloc: Global,
     place: Point,
     size: Size,
     taken: &Taken,
-) -> Result<WindowRegions, Refusal>
+) -> Result<WindowRegions, AllocError>
     requires { is_placed (Some (⟦<Taken as Defined>⟧.loan taken.now).definition) place size ≡ true }
-    ensures regions { IfOk result (IsRegionsAt place size (⟦<Taken as Defined>⟧.loan taken.now).definition) }
-    ensures refused { IfErr result (λ e. e ≡ Refusal.NoMemory) }
+    ensures { IfOk result (IsRegionsAt place size (⟦<Taken as Defined>⟧.loan taken.now).definition) }
 {
     let mut regions = taken.regions_for(alloc, size)?;
     move_to(&mut regions.structure, place);

@@ -3,7 +3,7 @@
 //! It begins with the gray region. Each window in its turn takes what is left of its content and of its frame, and
 //! leaves what its structure does not cover. A pixel that its content had before, moved as far as the window's content
 //! moves, and that was drawn then, stays drawn; all else that it takes is to be drawn.
-ghost use Rattle.std.specs.Prelude.{◌≡◌, ◌&&◌, ◌||◌, not, is_some, ℕ, All, List, length, vec_len, IfOk, IfErr};
+ghost use Rattle.std.specs.Prelude.{◌≡◌, ◌&&◌, ◌||◌, not, is_some, ℕ, All, List, length, vec_len, IfOk};
 ghost use Rattle.tb_geom.specs.declared.point.Point.{Point};
 ghost use Rattle.tb_geom.specs.Points.{minus};
 ghost use Rattle.tb_geom.specs.Pixels.{holds};
@@ -19,8 +19,8 @@ use crate::place::regions_of;
 use crate::{Area, Part, Plan, Seat, Touch};
 use def_iface::{Defined, Taken, WindowRegions};
 use scan_region::Region;
-use std::alloc::Global;
-use tb_geom::{Point, Refusal};
+use std::alloc::{AllocError, Global};
+use tb_geom::Point;
 
 /// What a window takes of the screen, what of that is to be drawn, and what it leaves for those
 /// behind it.
@@ -32,14 +32,14 @@ struct Swept {
 }
 
 /// The plan for windows from front to back, on the screen whose gray region is given, and of which
-/// no window owned the desktop. NoMemory is the only refusal.
+/// no window owned the desktop.
 pub fn plan_of(
     alloc: Global,
     gray: &Region,
     desktop: &Region,
     seats: &[Seat<'_>],
     touch: Touch,
-) -> Result<Plan, Refusal>
+) -> Result<Plan, AllocError>
     requires placed { All (IsPlacedSeat ⟦<Taken as Defined>⟧.loan) seats.now }
     requires near { All IsNearSeat seats.now }
     requires near_gray { IsNear gray.now }
@@ -47,7 +47,6 @@ pub fn plan_of(
         → IsArranged ⟦<Taken as Defined>⟧.loan font before after windows gray.now seats.now
         → IsPlan touch before after desktop.now windows plan) }
     ensures length { IfOk result (λ plan. vec_len plan.parts ≡ length seats.now) }
-    ensures refused { IfErr result (λ e. e ≡ Refusal.NoMemory) }
 {
     let mut areas = Vec::with_capacity(alloc, seats.len())?;
     let mut parts = Vec::with_capacity(alloc, seats.len())?;
@@ -77,10 +76,9 @@ fn with_copied(
     area: &Area,
     part: &Part,
     by: Option<Point>,
-) -> Result<Region, Refusal>
-    ensures pixels { IfOk result (λ region. (p : Point) → holds region p
+) -> Result<Region, AllocError>
+    ensures { IfOk result (λ region. (p : Point) → holds region p
         ≡ (holds copied p || (is_some by && (holds area.now.visible p && not (holds part.now.erase p))))) }
-    ensures refused { IfErr result (λ e. e ≡ Refusal.NoMemory) }
 {
     match by {
         Some(_) => copied.union(alloc, &area.visible.diff(alloc, &part.erase)?),
@@ -94,12 +92,11 @@ fn carried(
     region: &Region,
     by: Option<Point>,
     within: &Region,
-) -> Result<Region, Refusal>
+) -> Result<Region, AllocError>
     requires near { IsNear region.now }
     requires within { IsNear within.now }
-    ensures pixels { IfOk result (λ moved. (p : Point) → holds moved p
+    ensures { IfOk result (λ moved. (p : Point) → holds moved p
         ≡ (holds within.now p && holds region.now (came_from by p))) }
-    ensures refused { IfErr result (λ e. e ≡ Refusal.NoMemory) }
 {
     match by {
         Some(by) => carried_by(alloc, region, by, within),
@@ -108,12 +105,11 @@ fn carried(
 }
 
 /// The pixels of `within` that the region has so far away.
-fn carried_by(alloc: Global, region: &Region, by: Point, within: &Region) -> Result<Region, Refusal>
+fn carried_by(alloc: Global, region: &Region, by: Point, within: &Region) -> Result<Region, AllocError>
     requires near { IsNear region.now }
     requires within { IsNear within.now }
-    ensures pixels { IfOk result (λ moved. (p : Point) → holds moved p
+    ensures { IfOk result (λ moved. (p : Point) → holds moved p
         ≡ (holds within.now p && holds region.now (minus p by))) }
-    ensures refused { IfErr result (λ e. e ≡ Refusal.NoMemory) }
 {
     let mut moved = region.copy(alloc)?;
     match moved.offset(by.h, by.v) {
@@ -123,10 +119,9 @@ fn carried_by(alloc: Global, region: &Region, by: Point, within: &Region) -> Res
 }
 
 /// What of a frame is drawn: all of it, or what was not the frame's before.
-fn redraw_of(alloc: Global, frame: &Region, before: &Region, whole: bool) -> Result<Region, Refusal>
-    ensures pixels { IfOk result (λ redraw. (p : Point) → holds redraw p
+fn redraw_of(alloc: Global, frame: &Region, before: &Region, whole: bool) -> Result<Region, AllocError>
+    ensures { IfOk result (λ redraw. (p : Point) → holds redraw p
         ≡ (holds frame.now p && (whole || not (holds before.now p)))) }
-    ensures refused { IfErr result (λ e. e ≡ Refusal.NoMemory) }
 {
     if whole {
         frame.copy(alloc)
@@ -137,13 +132,12 @@ fn redraw_of(alloc: Global, frame: &Region, before: &Region, whole: bool) -> Res
 
 impl Seat<'_> {
     /// What the window takes of the rest of the screen, and what it leaves.
-    fn sweep(&self, alloc: Global, rest: &Region, touch: Touch) -> Result<Swept, Refusal>
+    fn sweep(&self, alloc: Global, rest: &Region, touch: Touch) -> Result<Swept, AllocError>
         requires placed { IsPlacedSeat ⟦<Taken as Defined>⟧.loan self.now }
         requires near { IsNearSeat self.now }
         requires near_rest { IsNear rest.now }
-        ensures swept { IfOk result (λ s. IsSwept ⟦<Taken as Defined>⟧.loan touch (holds rest.now) self.now
+        ensures { IfOk result (λ s. IsSwept ⟦<Taken as Defined>⟧.loan touch (holds rest.now) self.now
             s.area s.part (holds s.left)) }
-        ensures refused { IfErr result (λ e. e ≡ Refusal.NoMemory) }
     {
         if !self.shown {
             return Ok(Swept {

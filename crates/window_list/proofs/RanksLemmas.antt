@@ -7,7 +7,7 @@ use Rattle.std.proofs.lemmas.Option.{get_or_from_slice_get}
 use Rattle.std.proofs.lemmas.List.Sums.{sum_by-set}
 use Rattle.slab.specs.Slab.{Slab, get, slab_len, with_value}
 use Rattle.slab.proofs.SlabLemmas.{ContainsKey-within, Updates-with_value}
-use Rattle.window_list.specs.Ranks.{Ranked, Misses, insert_option, moved, items_of, AreKeys, IsRanked}
+use Rattle.window_list.specs.Ranks.{Ranked, Misses, insert_option, moved_item, items_of, AreKeys, IsRanked}
 use Rattle.window_list.specs.declared.ranks.Ranks.TheInside.{Inside}
 
 -- what holds of each value holds of one that is there
@@ -132,10 +132,10 @@ module _ {T : Type 0} where
   keys_moved s ks i j k e within its =
       AreKeys-insert s (remove ks i) j k (ap (λ n. is_some (get s n)) e ∙ value_at s ks i k within its) (subst (λ n. Misses n (remove ks i)) (sym e) (removed_misses s ks i k within its)) (AreKeys-remove s ks i its)
 
-  pub items_moved : (s : Slab T) (ks : List ℕ) (i j k : ℕ) → k ≡ get_or ks i k → i < length ks → AreKeys s ks → items_of s (insert (remove ks i) j k) ≡ moved (items_of s ks) i j
+  pub items_moved : (s : Slab T) (ks : List ℕ) (i j k : ℕ) → k ≡ get_or ks i k → i < length ks → AreKeys s ks → items_of s (insert (remove ks i) j k) ≡ moved_item (items_of s ks) i j
   items_moved s ks i j k e within its = by_value (get s k) refl (ap (λ n. is_some (get s n)) e ∙ value_at s ks i k within its)
     where
-      by_value : (o : Option T) → get s k ≡ o → IsSome o → items_of s (insert (remove ks i) j k) ≡ moved (items_of s ks) i j
+      by_value : (o : Option T) → get s k ≡ o → IsSome o → items_of s (insert (remove ks i) j k) ≡ moved_item (items_of s ks) i j
       by_value None f h = absurd (false≢true h)
       by_value (Some x) f h =
           items-insert s (remove ks i) j k x f (AreKeys-remove s ks i its)

@@ -20,8 +20,8 @@ module _ {T : Type 0} where
   insert_option xs j (Some x) = insert xs j x
 
   -- the list whose i-th element was taken out and put in at the place j
-  abbrev pub moved : List T → ℕ → ℕ → List T
-  moved xs i j = insert_option (remove xs i) j (slice_get xs i)
+  abbrev pub moved_item : List T → ℕ → ℕ → List T
+  moved_item xs i j = insert_option (remove xs i) j (slice_get xs i)
 
   -- the values under these keys
   abbrev pub items_of : Slab T → List ℕ → List T

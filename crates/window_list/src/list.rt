@@ -3,13 +3,13 @@ ghost use Rattle.std.specs.Prelude.{◌≡◌, true, ◌<◌, nat_lt, ◌==◌, 
 ghost use Rattle.std.specs.List.{remove};
 ghost use Rattle.std.specs.Option.{option_map};
 ghost use Rattle.def_iface.specs.Meaning.{is_fitting};
-ghost use Rattle.window_list.specs.Ranks.{moved};
+ghost use Rattle.window_list.specs.Ranks.{moved_item};
 ghost use Rattle.window_list.specs.Lists.{is_numbered, first_shown, dimmed, relit, number_after, map_ranked, edit_at, IsLastBox, with_stand, with_highlighted, with_title, with_operation, IsDisposedAt, IsResizedAt};
 
 use crate::{Ranks, Title, Window};
 use def_iface::{Defined, Size, Stage, Taken, WindowChange};
 use draw_port::Op;
-use std::alloc::Global;
+use std::alloc::{AllocError, Global};
 use tb_geom::{Point, Refusal};
 
 /// Windows from front to back.
@@ -91,14 +91,12 @@ impl WindowList {
     }
 
     /// Makes room for one window more.
-    pub fn reserve(&mut self) -> Result<(), Refusal>
+    pub fn reserve(&mut self) -> Result<(), AllocError>
         ensures items { self.new.records.items ≡ self.old.records.items }
         ensures room { OnOk result (length self.new.records.items < self.new.records.capacity) }
-        ensures refused { IfErr result (λ e. e ≡ Refusal.NoMemory) }
         ensures others { self.new ≡ record self.old { records = self.new.records } }
     {
-        self.records.reserve()?;
-        Ok(())
+        self.records.reserve()
     }
 
     /// Puts a new window in front of all others, where there is room. A visible one becomes the
@@ -148,7 +146,7 @@ impl WindowList {
     pub fn move_to(&mut self, from: usize, to: usize)
         requires from { from < length self.old.records.items }
         requires to { to < length self.old.records.items }
-        ensures items { self.new.records.items ≡ moved self.old.records.items from to }
+        ensures items { self.new.records.items ≡ moved_item self.old.records.items from to }
         ensures others { self.new ≡ record self.old { records = self.new.records } }
     {
         self.records.place(from, to);

@@ -2,7 +2,7 @@
 ghost use Rattle.std.specs.Prelude.{◌≡◌, ◌<◌, ◌≤◌, [], ◌∷◌, length, slice_index_or, OnOk};
 ghost use Rattle.std.specs.List.{insert, remove};
 ghost use Rattle.std.specs.Borrow.{sem};
-ghost use Rattle.window_list.specs.Ranks.{moved};
+ghost use Rattle.window_list.specs.Ranks.{moved_item};
 
 use slab::Slab;
 use std::alloc::{AllocError, Global};
@@ -94,7 +94,7 @@ impl<T> Ranks<T> {
     pub fn place(&mut self, from: usize, to: usize)
         requires from { from < length self.old.items }
         requires to { to < length self.old.items }
-        ensures items { self.new.items ≡ moved self.old.items from to }
+        ensures items { self.new.items ≡ moved_item self.old.items from to }
         ensures capacity { self.new.capacity ≡ self.old.capacity }
     {
         let key = self.order.remove(from);

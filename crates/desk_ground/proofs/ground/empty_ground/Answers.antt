@@ -11,4 +11,4 @@ returns-clause-painted c =
     let sides = simp to_z-of_z at c.in_ok-screen.ensures.sides in
     let pixels = simp to_z-of_z at c.in_ok-gray.ensures.pixels in
     let painted = simp to_z-of_z at c.paint_empty.ensures in
-    is_ground c.args.width c.args.height c.args.bar c.in_ok-screen.screen _ _ c.in_ok-desktop.desktop c.in_ok-desktop.ensures.same sides c.in_ok-screen.ensures.white painted pixels
+    is_ground c.args.width c.args.height c.args.bar c.in_ok-screen.screen _ _ c.in_ok-desktop.desktop c.in_ok-desktop.ensures sides c.in_ok-screen.ensures.white painted pixels

@@ -2,7 +2,7 @@ use Rattle.std.proofs.Common.{rules, sym, ap, ◌∙◌, to_z, of_z, w32}
 use Rattle.std.proofs.lemmas.Int.{to_z-of_z}
 use Rattle.std.proofs.lemmas.List.Sorted.{answers_always}
 use Rattle.scan_region.specs.Edges.{inside}
-use Rattle.scan_region.specs.Rows.{top_of}
+use Rattle.scan_region.specs.Rows.{row_top}
 use Rattle.scan_region.proofs.FoundRow.{row_searched, none_searched}
 use Rattle.scan_region.proofs.contains.rows_contain.Goals as goal
 
@@ -10,7 +10,7 @@ pub returns-in-Ok : goal.returns-in-Ok
 returns-in-Ok c =
     let fits_h = c.ranges.h in
     let fits_v = c.ranges.v in
-    let by_place = c.in-Ok.ensures.position top_of (answers_always _ _ _ (λ f a r g called. search rules)) in
+    let by_place = c.in-Ok.ensures.position row_top (answers_always _ _ _ (λ f a r g called. search rules)) in
     let row = c.index-rows-at.result in
     let found = simp to_z-of_z at (row_searched c.args.rows.now c.args.h (to_z w32 (of_z w32 c.args.v)) c.in-Ok.at row c.requires c.in-Ok.ensures.bound by_place) in
     simp (c.is_inside.ensures, c.edges.ensures, to_z-of_z) (sym (found ∙ ap (λ r. inside r.1 c.args.h) (sym c.index-rows-at.is)))
@@ -18,6 +18,6 @@ returns-in-Ok c =
 pub returns-in-Err : goal.returns-in-Err
 returns-in-Err c =
     let fits_v = c.ranges.v in
-    let by_place = c.in-Err.ensures.position top_of (answers_always _ _ _ (λ f a r g called. search rules)) in
+    let by_place = c.in-Err.ensures.position row_top (answers_always _ _ _ (λ f a r g called. search rules)) in
     let none = simp to_z-of_z at (none_searched c.args.rows.now c.args.h (to_z w32 (of_z w32 c.args.v)) c.in-Err.field-0 c.requires by_place) in
     sym none

@@ -2,7 +2,7 @@ use Rattle.std.proofs.Common.{rules, arith, ◌≡◌, ◌||◌, ◌&&◌, take,
 use Rattle.std.specs.Ordering.{int_eq}
 use Rattle.std.proofs.lemmas.Int.{ints}
 use Rattle.scan_region.specs.Edges.{inside, IsRow}
-use Rattle.scan_region.specs.Rows.{has_in_rows, top_of, IsGoodRow}
+use Rattle.scan_region.specs.Rows.{has_in_rows, row_top, IsGoodRow}
 use Rattle.scan_region.proofs.Merged.{none_inside_nil, has_in_rows-more, RowsAt-hit, RowsAt-miss, top_read}
 use Rattle.scan_region.proofs.merge.read_row.Goals as goal
 use Rattle.scan_region.proofs.merge.read_row.Goals.{in_default-via-in-Some+else-v, in_default-via-in_default}
@@ -40,7 +40,7 @@ pub returns-in_default-clause-at : goal.returns-in_default-clause-at
 returns-in_default-clause-at c = λ x s l. elim c.in_default.branch [
   | in_default-via-in-Some+else-v w ↦
       let found = w.in-Some.ensures.lookup in
-      let top : get_or (map top_of c.args.rows.now) c.args.next (pos 0) ≡ w.in-Some.row.now.0 = top_read c.args.rows.now c.args.next w.in-Some.row.now found.3.0 found.1 in
+      let top : get_or (map row_top c.args.rows.now) c.args.next (pos 0) ≡ w.in-Some.row.now.0 = top_read c.args.rows.now c.args.next w.in-Some.row.now found.3.0 found.1 in
       let apart : w.v.result ≡ c.args.v → ⊥ = λ e. w.if-v.false (ap (of_z w32) e) in
       RowsAt-miss c.args.rows.now c.args.next x c.args.v s l (λ m. omega (arith, ints, c.requires.least m, w.v.ensures))
   | in_default-via-in_default w ↦ RowsAt-miss c.args.rows.now c.args.next x c.args.v s l (λ m. absurd (search rules))

@@ -3,9 +3,9 @@ use Rattle.std.proofs.lemmas.Int.{to_z-of_z}
 use Rattle.vis_update.proofs.PlaceLemmas.{none_arrive}
 use Rattle.vis_update.proofs.sweep.carried_by.Goals as goal
 
-pub returns-clause-pixels : goal.returns-clause-pixels
-returns-clause-pixels c =
+pub returns : goal.returns
+returns c =
     let fits_h : SFits w32 c.args.by.h = search rules in
     let fits_v : SFits w32 c.args.by.v = search rules in
     let refused = simp to_z-of_z at c.in-Err.ensures.refused in
-    none_arrive c.args.within.now c.args.region.now c.in_ok-moved.moved c.empty.result c.args.by c.requires.within c.requires.near c.in_ok-moved.ensures.same refused.1 c.empty.ensures
+    none_arrive c.args.within.now c.args.region.now c.in_ok-moved.moved c.empty.result c.args.by c.requires.within c.requires.near c.in_ok-moved.ensures refused.1 c.empty.ensures

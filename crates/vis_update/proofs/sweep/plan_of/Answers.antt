@@ -15,8 +15,8 @@ sweep-requires-clause-near g c =
 pub loop-seat-preserved : goal.loop-seat-preserved
 loop-seat-preserved g c = record {
   empty = c.loop-seat.invariant.empty;
-  swept = swept_more _ c.args.touch (holds c.args.gray.now) _ (holds c.loop-seat.rest) (holds c.loop-seat.copied) c.args.seats.now c.loop-seat.areas.items _ c.loop-seat.parts.items _ c.loop-seat.seat-index c.seat-item.result c.in_ok-area.field-0.area c.in_ok-area.field-0.part (holds c.in_ok-area.field-0.left) _ (search rules) (search rules) c.seat-item.is (search rules) c.loop-seat.invariant.swept c.in_ok-area.ensures.swept (rw c.way_of.ensures at c.in_ok-copied.ensures.pixels);
-  near = left_near c.loop-seat.rest c.in_ok-area.field-0.left _ c.loop-seat.invariant.near c.in_ok-area.ensures.swept.leaves;
+  swept = swept_more _ c.args.touch (holds c.args.gray.now) _ (holds c.loop-seat.rest) (holds c.loop-seat.copied) c.args.seats.now c.loop-seat.areas.items _ c.loop-seat.parts.items _ c.loop-seat.seat-index c.seat-item.result c.in_ok-area.field-0.area c.in_ok-area.field-0.part (holds c.in_ok-area.field-0.left) _ (search rules) (search rules) c.seat-item.is (search rules) c.loop-seat.invariant.swept c.in_ok-area.ensures (rw c.way_of.ensures at c.in_ok-copied.ensures);
+  near = left_near c.loop-seat.rest c.in_ok-area.field-0.left _ c.loop-seat.invariant.near c.in_ok-area.ensures.leaves;
   made = search rules;
   made_parts = search rules;
   room = search rules;
@@ -25,4 +25,4 @@ loop-seat-preserved g c = record {
 
 pub returns-clause-plan : goal.returns-clause-plan
 returns-clause-plan g c font before after windows arranged =
-    swept_plan _ c.args.touch font before after windows c.args.gray.now c.args.desktop.now c.loop-seat.rest c.in_ok-uncovered.uncovered c.loop-seat.copied _ c.args.seats.now c.loop-seat.areas c.loop-seat.parts c.loop-seat.seat-index arranged (search rules) c.loop-seat.invariant.empty c.loop-seat.invariant.swept c.in_ok-uncovered.ensures.pixels
+    swept_plan _ c.args.touch font before after windows c.args.gray.now c.args.desktop.now c.loop-seat.rest c.in_ok-uncovered.uncovered c.loop-seat.copied _ c.args.seats.now c.loop-seat.areas c.loop-seat.parts c.loop-seat.seat-index arranged (search rules) c.loop-seat.invariant.empty c.loop-seat.invariant.swept c.in_ok-uncovered.ensures

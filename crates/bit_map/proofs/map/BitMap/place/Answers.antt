@@ -1,6 +1,6 @@
 use Rattle.std.proofs.Common.{◌≡◌, SFits, w32, rules, arith, ◌+◌, ◌*◌, nat_abs}
 use Rattle.std.proofs.lemmas.Int.{ints}
-use Rattle.bit_map.specs.Bits.{IsWhole}
+use Rattle.bit_map.specs.Bits.{IsWholeMap}
 use Rattle.bit_map.proofs.BitsLemmas.{on_map-sides, place_in}
 use Rattle.bit_map.proofs.map.BitMap.place.Goals as goal
 
@@ -18,6 +18,6 @@ natural-requires-2 c =
 
 pub returns-clause-within : goal.returns-clause-within
 returns-clause-within c =
-    let whole : IsWhole c.args.self.now.width c.args.self.now.height c.args.self.now.black = rw (← c.self.view_is) c.self.invariant in
+    let whole : IsWholeMap c.args.self.now.width c.args.self.now.height c.args.self.now.black = rw (← c.self.view_is) c.self.invariant in
     let place : c.natural.result * c.from.result + c.natural-2.result ≡ nat_abs c.args.point.v * c.args.self.now.width + nat_abs c.args.point.h = search rules in
     rw place (place_in c.args.self.now c.args.point whole (on_map-sides c.args.self.now c.args.point c.requires))
