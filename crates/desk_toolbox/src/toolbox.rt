@@ -1,5 +1,5 @@
 //! A Toolbox, and its calls one by one and in a row.
-ghost use Rattle.std.specs.Prelude.{◌≡◌, true, if◌then◌else◌, List, All, IfOk, IfErr};
+ghost use Rattle.std.specs.Prelude.{◌≡◌, true, if◌then◌else◌, List, All, IfOk, IfErr, OnErr};
 ghost use Rattle.def_iface.specs.Stocked.{SlotView, IsFull};
 ghost use Rattle.window_mgr.specs.Begin.{IsEmptyDesk};
 ghost use Rattle.window_mgr.specs.Closing.{IsClosed};
@@ -13,7 +13,7 @@ ghost use Rattle.desk_toolbox.specs.Run.{IsStep, IsRunOfCalls};
 use crate::{Call, Reply};
 use bit_map::BitMap;
 use def_iface::{Defined, Stock, Stocked, Taken};
-use std::alloc::Global;
+use std::alloc::{AllocError, Global};
 use strike_font::Font;
 use tb_geom::Refusal;
 use window_list::{Ranks, WindowList};
@@ -58,6 +58,13 @@ impl Toolbox {
         self.windows.screen()
     }
 
+    /// The manager of its windows, to be read.
+    pub fn windows(&self) -> &WindowManager
+        ensures { result.now ≡ self.now.windows }
+    {
+        &self.windows
+    }
+
     /// Makes one call, and gives its answer. A refused call changes nothing; which refusal comes
     /// first where several would do stands with the call.
     pub fn call(&mut self, call: &Call<'_>, stock: &mut Stock) -> Result<Reply, Refusal>
@@ -89,19 +96,19 @@ impl Toolbox {
     }
 
     /// Makes the calls one after another, and gives their answers in the same order. Memory for the
-    /// answers is taken first: refused, the answer is NoMemory and no call was made.
+    /// answers is taken first: where there is none, no call was made.
     pub fn run(
         &mut self,
         calls: &[Call<'_>],
         stock: &mut Stock,
-    ) -> Result<Vec<Result<Reply, Refusal>>, Refusal>
+    ) -> Result<Vec<Result<Reply, Refusal>>, AllocError>
         requires { IsWholeManager ⟦<Taken as Defined>⟧.loan self.old.windows (⟦<Stock as Stocked>⟧.slots stock.old) }
         ensures whole { IsWholeManager ⟦<Taken as Defined>⟧.loan self.new.windows (⟦<Stock as Stocked>⟧.slots stock.new) }
         ensures run { IfOk result (λ answers. IsRunOfCalls
             (state_of ⟦<Taken as Defined>⟧.loan self.old.windows (⟦<Stock as Stocked>⟧.slots stock.old))
             calls.now answers.items
             (state_of ⟦<Taken as Defined>⟧.loan self.new.windows (⟦<Stock as Stocked>⟧.slots stock.new))) }
-        ensures refused { IfErr result (λ e. (e ≡ Refusal.NoMemory) × IsUnchanged
+        ensures kept { OnErr result (IsUnchanged
             (state_of ⟦<Taken as Defined>⟧.loan self.old.windows (⟦<Stock as Stocked>⟧.slots stock.old))
             (state_of ⟦<Taken as Defined>⟧.loan self.new.windows (⟦<Stock as Stocked>⟧.slots stock.new))) }
         ensures right { IsRightState (state_of ⟦<Taken as Defined>⟧.loan self.old.windows (⟦<Stock as Stocked>⟧.slots stock.old))

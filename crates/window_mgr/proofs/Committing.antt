@@ -34,7 +34,7 @@ use Rattle.vis_update.proofs.Others.{not_content, not_same_frame}
 
 module _ (font : List ℕ) (t : Touch) (before : plain.State) (after : LayeredDesk) (p : Point) where
   -- a part whose window has not the pixel changes nothing
-  part_elsewhere : (w : WindowRecord) (part : Part) (value : Bool) → IsPart t before after w.serial part → is_other w.serial (owner after p) ≡ true → painted_part font w part p value ≡ value
+  part_elsewhere : (w : WindowRecord) (part : Part) (value : Bool) → IsPart t before after w.serial part → is_other w.serial (owner after p) ≡ true → painted_part font w.definition w.place part p value ≡ value
   part_elsewhere w part value its other =
       (λ i. if (its.redraw p ∙ ap (λ b. (layers.on_screen after p && b) && (draws_whole t w.serial || not (layers.on_screen before.desk p && same_owner (owner before.desk p) (Frame w.serial)))) (not_same_frame w.serial (owner after p) other)) i then w.definition.picture font (minus p w.place)
       else (if (its.erase p ∙ ap (λ b. (layers.on_screen after p && b) && not (plain.had (change_of t) before.desk (owner after p) p)) (not_content w.serial (owner after p) other)) i then false else value))
@@ -69,7 +69,7 @@ module _ (font : List ℕ) (t : Touch) (before : plain.State) (after : LayeredDe
     pub part : Part
     pub is : layered_window font window ≡ found
     pub its : IsPart t before after s part
-    pub tells : painted_parts font ws parts p value ≡ painted_part font window part p value
+    pub tells : painted_parts font ws parts p value ≡ painted_part font window.definition window.place part p value
 
   pub alone : (s : ℕ) (found : layers.LayeredWindow) (ws : List WindowRecord) (parts : List Part) (value : Bool) → ((n : ℕ) → (n == s) ≡ false → is_other n (owner after p) ≡ true) → ArePlanParts t before after ws parts → layers.AreWindows (map (layered_window font) ws) → layers.window_of s (map (layered_window font) ws) ≡ Some found → IsAlone s found ws parts value
   alone s found [] [] value of its distinct e = absurd (cc)
@@ -83,7 +83,7 @@ module _ (font : List ℕ) (t : Touch) (before : plain.State) (after : LayeredDe
             part = part;
             is = cc;
             its = subst (λ n. IsPart t before after n part) serial its.0;
-            tells = parts_elsewhere ws parts (painted_part font w part p value) its.1 (apart_from s ws of (subst (λ n. layers.window_of n (map (layered_window font) ws) ≡ None) serial distinct.0));
+            tells = parts_elsewhere ws parts (painted_part font w.definition w.place part p value) its.1 (apart_from s ws of (subst (λ n. layers.window_of n (map (layered_window font) ws) ≡ None) serial distinct.0));
           }
       by_test behind false away f =
           let rest = behind f in

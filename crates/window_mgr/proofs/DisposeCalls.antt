@@ -21,7 +21,7 @@ use Rattle.window_mgr.specs.declared.arrange.Activates.TheVariants.{FrontInItsPl
 use Rattle.window_mgr.specs.declared.arrange.Activation.{Activation}
 use Rattle.window_mgr.specs.declared.manager.WindowManager.{WindowManager}
 use Rattle.window_mgr.specs.FullDesk.{FullDesk, layered_state}
-use Rattle.window_mgr.specs.Arrange.{desk_activated, desk_arranged, without}
+use Rattle.window_mgr.specs.Arrange.{also_of, desk_activated, desk_arranged, without}
 use Rattle.window_mgr.specs.Closing.{IsShut}
 use Rattle.window_mgr.specs.Commits.{IsPlanDrawn}
 use Rattle.window_mgr.specs.Edits.{IsWindowAt, relit_all}
@@ -81,7 +81,7 @@ module _ {V : Type 0} {H : V → Type 0} (loan : Taken V H → Loan) where
     pub low : at < length t.windows.records.items
     pub serial : (w : Window V H) → IsWindowAt t.windows.records.items at w → w.serial ≡ s
     pub becomes : IsActivationWithout loan at s t activation
-    pub planned : IsPlanWithout loan at s t plan
+    pub planned : IsPlanWithout loan at s activation t plan
     pub off : IsTakenOff loan at activation plan taken t new
     pub shut : IsShut (loan taken) slots now
 
@@ -102,7 +102,7 @@ module _ {V : Type 0} {H : V → Type 0} (loan : Taken V H → Loan) where
     after = left (desk_of loan t slots) s at (record_of loan w) rest one activation now
 
     abbrev touch : Touch
-    touch = record { window = s; also = N.planned.0; by = None }
+    touch = record { window = s; also = also_of activation s t.windows.active; by = None }
 
     shut : IsShut (loan w.taken) slots now
     shut = subst (λ (x : Taken V H). IsShut (loan x) slots now) N.off.its N.shut
@@ -126,7 +126,7 @@ module _ {V : Type 0} {H : V → Type 0} (loan : Taken V H → Loan) where
       screen = refl;
       sound = sound_left (desk_of loan t slots) s at (record_of loan w) rest one activation now N.whole.sound shut;
       frames = λ n p quiet. ap (λ o. frame_bit o p) (others_found (desk_of loan t slots) s at (record_of loan w) rest one activation now N.whole.sound.distinct n (turned n s (first_is (n == s) (is_this touch.also n) quiet)));
-      planned = N.planned.1 after desk_without;
+      planned = N.planned after desk_without;
       drawn = drawn;
       desk_is = λ i. record {
         width = pos (drawn.width i);
@@ -146,9 +146,6 @@ module _ {V : Type 0} {H : V → Type 0} (loan : Taken V H → Loan) where
         first_is : (x y : Bool) → (x || y) ≡ false → x ≡ false
         first_is true y f = f
         first_is false y f = refl
-
-    pub dispose_is_whole : IsWholeManager loan new now
-    dispose_is_whole = arranged_is_whole loan touch t new slots now after plan dispose_arranged
 
     closed : IsWindowDisposed s (state_of loan t slots) (state_of loan new now)
     closed = record {
@@ -174,6 +171,9 @@ module _ {V : Type 0} {H : V → Type 0} (loan : Taken V H → Loan) where
             ap (λ a. record (desk_activated rest a (desk_of loan t slots)) { stock = now }) N.becomes
             ∙ ap (λ ws. record (desk_arranged ws FrontInItsPlace s (desk_of loan t slots)) { stock = now }) (sym rest_is)
 
-    -- the call made its step
-    pub dispose_step : IsWindowStep (Dispose s) (Ok Done) (state_of loan t slots) (state_of loan new now)
-    dispose_step = (not_missing loan t new slots N.whole at s w N.low N.off.there serial, (refl, closed))
+    -- it is whole after the call, which made its step
+    pub dispose_done : IsWholeManager loan new now × IsWindowStep (Dispose s) (Ok Done) (state_of loan t slots) (state_of loan new now)
+    dispose_done = (
+      arranged_is_whole loan touch t new slots now after plan dispose_arranged,
+      (not_missing loan t new slots N.whole at s w N.low N.off.there serial, (refl, closed)),
+    )

@@ -19,7 +19,7 @@ use Rattle.bit_blit.proofs.DrawsLemmas.{Draws-same}
 use Rattle.draw_port.specs.declared.shapes.Op.{Op}
 use Rattle.draw_port.specs.Cuts.{cut_holds}
 use Rattle.draw_port.specs.Ops.{op_value}
-use Rattle.draw_port.specs.Origins.{is_near}
+use Rattle.draw_port.specs.Origins.{is_near_origin}
 use Rattle.op_ref.specs.OpRefs.{IsMeant}
 use Rattle.def_iface.specs.declared.taken.Taken.{Taken}
 use Rattle.def_iface.specs.Meaning.{Loan}
@@ -42,7 +42,7 @@ use Rattle.window_mgr.proofs.PaintLemmas.{cut_holds-one}
 sum_is_near : (a b : ℤ) → is_coordinate a ≡ true → is_coordinate b ≡ true → between (negsuc 999999999) (a +ℤ b) (pos 1000000000) ≡ true
 sum_is_near a b e f = grind (arith, ints)
 
-pub plus_is_near : (p q : Point) → in_plane p ≡ true → in_plane q ≡ true → is_near (plus p q) ≡ true
+pub plus_is_near : (p q : Point) → in_plane p ≡ true → in_plane q ≡ true → is_near_origin (plus p q) ≡ true
 plus_is_near p q e f =
     let a = and_parts (is_coordinate p.h) (is_coordinate p.v) e in
     let b = and_parts (is_coordinate q.h) (is_coordinate q.v) f in
@@ -51,7 +51,7 @@ plus_is_near p q e f =
 minus_sum : (x a b : ℤ) → x -ℤ (a +ℤ b) ≡ (x -ℤ a) -ℤ b
 minus_sum x a b = omega (arith, ints)
 
-minus_twice : (p place origin : Point) → minus p (plus place origin) ≡ minus (minus p place) origin
+pub minus_twice : (p place origin : Point) → minus p (plus place origin) ≡ minus (minus p place) origin
 minus_twice p place origin = λ i. record { h = minus_sum p.h place.h origin.h i; v = minus_sum p.v place.v origin.v i }
 
 -- ---- an operation that was drawn on all of a region

@@ -1,5 +1,5 @@
 -- The step of an operation that is drawn.
-use Rattle.std.proofs.Common.{◌≡◌, inr, ℕ, zero, suc, ◌==◌, ◌&&◌, ◌||◌, Bool, true, false, not, if◌then◌else◌, List, [], ◌∷◌, ◌++◌, length, map, set, None, Some, pos, refl, sym, ap, ◌∙◌, subst, arith}
+use Rattle.std.proofs.Common.{◌≡◌, inr, ℕ, zero, suc, ◌==◌, ◌&&◌, ◌||◌, Bool, true, false, not, if◌then◌else◌, List, [], ◌∷◌, ◌++◌, length, map, set, None, Some, Ok, Err, pos, refl, sym, ap, ◌∙◌, subst, arith}
 use Rattle.std.specs.Prelude.{slice_get, IsSomeAnd}
 use Rattle.std.specs.Option.{option_map}
 use Rattle.std.proofs.lemmas.List.{length-map}
@@ -26,6 +26,7 @@ use Rattle.def_iface.proofs.Owning.{same_number, same_owner-self, not_first}
 use Rattle.def_iface.proofs.Painting.{scratch_is_owners}
 use Rattle.desk_call.specs.declared.window.Drawing.{Drawing}
 use Rattle.desk_call.specs.declared.window.WindowCall.TheVariants.{Draw}
+use Rattle.desk_call.specs.declared.window.WindowReply.TheVariants.{Done}
 use Rattle.window_mgr.specs.declared.manager.WindowManager.{WindowManager}
 use Rattle.vis_update.specs.declared.area.Area.{Area}
 use Rattle.window_list.specs.declared.window.Window.{Window}
@@ -36,8 +37,8 @@ use Rattle.window_mgr.specs.Planned.{SameDesk, MayDraw, IsDrawnAt}
 use Rattle.vis_update.specs.Records.{record_of}
 use Rattle.window_mgr.specs.Records.{desk_of, state_of}
 use Rattle.vis_update.specs.Areas.{stale_in}
-use Rattle.window_mgr.specs.Effects.{IsDrawn, IsUnchanged, with_drawn, draw_change}
-use Rattle.window_mgr.specs.Step.{IsCallRefused}
+use Rattle.window_mgr.specs.AnySlots.{IsStepOverAnySlots}
+use Rattle.window_mgr.specs.Effects.{IsDrawn, with_drawn, draw_change}
 use Rattle.window_mgr.specs.Whole.{IsWholeManager, IsSoundDesk, IsSettled}
 use Rattle.vis_update.specs.Areas.{IsGray, IsDesktop, IsArea, AreAreas, is_content_of}
 use Rattle.window_mgr.proofs.DrawnLayers as drawn
@@ -47,7 +48,7 @@ use Rattle.window_mgr.proofs.FindLemmas.{area_at, not_among}
 use Rattle.window_mgr.proofs.KeptLemmas.{kept}
 use Rattle.window_mgr.proofs.Arranged.{between-is_below}
 use Rattle.window_mgr.proofs.Running.{drawn_serial}
-use Rattle.window_mgr.proofs.SameDeskLemmas.{stays_unchanged}
+use Rattle.window_mgr.proofs.SameDeskLemmas.{stays_refused}
 
 -- ---- owners that are content or not
 
@@ -220,7 +221,7 @@ module _ {V : Type 0} {H : V → Type 0} (loan : Taken V H → Loan) (t new : Wi
         (λ p on. image_is p on ∙ ap (λ o. plain.image_by change (layered_state (state_of loan t slots)) (layered_desk after) o p) (sym (owner_same p)));
   }
 
-  pub is_drawn : IsDrawn d (state_of loan t slots) (state_of loan new slots)
+  is_drawn : IsDrawn d (state_of loan t slots) (state_of loan new slots)
   is_drawn = record {
     window = record_of loan D.window;
     operation = D.operation;
@@ -272,7 +273,7 @@ module _ {V : Type 0} {H : V → Type 0} (loan : Taken V H → Loan) (t new : Wi
   areas_same [] (a ∷ areas) its = absurd its
   areas_same (w ∷ ws) [] its = absurd its
 
-  pub is_whole : IsWholeManager loan new slots
+  is_whole : IsWholeManager loan new slots
   is_whole = record {
     sound = subst IsSoundDesk (sym desk_is) sound_after;
     gray = subst (λ (x : FullDesk × Pixels). IsGray (layered_desk x.0) x.1) (λ i. (sym desk_is i, sym D.gray i)) whole.gray;
@@ -282,8 +283,14 @@ module _ {V : Type 0} {H : V → Type 0} (loan : Taken V H → Loan) (t new : Wi
         (λ p on e. plain_is p on (ap is_content (sym (owner_same p)) ∙ e) ∙ ap (λ o. own_bit (layered_desk after) o p) (sym (owner_same p)));
   }
 
--- ---- the call that was refused for want of memory
+-- ---- the call, where nothing but want of memory can refuse it
 
-module _ {V : Type 0} {H : V → Type 0} (loan : Taken V H → Loan) (t u : WindowManager V H) (slots : List SlotView) (d : Drawing) (at : ℕ) (whole : IsWholeManager loan t slots) (may : MayDraw d t at) (same : SameDesk t u) where
-  pub no_memory : IsCallRefused (Draw d) NoMemory (state_of loan t slots) × IsUnchanged (state_of loan t slots) (state_of loan u slots)
-  no_memory = (inr (unrefused loan t (kept loan t slots whole) d at may, (refl, refl)), stays_unchanged loan t u slots slots same refl)
+module _ {V : Type 0} {H : V → Type 0} (loan : Taken V H → Loan) (t u : WindowManager V H) (d : Drawing) (at : ℕ) (may : MayDraw d t at) where
+  pub draws : IsDrawnAt at d t u → IsStepOverAnySlots loan (Draw d) (Ok Done) t u
+  draws drawn slots whole = (
+    is_whole loan t u slots d at whole may drawn,
+    (unrefused loan t (kept loan t slots whole) d at may, (refl, is_drawn loan t u slots d at whole may drawn)),
+  )
+
+  pub no_memory : SameDesk t u → IsStepOverAnySlots loan (Draw d) (Err NoMemory) t u
+  no_memory same = stays_refused loan t u same (Draw d) NoMemory (λ slots whole. inr (unrefused loan t (kept loan t slots whole) d at may, (refl, refl)))

@@ -1,5 +1,5 @@
 -- What a call that puts one window anew leaves.
-use Rattle.std.proofs.Common.{◌≡◌, ℕ, ◌<◌, ◌==◌, ◌||◌, Bool, true, false, if◌then◌else◌, List, [], ◌∷◌, length, map, Option, None, Some, pos, refl, sym, ap, ◌∙◌, subst}
+use Rattle.std.proofs.Common.{◌≡◌, ℕ, ◌<◌, ◌==◌, ◌||◌, Bool, true, false, if◌then◌else◌, List, [], ◌∷◌, length, map, Option, None, Some, Ok, pos, refl, sym, ap, ◌∙◌, subst}
 use Rattle.std.specs.Prelude.{All}
 use Rattle.std.specs.List.{insert, remove}
 use Rattle.std.proofs.lemmas.List.Elements.{All-head, All-tail}
@@ -18,15 +18,16 @@ use Rattle.vis_update.specs.Seats.{stand_of}
 use Rattle.vis_update.specs.Touches.{is_this, moving}
 use Rattle.def_iface.specs.Change.{IsChanged}
 use Rattle.vis_update.proofs.PlaceLemmas.{placed_parts}
+use Rattle.desk_call.specs.declared.window.WindowReply.TheVariants.{Done}
 use Rattle.window_mgr.specs.declared.arrange.Activates.{Activates}
 use Rattle.window_mgr.specs.declared.arrange.Activation.{Activation}
 use Rattle.window_mgr.specs.declared.arrange.Activation.TheVariants.{Stays, Becomes}
 use Rattle.window_mgr.specs.declared.arrange.Edit.{Edit}
 use Rattle.window_mgr.specs.declared.manager.WindowManager.{WindowManager}
 use Rattle.window_mgr.specs.FullDesk.{FullDesk, layered_state}
-use Rattle.window_mgr.specs.Arrange.{activated, desk_activated, highlighted}
+use Rattle.window_mgr.specs.Arrange.{activated, also_of, desk_activated, with_highlighting}
 use Rattle.window_mgr.specs.Commits.{IsPlanDrawn}
-use Rattle.window_mgr.specs.Edits.{put_record, put_window, records_put, relit_all, IsWindowAt, IsPlanOfEdit, IsDeskOfEdit, IsPlaceable, SameSize, IsActivation, AreSettledAfter, IsCommitted}
+use Rattle.window_mgr.specs.Edits.{put_record, put_window, records_put, relit_all, IsWindowAt, IsPlanOfEdit, IsDeskOfEdit, IsPlaceable, SameSize, IsActivation, AreSettledAfter, IsCommitted, IsRearranged}
 use Rattle.window_mgr.specs.Effects.{IsArrangement}
 use Rattle.window_mgr.specs.Records.{desk_of, state_of}
 use Rattle.window_mgr.specs.Whole.{IsWholeManager, IsSettled}
@@ -40,19 +41,19 @@ use Rattle.window_mgr.proofs.Arranged.{IsArrangedCall, is_left as arranged_is_le
 module _ {V : Type 0} {H : V → Type 0} (loan : Taken V H → Loan) where
   -- ---- the records of the code, after an activation
 
-  lit_record : (s : Option ℕ) (w : Window V H) → record_of loan (lit_window s w) ≡ highlighted s (record_of loan w)
+  lit_record : (s : Option ℕ) (w : Window V H) → record_of loan (lit_window s w) ≡ with_highlighting true s (record_of loan w)
   lit_record s w = by_window s
     where
       by_test : (b : Bool) → record_of loan (if b then record w { highlighted = true } else w) ≡ (if b then record (record_of loan w) { highlighted = true } else record_of loan w)
       by_test true = refl
       by_test false = refl
 
-      by_window : (k : Option ℕ) → record_of loan (lit_window k w) ≡ highlighted k (record_of loan w)
+      by_window : (k : Option ℕ) → record_of loan (lit_window k w) ≡ with_highlighting true k (record_of loan w)
       by_window None = refl
       by_window (Some k) = by_test (w.serial == k)
 
   relit_is : (former s : Option ℕ) (w : Window V H) → record_of loan (relit former s w) ≡ relit_record s former (record_of loan w)
-  relit_is former s w = lit_record s (dimmed former w) ∙ ap (highlighted s) (dimmed_record loan former w)
+  relit_is former s w = lit_record s (dimmed former w) ∙ ap (with_highlighting true s) (dimmed_record loan former w)
 
   pub relit_records : (a : Activation) (former : Option ℕ) (ws : List (Window V H)) → map (record_of loan) (relit_all a former ws) ≡ activated a former (map (record_of loan) ws)
   relit_records Stays former ws = refl
@@ -113,7 +114,7 @@ module _ {V : Type 0} {H : V → Type 0} (loan : Taken V H → Loan) where
     pub may : IsPlaceable loan e t.windows.records.items
     pub same : SameSize e t.windows.records.items
     pub becomes : IsActivation loan e activates t activation
-    pub planned : IsPlanOfEdit loan e by t plan
+    pub planned : IsPlanOfEdit loan e activation by t plan
     pub committed : IsCommitted loan e activation plan by t new
 
   module _ (e : Edit) (activates : Activates) (activation : Activation) (by : Option Point) (plan : Plan) (t new : WindowManager V H) (slots : List SlotView) (N : IsEditCall e activates activation by plan t new slots) where
@@ -130,7 +131,7 @@ module _ {V : Type 0} {H : V → Type 0} (loan : Taken V H → Loan) where
     edit = edit_is t slots e activation w w_is N.low
 
     abbrev touch : Touch
-    touch = record { window = w.serial; also = (N.planned w w_is).0; by = by }
+    touch = record { window = w.serial; also = also_of activation w.serial t.windows.active; by = by }
 
     windows_are : map (record_of loan) new.windows.records.items ≡ left.windows
     windows_are = ap (map (record_of loan)) N.committed.windows ∙ records_are t slots e activation w w_is N.low (N.same w w_is)
@@ -151,7 +152,7 @@ module _ {V : Type 0} {H : V → Type 0} (loan : Taken V H → Loan) where
       screen = refl;
       sound = sound_now (desk_of loan t slots) w.serial e.at e.to (record_of loan w) _ _ edit activation N.whole.sound refl (put_settled t slots e activation w w_is N.low N.may (N.same w w_is) N.whole.sound.settled);
       frames = λ n p quiet. ap (λ o. frame_bit o p) (others_found (desk_of loan t slots) w.serial e.at e.to (record_of loan w) _ _ edit activation N.whole.sound.distinct n (turned n w.serial (first_is (n == w.serial) (is_this touch.also n) quiet)));
-      planned = (N.planned w w_is).1 left deskof;
+      planned = N.planned w w_is left deskof;
       drawn = drawn;
       desk_is = λ i. record {
         width = pos (drawn.width i);
@@ -172,10 +173,7 @@ module _ {V : Type 0} {H : V → Type 0} (loan : Taken V H → Loan) where
         first_is true y f = f
         first_is false y f = refl
 
-    pub edit_is_whole : IsWholeManager loan new slots
-    edit_is_whole = arranged_is_whole loan touch t new slots slots left plan edit_arranged
-
-    pub edit_is_left : (v : Window V H) → IsWindowAt t.windows.records.items e.at v
+    edit_is_left : (v : Window V H) → IsWindowAt t.windows.records.items e.at v
         → IsArrangement (record { window = v.serial; by = by; windows = records_put loan e v t; activates = activates }) (state_of loan t slots) (state_of loan new slots)
     edit_is_left v v_is = subst (λ (x : Window V H). IsArrangement (record { window = x.serial; by = by; windows = records_put loan e x t; activates = activates }) (state_of loan t slots) (state_of loan new slots)) (same_at t.windows.records.items e.at w v N.low w_is v_is) (record {
       desk = left_is.0 ∙ after_is t slots e activation w w_is N.low ∙ ap (λ x. desk_activated (records_put loan e w t) x (desk_of loan t slots)) (N.becomes w w_is);
@@ -184,6 +182,10 @@ module _ {V : Type 0} {H : V → Type 0} (loan : Taken V H → Loan) where
       where
         left_is : (desk_of loan new slots ≡ left) × IsChanged (moving w.serial by) (layered_state (state_of loan t slots)) (layered_state (state_of loan new slots))
         left_is = arranged_is_left loan touch t new slots slots left plan edit_arranged
+
+    -- it is whole after the call, and this is what the call answers and leaves
+    pub edit_done : IsWholeManager loan new slots × IsRearranged loan e activates by (Ok Done) t new slots
+    edit_done = (arranged_is_whole loan touch t new slots slots left plan edit_arranged, (refl, edit_is_left))
 
   -- every window is settled, whichever stands at the place
   pub all_settled : (t : WindowManager V H) (slots : List SlotView) (e : Edit) (a : Activation) → IsWholeManager loan t slots → e.at < length t.windows.records.items → IsPlaceable loan e t.windows.records.items → SameSize e t.windows.records.items

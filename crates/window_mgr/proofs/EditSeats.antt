@@ -10,9 +10,8 @@ use Rattle.def_iface.specs.Meaning.{Loan}
 use Rattle.def_iface.specs.Desk.{LayeredDesk}
 use Rattle.def_iface.specs.Change.{State}
 use Rattle.window_list.specs.declared.window.Window.{Window}
-use Rattle.window_list.specs.Ranks.{insert_option, moved}
+use Rattle.window_list.specs.Ranks.{insert_option, moved_item}
 use Rattle.window_list.specs.Lists.{edit}
-use Rattle.vis_update.specs.declared.area.Area.{Area}
 use Rattle.vis_update.specs.declared.plan.Seat.{Seat}
 use Rattle.vis_update.specs.Records.{WindowRecord, record_of}
 use Rattle.vis_update.specs.Places.{is_placed}
@@ -25,12 +24,12 @@ use Rattle.window_mgr.specs.Edits.{put_record, records_put, IsWindowAt, AreSeats
 use Rattle.window_mgr.specs.Finding.{front_of}
 use Rattle.window_mgr.specs.Kept.{IsKept}
 use Rattle.window_mgr.specs.Records.{state_of}
-use Rattle.window_mgr.specs.Seats.{AreSeatsOf, first_seated}
+use Rattle.window_mgr.specs.Seats.{first_seated}
 use Rattle.window_mgr.specs.Whole.{IsSettled}
 use Rattle.window_mgr.proofs.PaintLemmas.{settled_in}
 use Rattle.vis_update.proofs.PlaceLemmas.{placed_from}
 use Rattle.window_mgr.proofs.PutIn.{put_in, put_is_insert, taken_out, All-out, All-put, map-put, put_permutes}
-use Rattle.window_mgr.proofs.Seating.{seat_at, seats_stand, seats_had, seats_placed, sides}
+use Rattle.window_mgr.proofs.Seating.{lengths_of, seat_at, seats_stand, seats_had, seats_placed, sides}
 use Rattle.vis_update.proofs.SeatLemmas.{seats_near}
 
 module _ {X Y : Type 0} (f : X → Y) where
@@ -70,7 +69,7 @@ edit_put f (suc i) x [] low = absurd (omega arith)
 edit_put f (suc i) x (y ∷ ys) low = ap (λ zs. y ∷ zs) (edit_put f i x ys (omega arith))
 
 -- an element that was moved to another place, and changed there, was put anew
-pub moved_anew : {X : Type 0} (f : X → X) (xs : List X) (i j : ℕ) (x : X) → i < length xs → j < length xs → x ≡ get_or xs i x → edit f j (moved xs i j) ≡ insert (remove xs i) j (f x)
+pub moved_anew : {X : Type 0} (f : X → X) (xs : List X) (i j : ℕ) (x : X) → i < length xs → j < length xs → x ≡ get_or xs i x → edit f j (moved_item xs i j) ≡ insert (remove xs i) j (f x)
 moved_anew f xs i j x low to x_is =
     let rest = length-put i x (remove xs i) in
     let all = ap length (taken_out xs i x low x_is) in
@@ -78,14 +77,6 @@ moved_anew f xs i j x low to x_is =
     ∙ ap (edit f j) (sym (put_is_insert j x (remove xs i)))
     ∙ edit_put f j x (remove xs i) (omega arith)
     ∙ put_is_insert j (f x) (remove xs i)
-
-pub lengths_of : {V : Type 0} {H : V → Type 0} (ws : List (Window V H)) (areas : List Area) (seats : List (Seat V H)) → AreSeatsOf ws areas seats → length seats ≡ length ws
-lengths_of [] [] [] its = refl
-lengths_of (w ∷ ws) (a ∷ areas) (s ∷ seats) its = ap suc (lengths_of ws areas seats its.1)
-lengths_of [] [] (s ∷ seats) its = absurd its
-lengths_of [] (a ∷ areas) seats its = absurd its
-lengths_of (w ∷ ws) [] seats its = absurd its
-lengths_of (w ∷ ws) (a ∷ areas) [] its = absurd its
 
 -- seats that stand as windows do have the same first visible one
 pub first_stand : {V : Type 0} {H : V → Type 0} (loan : Taken V H → Loan) (ss : List (Seat V H)) (ws : List WindowRecord) → map (seat_stand loan) ss ≡ map stand_of ws → first_seated ss ≡ front_of ws
@@ -118,7 +109,7 @@ module _ {V : Type 0} {H : V → Type 0} (loan : Taken V H → Loan) (t : Window
 
   had : All (λ (s : Seat V H). IsArea before.desk before.stale s.serial s.area.now) seats
   had =
-      let all = seats_had loan before t.windows.records.items t.areas.items S.all S.are kept.areas in
+      let all = seats_had loan before t.windows.records.items t.areas.items S.all S.are kept.whole.areas in
       all_anew (λ (s : Seat V H). IsArea before.desk before.stale s.serial s.area.now) all (one_of (λ (s : Seat V H). IsArea before.desk before.stale s.serial s.area.now) all)
 
   pub near_edit : All IsNearSeat seats
@@ -128,7 +119,7 @@ module _ {V : Type 0} {H : V → Type 0} (loan : Taken V H → Loan) (t : Window
   placed_edit may =
       let w = there_is t.windows.records.items e.at low in
       let its = seat_at t.windows.records.items t.areas.items S.all e.at w.0 S.seat S.are low w.1 S.at in
-      all_anew (IsPlacedSeat loan) (seats_placed loan t.windows.records.items t.areas.items S.all S.are kept.settled)
+      all_anew (IsPlacedSeat loan) (seats_placed loan t.windows.records.items t.areas.items S.all S.are kept.whole.sound.settled)
       ((λ i. is_placed (Some (loan (its.1.taken i)).definition) e.place e.size) ∙ may w.0 w.1)
 
   module _ (w : Window V H) (w_is : IsWindowAt t.windows.records.items e.at w) where
@@ -155,7 +146,7 @@ module _ {V : Type 0} {H : V → Type 0} (loan : Taken V H → Loan) (t : Window
     arranged_edit after D = record {
       desk = refl;
       distinct = D.distinct;
-      gray_is = subst (λ (d : LayeredDesk). IsGray d t.gray) (sym D.screen) kept.gray;
+      gray_is = subst (λ (d : LayeredDesk). IsGray d t.gray) (sym D.screen) kept.whole.gray;
       stands = seats_put ∙ sym D.stands;
       areas = had;
     }

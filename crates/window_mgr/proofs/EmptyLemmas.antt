@@ -33,17 +33,17 @@ use Rattle.desk_ground.specs.Screens.{is_bar, is_screen, is_screen_side}
 use Rattle.vis_update.specs.Areas.{IsGray, IsDesktop, AreAreas}
 use Rattle.window_mgr.proofs.Arranged.{between-is_below}
 
-below_rows : (bar v height : ℤ) → is_bar bar ≡ true → between bar v height ≡ (between (pos 0) v height && not (int_lt v bar))
+pub below_rows : (bar v height : ℤ) → is_bar bar ≡ true → between bar v height ≡ (between (pos 0) v height && not (int_lt v bar))
 below_rows bar v height e = grind (arith, ints)
 
 and-assoc : (a b c : Bool) → (a && (b && c)) ≡ ((a && b) && c)
 and-assoc true b c = refl
 and-assoc false b c = refl
 
-row_of_bar : (bar v : ℤ) → is_bar bar ≡ true → int_le (pos 0) v ≡ true → int_lt v bar ≡ true → int_eq v (bar -ℤ pos 1) ≡ int_eq v (pos 19)
+pub row_of_bar : (bar v : ℤ) → is_bar bar ≡ true → int_le (pos 0) v ≡ true → int_lt v bar ≡ true → int_eq v (bar -ℤ pos 1) ≡ int_eq v (pos 19)
 row_of_bar bar v e low high = grind (arith, ints)
 
-no_row : (bar v : ℤ) → int_lt v bar ≡ false → int_eq v (bar -ℤ pos 1) ≡ false
+pub no_row : (bar v : ℤ) → int_lt v bar ≡ false → int_eq v (bar -ℤ pos 1) ≡ false
 no_row bar v e = grind (arith, ints)
 
 full_slot : (slots : List SlotView) → All IsFull slots → (k : ℕ) (s : SlotView) → slice_get slots k ≡ Some s → IsFull s

@@ -145,7 +145,7 @@ module _ {V : Type 0} {H : V → Type 0} (loan : Taken V H → Loan) (t : Window
 
   -- the place of an area that has the point is a window's
   pub within : (i : ℕ) → position (area_has p) t.areas.items ≡ Some i → i < length t.windows.records.items
-  within i e = by_areas t.areas.items A.areas e
+  within i e = by_areas t.areas.items A.whole.areas e
     where
       by_areas : (areas : List Area) → AreAreas desk (stale_in t.areas.items) windows areas → position (area_has p) areas ≡ Some i → i < length t.windows.records.items
       by_areas [] its e = absurd (cc)
@@ -159,12 +159,12 @@ module _ {V : Type 0} {H : V → Type 0} (loan : Taken V H → Loan) (t : Window
   pub settled_at : (i : ℕ) (x : Window V H) → i < length t.windows.records.items → x ≡ get_or t.windows.records.items i x → IsSettled (record_of loan x)
   settled_at i x low read =
       let long : length windows ≡ length t.windows.records.items = length-map t.windows.records.items (record_of loan) in
-      subst IsSettled (get_or-map (record_of loan) t.windows.records.items i x (record_of loan x) low ∙ ap (record_of loan) (sym read)) (A.settled i (record_of loan x) (omega arith))
+      subst IsSettled (get_or-map (record_of loan) t.windows.records.items i x (record_of loan x) low ∙ ap (record_of loan) (sym read)) (A.whole.sound.settled i (record_of loan x) (omega arith))
 
   -- the window whose area has the point is what is found
   pub found_window_is : (i : ℕ) (x : Window V H) → layers.on_screen desk p ≡ true → position (area_has p) t.areas.items ≡ Some i → x ≡ get_or t.windows.records.items i x
       → found_at (desk_of loan t []) p ≡ record { part = part_of_hit ((loan x.taken).definition.hit (minus p x.place)); window = Some x.serial }
-  found_window_is i x on e read = by_areas t.areas.items A.areas e
+  found_window_is i x on e read = by_areas t.areas.items A.whole.areas e
     where
       low : i < length t.windows.records.items
       low = within i e
@@ -179,13 +179,13 @@ module _ {V : Type 0} {H : V → Type 0} (loan : Taken V H → Loan) (t : Window
           let found = area_at desk (stale_in t.areas.items) windows (a ∷ areas) i a its first.0 in
           let same : found.0 ≡ record_of loan x = let both : Some found.0 ≡ Some (record_of loan x) = sym found.1 ∙ there in cc in
           let owned : found_by windows (owner desk p) p ≡ found_window found.0.serial windows p = found_there desk (stale_in t.areas.items) windows found.0 _ p found.2 first.1 in
-          let its_record : record_with x.serial windows ≡ Some (record_of loan x) = record_at t.font windows i (record_of loan x) A.distinct there in
+          let its_record : record_with x.serial windows ≡ Some (record_of loan x) = record_at t.font windows i (record_of loan x) A.whole.sound.distinct there in
           rw on (owned ∙ ap (λ (v : WindowRecord). found_window v.serial windows p) same ∙ ap (λ r. record { part = part_at r p; window = Some x.serial }) its_record)
 
   -- where no area has it, it is the desktop's
   pub found_desk_is : layers.on_screen desk p ≡ true → layers.in_bar desk p ≡ false → position (area_has p) t.areas.items ≡ None → found_at (desk_of loan t []) p ≡ found_none part.InDesk
   found_desk_is on low e =
-      let none = none_has desk (stale_in t.areas.items) windows t.areas.items p on A.areas (λ i d within. position-None (area_has p) t.areas.items e i d within) in
+      let none = none_has desk (stale_in t.areas.items) windows t.areas.items p on A.whole.areas (λ i d within. position-None (area_has p) t.areas.items e i d within) in
       let among : owner desk p ≡ owner_among (map (layered_window t.font) windows) p = rw low refl in
       let its : owner desk p ≡ Desktop = among ∙ nowhere t.font windows p (subst (λ o. NoneHas windows o) among none) in
       rw on (ap (λ o. found_by windows o p) its)

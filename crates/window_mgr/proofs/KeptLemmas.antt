@@ -7,14 +7,6 @@ use Rattle.window_mgr.specs.declared.manager.WindowManager.{WindowManager}
 use Rattle.window_mgr.specs.Kept.{IsKept}
 use Rattle.window_mgr.specs.Whole.{IsWholeManager}
 
--- what of it does not speak of the stock
+-- it is whole over some slots, these
 pub kept : {V : Type 0} {H : V → Type 0} (loan : Taken V H → Loan) (t : WindowManager V H) (slots : List SlotView) → IsWholeManager loan t slots → IsKept loan t
-kept loan t slots whole = record {
-  screen = whole.sound.screen;
-  distinct = whole.sound.distinct;
-  numbered = whole.sound.numbered;
-  settled = whole.sound.settled;
-  gray = whole.gray;
-  desktop = whole.desktop;
-  areas = whole.areas;
-}
+kept loan t slots whole = record { slots = slots; whole = whole }

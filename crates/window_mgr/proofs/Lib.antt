@@ -19,7 +19,7 @@ pub mod DrawnLayers
 pub mod DrawRefusals
 pub mod DrawLemmas
 pub mod DrawSteps
-mod EmptyLemmas
+pub mod EmptyLemmas
 pub mod FindLemmas
 pub mod ClosingLemmas
 pub mod TellLemmas

@@ -1,6 +1,6 @@
 -- The step of a new window.
 use Rattle.std.proofs.Common.{◌≡◌, ℕ, ◌<◌, ◌≤◌, nat_lt, nat_le, Bool, true, false, not, ◌&&◌, ◌||◌, ◌==◌, if◌then◌else◌, List, [], ◌∷◌, length, map, Option, None, Some, pos, refl, sym, ap, ◌∙◌, subst, arith}
-use Rattle.std.specs.Prelude.{All, is_none}
+use Rattle.std.specs.Prelude.{All, Ok, Err, is_none}
 use Rattle.std.proofs.lemmas.Bool.Decides.{nat_tests}
 use Rattle.std.proofs.lemmas.List.{length-map}
 use Rattle.std.proofs.lemmas.List.Elements.{All-cons}
@@ -9,7 +9,7 @@ use Rattle.tb_geom.specs.declared.refusal.Refusal.{Refusal}
 use Rattle.tb_geom.specs.declared.refusal.Refusal.TheVariants.{OutOfRange, TooLong, TooMany}
 use Rattle.tb_geom.specs.declared.rect.Rect.{Rect}
 use Rattle.tb_geom.specs.Points.{PixelSet}
-use Rattle.tb_geom.specs.Rects.{in_plane, is_in_range, moved, rect_holds}
+use Rattle.tb_geom.specs.Rects.{in_plane, is_in_range, moved_rect, rect_holds}
 use Rattle.bit_map.specs.Bits.{Bits}
 use Rattle.def_iface.specs.declared.taken.Taken.{Taken}
 use Rattle.def_iface.specs.declared.size.Size.{Size}
@@ -22,6 +22,8 @@ use Rattle.def_iface.specs.Owner.Owner.{Frame}
 use Rattle.def_iface.proofs.Owning.{own_bit-behind}
 use Rattle.def_iface.specs.Change as plain
 use Rattle.desk_call.specs.declared.window.NewWindow.{NewWindow}
+use Rattle.desk_call.specs.declared.window.WindowCall.TheVariants.{New}
+use Rattle.desk_call.specs.declared.window.WindowReply.TheVariants.{Made}
 use Rattle.window_mgr.specs.declared.manager.WindowManager.{WindowManager}
 use Rattle.vis_update.specs.declared.plan.Plan.{Plan}
 use Rattle.vis_update.specs.declared.plan.Touch.{Touch}
@@ -32,9 +34,9 @@ use Rattle.vis_update.specs.Records.{record_of}
 use Rattle.window_mgr.specs.Records.{desk_of, state_of}
 use Rattle.window_mgr.specs.Refused.{first_refusal, judged_refusals, is_full, longest_text, most_windows}
 use Rattle.vis_update.specs.Places.{is_placed}
-use Rattle.window_mgr.specs.Step.{IsMade, IsNotMade}
+use Rattle.window_mgr.specs.Step.{IsWindowStep}
 use Rattle.window_mgr.specs.Effects.{IsNewWindow, new_record, desk_with}
-use Rattle.window_mgr.specs.Arrange.{unhighlighted}
+use Rattle.window_mgr.specs.Arrange.{with_highlighting}
 use Rattle.window_mgr.specs.Planned.{IsPlanWith, IsAdded, IsUnplanned, SameDesk, new_touch}
 use Rattle.window_list.specs.Lists.{dimmed}
 use Rattle.vis_update.specs.Plans.{IsPlan}
@@ -78,7 +80,7 @@ pub unrefused_place : (w : NewWindow) (d : Definition) (count : ℕ) (next : Opt
 unrefused_place w d count next e = (placed_parts d w.place w.size (unrefused w _ count next e).placed_is).place_in
 
 -- and its structure there lies in the range of coordinates
-pub unrefused_inside : (w : NewWindow) (d : Definition) (count : ℕ) (next : Option ℕ) → first_refusal (judged_refusals w (is_placed (Some d) w.place w.size) count next) ≡ None → is_in_range (moved (d.bounds w.size) w.place.h w.place.v) ≡ true
+pub unrefused_inside : (w : NewWindow) (d : Definition) (count : ℕ) (next : Option ℕ) → first_refusal (judged_refusals w (is_placed (Some d) w.place w.size) count next) ≡ None → is_in_range (moved_rect (d.bounds w.size) w.place.h w.place.v) ≡ true
 unrefused_inside w d count next e = (placed_parts d w.place w.size (unrefused w _ count next e).placed_is).moved
 
 -- a desk that may get one more window has less than there may be
@@ -90,7 +92,7 @@ fewer_before count next e = by_test (nat_le most_windows count) refl e
     by_test false t e = grind (arith, nat_tests)
 
 length_behind : (active : Option ℕ) (b : Bool) (ws : List WindowRecord) → length (windows_behind active b ws) ≡ length ws
-length_behind active true ws = length-map ws (unhighlighted active)
+length_behind active true ws = length-map ws (with_highlighting false active)
 length_behind active false ws = refl
 
 -- the content still lies in the box once the definition has begun
@@ -108,7 +110,7 @@ settled_new w n slot d begun live placed within =
       live = live.live;
       told = live.told;
       fits = ap (λ (b : Size → Rect). is_size w.size && is_in_range (b w.size)) live.regions.bounds ∙ its.fits;
-      inside = ap (λ (b : Size → Rect). is_in_range (moved (b w.size) w.place.h w.place.v)) live.regions.bounds ∙ its.moved;
+      inside = ap (λ (b : Size → Rect). is_in_range (moved_rect (b w.size) w.place.h w.place.v)) live.regions.bounds ∙ its.moved;
       within = begun_within w.size d begun live within;
     }
 
@@ -196,7 +198,7 @@ module _ {V : Type 0} {H : V → Type 0} (loan : Taken V H → Loan) where
       live = N.added.live.live;
       told = N.added.live.told;
       fits = ap (λ (b : Size → Rect). is_size w.size && is_in_range (b w.size)) N.added.live.regions.bounds ∙ unrefused_fits w _ _ _ N.unrefused_is;
-      inside = ap (λ (b : Size → Rect). is_in_range (moved (b w.size) w.place.h w.place.v)) N.added.live.regions.bounds ∙ unrefused_inside w _ _ _ N.unrefused_is;
+      inside = ap (λ (b : Size → Rect). is_in_range (moved_rect (b w.size) w.place.h w.place.v)) N.added.live.regions.bounds ∙ unrefused_inside w _ _ _ N.unrefused_is;
       within = begun_within w.size taken.definition N.added.begun N.added.live N.within;
     }
 
@@ -246,11 +248,11 @@ module _ {V : Type 0} {H : V → Type 0} (loan : Taken V H → Loan) where
     }
 
     -- the call was done
-    pub is_made : IsMade w n (state_of loan t slots) (state_of loan new left)
-    is_made = (refusal_is loan w taken t slots left N.took ∙ N.unrefused_is, is_new_window)
+    pub is_made : IsWindowStep (New w) (Ok (Made n)) (state_of loan t slots) (state_of loan new left)
+    is_made = (refusal_is loan w taken t slots left N.took ∙ N.unrefused_is, (n, refl, is_new_window))
 
   -- the call was refused: the definition is back in its slot
-  pub is_not_made : (w : NewWindow) (e : Refusal) (taken : Loan) (t planned : WindowManager V H) (slots left back : List SlotView) → IsWholeManager loan t slots → IsTaken w.kind taken slots left → IsUnplanned w (is_placed (Some taken.definition) w.place w.size) (length t.windows.records.items) t.windows.next e → SameDesk t planned → IsPutBack taken left back → IsNotMade w e (state_of loan t slots) (state_of loan planned back)
+  pub is_not_made : (w : NewWindow) (e : Refusal) (taken : Loan) (t planned : WindowManager V H) (slots left back : List SlotView) → IsWholeManager loan t slots → IsTaken w.kind taken slots left → IsUnplanned w (is_placed (Some taken.definition) w.place w.size) (length t.windows.records.items) t.windows.next e → SameDesk t planned → IsPutBack taken left back → IsWindowStep (New w) (Err e) (state_of loan t slots) (state_of loan planned back)
   is_not_made w e taken t planned slots left back whole took unplanned same back_is = (
     unplanned_is_refused loan w taken t slots left took e unplanned,
     stays_unchanged loan t planned slots back same (put_back_is_old w.kind taken slots left took back back_is),

@@ -94,9 +94,9 @@ module _ {V : Type 0} {H : V → Type 0} (loan : Taken V H → Loan) where
       let long : length (map (record_of loan) ws) ≡ length ws = length-map ws (record_of loan) in
       subst IsSettled (get_or-map (record_of loan) ws i x (record_of loan x) low ∙ ap (record_of loan) (sym read)) (settled i (record_of loan x) (omega arith))
 
-  painted_snoc : (font : List ℕ) (ws : List WindowRecord) (parts : List Part) (w : WindowRecord) (part : Part) (p : Point) (value : Bool) → length parts ≡ length ws → painted_parts font (ws ++ w ∷ []) (parts ++ part ∷ []) p value ≡ painted_part font w part p (painted_parts font ws parts p value)
+  painted_snoc : (font : List ℕ) (ws : List WindowRecord) (parts : List Part) (w : WindowRecord) (part : Part) (p : Point) (value : Bool) → length parts ≡ length ws → painted_parts font (ws ++ w ∷ []) (parts ++ part ∷ []) p value ≡ painted_part font w.definition w.place part p (painted_parts font ws parts p value)
   painted_snoc font [] [] w part p value e = refl
-  painted_snoc font (v ∷ ws) (r ∷ parts) w part p value e = let f : length parts ≡ length ws = omega arith in painted_snoc font ws parts w part p (painted_part font v r p value) f
+  painted_snoc font (v ∷ ws) (r ∷ parts) w part p value e = let f : length parts ≡ length ws = omega arith in painted_snoc font ws parts w part p (painted_part font v.definition v.place r p value) f
   painted_snoc font [] (r ∷ parts) w part p value e = absurd (omega arith)
   painted_snoc font (v ∷ ws) [] w part p value e = absurd (omega arith)
 
@@ -112,7 +112,7 @@ module _ {V : Type 0} {H : V → Type 0} (loan : Taken V H → Loan) where
       record {
         pixels = λ p on.
             one.pixels p (on_map-same old mid p so.width so.height ∙ on)
-            ∙ ap (painted_part font (record_of loan x) part p) (so.pixels p on)
+            ∙ ap (painted_part font (loan x.taken).definition x.place part p) (so.pixels p on)
             ∙ sym (painted_snoc font (map (record_of loan) (take i ws)) (take i parts) (record_of loan x) part p (bit old p) shorter)
             ∙ (λ k. painted_parts font (sym records k) (sym here k) p (bit old p));
         width = one.width ∙ so.width;

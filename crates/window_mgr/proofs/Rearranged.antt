@@ -18,7 +18,7 @@ use Rattle.vis_update.specs.Touches.{moved_from, moving}
 use Rattle.window_mgr.specs.declared.arrange.Activation.{Activation}
 use Rattle.window_mgr.specs.declared.arrange.Activation.TheVariants.{Stays, Becomes}
 use Rattle.window_mgr.specs.FullDesk.{FullDesk, AreNumbered, layered_desk}
-use Rattle.window_mgr.specs.Arrange.{unhighlighted, highlighted, activated, desk_activated}
+use Rattle.window_mgr.specs.Arrange.{with_highlighting, activated, desk_activated}
 use Rattle.window_mgr.specs.Whole.{IsSoundDesk, IsSettled, IsStocked}
 use Rattle.window_mgr.proofs.PutIn.{put_in, IsFree, found_put, distinct_put, distinct_out, below_put, below_out, put_permutes, All-out, All-put, AllPairs-put, AllPairs-out, Contains-put}
 use Rattle.window_mgr.proofs.EachChanged.{map-map, settled_map, stocked_map, numbered_map}
@@ -28,21 +28,10 @@ use Rattle.window_mgr.proofs.DimLemmas.{either}
 
 module _ (s former : Option ℕ) where
   abbrev pub relit_record : WindowRecord → WindowRecord
-  relit_record w = highlighted s (unhighlighted former w)
-
-  lit_one : (P : WindowRecord → Type 0) (w : WindowRecord) → P w → P (record w { highlighted = true }) → P (highlighted s w)
-  lit_one P w h on = by_window s
-    where
-      by_test : (b : Bool) → P (if b then record w { highlighted = true } else w)
-      by_test true = on
-      by_test false = h
-
-      by_window : (k : Option ℕ) → P (highlighted k w)
-      by_window None = h
-      by_window (Some k) = by_test (w.serial == k)
+  relit_record w = with_highlighting true s (with_highlighting false former w)
 
   relit_either : (P : WindowRecord → Type 0) (w : WindowRecord) → P w → P (record w { highlighted = true }) → P (record w { highlighted = false }) → P (relit_record w)
-  relit_either P w h on off = either former (λ v. P (highlighted s v)) w (lit_one P w h on) (lit_one P (record w { highlighted = false }) off on)
+  relit_either P w h on off = either false former (λ v. P (with_highlighting true s v)) w (either true s P w h on) (either true s P (record w { highlighted = false }) off on)
 
   same_layers : (font : List ℕ) (w : WindowRecord) → layered_window font (relit_record w) ≡ layered_window font w
   same_layers font w = relit_either (λ v. layered_window font v ≡ layered_window font w) w refl refl refl

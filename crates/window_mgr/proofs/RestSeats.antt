@@ -26,8 +26,8 @@ use Rattle.window_mgr.specs.Records.{state_of}
 use Rattle.window_mgr.specs.Seats.{first_seated}
 use Rattle.window_mgr.specs.Without.{AreSeatsWithout, IsDeskWithout, records_without}
 use Rattle.window_mgr.proofs.PutIn.{taken_out, All-out}
-use Rattle.window_mgr.proofs.Seating.{seats_stand, seats_had, seats_placed, sides}
-use Rattle.window_mgr.proofs.EditSeats.{map-remove, there_is, length-put, lengths_of, first_stand}
+use Rattle.window_mgr.proofs.Seating.{lengths_of, seats_stand, seats_had, seats_placed, sides}
+use Rattle.window_mgr.proofs.EditSeats.{map-remove, there_is, length-put, first_stand}
 
 -- one element less
 pub length-out : {X : Type 0} (xs : List X) (i : ℕ) → i < length xs → length (remove xs i) + 1 ≡ length xs
@@ -99,13 +99,13 @@ module _ {V : Type 0} {H : V → Type 0} (loan : Taken V H → Loan) (t : Window
   before = layered_state (state_of loan t [])
 
   had : All (λ (s : Seat V H). IsArea before.desk before.stale s.serial s.area.now) seats
-  had = all_rest (λ (s : Seat V H). IsArea before.desk before.stale s.serial s.area.now) (seats_had loan before t.windows.records.items t.areas.items S.all S.are kept.areas)
+  had = all_rest (λ (s : Seat V H). IsArea before.desk before.stale s.serial s.area.now) (seats_had loan before t.windows.records.items t.areas.items S.all S.are kept.whole.areas)
 
   pub near_rest : All IsNearSeat seats
   near_rest = let side = sides loan t kept in seats_near before.desk before.stale seats side.0 side.1 had
 
   pub placed_rest : All (IsPlacedSeat loan) seats
-  placed_rest = all_rest (IsPlacedSeat loan) (seats_placed loan t.windows.records.items t.areas.items S.all S.are kept.settled)
+  placed_rest = all_rest (IsPlacedSeat loan) (seats_placed loan t.windows.records.items t.areas.items S.all S.are kept.whole.sound.settled)
 
   -- the seats stand as the windows do
   seats_rest : map (seat_stand loan) seats ≡ map stand_of (records_without loan at t)
@@ -120,7 +120,7 @@ module _ {V : Type 0} {H : V → Type 0} (loan : Taken V H → Loan) (t : Window
   arranged_rest after D = record {
     desk = refl;
     distinct = D.distinct;
-    gray_is = subst (λ (d : LayeredDesk). IsGray d t.gray) (sym D.screen) kept.gray;
+    gray_is = subst (λ (d : LayeredDesk). IsGray d t.gray) (sym D.screen) kept.whole.gray;
     stands = seats_rest ∙ sym D.stands;
     areas = had;
   }

@@ -22,10 +22,11 @@ use Rattle.window_mgr.specs.FullDesk.{FullDesk, FullState, IsRightState, AreBelo
 use Rattle.window_mgr.specs.Step.{IsWindowStep}
 use Rattle.window_mgr.specs.Effects.{IsNewWindow, IsDrawn, IsUnchanged, IsArrangement, Effect, IsEffect, effect_of, new_record, desk_with, with_drawn, draw_change}
 use Rattle.window_mgr.specs.Effects.Effect.{Makes, Disposes, Draws, Arranges, Sizes, Tells, Describes}
-use Rattle.window_mgr.specs.Arrange.{unhighlighted, Arrangement, activation_of, desk_activated, sized}
+use Rattle.window_mgr.specs.Arrange.{with_highlighting, Arrangement, activation_of, desk_activated, sized}
 use Rattle.window_mgr.specs.Finding.{front_of}
 use Rattle.vis_update.specs.Touches.{moving}
-use Rattle.window_mgr.proofs.EachChanged.{below_map, numbered_map}
+use Rattle.window_mgr.proofs.EachChanged.{below_map, map-map, numbered_map}
+use Rattle.window_mgr.proofs.DimLemmas.{either}
 use Rattle.window_mgr.proofs.DrawnLayers.{draw_is_sound}
 use Rattle.window_mgr.proofs.Rearranged.{edited, edit_is_sound, numbered_now}
 use Rattle.window_mgr.proofs.Arrangements.{IsSoundArrangement, IsSoundEffect, effect_is_sound, sized_sound}
@@ -33,34 +34,17 @@ use Rattle.window_mgr.proofs.Disposed.{disposed_stays_right}
 
 -- ---- a window in front of others
 
-layered_window-unhighlighted : (font : List ℕ) (active : Option ℕ) (w : WindowRecord) → layered_window font (unhighlighted active w) ≡ layered_window font w
-layered_window-unhighlighted font None w = refl
-layered_window-unhighlighted font (Some s) w = by_test (w.serial == s)
-  where
-    by_test : (b : Bool) → layered_window font (if b then record w { highlighted = false } else w) ≡ layered_window font w
-    by_test true = refl
-    by_test false = refl
-
-layered_windows-unhighlighted : (font : List ℕ) (active : Option ℕ) (ws : List WindowRecord) → map (layered_window font) (map (unhighlighted active) ws) ≡ map (layered_window font) ws
-layered_windows-unhighlighted font active [] = refl
-layered_windows-unhighlighted font active (w ∷ ws) = λ i. layered_window-unhighlighted font active w i ∷ layered_windows-unhighlighted font active ws i
-
 -- as layers, a desk with a new window has just one window more
 pub layered_desk-with : (w : NewWindow) (serial slot : ℕ) (d : Definition) (desk : FullDesk) (stock : _) → layered_desk (record (desk_with w serial slot d desk) { stock = stock }) ≡ record (layered_desk desk) { windows = layered_window desk.font (new_record w serial slot d) ∷ map (layered_window desk.font) desk.windows }
 layered_desk-with w serial slot d desk stock =
     ap (λ ws. record (layered_desk desk) { windows = layered_window desk.font (new_record w serial slot d) ∷ ws }) (by_shown w.shown)
   where
-    by_shown : (b : Bool) → map (layered_window desk.font) (if b then map (unhighlighted desk.active) desk.windows else desk.windows) ≡ map (layered_window desk.font) desk.windows
-    by_shown true = layered_windows-unhighlighted desk.font desk.active desk.windows
+    by_shown : (b : Bool) → map (layered_window desk.font) (if b then map (with_highlighting false desk.active) desk.windows else desk.windows) ≡ map (layered_window desk.font) desk.windows
+    by_shown true = map-map (layered_window desk.font) (with_highlighting false desk.active) (layered_window desk.font) (λ v. either false desk.active (λ u. layered_window desk.font u ≡ layered_window desk.font v) v refl refl) desk.windows
     by_shown false = refl
 
-same_serial : (active : Option ℕ) (w : WindowRecord) → (unhighlighted active w).serial ≡ w.serial
-same_serial None w = refl
-same_serial (Some s) w = by_test (w.serial == s)
-  where
-    by_test : (b : Bool) → (if b then record w { highlighted = false } else w).serial ≡ w.serial
-    by_test true = refl
-    by_test false = refl
+same_serial : (active : Option ℕ) (w : WindowRecord) → (with_highlighting false active w).serial ≡ w.serial
+same_serial active w = either false active (λ v. v.serial ≡ w.serial) w refl refl
 
 numbered-more : (next : ℕ) (ws : List WindowRecord) → AreBelow next ws → AreBelow (next + 1) ws
 numbered-more next [] h = tt
@@ -100,8 +84,8 @@ numbered_with w serial slot d desk below = after_number _ (nat_lt (serial + 1) (
     after_number ws true h = h
     after_number ws false h = tt
 
-    by_shown : (b : Bool) → AreBelow (serial + 1) (if b then map (unhighlighted desk.active) desk.windows else desk.windows)
-    by_shown true = below_map (unhighlighted desk.active) (same_serial desk.active) _ desk.windows (numbered-more serial desk.windows below)
+    by_shown : (b : Bool) → AreBelow (serial + 1) (if b then map (with_highlighting false desk.active) desk.windows else desk.windows)
+    by_shown true = below_map (with_highlighting false desk.active) (same_serial desk.active) _ desk.windows (numbered-more serial desk.windows below)
     by_shown false = numbered-more serial desk.windows below
 
 new_stays_right : (w : NewWindow) (serial : ℕ) (before after : FullState) → IsRightState before → IsNewWindow w serial before after → IsRightState after

@@ -1,21 +1,25 @@
 -- A window manager that gained room alone.
-use Rattle.std.proofs.Common.{◌≡◌, ℕ, List, [], map, pos, sym, ap, subst}
+use Rattle.std.proofs.Common.{◌≡◌, ℕ, List, [], map, Err, pos, refl, sym, ap, subst}
 use Rattle.std.specs.Prelude.{All}
+use Rattle.tb_geom.specs.declared.refusal.Refusal.{Refusal}
 use Rattle.tb_geom.specs.Pixels.{Pixels}
 use Rattle.bit_map.specs.Bits.{Bits, bit}
 use Rattle.def_iface.specs.declared.taken.Taken.{Taken}
 use Rattle.def_iface.specs.Meaning.{Definition, Loan}
 use Rattle.def_iface.specs.Stocked.{SlotView}
 use Rattle.desk_call.specs.declared.window.NewWindow.{NewWindow}
+use Rattle.desk_call.specs.declared.window.WindowCall.{WindowCall}
 use Rattle.window_mgr.specs.declared.manager.WindowManager.{WindowManager}
 use Rattle.vis_update.specs.declared.area.Area.{Area}
 use Rattle.vis_update.specs.declared.plan.Plan.{Plan}
 use Rattle.vis_update.specs.declared.plan.Touch.{Touch}
+use Rattle.window_mgr.specs.AnySlots.{IsStepOverAnySlots}
 use Rattle.window_mgr.specs.FullDesk.{FullDesk, FullState, layered_desk, layered_state}
 use Rattle.vis_update.specs.Records.{record_of}
 use Rattle.window_mgr.specs.Records.{desk_of, state_of}
 use Rattle.vis_update.specs.Areas.{stale_in}
 use Rattle.window_mgr.specs.Effects.{IsUnchanged, desk_with}
+use Rattle.window_mgr.specs.Step.{IsCallRefused}
 use Rattle.window_mgr.specs.Whole.{IsWholeManager, IsSettled, IsSoundDesk, AreFramesShown}
 use Rattle.vis_update.specs.Areas.{IsGray, IsDesktop, AreAreas}
 use Rattle.window_mgr.specs.Planned.{SameDesk, IsPlanWith}
@@ -68,3 +72,14 @@ module _ {V : Type 0} {H : V → Type 0} (loan : Taken V H → Loan) (t u : Wind
   -- the same, where the window's number goes by another name
   pub plan_stays_by : (w : NewWindow) (k n : ℕ) (d : Definition) (touch : Touch) (plan : Plan) → k ≡ n → IsPlanWith loan w k d touch t plan → IsPlanWith loan w n d touch u plan
   plan_stays_by w k n d touch plan e h = plan_stays w n d touch plan (subst (λ j. IsPlanWith loan w j d touch t plan) e h)
+
+-- a call that is refused and leaves the same desk makes its step
+pub stays_refused : {V : Type 0} {H : V → Type 0} (loan : Taken V H → Loan) (t u : WindowManager V H) → SameDesk t u → (call : WindowCall) (e : Refusal)
+    → ((slots : List SlotView) → IsWholeManager loan t slots → IsCallRefused call e (state_of loan t slots)) → IsStepOverAnySlots loan call (Err e) t u
+stays_refused loan t u same call e refused slots whole =
+    (stays_whole loan t u slots slots same refl whole, (refused slots whole, stays_unchanged loan t u slots slots same refl))
+
+-- so does one that is refused and leaves all as it was
+pub is_refused : {V : Type 0} {H : V → Type 0} (loan : Taken V H → Loan) (t : WindowManager V H) (call : WindowCall) (e : Refusal)
+    → ((slots : List SlotView) → IsWholeManager loan t slots → IsCallRefused call e (state_of loan t slots)) → IsStepOverAnySlots loan call (Err e) t t
+is_refused loan t call e refused slots whole = (whole, (refused slots whole, record { desk = refl; stale = λ p on. refl; image = λ p on. refl }))

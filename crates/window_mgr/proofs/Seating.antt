@@ -1,5 +1,5 @@
 -- The windows of a desk as they are, behind a new one.
-use Rattle.std.proofs.Common.{◌≡◌, ℕ, zero, suc, ◌+◌, ◌<◌, ◌==◌, Bool, true, false, if◌then◌else◌, ℤ, pos, ◌≤ℤ◌, List, [], ◌∷◌, ◌++◌, length, get_or, take, map, Option, None, Some, refl, sym, ap, ◌∙◌, subst, arith}
+use Rattle.std.proofs.Common.{◌≡◌, ℕ, zero, suc, ◌+◌, ◌<◌, Bool, true, false, ℤ, pos, ◌≤ℤ◌, List, [], ◌∷◌, ◌++◌, length, get_or, take, map, Option, None, Some, refl, sym, ap, ◌∙◌, subst, arith}
 use Rattle.std.specs.Prelude.{All}
 use Rattle.std.proofs.Math.Seq.{take-length}
 use Rattle.std.proofs.lemmas.List.{take_more, length-map}
@@ -25,27 +25,20 @@ use Rattle.vis_update.specs.Seats.{stand_of, seat_stand, IsPlacedSeat, IsNearSea
 use Rattle.vis_update.specs.Areas.{IsNowhere, IsNear}
 use Rattle.window_mgr.specs.Seats.{AreSeatsOf, AreSeatsBehind}
 use Rattle.window_mgr.specs.Effects.{new_record, desk_with}
-use Rattle.window_mgr.specs.Arrange.{unhighlighted}
+use Rattle.window_mgr.specs.Arrange.{with_highlighting}
 use Rattle.vis_update.specs.Areas.{IsArea, AreAreas}
 use Rattle.window_mgr.specs.Whole.{IsSettled}
 use Rattle.desk_ground.specs.Screens.{is_screen_side}
 use Rattle.vis_update.proofs.PlaceLemmas.{placed_from}
+use Rattle.window_mgr.proofs.EachChanged.{map-map}
+use Rattle.window_mgr.proofs.DimLemmas.{either, windows_behind}
 use Rattle.window_mgr.proofs.Running.{layered_desk-with, next_is_free}
 use Rattle.vis_update.proofs.SeatLemmas as seat
 
--- a window that loses its highlighting stands where it stood
-stand-unhighlighted : (active : Option ℕ) (w : WindowRecord) → stand_of (unhighlighted active w) ≡ stand_of w
-stand-unhighlighted None w = refl
-stand-unhighlighted (Some s) w = by_test (w.serial == s)
-  where
-    by_test : (b : Bool) → stand_of (if b then record w { highlighted = false } else w) ≡ stand_of w
-    by_test true = refl
-    by_test false = refl
-
-stands-behind : (active : Option ℕ) (b : Bool) (ws : List WindowRecord) → map stand_of (if b then map (unhighlighted active) ws else ws) ≡ map stand_of ws
+-- windows of which one loses its highlighting stand where they stood
+stands-behind : (active : Option ℕ) (b : Bool) (ws : List WindowRecord) → map stand_of (windows_behind active b ws) ≡ map stand_of ws
 stands-behind active false ws = refl
-stands-behind active true [] = refl
-stands-behind active true (w ∷ ws) = λ i. stand-unhighlighted active w i ∷ stands-behind active true ws i
+stands-behind active true ws = map-map stand_of (with_highlighting false active) stand_of (λ w. either false active (λ v. stand_of v ≡ stand_of w) w refl refl) ws
 
 -- ---- the list of seats, as it grows
 
@@ -77,30 +70,18 @@ module _ {V : Type 0} {H : V → Type 0} where
   seat_at (v ∷ ws) [] seats i w s its low w_is s_is = absurd its
   seat_at (v ∷ ws) (a ∷ areas) [] i w s its low w_is s_is = absurd its
 
-  -- one seat more, behind the first
-  pub seats_more : (front : Seat V H) (ws : List (Window V H)) (areas : List Area) (seats more : List (Seat V H)) (i : ℕ) (w : Window V H) (a : Area) (s : Seat V H) → more ≡ seats ++ s ∷ [] → w ≡ get_or ws i w → a ≡ get_or areas i a → i < length ws → i < length areas → AreSeatsBehind front (take i ws) (take i areas) seats → IsSeatOf w a s → AreSeatsBehind front (take (i + 1) ws) (take (i + 1) areas) more
-  seats_more front ws areas (r ∷ seats) more i w a s e w_is a_is low within h one =
-      subst (λ (x : List (Window V H) × List Area × List (Seat V H)). AreSeatsBehind front x.0 x.1 x.2) (λ k. (sym (take_more ws i w low) k, sym (take_more areas i a within) k, sym e k))
-      (h.0, seats_snoc (take i ws) (take i areas) seats (get_or ws i w) (get_or areas i a) s h.1 (subst (λ (x : Window V H × Area). IsSeatOf x.0 x.1 s) (λ k. (w_is k, a_is k)) one))
-  seats_more front ws areas [] more i w a s e w_is a_is low within h one = absurd h
+  pub lengths_of : (ws : List (Window V H)) (areas : List Area) (seats : List (Seat V H)) → AreSeatsOf ws areas seats → length seats ≡ length ws
+  lengths_of [] [] [] its = refl
+  lengths_of (w ∷ ws) (a ∷ areas) (s ∷ seats) its = ap suc (lengths_of ws areas seats its.1)
+  lengths_of [] [] (s ∷ seats) its = absurd its
+  lengths_of [] (a ∷ areas) seats its = absurd its
+  lengths_of (w ∷ ws) [] seats its = absurd its
+  lengths_of (w ∷ ws) (a ∷ areas) [] its = absurd its
 
-  -- and the whole list
-  pub all_seats : (front : Seat V H) (ws : List (Window V H)) (areas : List Area) (seats : List (Seat V H)) (i : ℕ) → i ≡ length ws → length areas ≡ length ws → AreSeatsBehind front (take i ws) (take i areas) seats → AreSeatsBehind front ws areas seats
-  all_seats front ws areas seats i all same h =
-      subst (λ (x : List (Window V H) × List Area). AreSeatsBehind front x.0 x.1 seats) (λ k. ((ap (λ n. take n ws) all ∙ take-length ws) k, (ap (λ n. take n areas) (all ∙ sym same) ∙ take-length areas) k)) h
-
-  -- one seat more than there are windows
+  -- one seat more than there are windows, behind the first
   pub seats_length : (front : Seat V H) (ws : List (Window V H)) (areas : List Area) (seats : List (Seat V H)) → AreSeatsBehind front ws areas seats → length seats ≡ length ws + 1
   seats_length front ws areas [] h = absurd h
-  seats_length front ws areas (s ∷ seats) h = let rest = by_lists ws areas seats h.1 in omega arith
-    where
-      by_lists : (vs : List (Window V H)) (olds : List Area) (ss : List (Seat V H)) → AreSeatsOf vs olds ss → length ss ≡ length vs
-      by_lists [] [] [] its = refl
-      by_lists (v ∷ vs) (a ∷ olds) (r ∷ ss) its = ap suc (by_lists vs olds ss its.1)
-      by_lists [] [] (r ∷ ss) its = absurd its
-      by_lists [] (a ∷ olds) ss its = absurd its
-      by_lists (v ∷ vs) [] ss its = absurd its
-      by_lists (v ∷ vs) (a ∷ olds) [] its = absurd its
+  seats_length front ws areas (s ∷ seats) h = let rest = lengths_of ws areas seats h.1 in omega arith
 
 -- no side of a screen is longer than 1024
 low_side : (n : ℤ) → is_screen_side n ≡ true → n ≤ℤ pos 1024
@@ -109,15 +90,15 @@ low_side n e = grind (arith, ints)
 module _ {V : Type 0} {H : V → Type 0} (loan : Taken V H → Loan) (t : WindowManager V H) (kept : IsKept loan t) where
   pub sides : (pos t.screen.width ≤ℤ pos 1024) × (pos t.screen.height ≤ℤ pos 1024)
   sides =
-      let one = and_parts (is_screen_side (pos t.screen.width)) _ kept.screen in
+      let one = and_parts (is_screen_side (pos t.screen.width)) _ kept.whole.sound.screen in
       (low_side (pos t.screen.width) one.0, low_side (pos t.screen.height) (and_parts (is_screen_side (pos t.screen.height)) _ one.1).0)
 
   pub gray_near : IsNear t.gray
-  gray_near = seat.gray_near (layered_desk (desk_of loan t [])) t.gray sides.0 sides.1 kept.gray
+  gray_near = seat.gray_near (layered_desk (desk_of loan t [])) t.gray sides.0 sides.1 kept.whole.gray
 
   -- there are as many areas as windows
   pub as_many : length t.areas.items ≡ length t.windows.records.items
-  as_many = seat.as_many (layered_desk (desk_of loan t [])) (stale_in t.areas.items) (desk_of loan t []).windows t.areas.items kept.areas ∙ length-map t.windows.records.items (record_of loan)
+  as_many = seat.as_many (layered_desk (desk_of loan t [])) (stale_in t.areas.items) (desk_of loan t []).windows t.areas.items kept.whole.areas ∙ length-map t.windows.records.items (record_of loan)
 
 module _ {V : Type 0} {H : V → Type 0} (loan : Taken V H → Loan) where
   -- ---- windows that stay as they are
@@ -178,10 +159,10 @@ module _ {V : Type 0} {H : V → Type 0} (loan : Taken V H → Loan) where
     after = desk_with w n slot begun (desk_of loan t [])
 
     free : layers.window_of n before.desk.windows ≡ None
-    free = next_is_free t.font n (desk_of loan t []).windows (subst (λ (k : Option ℕ). AreNumbered k (desk_of loan t []).windows) next kept.numbered)
+    free = next_is_free t.font n (desk_of loan t []).windows (subst (λ (k : Option ℕ). AreNumbered k (desk_of loan t []).windows) next kept.whole.sound.numbered)
 
     distinct : layers.IsDesk (layered_desk after)
-    distinct = subst layers.IsDesk (sym (layered_desk-with w n slot begun (desk_of loan t []) [])) (free, ((refl, tt), kept.distinct))
+    distinct = subst layers.IsDesk (sym (layered_desk-with w n slot begun (desk_of loan t []) [])) (free, ((refl, tt), kept.whole.sound.distinct))
 
     front_stand : seat_stand loan front ≡ stand_of (new_record w n slot begun)
     front_stand =
@@ -202,11 +183,11 @@ module _ {V : Type 0} {H : V → Type 0} (loan : Taken V H → Loan) where
     arranged (s ∷ seats) its = record {
       desk = refl;
       distinct = distinct;
-      gray_is = kept.gray;
+      gray_is = kept.whole.gray;
       stands = (λ i. (ap (seat_stand loan) its.0 ∙ front_stand) i ∷ (seats_stand t.windows.records.items t.areas.items seats its.1 ∙ sym (stands-behind t.windows.active w.shown (desk_of loan t []).windows)) i);
       areas = All-cons (λ s. IsArea before.desk before.stale s.serial s.area.now) s seats
           (subst (λ (x : Seat V H). IsArea before.desk before.stale x.serial x.area.now) (sym its.0) front_had)
-          (seats_had before t.windows.records.items t.areas.items seats its.1 kept.areas);
+          (seats_had before t.windows.records.items t.areas.items seats its.1 kept.whole.areas);
     }
     arranged [] its = absurd its
 
@@ -217,5 +198,5 @@ module _ {V : Type 0} {H : V → Type 0} (loan : Taken V H → Loan) where
       let was : State = layered_state (state_of loan t []) in
       All-cons IsNearSeat s seats
       (subst IsNearSeat (sym its.0) ((λ p e. absurd (false≢true (sym (nowhere.visible p) ∙ e))), (λ p e. absurd (false≢true (sym (nowhere.update p) ∙ e)))))
-      (seat.seats_near was.desk was.stale seats side.0 side.1 (seats_had was t.windows.records.items t.areas.items seats its.1 kept.areas))
+      (seat.seats_near was.desk was.stale seats side.0 side.1 (seats_had was t.windows.records.items t.areas.items seats its.1 kept.whole.areas))
   all_near t kept front nowhere [] its = absurd its

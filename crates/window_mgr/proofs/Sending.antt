@@ -154,7 +154,7 @@ module _ {V : Type 0} {H : V → Type 0} (loan : Taken V H → Loan) (t : Window
         wb = w b.window at stands
 
         place : place_after (Some x) (remove desk.windows at) ≡ (if nat_lt i at then i + 1 else i)
-        place = place_is t.font x desk.windows at i (record_of loan wb.0) (record_of loan wx.0) kept.distinct (record_at b.window at stands) (ap (λ n. n == x) (stands.1 wb.0 wb.1) ∙ away) (record_at x i its) (its.1 wx.0 wx.1)
+        place = place_is t.font x desk.windows at i (record_of loan wb.0) (record_of loan wx.0) kept.whole.sound.distinct (record_at b.window at stands) (ap (λ n. n == x) (stands.1 wb.0 wb.1) ∙ away) (record_at x i its) (its.1 wx.0 wx.1)
 
         by_test : (c : Bool) → nat_lt i at ≡ c → to ≡ (if c then i + 1 else i) → to < length t.windows.records.items
         by_test true e f = let low = stands.0 in grind (arith, nat_tests)

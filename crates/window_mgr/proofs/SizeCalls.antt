@@ -1,14 +1,14 @@
 -- What the call that gives a window another size leaves, and its step.
-use Rattle.std.proofs.Common.{◌≡◌, ℕ, zero, suc, ◌<◌, ◌==◌, ◌||◌, ◌&&◌, not, Bool, true, false, if◌then◌else◌, List, [], ◌∷◌, length, get_or, map, None, Some, Ok, pos, refl, sym, ap, ◌∙◌, subst, arith}
-use Rattle.std.specs.Prelude.{All, slice_set, slice_get, is_none}
+use Rattle.std.proofs.Common.{◌≡◌, ℕ, zero, suc, ◌<◌, ◌==◌, ◌||◌, ◌&&◌, Bool, true, false, if◌then◌else◌, List, [], ◌∷◌, length, get_or, map, None, Some, Ok, pos, refl, sym, ap, ◌∙◌, subst, arith}
+use Rattle.std.specs.Prelude.{All, slice_set, slice_get}
 use Rattle.std.specs.List.{remove}
 use Rattle.std.proofs.lemmas.List.{length-set}
 use Rattle.std.proofs.lemmas.List.Elements.{All-head, All-tail}
 use Rattle.std.proofs.lemmas.Option.{slice_get_read}
-use Rattle.tb_geom.specs.declared.refusal.Refusal.TheVariants.{NoSuchWindow, OutOfRange}
+use Rattle.tb_geom.specs.declared.refusal.Refusal.TheVariants.{OutOfRange}
 use Rattle.tb_geom.specs.declared.rect.Rect.{Rect}
 use Rattle.tb_geom.specs.Points.{PixelSet}
-use Rattle.tb_geom.specs.Rects.{is_in_range, moved, rect_holds}
+use Rattle.tb_geom.specs.Rects.{is_in_range, moved_rect, rect_holds}
 use Rattle.def_iface.specs.declared.size.Size.{Size}
 use Rattle.def_iface.specs.declared.taken.Taken.{Taken}
 use Rattle.def_iface.specs.Sizes.{is_size}
@@ -28,14 +28,14 @@ use Rattle.vis_update.proofs.PlaceLemmas.{placed_parts}
 use Rattle.desk_call.specs.declared.window.SizeWindow.{SizeWindow}
 use Rattle.desk_call.specs.declared.window.WindowCall.TheVariants as asks
 use Rattle.desk_call.specs.declared.window.WindowReply.TheVariants.{Done}
+use Rattle.window_mgr.specs.declared.arrange.Activation.{Activation}
 use Rattle.window_mgr.specs.declared.arrange.Activation.TheVariants.{Stays}
 use Rattle.window_mgr.specs.declared.arrange.Edit.{Edit}
 use Rattle.window_mgr.specs.declared.manager.WindowManager.{WindowManager}
 use Rattle.window_mgr.specs.FullDesk.{FullDesk, layered_state}
-use Rattle.window_mgr.specs.Arrange.{changed, with_size, desk_activated}
+use Rattle.window_mgr.specs.Arrange.{also_of, changed, with_size, desk_activated}
 use Rattle.window_mgr.specs.Commits.{IsPlanDrawn}
 use Rattle.window_mgr.specs.Edits.{IsWindowAt, StandsAt, put_record, stays_put, IsPlanOfEdit, IsDeskOfEdit, IsPlaceable}
-use Rattle.window_mgr.specs.Finding.{record_with}
 use Rattle.window_mgr.specs.Records.{desk_of, state_of}
 use Rattle.window_mgr.specs.Refused.{may_have_size, first_refusal, size_refusals}
 use Rattle.window_mgr.specs.Sizing.{MayHave, IsSizable, IsSizeCommitted}
@@ -103,7 +103,7 @@ module _ {V : Type 0} {H : V → Type 0} (loan : Taken V H → Loan) where
           live = R.live;
           told = R.told;
           fits = (λ k. is_size size && is_in_range (R.regions.bounds k size)) ∙ its.fits;
-          inside = (λ k. is_in_range (moved (R.regions.bounds k size) w.place.h w.place.v)) ∙ its.moved;
+          inside = (λ k. is_in_range (moved_rect (R.regions.bounds k size) w.place.h w.place.v)) ∙ its.moved;
           within = subst (λ (x : (Size → PixelSet) × (Size → Rect)). IsWithin (x.0 size) (rect_holds (x.1 size))) (λ k. (sym R.regions.content k, sym R.regions.bounds k)) may.1;
         }
 
@@ -113,15 +113,15 @@ module _ {V : Type 0} {H : V → Type 0} (loan : Taken V H → Loan) where
   -- ---- the call
 
   -- all that is known where the call gave the window at this place another size
-  pub record IsSizeCall (i : ℕ) (z : SizeWindow) (plan : Plan) (t new : WindowManager V H) (slots : List SlotView) : Type 0 where
+  pub record IsSizeCall (i : ℕ) (z : SizeWindow) (activation : Activation) (plan : Plan) (t new : WindowManager V H) (slots : List SlotView) : Type 0 where
     pub whole : IsWholeManager loan t slots
     pub low : i < length t.windows.records.items
     pub serial : (w : Window V H) → IsWindowAt t.windows.records.items i w → w.serial ≡ z.window
     pub may : IsSizable loan i z.size t.windows.records.items
-    pub planned : (w : Window V H) → IsWindowAt t.windows.records.items i w → IsPlanOfEdit loan (record (stays_put i w) { size = z.size }) None t plan
+    pub planned : (w : Window V H) → IsWindowAt t.windows.records.items i w → IsPlanOfEdit loan (record (stays_put i w) { size = z.size }) activation None t plan
     pub committed : IsSizeCommitted loan i z.size plan t new
 
-  module _ (i : ℕ) (z : SizeWindow) (plan : Plan) (t new : WindowManager V H) (slots : List SlotView) (N : IsSizeCall i z plan t new slots) where
+  module _ (i : ℕ) (z : SizeWindow) (activation : Activation) (plan : Plan) (t new : WindowManager V H) (slots : List SlotView) (N : IsSizeCall i z activation plan t new slots) where
     abbrev w : Window V H
     w = N.committed.window
 
@@ -146,11 +146,11 @@ module _ {V : Type 0} {H : V → Type 0} (loan : Taken V H → Loan) where
     windows_are : map (record_of loan) new.windows.records.items ≡ left.windows
     windows_are = records_are N.low w_is R
 
-    plan_is : IsPlanOfEdit loan (record (stays_put i w) { size = z.size }) None t plan
+    plan_is : IsPlanOfEdit loan (record (stays_put i w) { size = z.size }) activation None t plan
     plan_is = N.planned w w_is
 
     abbrev touch : Touch
-    touch = record { window = w.serial; also = (plan_is w w_is).0; by = None }
+    touch = record { window = w.serial; also = also_of activation w.serial t.windows.active; by = None }
 
     deskof : IsDeskOfEdit loan (record (stays_put i w) { size = z.size }) t w left
     deskof = record {
@@ -170,7 +170,7 @@ module _ {V : Type 0} {H : V → Type 0} (loan : Taken V H → Loan) where
       sound = sound_now (desk_of loan t slots) w.serial i i (record_of loan w) v others edit Stays N.whole.sound refl
           (resized_settled N.low w_is R (N.may w w_is) N.whole.sound.settled);
       frames = λ n p quiet. ap (λ o. frame_bit o p) (others_found (desk_of loan t slots) w.serial i i (record_of loan w) v others edit Stays N.whole.sound.distinct n (turned n w.serial (first_is (n == w.serial) (is_this touch.also n) quiet)));
-      planned = (plan_is w w_is).1 left deskof;
+      planned = plan_is w w_is left deskof;
       drawn = subst (λ ws. IsPlanDrawn plan None t.font ws t.screen new.screen) windows_are N.committed.drawn;
       desk_is = λ k. record {
         width = pos (N.committed.drawn.width k);
@@ -191,13 +191,10 @@ module _ {V : Type 0} {H : V → Type 0} (loan : Taken V H → Loan) where
         first_is true y f = f
         first_is false y f = refl
 
-    pub size_is_whole : IsWholeManager loan new slots
-    size_is_whole = arranged_is_whole loan touch t new slots slots left plan size_arranged
-
     size_is_left : (desk_of loan new slots ≡ left) × IsChanged (moving w.serial None) (layered_state (state_of loan t slots)) (layered_state (state_of loan new slots))
     size_is_left = arranged_is_left loan touch t new slots slots left plan size_arranged
 
-    pub size_step : first_refusal (size_refusals z (desk_of loan t slots)) ≡ None → IsWindowStep (asks.Size z) (Ok Done) (state_of loan t slots) (state_of loan new slots)
+    size_step : first_refusal (size_refusals z (desk_of loan t slots)) ≡ None → IsWindowStep (asks.Size z) (Ok Done) (state_of loan t slots) (state_of loan new slots)
     size_step allowed = (
       allowed,
       (
@@ -218,20 +215,16 @@ module _ {V : Type 0} {H : V → Type 0} (loan : Taken V H → Loan) where
         sized_so : put_in i v others ≡ changed z.window (with_size z.size (loan R.taken).definition) (desk_of loan t slots).windows
         sized_so = put_is_insert i v others ∙ sym (steps.changed_so loan t new slots N.whole i z.window w N.low w_is (N.serial w w_is) (with_size z.size (loan R.taken).definition))
 
+    -- it is whole after the call, which made its step
+    pub size_done : first_refusal (size_refusals z (desk_of loan t slots)) ≡ None
+        → IsWholeManager loan new slots × IsWindowStep (asks.Size z) (Ok Done) (state_of loan t slots) (state_of loan new slots)
+    size_done allowed = (arranged_is_whole loan touch t new slots slots left plan size_arranged, size_step allowed)
+
   -- ---- the window that is found
 
   module _ (t : WindowManager V H) (slots : List SlotView) (whole : IsWholeManager loan t slots) (i : ℕ) (z : SizeWindow) (found : StandsAt t.windows.records.items z.window i) (x : Window V H) (x_is : IsWindowAt t.windows.records.items i x) where
     pub may_size : (b : Bool) → b ≡ is_placed (Some (loan x.taken).definition) x.place z.size → first_refusal (size_refusals z (desk_of loan t slots)) ≡ (if b then None else Some OutOfRange)
-    may_size b placed =
-        (λ k. first_refusal ((is_none (here k), NoSuchWindow) ∷ (not (may_have_size z.size (here k)), OutOfRange) ∷ []))
-        ∙ ap (λ c. if not c then Some OutOfRange else None) (sym placed) ∙ by_test b
-      where
-        here : record_with z.window (desk_of loan t slots).windows ≡ Some (record_of loan x)
-        here = steps.found loan t t slots whole i z.window x found.0 x_is (found.1 x x_is)
-
-        by_test : (c : Bool) → (if not c then Some OutOfRange else None) ≡ (if c then None else Some OutOfRange)
-        by_test true = refl
-        by_test false = refl
+    may_size b placed = steps.may_stand loan t t slots whole i z.window x found.0 x_is (found.1 x x_is) (may_have_size z.size) b placed
 
     -- one that may have the size
     module _ (may : MayHave loan z.size x) where
@@ -242,14 +235,14 @@ module _ {V : Type 0} {H : V → Type 0} (loan : Taken V H → Loan) where
       is_placeable e e_is = subst (λ (y : Edit). IsPlaceable loan (record y { size = z.size }) t.windows.records.items) (sym e_is)
           (λ w w_is. ap (λ (y : Window V H). is_placed (Some (loan y.taken).definition) x.place z.size) (same_at t.windows.records.items i w x found.0 w_is x_is) ∙ may.0)
 
-      pub size_call : (plan : Plan) (new : WindowManager V H) (e : Edit) → e ≡ stays_put i x → IsPlanOfEdit loan (record e { size = z.size }) None t plan → IsSizeCommitted loan i z.size plan t new → IsSizeCall i z plan t new slots
-      size_call plan new e e_is planned committed = record {
+      pub size_call : (activation : Activation) (plan : Plan) (new : WindowManager V H) (e : Edit) → e ≡ stays_put i x → IsPlanOfEdit loan (record e { size = z.size }) activation None t plan → IsSizeCommitted loan i z.size plan t new → IsSizeCall i z activation plan t new slots
+      size_call activation plan new e e_is planned committed = record {
         whole = whole;
         low = found.0;
         serial = found.1;
         may = is_sizable;
         planned = λ w w_is.
-            subst (λ (y : Window V H). IsPlanOfEdit loan (record (stays_put i y) { size = z.size }) None t plan) (same_at t.windows.records.items i x w found.0 x_is w_is)
-            (subst (λ (y : Edit). IsPlanOfEdit loan (record y { size = z.size }) None t plan) e_is planned);
+            subst (λ (y : Window V H). IsPlanOfEdit loan (record (stays_put i y) { size = z.size }) activation None t plan) (same_at t.windows.records.items i x w found.0 x_is w_is)
+            (subst (λ (y : Edit). IsPlanOfEdit loan (record y { size = z.size }) activation None t plan) e_is planned);
         committed = committed;
       }

@@ -25,8 +25,9 @@ use Rattle.desk_call.specs.declared.window.WindowCall.TheVariants.{Show, Hide, S
 use Rattle.desk_call.specs.declared.window.WindowReply.{WindowReply}
 use Rattle.window_mgr.specs.declared.manager.WindowManager.{WindowManager}
 use Rattle.window_mgr.specs.FullDesk.{FullDesk}
+use Rattle.window_mgr.specs.AnySlots.{IsRearrangedOverAnySlots}
 use Rattle.window_mgr.specs.Arrange.{Arrangement, at_place, with_shown, is_visible, if_visible, brought, changed, way_to, behind_this, without}
-use Rattle.window_mgr.specs.Edits.{records_put, stays_put, IsWindowAt, IsRearranged, IsPlaceBehind, IsPlaceable}
+use Rattle.window_mgr.specs.Edits.{records_put, stays_put, IsWindowAt, IsPlaceBehind, IsPlaceable}
 use Rattle.window_mgr.specs.Effects.{Effect, IsEffect, IsArrangement, effect_of}
 use Rattle.window_mgr.specs.Effects.Effect.{Arranges}
 use Rattle.window_mgr.specs.Finding.{record_with}
@@ -59,16 +60,26 @@ module _ {V : Type 0} {H : V → Type 0} (loan : Taken V H → Loan) (t new : Wi
   pub not_missing : first_refusal ((is_missing s desk.windows, NoSuchWindow) ∷ []) ≡ None
   not_missing = ap (λ o. if is_none o then Some NoSuchWindow else None) found
 
+  -- the window manager is whole after the call, which makes its step
+  abbrev IsStep : WindowCall → Result WindowReply Refusal → Type 0
+  IsStep call result = IsWholeManager loan new slots × IsWindowStep call result (state_of loan t slots) (state_of loan new slots)
+
   -- a call that arranges the windows as the edit does makes its step
   edit_step : (call : WindowCall) (e : Edit) (activates : Activates) (by : Option Point) (result : Result WindowReply Refusal) (a : Arrangement) → e.at ≡ i → effect_of call desk ≡ Arranges a → may_grow call ≡ true → IsRefusal call (state_of loan t slots) None
       → a ≡ record { window = x.serial; by = by; windows = records_put loan e x t; activates = activates }
-      → IsRearranged loan e activates by result t new slots → IsWindowStep call result (state_of loan t slots) (state_of loan new slots)
-  edit_step call e activates by (Ok answer) a at is grows allowed a_is done = (
-    allowed,
-    subst (λ (f : Effect). IsEffect f answer (state_of loan t slots) (state_of loan new slots)) (sym is)
-        (done.0, subst (λ (y : Arrangement). IsArrangement y (state_of loan t slots) (state_of loan new slots)) (sym a_is) (done.1 x (subst (λ k. IsWindowAt t.windows.records.items k x) (sym at) x_is))),
-  )
-  edit_step call e activates by (Err refusal) a at is grows allowed a_is done = (inr (allowed, (grows, done.0)), done.1)
+      → IsRearrangedOverAnySlots loan e activates by result t new → IsStep call result
+  edit_step call e activates by (Ok answer) a at is grows allowed a_is done =
+      let left = done slots whole in (
+        left.0,
+        (
+          allowed,
+          subst (λ (f : Effect). IsEffect f answer (state_of loan t slots) (state_of loan new slots)) (sym is)
+              (left.1.0, subst (λ (y : Arrangement). IsArrangement y (state_of loan t slots) (state_of loan new slots)) (sym a_is) (left.1.1 x (subst (λ k. IsWindowAt t.windows.records.items k x) (sym at) x_is))),
+        ),
+      )
+  edit_step call e activates by (Err refusal) a at is grows allowed a_is done =
+      let left = done slots whole in
+      (left.0, (inr (allowed, (grows, left.1.0)), left.1.1))
 
   -- the windows, this one put elsewhere or changed
   brought_so : brought s desk.windows ≡ insert others 0 (record_of loan x)
@@ -80,50 +91,50 @@ module _ {V : Type 0} {H : V → Type 0} (loan : Taken V H → Loan) (t new : Wi
   -- ---- one by one
 
   pub select_step : (e : Edit) (activates : Activates) (result : Result WindowReply Refusal) → e ≡ record (stays_put i x) { to = 0 } → activates ≡ (if x.shown then Itself else Nothing)
-      → IsRearranged loan e activates None result t new slots → IsWindowStep (Select s) result (state_of loan t slots) (state_of loan new slots)
+      → IsRearrangedOverAnySlots loan e activates None result t new → IsStep (Select s) result
   select_step e activates result e_is activates_is done =
       edit_step (Select s) (record (stays_put i x) { to = 0 }) (if x.shown then Itself else Nothing) None result _ refl refl refl not_missing
       (λ k. record { window = sym serial k; by = None; windows = brought_so k; activates = if_visible (found k) Itself })
-      (subst (λ (y : Edit × Activates). IsRearranged loan y.0 y.1 None result t new slots) (λ k. (e_is k, activates_is k)) done)
+      (subst (λ (y : Edit × Activates). IsRearrangedOverAnySlots loan y.0 y.1 None result t new) (λ k. (e_is k, activates_is k)) done)
 
   pub bring_step : (e : Edit) (result : Result WindowReply Refusal) → e ≡ record (stays_put i x) { to = 0 }
-      → IsRearranged loan e Nothing None result t new slots → IsWindowStep (BringToFront s) result (state_of loan t slots) (state_of loan new slots)
+      → IsRearrangedOverAnySlots loan e Nothing None result t new → IsStep (BringToFront s) result
   bring_step e result e_is done =
       edit_step (BringToFront s) (record (stays_put i x) { to = 0 }) Nothing None result _ refl refl refl not_missing
       (λ k. record { window = sym serial k; by = None; windows = brought_so k; activates = Nothing })
-      (subst (λ (y : Edit). IsRearranged loan y Nothing None result t new slots) e_is done)
+      (subst (λ (y : Edit). IsRearrangedOverAnySlots loan y Nothing None result t new) e_is done)
 
   pub show_step : (e : Edit) (activates : Activates) (result : Result WindowReply Refusal) → e ≡ record (stays_put i x) { shown = true } → activates ≡ (if not x.shown then ItselfIfFront else Nothing)
-      → IsRearranged loan e activates None result t new slots → IsWindowStep (Show s) result (state_of loan t slots) (state_of loan new slots)
+      → IsRearrangedOverAnySlots loan e activates None result t new → IsStep (Show s) result
   show_step e activates result e_is activates_is done =
       edit_step (Show s) (record (stays_put i x) { shown = true }) (if not x.shown then ItselfIfFront else Nothing) None result _ refl refl refl not_missing
       (λ k. record { window = sym serial k; by = None; windows = changed_so (with_shown true) k; activates = (ap (λ o. if is_visible o then Nothing else ItselfIfFront) found ∙ turned x.shown) k })
-      (subst (λ (y : Edit × Activates). IsRearranged loan y.0 y.1 None result t new slots) (λ k. (e_is k, activates_is k)) done)
+      (subst (λ (y : Edit × Activates). IsRearrangedOverAnySlots loan y.0 y.1 None result t new) (λ k. (e_is k, activates_is k)) done)
     where
       turned : (b : Bool) → (if b then Nothing else ItselfIfFront) ≡ (if not b then ItselfIfFront else Nothing)
       turned true = refl
       turned false = refl
 
   pub hide_step : (e : Edit) (activates : Activates) (result : Result WindowReply Refusal) → e ≡ record (stays_put i x) { shown = false } → activates ≡ (if x.shown then FrontInItsPlace else Nothing)
-      → IsRearranged loan e activates None result t new slots → IsWindowStep (Hide s) result (state_of loan t slots) (state_of loan new slots)
+      → IsRearrangedOverAnySlots loan e activates None result t new → IsStep (Hide s) result
   hide_step e activates result e_is activates_is done =
       edit_step (Hide s) (record (stays_put i x) { shown = false }) (if x.shown then FrontInItsPlace else Nothing) None result _ refl refl refl not_missing
       (λ k. record { window = sym serial k; by = None; windows = changed_so (with_shown false) k; activates = if_visible (found k) FrontInItsPlace })
-      (subst (λ (y : Edit × Activates). IsRearranged loan y.0 y.1 None result t new slots) (λ k. (e_is k, activates_is k)) done)
+      (subst (λ (y : Edit × Activates). IsRearrangedOverAnySlots loan y.0 y.1 None result t new) (λ k. (e_is k, activates_is k)) done)
 
   pub show_hide_step : (c : showing.ShowHide) (e : Edit) (result : Result WindowReply Refusal) → s ≡ c.window → e ≡ record (stays_put i x) { shown = c.shown }
-      → IsRearranged loan e Nothing None result t new slots → IsWindowStep (ShowHide c) result (state_of loan t slots) (state_of loan new slots)
+      → IsRearrangedOverAnySlots loan e Nothing None result t new → IsStep (ShowHide c) result
   show_hide_step c e result named e_is done =
       edit_step (ShowHide c) (record (stays_put i x) { shown = c.shown }) Nothing None result _ refl refl refl (subst (λ n. first_refusal ((is_missing n desk.windows, NoSuchWindow) ∷ []) ≡ None) named not_missing)
       (λ k. record { window = sym (serial ∙ named) k; by = None; windows = (ap (λ n. changed n (with_shown c.shown) desk.windows) (sym named) ∙ changed_so (with_shown c.shown)) k; activates = Nothing })
-      (subst (λ (y : Edit). IsRearranged loan y Nothing None result t new slots) e_is done)
+      (subst (λ (y : Edit). IsRearrangedOverAnySlots loan y Nothing None result t new) e_is done)
 
   pub send_step : (b : sending.SendBehind) (to : ℕ) (e : Edit) (result : Result WindowReply Refusal) → s ≡ b.window → IsPlaceBehind loan b i t to → e ≡ record (stays_put i x) { to = to }
-      → IsRearranged loan e NextInItsPlace None result t new slots → IsWindowStep (SendBehind b) result (state_of loan t slots) (state_of loan new slots)
+      → IsRearrangedOverAnySlots loan e NextInItsPlace None result t new → IsStep (SendBehind b) result
   send_step b to e result named place e_is done =
       edit_step (SendBehind b) (record (stays_put i x) { to = to }) NextInItsPlace None result _ refl refl refl place.unrefused
       (λ k. record { window = sym (serial ∙ named) k; by = None; windows = sent_so k; activates = NextInItsPlace })
-      (subst (λ (y : Edit). IsRearranged loan y NextInItsPlace None result t new slots) e_is done)
+      (subst (λ (y : Edit). IsRearrangedOverAnySlots loan y NextInItsPlace None result t new) e_is done)
     where
       sent_so : behind_this b.behind (record_with b.window desk.windows) (without b.window desk.windows) ≡ insert others to (record_of loan x)
       sent_so =
@@ -132,19 +143,22 @@ module _ {V : Type 0} {H : V → Type 0} (loan : Taken V H → Loan) (t new : Wi
           ∙ behind_is t.font s i (record_of loan x) others serial free b.behind
           ∙ place.is (record_of loan x)
 
+  -- where nothing but this refuses a call about a window that is there, it says whether the call is refused
+  pub may_stand : (may : Option WindowRecord → Bool) (b : Bool) → b ≡ may (Some (record_of loan x))
+      → first_refusal ((is_missing s desk.windows, NoSuchWindow) ∷ (not (may (record_with s desk.windows)), OutOfRange) ∷ []) ≡ (if b then None else Some OutOfRange)
+  may_stand may b stands =
+      (λ k. first_refusal ((is_none (found k), NoSuchWindow) ∷ (not (may (found k)), OutOfRange) ∷ []))
+      ∙ ap (λ c. if not c then Some OutOfRange else None) (sym stands) ∙ by_test b
+    where
+      by_test : (c : Bool) → (if not c then Some OutOfRange else None) ≡ (if c then None else Some OutOfRange)
+      by_test true = refl
+      by_test false = refl
+
   -- ---- and a window that moves
 
   pub may_move : (m : MoveWindow) (b : Bool) → s ≡ m.window → b ≡ is_placed (Some (loan x.taken).definition) m.place x.size → first_refusal (move_refusals m desk) ≡ (if b then None else Some OutOfRange)
   may_move m b named placed =
-      (λ k. first_refusal ((is_none (here k), NoSuchWindow) ∷ (not (may_be_at m.place (here k)), OutOfRange) ∷ []))
-      ∙ ap (λ c. if not c then Some OutOfRange else None) (sym placed) ∙ by_test b
-    where
-      here : record_with m.window desk.windows ≡ Some (record_of loan x)
-      here = ap (λ n. record_with n desk.windows) (sym named) ∙ found
-
-      by_test : (c : Bool) → (if not c then Some OutOfRange else None) ≡ (if c then None else Some OutOfRange)
-      by_test true = refl
-      by_test false = refl
+      ap (λ n. first_refusal (move_refusals (record m { window = n }) desk)) (sym named) ∙ may_stand (may_be_at m.place) b placed
 
   -- a window that may move
   module _ (m : MoveWindow) (placed : is_placed (Some (loan x.taken).definition) m.place x.size ≡ true) where
@@ -157,7 +171,7 @@ module _ {V : Type 0} {H : V → Type 0} (loan : Taken V H → Loan) (t new : Wi
 
   pub move_step : (m : MoveWindow) (e : Edit) (activates : Activates) (by : Point) (result : Result WindowReply Refusal) → s ≡ m.window → first_refusal (move_refusals m desk) ≡ None
       → e ≡ record { at = i; to = if m.select then 0 else i; place = m.place; size = x.size; shown = x.shown } → activates ≡ (if m.select && x.shown then Itself else Nothing) → by ≡ minus m.place x.place
-      → IsRearranged loan e activates (Some by) result t new slots → IsWindowStep (Move m) result (state_of loan t slots) (state_of loan new slots)
+      → IsRearrangedOverAnySlots loan e activates (Some by) result t new → IsStep (Move m) result
   move_step m e activates by result named allowed e_is activates_is by_is done =
       edit_step (Move m) (record { at = i; to = if m.select then 0 else i; place = m.place; size = x.size; shown = x.shown }) (if m.select && x.shown then Itself else Nothing) (Some (minus m.place x.place)) result _ refl refl refl allowed
       (λ k. record {
@@ -166,7 +180,7 @@ module _ {V : Type 0} {H : V → Type 0} (loan : Taken V H → Loan) (t new : Wi
         windows = (by_select m.select) k;
         activates = (ap (λ o. if m.select then if_visible o Itself else Nothing) here ∙ both m.select x.shown) k;
       })
-      (subst (λ (y : Edit × Activates × Point). IsRearranged loan y.0 y.1 (Some y.2) result t new slots) (λ k. (e_is k, activates_is k, by_is k)) done)
+      (subst (λ (y : Edit × Activates × Point). IsRearrangedOverAnySlots loan y.0 y.1 (Some y.2) result t new) (λ k. (e_is k, activates_is k, by_is k)) done)
     where
       here : record_with m.window desk.windows ≡ Some (record_of loan x)
       here = ap (λ n. record_with n desk.windows) (sym named) ∙ found

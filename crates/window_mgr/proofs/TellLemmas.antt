@@ -36,11 +36,14 @@ use Rattle.vis_update.specs.declared.area.Area.{Area}
 use Rattle.vis_update.specs.Records.{WindowRecord, layered_window, record_of}
 use Rattle.vis_update.specs.Areas.{IsArea, is_content_of, stale_in}
 use Rattle.window_mgr.specs.declared.manager.WindowManager.{WindowManager}
+use Rattle.window_mgr.specs.declared.tell.Told.{Told}
+use Rattle.window_mgr.specs.declared.tell.Told.TheVariants.{Visible, Update}
 use Rattle.window_mgr.specs.FullDesk.{FullDesk, layered_desk}
 use Rattle.window_mgr.specs.Records.{desk_of, state_of}
 use Rattle.window_mgr.specs.Finding.{record_with}
-use Rattle.window_mgr.specs.Telling.{IsRegionOf, IsMeasured, AreRegionBytes, IsNotTold, seen_from, visible_of, update_of}
-use Rattle.window_mgr.specs.Refused.{IsUntold, first_refusal, is_missing}
+use Rattle.window_mgr.specs.Telling.{IsRegionOf, IsMeasured, AreRegionBytes, IsNotTold, seen_from, visible_of, update_of, told_of, kept_region, asking}
+use Rattle.window_mgr.specs.Refused.{IsRefusal, IsUntold, first_refusal, is_missing}
+use Rattle.window_mgr.specs.Step.{IsCallRefused}
 use Rattle.window_mgr.specs.Kept.{IsKept}
 use Rattle.window_mgr.specs.Whole.{IsSettled}
 use Rattle.desk_ground.specs.Screens.{is_screen_side}
@@ -191,12 +194,16 @@ module _ {V : Type 0} {H : V → Type 0} (loan : Taken V H → Loan) (t : Window
   own p = layers.on_screen (layered_desk desk) p && is_content_of s (owner (layered_desk desk) p)
 
   -- a window that is not there
-  pub missing_first : (set : PixelSet) → record_with s desk.windows ≡ None → IsUntold s (seen_from (record_with s desk.windows) set) desk (Some NoSuchWindow)
+  missing_first : (set : PixelSet) → record_with s desk.windows ≡ None → IsUntold s (seen_from (record_with s desk.windows) set) desk (Some NoSuchWindow)
   missing_first set missing = (
     false,
     (none, (λ p. none_holds p ∙ sym (ap (λ o. seen_from o set p) missing)), (bytes_of [], none_bytes)),
     ap (λ o. if is_none o then Some NoSuchWindow else None) missing,
   )
+
+  pub missing_refused : (told : Told) → record_with s desk.windows ≡ None → IsCallRefused (asking told s) NoSuchWindow (state_of loan t [])
+  missing_refused Visible missing = inl (missing_first _ missing)
+  missing_refused Update missing = inl (missing_first _ missing)
 
   module _ (at : ℕ) (x : Window V H) (low : at < length t.windows.records.items) (read : x ≡ get_or t.windows.records.items at x) (serial : x.serial ≡ s) where
     found : record_with s desk.windows ≡ Some (record_of loan x)
@@ -210,7 +217,7 @@ module _ {V : Type 0} {H : V → Type 0} (loan : Taken V H → Loan) (t : Window
     screen_in p e =
         let on = and_parts (layers.on_screen (layered_desk desk) p) _ e in
         let sides = and_parts (between (pos 0) p.h (pos t.screen.width)) _ on.0 in
-        let wide = and_parts (is_screen_side (pos t.screen.width)) _ kept.screen in
+        let wide = and_parts (is_screen_side (pos t.screen.width)) _ kept.whole.sound.screen in
         let high = and_parts (is_screen_side (pos t.screen.height)) _ wide.1 in
         λ i. side_in p.h (pos t.screen.width) wide.0 sides.0 i && side_in p.v (pos t.screen.height) high.0 sides.1 i
 
@@ -218,16 +225,27 @@ module _ {V : Type 0} {H : V → Type 0} (loan : Taken V H → Loan) (t : Window
     local_in : (p : Point) → own (plus p x.place) ≡ true → is_pixel_in_range p ≡ true
     local_in p e =
         let its = (and_parts (layers.on_screen (layered_desk desk) (plus p x.place)) _ e).1 in
-        let held = content_has t.font desk.windows s (record_of loan x) (plus p x.place) kept.distinct found (not_bar s _ _ its) in
+        let held = content_has t.font desk.windows s (record_of loan x) (plus p x.place) kept.whole.sound.distinct found (not_bar s _ _ its) in
         let boxed = settled.within p (sym (ap ((loan x.taken).definition.content x.size) (again_here p x.place)) ∙ held) in
         box_in ((loan x.taken).definition.bounds x.size) p (and_parts (is_size x.size) _ settled.fits).1 boxed
+
+    -- the region of these pixels is told as the call asks, which nothing refuses but that its bytes are too long, or memory
+    told_where : {X : Type 0} (items : X → List ℕ) (result : Result X Refusal) (set other : PixelSet) → ((p : Point) → set p ≡ other p)
+        → MatchResult result (λ b. AreRegionBytes set (items b)) (IsNotTold set)
+        → MatchResult result (λ b. IsUntold s other desk None × AreRegionBytes other (items b)) (λ e. IsUntold s other desk (Some e) ⊎ (IsUntold s other desk None × ((true ≡ true) × (e ≡ NoMemory))))
+    told_where items (Ok b) set other same (region, is, written) = ((false, (region, (λ p. is p ∙ same p), (items b, written)), unrefused), (region, (λ p. is p ∙ same p), written))
+      where
+        unrefused : first_refusal ((is_missing s desk.windows, NoSuchWindow) ∷ (false, TooLong) ∷ []) ≡ None
+        unrefused = ap (λ o. first_refusal ((is_none o, NoSuchWindow) ∷ (false, TooLong) ∷ [])) found
+    told_where items (Err e) set other same (inl (is, long)) = inl (true, measured_as set other same true long, ap (λ o. first_refusal ((is_none o, NoSuchWindow) ∷ (true, TooLong) ∷ [])) found ∙ ap Some (sym is))
+    told_where items (Err e) set other same (inr (is, short)) = inr ((false, measured_as set other same false short, ap (λ o. first_refusal ((is_none o, NoSuchWindow) ∷ (false, TooLong) ∷ [])) found), (refl, is))
 
     -- the window's area
     module _ (a : Area) (a_is : a ≡ get_or t.areas.items at a) where
       area_is : IsArea (layered_desk desk) (stale_in t.areas.items) s a
       area_is =
           let long = as_many loan t kept in
-          let there = area_at (layered_desk desk) (stale_in t.areas.items) desk.windows t.areas.items at a kept.areas (omega arith) in
+          let there = area_at (layered_desk desk) (stale_in t.areas.items) desk.windows t.areas.items at a kept.whole.areas (omega arith) in
           subst (λ (y : ℕ × Area). IsArea (layered_desk desk) (stale_in t.areas.items) y.0 y.1) (λ i. (serial_is there.0 there.1 i, sym a_is i)) there.2
         where
           serial_is : (v : WindowRecord) → slice_get desk.windows at ≡ Some v → v.serial ≡ s
@@ -236,38 +254,30 @@ module _ {V : Type 0} {H : V → Type 0} (loan : Taken V H → Loan) (t : Window
               let same : v ≡ record_of loan x = let both : Some v ≡ Some (record_of loan x) = sym v_is ∙ here in cc in
               ap (λ (w : WindowRecord). w.serial) same ∙ serial
 
-      -- its visible region can be moved, and is what the content owns
-      pub visible_local : (p : Point) → holds a.visible (plus p x.place) ≡ true → is_pixel_in_range p ≡ true
-      visible_local p e = local_in p (sym (area_is.visible (plus p x.place)) ∙ e)
-
-      pub visible_screen : (p : Point) → holds a.visible p ≡ true → is_pixel_in_range p ≡ true
-      visible_screen p e = screen_in p (sym (area_is.visible p) ∙ e)
-
-      pub visible_seen : (p : Point) → holds a.visible (plus p x.place) ≡ visible_of s (state_of loan t []) p
+      -- its visible region is what the content owns
+      visible_seen : (p : Point) → holds a.visible (plus p x.place) ≡ visible_of s (state_of loan t []) p
       visible_seen p = area_is.visible (plus p x.place) ∙ sym (ap (λ o. seen_from o own p) found)
 
-      -- so can its update region, which is what of that is stale
-      visible_too : (p : Point) → holds a.update p ≡ true → holds a.visible p ≡ true
-      visible_too p e = (and_parts (holds a.visible p) _ (sym (area_is.update p) ∙ e)).0
-
-      pub update_local : (p : Point) → holds a.update (plus p x.place) ≡ true → is_pixel_in_range p ≡ true
-      update_local p e = visible_local p (visible_too (plus p x.place) e)
-
-      pub update_screen : (p : Point) → holds a.update p ≡ true → is_pixel_in_range p ≡ true
-      update_screen p e = visible_screen p (visible_too p e)
-
-      pub update_seen : (p : Point) → holds a.update (plus p x.place) ≡ update_of s (state_of loan t []) p
+      -- and its update region what of that is stale
+      update_seen : (p : Point) → holds a.update (plus p x.place) ≡ update_of s (state_of loan t []) p
       update_seen p =
           area_is.update (plus p x.place) ∙ ap (λ b. b && stale_in t.areas.items (plus p x.place)) (area_is.visible (plus p x.place))
           ∙ sym (ap (λ o. seen_from o (λ q. own q && stale_in t.areas.items q) p) found)
 
-    -- the region of these pixels is told as the call asks, which nothing refuses but that its bytes are too long, or memory
-    pub told_of : {X : Type 0} (items : X → List ℕ) (result : Result X Refusal) (set other : PixelSet) → ((p : Point) → set p ≡ other p)
-        → MatchResult result (λ b. AreRegionBytes set (items b)) (IsNotTold set)
-        → MatchResult result (λ b. IsUntold s other desk None × AreRegionBytes other (items b)) (λ e. IsUntold s other desk (Some e) ⊎ (IsUntold s other desk None × ((true ≡ true) × (e ≡ NoMemory))))
-    told_of items (Ok b) set other same (region, is, written) = ((false, (region, (λ p. is p ∙ same p), (items b, written)), unrefused), (region, (λ p. is p ∙ same p), written))
-      where
-        unrefused : first_refusal ((is_missing s desk.windows, NoSuchWindow) ∷ (false, TooLong) ∷ []) ≡ None
-        unrefused = ap (λ o. first_refusal ((is_none o, NoSuchWindow) ∷ (false, TooLong) ∷ [])) found
-    told_of items (Err e) set other same (inl (is, long)) = inl (true, measured_as set other same true long, ap (λ o. first_refusal ((is_none o, NoSuchWindow) ∷ (true, TooLong) ∷ [])) found ∙ ap Some (sym is))
-    told_of items (Err e) set other same (inr (is, short)) = inr ((false, measured_as set other same false short, ap (λ o. first_refusal ((is_none o, NoSuchWindow) ∷ (false, TooLong) ∷ [])) found), (refl, is))
+      -- so the call tells it
+      pub region_told : (told : Told) {X : Type 0} (items : X → List ℕ) (result : Result X Refusal)
+          → MatchResult result (λ b. AreRegionBytes (λ p. holds (kept_region told a) (plus p x.place)) (items b)) (IsNotTold (λ p. holds (kept_region told a) (plus p x.place)))
+          → MatchResult result (λ b. IsRefusal (asking told s) (state_of loan t []) None × AreRegionBytes (told_of told s (state_of loan t [])) (items b)) (λ e. IsCallRefused (asking told s) e (state_of loan t []))
+      region_told Visible items result its = told_where items result _ _ visible_seen its
+      region_told Update items result its = told_where items result _ _ update_seen its
+
+      -- both can be moved
+      visible_too : (told : Told) (p : Point) → holds (kept_region told a) p ≡ true → holds a.visible p ≡ true
+      visible_too Visible p e = e
+      visible_too Update p e = (and_parts (holds a.visible p) _ (sym (area_is.update p) ∙ e)).0
+
+      pub region_local : (told : Told) (p : Point) → holds (kept_region told a) (plus p x.place) ≡ true → is_pixel_in_range p ≡ true
+      region_local told p e = local_in p (sym (area_is.visible (plus p x.place)) ∙ visible_too told (plus p x.place) e)
+
+      pub region_screen : (told : Told) (p : Point) → holds (kept_region told a) p ≡ true → is_pixel_in_range p ≡ true
+      region_screen told p e = screen_in p (sym (area_is.visible p) ∙ visible_too told p e)

@@ -19,20 +19,14 @@ use Rattle.window_mgr.specs.Finding.{record_with, front_of}
 
 -- ---- highlighting
 
--- the window loses its highlighting if it is the one of this serial
-abbrev pub unhighlighted : Option ℕ → WindowRecord → WindowRecord
-unhighlighted None w = w
-unhighlighted (Some s) w = if w.serial == s then record w { highlighted = false } else w
-
--- the window gets its highlighting if it is the one of this serial
-abbrev pub highlighted : Option ℕ → WindowRecord → WindowRecord
-highlighted None w = w
-highlighted (Some s) w = if w.serial == s then record w { highlighted = true } else w
+-- the window gets or loses its highlighting if it is the one of this serial
+abbrev pub with_highlighting : Bool → Option ℕ → WindowRecord → WindowRecord
+with_highlighting on s w = if is_this s w.serial then record w { highlighted = on } else w
 
 -- the windows after an activation, where this was the active one
 abbrev pub activated : Activation → Option ℕ → List WindowRecord → List WindowRecord
 activated Stays former ws = ws
-activated (Becomes s) former ws = map (λ w. highlighted s (unhighlighted former w)) ws
+activated (Becomes s) former ws = map (λ w. with_highlighting true s (with_highlighting false former w)) ws
 
 -- the active window then
 abbrev pub active_after : Activation → Option ℕ → Option ℕ
@@ -57,6 +51,11 @@ activation_of Itself s active front = Becomes (Some s)
 activation_of ItselfIfFront s active front = if_active (is_this front s) (Some s)
 activation_of FrontInItsPlace s active front = if_active (is_this active s) front
 activation_of NextInItsPlace s active front = if is_this active s then next_active s front else Stays
+
+-- another window than this whose highlighting may change by an activation, where that was the active one
+abbrev pub also_of : Activation → ℕ → Option ℕ → Option ℕ
+also_of Stays s former = None
+also_of (Becomes t) s former = if is_this former s then t else former
 
 -- the desk with these windows, after an activation
 abbrev pub desk_activated : List WindowRecord → Activation → FullDesk → FullDesk

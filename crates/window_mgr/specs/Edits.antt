@@ -26,7 +26,7 @@ use Rattle.desk_call.specs.declared.window.WindowReply.TheVariants.{Done}
 use Rattle.window_mgr.specs.declared.manager.WindowManager.{WindowManager}
 use Rattle.window_mgr.specs.FullDesk.{FullDesk, layered_desk, layered_state}
 use Rattle.window_mgr.specs.Records.{desk_of, state_of}
-use Rattle.window_mgr.specs.Arrange.{activation_of, active_after, put_behind}
+use Rattle.window_mgr.specs.Arrange.{activation_of, active_after, also_of, put_behind}
 use Rattle.window_mgr.specs.Refused.{first_refusal, behind_refusals}
 use Rattle.desk_call.specs.declared.window.SendBehind.{SendBehind}
 use Rattle.window_mgr.specs.Finding.{front_of}
@@ -96,10 +96,11 @@ module _ {V : Type 0} {H : V → Type 0} (loan : Taken V H → Loan) where
     pub screen : layered_desk after ≡ record (layered_desk (desk_of loan t [])) { windows = (layered_desk after).windows }
     pub stands : map stand_of after.windows ≡ map stand_of (insert (map (record_of loan) (remove t.windows.records.items e.at)) e.to (put_record e (record_of loan w)))
 
-  -- the plan is right for each such desk, where pixels move so far; the frame of one more window may be drawn whole
-  abbrev pub IsPlanOfEdit : Edit → Option Point → WindowManager V H → Plan → Type 0
-  IsPlanOfEdit e by t plan = (w : Window V H) → IsWindowAt t.windows.records.items e.at w → (also : Option ℕ) × ((after : FullDesk) → IsDeskOfEdit e t w after
-      → IsPlan (record { window = w.serial; also = also; by = by }) (layered_state (state_of loan t [])) (layered_desk after) t.desktop after.windows plan)
+  -- the plan is right for each such desk, where pixels move so far; the frame of a window whose highlighting may change
+  -- by this activation is drawn whole
+  abbrev pub IsPlanOfEdit : Edit → Activation → Option Point → WindowManager V H → Plan → Type 0
+  IsPlanOfEdit e activation by t plan = (w : Window V H) → IsWindowAt t.windows.records.items e.at w → (after : FullDesk) → IsDeskOfEdit e t w after
+      → IsPlan (record { window = w.serial; also = also_of activation w.serial t.windows.active; by = by }) (layered_state (state_of loan t [])) (layered_desk after) t.desktop after.windows plan
 
   -- nothing refuses that the window at this place goes behind another or behind all, and that is this place of the others
   pub record IsPlaceBehind (b : SendBehind) (at : ℕ) (t : WindowManager V H) (to : ℕ) : Type 0 where

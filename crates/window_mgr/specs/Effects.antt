@@ -1,5 +1,5 @@
 -- What calls do: the kinds of effect, and which has which.
-use Rattle.std.specs.Prelude.{◌≡◌, ℕ, true, if◌then◌else◌, ◌==◌, List, [], ◌∷◌, ◌++◌, map, Some, pos}
+use Rattle.std.specs.Prelude.{◌≡◌, ℕ, true, false, if◌then◌else◌, ◌==◌, List, [], ◌∷◌, ◌++◌, map, Some, pos}
 use Rattle.tb_geom.specs.declared.point.Point.{Point}
 use Rattle.tb_geom.specs.Points.{PixelSet, minus}
 use Rattle.draw_port.specs.declared.shapes.Op.{Op}
@@ -27,7 +27,7 @@ use Rattle.desk_call.specs.declared.window.WindowReply.{WindowReply}
 use Rattle.desk_call.specs.declared.window.WindowReply.TheVariants as reply
 use Rattle.window_mgr.specs.FullDesk.{FullDesk, FullState, layered_desk, layered_state}
 use Rattle.window_mgr.specs.Finding.{record_with, found_at, front_of, info_of}
-use Rattle.window_mgr.specs.Arrange.{Arrangement, unhighlighted, desk_arranged, without, selected, brought_forward, sent_behind, moved, made_visible, made_hidden, made_so, sized}
+use Rattle.window_mgr.specs.Arrange.{Arrangement, with_highlighting, desk_arranged, without, selected, brought_forward, sent_behind, moved, made_visible, made_hidden, made_so, sized}
 use Rattle.window_mgr.specs.Closing.{IsShut, loan_of}
 use Rattle.window_mgr.specs.Telling.{IsRegionTold, visible_of, update_of}
 
@@ -50,7 +50,7 @@ new_record w serial slot d = record {
 -- a new window in front of all: a visible one becomes active, in place of the window that was
 abbrev pub desk_with : NewWindow → ℕ → ℕ → Definition → FullDesk → FullDesk
 desk_with w serial slot d desk = record desk {
-  windows = new_record w serial slot d ∷ (if w.shown then map (unhighlighted desk.active) desk.windows else desk.windows);
+  windows = new_record w serial slot d ∷ (if w.shown then map (with_highlighting false desk.active) desk.windows else desk.windows);
   active = if w.shown then Some serial else desk.active;
   next = number_after serial;
 }

@@ -14,6 +14,7 @@ pub mod Seats
 pub mod Commits
 pub mod Planned
 pub mod Edits
+pub mod AnySlots
 pub mod Sizing
 pub mod Without
 pub mod Begin

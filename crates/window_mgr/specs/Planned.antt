@@ -22,6 +22,7 @@ use Rattle.desk_call.specs.declared.window.NewWindow.{NewWindow}
 use Rattle.window_mgr.specs.declared.manager.WindowManager.{WindowManager}
 use Rattle.window_mgr.specs.declared.new_window.Addition.{Addition}
 use Rattle.window_mgr.specs.declared.new_window.Ticket.{Ticket}
+use Rattle.window_mgr.specs.Arrange.{also_of, if_active}
 use Rattle.window_mgr.specs.FullDesk.{layered_desk, layered_state}
 use Rattle.window_mgr.specs.Records.{desk_of, state_of}
 use Rattle.window_mgr.specs.Refused.{first_refusal, judged_refusals, most_operations}
@@ -34,10 +35,9 @@ IsUnplanned w placed count next e =
     (first_refusal (judged_refusals w placed count next) ≡ Some e)
     ⊎ ((first_refusal (judged_refusals w placed count next) ≡ None) × (e ≡ NoMemory))
 
--- what a new window does with the windows: it is drawn whole, and where it is visible so is the frame of the window that
--- was active
+-- what a new window does with the windows: it is drawn whole, and becomes active where it is visible
 abbrev pub new_touch : NewWindow → ℕ → Option ℕ → Touch
-new_touch w serial active = record { window = serial; also = if w.shown then active else None; by = None }
+new_touch w serial active = record { window = serial; also = also_of (if_active w.shown (Some serial)) serial active; by = None }
 
 module _ {V : Type 0} {H : V → Type 0} where
   -- the same desk, whatever room its lists have

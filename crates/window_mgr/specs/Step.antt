@@ -1,14 +1,12 @@
 -- One step: what a call leaves, and what it answers.
-use Rattle.std.specs.Prelude.{◌≡◌, ◌⊎◌, ℕ, true, None, Some, Result, Ok, Err}
+use Rattle.std.specs.Prelude.{◌≡◌, ◌⊎◌, true, None, Some, Result, Ok, Err}
 use Rattle.tb_geom.specs.declared.refusal.Refusal.{Refusal}
 use Rattle.tb_geom.specs.declared.refusal.Refusal.TheVariants.{NoMemory}
 use Rattle.desk_call.specs.declared.window.WindowCall.{WindowCall}
-use Rattle.desk_call.specs.declared.window.WindowCall.TheVariants.{New}
-use Rattle.desk_call.specs.declared.window.NewWindow.{NewWindow}
 use Rattle.desk_call.specs.declared.window.WindowReply.{WindowReply}
 use Rattle.window_mgr.specs.FullDesk.{FullState}
 use Rattle.window_mgr.specs.Refused.{IsRefusal, may_grow}
-use Rattle.window_mgr.specs.Effects.{IsNewWindow, IsUnchanged, IsEffect, effect_of}
+use Rattle.window_mgr.specs.Effects.{IsUnchanged, IsEffect, effect_of}
 
 -- the call is refused for this: the first refusal of the written order whose condition holds, or, where there is none
 -- and the call may grow, want of memory
@@ -19,11 +17,3 @@ IsCallRefused call e state = IsRefusal call state (Some e) ⊎ (IsRefusal call s
 abbrev pub IsWindowStep : WindowCall → Result WindowReply Refusal → FullState → FullState → Type 0
 IsWindowStep call (Ok answer) before after = IsRefusal call before None × IsEffect (effect_of call before.desk) answer before after
 IsWindowStep call (Err e) before after = IsCallRefused call e before × IsUnchanged before after
-
--- nothing refused a new window, and it was made, of this number
-abbrev pub IsMade : NewWindow → ℕ → FullState → FullState → Type 0
-IsMade w serial before after = IsRefusal (New w) before None × IsNewWindow w serial before after
-
--- the call for a new window was refused
-abbrev pub IsNotMade : NewWindow → Refusal → FullState → FullState → Type 0
-IsNotMade w e before after = IsWindowStep (New w) (Err e) before after

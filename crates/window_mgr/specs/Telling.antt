@@ -8,10 +8,15 @@ use Rattle.tb_geom.specs.Pixels.{Pixels, holds}
 use Rattle.region_bytes.specs.Bytes.{IsRegionBytes, IsTooLong}
 use Rattle.def_iface.specs.Desk.{on_screen}
 use Rattle.def_iface.specs.Owner.{owner}
+use Rattle.desk_call.specs.declared.window.WindowCall.{WindowCall}
+use Rattle.desk_call.specs.declared.window.WindowCall.TheVariants.{VisibleRegion, UpdateRegion}
 use Rattle.desk_call.specs.declared.window.WindowReply.{WindowReply}
 use Rattle.desk_call.specs.declared.window.WindowReply.TheVariants as reply
+use Rattle.vis_update.specs.declared.area.Area.{Area}
 use Rattle.vis_update.specs.Records.{WindowRecord}
 use Rattle.vis_update.specs.Areas.{is_content_of}
+use Rattle.window_mgr.specs.declared.tell.Told.{Told}
+use Rattle.window_mgr.specs.declared.tell.Told.TheVariants.{Visible, Update}
 use Rattle.window_mgr.specs.FullDesk.{FullState, layered_desk}
 use Rattle.window_mgr.specs.Finding.{record_with}
 
@@ -27,6 +32,24 @@ visible_of s state = seen_from (record_with s state.desk.windows) (λ p. on_scre
 -- what of that is stale
 abbrev pub update_of : ℕ → FullState → PixelSet
 update_of s state = seen_from (record_with s state.desk.windows) (λ p. (on_screen (layered_desk state.desk) p && is_content_of s (owner (layered_desk state.desk) p)) && state.stale p)
+
+-- ---- which of both is told
+
+abbrev pub told_of : Told → ℕ → FullState → PixelSet
+told_of Visible = visible_of
+told_of Update = update_of
+
+-- the call that asks for it
+abbrev pub asking : Told → ℕ → WindowCall
+asking Visible = VisibleRegion
+asking Update = UpdateRegion
+
+-- the region of the area that has it
+abbrev pub kept_region : Told → Area → Pixels
+kept_region Visible area = area.visible
+kept_region Update area = area.update
+
+-- ---- its bytes
 
 -- the region has these pixels
 abbrev pub IsRegionOf : PixelSet → Pixels → Type 0

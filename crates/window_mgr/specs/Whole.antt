@@ -1,7 +1,7 @@
 -- What holds of a window manager and its stock between calls.
 use Rattle.std.specs.Prelude.{◌≡◌, ◌⊎◌, ℕ, ◌≤◌, true, false, List, length, map, None, Some, All, AllPairs, Contains, slice_get}
 use Rattle.tb_geom.specs.declared.point.Point.{Point}
-use Rattle.tb_geom.specs.Rects.{in_plane, is_in_range, moved, rect_holds}
+use Rattle.tb_geom.specs.Rects.{in_plane, is_in_range, moved_rect, rect_holds}
 use Rattle.def_iface.specs.declared.taken.Taken.{Taken}
 use Rattle.def_iface.specs.declared.window_def.Stage.TheVariants.{Live}
 use Rattle.def_iface.specs.Meaning.{Loan, IsWithin, is_fitting}
@@ -24,7 +24,7 @@ pub record IsSettled (w : WindowRecord) : Type 0 where
   pub live : w.definition.stage ≡ Live
   pub told : w.definition.size ≡ w.size
   pub fits : is_fitting w.definition w.size ≡ true
-  pub inside : is_in_range (moved (w.definition.bounds w.size) w.place.h w.place.v) ≡ true
+  pub inside : is_in_range (moved_rect (w.definition.bounds w.size) w.place.h w.place.v) ≡ true
   pub within : IsWithin (w.definition.content w.size) (rect_holds (w.definition.bounds w.size))
 
 -- a slot has its definition back, or belongs to one of these windows and is empty

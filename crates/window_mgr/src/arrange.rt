@@ -1,15 +1,16 @@
 //! One window put anew among the others, whichever call it is for.
-ghost use Rattle.std.specs.Prelude.{◌≡◌, ◌<◌, Some, None, All, MatchOption, IfOk, IfErr, length, map, vec_len};
+ghost use Rattle.std.specs.Prelude.{◌≡◌, ◌<◌, Some, None, All, MatchOption, IfOk, length, map, vec_len, vec_capacity};
 ghost use Rattle.vis_update.specs.Records.{record_of};
-ghost use Rattle.window_mgr.specs.Arrange.{activation_of, active_after, if_active};
-ghost use Rattle.window_mgr.specs.Edits.{relit_all, IsPutAnew, StandsAt, IsPlaceable, SameSize, AreSeatsAfter, AreSettledAfter, IsActivation, IsPlanOfEdit, IsCommitted, IsRearranged, stays_put};
+ghost use Rattle.window_mgr.specs.AnySlots.{IsRearrangedOverAnySlots};
+ghost use Rattle.window_mgr.specs.Arrange.{activation_of, active_after, also_of, if_active};
+ghost use Rattle.window_mgr.specs.Edits.{relit_all, IsPutAnew, StandsAt, IsPlaceable, SameSize, AreSeatsAfter, AreSettledAfter, IsActivation, IsPlanOfEdit, IsCommitted, stays_put};
 ghost use Rattle.window_mgr.specs.Finding.{record_with};
 ghost use Rattle.window_mgr.specs.Kept.{IsKept};
 ghost use Rattle.window_mgr.specs.Seats.{AreSeatsOf, first_seated};
-ghost use Rattle.window_mgr.specs.Whole.{IsWholeManager};
 
 use crate::{WindowManager, WindowReply};
-use def_iface::{Defined, Size, Stock, Stocked, Taken};
+use def_iface::{Defined, Size, Taken};
+use std::alloc::AllocError;
 use tb_geom::{Point, Refusal};
 use vis_update::{Plan, Seat, Touch, plan_of, seat_of};
 use window_list::Window;
@@ -80,7 +81,9 @@ impl Activates {
 
 impl Activation {
     /// Another window than this whose highlighting may change, where the active one is given.
-    pub(crate) fn also(self, window: u64, active: Option<u64>) -> Option<u64> {
+    pub(crate) fn also(self, window: u64, active: Option<u64>) -> Option<u64>
+        ensures { result ≡ also_of self window active }
+    {
         match self {
             Activation::Stays => None,
             Activation::Becomes(becomes) => {
@@ -95,7 +98,7 @@ impl Activation {
 }
 
 /// This window becomes active where that is so.
-fn if_active(becomes: bool, window: Option<u64>) -> Activation
+pub(crate) fn if_active(becomes: bool, window: Option<u64>) -> Activation
     ensures { result ≡ if_active becomes window }
 {
     if becomes {
@@ -137,16 +140,13 @@ impl WindowManager {
         edit: Edit,
         activates: Activates,
         by: Option<Point>,
-        _stock: &Stock,
     ) -> Result<WindowReply, Refusal>
-        requires whole { IsWholeManager ⟦<Taken as Defined>⟧.loan self.old (⟦<Stock as Stocked>⟧.slots _stock.now) }
+        requires kept { IsKept ⟦<Taken as Defined>⟧.loan self.old }
         requires at { edit.at < length self.old.windows.records.items }
         requires to { edit.to < length self.old.windows.records.items }
         requires placed { IsPlaceable ⟦<Taken as Defined>⟧.loan edit self.old.windows.records.items }
         requires size { SameSize edit self.old.windows.records.items }
-        ensures whole { IsWholeManager ⟦<Taken as Defined>⟧.loan self.new (⟦<Stock as Stocked>⟧.slots _stock.now) }
-        ensures left { IsRearranged ⟦<Taken as Defined>⟧.loan edit activates by result self.old self.new
-            (⟦<Stock as Stocked>⟧.slots _stock.now) }
+        ensures { IsRearrangedOverAnySlots ⟦<Taken as Defined>⟧.loan edit activates by result self.old self.new }
     {
         let Ok(Rearrangement { plan, activation }) = self.plan_edit(edit, activates, by) else {
             return Err(Refusal::NoMemory);
@@ -161,15 +161,14 @@ impl WindowManager {
         edit: Edit,
         activates: Activates,
         by: Option<Point>,
-    ) -> Result<Rearrangement, Refusal>
+    ) -> Result<Rearrangement, AllocError>
         requires kept { IsKept ⟦<Taken as Defined>⟧.loan self.now }
         requires at { edit.at < length self.now.windows.records.items }
         requires to { edit.to < length self.now.windows.records.items }
         requires placed { IsPlaceable ⟦<Taken as Defined>⟧.loan edit self.now.windows.records.items }
-        ensures plan { IfOk result (λ r. IsPlanOfEdit ⟦<Taken as Defined>⟧.loan edit by self.now r.plan) }
+        ensures plan { IfOk result (λ r. IsPlanOfEdit ⟦<Taken as Defined>⟧.loan edit r.activation by self.now r.plan) }
         ensures activation { IfOk result (λ r. IsActivation ⟦<Taken as Defined>⟧.loan edit activates self.now r.activation) }
         ensures length { IfOk result (λ r. vec_len r.plan.parts ≡ length self.now.windows.records.items) }
-        ensures refused { IfErr result (λ e. e ≡ Refusal.NoMemory) }
     {
         let seats = self.seats_after(edit)?;
         let window = self.windows.at(edit.at).serial;
@@ -185,12 +184,11 @@ impl WindowManager {
     }
 
     /// The windows as they are to be.
-    fn seats_after(&self, edit: Edit) -> Result<Vec<Seat<'_>>, Refusal>
+    fn seats_after(&self, edit: Edit) -> Result<Vec<Seat<'_>>, AllocError>
         requires areas { length self.now.areas.items ≡ length self.now.windows.records.items }
         requires at { edit.at < length self.now.windows.records.items }
         requires to { edit.to < length self.now.windows.records.items }
-        ensures seats { IfOk result (λ seats. AreSeatsAfter edit self.now.windows.records.items self.now.areas.items seats.items) }
-        ensures refused { IfErr result (λ e. e ≡ Refusal.NoMemory) }
+        ensures { IfOk result (λ seats. AreSeatsAfter edit self.now.windows.records.items self.now.areas.items seats.items) }
     {
         let mut seats = self.seats()?;
         let mut seat = seats.remove(edit.at);
@@ -201,14 +199,14 @@ impl WindowManager {
         Ok(seats)
     }
 
-    /// The windows as they are.
-    pub(crate) fn seats(&self) -> Result<Vec<Seat<'_>>, Refusal>
+    /// The windows as they are, with room for one more.
+    pub(crate) fn seats(&self) -> Result<Vec<Seat<'_>>, AllocError>
         requires { length self.now.areas.items ≡ length self.now.windows.records.items }
         ensures seats { IfOk result (λ seats. AreSeatsOf self.now.windows.records.items self.now.areas.items seats.items) }
         ensures length { IfOk result (λ seats. vec_len seats ≡ length self.now.windows.records.items) }
-        ensures refused { IfErr result (λ e. e ≡ Refusal.NoMemory) }
+        ensures room { IfOk result (λ seats. vec_len seats < vec_capacity seats) }
     {
-        let mut seats = Vec::with_capacity(self.alloc, self.windows.len())?;
+        let mut seats = Vec::with_capacity(self.alloc, self.windows.len() + 1)?;
         for at in 0..self.windows.len() {
             let seat = seat_of(self.windows.at(at), &self.areas[at]);
             seats.push(seat).unwrap();

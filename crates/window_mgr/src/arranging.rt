@@ -4,28 +4,24 @@ ghost use Rattle.tb_geom.specs.Points.{minus};
 ghost use Rattle.tb_geom.specs.Rects.{in_plane};
 ghost use Rattle.desk_call.specs.declared.window.WindowCall.TheVariants as asks;
 ghost use Rattle.window_mgr.specs.declared.arrange.Activates.TheVariants.{Nothing};
+ghost use Rattle.window_mgr.specs.AnySlots.{IsStepOverAnySlots};
 ghost use Rattle.window_mgr.specs.Edits.{StandsAt, IsPlaceBehind};
 ghost use Rattle.window_mgr.specs.Kept.{IsKept};
-ghost use Rattle.window_mgr.specs.Records.{desk_of, state_of};
+ghost use Rattle.window_mgr.specs.Records.{desk_of};
 ghost use Rattle.window_mgr.specs.Refused.{first_refusal, behind_refusals};
-ghost use Rattle.window_mgr.specs.Step.{IsWindowStep};
-ghost use Rattle.window_mgr.specs.Whole.{IsWholeManager};
 
 use crate::arrange::{Activates, Edit};
 use crate::find::local;
 use crate::{MoveWindow, SendBehind, ShowHide, WindowManager, WindowReply};
-use def_iface::{Defined, Stock, Stocked, Taken};
+use def_iface::{Defined, Taken};
 use tb_geom::{Point, Refusal};
 use vis_update::is_placed_with;
 
 impl WindowManager {
     /// Brings a window to the front; a visible one becomes active.
-    pub(crate) fn select(&mut self, window: u64, stock: &Stock) -> Result<WindowReply, Refusal>
-        requires { IsWholeManager ⟦<Taken as Defined>⟧.loan self.old (⟦<Stock as Stocked>⟧.slots stock.now) }
-        ensures whole { IsWholeManager ⟦<Taken as Defined>⟧.loan self.new (⟦<Stock as Stocked>⟧.slots stock.now) }
-        ensures step { IsWindowStep (asks.Select window) result
-            (state_of ⟦<Taken as Defined>⟧.loan self.old (⟦<Stock as Stocked>⟧.slots stock.now))
-            (state_of ⟦<Taken as Defined>⟧.loan self.new (⟦<Stock as Stocked>⟧.slots stock.now)) }
+    pub(crate) fn select(&mut self, window: u64) -> Result<WindowReply, Refusal>
+        requires { IsKept ⟦<Taken as Defined>⟧.loan self.old }
+        ensures { IsStepOverAnySlots ⟦<Taken as Defined>⟧.loan (asks.Select window) result self.old self.new }
     {
         let Some(at) = self.find(window) else {
             return Err(Refusal::NoSuchWindow);
@@ -34,20 +30,13 @@ impl WindowManager {
         let activates = if_so(found.shown, Activates::Itself);
         let mut edit = Edit::of(at, found);
         edit.to = 0;
-        self.rearrange(edit, activates, None, stock)
+        self.rearrange(edit, activates, None)
     }
 
     /// Brings a window to the front.
-    pub(crate) fn bring_to_front(
-        &mut self,
-        window: u64,
-        stock: &Stock,
-    ) -> Result<WindowReply, Refusal>
-        requires { IsWholeManager ⟦<Taken as Defined>⟧.loan self.old (⟦<Stock as Stocked>⟧.slots stock.now) }
-        ensures whole { IsWholeManager ⟦<Taken as Defined>⟧.loan self.new (⟦<Stock as Stocked>⟧.slots stock.now) }
-        ensures step { IsWindowStep (asks.BringToFront window) result
-            (state_of ⟦<Taken as Defined>⟧.loan self.old (⟦<Stock as Stocked>⟧.slots stock.now))
-            (state_of ⟦<Taken as Defined>⟧.loan self.new (⟦<Stock as Stocked>⟧.slots stock.now)) }
+    pub(crate) fn bring_to_front(&mut self, window: u64) -> Result<WindowReply, Refusal>
+        requires { IsKept ⟦<Taken as Defined>⟧.loan self.old }
+        ensures { IsStepOverAnySlots ⟦<Taken as Defined>⟧.loan (asks.BringToFront window) result self.old self.new }
     {
         let Some(at) = self.find(window) else {
             return Err(Refusal::NoSuchWindow);
@@ -55,20 +44,13 @@ impl WindowManager {
         let found = self.windows.at(at);
         let mut edit = Edit::of(at, found);
         edit.to = 0;
-        self.rearrange(edit, Activates::Nothing, None, stock)
+        self.rearrange(edit, Activates::Nothing, None)
     }
 
     /// Puts a window behind another or behind all.
-    pub(crate) fn send_behind(
-        &mut self,
-        sent: SendBehind,
-        stock: &Stock,
-    ) -> Result<WindowReply, Refusal>
-        requires { IsWholeManager ⟦<Taken as Defined>⟧.loan self.old (⟦<Stock as Stocked>⟧.slots stock.now) }
-        ensures whole { IsWholeManager ⟦<Taken as Defined>⟧.loan self.new (⟦<Stock as Stocked>⟧.slots stock.now) }
-        ensures step { IsWindowStep (asks.SendBehind sent) result
-            (state_of ⟦<Taken as Defined>⟧.loan self.old (⟦<Stock as Stocked>⟧.slots stock.now))
-            (state_of ⟦<Taken as Defined>⟧.loan self.new (⟦<Stock as Stocked>⟧.slots stock.now)) }
+    pub(crate) fn send_behind(&mut self, sent: SendBehind) -> Result<WindowReply, Refusal>
+        requires { IsKept ⟦<Taken as Defined>⟧.loan self.old }
+        ensures { IsStepOverAnySlots ⟦<Taken as Defined>⟧.loan (asks.SendBehind sent) result self.old self.new }
     {
         let Some(at) = self.find(sent.window) else {
             return Err(Refusal::NoSuchWindow);
@@ -80,7 +62,7 @@ impl WindowManager {
         let found = self.windows.at(at);
         let mut edit = Edit::of(at, found);
         edit.to = to;
-        self.rearrange(edit, Activates::NextInItsPlace, None, stock)
+        self.rearrange(edit, Activates::NextInItsPlace, None)
     }
 
     /// The place in the list, counted without the window at this place, where it is to go behind another.
@@ -103,16 +85,9 @@ impl WindowManager {
     }
 
     /// Moves a window, and selects it where that is asked.
-    pub(crate) fn move_window(
-        &mut self,
-        moved: MoveWindow,
-        stock: &Stock,
-    ) -> Result<WindowReply, Refusal>
-        requires { IsWholeManager ⟦<Taken as Defined>⟧.loan self.old (⟦<Stock as Stocked>⟧.slots stock.now) }
-        ensures whole { IsWholeManager ⟦<Taken as Defined>⟧.loan self.new (⟦<Stock as Stocked>⟧.slots stock.now) }
-        ensures step { IsWindowStep (asks.Move moved) result
-            (state_of ⟦<Taken as Defined>⟧.loan self.old (⟦<Stock as Stocked>⟧.slots stock.now))
-            (state_of ⟦<Taken as Defined>⟧.loan self.new (⟦<Stock as Stocked>⟧.slots stock.now)) }
+    pub(crate) fn move_window(&mut self, moved: MoveWindow) -> Result<WindowReply, Refusal>
+        requires { IsKept ⟦<Taken as Defined>⟧.loan self.old }
+        ensures { IsStepOverAnySlots ⟦<Taken as Defined>⟧.loan (asks.Move moved) result self.old self.new }
     {
         let Some(at) = self.find(moved.window) else {
             return Err(Refusal::NoSuchWindow);
@@ -126,16 +101,13 @@ impl WindowManager {
         let mut edit = Edit::of(at, found);
         edit.place = moved.place;
         edit.to = place_in(moved.select, at);
-        self.rearrange(edit, activates, Some(by), stock)
+        self.rearrange(edit, activates, Some(by))
     }
 
     /// Makes a window visible; it becomes active where it is the first visible one then.
-    pub(crate) fn show(&mut self, window: u64, stock: &Stock) -> Result<WindowReply, Refusal>
-        requires { IsWholeManager ⟦<Taken as Defined>⟧.loan self.old (⟦<Stock as Stocked>⟧.slots stock.now) }
-        ensures whole { IsWholeManager ⟦<Taken as Defined>⟧.loan self.new (⟦<Stock as Stocked>⟧.slots stock.now) }
-        ensures step { IsWindowStep (asks.Show window) result
-            (state_of ⟦<Taken as Defined>⟧.loan self.old (⟦<Stock as Stocked>⟧.slots stock.now))
-            (state_of ⟦<Taken as Defined>⟧.loan self.new (⟦<Stock as Stocked>⟧.slots stock.now)) }
+    pub(crate) fn show(&mut self, window: u64) -> Result<WindowReply, Refusal>
+        requires { IsKept ⟦<Taken as Defined>⟧.loan self.old }
+        ensures { IsStepOverAnySlots ⟦<Taken as Defined>⟧.loan (asks.Show window) result self.old self.new }
     {
         let Some(at) = self.find(window) else {
             return Err(Refusal::NoSuchWindow);
@@ -144,16 +116,13 @@ impl WindowManager {
         let activates = if_so(!found.shown, Activates::ItselfIfFront);
         let mut edit = Edit::of(at, found);
         edit.shown = true;
-        self.rearrange(edit, activates, None, stock)
+        self.rearrange(edit, activates, None)
     }
 
     /// Makes a window hidden; where it was active, the first visible one becomes so, or none.
-    pub(crate) fn hide(&mut self, window: u64, stock: &Stock) -> Result<WindowReply, Refusal>
-        requires { IsWholeManager ⟦<Taken as Defined>⟧.loan self.old (⟦<Stock as Stocked>⟧.slots stock.now) }
-        ensures whole { IsWholeManager ⟦<Taken as Defined>⟧.loan self.new (⟦<Stock as Stocked>⟧.slots stock.now) }
-        ensures step { IsWindowStep (asks.Hide window) result
-            (state_of ⟦<Taken as Defined>⟧.loan self.old (⟦<Stock as Stocked>⟧.slots stock.now))
-            (state_of ⟦<Taken as Defined>⟧.loan self.new (⟦<Stock as Stocked>⟧.slots stock.now)) }
+    pub(crate) fn hide(&mut self, window: u64) -> Result<WindowReply, Refusal>
+        requires { IsKept ⟦<Taken as Defined>⟧.loan self.old }
+        ensures { IsStepOverAnySlots ⟦<Taken as Defined>⟧.loan (asks.Hide window) result self.old self.new }
     {
         let Some(at) = self.find(window) else {
             return Err(Refusal::NoSuchWindow);
@@ -162,20 +131,13 @@ impl WindowManager {
         let activates = if_so(found.shown, Activates::FrontInItsPlace);
         let mut edit = Edit::of(at, found);
         edit.shown = false;
-        self.rearrange(edit, activates, None, stock)
+        self.rearrange(edit, activates, None)
     }
 
     /// Makes a window visible or hidden.
-    pub(crate) fn show_hide(
-        &mut self,
-        change: ShowHide,
-        stock: &Stock,
-    ) -> Result<WindowReply, Refusal>
-        requires { IsWholeManager ⟦<Taken as Defined>⟧.loan self.old (⟦<Stock as Stocked>⟧.slots stock.now) }
-        ensures whole { IsWholeManager ⟦<Taken as Defined>⟧.loan self.new (⟦<Stock as Stocked>⟧.slots stock.now) }
-        ensures step { IsWindowStep (asks.ShowHide change) result
-            (state_of ⟦<Taken as Defined>⟧.loan self.old (⟦<Stock as Stocked>⟧.slots stock.now))
-            (state_of ⟦<Taken as Defined>⟧.loan self.new (⟦<Stock as Stocked>⟧.slots stock.now)) }
+    pub(crate) fn show_hide(&mut self, change: ShowHide) -> Result<WindowReply, Refusal>
+        requires { IsKept ⟦<Taken as Defined>⟧.loan self.old }
+        ensures { IsStepOverAnySlots ⟦<Taken as Defined>⟧.loan (asks.ShowHide change) result self.old self.new }
     {
         let Some(at) = self.find(change.window) else {
             return Err(Refusal::NoSuchWindow);
@@ -183,7 +145,7 @@ impl WindowManager {
         let found = self.windows.at(at);
         let mut edit = Edit::of(at, found);
         edit.shown = change.shown;
-        self.rearrange(edit, Activates::Nothing, None, stock)
+        self.rearrange(edit, Activates::Nothing, None)
     }
 }
 

@@ -1,5 +1,5 @@
 //! The call that ends a window.
-ghost use Rattle.std.specs.Prelude.{◌≡◌, ◌+◌, ◌<◌, All, IfOk, IfErr, length, map, vec_len};
+ghost use Rattle.std.specs.Prelude.{◌≡◌, ◌+◌, ◌<◌, All, IfOk, length, map, vec_len};
 ghost use Rattle.std.specs.List.{remove};
 ghost use Rattle.desk_call.specs.declared.window.WindowCall.TheVariants.{Dispose};
 ghost use Rattle.vis_update.specs.Records.{record_of};
@@ -14,6 +14,7 @@ use crate::arrange::{Activates, Activation, Rearrangement, front_of};
 use crate::close::put_away;
 use crate::{WindowManager, WindowReply};
 use def_iface::{Defined, Stock, Stocked, Taken};
+use std::alloc::AllocError;
 use tb_geom::Refusal;
 use vis_update::{Plan, Seat, Touch, plan_of};
 use window_list::Window;
@@ -44,14 +45,13 @@ impl WindowManager {
     }
 
     /// All that changes on the screen where this window, at this place, is there no more, and all growth.
-    fn plan_without(&self, window: u64, at: usize) -> Result<Rearrangement, Refusal>
+    fn plan_without(&self, window: u64, at: usize) -> Result<Rearrangement, AllocError>
         requires kept { IsKept ⟦<Taken as Defined>⟧.loan self.now }
         requires at { at < length self.now.windows.records.items }
-        ensures plan { IfOk result (λ r. IsPlanWithout ⟦<Taken as Defined>⟧.loan at window self.now r.plan) }
+        ensures plan { IfOk result (λ r. IsPlanWithout ⟦<Taken as Defined>⟧.loan at window r.activation self.now r.plan) }
         ensures activation { IfOk result (λ r.
             IsActivationWithout ⟦<Taken as Defined>⟧.loan at window self.now r.activation) }
         ensures length { IfOk result (λ r. vec_len r.plan.parts + 1 ≡ length self.now.windows.records.items) }
-        ensures refused { IfErr result (λ e. e ≡ Refusal.NoMemory) }
     {
         let seats = self.seats_without(at)?;
         let active = self.windows.active();
@@ -66,12 +66,11 @@ impl WindowManager {
     }
 
     /// The windows as they are, but the one at this place.
-    fn seats_without(&self, at: usize) -> Result<Vec<Seat<'_>>, Refusal>
+    fn seats_without(&self, at: usize) -> Result<Vec<Seat<'_>>, AllocError>
         requires areas { length self.now.areas.items ≡ length self.now.windows.records.items }
         requires at { at < length self.now.windows.records.items }
-        ensures seats { IfOk result (λ seats.
+        ensures { IfOk result (λ seats.
             AreSeatsWithout at self.now.windows.records.items self.now.areas.items seats.items) }
-        ensures refused { IfErr result (λ e. e ≡ Refusal.NoMemory) }
     {
         let mut seats = self.seats()?;
         seats.remove(at);

@@ -1,5 +1,5 @@
 //! The call that draws.
-ghost use Rattle.std.specs.Prelude.{◌≡◌, ◌++◌, ◌∷◌, [], List, OnOk, Some, None, IfErr, MatchResult, MatchOption, IsSomeAnd, slice_get, true, ◌+ℤ◌};
+ghost use Rattle.std.specs.Prelude.{◌≡◌, ◌++◌, ◌∷◌, [], List, OnOk, OnErr, Some, None, MatchResult, MatchOption, IsSomeAnd, slice_get, true, ◌+ℤ◌};
 ghost use Rattle.tb_geom.specs.declared.point.Point.{Point};
 ghost use Rattle.tb_geom.specs.Points.{minus, plus};
 ghost use Rattle.tb_geom.specs.Rects.{in_plane, is_coordinate};
@@ -18,6 +18,7 @@ use crate::{Drawing, WindowManager};
 use bit_map::BitMap;
 use def_iface::{Defined, Taken};
 use draw_port::{Canvas, Cut};
+use std::alloc::AllocError;
 use strike_font::Font;
 use tb_geom::{Point, Refusal};
 use vis_update::Area;
@@ -48,18 +49,22 @@ impl WindowManager {
     }
 
     /// Adds an operation to the picture of the window at this place, and draws it on each pixel of
-    /// the screen that the picture owns. NoMemory is the only refusal, and leaves the desk.
-    pub(crate) fn add_operation(&mut self, at: usize, drawing: &Drawing<'_>) -> Result<(), Refusal>
+    /// the screen that the picture owns. Where there is no memory the desk stays as it was.
+    pub(crate) fn add_operation(
+        &mut self,
+        at: usize,
+        drawing: &Drawing<'_>,
+    ) -> Result<(), AllocError>
         requires kept { IsKept ⟦<Taken as Defined>⟧.loan self.old }
         requires may { MayDraw drawing.now self.old at }
         ensures drawn { OnOk result (IsDrawnAt at drawing.now self.old self.new) }
-        ensures refused { IfErr result (λ e. (e ≡ Refusal.NoMemory) × SameDesk self.old self.new) }
+        ensures same { OnErr result (SameDesk self.old self.new) }
     {
         let Ok(operation) = drawing.operation.to_op(self.alloc) else {
-            return Err(Refusal::NoMemory);
+            return Err(AllocError);
         };
         if self.windows.push_operation(at, operation).is_err() {
-            return Err(Refusal::NoMemory);
+            return Err(AllocError);
         }
         show_last(
             &mut self.screen,
@@ -110,7 +115,7 @@ fn show_last(screen: &mut BitMap, area: &Area, window: &Window, font: &Font)
 }
 
 /// Where the 0 0 of a picture lies on the screen, whose origin in a window at this place is given.
-fn picture_place(place: Point, origin: Point) -> Point
+pub fn picture_place(place: Point, origin: Point) -> Point
     requires placed { in_plane place ≡ true }
     requires origin { in_plane origin ≡ true }
     ensures { result ≡ plus place origin }

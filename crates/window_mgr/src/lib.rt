@@ -13,7 +13,8 @@
 //! `IsWholeManager` (in `Whole`) says that what is kept agrees with the desk. Every call keeps it.
 //!
 //! Definitions live outside, in a `Stock` that each call is handed. A window's record holds its definition together
-//! with the number of the slot that it came from, until its end or the desk's puts it back Closed.
+//! with the number of the slot that it came from, until its end or the desk's puts it back Closed. A call that leaves the
+//! stock alone is a step over any slots (`AnySlots`).
 //!
 //! A call is judged and takes all its memory before the first change: its plan (`vis_update`) says what each window will
 //! own and what changes on the screen, and `commit` draws it, whichever call it was made for. `arrange` puts one window
@@ -41,4 +42,5 @@ pub use desk_call::{
     Drawing, Found, MoveWindow, NewWindow, SendBehind, ShowHide, SizeWindow, WindowCall,
     WindowInfo, WindowPart, WindowReply,
 };
-pub use manager::{NotBegun, WindowManager};
+pub use draw::picture_place;
+pub use manager::{NotBegun, Parts, WindowManager};

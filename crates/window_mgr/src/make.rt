@@ -1,12 +1,15 @@
 //! Calls, one by one.
 ghost use Rattle.std.specs.Prelude.{◌≡◌};
-ghost use Rattle.desk_call.specs.declared.window.WindowCall.TheVariants.{New, Draw, Find, Front, Info};
+ghost use Rattle.desk_call.specs.declared.window.WindowCall.TheVariants.{Draw, Find, Front, Info};
+ghost use Rattle.window_mgr.specs.AnySlots.{IsStepOverAnySlots};
+ghost use Rattle.window_mgr.specs.Kept.{IsKept};
 ghost use Rattle.window_mgr.specs.Records.{state_of};
 ghost use Rattle.window_mgr.specs.Step.{IsWindowStep};
 ghost use Rattle.window_mgr.specs.Whole.{IsWholeManager};
 
-use crate::{Drawing, NewWindow, WindowCall, WindowInfo, WindowManager, WindowReply};
+use crate::{Drawing, WindowCall, WindowInfo, WindowManager, WindowReply};
 use def_iface::{Defined, Stock, Stocked, Taken};
+use std::alloc::AllocError;
 use tb_geom::{Point, Refusal};
 use window_list::Window;
 
@@ -21,83 +24,59 @@ impl WindowManager {
             (state_of ⟦<Taken as Defined>⟧.loan self.new (⟦<Stock as Stocked>⟧.slots stock.new)) }
     {
         match call {
-            WindowCall::New(window) => self.answer_new(window, stock),
+            WindowCall::New(window) => self.new_window(window, stock),
             WindowCall::Dispose(window) => self.dispose_window(*window, stock),
-            WindowCall::Show(window) => self.show(*window, stock),
-            WindowCall::Hide(window) => self.hide(*window, stock),
-            WindowCall::ShowHide(change) => self.show_hide(*change, stock),
-            WindowCall::Select(window) => self.select(*window, stock),
-            WindowCall::BringToFront(window) => self.bring_to_front(*window, stock),
-            WindowCall::SendBehind(sent) => self.send_behind(*sent, stock),
-            WindowCall::Move(moved) => self.move_window(*moved, stock),
-            WindowCall::Size(sized) => self.size_window(*sized, stock),
-            WindowCall::Draw(drawing) => self.answer_draw(drawing, stock),
-            WindowCall::Find(point) => self.answer_find(*point, stock),
-            WindowCall::Front => self.answer_front(stock),
-            WindowCall::Info(window) => self.answer_info(*window, stock),
-            WindowCall::VisibleRegion(window) => self.answer_visible(*window, stock),
-            WindowCall::UpdateRegion(window) => self.answer_update(*window, stock),
+            WindowCall::Show(window) => self.show(*window),
+            WindowCall::Hide(window) => self.hide(*window),
+            WindowCall::ShowHide(change) => self.show_hide(*change),
+            WindowCall::Select(window) => self.select(*window),
+            WindowCall::BringToFront(window) => self.bring_to_front(*window),
+            WindowCall::SendBehind(sent) => self.send_behind(*sent),
+            WindowCall::Move(moved) => self.move_window(*moved),
+            WindowCall::Size(sized) => self.size_window(*sized),
+            WindowCall::Draw(drawing) => self.answer_draw(drawing),
+            WindowCall::Find(point) => self.answer_find(*point),
+            WindowCall::Front => self.answer_front(),
+            WindowCall::Info(window) => self.answer_info(*window),
+            WindowCall::VisibleRegion(window) => self.answer_visible(*window),
+            WindowCall::UpdateRegion(window) => self.answer_update(*window),
         }
-    }
-
-    /// Makes a window, and answers its number.
-    fn answer_new(
-        &mut self,
-        window: &NewWindow<'_>,
-        stock: &mut Stock,
-    ) -> Result<WindowReply, Refusal>
-        requires { IsWholeManager ⟦<Taken as Defined>⟧.loan self.old (⟦<Stock as Stocked>⟧.slots stock.old) }
-        ensures whole { IsWholeManager ⟦<Taken as Defined>⟧.loan self.new (⟦<Stock as Stocked>⟧.slots stock.new) }
-        ensures step { IsWindowStep (New window.now) result
-            (state_of ⟦<Taken as Defined>⟧.loan self.old (⟦<Stock as Stocked>⟧.slots stock.old))
-            (state_of ⟦<Taken as Defined>⟧.loan self.new (⟦<Stock as Stocked>⟧.slots stock.new)) }
-    {
-        Ok(WindowReply::Made(self.new_window(window, stock)?))
     }
 
     /// Adds an operation to the picture of a window, and draws it on each pixel of the screen that
     /// the picture owns, to be redrawn or not. The refusal is the first of these: BadSyntax and
     /// BadRegion as `OpRef::judge` has them, NoSuchWindow, OutOfRange and TooLong as it has them, TooMany
     /// where the picture has 1024 operations, NoMemory.
-    fn answer_draw(&mut self, drawing: &Drawing<'_>, _stock: &Stock) -> Result<WindowReply, Refusal>
-        requires { IsWholeManager ⟦<Taken as Defined>⟧.loan self.old (⟦<Stock as Stocked>⟧.slots _stock.now) }
-        ensures whole { IsWholeManager ⟦<Taken as Defined>⟧.loan self.new (⟦<Stock as Stocked>⟧.slots _stock.now) }
-        ensures step { IsWindowStep (Draw drawing.now) result
-            (state_of ⟦<Taken as Defined>⟧.loan self.old (⟦<Stock as Stocked>⟧.slots _stock.now))
-            (state_of ⟦<Taken as Defined>⟧.loan self.new (⟦<Stock as Stocked>⟧.slots _stock.now)) }
+    fn answer_draw(&mut self, drawing: &Drawing<'_>) -> Result<WindowReply, Refusal>
+        requires { IsKept ⟦<Taken as Defined>⟧.loan self.old }
+        ensures { IsStepOverAnySlots ⟦<Taken as Defined>⟧.loan (Draw drawing.now) result self.old self.new }
     {
         let at = self.place_to_draw(drawing)?;
         match self.add_operation(at, drawing) {
             Ok(()) => Ok(WindowReply::Done),
-            Err(refusal) => Err(refusal),
+            Err(AllocError) => Err(Refusal::NoMemory),
         }
     }
 
     /// Answers whose a point of the screen is.
-    fn answer_find(&self, point: Point, _stock: &Stock) -> Result<WindowReply, Refusal>
-        requires { IsWholeManager ⟦<Taken as Defined>⟧.loan self.now (⟦<Stock as Stocked>⟧.slots _stock.now) }
-        ensures { IsWindowStep (Find point) result
-            (state_of ⟦<Taken as Defined>⟧.loan self.now (⟦<Stock as Stocked>⟧.slots _stock.now))
-            (state_of ⟦<Taken as Defined>⟧.loan self.now (⟦<Stock as Stocked>⟧.slots _stock.now)) }
+    fn answer_find(&self, point: Point) -> Result<WindowReply, Refusal>
+        requires { IsKept ⟦<Taken as Defined>⟧.loan self.now }
+        ensures { IsStepOverAnySlots ⟦<Taken as Defined>⟧.loan (Find point) result self.now self.now }
     {
         Ok(WindowReply::Found(self.find_window(point)?))
     }
 
     /// Answers which window is the first visible one.
-    fn answer_front(&self, _stock: &Stock) -> Result<WindowReply, Refusal>
-        ensures { IsWindowStep Front result
-            (state_of ⟦<Taken as Defined>⟧.loan self.now (⟦<Stock as Stocked>⟧.slots _stock.now))
-            (state_of ⟦<Taken as Defined>⟧.loan self.now (⟦<Stock as Stocked>⟧.slots _stock.now)) }
+    fn answer_front(&self) -> Result<WindowReply, Refusal>
+        ensures { IsStepOverAnySlots ⟦<Taken as Defined>⟧.loan Front result self.now self.now }
     {
         Ok(WindowReply::Front(self.front_window()))
     }
 
     /// Tells how a window stands.
-    fn answer_info(&self, window: u64, _stock: &Stock) -> Result<WindowReply, Refusal>
-        requires { IsWholeManager ⟦<Taken as Defined>⟧.loan self.now (⟦<Stock as Stocked>⟧.slots _stock.now) }
-        ensures { IsWindowStep (Info window) result
-            (state_of ⟦<Taken as Defined>⟧.loan self.now (⟦<Stock as Stocked>⟧.slots _stock.now))
-            (state_of ⟦<Taken as Defined>⟧.loan self.now (⟦<Stock as Stocked>⟧.slots _stock.now)) }
+    fn answer_info(&self, window: u64) -> Result<WindowReply, Refusal>
+        requires { IsKept ⟦<Taken as Defined>⟧.loan self.now }
+        ensures { IsStepOverAnySlots ⟦<Taken as Defined>⟧.loan (Info window) result self.now self.now }
     {
         match self.find(window) {
             Some(at) => Ok(WindowReply::Info(info_of(self.windows.at(at)))),

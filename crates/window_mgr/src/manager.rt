@@ -1,5 +1,5 @@
 //! What a window manager keeps, and how it begins.
-ghost use Rattle.std.specs.Prelude.{◌≡◌, true, if◌then◌else◌, IfOk, IfErr, List, [], All};
+ghost use Rattle.std.specs.Prelude.{◌≡◌, true, if◌then◌else◌, IfOk, IfErr, List, [], All, pos};
 ghost use Rattle.def_iface.specs.Stocked.{SlotView, IsFull};
 ghost use Rattle.window_mgr.specs.Begin.{IsEmptyDesk};
 ghost use Rattle.desk_ground.specs.Screens as screens;
@@ -39,6 +39,20 @@ pub struct NotBegun {
     pub refusal: Refusal,
     /// The font that was handed in.
     pub font: Font,
+}
+
+/// What painting a desk from nothing needs of it: neither what the screen shows, nor any region that is kept.
+#[derive(Clone, Copy)]
+pub struct Parts<'a> {
+    /// The sides of the screen.
+    pub width: i32,
+    pub height: i32,
+    /// The rows of the menu bar.
+    pub bar: i32,
+    /// The font of all texts.
+    pub font: &'a Font,
+    /// From front to back.
+    pub windows: &'a WindowList,
 }
 
 impl WindowManager {
@@ -89,5 +103,23 @@ impl WindowManager {
         ensures { result.now ≡ self.now.screen }
     {
         &self.screen
+    }
+
+    /// What painting the desk from nothing needs of it.
+    pub fn parts(&self) -> Parts<'_>
+        ensures width { result.width ≡ pos self.now.screen.width }
+        ensures height { result.height ≡ pos self.now.screen.height }
+        ensures bar { result.bar ≡ self.now.bar }
+        ensures font { result.font.now ≡ self.now.font }
+        ensures windows { result.windows.now ≡ self.now.windows }
+    {
+        let bounds = self.screen.bounds();
+        Parts {
+            width: bounds.right,
+            height: bounds.bottom,
+            bar: self.bar,
+            font: &self.font,
+            windows: &self.windows,
+        }
     }
 }

@@ -1,23 +1,26 @@
 //! The call that makes a window.
 ghost use Rattle.std.specs.Prelude.{◌≡◌, ◌+◌, ◌++◌, ◌∷◌, [], true, map, if◌then◌else◌, Some, None, All, IfOk, IfErr, MatchResult, length, vec_len};
 ghost use Rattle.def_iface.specs.Meaning.{is_fitting};
+ghost use Rattle.desk_call.specs.declared.window.WindowCall.TheVariants.{New};
 ghost use Rattle.vis_update.specs.Records.{record_of};
 ghost use Rattle.vis_update.specs.Places.{is_placed};
+ghost use Rattle.window_mgr.specs.Arrange.{also_of, if_active};
 ghost use Rattle.window_mgr.specs.Records.{desk_of, state_of};
 ghost use Rattle.window_mgr.specs.Refused.{first_refusal, judged_refusals};
 ghost use Rattle.window_mgr.specs.Kept.{IsKept};
 ghost use Rattle.window_mgr.specs.Planned.{IsPlanWith, IsUnplanned, SameDesk, IsTicket, IsPlanned, IsAdded};
 ghost use Rattle.window_mgr.specs.Seats.{AreSeatsBehind};
 ghost use Rattle.window_mgr.specs.Effects.{new_record};
-ghost use Rattle.window_mgr.specs.Step.{IsMade, IsNotMade};
+ghost use Rattle.window_mgr.specs.Step.{IsWindowStep};
 ghost use Rattle.window_mgr.specs.Whole.{IsWholeManager, IsSettled};
 
-use crate::{NewWindow, WindowManager};
+use crate::arrange::if_active;
+use crate::{NewWindow, WindowManager, WindowReply};
 use def_iface::{Defined, Stage, Stock, Stocked, Taken};
 use draw_port::Picture;
-use std::alloc::Global;
+use std::alloc::{AllocError, Global};
 use tb_geom::{Point, Refusal};
-use vis_update::{Area, Plan, Seat, Touch, is_placed_alone, is_placed_with, plan_of, seat_of};
+use vis_update::{Area, Plan, Seat, Touch, is_placed_alone, is_placed_with, plan_of};
 use window_list::{Title, Window};
 
 /// As many windows as there may be.
@@ -44,20 +47,19 @@ impl WindowManager {
         &mut self,
         window: &NewWindow<'_>,
         stock: &mut Stock,
-    ) -> Result<u64, Refusal>
+    ) -> Result<WindowReply, Refusal>
         requires { IsWholeManager ⟦<Taken as Defined>⟧.loan self.old (⟦<Stock as Stocked>⟧.slots stock.old) }
         ensures whole { IsWholeManager ⟦<Taken as Defined>⟧.loan self.new (⟦<Stock as Stocked>⟧.slots stock.new) }
-        ensures step { let before = state_of ⟦<Taken as Defined>⟧.loan self.old (⟦<Stock as Stocked>⟧.slots stock.old) in
-            let after = state_of ⟦<Taken as Defined>⟧.loan self.new (⟦<Stock as Stocked>⟧.slots stock.new) in
-            MatchResult result (λ serial. IsMade window.now serial before after)
-            (λ e. IsNotMade window.now e before after) }
+        ensures step { IsWindowStep (New window.now) result
+            (state_of ⟦<Taken as Defined>⟧.loan self.old (⟦<Stock as Stocked>⟧.slots stock.old))
+            (state_of ⟦<Taken as Defined>⟧.loan self.new (⟦<Stock as Stocked>⟧.slots stock.new)) }
     {
         match stock.take(window.kind.as_slice()) {
             Ok(taken) => match self.plan_window(window, &taken) {
                 Ok(addition) => {
                     let serial = addition.ticket.serial;
                     self.add_window(window, addition, taken);
-                    Ok(serial)
+                    Ok(WindowReply::Made(serial))
                 }
                 Err(refusal) => {
                     stock.put_back(taken);
@@ -133,7 +135,7 @@ impl WindowManager {
         window: &NewWindow<'_>,
         taken: &Taken,
         touch: Touch,
-    ) -> Result<Plan, Refusal>
+    ) -> Result<Plan, AllocError>
         requires kept { IsKept ⟦<Taken as Defined>⟧.loan self.now }
         requires placed { is_placed (Some (⟦<Taken as Defined>⟧.loan taken.now).definition)
             window.now.place window.now.size ≡ true }
@@ -141,7 +143,6 @@ impl WindowManager {
         ensures plan { IfOk result (λ plan. IsPlanWith ⟦<Taken as Defined>⟧.loan window.now touch.window
             (⟦<Taken as Defined>⟧.loan taken.now).definition touch self.now plan) }
         ensures some { IfOk result (λ plan. vec_len plan.parts ≡ length self.now.windows.records.items + 1) }
-        ensures refused { IfErr result (λ e. e ≡ Refusal.NoMemory) }
     {
         let nothing = Area::empty(self.alloc);
         let front = Seat {
@@ -158,18 +159,13 @@ impl WindowManager {
     }
 
     /// The windows as they are, behind a new one.
-    fn seats_behind<'a>(&'a self, front: Seat<'a>) -> Result<Vec<Seat<'a>>, Refusal>
+    fn seats_behind<'a>(&'a self, front: Seat<'a>) -> Result<Vec<Seat<'a>>, AllocError>
         requires { length self.now.areas.items ≡ length self.now.windows.records.items }
-        ensures seats { IfOk result (λ seats. AreSeatsBehind front.entry
+        ensures { IfOk result (λ seats. AreSeatsBehind front.entry
             self.now.windows.records.items self.now.areas.items seats.items) }
-        ensures refused { IfErr result (λ e. e ≡ Refusal.NoMemory) }
     {
-        let mut seats = Vec::with_capacity(self.alloc, self.windows.len() + 1)?;
-        seats.push(front).unwrap();
-        for at in 0..self.windows.len() {
-            let seat = seat_of(self.windows.at(at), &self.areas[at]);
-            seats.push(seat).unwrap();
-        }
+        let mut seats = self.seats()?;
+        seats.insert(0, front).unwrap();
         Ok(seats)
     }
 
@@ -201,11 +197,15 @@ impl WindowManager {
 
 /// What a new window does with the windows.
 fn new_touch(shown: bool, serial: u64, active: Option<u64>) -> Touch
-    ensures { result ≡ record { window = serial; also = if shown then active else None; by = None } }
+    ensures { result ≡ record {
+      window = serial;
+      also = also_of (if_active shown (Some serial)) serial active;
+      by = None;
+    } }
 {
     Touch {
         window: serial,
-        also: if shown { active } else { None },
+        also: if_active(shown, Some(serial)).also(serial, active),
         by: None,
     }
 }

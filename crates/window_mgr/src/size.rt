@@ -2,29 +2,22 @@
 ghost use Rattle.std.specs.Prelude.{◌≡◌, ◌<◌, length, map, All, vec_len};
 ghost use Rattle.desk_call.specs.declared.window.WindowCall.TheVariants as asks;
 ghost use Rattle.vis_update.specs.Records.{record_of};
-ghost use Rattle.window_mgr.specs.Records.{state_of};
+ghost use Rattle.window_mgr.specs.AnySlots.{IsStepOverAnySlots};
+ghost use Rattle.window_mgr.specs.Kept.{IsKept};
 ghost use Rattle.window_mgr.specs.Sizing.{IsSizable, IsSizeCommitted};
-ghost use Rattle.window_mgr.specs.Step.{IsWindowStep};
-ghost use Rattle.window_mgr.specs.Whole.{IsWholeManager, IsSettled};
+ghost use Rattle.window_mgr.specs.Whole.{IsSettled};
 
 use crate::arrange::{Activates, Edit, Rearrangement};
 use crate::{SizeWindow, WindowManager, WindowReply};
-use def_iface::{Defined, Size, Stock, Stocked, Taken};
+use def_iface::{Defined, Size, Taken};
 use tb_geom::Refusal;
 use vis_update::{Plan, is_placed_with};
 
 impl WindowManager {
     /// Gives a window another size, and tells its definition.
-    pub(crate) fn size_window(
-        &mut self,
-        sized: SizeWindow,
-        stock: &Stock,
-    ) -> Result<WindowReply, Refusal>
-        requires { IsWholeManager ⟦<Taken as Defined>⟧.loan self.old (⟦<Stock as Stocked>⟧.slots stock.now) }
-        ensures whole { IsWholeManager ⟦<Taken as Defined>⟧.loan self.new (⟦<Stock as Stocked>⟧.slots stock.now) }
-        ensures step { IsWindowStep (asks.Size sized) result
-            (state_of ⟦<Taken as Defined>⟧.loan self.old (⟦<Stock as Stocked>⟧.slots stock.now))
-            (state_of ⟦<Taken as Defined>⟧.loan self.new (⟦<Stock as Stocked>⟧.slots stock.now)) }
+    pub(crate) fn size_window(&mut self, sized: SizeWindow) -> Result<WindowReply, Refusal>
+        requires { IsKept ⟦<Taken as Defined>⟧.loan self.old }
+        ensures { IsStepOverAnySlots ⟦<Taken as Defined>⟧.loan (asks.Size sized) result self.old self.new }
     {
         let Some(at) = self.find(sized.window) else {
             return Err(Refusal::NoSuchWindow);

@@ -6,86 +6,83 @@ ghost use Rattle.tb_geom.specs.Rects.{in_plane};
 ghost use Rattle.tb_geom.specs.Pixels.{holds};
 ghost use Rattle.scan_region.specs.Moves.{StaysInRange, is_pixel_in_range};
 ghost use Rattle.desk_call.specs.declared.window.WindowCall.TheVariants.{VisibleRegion, UpdateRegion};
+ghost use Rattle.window_mgr.specs.AnySlots.{IsStepOverAnySlots};
 ghost use Rattle.window_mgr.specs.Kept.{IsKept};
 ghost use Rattle.window_mgr.specs.Planned.{SameDesk};
 ghost use Rattle.window_mgr.specs.Records.{state_of};
 ghost use Rattle.window_mgr.specs.Refused.{IsRefusal};
-ghost use Rattle.window_mgr.specs.Step.{IsWindowStep, IsCallRefused};
-ghost use Rattle.window_mgr.specs.Telling.{AreRegionBytes, IsNotTold, visible_of, update_of};
-ghost use Rattle.window_mgr.specs.Whole.{IsWholeManager};
+ghost use Rattle.window_mgr.specs.Step.{IsCallRefused};
+ghost use Rattle.window_mgr.specs.Telling.{AreRegionBytes, IsNotTold, kept_region, told_of, asking};
 
 use crate::find::local;
 use crate::{WindowManager, WindowReply};
-use def_iface::{Defined, Stock, Stocked, Taken};
+use def_iface::{Defined, Taken};
 use scan_region::Region;
 use std::alloc::Global;
 use tb_geom::{Point, Refusal};
+use vis_update::Area;
+
+/// Which of a window's regions is told.
+#[derive(Clone, Copy)]
+enum Told {
+    /// What of the screen its content owns.
+    Visible,
+    /// What of that is to be redrawn.
+    Update,
+}
 
 impl WindowManager {
     /// Tells what of the screen a window's content owns, in the window's own coordinates.
-    pub(crate) fn answer_visible(
-        &mut self,
-        window: u64,
-        _stock: &Stock,
-    ) -> Result<WindowReply, Refusal>
-        requires { IsWholeManager ⟦<Taken as Defined>⟧.loan self.old (⟦<Stock as Stocked>⟧.slots _stock.now) }
-        ensures whole { IsWholeManager ⟦<Taken as Defined>⟧.loan self.new (⟦<Stock as Stocked>⟧.slots _stock.now) }
-        ensures step { IsWindowStep (VisibleRegion window) result
-            (state_of ⟦<Taken as Defined>⟧.loan self.old (⟦<Stock as Stocked>⟧.slots _stock.now))
-            (state_of ⟦<Taken as Defined>⟧.loan self.new (⟦<Stock as Stocked>⟧.slots _stock.now)) }
+    pub(crate) fn answer_visible(&mut self, window: u64) -> Result<WindowReply, Refusal>
+        requires { IsKept ⟦<Taken as Defined>⟧.loan self.old }
+        ensures { IsStepOverAnySlots ⟦<Taken as Defined>⟧.loan (VisibleRegion window) result self.old self.new }
     {
-        match self.visible_bytes(window) {
+        match self.region_bytes(window, Told::Visible) {
             Ok(bytes) => Ok(WindowReply::Region(bytes)),
             Err(refusal) => Err(refusal),
         }
     }
 
     /// Tells what of that is to be redrawn.
-    pub(crate) fn answer_update(
-        &mut self,
-        window: u64,
-        _stock: &Stock,
-    ) -> Result<WindowReply, Refusal>
-        requires { IsWholeManager ⟦<Taken as Defined>⟧.loan self.old (⟦<Stock as Stocked>⟧.slots _stock.now) }
-        ensures whole { IsWholeManager ⟦<Taken as Defined>⟧.loan self.new (⟦<Stock as Stocked>⟧.slots _stock.now) }
-        ensures step { IsWindowStep (UpdateRegion window) result
-            (state_of ⟦<Taken as Defined>⟧.loan self.old (⟦<Stock as Stocked>⟧.slots _stock.now))
-            (state_of ⟦<Taken as Defined>⟧.loan self.new (⟦<Stock as Stocked>⟧.slots _stock.now)) }
+    pub(crate) fn answer_update(&mut self, window: u64) -> Result<WindowReply, Refusal>
+        requires { IsKept ⟦<Taken as Defined>⟧.loan self.old }
+        ensures { IsStepOverAnySlots ⟦<Taken as Defined>⟧.loan (UpdateRegion window) result self.old self.new }
     {
-        match self.update_bytes(window) {
+        match self.region_bytes(window, Told::Update) {
             Ok(bytes) => Ok(WindowReply::Region(bytes)),
             Err(refusal) => Err(refusal),
         }
     }
 
-    /// The bytes of what of the screen a window's content owns, in the window's own coordinates.
-    fn visible_bytes(&mut self, window: u64) -> Result<Vec<u8>, Refusal>
+    /// The bytes of one of a window's regions, in the window's own coordinates.
+    fn region_bytes(&mut self, window: u64, told: Told) -> Result<Vec<u8>, Refusal>
         requires { IsKept ⟦<Taken as Defined>⟧.loan self.old }
         ensures same { SameDesk self.old self.new }
         ensures told { let state = state_of ⟦<Taken as Defined>⟧.loan self.old [] in MatchResult result
-            (λ bytes. IsRefusal (VisibleRegion window) state None × AreRegionBytes (visible_of window state) bytes.items)
-            (λ e. IsCallRefused (VisibleRegion window) e state) }
+            (λ bytes. IsRefusal (asking told window) state None × AreRegionBytes (told_of told window state) bytes.items)
+            (λ e. IsCallRefused (asking told window) e state) }
     {
         let Some(at) = self.find(window) else {
             return Err(Refusal::NoSuchWindow);
         };
         let place = self.windows.at(at).place;
-        bytes_from(&mut self.areas[at].visible, self.alloc, place)
+        area_bytes(&mut self.areas[at], told, self.alloc, place)
     }
+}
 
-    /// The bytes of what of that is to be redrawn.
-    fn update_bytes(&mut self, window: u64) -> Result<Vec<u8>, Refusal>
-        requires { IsKept ⟦<Taken as Defined>⟧.loan self.old }
-        ensures same { SameDesk self.old self.new }
-        ensures told { let state = state_of ⟦<Taken as Defined>⟧.loan self.old [] in MatchResult result
-            (λ bytes. IsRefusal (UpdateRegion window) state None × AreRegionBytes (update_of window state) bytes.items)
-            (λ e. IsCallRefused (UpdateRegion window) e state) }
-    {
-        let Some(at) = self.find(window) else {
-            return Err(Refusal::NoSuchWindow);
-        };
-        let place = self.windows.at(at).place;
-        bytes_from(&mut self.areas[at].update, self.alloc, place)
+/// The bytes of one of the regions of an area, as it is seen from the origin.
+fn area_bytes(area: &mut Area, told: Told, alloc: Global, origin: Point) -> Result<Vec<u8>, Refusal>
+    requires origin { in_plane origin ≡ true }
+    requires there { (p : Point) → holds (kept_region told area.old) (plus p origin) ≡ true → is_pixel_in_range p ≡ true }
+    requires here { (p : Point) → holds (kept_region told area.old) p ≡ true → is_pixel_in_range p ≡ true }
+    ensures same { area.new ≡ area.old }
+    ensures bytes { MatchResult result
+        (λ bytes. AreRegionBytes (λ p. holds (kept_region told area.old) (plus p origin)) bytes.items)
+        (IsNotTold (λ p. holds (kept_region told area.old) (plus p origin))) }
+{
+    match told {
+        Told::Visible => bytes_from(&mut area.visible, alloc, origin),
+        Told::Update => bytes_from(&mut area.update, alloc, origin),
     }
 }
 

@@ -20,9 +20,10 @@ pub returns-in_default-plan_without-clause-step : goal.returns-in_default-plan_w
 returns-in_default-plan_without-clause-step g c =
     closing.no_memory _ c.args.self.now _ c.args.window c.in-Some.at c.requires c.in-Some.ensures.0 c.in-Some.ensures.1
 
-pub returns-clause-whole : goal.returns-clause-whole
-returns-clause-whole g c =
-    closing.dispose_is_whole _ c.args.window c.in-Some.at _ _ c.take_off-taken.result c.args.self.now c.take_off-taken.new.self _ _ (record {
+pub returns : goal.returns
+returns g c =
+    let done =
+    closing.dispose_done _ c.args.window c.in-Some.at _ _ c.take_off-taken.result c.args.self.now c.take_off-taken.new.self _ _ (record {
       whole = c.requires;
       low = c.in-Some.ensures.0;
       serial = c.in-Some.ensures.1;
@@ -30,16 +31,5 @@ returns-clause-whole g c =
       planned = c.in-Ok.ensures.plan;
       off = c.take_off-taken.ensures;
       shut = c.put_away.ensures;
-    })
-
-pub returns-clause-step : goal.returns-clause-step
-returns-clause-step g c =
-    closing.dispose_step _ c.args.window c.in-Some.at _ _ c.take_off-taken.result c.args.self.now c.take_off-taken.new.self _ _ (record {
-      whole = c.requires;
-      low = c.in-Some.ensures.0;
-      serial = c.in-Some.ensures.1;
-      becomes = c.in-Ok.ensures.activation;
-      planned = c.in-Ok.ensures.plan;
-      off = c.take_off-taken.ensures;
-      shut = c.put_away.ensures;
-    })
+    }) in
+    record { whole = done.0; step = done.1 }

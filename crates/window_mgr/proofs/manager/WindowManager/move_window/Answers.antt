@@ -1,33 +1,34 @@
 use Rattle.std.proofs.Common.{refl, ap, rules, ◌∙◌, inl, false, true, if◌then◌else◌}
+use Rattle.desk_call.specs.declared.window.WindowCall.TheVariants.{Move}
 use Rattle.window_mgr.specs.declared.arrange.Activates.TheVariants.{Nothing, Itself}
 use Rattle.window_mgr.specs.declared.arrange.Edit.{Edit}
 use Rattle.window_mgr.proofs.PaintLemmas.{settled_in}
+use Rattle.window_mgr.proofs.SameDeskLemmas.{is_refused}
 use Rattle.window_mgr.proofs.Steps as steps
 use Rattle.window_mgr.proofs.manager.WindowManager.move_window.Goals as goal
 
-pub returns-then-not-is_placed_with-clause-step : goal.returns-then-not-is_placed_with-clause-step
-returns-then-not-is_placed_with-clause-step g c = (
-  inl (steps.may_move _ c.args.self.now c.args.self.now _ c.requires c.in-Some.at c.args.moved.window c.at-found.result.now c.in-Some.ensures.0 (search rules) (c.in-Some.ensures.1 c.at-found.result.now (search rules)) c.args.moved false refl (search rules)),
-  record { desk = refl; stale = λ p on. refl; image = λ p on. refl },
-)
+pub returns-then-not-is_placed_with : goal.returns-then-not-is_placed_with
+returns-then-not-is_placed_with g c =
+    is_refused _ c.args.self.now (Move c.args.moved) _ (λ slots whole.
+    inl (steps.may_move _ c.args.self.now c.args.self.now slots whole c.in-Some.at c.args.moved.window c.at-found.result.now c.in-Some.ensures.0 (search rules) (c.in-Some.ensures.1 c.at-found.result.now (search rules)) c.args.moved false refl (search rules)))
 
 pub way-by-requires-clause-from : goal.way-by-requires-clause-from
-way-by-requires-clause-from g c = (settled_in _ c.args.self.now.windows.records.items c.in-Some.at c.at-found.result.now c.in-Some.ensures.0 (search rules) c.requires.sound.settled).placed
+way-by-requires-clause-from g c = (settled_in _ c.args.self.now.windows.records.items c.in-Some.at c.at-found.result.now c.in-Some.ensures.0 (search rules) c.requires.whole.sound.settled).placed
 
 pub way-by-requires-clause-to : goal.way-by-requires-clause-to
 way-by-requires-clause-to g c =
-    steps.arrives _ c.args.self.now c.args.self.now _ c.requires c.in-Some.at c.args.moved.window c.at-found.result.now c.in-Some.ensures.0 (search rules) (c.in-Some.ensures.1 c.at-found.result.now (search rules)) c.args.moved (search rules)
+    steps.arrives _ c.args.self.now c.args.self.now _ c.requires.whole c.in-Some.at c.args.moved.window c.at-found.result.now c.in-Some.ensures.0 (search rules) (c.in-Some.ensures.1 c.at-found.result.now (search rules)) c.args.moved (search rules)
 
 pub rearrange-requires-clause-placed : goal.rearrange-requires-clause-placed
 rearrange-requires-clause-placed g c =
-    steps.may_arrive _ c.args.self.now c.args.self.now _ c.requires c.in-Some.at c.args.moved.window c.at-found.result.now c.in-Some.ensures.0 (search rules) (c.in-Some.ensures.1 c.at-found.result.now (search rules)) c.args.moved (search rules) (record c.of-edit.result { place = c.args.moved.place; to = c.place_in.result })
+    steps.may_arrive _ c.args.self.now c.args.self.now _ c.requires.whole c.in-Some.at c.args.moved.window c.at-found.result.now c.in-Some.ensures.0 (search rules) (c.in-Some.ensures.1 c.at-found.result.now (search rules)) c.args.moved (search rules) (record c.of-edit.result { place = c.args.moved.place; to = c.place_in.result })
     (ap (λ (e : Edit). e.at) c.of-edit.ensures) refl (ap (λ (e : Edit). e.size) c.of-edit.ensures)
 
-pub returns-clause-step : goal.returns-clause-step
-returns-clause-step g c =
-    steps.move_step _ c.args.self.now c.rearrange.new.self _ c.requires c.in-Some.at c.args.moved.window c.at-found.result.now c.in-Some.ensures.0 (search rules) (c.in-Some.ensures.1 c.at-found.result.now (search rules)) c.args.moved
+pub returns : goal.returns
+returns g c slots whole =
+    steps.move_step _ c.args.self.now c.rearrange.new.self slots whole c.in-Some.at c.args.moved.window c.at-found.result.now c.in-Some.ensures.0 (search rules) (c.in-Some.ensures.1 c.at-found.result.now (search rules)) c.args.moved
     _ _ _ _ refl
-    (steps.may_move _ c.args.self.now c.args.self.now _ c.requires c.in-Some.at c.args.moved.window c.at-found.result.now c.in-Some.ensures.0 (search rules) (c.in-Some.ensures.1 c.at-found.result.now (search rules)) c.args.moved true refl (search rules))
+    (steps.may_move _ c.args.self.now c.args.self.now slots whole c.in-Some.at c.args.moved.window c.at-found.result.now c.in-Some.ensures.0 (search rules) (c.in-Some.ensures.1 c.at-found.result.now (search rules)) c.args.moved true refl (search rules))
     (λ k. record { at = (ap (λ (e : Edit). e.at) c.of-edit.ensures) k; to = c.place_in.ensures k; place = c.args.moved.place; size = (ap (λ (e : Edit). e.size) c.of-edit.ensures) k; shown = (ap (λ (e : Edit). e.shown) c.of-edit.ensures) k })
     (c.if_so-activates.ensures ∙ ap (λ b. if b then Itself else Nothing) c.both.ensures)
-    c.way-by.ensures c.rearrange.ensures.left
+    c.way-by.ensures c.rearrange.ensures

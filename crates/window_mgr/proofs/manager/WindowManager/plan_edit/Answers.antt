@@ -10,24 +10,23 @@ seats_after-requires-clause-areas g c = arranging.as_many _ c.args.self.now c.re
 pub plan_of-requires-clause-placed : goal.plan_of-requires-clause-placed
 plan_of-requires-clause-placed g c =
     let low : c.args.edit.at < length c.args.self.now.windows.records.items = search rules in
-    rw c.deref-2.ensures.value (editing.placed_edit _ c.args.self.now c.requires.kept c.args.edit c.in_ok-seats.seats.items c.in_ok-seats.ensures.seats low c.requires.placed)
+    rw c.deref-2.ensures.value (editing.placed_edit _ c.args.self.now c.requires.kept c.args.edit c.in_ok-seats.seats.items c.in_ok-seats.ensures low c.requires.placed)
 
 pub plan_of-requires-clause-near : goal.plan_of-requires-clause-near
 plan_of-requires-clause-near g c =
     let low : c.args.edit.at < length c.args.self.now.windows.records.items = search rules in
-    rw c.deref-2.ensures.value (editing.near_edit _ c.args.self.now c.requires.kept c.args.edit c.in_ok-seats.seats.items c.in_ok-seats.ensures.seats low)
+    rw c.deref-2.ensures.value (editing.near_edit _ c.args.self.now c.requires.kept c.args.edit c.in_ok-seats.seats.items c.in_ok-seats.ensures low)
 
 pub plan_of-requires-clause-near_gray : goal.plan_of-requires-clause-near_gray
 plan_of-requires-clause-near_gray g c = arranging.gray_near _ c.args.self.now c.requires.kept
 
 pub returns-clause-plan : goal.returns-clause-plan
-returns-clause-plan g c w w_is =
+returns-clause-plan g c w w_is after deskof =
     let low : c.args.edit.at < length c.args.self.now.windows.records.items = search rules in
     let plan = rw c.deref-2.ensures.value at c.in_ok-plan.ensures.plan in
-    let same = editing.same_at c.args.self.now.windows.records.items c.args.edit.at c.at.result.now w low (search rules) w_is in (
-      c.also.result,
-      λ after deskof. rw (ap (λ z. z.serial) same) at (plan _ _ _ _ (editing.arranged_edit _ c.args.self.now c.requires.kept c.args.edit c.in_ok-seats.seats.items c.in_ok-seats.ensures.seats low w w_is after deskof)),
-    )
+    let same = editing.same_at c.args.self.now.windows.records.items c.args.edit.at c.at.result.now w low (search rules) w_is in
+    rw (c.also.ensures, c.active-active.ensures, ap (λ z. z.serial) same) at
+    (plan _ _ _ _ (editing.arranged_edit _ c.args.self.now c.requires.kept c.args.edit c.in_ok-seats.seats.items c.in_ok-seats.ensures low w w_is after deskof))
 
 pub returns-clause-activation : goal.returns-clause-activation
 returns-clause-activation g c w w_is =
@@ -35,11 +34,11 @@ returns-clause-activation g c w w_is =
     let same = editing.same_at c.args.self.now.windows.records.items c.args.edit.at c.at.result.now w low (search rules) w_is in
     let front = rw c.deref.ensures.value at c.front_of.ensures in
     c.activation-activation.ensures
-    ∙ (λ i. activation_of c.args.activates (same i).serial (c.active-active.ensures i) ((front ∙ editing.front_put _ c.args.self.now c.requires.kept c.args.edit c.in_ok-seats.seats.items c.in_ok-seats.ensures.seats low w w_is) i))
+    ∙ (λ i. activation_of c.args.activates (same i).serial (c.active-active.ensures i) ((front ∙ editing.front_put _ c.args.self.now c.requires.kept c.args.edit c.in_ok-seats.seats.items c.in_ok-seats.ensures low w w_is) i))
 
 pub returns-clause-length : goal.returns-clause-length
 returns-clause-length g c =
     let low : c.args.edit.at < length c.args.self.now.windows.records.items = search rules in
     let long = rw c.deref-2.ensures.value at c.in_ok-plan.ensures.length in
-    let seats = editing.as_many_seats _ c.args.self.now c.requires.kept c.args.edit c.in_ok-seats.seats.items c.in_ok-seats.ensures.seats low in
+    let seats = editing.as_many_seats _ c.args.self.now c.requires.kept c.args.edit c.in_ok-seats.seats.items c.in_ok-seats.ensures low in
     omega arith

@@ -6,10 +6,10 @@ pub seats_behind-requires : goal.seats_behind-requires
 seats_behind-requires g c = arranging.as_many _ c.args.self.now c.requires.kept
 
 pub plan_of-requires-clause-placed : goal.plan_of-requires-clause-placed
-plan_of-requires-clause-placed g c = rw c.deref.ensures.value (arranging.all_placed _ _ c.args.self.now.windows.records.items c.args.self.now.areas.items _ c.in_ok-seats.ensures.seats c.requires.placed c.requires.kept.settled)
+plan_of-requires-clause-placed g c = rw c.deref.ensures.value (arranging.all_placed _ _ c.args.self.now.windows.records.items c.args.self.now.areas.items _ c.in_ok-seats.ensures c.requires.placed c.requires.kept.whole.sound.settled)
 
 pub plan_of-requires-clause-near : goal.plan_of-requires-clause-near
-plan_of-requires-clause-near g c = rw c.deref.ensures.value (arranging.all_near _ c.args.self.now c.requires.kept _ c.empty-nothing.ensures c.in_ok-seats.seats.items c.in_ok-seats.ensures.seats)
+plan_of-requires-clause-near g c = rw c.deref.ensures.value (arranging.all_near _ c.args.self.now c.requires.kept _ c.empty-nothing.ensures c.in_ok-seats.seats.items c.in_ok-seats.ensures)
 
 pub plan_of-requires-clause-near_gray : goal.plan_of-requires-clause-near_gray
 plan_of-requires-clause-near_gray g c = arranging.gray_near _ c.args.self.now c.requires.kept
@@ -20,10 +20,10 @@ returns-clause-plan g c slot begun regions =
     plan _ _ _ _
     (arranging.arranged _ c.args.window.now c.args.touch.window slot _ begun c.args.self.now c.requires.kept c.requires.number regions _
     (record { serial = refl; place = refl; size = refl; shown = refl; definition = refl; nowhere = c.empty-nothing.ensures })
-    c.in_ok-seats.seats.items c.in_ok-seats.ensures.seats)
+    c.in_ok-seats.seats.items c.in_ok-seats.ensures)
 
 pub returns-clause-some : goal.returns-clause-some
 returns-clause-some g c =
     let long = rw c.deref.ensures.value at c.in_ok-plan.ensures.length in
-    let seats = arranging.seats_length _ c.args.self.now.windows.records.items c.args.self.now.areas.items _ c.in_ok-seats.ensures.seats in
+    let seats = arranging.seats_length _ c.args.self.now.windows.records.items c.args.self.now.areas.items _ c.in_ok-seats.ensures in
     omega arith

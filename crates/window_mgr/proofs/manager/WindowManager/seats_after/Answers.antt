@@ -1,8 +1,8 @@
 use Rattle.std.proofs.Common.{rules}
 use Rattle.window_mgr.proofs.manager.WindowManager.seats_after.Goals as goal
 
-pub returns-clause-seats : goal.returns-clause-seats
-returns-clause-seats g c = record {
+pub returns : goal.returns
+returns g c = record {
   all = c.in_ok-seats.seats.items;
   seat = c.remove-seat.result;
   are = c.in_ok-seats.ensures.seats;
