@@ -17,7 +17,7 @@ use strike_font::Font;
 use tb_geom::{Point, Rect, Refusal};
 
 /// The pixels of the desks that are looked at.
-const SCREEN: Rect = rect!(0, 0, 24, 30);
+pub const SCREEN: Rect = rect!(0, 0, 24, 30);
 
 /// A desk below a menu bar of so many rows, with windows of 6 by 3 from back to front, whose contents begin in these
 /// columns and 24 rows down.
@@ -99,15 +99,15 @@ enum Ask {
 
 /// A window of 6 by 3 at 5 24, but for what is said here.
 #[derive(Clone, Copy)]
-struct Opened {
-    kind: &'static [u8],
-    column: i32,
-    width: i32,
-    shown: bool,
-    title: &'static [u8],
+pub struct Opened {
+    pub kind: &'static [u8],
+    pub column: i32,
+    pub width: i32,
+    pub shown: bool,
+    pub title: &'static [u8],
 }
 
-const WINDOW: Opened = Opened {
+pub const WINDOW: Opened = Opened {
     kind: b"titled",
     column: 5,
     width: 6,
@@ -116,7 +116,7 @@ const WINDOW: Opened = Opened {
 };
 
 /// The call for a window.
-fn opening(window: Opened) -> Call<'static> {
+pub fn opening(window: Opened) -> Call<'static> {
     Call::Window(WindowCall::New(NewWindow {
         kind: BytesRef::new(window.kind),
         place: Point {
@@ -311,7 +311,7 @@ fn there_are_64_windows_at_most(rt: HostRuntime) -> Result<(), Fail> {
 }
 
 /// The call that inverts the content of window 1.
-fn inverting() -> Call<'static> {
+pub fn inverting() -> Call<'static> {
     let shape = ShapeRef::Invert(rect!(0, 0, 6, 3));
     let operation = OpRef { clip: None, shape };
     Call::Window(WindowCall::Draw(Drawing {

@@ -1,8 +1,9 @@
-//! What no clause says of `def_iface`, `window_list` and `desk_toolbox`, by tests: that calls succeed where memory is not
+//! What no clause says of `def_iface`, `window_list`, `desk_toolbox` and `scratch_paint`, by tests: that calls succeed where memory is not
 //! refused, and that the words of the contracts are the Toolbox's. Expected values are tables and pictures written by
 //! hand, or come from slow programs over single pixels, and never from the libraries.
 //!
-//! `stocks` tests `def_iface`, `windows` tests `window_list`, and `desks` tests `desk_toolbox`. `titled_window` is the
+//! `stocks` tests `def_iface`, `windows` tests `window_list`, and `desks` tests `desk_toolbox`, and `scratch` tests
+//! `scratch_paint`. `titled_window` is the
 //! one window definition of the tests: it is proved, and no part of the program.
 #![tactic(auto)]
 
@@ -31,6 +32,8 @@ macro_rules! point {
 
 #[cfg(test)]
 mod desks;
+#[cfg(test)]
+mod scratch;
 #[cfg(test)]
 mod stocks;
 #[cfg(test)]

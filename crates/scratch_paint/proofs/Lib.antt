@@ -1,0 +1,3 @@
+-- How a desk is painted from nothing.
+pub mod CutLemmas
+pub mod PaintLemmas

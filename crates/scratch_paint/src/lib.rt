@@ -1,0 +1,15 @@
+//! The whole desk, painted from nothing: what the screen has to show once nothing is left to be drawn.
+//!
+//! `paint` makes a new map. It begins with a desk without windows (`desk_ground`): the white menu bar above and the gray
+//! desktop. Over that come the visible windows, from the rearmost to the frontmost, each whole: its frame, as its
+//! definition draws it, then the picture of its content over that, whatever is to cover them. Only the desktop is painted
+//! on, so the menu bar stays in front.
+//!
+//! Of the Toolbox it reads the desk alone (`Parts`): neither what the screen shows, nor a region that is kept
+//! from call to call. So it is the yardstick for both: by its contract each of its pixels has the value `scratch`, and by
+//! that of the Toolbox so has each pixel of the screen in no update region.
+#![tactic(auto)]
+
+mod painting;
+
+pub use painting::paint;
