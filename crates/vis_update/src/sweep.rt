@@ -105,7 +105,12 @@ fn carried(
 }
 
 /// The pixels of `within` that the region has so far away.
-fn carried_by(alloc: Global, region: &Region, by: Point, within: &Region) -> Result<Region, AllocError>
+fn carried_by(
+    alloc: Global,
+    region: &Region,
+    by: Point,
+    within: &Region,
+) -> Result<Region, AllocError>
     requires near { IsNear region.now }
     requires within { IsNear within.now }
     ensures { IfOk result (λ moved. (p : Point) → holds moved p
@@ -119,7 +124,12 @@ fn carried_by(alloc: Global, region: &Region, by: Point, within: &Region) -> Res
 }
 
 /// What of a frame is drawn: all of it, or what was not the frame's before.
-fn redraw_of(alloc: Global, frame: &Region, before: &Region, whole: bool) -> Result<Region, AllocError>
+fn redraw_of(
+    alloc: Global,
+    frame: &Region,
+    before: &Region,
+    whole: bool,
+) -> Result<Region, AllocError>
     ensures { IfOk result (λ redraw. (p : Point) → holds redraw p
         ≡ (holds frame.now p && (whole || not (holds before.now p)))) }
 {
