@@ -91,12 +91,26 @@ fn run_script(
     match chosen.script {
         None => {
             let mut source = WatchedReader::new(rt.reader());
-            run(rt.alloc(), &mut source, &mut sink, stock, font)
+            run(
+                rt.alloc(),
+                &mut source,
+                &mut sink,
+                stock,
+                font,
+                chosen.check,
+            )
         }
         Some(path) => match fs::open(rt, path) {
             Ok(file) => {
                 let mut source = WatchedReader::new(file);
-                run(rt.alloc(), &mut source, &mut sink, stock, font)
+                run(
+                    rt.alloc(),
+                    &mut source,
+                    &mut sink,
+                    stock,
+                    font,
+                    chosen.check,
+                )
             }
             Err(_) => Err(Refusal::ReadFault),
         },

@@ -1,12 +1,13 @@
 //! What a Toolbox can be asked, and what it answers.
 
-use crate::{WindowCall, WindowReply};
+use crate::{UpdateCall, WindowCall, WindowReply};
 
 /// A call of the Toolbox, by the manager that answers it. Texts and the bytes of operations are
 /// borrowed, so that a call takes no memory.
 #[derive(Drop)]
 pub enum Call<'a> {
     Window(WindowCall<'a>),
+    Update(UpdateCall<'a>),
 }
 
 /// The value of a call that was done, by the manager that answered.

@@ -4,11 +4,15 @@
 //! (`window_mgr` for windows). A program that only reads or writes calls needs no more than this.
 #![tactic(auto)]
 
+mod activity;
 mod call;
+mod update;
 mod window;
 
+pub use activity::{Activity, Standing};
 pub use call::{Call, Reply};
+pub use update::{AreaRef, LayerDraw, Layers, UpdateCall, WindowArea};
 pub use window::{
-    Drawing, Found, MoveWindow, NewWindow, SendBehind, ShowHide, SizeWindow, WindowCall,
-    WindowInfo, WindowPart, WindowReply,
+    Drawing, Found, MoveWindow, NewPicture, NewWindow, PictureRef, ScrollPicture, SendBehind,
+    ShowHide, SizeWindow, WindowCall, WindowInfo, WindowPart, WindowReply,
 };

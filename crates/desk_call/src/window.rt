@@ -1,7 +1,10 @@
 //! What the Window Manager can be asked, and what it answers.
 
 use def_iface::Size;
+use draw_port::Picture;
 use op_ref::{BytesRef, OpRef};
+use std::alloc::{AllocError, Global};
+use std::marker::Model;
 use tb_geom::Point;
 
 /// A call of the Window Manager. A window is named by its number; no window has the number 0, and
@@ -36,6 +39,12 @@ pub enum WindowCall<'a> {
     Size(SizeWindow),
     /// Adds an operation to a window's picture, and draws it where the picture shows.
     Draw(Drawing<'a>),
+    /// Gives a window another picture (SetWindowPic), all of which is to be redrawn where it shows. OutOfRange
+    /// where its origin is no point.
+    SetPicture(NewPicture<'a>),
+    /// Moves a window's picture in its content (ScrollRect, SetOrigin): what comes into sight is to be redrawn.
+    /// OutOfRange where its origin would be no point.
+    Scroll(ScrollPicture),
     /// Whose a point of the screen is (FindWindow). A point outside the range of coordinates is
     /// OutOfRange.
     Find(Point),
@@ -106,6 +115,75 @@ pub struct Drawing<'a> {
     pub window: u64,
     /// In the coordinates of the window's picture.
     pub operation: OpRef<'a>,
+}
+
+/// A picture that a window is to have.
+#[derive(Drop)]
+pub struct NewPicture<'a> {
+    /// The number of the window.
+    pub window: u64,
+    pub picture: PictureRef<'a>,
+    /// Where the picture's 0 0 is to lie in the window.
+    pub origin: Point,
+}
+
+/// A picture that a call lends. Contracts see the list of its operations.
+#[derive(Drop)]
+pub struct PictureRef<'a> {
+    picture: Option<&'a Picture>,
+}
+
+impl<'a> Model for PictureRef<'a> {
+    ghost use Rattle.std.specs.Prelude.{List};
+    ghost use Rattle.std.specs.Coded.{coded_list};
+    ghost use Rattle.draw_port.specs.declared.shapes.Op.{Op};
+    ghost use Rattle.draw_port.specs.contracts.shapes.Op as op;
+    ghost use Rattle.desk_call.specs.Lent.{operations_lent};
+
+    ghost Value = { List Op };
+
+    ghost coded = { coded_list op.the_row.coded };
+
+    ghost view = { λ p. operations_lent p.picture };
+}
+
+impl<'a> PictureRef<'a> {
+    ghost use Rattle.std.specs.Prelude.{◌≡◌, [], IfOk};
+
+    /// This picture.
+    pub fn new(picture: &'a Picture) -> PictureRef<'a>
+        ensures { result ≡ picture.entry.now }
+    {
+        PictureRef {
+            picture: Some(picture),
+        }
+    }
+
+    /// The picture of no operation.
+    pub fn empty() -> PictureRef<'a>
+        ensures { result ≡ [] }
+    {
+        PictureRef { picture: None }
+    }
+
+    /// An equal picture.
+    pub fn copy(&self, alloc: Global) -> Result<Picture, AllocError>
+        ensures { IfOk result (λ picture. picture ≡ self.now) }
+    {
+        match self.picture {
+            Some(picture) => picture.copy(alloc),
+            None => Ok(Picture::new(alloc)),
+        }
+    }
+}
+
+/// A picture that is to be moved in its window.
+#[derive(Clone, Copy, PartialEq, Eq)]
+pub struct ScrollPicture {
+    /// The number of the window.
+    pub window: u64,
+    /// How far the picture's origin moves.
+    pub by: Point,
 }
 
 /// A part of the screen, as FindWindow answers it (*Inside Macintosh* I, "The Window Manager").

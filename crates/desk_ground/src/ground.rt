@@ -49,7 +49,7 @@ pub fn empty_ground(alloc: Global, width: i32, height: i32, bar: i32) -> Result<
 }
 
 /// Whether a screen may have these sides, and this many rows of menu bar.
-fn is_screen(width: i32, height: i32, bar: i32) -> bool
+pub fn is_screen(width: i32, height: i32, bar: i32) -> bool
     ensures { result ≡ screens.is_screen width height bar }
 {
     is_screen_side(width) && (is_screen_side(height) && (is_bar(bar) && is_less(bar, height)))

@@ -1,7 +1,7 @@
 //! Desks of titled windows, against a slow reading of the rules.
 ghost use Rattle.std.specs.Prelude.{All};
 ghost use Rattle.def_iface.specs.Stocked.{IsFull};
-ghost use Rattle.window_mgr.specs.Whole.{IsWholeManager};
+ghost use Rattle.desk_toolbox.specs.WholeToolbox.{IsWholeToolbox};
 
 use crate::titled_window::Titled;
 use bit_map::BitMap;

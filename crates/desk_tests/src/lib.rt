@@ -1,10 +1,10 @@
-//! What no clause says of `def_iface`, `window_list`, `desk_toolbox` and `scratch_paint`, by tests: that calls succeed where memory is not
-//! refused, and that the words of the contracts are the Toolbox's. Expected values are tables and pictures written by
-//! hand, or come from slow programs over single pixels, and never from the libraries.
+//! What no clause says of `def_iface`, `window_list`, `event_queue`, `desk_toolbox` and `scratch_paint`, by tests: that calls
+//! succeed where memory is not refused, and that the words of the contracts are the Toolbox's. Expected values are tables and
+//! pictures written by hand, or come from slow programs over single pixels, and never from the libraries.
 //!
-//! `stocks` tests `def_iface`, `windows` tests `window_list`, and `desks` tests `desk_toolbox`, and `scratch` tests
-//! `scratch_paint`. `titled_window` is the
-//! one window definition of the tests: it is proved, and no part of the program.
+//! `stocks` tests `def_iface`, `windows` tests `window_list`, `queue` tests `event_queue`, `desks` and `updates` test
+//! `desk_toolbox`, and `scratch` tests `scratch_paint`. `titled_window` is the one window definition of the tests: it is
+//! proved, and no part of the program.
 #![tactic(auto)]
 
 pub mod titled_window;
@@ -33,8 +33,12 @@ macro_rules! point {
 #[cfg(test)]
 mod desks;
 #[cfg(test)]
+mod queue;
+#[cfg(test)]
 mod scratch;
 #[cfg(test)]
 mod stocks;
+#[cfg(test)]
+mod updates;
 #[cfg(test)]
 mod windows;

@@ -1,3 +1,5 @@
 -- Lemmas on runs.
 pub mod Sayings
+pub mod UpdatedDesks
+pub mod Sides
 pub mod Runs

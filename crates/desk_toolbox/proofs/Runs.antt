@@ -1,40 +1,79 @@
 -- Steps and runs of any manager's calls.
-use Rattle.std.proofs.Common.{◌≡◌, ℕ, ◌+◌, ◌<◌, List, [], ◌∷◌, ◌++◌, length, get_or, take, Option, None, Some, Result, Ok, Err, refl, sym, ap, ◌∙◌, subst}
+use Rattle.std.proofs.Common.{◌≡◌, ℕ, ◌+◌, ◌<◌, List, [], ◌∷◌, ◌++◌, length, map, get_or, take, Option, None, Some, Result, Ok, Err, refl, sym, ap, ◌∙◌, subst}
 use Rattle.std.proofs.lemmas.List.{take_more}
 use Rattle.tb_geom.specs.declared.refusal.Refusal.{Refusal}
+use Rattle.tb_geom.specs.Points.{PixelSet}
 use Rattle.window_mgr.specs.FullDesk.{FullDesk, FullState, IsRightState}
 use Rattle.desk_call.specs.declared.window.WindowCall.{WindowCall}
 use Rattle.desk_call.specs.declared.window.WindowReply.{WindowReply}
 use Rattle.desk_call.specs.declared.window.WindowReply.TheVariants.{Done, Made, Found, Front, Info, Region}
 use Rattle.desk_call.specs.declared.window.WindowCall.TheVariants as asks
 use Rattle.vis_update.specs.Records.{WindowRecord}
-use Rattle.window_mgr.specs.Finding.{record_with, info_of}
+use Rattle.window_mgr.specs.Finding.{record_with, info_of, front_of}
 use Rattle.window_mgr.specs.Effects.{Effect, IsEffect, IsUnchanged, effect_of}
-use Rattle.window_mgr.specs.Effects.Effect.{Makes, Disposes, Draws, Arranges, Sizes, Tells, Describes}
+use Rattle.window_mgr.specs.Effects.Effect.{Makes, Disposes, Draws, Pictures, Scrolls, Arranges, Sizes, Tells, Describes}
 use Rattle.window_mgr.specs.Telling.{IsRegionTold}
-use Rattle.tb_geom.specs.Points.{PixelSet}
 use Rattle.window_mgr.proofs.KeptKinds as kinds
 use Rattle.window_mgr.proofs.KeptKinds.{kinds_of}
 use Rattle.window_mgr.proofs.Running as windowing
 use Rattle.desk_call.specs.declared.call.Call.{Call}
-use Rattle.desk_call.specs.declared.call.Call.TheVariants.{Window}
+use Rattle.desk_call.specs.declared.call.Call.TheVariants.{Window, Update}
 use Rattle.desk_call.specs.declared.call.Reply.{Reply}
 use Rattle.desk_call.specs.declared.call.Reply.TheVariants as reply
-use Rattle.desk_toolbox.specs.Run.{IsStep, IsRunOfCalls, number_made, made, AreCounted}
+use Rattle.desk_call.specs.Gates.{gate, standing_of}
+use Rattle.window_update.specs.DeskStates.{DeskState, narrowed}
+use Rattle.window_update.specs.UpdateSteps.{IsToldOf}
+use Rattle.desk_toolbox.specs.Run.{IsWindowAnswer, IsAdmitted, IsGated, IsStep, IsRunOfCalls, number_made, made, AreCounted}
+use Rattle.window_update.proofs.UpdateLaws.{update_stays_right}
+use Rattle.desk_toolbox.proofs.UpdatedDesks.{update_keeps_desk}
 
 -- ---- what is right stays so
 
-pub step_stays_right : (call : Call) (answer : Result Reply Refusal) (before after : FullState) → IsRightState before → IsStep call answer before after → IsRightState after
-step_stays_right (Window call) (Ok (reply.Window answer)) before after right step = windowing.step_stays_right call (Ok answer) before after right step
-step_stays_right (Window call) (Err e) before after right step = windowing.step_stays_right call (Err e) before after right step
+unchanged_stays_right : (before after : FullState) → IsRightState before → IsUnchanged before after → IsRightState after
+unchanged_stays_right before after right same = windowing.step_stays_right asks.Front (Ok (Front (front_of before.desk.windows))) before after right (refl, (refl, same))
+
+answer_stays_right : (asked : Option PixelSet) (call : WindowCall) (answer : Result WindowReply Refusal) (before after : DeskState) → IsRightState before.windows → IsWindowAnswer asked call answer before after → IsRightState after.windows
+answer_stays_right None call answer before after right step = windowing.step_stays_right call answer before.windows after.windows right step.1
+answer_stays_right (Some set) call answer before after right step = unchanged_stays_right before.windows after.windows right step.1.windows
+
+pub admitted_stays_right : (call : Call) (answer : Result Reply Refusal) (before after : DeskState) → IsRightState before.windows → IsAdmitted call answer before after → IsRightState after.windows
+admitted_stays_right (Window call) (Ok (reply.Window answer)) before after right step = answer_stays_right (narrowed call before.activity before.begun) call (Ok answer) before after right step
+admitted_stays_right (Window call) (Err e) before after right step = answer_stays_right (narrowed call before.activity before.begun) call (Err e) before after right step
+admitted_stays_right (Update call) (Ok (reply.Window answer)) before after right step = update_stays_right call (Ok answer) before after right step
+admitted_stays_right (Update call) (Err e) before after right step = update_stays_right call (Err e) before after right step
+
+gated_stays_right : (stopped : Option Refusal) (call : Call) (answer : Result Reply Refusal) (before after : DeskState) → IsRightState before.windows → IsGated stopped call answer before after → IsRightState after.windows
+gated_stays_right None call answer before after right step = admitted_stays_right call answer before after right step
+gated_stays_right (Some e) call (Ok answer) before after right step = absurd step
+gated_stays_right (Some e) call (Err f) before after right (form, why, (is, same)) = unchanged_stays_right before.windows after.windows right same.windows
+
+pub step_stays_right : (call : Call) (answer : Result Reply Refusal) (before after : DeskState) → IsRightState before.windows → IsStep call answer before after → IsRightState after.windows
+step_stays_right call answer before after right step = gated_stays_right (gate before.activity (standing_of call)) call answer before after right step
 
 -- and the stock keeps its kinds
-pub step_keeps_kinds : (call : Call) (answer : Result Reply Refusal) (before after : FullState) → IsStep call answer before after → kinds_of after ≡ kinds_of before
-step_keeps_kinds (Window call) (Ok (reply.Window answer)) before after step = kinds.step_keeps_kinds call (Ok answer) before after step
-step_keeps_kinds (Window call) (Err e) before after step = kinds.step_keeps_kinds call (Err e) before after step
+same_kinds : (before after : FullState) → after.desk ≡ before.desk → kinds_of after ≡ kinds_of before
+same_kinds before after same = ap (λ (d : FullDesk). map (λ slot. slot.kind) d.stock) same
 
-pub run_stays_right : (first last : FullState) (calls : List Call) (answers : List (Result Reply Refusal)) → IsRightState first → IsRunOfCalls first calls answers last → IsRightState last
-run_stays_right first last [] [] right run = subst IsRightState (sym run) right
+answer_keeps_kinds : (asked : Option PixelSet) (call : WindowCall) (answer : Result WindowReply Refusal) (before after : DeskState) → IsWindowAnswer asked call answer before after → kinds_of after.windows ≡ kinds_of before.windows
+answer_keeps_kinds None call answer before after step = kinds.step_keeps_kinds call answer before.windows after.windows step.1
+answer_keeps_kinds (Some set) call answer before after step = same_kinds before.windows after.windows step.1.windows.desk
+
+admitted_keeps_kinds : (call : Call) (answer : Result Reply Refusal) (before after : DeskState) → IsAdmitted call answer before after → kinds_of after.windows ≡ kinds_of before.windows
+admitted_keeps_kinds (Window call) (Ok (reply.Window answer)) before after step = answer_keeps_kinds (narrowed call before.activity before.begun) call (Ok answer) before after step
+admitted_keeps_kinds (Window call) (Err e) before after step = answer_keeps_kinds (narrowed call before.activity before.begun) call (Err e) before after step
+admitted_keeps_kinds (Update call) (Ok (reply.Window answer)) before after step = same_kinds before.windows after.windows (update_keeps_desk call (Ok answer) before after step)
+admitted_keeps_kinds (Update call) (Err e) before after step = same_kinds before.windows after.windows (update_keeps_desk call (Err e) before after step)
+
+gated_keeps_kinds : (stopped : Option Refusal) (call : Call) (answer : Result Reply Refusal) (before after : DeskState) → IsGated stopped call answer before after → kinds_of after.windows ≡ kinds_of before.windows
+gated_keeps_kinds None call answer before after step = admitted_keeps_kinds call answer before after step
+gated_keeps_kinds (Some e) call (Ok answer) before after step = absurd step
+gated_keeps_kinds (Some e) call (Err f) before after (form, why, (is, same)) = same_kinds before.windows after.windows same.windows.desk
+
+pub step_keeps_kinds : (call : Call) (answer : Result Reply Refusal) (before after : DeskState) → IsStep call answer before after → kinds_of after.windows ≡ kinds_of before.windows
+step_keeps_kinds call answer before after step = gated_keeps_kinds (gate before.activity (standing_of call)) call answer before after step
+
+pub run_stays_right : (first last : DeskState) (calls : List Call) (answers : List (Result Reply Refusal)) → IsRightState first.windows → IsRunOfCalls first calls answers last → IsRightState last.windows
+run_stays_right first last [] [] right run = subst (λ (s : DeskState). IsRightState s.windows) (sym run) right
 run_stays_right first last [] (answer ∷ answers) right run = absurd run
 run_stays_right first last (call ∷ calls) [] right run = absurd run
 run_stays_right first last (call ∷ calls) (answer ∷ answers) right run =
@@ -42,14 +81,14 @@ run_stays_right first last (call ∷ calls) (answer ∷ answers) right run =
 
 -- ---- runs that go on
 
-run_more : (first middle last : FullState) (calls : List Call) (answers : List (Result Reply Refusal)) (call : Call) (answer : Result Reply Refusal) → IsRunOfCalls first calls answers middle → IsStep call answer middle last → IsRunOfCalls first (calls ++ call ∷ []) (answers ++ answer ∷ []) last
+run_more : (first middle last : DeskState) (calls : List Call) (answers : List (Result Reply Refusal)) (call : Call) (answer : Result Reply Refusal) → IsRunOfCalls first calls answers middle → IsStep call answer middle last → IsRunOfCalls first (calls ++ call ∷ []) (answers ++ answer ∷ []) last
 run_more first middle last [] [] call answer r s = (last, subst (λ m. IsStep call answer m last) r s, refl)
 run_more first middle last (c ∷ calls) (a ∷ answers) call answer r s = (r.0, r.1, run_more r.0 middle last calls answers call answer r.2 s)
 run_more first middle last [] (a ∷ answers) call answer r s = absurd r
 run_more first middle last (c ∷ calls) [] call answer r s = absurd r
 
 -- a run of the calls so far goes on by the next
-pub run_step : (first middle last : FullState) (calls : List Call) (answers more : List (Result Reply Refusal)) (i : ℕ) (call : Call) (answer : Result Reply Refusal) → more ≡ answers ++ answer ∷ [] → call ≡ get_or calls i call → IsRunOfCalls first (take i calls) answers middle → i < length calls → IsStep call answer middle last → IsRunOfCalls first (take (i + 1) calls) more last
+pub run_step : (first middle last : DeskState) (calls : List Call) (answers more : List (Result Reply Refusal)) (i : ℕ) (call : Call) (answer : Result Reply Refusal) → more ≡ answers ++ answer ∷ [] → call ≡ get_or calls i call → IsRunOfCalls first (take i calls) answers middle → i < length calls → IsStep call answer middle last → IsRunOfCalls first (take (i + 1) calls) more last
 run_step first middle last calls answers more i call answer e read r l s =
     subst (λ (x : List Call × List (Result Reply Refusal)). IsRunOfCalls first x.0 x.1 last) (λ k. (sym (take_more calls i call l) k, sym e k))
     (run_more first middle last (take i calls) answers (get_or calls i call) answer r (subst (λ c. IsStep c answer middle last) read s))
@@ -64,6 +103,8 @@ counted_on before after numbers same h = subst (λ (d : FullDesk). AreCounted d.
 abbrev IsNumberless : Effect → Type 0
 IsNumberless (Makes w) = Unit {0}
 IsNumberless (Draws d) = Unit {0}
+IsNumberless (Pictures n) = Unit {0}
+IsNumberless (Scrolls m) = Unit {0}
 IsNumberless (Arranges a) = Unit {0}
 IsNumberless (Disposes s) = Unit {0}
 IsNumberless (Sizes z) = Unit {0}
@@ -73,6 +114,8 @@ IsNumberless (Describes region) = Unit {0}
 numberless : (call : WindowCall) (desk : FullDesk) → IsNumberless (effect_of call desk)
 numberless (asks.New w) desk = tt
 numberless (asks.Draw d) desk = tt
+numberless (asks.SetPicture n) desk = tt
+numberless (asks.Scroll m) desk = tt
 numberless (asks.Select s) desk = tt
 numberless (asks.BringToFront s) desk = tt
 numberless (asks.SendBehind b) desk = tt
@@ -107,6 +150,10 @@ effect_is_counted (Makes w) answer before after numbers none (n, is, new) h =
     subst (λ (a : WindowReply). AreCounted before.desk.next (number_made a ++ numbers)) (sym is) (new.numbered, subst (λ (d : FullDesk). AreCounted d.next numbers) new.desk h)
 effect_is_counted (Draws d) answer before after numbers none (is, drawn) h =
     subst (λ (a : WindowReply). AreCounted before.desk.next (number_made a ++ numbers)) (sym is) (subst (λ (d : FullDesk). AreCounted d.next numbers) drawn.desk h)
+effect_is_counted (Pictures n) answer before after numbers none (is, placed) h =
+    subst (λ (a : WindowReply). AreCounted before.desk.next (number_made a ++ numbers)) (sym is) (subst (λ (d : FullDesk). AreCounted d.next numbers) placed.desk h)
+effect_is_counted (Scrolls m) answer before after numbers none (is, scrolled) h =
+    subst (λ (a : WindowReply). AreCounted before.desk.next (number_made a ++ numbers)) (sym is) (subst (λ (d : FullDesk). AreCounted d.next numbers) scrolled.desk h)
 effect_is_counted (Arranges a) answer before after numbers none (is, arranged) h =
     subst (λ (a : WindowReply). AreCounted before.desk.next (number_made a ++ numbers)) (sym is) (subst (λ (d : FullDesk). AreCounted d.next numbers) arranged.desk h)
 effect_is_counted (Disposes s) answer before after numbers none (is, closed) h =
@@ -118,10 +165,52 @@ effect_is_counted (Describes region) answer before after numbers none (told, sam
 effect_is_counted (Tells r) answer before after numbers none (is, same) h =
     subst (λ (ns : List ℕ). AreCounted before.desk.next (ns ++ numbers)) (sym (ap number_made is ∙ none)) (counted_on before after numbers same h)
 
-pub made_are_counted : (first last : FullState) (calls : List Call) (answers : List (Result Reply Refusal)) → IsRunOfCalls first calls answers last → AreCounted first.desk.next (made answers)
+-- what follows a desk that did not change
+same_counted : (before after : FullState) (numbers more : List ℕ) → more ≡ [] → after.desk ≡ before.desk → AreCounted after.desk.next numbers → AreCounted before.desk.next (more ++ numbers)
+same_counted before after numbers more none same h =
+    subst (λ (ns : List ℕ). AreCounted before.desk.next (ns ++ numbers)) (sym none) (subst (λ (d : FullDesk). AreCounted d.next numbers) same h)
+
+-- the numbers of the windows that a call made
+abbrev numbers_of : Result WindowReply Refusal → List ℕ
+numbers_of (Ok answer) = number_made answer
+numbers_of (Err e) = []
+
+told_is_numberless : (set : PixelSet) (answer : Result WindowReply Refusal) → IsToldOf set answer → numbers_of answer ≡ []
+told_is_numberless set (Ok answer) told = region_is_numberless set answer told
+told_is_numberless set (Err e) told = refl
+
+answer_is_counted : (asked : Option PixelSet) (call : WindowCall) (answer : Result WindowReply Refusal) (before after : DeskState) (numbers : List ℕ) → IsWindowAnswer asked call answer before after → AreCounted after.windows.desk.next numbers → AreCounted before.windows.desk.next (numbers_of answer ++ numbers)
+answer_is_counted None call (Ok answer) before after numbers step h =
+    effect_is_counted (effect_of call before.windows.desk) answer before.windows after.windows numbers (numberless call before.windows.desk) step.1.1 h
+answer_is_counted None call (Err e) before after numbers step h = counted_on before.windows after.windows numbers step.1.1 h
+answer_is_counted (Some set) call answer before after numbers step h =
+    same_counted before.windows after.windows numbers (numbers_of answer) (told_is_numberless set answer step.0) step.1.windows.desk h
+
+-- the numbers of the windows that any call made
+abbrev made_by : Result Reply Refusal → List ℕ
+made_by (Ok (reply.Window answer)) = number_made answer
+made_by (Err e) = []
+
+admitted_is_counted : (call : Call) (answer : Result Reply Refusal) (before after : DeskState) (numbers : List ℕ) → IsAdmitted call answer before after → AreCounted after.windows.desk.next numbers → AreCounted before.windows.desk.next (made_by answer ++ numbers)
+admitted_is_counted (Window call) (Ok (reply.Window answer)) before after numbers step h = answer_is_counted (narrowed call before.activity before.begun) call (Ok answer) before after numbers step h
+admitted_is_counted (Window call) (Err e) before after numbers step h = answer_is_counted (narrowed call before.activity before.begun) call (Err e) before after numbers step h
+admitted_is_counted (Update call) (Ok (reply.Window answer)) before after numbers step h =
+    same_counted before.windows after.windows numbers (number_made answer) (ap number_made step.1.0) (update_keeps_desk call (Ok answer) before after step) h
+admitted_is_counted (Update call) (Err e) before after numbers step h = counted_on before.windows after.windows numbers step.1.windows h
+
+gated_is_counted : (stopped : Option Refusal) (call : Call) (answer : Result Reply Refusal) (before after : DeskState) (numbers : List ℕ) → IsGated stopped call answer before after → AreCounted after.windows.desk.next numbers → AreCounted before.windows.desk.next (made_by answer ++ numbers)
+gated_is_counted None call answer before after numbers step h = admitted_is_counted call answer before after numbers step h
+gated_is_counted (Some e) call (Ok answer) before after numbers step h = absurd step
+gated_is_counted (Some e) call (Err f) before after numbers (form, why, (is, same)) h = counted_on before.windows after.windows numbers same.windows h
+
+made_first : (answer : Result Reply Refusal) (answers : List (Result Reply Refusal)) → made_by answer ++ made answers ≡ made (answer ∷ answers)
+made_first (Ok (reply.Window answer)) answers = refl
+made_first (Err e) answers = refl
+
+pub made_are_counted : (first last : DeskState) (calls : List Call) (answers : List (Result Reply Refusal)) → IsRunOfCalls first calls answers last → AreCounted first.windows.desk.next (made answers)
 made_are_counted first last [] [] run = tt
 made_are_counted first last [] (answer ∷ answers) run = absurd run
 made_are_counted first last (call ∷ calls) [] run = absurd run
-made_are_counted first last (Window call ∷ calls) (Ok (reply.Window answer) ∷ answers) run =
-    effect_is_counted (effect_of call first.desk) answer first run.0 (made answers) (numberless call first.desk) run.1.1 (made_are_counted run.0 last calls answers run.2)
-made_are_counted first last (Window call ∷ calls) (Err e ∷ answers) run = counted_on first run.0 (made answers) run.1.1 (made_are_counted run.0 last calls answers run.2)
+made_are_counted first last (call ∷ calls) (answer ∷ answers) run =
+    subst (λ (ns : List ℕ). AreCounted first.windows.desk.next ns) (made_first answer answers)
+    (gated_is_counted (gate first.activity (standing_of call)) call answer first run.0 (made answers) run.1 (made_are_counted run.0 last calls answers run.2))

@@ -1,2 +1,3 @@
--- What the contracts speak of: steps of any manager's calls, and runs of steps.
+-- What the contracts speak of: a whole Toolbox, steps of any manager's calls, and runs of steps.
+pub mod WholeToolbox
 pub mod Run

@@ -1,26 +1,62 @@
 -- A step of whichever manager, and a run of steps.
-use Rattle.std.specs.Prelude.{◌≡◌, ℕ, List, [], ◌∷◌, ◌++◌, Option, Some, Result, Ok, Err}
+use Rattle.std.specs.Prelude.{◌≡◌, ℕ, List, [], ◌∷◌, ◌++◌, Option, None, Some, Result, Ok, Err}
+use Rattle.std.specs.Option.{unwrap_or}
 use Rattle.tb_geom.specs.declared.refusal.Refusal.{Refusal}
+use Rattle.tb_geom.specs.Points.{PixelSet}
 use Rattle.desk_call.specs.declared.call.Call.{Call}
-use Rattle.desk_call.specs.declared.call.Call.TheVariants.{Window}
+use Rattle.desk_call.specs.declared.call.Call.TheVariants.{Window, Update}
 use Rattle.desk_call.specs.declared.call.Reply.{Reply}
 use Rattle.desk_call.specs.declared.call.Reply.TheVariants as reply
-use Rattle.window_list.specs.Lists.{number_after}
-use Rattle.window_mgr.specs.FullDesk.{FullState}
-use Rattle.window_mgr.specs.Step as windows
+use Rattle.desk_call.specs.declared.window.WindowCall.{WindowCall}
 use Rattle.desk_call.specs.declared.window.WindowReply.{WindowReply}
 use Rattle.desk_call.specs.declared.window.WindowReply.TheVariants.{Made}
+use Rattle.desk_call.specs.Gates.{gate, standing_of}
+use Rattle.window_list.specs.Lists.{number_after}
+use Rattle.window_mgr.specs.Refused.{IsFormRefusal}
+use Rattle.window_mgr.specs.Step as windows
+use Rattle.window_update.specs.DeskStates.{DeskState, IsDeskUnchanged, SameActivity, narrowed}
+use Rattle.window_update.specs.UpdateRefusals.{IsUpdateForm}
+use Rattle.window_update.specs.UpdateSteps.{IsUpdateStep, IsToldOf}
 
--- one step: a call is a step of its manager
-abbrev pub IsStep : Call → Result Reply Refusal → FullState → FullState → Type 0
-IsStep (Window call) (Ok (reply.Window answer)) before after = windows.IsWindowStep call (Ok answer) before after
-IsStep (Window call) (Err e) before after = windows.IsWindowStep call (Err e) before after
+-- ---- one step
+
+-- a call on windows tells these pixels, while what it asks for is narrowed to them, and else is a step of the windows
+abbrev pub IsWindowAnswer : Option PixelSet → WindowCall → Result WindowReply Refusal → DeskState → DeskState → Type 0
+IsWindowAnswer None call result before after = SameActivity before after × windows.IsWindowStep call result before.windows after.windows
+IsWindowAnswer (Some set) call result before after = IsToldOf set result × IsDeskUnchanged before after
+
+-- a call that may come is a step of its manager
+abbrev pub IsAdmitted : Call → Result Reply Refusal → DeskState → DeskState → Type 0
+IsAdmitted (Window call) (Ok (reply.Window answer)) before after = IsWindowAnswer (narrowed call before.activity before.begun) call (Ok answer) before after
+IsAdmitted (Window call) (Err e) before after = IsWindowAnswer (narrowed call before.activity before.begun) call (Err e) before after
+IsAdmitted (Update call) (Ok (reply.Window answer)) before after = IsUpdateStep call (Ok answer) before after
+IsAdmitted (Update call) (Err e) before after = IsUpdateStep call (Err e) before after
+
+-- why a call is refused for its names and bytes alone, whatever is open
+abbrev pub IsForm : Call → DeskState → Option Refusal → Type 0
+IsForm (Window call) before form = IsFormRefusal call before.windows.desk form
+IsForm (Update call) before form = IsUpdateForm call form
+
+-- a call that may not come for this is refused: for its form, if that is refused, and else for this. It changes nothing
+abbrev pub IsStopped : Refusal → Call → Result Reply Refusal → DeskState → DeskState → Type 0
+IsStopped e call (Ok answer) before after = ⊥
+IsStopped e call (Err f) before after = (form : Option Refusal) × IsForm call before form × ((f ≡ unwrap_or form e) × IsDeskUnchanged before after)
+
+-- whether a call may come, one table says for every call (`gate`)
+abbrev pub IsGated : Option Refusal → Call → Result Reply Refusal → DeskState → DeskState → Type 0
+IsGated None = IsAdmitted
+IsGated (Some e) = IsStopped e
+
+abbrev pub IsStep : Call → Result Reply Refusal → DeskState → DeskState → Type 0
+IsStep call answer before after = IsGated (gate before.activity (standing_of call)) call answer before after
+
+-- ---- runs
 
 -- from the first state these calls may have these answers and leave the last state: each step begins as the one before
 -- it ended
-abbrev pub IsRunOfCalls : FullState → List Call → List (Result Reply Refusal) → FullState → Type 0
+abbrev pub IsRunOfCalls : DeskState → List Call → List (Result Reply Refusal) → DeskState → Type 0
 IsRunOfCalls first [] [] last = last ≡ first
-IsRunOfCalls first (call ∷ calls) (answer ∷ answers) last = (middle : FullState) × IsStep call answer first middle × IsRunOfCalls middle calls answers last
+IsRunOfCalls first (call ∷ calls) (answer ∷ answers) last = (middle : DeskState) × IsStep call answer first middle × IsRunOfCalls middle calls answers last
 IsRunOfCalls first [] (answer ∷ answers) last = ⊥
 IsRunOfCalls first (call ∷ calls) [] last = ⊥
 

@@ -8,9 +8,10 @@ ghost use Rattle.def_iface.specs.Desk.{IsDesk};
 ghost use Rattle.def_iface.specs.Owner.{owner, own_bit};
 ghost use Rattle.def_iface.specs.Scratch.{scratch};
 ghost use Rattle.vis_update.specs.Records.{WindowRecord};
-ghost use Rattle.window_mgr.specs.FullDesk.{FullDesk, FullState, IsRightState, layered_desk};
+ghost use Rattle.window_mgr.specs.FullDesk.{FullDesk, IsRightState, layered_desk};
 ghost use Rattle.window_mgr.specs.Finding.{front_of};
 ghost use Rattle.window_mgr.specs.Refused.{first_refusal};
+ghost use Rattle.window_update.specs.DeskStates.{DeskState};
 ghost use Rattle.desk_call.specs.declared.call.Call.{Call};
 ghost use Rattle.desk_call.specs.declared.call.Reply.{Reply};
 ghost use Rattle.desk_toolbox.specs.Run.{IsStep, IsRunOfCalls, made, AreCounted};
@@ -39,29 +40,29 @@ pub fn a_refusal_is_the_first_that_holds()
 /// Whatever a call does, the stock has the same slots, for the same kinds.
 #[tactic(auto, using(crate::proofs::Runs::step_keeps_kinds))]
 pub fn steps_keep_the_kinds()
-    ensures { (call : Call) (answer : Result Reply Refusal) (before after : FullState)
+    ensures { (call : Call) (answer : Result Reply Refusal) (before after : DeskState)
         → IsStep call answer before after
-        → map (λ slot. slot.kind) after.desk.stock ≡ map (λ slot. slot.kind) before.desk.stock }
+        → map (λ slot. slot.kind) after.windows.desk.stock ≡ map (λ slot. slot.kind) before.windows.desk.stock }
 {}
 
 /// A step keeps a right state right.
 #[tactic(auto, using(crate::proofs::Runs::step_stays_right))]
 pub fn steps_stay_right()
-    ensures { (call : Call) (answer : Result Reply Refusal) (before after : FullState)
-        → IsRightState before → IsStep call answer before after → IsRightState after }
+    ensures { (call : Call) (answer : Result Reply Refusal) (before after : DeskState)
+        → IsRightState before.windows → IsStep call answer before after → IsRightState after.windows }
 {}
 
 /// The windows that a run makes have numbers that follow each other: none is used again.
 #[tactic(auto, using(crate::proofs::Runs::made_are_counted))]
 pub fn windows_are_counted()
-    ensures { (first last : FullState) (calls : List Call) (answers : List (Result Reply Refusal))
-        → IsRunOfCalls first calls answers last → AreCounted first.desk.next (made answers) }
+    ensures { (first last : DeskState) (calls : List Call) (answers : List (Result Reply Refusal))
+        → IsRunOfCalls first calls answers last → AreCounted first.windows.desk.next (made answers) }
 {}
 
 /// After any run from a right state each pixel of the screen in no update set has the value that
 /// painting the desk from nothing gives.
 #[tactic(auto, using(crate::proofs::Runs::run_stays_right))]
 pub fn runs_stay_right()
-    ensures { (first last : FullState) (calls : List Call) (answers : List (Result Reply Refusal))
-        → IsRightState first → IsRunOfCalls first calls answers last → IsRightState last }
+    ensures { (first last : DeskState) (calls : List Call) (answers : List (Result Reply Refusal))
+        → IsRightState first.windows → IsRunOfCalls first calls answers last → IsRightState last.windows }
 {}

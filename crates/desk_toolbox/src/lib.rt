@@ -1,8 +1,12 @@
 //! The Toolbox: a desk, and the calls of all its managers, one by one and in a row.
 //!
-//! A `Call` says which manager it is for. What each does, its manager says (`window_mgr` for windows); here steps are
-//! strung together (`Run`), and the law that steps keep a right state right (`laws`) becomes one of runs: outside the
-//! update regions each pixel has the value that painting the desk from nothing gives.
+//! A `Call` says which manager it is for. What each does, its manager says (`window_mgr` for windows, `window_update` for
+//! update regions); here steps are strung together (`Run`), and the law that steps keep a right state right (`laws`)
+//! becomes one of runs: outside the update regions each pixel has the value that painting the desk from nothing gives.
+//!
+//! At most one thing is open at a time. Whether a call may come then, one table says for every call (`desk_call`'s `gate`):
+//! Busy where it has to wait, NotBusy where what it goes on with is not open. A call that may not come is still refused first
+//! for what is wrong with it alone: a name that no table has, or bytes without their form.
 //!
 //! Definitions live outside, in a `Stock` that each call is handed; `Toolbox::close` puts them back Closed.
 #![tactic(auto)]
@@ -11,7 +15,8 @@ pub mod laws;
 mod toolbox;
 
 pub use desk_call::{
-    Call, Drawing, Found, MoveWindow, NewWindow, Reply, SendBehind, ShowHide, SizeWindow,
+    Activity, AreaRef, Call, Drawing, Found, LayerDraw, Layers, MoveWindow, NewPicture, NewWindow,
+    PictureRef, Reply, ScrollPicture, SendBehind, ShowHide, SizeWindow, UpdateCall, WindowArea,
     WindowCall, WindowInfo, WindowPart, WindowReply,
 };
 pub use toolbox::Toolbox;

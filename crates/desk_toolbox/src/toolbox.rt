@@ -1,29 +1,36 @@
 //! A Toolbox, and its calls one by one and in a row.
-ghost use Rattle.std.specs.Prelude.{◌≡◌, true, if◌then◌else◌, List, All, IfOk, IfErr, OnErr};
+ghost use Rattle.std.specs.Prelude.{◌≡◌, pos, true, false, None, [], if◌then◌else◌, List, All, IfOk, IfErr, OnErr, MatchResult};
+ghost use Rattle.tb_geom.specs.Rects.{rect_holds};
 ghost use Rattle.def_iface.specs.Stocked.{SlotView, IsFull};
+ghost use Rattle.desk_ground.specs.Screens as screens;
 ghost use Rattle.window_mgr.specs.Begin.{IsEmptyDesk};
 ghost use Rattle.window_mgr.specs.Closing.{IsClosed};
-ghost use Rattle.window_mgr.specs.Effects.{IsUnchanged};
 ghost use Rattle.window_mgr.specs.FullDesk.{IsRightState};
 ghost use Rattle.window_mgr.specs.Records.{desk_of, state_of};
-ghost use Rattle.desk_ground.specs.Screens as screens;
+ghost use Rattle.window_mgr.specs.Refused.{is_missing};
 ghost use Rattle.window_mgr.specs.Whole.{IsWholeManager};
-ghost use Rattle.desk_toolbox.specs.Run.{IsStep, IsRunOfCalls};
+ghost use Rattle.window_update.specs.DeskStates.{DeskState, IsDeskUnchanged, narrowed};
+ghost use Rattle.window_update.specs.Rightness.{IsJudgement};
+ghost use Rattle.desk_toolbox.specs.Run.{IsAdmitted, IsForm, IsRunOfCalls, IsStep, IsWindowAnswer};
+ghost use Rattle.desk_toolbox.specs.WholeToolbox.{IsKeptToolbox, IsWholeToolbox, toolbox_state};
 
-use crate::{Call, Reply};
+use crate::{Call, Reply, WindowCall, WindowReply};
 use bit_map::BitMap;
 use def_iface::{Defined, Stock, Stocked, Taken};
+use desk_ground::is_screen;
 use std::alloc::{AllocError, Global};
 use strike_font::Font;
-use tb_geom::Refusal;
+use tb_geom::{Rect, Refusal};
 use window_list::{Ranks, WindowList};
-use window_mgr::{NotBegun, WindowManager};
+use window_mgr::{NotBegun, WindowManager, form_refusal};
+use window_update::{Updates, update_form_refusal};
 
-/// A desk: its screen, its windows, and what of them has to be drawn.
+/// A desk: its screen, its windows, what of them has to be drawn, and which update is open.
 #[derive(Drop)]
 pub struct Toolbox {
     pub(crate) alloc: Global,
     pub(crate) windows: WindowManager,
+    pub(crate) updates: Updates,
 }
 
 impl Toolbox {
@@ -40,13 +47,55 @@ impl Toolbox {
     ) -> Result<Toolbox, NotBegun>
         ensures begun { IfOk result (λ t. (slots : List SlotView) → All IsFull slots
             → IsEmptyDesk ⟦<Taken as Defined>⟧.loan width height bar font t.windows slots) }
+        ensures idle { IfOk result (λ t. t.updates.update ≡ None) }
+        ensures whole { IfOk result (λ t. (slots : List SlotView) → All IsFull slots
+            → IsWholeToolbox ⟦<Taken as Defined>⟧.loan t slots) }
+        ensures in_range { IfOk result (λ t. screens.is_screen width height bar ≡ true) }
+        ensures refused { IfErr result (λ e. (e.font ≡ font)
+            × (e.refusal ≡ (if screens.is_screen width height bar then Refusal.NoMemory else Refusal.OutOfRange))) }
+    {
+        if !is_screen(width, height, bar) {
+            return Err(NotBegun {
+                refusal: Refusal::OutOfRange,
+                font,
+            });
+        }
+        match Updates::new(alloc, width, height) {
+            Ok(updates) => Toolbox::with_updates(alloc, width, height, bar, font, updates),
+            Err(AllocError) => Err(NotBegun {
+                refusal: Refusal::NoMemory,
+                font,
+            }),
+        }
+    }
+
+    /// The same desk, where its screen was judged and nothing is open.
+    fn with_updates(
+        alloc: Global,
+        width: i32,
+        height: i32,
+        bar: i32,
+        font: Font,
+        updates: Updates,
+    ) -> Result<Toolbox, NotBegun>
+        requires width { pos updates.buffer.width ≡ width }
+        requires height { pos updates.buffer.height ≡ height }
+        ensures begun { IfOk result (λ t. (slots : List SlotView) → All IsFull slots
+            → IsEmptyDesk ⟦<Taken as Defined>⟧.loan width height bar font t.windows slots) }
+        ensures open { IfOk result (λ t. t.updates.update ≡ updates.update) }
+        ensures whole { IfOk result (λ t. (slots : List SlotView) → All IsFull slots
+            → IsWholeToolbox ⟦<Taken as Defined>⟧.loan t slots) }
         ensures in_range { IfOk result (λ t. screens.is_screen width height bar ≡ true) }
         ensures refused { IfErr result (λ e. (e.font ≡ font)
             × (e.refusal ≡ (if screens.is_screen width height bar then Refusal.NoMemory else Refusal.OutOfRange))) }
     {
         let none = WindowList::new(Ranks::new(alloc));
         match WindowManager::new(alloc, width, height, bar, font, none) {
-            Ok(windows) => Ok(Toolbox { alloc, windows }),
+            Ok(windows) => Ok(Toolbox {
+                alloc,
+                windows,
+                updates,
+            }),
             Err(refused) => Err(refused),
         }
     }
@@ -66,32 +115,61 @@ impl Toolbox {
     }
 
     /// Makes one call, and gives its answer. A refused call changes nothing; which refusal comes
-    /// first where several would do stands with the call.
+    /// first where several would do stands with the call. While something is open, a call that may not
+    /// come then is refused for that, but first for a name that no table has, or bytes without their form.
     pub fn call(&mut self, call: &Call<'_>, stock: &mut Stock) -> Result<Reply, Refusal>
-        requires { IsWholeManager ⟦<Taken as Defined>⟧.loan self.old.windows (⟦<Stock as Stocked>⟧.slots stock.old) }
-        ensures whole { IsWholeManager ⟦<Taken as Defined>⟧.loan self.new.windows (⟦<Stock as Stocked>⟧.slots stock.new) }
+        requires { IsWholeToolbox ⟦<Taken as Defined>⟧.loan self.old (⟦<Stock as Stocked>⟧.slots stock.old) }
+        ensures whole { IsWholeToolbox ⟦<Taken as Defined>⟧.loan self.new (⟦<Stock as Stocked>⟧.slots stock.new) }
         ensures step { IsStep call.now result
-            (state_of ⟦<Taken as Defined>⟧.loan self.old.windows (⟦<Stock as Stocked>⟧.slots stock.old))
-            (state_of ⟦<Taken as Defined>⟧.loan self.new.windows (⟦<Stock as Stocked>⟧.slots stock.new)) }
+            (toolbox_state ⟦<Taken as Defined>⟧.loan self.old (⟦<Stock as Stocked>⟧.slots stock.old))
+            (toolbox_state ⟦<Taken as Defined>⟧.loan self.new (⟦<Stock as Stocked>⟧.slots stock.new)) }
         ensures right { IsRightState (state_of ⟦<Taken as Defined>⟧.loan self.old.windows (⟦<Stock as Stocked>⟧.slots stock.old))
             → IsRightState (state_of ⟦<Taken as Defined>⟧.loan self.new.windows (⟦<Stock as Stocked>⟧.slots stock.new)) }
     {
-        self.make(call, stock)
+        match self.updates.activity().admit(call.standing()) {
+            Ok(()) => self.make(call, stock),
+            Err(refusal) => match form_refusal_of(call, stock) {
+                Some(form) => Err(form),
+                None => Err(refusal),
+            },
+        }
     }
 
-    /// Makes one call.
+    /// Makes one call that may come.
     fn make(&mut self, call: &Call<'_>, stock: &mut Stock) -> Result<Reply, Refusal>
-        requires { IsWholeManager ⟦<Taken as Defined>⟧.loan self.old.windows (⟦<Stock as Stocked>⟧.slots stock.old) }
-        ensures whole { IsWholeManager ⟦<Taken as Defined>⟧.loan self.new.windows (⟦<Stock as Stocked>⟧.slots stock.new) }
-        ensures step { IsStep call.now result
-            (state_of ⟦<Taken as Defined>⟧.loan self.old.windows (⟦<Stock as Stocked>⟧.slots stock.old))
-            (state_of ⟦<Taken as Defined>⟧.loan self.new.windows (⟦<Stock as Stocked>⟧.slots stock.new)) }
+        requires { IsWholeToolbox ⟦<Taken as Defined>⟧.loan self.old (⟦<Stock as Stocked>⟧.slots stock.old) }
+        ensures whole { IsWholeToolbox ⟦<Taken as Defined>⟧.loan self.new (⟦<Stock as Stocked>⟧.slots stock.new) }
+        ensures step { IsAdmitted call.now result
+            (toolbox_state ⟦<Taken as Defined>⟧.loan self.old (⟦<Stock as Stocked>⟧.slots stock.old))
+            (toolbox_state ⟦<Taken as Defined>⟧.loan self.new (⟦<Stock as Stocked>⟧.slots stock.new)) }
     {
         match call {
-            Call::Window(call) => match self.windows.make(call, stock) {
+            Call::Window(call) => match self.answer_window(call, stock) {
                 Ok(reply) => Ok(Reply::Window(reply)),
                 Err(refusal) => Err(refusal),
             },
+            Call::Update(call) => match self.updates.make(&mut self.windows, call) {
+                Ok(reply) => Ok(Reply::Window(reply)),
+                Err(refusal) => Err(refusal),
+            },
+        }
+    }
+
+    /// Answers a call on windows: what is open may narrow what it asks for, and else the windows make it.
+    fn answer_window(
+        &mut self,
+        call: &WindowCall<'_>,
+        stock: &mut Stock,
+    ) -> Result<WindowReply, Refusal>
+        requires { IsWholeToolbox ⟦<Taken as Defined>⟧.loan self.old (⟦<Stock as Stocked>⟧.slots stock.old) }
+        ensures whole { IsWholeToolbox ⟦<Taken as Defined>⟧.loan self.new (⟦<Stock as Stocked>⟧.slots stock.new) }
+        ensures step { let before = toolbox_state ⟦<Taken as Defined>⟧.loan self.old (⟦<Stock as Stocked>⟧.slots stock.old) in
+            IsWindowAnswer (narrowed call.now before.activity before.begun) call.now result before
+            (toolbox_state ⟦<Taken as Defined>⟧.loan self.new (⟦<Stock as Stocked>⟧.slots stock.new)) }
+    {
+        match self.updates.tell(call) {
+            Some(answer) => answer,
+            None => self.windows.make(call, stock),
         }
     }
 
@@ -102,15 +180,15 @@ impl Toolbox {
         calls: &[Call<'_>],
         stock: &mut Stock,
     ) -> Result<Vec<Result<Reply, Refusal>>, AllocError>
-        requires { IsWholeManager ⟦<Taken as Defined>⟧.loan self.old.windows (⟦<Stock as Stocked>⟧.slots stock.old) }
-        ensures whole { IsWholeManager ⟦<Taken as Defined>⟧.loan self.new.windows (⟦<Stock as Stocked>⟧.slots stock.new) }
+        requires { IsWholeToolbox ⟦<Taken as Defined>⟧.loan self.old (⟦<Stock as Stocked>⟧.slots stock.old) }
+        ensures whole { IsWholeToolbox ⟦<Taken as Defined>⟧.loan self.new (⟦<Stock as Stocked>⟧.slots stock.new) }
         ensures run { IfOk result (λ answers. IsRunOfCalls
-            (state_of ⟦<Taken as Defined>⟧.loan self.old.windows (⟦<Stock as Stocked>⟧.slots stock.old))
+            (toolbox_state ⟦<Taken as Defined>⟧.loan self.old (⟦<Stock as Stocked>⟧.slots stock.old))
             calls.now answers.items
-            (state_of ⟦<Taken as Defined>⟧.loan self.new.windows (⟦<Stock as Stocked>⟧.slots stock.new))) }
-        ensures kept { OnErr result (IsUnchanged
-            (state_of ⟦<Taken as Defined>⟧.loan self.old.windows (⟦<Stock as Stocked>⟧.slots stock.old))
-            (state_of ⟦<Taken as Defined>⟧.loan self.new.windows (⟦<Stock as Stocked>⟧.slots stock.new))) }
+            (toolbox_state ⟦<Taken as Defined>⟧.loan self.new (⟦<Stock as Stocked>⟧.slots stock.new))) }
+        ensures kept { OnErr result (IsDeskUnchanged
+            (toolbox_state ⟦<Taken as Defined>⟧.loan self.old (⟦<Stock as Stocked>⟧.slots stock.old))
+            (toolbox_state ⟦<Taken as Defined>⟧.loan self.new (⟦<Stock as Stocked>⟧.slots stock.new))) }
         ensures right { IsRightState (state_of ⟦<Taken as Defined>⟧.loan self.old.windows (⟦<Stock as Stocked>⟧.slots stock.old))
             → IsRightState (state_of ⟦<Taken as Defined>⟧.loan self.new.windows (⟦<Stock as Stocked>⟧.slots stock.new)) }
     {
@@ -122,6 +200,22 @@ impl Toolbox {
         Ok(answers)
     }
 
+    /// Whether a rectangle of a window is right: each pixel of it that the window's content owns on the
+    /// screen has the value that painting the desk from nothing gives. NoSuchWindow is the only refusal. Takes no
+    /// memory, and changes nothing that a call can tell.
+    pub fn pixels_right(&mut self, window: u64, rect: Rect) -> Result<bool, Refusal>
+        requires { IsKeptToolbox ⟦<Taken as Defined>⟧.loan self.old }
+        ensures whole { (slots : List SlotView) → IsWholeToolbox ⟦<Taken as Defined>⟧.loan self.old slots
+            → IsWholeToolbox ⟦<Taken as Defined>⟧.loan self.new slots }
+        ensures same { (slots : List SlotView)
+            → toolbox_state ⟦<Taken as Defined>⟧.loan self.new slots ≡ toolbox_state ⟦<Taken as Defined>⟧.loan self.old slots }
+        ensures right { let state = state_of ⟦<Taken as Defined>⟧.loan self.old.windows [] in MatchResult result
+            (λ right. (is_missing window state.desk.windows ≡ false) × IsJudgement window (rect_holds rect) state right)
+            (λ e. (is_missing window state.desk.windows ≡ true) × (e ≡ Refusal.NoSuchWindow)) }
+    {
+        self.updates.pixels_right(&self.windows, window, rect)
+    }
+
     /// Ends the desk: the definition of every window is disposed of, and put back Closed into its
     /// slot, while every other slot stays as it was. Takes no memory, and refuses nothing.
     pub fn close(self, stock: &mut Stock)
@@ -131,5 +225,16 @@ impl Toolbox {
     {
         let Toolbox { windows, .. } = self;
         windows.close(stock);
+    }
+}
+
+/// Why a call is refused for its names and bytes alone, whatever is open.
+fn form_refusal_of(call: &Call<'_>, stock: &Stock) -> Option<Refusal>
+    ensures { (before : DeskState) → before.windows.desk.stock ≡ ⟦<Stock as Stocked>⟧.slots stock.now
+        → IsForm call.now before result }
+{
+    match call {
+        Call::Window(call) => form_refusal(call, stock),
+        Call::Update(call) => update_form_refusal(call),
     }
 }

@@ -1,2 +1,3 @@
--- What the contracts speak of: windows painted over each other, and a desk painted from nothing.
+-- What the contracts speak of: windows painted over each other, a desk painted from nothing, and how far a screen is from it.
 pub mod Paints
+pub mod Differences

@@ -7,9 +7,13 @@
 //!
 //! Of the Toolbox it reads the desk alone (`Parts`): neither what the screen shows, nor a region that is kept
 //! from call to call. So it is the yardstick for both: by its contract each of its pixels has the value `scratch`, and by
-//! that of the Toolbox so has each pixel of the screen in no update region.
+//! that of the Toolbox so has each pixel of the screen in no update region. `differences` counts the pixels of
+//! which that is not true.
 #![tactic(auto)]
 
+mod difference;
+pub mod laws;
 mod painting;
 
+pub use difference::differences;
 pub use painting::paint;

@@ -19,8 +19,8 @@ use scan_region::Region;
 use std::alloc::{AllocError, Global};
 use strike_font::Font;
 use vis_update::regions_of;
-use window_list::{Window, WindowList};
-use window_mgr::{Parts, picture_place};
+use window_list::{Window, WindowList, picture_place};
+use window_mgr::Parts;
 
 /// A new map, of the size of the screen, with the whole desk painted from nothing, back to front. It
 /// reads neither the screen's pixels nor any region that the Toolbox keeps.

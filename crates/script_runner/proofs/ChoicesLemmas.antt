@@ -1,10 +1,10 @@
 -- From clap's matches to what the words choose.
 use Rattle.std.proofs.Common.{◌≡◌, true, List, [], codes, option_map, refl, sym, ap, subst, ◌∙◌}
-use Rattle.clap.specs.Words.{App, Text, HasMatchesOf, first_of, first_value, found_of, is_simple, is_simple_and_free, fault_of}
+use Rattle.clap.specs.Words.{App, Text, HasMatchesOf, first_of, first_value, one_of, one_text, found_of, is_simple, is_simple_and_free, fault_of}
 use Rattle.clap.specs.declared.parser.matches.ArgMatches.{ArgMatches}
-use Rattle.clap.proofs.WalkLemmas.{first_value-rows}
+use Rattle.clap.proofs.WalkLemmas.{first_value-rows, one_text-rows}
 use Rattle.script_runner.specs.declared.command_line.Choices.{Choices}
-use Rattle.script_runner.specs.Choices.{desk_app, faults_in, IsChosen}
+use Rattle.script_runner.specs.Choices.{desk_app, faults_in, IsChosen, IsFlag}
 
 -- the program's command line is one of which clap gives the matches exactly
 desk_is_simple : is_simple desk_app ≡ true
@@ -23,10 +23,12 @@ taken_by_words app words is taken =
 -- what was read from the matches that the words have is what the words say
 pub chosen_by_words : (app : App) (words : List Text) (m : ArgMatches) (choices : Choices) → app ≡ desk_app → HasMatchesOf app words m
     → option_map (λ s. s.now) choices.script ≡ first_value (found_of m) (codes "SCRIPT")
-    → option_map (λ s. s.now) choices.font ≡ first_value (found_of m) (codes "FILE") → IsChosen words choices
-chosen_by_words app words m choices is matches script font =
+    → option_map (λ s. s.now) choices.font ≡ first_value (found_of m) (codes "FILE")
+    → IsFlag (one_text (found_of m) (codes "check")) choices.check → IsChosen words choices
+chosen_by_words app words m choices is matches script font check =
     let exact : HasMatchesOf desk_app words m = subst (λ (a : App). HasMatchesOf a words m) is matches in
     record {
       script = script ∙ first_value-rows (found_of m) (codes "SCRIPT") ∙ ap (first_of (codes "SCRIPT")) (exact desk_is_simple).0;
       font = font ∙ first_value-rows (found_of m) (codes "FILE") ∙ ap (first_of (codes "FILE")) (exact desk_is_simple).0;
+      check = subst (λ t. IsFlag t choices.check) (one_text-rows (found_of m) (codes "check") ∙ ap (one_of (codes "check")) (exact desk_is_simple).0) check;
     }

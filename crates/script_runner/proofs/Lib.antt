@@ -1,4 +1,6 @@
+mod Checked
 mod ChoicesLemmas
 mod Ends
 mod Sessions
 mod StockKinds
+mod RightSessions

@@ -1,5 +1,5 @@
 -- The first command of a script.
-use Rattle.std.proofs.Common.{◌≡◌, ◌≢◌, ℕ, inl, inr, true, cond, List, Some, None, Result, Err, refl, sym, ◌∙◌, subst}
+use Rattle.std.proofs.Common.{◌≡◌, ◌≢◌, ℕ, inl, inr, true, cond, List, Some, None, Result, Err, refl, sym, ap, ◌∙◌, subst}
 use Rattle.std.proofs.lemmas.Bool.{cases_Bool}
 use Rattle.tb_geom.specs.declared.refusal.Refusal.{Refusal}
 use Rattle.tb_geom.specs.declared.refusal.Refusal.TheVariants.{NoMemory, OutOfRange}
@@ -8,8 +8,8 @@ use Rattle.def_iface.specs.Meaning.{Loan}
 use Rattle.def_iface.specs.Stocked.{SlotView}
 use Rattle.desk_toolbox.specs.declared.toolbox.Toolbox.{Toolbox}
 use Rattle.window_mgr.specs.Begin.{IsEmptyDesk}
-use Rattle.window_mgr.specs.Records.{state_of}
-use Rattle.window_mgr.specs.FullDesk.{FullState}
+use Rattle.window_update.specs.DeskStates.{DeskState, activity_of}
+use Rattle.desk_toolbox.specs.WholeToolbox.{toolbox_state}
 use Rattle.script_text.specs.declared.command.Command.{Command}
 use Rattle.script_text.specs.declared.command.DeskSize.{DeskSize}
 use Rattle.script_runner.specs.Session.{unmade, made, IsNewDesk, Opens, first_size, is_known, may_be, why_unmade}
@@ -19,12 +19,12 @@ use Rattle.watched_io.specs.Writes.{Output, Sends}
 
 -- the desk that the Toolbox made
 pub new_desk : {V : Type 0} {H : V → Type 0} (loan : Taken V H → Loan) (t : Toolbox V H) (font : List ℕ) (slots : List SlotView) (size wanted : DeskSize) → size ≡ wanted
-    → IsEmptyDesk loan size.width size.height size.bar font t.windows slots → IsNewDesk wanted font slots (state_of loan t.windows slots)
-new_desk loan t font slots size wanted same empty =
-    subst (λ s. IsNewDesk s font slots (state_of loan t.windows slots)) same (record { desk = empty.desk; drawn = empty.drawn; right = empty.right })
+    → IsEmptyDesk loan size.width size.height size.bar font t.windows slots → t.updates.update ≡ None → IsNewDesk wanted font slots (toolbox_state loan t slots)
+new_desk loan t font slots size wanted same empty idle =
+    subst (λ s. IsNewDesk s font slots (toolbox_state loan t slots)) same (record { desk = empty.desk; idle = ap activity_of idle; drawn = empty.drawn; right = empty.right })
 
 -- the desk was made, and the command answered on it
-pub opened : {X : Type 0} (font : List ℕ) (slots : List SlotView) (command : Command) (first after : FullState) (old new : Output) (r : Result X Refusal)
+pub opened : {X : Type 0} (font : List ℕ) (slots : List SlotView) (command : Command) (first after : DeskState) (old new : Output) (r : Result X Refusal)
     → is_known command slots ≡ true → may_be (first_size command) ≡ true → IsNewDesk (first_size command) font slots first
     → IsFirstAnswered first command after old new r → CommandEnds (unmade font slots) command (made after) old new r
 opened font slots command first after old new r known fits fresh answered =

@@ -1,15 +1,15 @@
 -- The stock of a script has the same slots, for the same kinds, whatever its lines do.
-use Rattle.std.proofs.Common.{◌≡◌, ℕ, List, [], ◌∷◌, map, Option, None, Some, Result, Ok, Err, ap, ◌∙◌}
+use Rattle.std.proofs.Common.{◌≡◌, ℕ, Bool, List, [], ◌∷◌, map, Option, None, Some, Result, Ok, Err, ap, ◌∙◌}
 use Rattle.tb_geom.specs.declared.refusal.Refusal.{Refusal}
 use Rattle.tb_geom.specs.declared.refusal.Refusal.TheVariants.{NoMemory, ReadFault, WriteFault}
 use Rattle.def_iface.specs.Stocked.{SlotView}
-use Rattle.window_mgr.specs.FullDesk.{FullState}
+use Rattle.window_update.specs.DeskStates.{DeskState}
 use Rattle.desk_toolbox.proofs.Runs.{step_keeps_kinds}
 use Rattle.script_text.specs.declared.command.Command.{Command}
 use Rattle.script_text.specs.declared.command.Command.TheVariants.{Desk, Image, Call}
 use Rattle.script_text.specs.Lines.{said}
 use Rattle.watched_io.specs.Reads.{Input}
-use Rattle.script_runner.specs.Runs.{ScriptEnds}
+use Rattle.script_runner.specs.Runs.{CheckedEnds, ScriptEnds}
 use Rattle.script_runner.specs.Session.{SessionState, unmade, made, LeavesStock, Answers, FirstAnswers, Opens, Obeys, SaidAnswers, Written, why_unmade}
 use Rattle.watched_io.specs.Writes.{Output}
 
@@ -20,16 +20,16 @@ kinds_in slots = map (λ s. s.kind) slots
 -- the slots while the session goes on
 abbrev slots_of : SessionState → List SlotView
 slots_of (unmade font slots) = slots
-slots_of (made s) = s.desk.stock
+slots_of (made s) = s.windows.desk.stock
 
 -- what a command leaves of it
-answers_kinds : (s : FullState) (command : Command) (text : List ℕ) (after : FullState) → Answers s command text after → kinds_in after.desk.stock ≡ kinds_in s.desk.stock
-answers_kinds s (Desk size) text after answered = ap (λ t. kinds_in t.desk.stock) answered.1
-answers_kinds s Image text after answered = ap (λ t. kinds_in t.desk.stock) answered.1
+answers_kinds : (s : DeskState) (command : Command) (text : List ℕ) (after : DeskState) → Answers s command text after → kinds_in after.windows.desk.stock ≡ kinds_in s.windows.desk.stock
+answers_kinds s (Desk size) text after answered = ap (λ t. kinds_in t.windows.desk.stock) answered.1
+answers_kinds s Image text after answered = ap (λ t. kinds_in t.windows.desk.stock) answered.1
 answers_kinds s (Call asked) text after answered = step_keeps_kinds asked answered.0 s after answered.1
 
-first_kinds : (s : FullState) (command : Command) (text : List ℕ) (after : FullState) → FirstAnswers s command text after → kinds_in after.desk.stock ≡ kinds_in s.desk.stock
-first_kinds s (Desk size) text after answered = ap (λ t. kinds_in t.desk.stock) answered.1
+first_kinds : (s : DeskState) (command : Command) (text : List ℕ) (after : DeskState) → FirstAnswers s command text after → kinds_in after.windows.desk.stock ≡ kinds_in s.windows.desk.stock
+first_kinds s (Desk size) text after answered = ap (λ t. kinds_in t.windows.desk.stock) answered.1
 first_kinds s Image text after answered = answers_kinds s Image text after answered
 first_kinds s (Call asked) text after answered = answers_kinds s (Call asked) text after answered
 
@@ -66,6 +66,8 @@ module _ {X : Type 0} (first : SessionState) (input rest : Input) (old new : Out
   ends_kinds (Err NoMemory) stopped = written_kinds first _ _ session stopped.answered
   ends_kinds (Err _) stopped = absurd stopped
 
-  pub kinds_stay : (font : List ℕ) (slots left : List SlotView) (r : Result X Refusal) → first ≡ unmade font slots → ScriptEnds first input rest old new session r
-      → LeavesStock session left → map (λ s. s.kind) left ≡ map (λ s. s.kind) slots
-  kinds_stay font slots left r is ends closed = left_kinds session left closed ∙ ends_kinds r ends ∙ ap (λ s. kinds_in (slots_of s)) is
+-- and so it does where a check follows
+pub kinds_stay : {X : Type 0} (check : Bool) (first : SessionState) (input rest : Input) (old new : Output) (session : SessionState) (font : List ℕ) (slots left : List SlotView) (r : Result X Refusal)
+    → first ≡ unmade font slots → CheckedEnds check first input rest old new session r → LeavesStock session left → map (λ s. s.kind) left ≡ map (λ s. s.kind) slots
+kinds_stay check first input rest old new session font slots left r is checked closed =
+    left_kinds session left closed ∙ ends_kinds first input rest old checked.between session checked.script checked.ends ∙ ap (λ s. kinds_in (slots_of s)) is

@@ -2,17 +2,17 @@
 use Rattle.std.specs.Prelude.{◌≡◌, ◌⊎◌, ℕ, true, List, Option, Some, Result, Ok, Err}
 use Rattle.tb_geom.specs.declared.refusal.Refusal.{Refusal}
 use Rattle.tb_geom.specs.declared.refusal.Refusal.TheVariants.{NoMemory}
-use Rattle.window_mgr.specs.FullDesk.{FullState}
+use Rattle.window_update.specs.DeskStates.{DeskState}
 use Rattle.script_text.specs.declared.command.Command.{Command}
 use Rattle.script_runner.specs.Session.{SessionState, Answers, FirstAnswers, Obeys, SaidAnswers, makes_desk}
 use Rattle.watched_io.specs.Writes.{Output, Sends}
 
 -- a command was answered on a desk, as far as writing went
-abbrev pub IsAnswered : {X : Type 0} → FullState → Command → FullState → Output → Output → Result X Refusal → Type 0
+abbrev pub IsAnswered : {X : Type 0} → DeskState → Command → DeskState → Output → Output → Result X Refusal → Type 0
 IsAnswered s command after old new r = (text : List ℕ) × Answers s command text after × Sends old new r text
 
 -- the command that made the desk was answered, as far as writing went
-abbrev pub IsFirstAnswered : {X : Type 0} → FullState → Command → FullState → Output → Output → Result X Refusal → Type 0
+abbrev pub IsFirstAnswered : {X : Type 0} → DeskState → Command → DeskState → Output → Output → Result X Refusal → Type 0
 IsFirstAnswered s command after old new r = (text : List ℕ) × FirstAnswers s command text after × Sends old new r text
 
 -- there was no memory for the desk that the command was to make: nothing was done or written

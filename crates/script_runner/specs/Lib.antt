@@ -1,3 +1,4 @@
+pub mod Checks
 pub mod Choices
 pub mod Endings
 pub mod Fonts

@@ -1,5 +1,5 @@
 -- What a run of a script has read and written when it ends, and what it leaves of the stock.
-use Rattle.std.specs.Prelude.{◌≡◌, ◌⊎◌, ℕ, true, false, List, [], ◌∷◌, ◌++◌, Option, Some, Result, Ok, Err}
+use Rattle.std.specs.Prelude.{◌≡◌, ◌⊎◌, ℕ, Bool, true, false, List, [], ◌∷◌, ◌++◌, Option, Some, Result, Ok, Err}
 use Rattle.std.specs.Io.KnownBytes.{Consumes}
 use Rattle.tb_geom.specs.declared.refusal.Refusal.{Refusal}
 use Rattle.tb_geom.specs.declared.refusal.Refusal.TheVariants.{NoMemory, ReadFault, WriteFault}
@@ -7,6 +7,7 @@ use Rattle.def_iface.specs.Stocked.{SlotView}
 use Rattle.script_text.specs.declared.command.Command.{Command}
 use Rattle.script_text.specs.Lines.{said, whole_lines, lines_of}
 use Rattle.watched_io.specs.Reads.{Input, IsEntire, IsCutOff}
+use Rattle.script_runner.specs.Checks.{IsFollowed}
 use Rattle.script_runner.specs.Fonts.{IsFontOf, why_fontless}
 use Rattle.script_runner.specs.Session.{SessionState, unmade, Written, LeavesStock, makes_desk}
 use Rattle.watched_io.specs.Writes.{Output, Sent, BrokeOff}
@@ -77,15 +78,22 @@ module _ (first : SessionState) (input rest : Input) (old new : Output) (session
   ScriptEnds (Ok x) = IsDone
   ScriptEnds (Err e) = Stops e
 
--- `asked` are the bytes of the font that a run is asked to draw texts in, if it is. It is a run from a stock with these
--- slots, of which it leaves those
-module _ (asked : Option (List ℕ)) (slots left : List SlotView) (input rest : Input) (old new : Output) where
-  -- with that font the script ran, from no desk to its end
+-- a script ends so, and then comes the line of its check, where one is asked for
+pub record CheckedEnds (check : Bool) (first : SessionState) (input rest : Input) (old new : Output) (session : SessionState) {X : Type 0} (r : Result X Refusal) : Type 0 where
+  pub between : Output
+  pub script : Result X Refusal
+  pub ends : ScriptEnds first input rest old between session script
+  pub followed : IsFollowed check script session between new r
+
+-- `asked` are the bytes of the font that a run is asked to draw texts in, if it is; `check` says whether it is to be checked
+-- at its end. It is a run from a stock with these slots, of which it leaves those
+module _ (asked : Option (List ℕ)) (check : Bool) (slots left : List SlotView) (input rest : Input) (old new : Output) where
+  -- with that font the script ran, from no desk to its end, and was checked
   pub record HasRun {X : Type 0} (r : Result X Refusal) : Type 0 where
     pub font : List ℕ
     pub is_font : IsFontOf asked font
     pub session : SessionState
-    pub ends : ScriptEnds (unmade font slots) input rest old new session r
+    pub ends : CheckedEnds check (unmade font slots) input rest old new session r
     pub closed : LeavesStock session left
 
   -- there was no font: nothing was read, written or taken out of the stock

@@ -4,10 +4,12 @@ use Rattle.tb_geom.specs.declared.point.Point.{Point}
 use Rattle.tb_geom.specs.declared.refusal.Refusal.{Refusal}
 use Rattle.tb_geom.specs.declared.refusal.Refusal.TheVariants.{NoSuchName, OutOfRange, Busy}
 use Rattle.def_iface.specs.Stocked.{SlotView, has_kind}
-use Rattle.desk_call.specs.declared.call.Call.TheVariants.{Window}
+use Rattle.desk_call.specs.declared.call.Call.TheVariants.{Window, Update}
 use Rattle.desk_call.specs.declared.window.WindowCall.TheVariants.{New}
 use Rattle.desk_call.specs.declared.call.Reply.{Reply}
-use Rattle.window_mgr.specs.FullDesk.{FullState, IsRightState}
+use Rattle.desk_call.specs.declared.activity.Activity.TheVariants.{Idle}
+use Rattle.window_mgr.specs.FullDesk.{IsRightState}
+use Rattle.window_update.specs.DeskStates.{DeskState}
 use Rattle.window_mgr.specs.Begin.{empty_desk}
 use Rattle.window_mgr.specs.Closing.{IsClosed}
 use Rattle.desk_toolbox.specs.Run.{IsStep}
@@ -22,26 +24,27 @@ use Rattle.script_text.specs.Replies.{done_text, refused_text, reply_text}
 -- the desk of a script: none so far, with this font and over these slots of the stock, or one in this state
 pub data SessionState : Type 0 where
   unmade : List ℕ → List SlotView → SessionState
-  made : FullState → SessionState
+  made : DeskState → SessionState
 
 -- a new desk of this size, with this font: it has no windows, nothing of it is to be redrawn, and it is right
-pub record IsNewDesk (size : DeskSize) (font : List ℕ) (slots : List SlotView) (s : FullState) : Type 0 where
-  pub desk : s.desk ≡ empty_desk size.width size.height size.bar font slots
-  pub drawn : (p : Point) → s.stale p ≡ false
-  pub right : IsRightState s
+pub record IsNewDesk (size : DeskSize) (font : List ℕ) (slots : List SlotView) (s : DeskState) : Type 0 where
+  pub desk : s.windows.desk ≡ empty_desk size.width size.height size.bar font slots
+  pub idle : s.activity ≡ Idle
+  pub drawn : (p : Point) → s.windows.stale p ≡ false
+  pub right : IsRightState s.windows
 
 -- the bytes of the screen as an image
-abbrev pub image_text : FullState → List ℕ
-image_text s = p1 (nat_abs s.desk.width) (nat_abs s.desk.height) s.image
+abbrev pub image_text : DeskState → List ℕ
+image_text s = p1 (nat_abs s.windows.desk.width) (nat_abs s.windows.desk.height) s.windows.image
 
 -- with a desk, the command may be answered so and leave this state
-abbrev pub Answers : FullState → Command → List ℕ → FullState → Type 0
+abbrev pub Answers : DeskState → Command → List ℕ → DeskState → Type 0
 Answers s (Desk size) text after = (text ≡ refused_text Busy) × (after ≡ s)
 Answers s Image text after = (text ≡ image_text s) × (after ≡ s)
 Answers s (Call call) text after = (answer : Result Reply Refusal) × IsStep call answer s after × (text ≡ reply_text answer)
 
 -- the answer of the command that made the desk: `ok` where it asked for nothing else
-abbrev pub FirstAnswers : FullState → Command → List ℕ → FullState → Type 0
+abbrev pub FirstAnswers : DeskState → Command → List ℕ → DeskState → Type 0
 FirstAnswers s (Desk size) text after = (text ≡ done_text) × (after ≡ s)
 FirstAnswers s Image text after = Answers s Image text after
 FirstAnswers s (Call call) text after = Answers s (Call call) text after
@@ -58,6 +61,7 @@ is_known (Desk size) slots = true
 is_known Image slots = true
 is_known (Call (Window (New w))) slots = has_kind w.kind slots
 is_known (Call (Window _)) slots = true
+is_known (Call (Update _)) slots = true
 
 -- whether a screen may have this size
 abbrev pub may_be : DeskSize → Bool
@@ -70,13 +74,13 @@ why_unmade command slots = if is_known command slots then (if may_be (first_size
 -- without a desk, the command is refused, or makes the desk and is then answered
 abbrev pub Opens : Option Refusal → List ℕ → List SlotView → Command → List ℕ → SessionState → Type 0
 Opens (Some e) font slots command text new = (text ≡ refused_text e) × (new ≡ unmade font slots)
-Opens None font slots command text new = (first : FullState) × (after : FullState) × IsNewDesk (first_size command) font slots first
+Opens None font slots command text new = (first : DeskState) × (after : DeskState) × IsNewDesk (first_size command) font slots first
     × FirstAnswers first command text after × (new ≡ made after)
 
 -- the command may be answered so, and leave this
 abbrev pub Obeys : SessionState → Command → List ℕ → SessionState → Type 0
 Obeys (unmade font slots) command text new = Opens (why_unmade command slots) font slots command text new
-Obeys (made s) command text new = (after : FullState) × Answers s command text after × (new ≡ made after)
+Obeys (made s) command text new = (after : DeskState) × Answers s command text after × (new ≡ made after)
 
 -- whether the command is the one that makes the desk
 abbrev pub makes_desk : SessionState → Command → Bool
@@ -99,4 +103,4 @@ Written old (line ∷ lines) text new = (middle : SessionState) × (first : List
 -- slots, and every other slot is as it was
 abbrev pub LeavesStock : SessionState → List SlotView → Type 0
 LeavesStock (unmade font slots) left = left ≡ slots
-LeavesStock (made s) left = IsClosed s.desk.windows s.desk.stock left
+LeavesStock (made s) left = IsClosed s.windows.desk.windows s.windows.desk.stock left

@@ -4,15 +4,14 @@ use Rattle.def_iface.specs.declared.taken.Taken.{Taken}
 use Rattle.def_iface.specs.Meaning.{Loan}
 use Rattle.def_iface.specs.Stocked.{SlotView, IsFull}
 use Rattle.desk_toolbox.specs.declared.toolbox.Toolbox.{Toolbox}
-use Rattle.window_mgr.specs.Records.{state_of}
-use Rattle.window_mgr.specs.Whole.{IsWholeManager}
+use Rattle.desk_toolbox.specs.WholeToolbox.{IsWholeToolbox, toolbox_state}
 use Rattle.script_runner.specs.declared.session.Session.{Session}
 use Rattle.script_runner.specs.Session.{SessionState, unmade, made}
 
 -- `loan` says what a definition that was taken means
 module _ {V : Type 0} {H : V → Type 0} (loan : Taken V H → Loan) where
   abbrev pub state_with : Option (Toolbox V H) → Option (List ℕ) → List SlotView → SessionState
-  state_with (Some t) font slots = made (state_of loan t.windows slots)
+  state_with (Some t) font slots = made (toolbox_state loan t slots)
   state_with None (Some font) slots = unmade font slots
   state_with None None slots = unmade [] slots
 
@@ -21,7 +20,7 @@ module _ {V : Type 0} {H : V → Type 0} (loan : Taken V H → Loan) where
   session_of s slots = state_with s.desk s.font slots
 
   abbrev pub IsReadyWith : Option (Toolbox V H) → Option (List ℕ) → List SlotView → Type 0
-  IsReadyWith (Some t) font slots = IsWholeManager loan t.windows slots
+  IsReadyWith (Some t) font slots = IsWholeToolbox loan t slots
   IsReadyWith None (Some font) slots = All IsFull slots
   IsReadyWith None None slots = ⊥
 

@@ -1,7 +1,7 @@
-//! The command line: `desk [--font FILE] [SCRIPT]`.
+//! The command line: `desk [--check] [--font FILE] [SCRIPT]`.
 ghost use Rattle.std.specs.Prelude.{◌≡◌, IfOk, IfErr, OnOk, map, false, option_map, codes, []};
-ghost use Rattle.clap.specs.Words.{HasKind, app_of, rule_of, first_value, found_of};
-ghost use Rattle.script_runner.specs.Choices.{desk_app, word_rule, option_rule, faults_in, IsChosen, AreWordsRefused};
+ghost use Rattle.clap.specs.Words.{HasKind, app_of, rule_of, first_value, one_text, found_of};
+ghost use Rattle.script_runner.specs.Choices.{desk_app, word_rule, flag_rule, option_rule, faults_in, IsFlag, IsChosen, AreWordsRefused};
 
 use clap::error::ErrorKind;
 use clap::{Arg, ArgAction, ArgMatches, Command};
@@ -16,6 +16,8 @@ pub struct Choices<'a> {
     pub script: Option<&'a str>,
     /// The path of the font; the built-in font where there is none.
     pub font: Option<&'a str>,
+    /// Whether the run is to be checked at its end.
+    pub check: bool,
 }
 
 /// Why a command line is refused. Displayed, it is what to print on standard error, to the end of its
@@ -36,6 +38,17 @@ fn positional<'a>(alloc: Global, name: &'a str, help: &'a str) -> Arg<'a>
     ensures local { result.global ≡ false }
 {
     Arg::new(alloc, name).action(ArgAction::Set).help(help)
+}
+
+/// An option without a value: the word `--NAME`, and what help says of it.
+fn flag<'a>(alloc: Global, name: &'a str, help: &'a str) -> Arg<'a>
+    ensures rule { rule_of result ≡ flag_rule name.entry.now }
+    ensures local { result.global ≡ false }
+{
+    Arg::new(alloc, name)
+        .long(name)
+        .action(ArgAction::SetTrue)
+        .help(help)
 }
 
 /// An option with a value: the two words `--WORD VALUE`, or `--WORD=VALUE`, and what help says of it.
@@ -65,10 +78,16 @@ fn desk_command<'a>(alloc: Global) -> Result<Command<'a>, AllocError>
         "FILE",
         "The file of the font for all texts, a FONT record; the built-in font where none is named",
     );
+    let check = flag(
+        alloc,
+        "check",
+        "End with a line that says how many pixels differ from the desk painted from nothing",
+    );
     let command = Command::new(alloc, "desk")
         .about("Runs a script of Toolbox calls, and writes what each of its lines answers")
         .bin_name("desk")?;
     let command = command.arg(script)?;
+    let command = command.arg(check)?;
     let command = command.arg(font)?;
     Ok(command)
 }
@@ -77,10 +96,12 @@ fn desk_command<'a>(alloc: Global) -> Result<Command<'a>, AllocError>
 fn chosen<'a>(matches: &ArgMatches<'a>) -> Choices<'a>
     ensures script { option_map (λ s. s.now) result.script ≡ first_value (found_of matches.now) (codes "SCRIPT") }
     ensures font { option_map (λ s. s.now) result.font ≡ first_value (found_of matches.now) (codes "FILE") }
+    ensures check { IsFlag (one_text (found_of matches.now) (codes "check")) result.check }
 {
     Choices {
         script: matches.get_str("SCRIPT"),
         font: matches.get_str("FILE"),
+        check: matches.get_flag("check"),
     }
 }
 

@@ -8,12 +8,15 @@
 //! What a script answers is stated apart from all this code, in `specs/`: `Session` says what may be answered
 //! to a line and what that leaves of the desk, over the Toolbox's own steps, and `Runs` how a run ends. The
 //! contract of `run` is that and nothing else: the bytes that went out are the answers to the lines that came
-//! in. It holds for every stock: whose window definitions they are, and of which kinds, is the caller's.
+//! in, and, where a check is asked for, a last line of how many pixels differ from the desk painted from nothing
+//! (`Checks`): the laws say that none does. It holds for every stock: whose window definitions they are, and of which kinds, is the caller's.
 //!
 //! `options` reads the words of the command line.
 #![tactic(auto)]
 
+mod check_line;
 mod command_line;
+pub mod laws;
 mod runner;
 mod session;
 

@@ -8,7 +8,7 @@ ghost use Rattle.script_runner.specs.Session.{SessionState};
 ghost use Rattle.script_runner.specs.Endings.{LineEnds};
 ghost use Rattle.script_runner.specs.Progress.{SoFar, GoesOn};
 ghost use Rattle.watched_io.specs.Reads.{Input, IsOpen};
-ghost use Rattle.script_runner.specs.Runs.{RunEnds, ScriptEnds};
+ghost use Rattle.script_runner.specs.Runs.{CheckedEnds, RunEnds, ScriptEnds};
 ghost use Rattle.watched_io.specs.Writes.{Output};
 
 use crate::session::Session;
@@ -20,7 +20,8 @@ use tb_geom::Refusal;
 use watched_io::{MOST_READS, Sink, Source};
 
 /// Answers each line of the script that the source gives, in bytes to the sink, and writes nothing
-/// else. What a line answers is written before the next read. ReadFault where a read failed or
+/// else, but for the check: where that is asked for, and each line was answered, a last line says how many pixels of the screen in no
+/// update region differ from the desk painted from nothing. What a line answers is written before the next read. ReadFault where a read failed or
 /// 1,000,000 came without the end of the input, WriteFault where a write failed, and NoMemory where
 /// there was none for the desk, which the first command makes. However the run ends, each definition
 /// of the stock is back in its slot: that of a window Closed, and every other as it was.
@@ -34,6 +35,7 @@ pub fn run<R: Source, W: Sink>(
     sink: &mut W,
     stock: &mut Stock,
     font: Option<&[u8]>,
+    check: bool,
 ) -> Result<(), Refusal>
     requires full { All IsFull (⟦<Stock as Stocked>⟧.slots stock.old) }
     requires unread { (R.input source.old).reads ≡ 0 }
@@ -42,15 +44,39 @@ pub fn run<R: Source, W: Sink>(
     ensures full { All IsFull (⟦<Stock as Stocked>⟧.slots stock.new) }
     ensures kinds { map (λ s. s.kind) (⟦<Stock as Stocked>⟧.slots stock.new)
         ≡ map (λ s. s.kind) (⟦<Stock as Stocked>⟧.slots stock.old) }
-    ensures ends { RunEnds (option_map (λ bytes. bytes.now) font.entry)
+    ensures ends { RunEnds (option_map (λ bytes. bytes.now) font.entry) check
         (⟦<Stock as Stocked>⟧.slots stock.old) (⟦<Stock as Stocked>⟧.slots stock.new)
         (R.input source.old) (R.input source.new) (W.output sink.old) (W.output sink.new) result }
 {
     let font = make_font(alloc, font)?;
     let mut session = Session::new(alloc, font);
-    let outcome = answer_all(&mut session, source, sink, stock);
+    let outcome = answer_and_check(&mut session, source, sink, stock, check);
     session.close(stock);
     outcome
+}
+
+/// Answers each line of the script, and then, where a check is asked for, writes the line of it.
+fn answer_and_check<R: Source, W: Sink>(
+    session: &mut Session,
+    source: &mut R,
+    sink: &mut W,
+    stock: &mut Stock,
+    check: bool,
+) -> Result<(), Refusal>
+    requires ready { IsReady ⟦<Taken as Defined>⟧.loan session.old (⟦<Stock as Stocked>⟧.slots stock.old) }
+    requires unread { (R.input source.old).reads ≡ 0 }
+    requires going { IsOpen (R.input source.old) }
+    requires unfailed { (W.output sink.old).has_failed ≡ false }
+    ensures ready { IsReady ⟦<Taken as Defined>⟧.loan session.new (⟦<Stock as Stocked>⟧.slots stock.new) }
+    ensures ends { CheckedEnds check
+        (session_of ⟦<Taken as Defined>⟧.loan session.old (⟦<Stock as Stocked>⟧.slots stock.old))
+        (R.input source.old) (R.input source.new) (W.output sink.old) (W.output sink.new)
+        (session_of ⟦<Taken as Defined>⟧.loan session.new (⟦<Stock as Stocked>⟧.slots stock.new)) result }
+{
+    match answer_all(session, source, sink, stock) {
+        Ok(()) if check => session.check(sink),
+        outcome => outcome,
+    }
 }
 
 /// The font that has these bytes, or the built-in one where there are none. BadFont exactly where they

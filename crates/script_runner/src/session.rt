@@ -1,15 +1,19 @@
 //! The desk of a script: none, until the first command makes it, with the font that waits for it.
-ghost use Rattle.std.specs.Prelude.{◌≡◌, true, All, None, Some, OnOk, false};
-ghost use Rattle.def_iface.specs.Stocked.{IsFull};
+ghost use Rattle.std.specs.Prelude.{◌≡◌, ℕ, true, List, All, None, Some, OnOk, false};
+ghost use Rattle.def_iface.specs.Stocked.{IsFull, SlotView};
 ghost use Rattle.desk_call.specs.declared.call.Call.TheVariants as asks;
-ghost use Rattle.window_mgr.specs.Records.{state_of};
-ghost use Rattle.window_mgr.specs.Whole.{IsWholeManager};
+ghost use Rattle.window_mgr.specs.Kept.{IsKept};
+ghost use Rattle.desk_toolbox.specs.WholeToolbox.{IsWholeToolbox, toolbox_state};
+ghost use Rattle.watched_io.specs.Writes.{Sends};
+ghost use Rattle.script_runner.specs.Checks.{IsCheckLine};
 ghost use Rattle.script_runner.specs.Session.{LeavesStock, first_size, is_known};
 ghost use Rattle.script_runner.specs.SessionViews.{session_of, IsReady};
 ghost use Rattle.script_runner.specs.Endings.{IsAnswered, IsFirstAnswered, CommandEnds, LineEnds};
 
+use crate::check_line::write_check;
 use def_iface::{Defined, Stock, Stocked, Taken};
 use desk_toolbox::{Call, NotBegun, Toolbox, WindowCall};
+use scratch_paint::differences;
 use screen_pbm::write_p1;
 use script_text::{Command, DeskSize, write_done, write_reply};
 use std::alloc::Global;
@@ -134,6 +138,22 @@ impl Session {
         }
     }
 
+    /// Writes the line of the check: how many pixels of the screen in no update region differ from the desk
+    /// painted from nothing, or NoMemory where there is none for painting. Without a desk none differs.
+    pub fn check<S: Sink>(&self, sink: &mut S) -> Result<(), Refusal>
+        requires kept { (desk : _) → self.now.desk ≡ Some desk → IsKept ⟦<Taken as Defined>⟧.loan desk.windows }
+        requires unfailed { (S.output sink.old).has_failed ≡ false }
+        ensures { (slots : List SlotView) → (text : List ℕ)
+            × IsCheckLine (session_of ⟦<Taken as Defined>⟧.loan self.now slots) text
+            × Sends (S.output sink.old) (S.output sink.new) result text }
+    {
+        let count = match &self.desk {
+            Some(desk) => differences(self.alloc, desk),
+            None => Ok(0),
+        };
+        write_check(sink, count.ok())
+    }
+
     /// Ends the session: every window's definition is disposed of, and put back Closed into its slot,
     /// while every other slot stays as it was.
     pub fn close(self, stock: &mut Stock)
@@ -167,6 +187,7 @@ fn is_known(command: &Command<'_>, stock: &Stock) -> bool
 {
     match command {
         Command::Call(Call::Window(call)) => is_known_call(call, stock),
+        Command::Call(Call::Update(_)) => true,
         Command::Desk(_) => true,
         Command::Image => true,
     }
@@ -189,13 +210,13 @@ fn first_answer<S: Sink>(
     stock: &mut Stock,
     sink: &mut S,
 ) -> Result<(), Refusal>
-    requires whole { IsWholeManager ⟦<Taken as Defined>⟧.loan desk.old.windows (⟦<Stock as Stocked>⟧.slots stock.old) }
+    requires whole { IsWholeToolbox ⟦<Taken as Defined>⟧.loan desk.old (⟦<Stock as Stocked>⟧.slots stock.old) }
     requires unfailed { (S.output sink.old).has_failed ≡ false }
-    ensures whole { IsWholeManager ⟦<Taken as Defined>⟧.loan desk.new.windows (⟦<Stock as Stocked>⟧.slots stock.new) }
+    ensures whole { IsWholeToolbox ⟦<Taken as Defined>⟧.loan desk.new (⟦<Stock as Stocked>⟧.slots stock.new) }
     ensures quiet { OnOk result ((S.output sink.new).has_failed ≡ false) }
     ensures answered { IsFirstAnswered
-        (state_of ⟦<Taken as Defined>⟧.loan desk.old.windows (⟦<Stock as Stocked>⟧.slots stock.old)) command.now
-        (state_of ⟦<Taken as Defined>⟧.loan desk.new.windows (⟦<Stock as Stocked>⟧.slots stock.new))
+        (toolbox_state ⟦<Taken as Defined>⟧.loan desk.old (⟦<Stock as Stocked>⟧.slots stock.old)) command.now
+        (toolbox_state ⟦<Taken as Defined>⟧.loan desk.new (⟦<Stock as Stocked>⟧.slots stock.new))
         (S.output sink.old) (S.output sink.new) result }
 {
     match command {
@@ -212,13 +233,13 @@ fn answer_on<S: Sink>(
     stock: &mut Stock,
     sink: &mut S,
 ) -> Result<(), Refusal>
-    requires whole { IsWholeManager ⟦<Taken as Defined>⟧.loan desk.old.windows (⟦<Stock as Stocked>⟧.slots stock.old) }
+    requires whole { IsWholeToolbox ⟦<Taken as Defined>⟧.loan desk.old (⟦<Stock as Stocked>⟧.slots stock.old) }
     requires unfailed { (S.output sink.old).has_failed ≡ false }
-    ensures whole { IsWholeManager ⟦<Taken as Defined>⟧.loan desk.new.windows (⟦<Stock as Stocked>⟧.slots stock.new) }
+    ensures whole { IsWholeToolbox ⟦<Taken as Defined>⟧.loan desk.new (⟦<Stock as Stocked>⟧.slots stock.new) }
     ensures quiet { OnOk result ((S.output sink.new).has_failed ≡ false) }
     ensures answered { IsAnswered
-        (state_of ⟦<Taken as Defined>⟧.loan desk.old.windows (⟦<Stock as Stocked>⟧.slots stock.old)) command.now
-        (state_of ⟦<Taken as Defined>⟧.loan desk.new.windows (⟦<Stock as Stocked>⟧.slots stock.new))
+        (toolbox_state ⟦<Taken as Defined>⟧.loan desk.old (⟦<Stock as Stocked>⟧.slots stock.old)) command.now
+        (toolbox_state ⟦<Taken as Defined>⟧.loan desk.new (⟦<Stock as Stocked>⟧.slots stock.new))
         (S.output sink.old) (S.output sink.new) result }
 {
     match command {

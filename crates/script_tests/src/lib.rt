@@ -2,9 +2,9 @@
 //! pieces it is read and its answers are written, how a run ends whose reader or writer breaks at any moment, and what
 //! no script reaches. What a script can show is a row of `tests/rows`.
 //!
-//! `runs` tests `script_runner`, `lines`, `drawings` and `windows` test `script_text`, `images` tests `screen_pbm`, and
-//! `reading` and `sending` test `watched_io`. `Script` and `Paper` are a reader and a writer that can be slow or break;
-//! they are proved, and no part of the program.
+//! `runs` tests `script_runner`, `lines`, `drawings`, `windows` and `updates` test `script_text`, `images` tests
+//! `screen_pbm`, and `reading` and `sending` test `watched_io`. `Script` and `Paper` are a reader and a writer that can be
+//! slow or break; they are proved, and no part of the program.
 #![tactic(auto)]
 
 #[cfg(test)]
@@ -21,5 +21,7 @@ mod runs;
 pub mod script;
 #[cfg(test)]
 mod sending;
+#[cfg(test)]
+mod updates;
 #[cfg(test)]
 mod windows;

@@ -35,13 +35,14 @@ fn run_first(alloc: Global, piece: usize, reads: u32, paper: &mut Paper) -> Resu
     requires { 0 < piece }
 {
     let mut script = Script::new(FIRST_WINDOW, piece, reads);
-    run_with(alloc, None, &mut script, paper)
+    run_with(alloc, None, false, &mut script, paper)
 }
 
-/// Runs a script with a font, and with its answers on the paper.
+/// Runs a script with a font, checked or not, and with its answers on the paper.
 fn run_with(
     alloc: Global,
     font: Option<&[u8]>,
+    check: bool,
     script: &mut Script<'_>,
     paper: &mut Paper,
 ) -> Result<Ended, Fail> {
@@ -52,7 +53,7 @@ fn run_with(
     };
     let mut source = WatchedReader::new(script);
     let mut sink = WatchedWriter::new(paper);
-    let outcome = run(alloc, &mut source, &mut sink, &mut stock, font);
+    let outcome = run(alloc, &mut source, &mut sink, &mut stock, font, check);
     let is_used = stock.take(b"plain").is_err();
     Ok(Ended { outcome, is_used })
 }
@@ -133,7 +134,7 @@ fn a_script_ends_within_a_million_reads(rt: HostRuntime) -> Result<(), Fail> {
         let mut source = WatchedReader::new(&mut script);
         let mut paper = Paper::new(rt.alloc(), 4096, 1000);
         let mut sink = WatchedWriter::new(&mut paper);
-        assert!(rt; run(rt.alloc(), &mut source, &mut sink, &mut stock, None) == outcome);
+        assert!(rt; run(rt.alloc(), &mut source, &mut sink, &mut stock, None, false) == outcome);
         assert!(rt; script.reads_left == left);
         assert!(rt; paper.text.as_slice() == answers);
     }
@@ -150,10 +151,29 @@ fn a_run_has_its_font_before_it_reads(rt: HostRuntime) -> Result<(), Fail> {
     for (font, outcome, left, answers) in cases {
         let mut script = Script::new(FIRST_WINDOW, 4096, 2);
         let mut paper = Paper::new(rt.alloc(), 4096, 1000);
-        let ended = run_with(rt.alloc(), Some(font), &mut script, &mut paper)?;
+        let ended = run_with(rt.alloc(), Some(font), false, &mut script, &mut paper)?;
         let is_used = outcome.is_ok();
         assert!(rt; ended == Ended { outcome, is_used });
         assert!(rt; script.reads_left == left);
+        assert!(rt; paper.text.as_slice() == answers);
+    }
+    Ok(())
+}
+
+#[test]
+fn a_checked_run_ends_with_its_line(rt: HostRuntime) -> Result<(), Fail> {
+    // The last case has reads for a part of the script alone, so it is not checked.
+    let cases: [(&[u8], u32, Result<(), Refusal>, &[u8]); 3] = [
+        (b"", 1, Ok(()), b"check 0\n"),
+        (b"desk 8 8 0", 2, Ok(()), b"ok\ncheck 0\n"),
+        (b"desk 8 8 0\n", 1, Err(Refusal::ReadFault), b"ok\n"),
+    ];
+    for (text, reads, outcome, answers) in cases {
+        let mut script = Script::new(text, 4096, reads);
+        let mut paper = Paper::new(rt.alloc(), 4096, 1000);
+        let ended = run_with(rt.alloc(), None, true, &mut script, &mut paper)?;
+        let is_used = false;
+        assert!(rt; ended == Ended { outcome, is_used });
         assert!(rt; paper.text.as_slice() == answers);
     }
     Ok(())

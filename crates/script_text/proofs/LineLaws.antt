@@ -103,7 +103,10 @@ command-so verbs.ShowHide = λ window shown. tt
 command-so verbs.Behind = λ window other. tt
 command-so verbs.Move = λ window h v select. tt
 command-so verbs.Size = λ window width height. tt
+command-so verbs.Scroll = λ window h v. tt
 command-so (verbs.OfWindow verb) = λ window. tt
+command-so (verbs.OfRect verb) = λ window l t r b. tt
+command-so (verbs.OfRegion verb) = λ window bytes. tt
 
 -- what a line says is a command, or that it names what there is not
 pub line-so : (line : List ℕ) (r : Result Command Refusal) → IsLine line r → IfErr r (λ e. e ≡ NoSuchName)

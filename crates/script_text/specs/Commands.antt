@@ -10,11 +10,13 @@ use Rattle.script_text.specs.declared.command.Command.TheVariants.{Desk, Image, 
 use Rattle.script_text.specs.declared.verb.Verb.{Verb}
 use Rattle.script_text.specs.declared.verb.Verb.TheVariants as words
 use Rattle.script_text.specs.declared.verb.WindowVerb.TheVariants as window_words
+use Rattle.script_text.specs.declared.verb.AreaVerb.TheVariants as area_words
 use Rattle.line_words.specs.Words.{◌>>=◌, word_at}
 use Rattle.script_text.specs.Names.{named}
 use Rattle.script_text.specs.Grammar.{Shape, done, number, flag, name, text, mapped, reading}
 use Rattle.script_text.specs.Drawings.{drawing_shape}
-use Rattle.script_text.specs.Windows.{of_window_shape, show_hide_shape, behind_shape, move_shape, size_shape}
+use Rattle.script_text.specs.Windows.{of_window_shape, show_hide_shape, behind_shape, move_shape, size_shape, scroll_shape}
+use Rattle.script_text.specs.Updates.{of_rect_shape, of_region_shape}
 
 -- a window with its content at (h, v)
 abbrev pub new_window_of : List ℕ → ℤ → ℤ → ℤ → ℤ → Bool → Bool → List ℕ → NewWindow
@@ -65,6 +67,7 @@ verbs =
     ∷ (codes "behind", words.Behind)
     ∷ (codes "move", words.Move)
     ∷ (codes "size", words.Size)
+    ∷ (codes "scroll", words.Scroll)
     ∷ (codes "close", words.OfWindow window_words.Close)
     ∷ (codes "show", words.OfWindow window_words.Show)
     ∷ (codes "hide", words.OfWindow window_words.Hide)
@@ -73,6 +76,17 @@ verbs =
     ∷ (codes "info", words.OfWindow window_words.Info)
     ∷ (codes "updatergn", words.OfWindow window_words.UpdateRegion)
     ∷ (codes "visrgn", words.OfWindow window_words.VisibleRegion)
+    ∷ (codes "clear", words.OfWindow window_words.Clear)
+    ∷ (codes "begin", words.OfWindow window_words.BeginUpdate)
+    ∷ (codes "drawp", words.OfWindow window_words.DrawPicture)
+    ∷ (codes "drawl", words.OfWindow window_words.DrawLists)
+    ∷ (codes "drawc", words.OfWindow window_words.DrawControls)
+    ∷ (codes "end", words.OfWindow window_words.EndUpdate)
+    ∷ (codes "update", words.OfWindow window_words.ServeUpdate)
+    ∷ (codes "inval", words.OfRect area_words.Invalidate)
+    ∷ (codes "valid", words.OfRect area_words.Validate)
+    ∷ (codes "invalrgn", words.OfRegion area_words.Invalidate)
+    ∷ (codes "validrgn", words.OfRegion area_words.Validate)
     ∷ []
 
 -- the words that follow a verb
@@ -87,7 +101,10 @@ shape_of words.ShowHide = show_hide_shape
 shape_of words.Behind = behind_shape
 shape_of words.Move = move_shape
 shape_of words.Size = size_shape
+shape_of words.Scroll = scroll_shape
 shape_of (words.OfWindow verb) = of_window_shape verb
+shape_of (words.OfRect verb) = of_rect_shape verb
+shape_of (words.OfRegion verb) = of_region_shape verb
 
 -- what is read after a first word that stands for a verb, or for none
 abbrev pub read_with : Option Verb → Option (List ℕ) → Result Command Refusal

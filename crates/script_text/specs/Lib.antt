@@ -6,4 +6,5 @@ pub mod Lines
 pub mod Names
 pub mod Replies
 pub mod Spelling
+pub mod Updates
 pub mod Windows

@@ -1,9 +1,13 @@
 -- The words of the commands for windows that are there.
-use Rattle.std.specs.Prelude.{ℕ, ℤ, pos, nat_abs, Option, Some, None, Ok, if◌then◌else◌}
+use Rattle.std.specs.Prelude.{ℕ, ℤ, pos, nat_abs, [], Option, Some, None, Ok, if◌then◌else◌}
 use Rattle.std.specs.Int.{int_max}
 use Rattle.std.specs.Ordering.{int_eq}
-use Rattle.desk_call.specs.declared.call.Call.TheVariants.{Window}
-use Rattle.desk_call.specs.declared.window.WindowCall.{WindowCall}
+use Rattle.desk_call.specs.declared.call.Call as desk
+use Rattle.desk_call.specs.declared.call.Call.TheVariants.{Window, Update}
+use Rattle.desk_call.specs.declared.update.UpdateCall.TheVariants as updates
+use Rattle.desk_call.specs.declared.update.Layers.{Layers}
+use Rattle.desk_call.specs.declared.update.Layers.TheVariants.{Picture, Lists, Controls}
+use Rattle.desk_call.specs.declared.window.NewPicture.{NewPicture}
 use Rattle.desk_call.specs.declared.window.WindowCall.TheVariants as calls
 use Rattle.script_text.specs.declared.command.Command.{Command}
 use Rattle.script_text.specs.declared.command.Command.TheVariants.{Call}
@@ -20,20 +24,35 @@ named_window window = nat_abs (int_max window (pos 0))
 abbrev pub other_window : ℤ → Option ℕ
 other_window window = if int_eq window (pos 0) then None else Some (named_window window)
 
--- what a verb asks of a window
-abbrev pub call_of : WindowVerb → ℕ → WindowCall
-call_of words.Close window = calls.Dispose window
-call_of words.Show window = calls.Show window
-call_of words.Hide window = calls.Hide window
-call_of words.Select window = calls.Select window
-call_of words.BringToFront window = calls.BringToFront window
-call_of words.Info window = calls.Info window
-call_of words.UpdateRegion window = calls.UpdateRegion window
-call_of words.VisibleRegion window = calls.VisibleRegion window
+-- the picture of no operation for a window, its 0 0 in the content's
+abbrev pub no_picture : ℕ → NewPicture
+no_picture window = record { window = window; picture = []; origin = record { h = pos 0; v = pos 0 } }
+
+-- some layers of a window are to be drawn
+abbrev pub layers_of : Layers → ℕ → desk.Call
+layers_of layers window = Update (updates.Draw (record { window = window; layers = layers }))
+
+-- what a verb asks about a window
+abbrev pub call_of : WindowVerb → ℕ → desk.Call
+call_of words.Close window = Window (calls.Dispose window)
+call_of words.Show window = Window (calls.Show window)
+call_of words.Hide window = Window (calls.Hide window)
+call_of words.Select window = Window (calls.Select window)
+call_of words.BringToFront window = Window (calls.BringToFront window)
+call_of words.Info window = Window (calls.Info window)
+call_of words.UpdateRegion window = Window (calls.UpdateRegion window)
+call_of words.VisibleRegion window = Window (calls.VisibleRegion window)
+call_of words.Clear window = Window (calls.SetPicture (no_picture window))
+call_of words.BeginUpdate window = Update (updates.Begin window)
+call_of words.DrawPicture window = layers_of Picture window
+call_of words.DrawLists window = layers_of Lists window
+call_of words.DrawControls window = layers_of Controls window
+call_of words.EndUpdate window = Update (updates.End window)
+call_of words.ServeUpdate window = Update (updates.Serve window)
 
 -- W, after a verb that asks something of one window
 abbrev pub of_window_shape : WindowVerb → Shape Command
-of_window_shape verb = number (λ window. done (Ok (Call (Window (call_of verb (named_window window))))))
+of_window_shape verb = number (λ window. done (Ok (Call (call_of verb (named_window window)))))
 
 -- showhide W SHOWN
 abbrev pub show_hide_shape : Shape Command
@@ -54,3 +73,8 @@ move_shape = number (λ window. number (λ h. number (λ v. flag (λ select.
 abbrev pub size_shape : Shape Command
 size_shape = number (λ window. number (λ width. number (λ height.
     done (Ok (Call (Window (calls.Size (record { window = named_window window; size = record { width = width; height = height } }))))))))
+
+-- scroll W dh dv
+abbrev pub scroll_shape : Shape Command
+scroll_shape = number (λ window. number (λ h. number (λ v.
+    done (Ok (Call (Window (calls.Scroll (record { window = named_window window; by = record { h = h; v = v } }))))))))

@@ -98,7 +98,7 @@ fn shape<'a>(operation: Operation, words: Words<'a>) -> Result<ShapeRef<'a>, Ref
 }
 
 /// The sides of a rectangle.
-fn rect<'a>(words: Words<'a>) -> Result<Rect, Refusal>
+pub fn rect<'a>(words: Words<'a>) -> Result<Rect, Refusal>
     ensures { result ≡ reading rect_shape words.entry }
 {
     let (left, words) = words.number()?;

@@ -21,6 +21,7 @@ mod parser;
 mod region_line;
 mod reply_line;
 mod table;
+mod updates;
 mod verb;
 mod windows;
 

@@ -2,7 +2,7 @@
 //!
 //! A line is a verb and the words that follow it: `specs/Spelling.antt` says which line says which command, and
 //! `specs/Commands.antt` how it is read. Each command has a function that reads its words: those of windows that
-//! are there stand in `windows`.
+//! are there stand in `windows`, those of areas of windows in `updates`.
 //! The form of a whole line is judged here, and then the names of modes and patterns; no range of a number, no kind
 //! of a window and no region.
 ghost use Rattle.std.specs.Prelude.{◌≡◌, ◌⊎◌, Result, Err};
@@ -15,8 +15,9 @@ ghost use Rattle.script_text.specs.Spelling.{IsLine};
 
 use crate::command::{Command, DeskSize};
 use crate::drawing::drawing;
+use crate::updates::{of_rect, of_region};
 use crate::verb::{Verb, verb_of};
-use crate::windows::{behind, move_to, of_window, resize, show_hide};
+use crate::windows::{behind, move_to, of_window, resize, scroll, show_hide};
 use def_iface::Size;
 use desk_call::{Call, NewWindow, WindowCall};
 use line_words::Words;
@@ -109,7 +110,10 @@ fn command<'a>(verb: Verb, words: Words<'a>) -> Result<Command<'a>, Refusal>
         Verb::Behind => behind(words),
         Verb::Move => move_to(words),
         Verb::Size => resize(words),
+        Verb::Scroll => scroll(words),
         Verb::OfWindow(verb) => of_window(verb, words),
+        Verb::OfRect(verb) => of_rect(verb, words),
+        Verb::OfRegion(verb) => of_region(verb, words),
     }
 }
 

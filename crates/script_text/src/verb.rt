@@ -18,7 +18,10 @@ pub enum Verb {
     Behind,
     Move,
     Size,
+    Scroll,
     OfWindow(WindowVerb),
+    OfRect(AreaVerb),
+    OfRegion(AreaVerb),
 }
 
 /// A first word that the number of a window follows, and nothing else.
@@ -32,10 +35,24 @@ pub enum WindowVerb {
     Info,
     UpdateRegion,
     VisibleRegion,
+    Clear,
+    BeginUpdate,
+    DrawPicture,
+    DrawLists,
+    DrawControls,
+    EndUpdate,
+    ServeUpdate,
+}
+
+/// What is done with an area of a window.
+#[derive(Clone, Copy, Debug, PartialEq, Eq)]
+pub enum AreaVerb {
+    Invalidate,
+    Validate,
 }
 
 /// Each first word, and what it stands for.
-static VERBS: [(&[u8], Verb); 18] = [
+static VERBS: [(&[u8], Verb); 30] = [
     (b"desk", Verb::Desk),
     (b"image", Verb::Image),
     (b"window", Verb::Window),
@@ -46,6 +63,7 @@ static VERBS: [(&[u8], Verb); 18] = [
     (b"behind", Verb::Behind),
     (b"move", Verb::Move),
     (b"size", Verb::Size),
+    (b"scroll", Verb::Scroll),
     (b"close", Verb::OfWindow(WindowVerb::Close)),
     (b"show", Verb::OfWindow(WindowVerb::Show)),
     (b"hide", Verb::OfWindow(WindowVerb::Hide)),
@@ -54,6 +72,17 @@ static VERBS: [(&[u8], Verb); 18] = [
     (b"info", Verb::OfWindow(WindowVerb::Info)),
     (b"updatergn", Verb::OfWindow(WindowVerb::UpdateRegion)),
     (b"visrgn", Verb::OfWindow(WindowVerb::VisibleRegion)),
+    (b"clear", Verb::OfWindow(WindowVerb::Clear)),
+    (b"begin", Verb::OfWindow(WindowVerb::BeginUpdate)),
+    (b"drawp", Verb::OfWindow(WindowVerb::DrawPicture)),
+    (b"drawl", Verb::OfWindow(WindowVerb::DrawLists)),
+    (b"drawc", Verb::OfWindow(WindowVerb::DrawControls)),
+    (b"end", Verb::OfWindow(WindowVerb::EndUpdate)),
+    (b"update", Verb::OfWindow(WindowVerb::ServeUpdate)),
+    (b"inval", Verb::OfRect(AreaVerb::Invalidate)),
+    (b"valid", Verb::OfRect(AreaVerb::Validate)),
+    (b"invalrgn", Verb::OfRegion(AreaVerb::Invalidate)),
+    (b"validrgn", Verb::OfRegion(AreaVerb::Validate)),
 ];
 
 /// The verb that this word is, byte by byte; None of a word that is no verb.

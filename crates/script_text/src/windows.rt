@@ -1,12 +1,15 @@
 //! The words of the commands for windows that are there.
 ghost use Rattle.std.specs.Prelude.{◌≡◌};
 ghost use Rattle.script_text.specs.Grammar.{reading};
-ghost use Rattle.script_text.specs.Windows.{named_window, other_window, call_of, of_window_shape, show_hide_shape, behind_shape, move_shape, size_shape};
+ghost use Rattle.script_text.specs.Windows.{named_window, other_window, no_picture, layers_of, call_of, of_window_shape, show_hide_shape, behind_shape, move_shape, size_shape, scroll_shape};
 
 use crate::command::Command;
 use crate::verb::WindowVerb;
 use def_iface::Size;
-use desk_call::{Call, MoveWindow, SendBehind, ShowHide, SizeWindow, WindowCall};
+use desk_call::{
+    Call, LayerDraw, Layers, MoveWindow, NewPicture, PictureRef, ScrollPicture, SendBehind,
+    ShowHide, SizeWindow, UpdateCall, WindowCall,
+};
 use line_words::Words;
 use tb_geom::{Point, Refusal};
 
@@ -29,19 +32,44 @@ fn other_window(window: i32) -> Option<u64>
     }
 }
 
-/// What a verb asks of the window that follows it.
-fn call_of<'a>(verb: WindowVerb, window: u64) -> WindowCall<'a>
+/// The picture of no operation for a window, its 0 0 in the content's.
+fn no_picture<'a>(window: u64) -> NewPicture<'a>
+    ensures { result ≡ no_picture window }
+{
+    NewPicture {
+        window,
+        picture: PictureRef::empty(),
+        origin: Point { h: 0, v: 0 },
+    }
+}
+
+/// Some layers of a window are to be drawn.
+fn layers_of<'a>(layers: Layers, window: u64) -> Call<'a>
+    ensures { result ≡ layers_of layers window }
+{
+    Call::Update(UpdateCall::Draw(LayerDraw { window, layers }))
+}
+
+/// What a verb asks about the window that follows it.
+fn call_of<'a>(verb: WindowVerb, window: u64) -> Call<'a>
     ensures { result ≡ call_of verb window }
 {
     match verb {
-        WindowVerb::Close => WindowCall::Dispose(window),
-        WindowVerb::Show => WindowCall::Show(window),
-        WindowVerb::Hide => WindowCall::Hide(window),
-        WindowVerb::Select => WindowCall::Select(window),
-        WindowVerb::BringToFront => WindowCall::BringToFront(window),
-        WindowVerb::Info => WindowCall::Info(window),
-        WindowVerb::UpdateRegion => WindowCall::UpdateRegion(window),
-        WindowVerb::VisibleRegion => WindowCall::VisibleRegion(window),
+        WindowVerb::Close => Call::Window(WindowCall::Dispose(window)),
+        WindowVerb::Show => Call::Window(WindowCall::Show(window)),
+        WindowVerb::Hide => Call::Window(WindowCall::Hide(window)),
+        WindowVerb::Select => Call::Window(WindowCall::Select(window)),
+        WindowVerb::BringToFront => Call::Window(WindowCall::BringToFront(window)),
+        WindowVerb::Info => Call::Window(WindowCall::Info(window)),
+        WindowVerb::UpdateRegion => Call::Window(WindowCall::UpdateRegion(window)),
+        WindowVerb::VisibleRegion => Call::Window(WindowCall::VisibleRegion(window)),
+        WindowVerb::Clear => Call::Window(WindowCall::SetPicture(no_picture(window))),
+        WindowVerb::BeginUpdate => Call::Update(UpdateCall::Begin(window)),
+        WindowVerb::DrawPicture => layers_of(Layers::Picture, window),
+        WindowVerb::DrawLists => layers_of(Layers::Lists, window),
+        WindowVerb::DrawControls => layers_of(Layers::Controls, window),
+        WindowVerb::EndUpdate => Call::Update(UpdateCall::End(window)),
+        WindowVerb::ServeUpdate => Call::Update(UpdateCall::Serve(window)),
     }
 }
 
@@ -51,8 +79,7 @@ pub fn of_window<'a>(verb: WindowVerb, words: Words<'a>) -> Result<Command<'a>, 
 {
     let (window, words) = words.number()?;
     words.end()?;
-    let call = call_of(verb, named_window(window));
-    Ok(Command::Call(Call::Window(call)))
+    Ok(Command::Call(call_of(verb, named_window(window))))
 }
 
 /// The words after `showhide`: a window, and whether it is to be shown.
@@ -112,4 +139,18 @@ pub fn resize<'a>(words: Words<'a>) -> Result<Command<'a>, Refusal>
     let size = Size { width, height };
     let change = SizeWindow { window, size };
     Ok(Command::Call(Call::Window(WindowCall::Size(change))))
+}
+
+/// The words after `scroll`: a window, and how far its picture moves to the right and down.
+pub fn scroll<'a>(words: Words<'a>) -> Result<Command<'a>, Refusal>
+    ensures { result ≡ reading scroll_shape words.entry }
+{
+    let (window, words) = words.number()?;
+    let (h, words) = words.number()?;
+    let (v, words) = words.number()?;
+    words.end()?;
+    let window = named_window(window);
+    let by = Point { h, v };
+    let change = ScrollPicture { window, by };
+    Ok(Command::Call(Call::Window(WindowCall::Scroll(change))))
 }

@@ -60,6 +60,13 @@ module _ {V : Type 0} {H : V → Type 0} where
   abbrev pub with_title : ArrayVec ℕ → Window V H → Window V H
   with_title title w = record w { title = title }
 
+  -- the window with this picture, whose 0 0 lies there
+  abbrev pub with_picture : List Op → Point → Window V H → Window V H
+  with_picture picture origin w = record w { picture = picture; origin = origin }
+
+  abbrev pub with_origin : Point → Window V H → Window V H
+  with_origin origin w = record w { origin = origin }
+
   -- the window with this operation behind all others of its picture
   abbrev pub with_operation : Op → Window V H → Window V H
   with_operation op w = record w { picture = w.picture ++ op ∷ [] }

@@ -11,12 +11,16 @@
 //! next. What makes a window active and what that does to the highlighting of two windows is said here once,
 //! and so is the order of the numbers. Each call that changes one window says which, by its place from the
 //! front; `find` gives the place of a number.
+//!
+//! `local` and `picture_place` go from points of the screen to those of a window, and of its picture.
 #![tactic(auto)]
 
 mod list;
+mod places;
 mod ranks;
 mod window;
 
 pub use list::WindowList;
+pub use places::{local, picture_place};
 pub use ranks::Ranks;
 pub use window::{Title, Window};

@@ -4,11 +4,11 @@ ghost use Rattle.std.specs.List.{remove};
 ghost use Rattle.std.specs.Option.{option_map};
 ghost use Rattle.def_iface.specs.Meaning.{is_fitting};
 ghost use Rattle.window_list.specs.Ranks.{moved_item};
-ghost use Rattle.window_list.specs.Lists.{is_numbered, first_shown, dimmed, relit, number_after, map_ranked, edit_at, IsLastBox, with_stand, with_highlighted, with_title, with_operation, IsDisposedAt, IsResizedAt};
+ghost use Rattle.window_list.specs.Lists.{is_numbered, first_shown, dimmed, relit, number_after, map_ranked, edit_at, IsLastBox, with_stand, with_highlighted, with_title, with_picture, with_origin, with_operation, IsDisposedAt, IsResizedAt};
 
 use crate::{Ranks, Title, Window};
 use def_iface::{Defined, Size, Stage, Taken, WindowChange};
-use draw_port::Op;
+use draw_port::{Op, Picture};
 use std::alloc::{AllocError, Global};
 use tb_geom::{Point, Refusal};
 
@@ -194,6 +194,25 @@ impl WindowList {
     {
         let window = self.records.at_mut(at);
         window.title = title;
+    }
+
+    /// Gives the window at this place another picture, whose 0 0 is to lie there in the window.
+    pub fn set_picture(&mut self, at: usize, picture: Picture, origin: Point)
+        requires { at < length self.old.records.items }
+        ensures { self.new ≡ record self.old { records = edit_at (with_picture picture origin) at self.old.records } }
+    {
+        let window = self.records.at_mut(at);
+        window.picture = picture;
+        window.origin = origin;
+    }
+
+    /// Puts the 0 0 of the picture of the window at this place elsewhere in the window.
+    pub fn set_origin(&mut self, at: usize, origin: Point)
+        requires { at < length self.old.records.items }
+        ensures { self.new ≡ record self.old { records = edit_at (with_origin origin) at self.old.records } }
+    {
+        let window = self.records.at_mut(at);
+        window.origin = origin;
     }
 
     /// Adds an operation behind all others of the picture of the window at this place. What refuses

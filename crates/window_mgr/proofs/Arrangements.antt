@@ -14,7 +14,7 @@ use Rattle.def_iface.proofs.Owning.{same_number}
 use Rattle.vis_update.specs.Records.{WindowRecord, layered_window}
 use Rattle.vis_update.specs.Touches.{moved_from, is_this}
 use Rattle.desk_call.specs.declared.window.WindowCall.{WindowCall}
-use Rattle.desk_call.specs.declared.window.WindowCall.TheVariants.{New, Dispose, Show, Hide, ShowHide, Select, BringToFront, SendBehind, Move, Size, Draw, Find, Front, Info, VisibleRegion, UpdateRegion}
+use Rattle.desk_call.specs.declared.window.WindowCall.TheVariants.{New, Dispose, Show, Hide, ShowHide, Select, BringToFront, SendBehind, Move, Size, Draw, SetPicture, Scroll, Find, Front, Info, VisibleRegion, UpdateRegion}
 use Rattle.desk_call.specs.declared.window.MoveWindow.{MoveWindow}
 use Rattle.desk_call.specs.declared.window.SendBehind as sending
 use Rattle.desk_call.specs.declared.window.SizeWindow.{SizeWindow}
@@ -23,7 +23,7 @@ use Rattle.window_mgr.specs.FullDesk.{FullDesk, FullState, layered_desk}
 use Rattle.window_mgr.specs.Finding.{record_with}
 use Rattle.window_mgr.specs.Arrange.{Arrangement, put_behind, behind_this, in_front, without, brought, changed, at_place, with_shown, with_size, way_to, moved, sized}
 use Rattle.window_mgr.specs.Effects.{Effect, effect_of}
-use Rattle.window_mgr.specs.Effects.Effect.{Makes, Disposes, Draws, Arranges, Sizes, Tells, Describes}
+use Rattle.window_mgr.specs.Effects.Effect.{Makes, Disposes, Draws, Pictures, Scrolls, Arranges, Sizes, Tells, Describes}
 use Rattle.window_mgr.specs.Refused.{IsRefusal}
 use Rattle.window_mgr.proofs.PutIn.{put_in, IsFree, IsPut, is_put, IsTakenOut, out_of, distinct_out}
 use Rattle.window_mgr.proofs.Rearranged.{IsEdit}
@@ -76,12 +76,14 @@ pub record IsSoundArrangement (a : Arrangement) (desk : FullDesk) : Type 0 where
   pub windows : a.windows ≡ put_in to new rest
   pub moves : (part : layers.Part) (p : Point) → content_bit (Some (layered_window desk.font old)) part (moved_from a.window a.by (Content a.window part) p) ≡ content_bit (Some (layered_window desk.font new)) part p
 
--- what an effect says of itself is enough, but of an arrangement
+-- what an effect says of itself is enough, but of an arrangement, and of a window that is scrolled: it is there
 abbrev pub IsSoundEffect : Effect → FullDesk → Type 0
 IsSoundEffect (Arranges a) desk = IsSoundArrangement a desk
 IsSoundEffect (Makes w) desk = Unit {0}
 IsSoundEffect (Disposes s) desk = Unit {0}
 IsSoundEffect (Draws d) desk = Unit {0}
+IsSoundEffect (Pictures n) desk = Unit {0}
+IsSoundEffect (Scrolls m) desk = (w : WindowRecord) × (record_with m.window desk.windows ≡ Some w)
 IsSoundEffect (Sizes z) desk = Unit {0}
 IsSoundEffect (Tells r) desk = Unit {0}
 IsSoundEffect (Describes region) desk = Unit {0}
@@ -185,6 +187,8 @@ pub effect_is_sound : (call : WindowCall) (state : FullState) → layers.IsDesk 
 effect_is_sound (New w) state distinct e = tt
 effect_is_sound (Dispose s) state distinct e = tt
 effect_is_sound (Draw d) state distinct e = tt
+effect_is_sound (SetPicture n) state distinct e = tt
+effect_is_sound (Scroll m) state distinct e = there_of true (record_with m.window state.desk.windows) _ e
 effect_is_sound (Size z) state distinct e = tt
 effect_is_sound (Find p) state distinct e = tt
 effect_is_sound Front state distinct e = tt

@@ -1,9 +1,8 @@
 -- The window that has a pixel is its owner's.
-use Rattle.std.proofs.Common.{◌≡◌, ℕ, zero, suc, ◌<◌, ◌≤◌, ◌==◌, ◌&&◌, ◌||◌, Bool, true, false, if◌then◌else◌, List, [], ◌∷◌, length, get_or, map, Option, Some, None, ℤ, ◌-ℤ◌, SFits, w32, refl, sym, ap, ◌∙◌, subst, arith, position}
+use Rattle.std.proofs.Common.{◌≡◌, ℕ, zero, suc, ◌<◌, ◌≤◌, ◌==◌, ◌&&◌, ◌||◌, Bool, true, false, if◌then◌else◌, List, [], ◌∷◌, length, get_or, map, Option, Some, None, refl, sym, ap, ◌∙◌, subst, arith, position}
 use Rattle.std.specs.Prelude.{slice_get, IsSomeAnd, MatchOption}
 use Rattle.std.proofs.lemmas.Bool.{false≢true, and_parts, eqb-true}
 use Rattle.std.proofs.lemmas.Bool.Decides.{nat_tests}
-use Rattle.std.proofs.lemmas.Int.{ints}
 use Rattle.std.proofs.lemmas.Option.{slice_get-map, slice_get-get_or, slice_get_within}
 use Rattle.std.proofs.lemmas.List.{length-map, get_or-map}
 use Rattle.std.proofs.lemmas.List.Sums.{fails_before_first}
@@ -14,7 +13,6 @@ use Rattle.std.proofs.lemmas.List.Quantifiers.{position-Some}
 use Rattle.tb_geom.specs.declared.point.Point.{Point}
 use Rattle.tb_geom.specs.Points.{PixelSet, minus}
 use Rattle.tb_geom.specs.Pixels.{holds}
-use Rattle.tb_geom.specs.Rects.{is_coordinate}
 use Rattle.def_iface.specs.declared.taken.Taken.{Taken}
 use Rattle.def_iface.specs.Meaning.{Loan}
 use Rattle.def_iface.specs.Desk as layers
@@ -40,10 +38,6 @@ use Rattle.window_mgr.proofs.EditSeats.{there_is}
 use Rattle.window_mgr.specs.Finding.{front_of, record_with, found_by, found_none, found_window, found_at, part_at, part_of_hit}
 use Rattle.vis_update.specs.Areas.{IsArea, AreAreas, is_content_of}
 use Rattle.window_mgr.specs.Whole.{IsSettled}
-
--- a difference of two coordinates is a number of 32 bits
-pub difference_fits : (a b : ℤ) → is_coordinate a ≡ true → is_coordinate b ≡ true → SFits w32 (a -ℤ b)
-difference_fits a b e f = grind (arith, ints)
 
 -- where nothing passes, each fails
 position-None : {X : Type 0} (f : X → Bool) (xs : List X) → position f xs ≡ None → (i : ℕ) (d : X) → i < length xs → f (get_or xs i d) ≡ false

@@ -6,7 +6,7 @@ use Rattle.desk_call.specs.declared.window.WindowReply.{WindowReply}
 use Rattle.window_mgr.specs.FullDesk.{FullDesk, FullState}
 use Rattle.window_mgr.specs.Step.{IsWindowStep}
 use Rattle.window_mgr.specs.Effects.{Effect, IsEffect, effect_of}
-use Rattle.window_mgr.specs.Effects.Effect.{Makes, Disposes, Draws, Arranges, Sizes, Tells, Describes}
+use Rattle.window_mgr.specs.Effects.Effect.{Makes, Disposes, Draws, Pictures, Scrolls, Arranges, Sizes, Tells, Describes}
 use Rattle.window_mgr.proofs.SlotLemmas.{kinds_when_taken}
 use Rattle.window_mgr.proofs.Disposed.{disposed_keeps_kinds}
 
@@ -17,6 +17,8 @@ kinds_of s = map (λ slot. slot.kind) s.desk.stock
 effect_keeps_kinds : (effect : Effect) (answer : WindowReply) (before after : FullState) → IsEffect effect answer before after → kinds_of after ≡ kinds_of before
 effect_keeps_kinds (Makes w) answer before after (n, is, new) = kinds_when_taken w.kind new.loan before.desk.stock after.desk.stock new.taken
 effect_keeps_kinds (Draws d) answer before after (is, drawn) = ap (λ (d : FullDesk). map (λ slot. slot.kind) d.stock) drawn.desk
+effect_keeps_kinds (Pictures n) answer before after (is, done) = ap (λ (d : FullDesk). map (λ slot. slot.kind) d.stock) done.desk
+effect_keeps_kinds (Scrolls m) answer before after (is, done) = ap (λ (d : FullDesk). map (λ slot. slot.kind) d.stock) done.desk
 effect_keeps_kinds (Arranges a) answer before after (is, arranged) = ap (λ (d : FullDesk). map (λ slot. slot.kind) d.stock) arranged.desk
 effect_keeps_kinds (Disposes s) answer before after (is, closed) = disposed_keeps_kinds s before after closed
 effect_keeps_kinds (Sizes z) answer before after (is, change) = ap (λ (d : FullDesk). map (λ slot. slot.kind) d.stock) change.arranged.desk

@@ -4,7 +4,7 @@ use Rattle.std.proofs.lemmas.Bool.{and_parts}
 use Rattle.std.proofs.lemmas.Bool.Decides.{nat_tests}
 use Rattle.tb_geom.specs.declared.point.Point.{Point}
 use Rattle.tb_geom.specs.declared.refusal.Refusal.{Refusal}
-use Rattle.draw_port.specs.declared.shapes.Op.{Op}
+use Rattle.tb_geom.specs.Points.{plus}
 use Rattle.def_iface.specs.Meaning.{Definition}
 use Rattle.def_iface.specs.Desk as layers
 use Rattle.def_iface.specs.Owner.{Owner, owner, owner_among, is_content}
@@ -15,19 +15,22 @@ use Rattle.def_iface.proofs.Owning.{is_other, owner_is_other, own_bit-behind, sa
 use Rattle.def_iface.proofs.Changing.{stays_right}
 use Rattle.desk_call.specs.declared.window.WindowCall.{WindowCall}
 use Rattle.desk_call.specs.declared.window.Drawing.{Drawing}
+use Rattle.desk_call.specs.declared.window.NewPicture.{NewPicture}
 use Rattle.desk_call.specs.declared.window.NewWindow.{NewWindow}
+use Rattle.desk_call.specs.declared.window.ScrollPicture.{ScrollPicture}
 use Rattle.desk_call.specs.declared.window.WindowReply.{WindowReply}
 use Rattle.vis_update.specs.Records.{WindowRecord, layered_window}
 use Rattle.window_mgr.specs.FullDesk.{FullDesk, FullState, IsRightState, AreBelow, AreNumbered, layered_desk, layered_state}
 use Rattle.window_mgr.specs.Step.{IsWindowStep}
-use Rattle.window_mgr.specs.Effects.{IsNewWindow, IsDrawn, IsUnchanged, IsArrangement, Effect, IsEffect, effect_of, new_record, desk_with, with_drawn, draw_change}
-use Rattle.window_mgr.specs.Effects.Effect.{Makes, Disposes, Draws, Arranges, Sizes, Tells, Describes}
+use Rattle.window_mgr.specs.Effects.{IsNewWindow, IsDrawn, IsPictureSet, IsScrolled, IsUnchanged, IsArrangement, Effect, IsEffect, effect_of, new_record, desk_with, with_drawn, with_new_picture, with_scrolled, draw_change, picture_change, scroll_change}
+use Rattle.window_mgr.specs.Effects.Effect.{Makes, Disposes, Draws, Pictures, Scrolls, Arranges, Sizes, Tells, Describes}
 use Rattle.window_mgr.specs.Arrange.{with_highlighting, Arrangement, activation_of, desk_activated, sized}
-use Rattle.window_mgr.specs.Finding.{front_of}
+use Rattle.window_mgr.specs.Finding.{front_of, record_with}
 use Rattle.vis_update.specs.Touches.{moving}
 use Rattle.window_mgr.proofs.EachChanged.{below_map, map-map, numbered_map}
 use Rattle.window_mgr.proofs.DimLemmas.{either}
-use Rattle.window_mgr.proofs.DrawnLayers.{draw_is_sound}
+use Rattle.window_mgr.proofs.PictureChanges.{draw_is_sound, picture_is_sound, scroll_is_sound}
+use Rattle.window_mgr.proofs.Repictured.{repictured_serial}
 use Rattle.window_mgr.proofs.Rearranged.{edited, edit_is_sound, numbered_now}
 use Rattle.window_mgr.proofs.Arrangements.{IsSoundArrangement, IsSoundEffect, effect_is_sound, sized_sound}
 use Rattle.window_mgr.proofs.Disposed.{disposed_stays_right}
@@ -100,14 +103,7 @@ new_stays_right w serial before after right new =
       numbered = subst (λ (d : FullDesk). AreNumbered d.next d.windows) (sym new.desk) (numbered_with w serial new.loan.slot new.begun before.desk below);
     }
 
--- ---- an operation is a sound change
-
-pub drawn_serial : (s : ℕ) (op : Op) (w : WindowRecord) → (with_drawn s op w).serial ≡ w.serial
-drawn_serial s op w = by_test (w.serial == s)
-  where
-    by_test : (b : Bool) → (if b then record w { picture = w.picture ++ op ∷ [] } else w).serial ≡ w.serial
-    by_test true = refl
-    by_test false = refl
+-- ---- a picture that changes is a sound change
 
 draw_stays_right : (d : Drawing) (before after : FullState) → IsRightState before → IsDrawn d before after → IsRightState after
 draw_stays_right d before after right drawn =
@@ -115,12 +111,30 @@ draw_stays_right d before after right drawn =
     let sound = draw_is_sound before.desk d.window drawn.window drawn.operation drawn.found before.stale before.image right.plain.desk in
     record {
       plain = stays_right change (layered_state before) (layered_state after) right.plain (subst (plain.IsSound change (layered_state before)) (sym (ap layered_desk drawn.desk)) sound) drawn.pixels;
-      numbered = subst (λ (x : FullDesk). AreNumbered x.next x.windows) (sym drawn.desk) (numbered_map (with_drawn d.window drawn.operation) (drawn_serial d.window drawn.operation) before.desk.next before.desk.windows right.numbered);
+      numbered = subst (λ (x : FullDesk). AreNumbered x.next x.windows) (sym drawn.desk) (numbered_map (with_drawn d.window drawn.operation) (repictured_serial d.window (λ w. w.picture ++ drawn.operation ∷ []) (λ w. w.origin)) before.desk.next before.desk.windows right.numbered);
+    }
+
+picture_stays_right : (n : NewPicture) (before after : FullState) → IsRightState before → IsPictureSet n before after → IsRightState after
+picture_stays_right n before after right done =
+    let change = picture_change n.window in
+    let sound = picture_is_sound before.desk n before.stale before.image right.plain.desk in
+    record {
+      plain = stays_right change (layered_state before) (layered_state after) right.plain (subst (plain.IsSound change (layered_state before)) (sym (ap layered_desk done.desk)) sound) done.pixels;
+      numbered = subst (λ (x : FullDesk). AreNumbered x.next x.windows) (sym done.desk) (numbered_map (with_new_picture n) (repictured_serial n.window (λ w. n.picture) (λ w. n.origin)) before.desk.next before.desk.windows right.numbered);
+    }
+
+scroll_stays_right : (m : ScrollPicture) (before after : FullState) (v : WindowRecord) → record_with m.window before.desk.windows ≡ Some v → IsRightState before → IsScrolled m before after → IsRightState after
+scroll_stays_right m before after v found right done =
+    let change = scroll_change m.window m.by in
+    let sound = scroll_is_sound before.desk m v found before.stale before.image right.plain.desk in
+    record {
+      plain = stays_right change (layered_state before) (layered_state after) right.plain (subst (plain.IsSound change (layered_state before)) (sym (ap layered_desk done.desk)) sound) done.pixels;
+      numbered = subst (λ (x : FullDesk). AreNumbered x.next x.windows) (sym done.desk) (numbered_map (with_scrolled m) (repictured_serial m.window (λ w. w.picture) (λ w. plus w.origin m.by)) before.desk.next before.desk.windows right.numbered);
     }
 
 -- ---- steps and runs
 
-unchanged_stays_right : (before after : FullState) → IsRightState before → IsUnchanged before after → IsRightState after
+pub unchanged_stays_right : (before after : FullState) → IsRightState before → IsUnchanged before after → IsRightState after
 unchanged_stays_right before after right same =
     let desk = ap layered_desk same.desk in
     let on_before = λ (p : Point) (on : layers.on_screen (layered_desk after.desk) p ≡ true). subst (λ (d : layers.LayeredDesk). layers.on_screen d p ≡ true) desk on in
@@ -154,6 +168,8 @@ arranged_stays_right a before after right E arranged =
 effect_stays_right : (effect : Effect) (answer : WindowReply) (before after : FullState) → IsRightState before → IsSoundEffect effect before.desk → IsEffect effect answer before after → IsRightState after
 effect_stays_right (Makes w) answer before after right sound done = new_stays_right w done.0 before after right done.2
 effect_stays_right (Draws d) answer before after right sound done = draw_stays_right d before after right done.1
+effect_stays_right (Pictures n) answer before after right sound done = picture_stays_right n before after right done.1
+effect_stays_right (Scrolls m) answer before after right sound done = scroll_stays_right m before after sound.0 sound.1 right done.1
 effect_stays_right (Arranges a) answer before after right sound done = arranged_stays_right a before after right sound done.1
 effect_stays_right (Disposes s) answer before after right sound done = disposed_stays_right s before after right done.1
 effect_stays_right (Sizes z) answer before after right sound done = let change = done.1 in arranged_stays_right (sized z change.definition before.desk.windows) before after right (sized_sound before.desk right.plain.desk z.window change.window change.found z change.definition refl) change.arranged

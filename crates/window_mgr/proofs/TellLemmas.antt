@@ -64,7 +64,7 @@ apart_one x d = sym (back_one (x -ℤ d) d) ∙ +ℤ-neg_ℤ_cancel x (neg_ℤ d
 abbrev back : Point → Point
 back o = record { h = neg_ℤ o.h; v = neg_ℤ o.v }
 
-again_there : (p o : Point) → plus (minus p o) o ≡ p
+pub again_there : (p o : Point) → plus (minus p o) o ≡ p
 again_there p o = λ i. record { h = apart_one p.h o.h i; v = apart_one p.v o.v i }
 
 again_here : (p o : Point) → minus (plus p o) o ≡ p
@@ -88,7 +88,7 @@ module _ (r : Pixels) (o b : Point) (b_is : b ≡ minus (record { h = pos 0; v =
   stays_there inside = subst (StaysInRange r) (sym is_way_back) (λ p e. inside (plus p (back o)) (ap (holds r) (again_there p o) ∙ e))
 
   module _ (m : Pixels) (moved : (p : Point) → holds m p ≡ holds r (minus p b)) where
-    there : IsRegionOf (λ p. holds r (plus p o)) m
+    pub there : IsRegionOf (λ p. holds r (plus p o)) m
     there p = moved p ∙ ap (λ w. holds r (minus p w)) is_way_back ∙ ap (holds r) (minus_back p o)
 
     pub stays_back : ((p : Point) → holds r p ≡ true → is_pixel_in_range p ≡ true) → StaysInRange m o
@@ -186,11 +186,11 @@ pub put_back : (areas : List Area) (at : ℕ) (a b : Area) → a ≡ get_or area
 put_back areas at a b read same = ap (set areas at) (same ∙ read) ∙ set-get_or areas at a
 
 module _ {V : Type 0} {H : V → Type 0} (loan : Taken V H → Loan) (t : WindowManager V H) (kept : IsKept loan t) (s : ℕ) where
-  abbrev desk : FullDesk
+  abbrev pub desk : FullDesk
   desk = desk_of loan t []
 
   -- what the content of the window owns
-  abbrev own : PixelSet
+  abbrev pub own : PixelSet
   own p = layers.on_screen (layered_desk desk) p && is_content_of s (owner (layered_desk desk) p)
 
   -- a window that is not there
@@ -206,14 +206,14 @@ module _ {V : Type 0} {H : V → Type 0} (loan : Taken V H → Loan) (t : Window
   missing_refused Update missing = inl (missing_first _ missing)
 
   module _ (at : ℕ) (x : Window V H) (low : at < length t.windows.records.items) (read : x ≡ get_or t.windows.records.items at x) (serial : x.serial ≡ s) where
-    found : record_with s desk.windows ≡ Some (record_of loan x)
+    pub found : record_with s desk.windows ≡ Some (record_of loan x)
     found = record_there loan t kept at s x (slice_get-get_or t.windows.records.items at x low ∙ ap Some (sym read)) serial
 
     pub settled : IsSettled (record_of loan x)
     settled = window_settled loan t kept at x (slice_get-get_or t.windows.records.items at x low ∙ ap Some (sym read))
 
     -- what the content owns is in range on the screen
-    screen_in : (p : Point) → own p ≡ true → is_pixel_in_range p ≡ true
+    pub screen_in : (p : Point) → own p ≡ true → is_pixel_in_range p ≡ true
     screen_in p e =
         let on = and_parts (layers.on_screen (layered_desk desk) p) _ e in
         let sides = and_parts (between (pos 0) p.h (pos t.screen.width)) _ on.0 in
@@ -222,7 +222,7 @@ module _ {V : Type 0} {H : V → Type 0} (loan : Taken V H → Loan) (t : Window
         λ i. side_in p.h (pos t.screen.width) wide.0 sides.0 i && side_in p.v (pos t.screen.height) high.0 sides.1 i
 
     -- and in the window's own coordinates
-    local_in : (p : Point) → own (plus p x.place) ≡ true → is_pixel_in_range p ≡ true
+    pub local_in : (p : Point) → own (plus p x.place) ≡ true → is_pixel_in_range p ≡ true
     local_in p e =
         let its = (and_parts (layers.on_screen (layered_desk desk) (plus p x.place)) _ e).1 in
         let held = content_has t.font desk.windows s (record_of loan x) (plus p x.place) kept.whole.sound.distinct found (not_bar s _ _ its) in
@@ -242,7 +242,7 @@ module _ {V : Type 0} {H : V → Type 0} (loan : Taken V H → Loan) (t : Window
 
     -- the window's area
     module _ (a : Area) (a_is : a ≡ get_or t.areas.items at a) where
-      area_is : IsArea (layered_desk desk) (stale_in t.areas.items) s a
+      pub area_is : IsArea (layered_desk desk) (stale_in t.areas.items) s a
       area_is =
           let long = as_many loan t kept in
           let there = area_at (layered_desk desk) (stale_in t.areas.items) desk.windows t.areas.items at a kept.whole.areas (omega arith) in
@@ -259,7 +259,7 @@ module _ {V : Type 0} {H : V → Type 0} (loan : Taken V H → Loan) (t : Window
       visible_seen p = area_is.visible (plus p x.place) ∙ sym (ap (λ o. seen_from o own p) found)
 
       -- and its update region what of that is stale
-      update_seen : (p : Point) → holds a.update (plus p x.place) ≡ update_of s (state_of loan t []) p
+      pub update_seen : (p : Point) → holds a.update (plus p x.place) ≡ update_of s (state_of loan t []) p
       update_seen p =
           area_is.update (plus p x.place) ∙ ap (λ b. b && stale_in t.areas.items (plus p x.place)) (area_is.visible (plus p x.place))
           ∙ sym (ap (λ o. seen_from o (λ q. own q && stale_in t.areas.items q) p) found)

@@ -1,7 +1,7 @@
 -- What calls do: the kinds of effect, and which has which.
 use Rattle.std.specs.Prelude.{◌≡◌, ℕ, true, false, if◌then◌else◌, ◌==◌, List, [], ◌∷◌, ◌++◌, map, Some, pos}
 use Rattle.tb_geom.specs.declared.point.Point.{Point}
-use Rattle.tb_geom.specs.Points.{PixelSet, minus}
+use Rattle.tb_geom.specs.Points.{PixelSet, plus, minus}
 use Rattle.draw_port.specs.declared.shapes.Op.{Op}
 use Rattle.draw_port.specs.Ops.{op_value}
 use Rattle.op_ref.specs.OpRefs.{IsMeant}
@@ -11,16 +11,18 @@ use Rattle.def_iface.specs.Meaning.{Definition, Loan, SameRegions, IsBegun}
 use Rattle.def_iface.specs.Stocked.{IsTaken, is_left}
 use Rattle.def_iface.specs.Desk.{on_screen}
 use Rattle.def_iface.specs.Desk.Part.{Picture}
-use Rattle.def_iface.specs.Owner.{same_owner}
+use Rattle.def_iface.specs.Owner.{Owner, same_owner}
 use Rattle.def_iface.specs.Owner.Owner.{Content}
 use Rattle.def_iface.specs.Change.{Change, no_change, IsChanged}
 use Rattle.window_list.specs.Lists.{number_after}
 use Rattle.vis_update.specs.Records.{WindowRecord}
 use Rattle.vis_update.specs.Touches.{moving}
 use Rattle.desk_call.specs.declared.window.WindowCall.{WindowCall}
-use Rattle.desk_call.specs.declared.window.WindowCall.TheVariants.{New, Dispose, Show, Hide, ShowHide, Select, BringToFront, SendBehind, Move, Size, Draw, Find, Front, Info, VisibleRegion, UpdateRegion}
+use Rattle.desk_call.specs.declared.window.WindowCall.TheVariants.{New, Dispose, Show, Hide, ShowHide, Select, BringToFront, SendBehind, Move, Size, Draw, SetPicture, Scroll, Find, Front, Info, VisibleRegion, UpdateRegion}
 use Rattle.desk_call.specs.declared.window.Drawing.{Drawing}
+use Rattle.desk_call.specs.declared.window.NewPicture.{NewPicture}
 use Rattle.desk_call.specs.declared.window.NewWindow.{NewWindow}
+use Rattle.desk_call.specs.declared.window.ScrollPicture.{ScrollPicture}
 use Rattle.desk_call.specs.declared.window.SizeWindow.{SizeWindow}
 use Rattle.window_mgr.specs.declared.arrange.Activates.TheVariants.{FrontInItsPlace}
 use Rattle.desk_call.specs.declared.window.WindowReply.{WindowReply}
@@ -85,6 +87,36 @@ pub record IsDrawn (d : Drawing) (before after : FullState) : Type 0 where
   pub desk : after.desk ≡ record before.desk { windows = map (with_drawn d.window operation) before.desk.windows }
   pub pixels : IsChanged (draw_change before.desk.font d.window window operation) (layered_state before) (layered_state after)
 
+-- the window has the new picture, if it is the one that is to have it
+abbrev pub with_new_picture : NewPicture → WindowRecord → WindowRecord
+with_new_picture n w = if w.serial == n.window then record w { picture = n.picture; origin = n.origin } else w
+
+-- the change of a call by which all that the picture of this window owns is to be redrawn
+abbrev pub picture_change : ℕ → Change
+picture_change s = record no_change { added = λ o p. same_owner o (Content s Picture) }
+
+-- the window got another picture
+pub record IsPictureSet (n : NewPicture) (before after : FullState) : Type 0 where
+  pub desk : after.desk ≡ record before.desk { windows = map (with_new_picture n) before.desk.windows }
+  pub pixels : IsChanged (picture_change n.window) (layered_state before) (layered_state after)
+
+-- the window's picture lies elsewhere in it, if it is the one that was scrolled
+abbrev pub with_scrolled : ScrollPicture → WindowRecord → WindowRecord
+with_scrolled m w = if w.serial == m.window then record w { origin = plus w.origin m.by } else w
+
+-- where the picture of this window came from, which was moved by this; all else stays where it is
+abbrev pub scrolled_from : ℕ → Point → Owner → Point → Point
+scrolled_from s by o p = if same_owner o (Content s Picture) then minus p by else p
+
+-- the change of a call that moves the picture of this window
+abbrev pub scroll_change : ℕ → Point → Change
+scroll_change s by = record no_change { source = scrolled_from s by }
+
+-- the window's picture was scrolled
+pub record IsScrolled (m : ScrollPicture) (before after : FullState) : Type 0 where
+  pub desk : after.desk ≡ record before.desk { windows = map (with_scrolled m) before.desk.windows }
+  pub pixels : IsChanged (scroll_change m.window m.by) (layered_state before) (layered_state after)
+
 -- nothing changed
 pub record IsUnchanged (before after : FullState) : Type 0 where
   pub desk : after.desk ≡ before.desk
@@ -125,6 +157,8 @@ pub data Effect : Type 0 where
   Makes : (window : NewWindow) → Effect
   Disposes : (window : ℕ) → Effect
   Draws : (drawing : Drawing) → Effect
+  Pictures : (picture : NewPicture) → Effect
+  Scrolls : (scroll : ScrollPicture) → Effect
   Arranges : (arrangement : Arrangement) → Effect
   Sizes : (change : SizeWindow) → Effect
   Tells : (answer : WindowReply) → Effect
@@ -135,6 +169,8 @@ abbrev pub effect_of : WindowCall → FullDesk → Effect
 effect_of (New w) desk = Makes w
 effect_of (Dispose s) desk = Disposes s
 effect_of (Draw d) desk = Draws d
+effect_of (SetPicture n) desk = Pictures n
+effect_of (Scroll m) desk = Scrolls m
 effect_of (Select s) desk = Arranges (selected s desk.windows)
 effect_of (BringToFront s) desk = Arranges (brought_forward s desk.windows)
 effect_of (SendBehind b) desk = Arranges (sent_behind b desk.windows)
@@ -154,6 +190,8 @@ abbrev pub IsEffect : Effect → WindowReply → FullState → FullState → Typ
 IsEffect (Makes w) answer before after = (serial : ℕ) × (answer ≡ reply.Made serial) × IsNewWindow w serial before after
 IsEffect (Disposes s) answer before after = (answer ≡ reply.Done) × IsWindowDisposed s before after
 IsEffect (Draws d) answer before after = (answer ≡ reply.Done) × IsDrawn d before after
+IsEffect (Pictures n) answer before after = (answer ≡ reply.Done) × IsPictureSet n before after
+IsEffect (Scrolls m) answer before after = (answer ≡ reply.Done) × IsScrolled m before after
 IsEffect (Arranges a) answer before after = (answer ≡ reply.Done) × IsArrangement a before after
 IsEffect (Sizes z) answer before after = (answer ≡ reply.Done) × IsWindowSized z before after
 IsEffect (Tells r) answer before after = (answer ≡ r) × IsUnchanged before after

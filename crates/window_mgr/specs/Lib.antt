@@ -15,6 +15,7 @@ pub mod Commits
 pub mod Planned
 pub mod Edits
 pub mod AnySlots
+pub mod Updating
 pub mod Sizing
 pub mod Without
 pub mod Begin

@@ -1,4 +1,5 @@
--- A window that is planned, and one that was added; an operation that may be drawn, and one that was.
+-- A window that is planned, and one that was added; an operation that may be drawn, and one that was; a window that got
+-- another picture.
 use Rattle.std.specs.Prelude.{◌≡◌, ◌⊎◌, ℕ, ◌+◌, ◌<◌, Bool, if◌then◌else◌, [], ◌∷◌, ◌++◌, length, map, set, Option, None, Some, IsSomeAnd, slice_get, vec_len}
 use Rattle.tb_geom.specs.declared.refusal.Refusal.{Refusal}
 use Rattle.tb_geom.specs.declared.refusal.Refusal.TheVariants.{NoMemory}
@@ -18,6 +19,7 @@ use Rattle.vis_update.specs.declared.plan.Touch.{Touch}
 use Rattle.vis_update.specs.Records.{record_of}
 use Rattle.vis_update.specs.Plans.{IsPlan}
 use Rattle.desk_call.specs.declared.window.Drawing.{Drawing}
+use Rattle.desk_call.specs.declared.window.NewPicture.{NewPicture}
 use Rattle.desk_call.specs.declared.window.NewWindow.{NewWindow}
 use Rattle.window_mgr.specs.declared.manager.WindowManager.{WindowManager}
 use Rattle.window_mgr.specs.declared.new_window.Addition.{Addition}
@@ -69,6 +71,20 @@ module _ {V : Type 0} {H : V → Type 0} where
     pub windows : new.windows.records.items ≡ set old.windows.records.items at (record window { picture = window.picture ++ operation ∷ [] })
     pub pixels : IsSomeAnd (slice_get old.areas.items at) (λ area. Draws (holds area.visible) (λ p value. op_value old.font operation (minus (minus p window.place) window.origin) value) old.screen new.screen)
     pub areas : new.areas.items ≡ old.areas.items
+    pub bar : new.bar ≡ old.bar
+    pub font : new.font ≡ old.font
+    pub gray : new.gray ≡ old.gray
+    pub desktop : new.desktop ≡ old.desktop
+    pub active : new.windows.active ≡ old.windows.active
+    pub next : new.windows.next ≡ old.windows.next
+
+  -- the window at this place has the picture, and all of its content that shows is to be redrawn
+  pub record IsPictureAt (at : ℕ) (n : NewPicture) (old new : WindowManager V H) : Type 0 where
+    pub window : Window V H
+    pub there : slice_get old.windows.records.items at ≡ Some window
+    pub windows : new.windows.records.items ≡ set old.windows.records.items at (record window { picture = n.picture; origin = n.origin })
+    pub areas : IsSomeAnd (slice_get old.areas.items at) (λ area. new.areas.items ≡ set old.areas.items at (record area { update = area.visible }))
+    pub screen : new.screen ≡ old.screen
     pub bar : new.bar ≡ old.bar
     pub font : new.font ≡ old.font
     pub gray : new.gray ≡ old.gray

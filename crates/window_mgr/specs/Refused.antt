@@ -2,7 +2,7 @@
 use Rattle.std.specs.Prelude.{◌≡◌, ℕ, Bool, true, false, not, ◌==◌, ◌||◌, if◌then◌else◌, List, [], ◌∷◌, ◌++◌, length, Option, None, Some, is_none, nat_le, nat_lt}
 use Rattle.tb_geom.specs.declared.point.Point.{Point}
 use Rattle.tb_geom.specs.declared.refusal.Refusal.{Refusal}
-use Rattle.tb_geom.specs.Points.{PixelSet}
+use Rattle.tb_geom.specs.Points.{PixelSet, plus}
 use Rattle.tb_geom.specs.declared.refusal.Refusal.TheVariants.{NoSuchName, NoSuchWindow, OutOfRange, TooLong, TooMany, NoDefinition, BadRegion, BadSyntax}
 use Rattle.tb_geom.specs.Refusals.{number_of}
 use Rattle.tb_geom.specs.Rects.{in_plane}
@@ -14,9 +14,11 @@ use Rattle.vis_update.specs.Records.{WindowRecord}
 use Rattle.vis_update.specs.Places.{is_placed}
 use Rattle.vis_update.specs.Touches.{is_this}
 use Rattle.desk_call.specs.declared.window.WindowCall.{WindowCall}
-use Rattle.desk_call.specs.declared.window.WindowCall.TheVariants.{New, Dispose, Show, Hide, ShowHide, Select, BringToFront, SendBehind, Move, Size, Draw, Find, Front, Info, VisibleRegion, UpdateRegion}
+use Rattle.desk_call.specs.declared.window.WindowCall.TheVariants.{New, Dispose, Show, Hide, ShowHide, Select, BringToFront, SendBehind, Move, Size, Draw, SetPicture, Scroll, Find, Front, Info, VisibleRegion, UpdateRegion}
 use Rattle.desk_call.specs.declared.window.MoveWindow.{MoveWindow}
+use Rattle.desk_call.specs.declared.window.NewPicture.{NewPicture}
 use Rattle.desk_call.specs.declared.window.NewWindow.{NewWindow}
+use Rattle.desk_call.specs.declared.window.ScrollPicture.{ScrollPicture}
 use Rattle.desk_call.specs.declared.window.SendBehind as sending
 use Rattle.desk_call.specs.declared.window.SizeWindow.{SizeWindow}
 use Rattle.def_iface.specs.declared.size.Size as sizes
@@ -46,10 +48,14 @@ abbrev pub judged_refusals : NewWindow → Bool → ℕ → Option ℕ → List 
 judged_refusals w placed count next =
     (not placed, OutOfRange) ∷ (nat_lt longest_text (length w.title), TooLong) ∷ (is_full count next, TooMany) ∷ []
 
+-- why the name of its kind may be refused
+abbrev pub kind_refusals : NewWindow → FullDesk → List (Bool × Refusal)
+kind_refusals w desk = (not (has_kind w.kind desk.stock), NoSuchName) ∷ []
+
 abbrev pub new_window_refusals : NewWindow → FullDesk → List (Bool × Refusal)
 new_window_refusals w desk =
-    (not (has_kind w.kind desk.stock), NoSuchName)
-    ∷ judged_refusals w (is_placed (offered w.kind desk.stock) w.place w.size) (length desk.windows) desk.next
+    kind_refusals w desk
+    ++ judged_refusals w (is_placed (offered w.kind desk.stock) w.place w.size) (length desk.windows) desk.next
     ++ (is_none (offered w.kind desk.stock), NoDefinition) ∷ []
 
 -- the refusal is of bytes that have not their form
@@ -77,11 +83,15 @@ picture_of (Some w) = w.picture
 abbrev pub most_operations : ℕ
 most_operations = 1024
 
--- why an operation in a window may be refused, where judging it found this: the bytes are no image or no region, there
--- is no such window, a number is out of range, the text is too long, or the picture is full
+-- why the bytes of an operation may be refused, where judging it found this: they are no image, or no region
+abbrev pub form_refusals : Option Refusal → List (Bool × Refusal)
+form_refusals judged = (is_found BadSyntax judged, BadSyntax) ∷ (is_found BadRegion judged, BadRegion) ∷ []
+
+-- why an operation in a window may be refused, where judging it found this: by its bytes, or there is no such window, a
+-- number is out of range, the text is too long, or the picture is full
 abbrev pub draw_refusals : Option Refusal → Option WindowRecord → List (Bool × Refusal)
 draw_refusals judged window =
-    (is_found BadSyntax judged, BadSyntax) ∷ (is_found BadRegion judged, BadRegion) ∷ (is_none window, NoSuchWindow)
+    form_refusals judged ++ (is_none window, NoSuchWindow)
     ∷ (is_found OutOfRange judged, OutOfRange) ∷ (is_found TooLong judged, TooLong)
     ∷ (nat_le most_operations (length (picture_of window)), TooMany) ∷ []
 
@@ -119,6 +129,20 @@ abbrev pub size_refusals : SizeWindow → FullDesk → List (Bool × Refusal)
 size_refusals z desk =
     (is_missing z.window desk.windows, NoSuchWindow) ∷ (not (may_have_size z.size (record_with z.window desk.windows)), OutOfRange) ∷ []
 
+-- why a window may not get a picture: it is missing, or the origin is no point
+abbrev pub picture_refusals : NewPicture → FullDesk → List (Bool × Refusal)
+picture_refusals n desk = (is_missing n.window desk.windows, NoSuchWindow) ∷ (not (in_plane n.origin), OutOfRange) ∷ []
+
+-- the picture's origin, moved by this, is a point, if there is such a window
+abbrev pub may_scroll : Point → Option WindowRecord → Bool
+may_scroll by None = true
+may_scroll by (Some w) = in_plane (plus w.origin by)
+
+-- why a window's picture may not be scrolled: the window is missing, or the origin would be no point
+abbrev pub scroll_refusals : ScrollPicture → FullDesk → List (Bool × Refusal)
+scroll_refusals m desk =
+    (is_missing m.window desk.windows, NoSuchWindow) ∷ (not (may_scroll m.by (record_with m.window desk.windows)), OutOfRange) ∷ []
+
 -- why a call about one window may be refused that asks nothing more of it: it is missing
 abbrev pub window_refusals : ℕ → FullDesk → List (Bool × Refusal)
 window_refusals s desk = (is_missing s desk.windows, NoSuchWindow) ∷ []
@@ -132,6 +156,8 @@ IsUntold s set desk why = (long : Bool) × IsMeasured set long × (first_refusal
 abbrev pub IsRefusal : WindowCall → FullState → Option Refusal → Type 0
 IsRefusal (New w) state why = first_refusal (new_window_refusals w state.desk) ≡ why
 IsRefusal (Draw d) state why = (judged : Option Refusal) × IsJudged d.operation judged × (first_refusal (draw_refusals judged (record_with d.window state.desk.windows)) ≡ why)
+IsRefusal (SetPicture n) state why = first_refusal (picture_refusals n state.desk) ≡ why
+IsRefusal (Scroll m) state why = first_refusal (scroll_refusals m state.desk) ≡ why
 IsRefusal (SendBehind b) state why = first_refusal (behind_refusals b state.desk) ≡ why
 IsRefusal (Move m) state why = first_refusal (move_refusals m state.desk) ≡ why
 IsRefusal (Size z) state why = first_refusal (size_refusals z state.desk) ≡ why
@@ -146,6 +172,12 @@ IsRefusal (ShowHide c) state why = first_refusal (window_refusals c.window state
 IsRefusal (Select s) state why = first_refusal (window_refusals s state.desk) ≡ why
 IsRefusal (BringToFront s) state why = first_refusal (window_refusals s state.desk) ≡ why
 IsRefusal (Info s) state why = first_refusal (window_refusals s state.desk) ≡ why
+
+-- what of that comes before all else, whatever is open: a name that no table has, or bytes without their form
+abbrev pub IsFormRefusal : WindowCall → FullDesk → Option Refusal → Type 0
+IsFormRefusal (New w) desk why = first_refusal (kind_refusals w desk) ≡ why
+IsFormRefusal (Draw d) desk why = (judged : Option Refusal) × IsJudged d.operation judged × (first_refusal (form_refusals judged) ≡ why)
+IsFormRefusal _ desk why = None ≡ why
 
 -- the call may ask for memory
 abbrev pub may_grow : WindowCall → Bool

@@ -125,7 +125,7 @@ impl Edit {
 
 impl WindowManager {
     /// The place of the window of this number in the list.
-    pub(crate) fn find(&self, window: u64) -> Option<usize>
+    pub fn find(&self, window: u64) -> Option<usize>
         ensures { MatchOption result
             (record_with window (map (record_of ⟦<Taken as Defined>⟧.loan) self.now.windows.records.items) ≡ None)
             (StandsAt self.now.windows.records.items window) }

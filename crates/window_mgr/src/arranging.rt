@@ -11,11 +11,11 @@ ghost use Rattle.window_mgr.specs.Records.{desk_of};
 ghost use Rattle.window_mgr.specs.Refused.{first_refusal, behind_refusals};
 
 use crate::arrange::{Activates, Edit};
-use crate::find::local;
 use crate::{MoveWindow, SendBehind, ShowHide, WindowManager, WindowReply};
 use def_iface::{Defined, Taken};
 use tb_geom::{Point, Refusal};
 use vis_update::is_placed_with;
+use window_list::local;
 
 impl WindowManager {
     /// Brings a window to the front; a visible one becomes active.

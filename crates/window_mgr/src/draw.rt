@@ -1,8 +1,8 @@
 //! The call that draws.
-ghost use Rattle.std.specs.Prelude.{◌≡◌, ◌++◌, ◌∷◌, [], List, OnOk, OnErr, Some, None, MatchResult, MatchOption, IsSomeAnd, slice_get, true, ◌+ℤ◌};
+ghost use Rattle.std.specs.Prelude.{◌≡◌, ◌++◌, ◌∷◌, [], List, OnOk, OnErr, Some, None, MatchResult, MatchOption, IsSomeAnd, slice_get, true};
 ghost use Rattle.tb_geom.specs.declared.point.Point.{Point};
-ghost use Rattle.tb_geom.specs.Points.{minus, plus};
-ghost use Rattle.tb_geom.specs.Rects.{in_plane, is_coordinate};
+ghost use Rattle.tb_geom.specs.Points.{minus};
+ghost use Rattle.tb_geom.specs.Rects.{in_plane};
 ghost use Rattle.tb_geom.specs.Pixels.{holds};
 ghost use Rattle.bit_blit.specs.Draws.{Draws};
 ghost use Rattle.draw_port.specs.declared.shapes.Op.{Op};
@@ -22,7 +22,7 @@ use std::alloc::AllocError;
 use strike_font::Font;
 use tb_geom::{Point, Refusal};
 use vis_update::Area;
-use window_list::Window;
+use window_list::{Window, picture_place};
 
 /// As many operations as a picture may have.
 const MOST_OPERATIONS: usize = 1024;
@@ -78,7 +78,7 @@ impl WindowManager {
 
 /// Whether it is a refusal of bytes that have not their form, which comes before those of what a call
 /// names.
-fn is_formal(refusal: Refusal) -> bool
+pub(crate) fn is_formal(refusal: Refusal) -> bool
     ensures { result ≡ is_formal refusal }
 {
     match refusal {
@@ -112,25 +112,4 @@ fn show_last(screen: &mut BitMap, area: &Area, window: &Window, font: &Font)
         font,
     };
     canvas.paint(operation);
-}
-
-/// Where the 0 0 of a picture lies on the screen, whose origin in a window at this place is given.
-pub fn picture_place(place: Point, origin: Point) -> Point
-    requires placed { in_plane place ≡ true }
-    requires origin { in_plane origin ≡ true }
-    ensures { result ≡ plus place origin }
-{
-    Point {
-        h: sum(place.h, origin.h),
-        v: sum(place.v, origin.v),
-    }
-}
-
-/// The sum of two coordinates.
-fn sum(a: i32, b: i32) -> i32
-    requires a { is_coordinate a ≡ true }
-    requires b { is_coordinate b ≡ true }
-    ensures { result ≡ a +ℤ b }
-{
-    a + b
 }

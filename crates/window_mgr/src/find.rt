@@ -1,8 +1,8 @@
 //! The calls that ask whose a point is, and which window is in front.
-ghost use Rattle.std.specs.Prelude.{◌≡◌, if◌then◌else◌, Ok, Err, Some, [], ◌-ℤ◌, position, true};
+ghost use Rattle.std.specs.Prelude.{◌≡◌, if◌then◌else◌, Ok, Err, Some, [], position, true};
 ghost use Rattle.tb_geom.specs.declared.refusal.Refusal.TheVariants.{OutOfRange};
 ghost use Rattle.tb_geom.specs.Points.{minus};
-ghost use Rattle.tb_geom.specs.Rects.{in_plane, is_coordinate};
+ghost use Rattle.tb_geom.specs.Rects.{in_plane};
 ghost use Rattle.def_iface.specs.Desk.{on_screen, in_bar};
 ghost use Rattle.window_mgr.specs.FullDesk.{layered_desk};
 ghost use Rattle.window_mgr.specs.Kept.{IsKept};
@@ -15,7 +15,7 @@ ghost use Rattle.window_mgr.specs.Whole.{IsSettled};
 use crate::{Found, WindowManager, WindowPart};
 use def_iface::{Defined, Hit, Taken};
 use tb_geom::{Point, Refusal};
-use window_list::Window;
+use window_list::{Window, local};
 
 impl WindowManager {
     /// Whose the point of the screen is. OutOfRange where it lies outside the range of coordinates.
@@ -92,27 +92,6 @@ fn found(window: &Window, point: Point) -> Found
         part: part_of_hit(window.taken.hit(local(point, window.place))),
         window: Some(window.serial),
     }
-}
-
-/// The point of the screen in the coordinates of a window at this place.
-pub(crate) fn local(point: Point, place: Point) -> Point
-    requires point { in_plane point ≡ true }
-    requires place { in_plane place ≡ true }
-    ensures { result ≡ minus point place }
-{
-    Point {
-        h: difference(point.h, place.h),
-        v: difference(point.v, place.v),
-    }
-}
-
-/// How far a coordinate lies past another.
-fn difference(there: i32, here: i32) -> i32
-    requires there { is_coordinate there ≡ true }
-    requires here { is_coordinate here ≡ true }
-    ensures { result ≡ there -ℤ here }
-{
-    there - here
 }
 
 /// No window, and this part.

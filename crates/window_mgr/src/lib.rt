@@ -5,8 +5,8 @@
 //! call leaves and answers (`IsWindowStep`): a call that nothing refuses has its effect; a refused one changes nothing, and its
 //! answer is the first refusal of the written order whose condition holds (`Refused`), or NoMemory where no other
 //! holds and the call may ask for memory. There are few kinds of effect (`Effects`): a window is made, an operation is
-//! drawn, windows are arranged, something is told. How each call arranges the windows, and which becomes active, stands
-//! in `Arrange`.
+//! drawn, a picture is changed or moved, windows are arranged, something is told. How each call arranges the windows, and
+//! which becomes active, stands in `Arrange`.
 //!
 //! A `WindowManager` keeps more than the desk: the screen, and for each window the regions that its content and its frame
 //! own on the screen and what of the content is not yet drawn (`Area`). `Records` reads the desk and its state off it;
@@ -19,7 +19,7 @@
 //! A call is judged and takes all its memory before the first change: its plan (`vis_update`) says what each window will
 //! own and what changes on the screen, and `commit` draws it, whichever call it was made for. `arrange` puts one window
 //! anew among the others, `size` gives one another size, `new_window` adds one, `dispose_window` takes one out, `draw`
-//! draws in one.
+//! draws in one, `repicture` changes its picture or moves it.
 //!
 //! Whose a pixel is, the calls that ask (`find`) read off the same regions: the window whose visible content or frame
 //! has it owns it. There may be 64 windows.
@@ -32,15 +32,20 @@ mod commit;
 mod dispose_window;
 mod draw;
 mod find;
+mod forms;
 mod make;
 mod manager;
 mod new_window;
+mod repicture;
 mod size;
 mod tell;
+mod update;
 
 pub use desk_call::{
-    Drawing, Found, MoveWindow, NewWindow, SendBehind, ShowHide, SizeWindow, WindowCall,
-    WindowInfo, WindowPart, WindowReply,
+    Drawing, Found, MoveWindow, NewPicture, NewWindow, ScrollPicture, SendBehind, ShowHide,
+    SizeWindow, WindowCall, WindowInfo, WindowPart, WindowReply,
 };
-pub use draw::picture_place;
+pub use forms::form_refusal;
 pub use manager::{NotBegun, Parts, WindowManager};
+pub use tell::move_by;
+pub use update::paint_picture;

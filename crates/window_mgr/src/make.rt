@@ -35,6 +35,8 @@ impl WindowManager {
             WindowCall::Move(moved) => self.move_window(*moved),
             WindowCall::Size(sized) => self.size_window(*sized),
             WindowCall::Draw(drawing) => self.answer_draw(drawing),
+            WindowCall::SetPicture(new) => self.set_picture(new),
+            WindowCall::Scroll(scroll) => self.scroll(*scroll),
             WindowCall::Find(point) => self.answer_find(*point),
             WindowCall::Front => self.answer_front(),
             WindowCall::Info(window) => self.answer_info(*window),

@@ -14,13 +14,13 @@ ghost use Rattle.window_mgr.specs.Refused.{IsRefusal};
 ghost use Rattle.window_mgr.specs.Step.{IsCallRefused};
 ghost use Rattle.window_mgr.specs.Telling.{AreRegionBytes, IsNotTold, kept_region, told_of, asking};
 
-use crate::find::local;
 use crate::{WindowManager, WindowReply};
 use def_iface::{Defined, Taken};
 use scan_region::Region;
 use std::alloc::Global;
 use tb_geom::{Point, Refusal};
 use vis_update::Area;
+use window_list::local;
 
 /// Which of a window's regions is told.
 #[derive(Clone, Copy)]
@@ -103,7 +103,7 @@ fn bytes_from(region: &mut Region, alloc: Global, origin: Point) -> Result<Vec<u
 }
 
 /// Moves a region, which stays in range.
-fn move_by(region: &mut Region, by: Point)
+pub fn move_by(region: &mut Region, by: Point)
     requires { StaysInRange region.old by }
     ensures { (p : Point) → holds region.new p ≡ holds region.old (minus p by) }
 {

@@ -1,5 +1,5 @@
-use Rattle.desk_toolbox.proofs.Runs.{step_stays_right}
+use Rattle.desk_toolbox.proofs.Runs.{admitted_stays_right}
 use Rattle.desk_toolbox.proofs.toolbox.Toolbox.call.Goals as goal
 
-pub returns-clause-right : goal.returns-clause-right
-returns-clause-right g c right = step_stays_right c.args.call.now c.make.result _ _ right c.make.ensures.step
+pub returns-in-Ok-clause-right : goal.returns-in-Ok-clause-right
+returns-in-Ok-clause-right g c right = admitted_stays_right c.args.call.now c.make.result _ _ right c.make.ensures.step

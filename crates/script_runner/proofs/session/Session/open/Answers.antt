@@ -7,7 +7,7 @@ use Rattle.script_runner.proofs.session.Session.open.Goals as goal
 
 pub first_answer-outcome-requires-clause-whole : goal.first_answer-outcome-requires-clause-whole
 first_answer-outcome-requires-clause-whole g c =
-    (c.in-Ok.ensures.begun _ (rw (c.requires.unmade, ← c.in-Some.ensures.value) at c.requires.ready)).whole
+    c.in-Ok.ensures.whole _ (rw (c.requires.unmade, ← c.in-Some.ensures.value) at c.requires.ready)
 
 pub returns-in-Ok-clause-ends : goal.returns-in-Ok-clause-ends
 returns-in-Ok-clause-ends g c =
@@ -18,7 +18,7 @@ returns-in-Ok-clause-ends g c =
     let fits : may_be c.first_size-size.result ≡ true = simp to_z-of_z at c.in-Ok.ensures.in_range in
     let empty = simp to_z-of_z at (c.in-Ok.ensures.begun _ full) in
     rw (c.requires.unmade, ← c.in-Some.ensures.value) (opened _ _ c.args.command.now _ _ _ _ _ c.requires.known (sym (ap may_be c.first_size-size.ensures) ∙ fits)
-    (new_desk _ _ _ _ c.first_size-size.result _ c.first_size-size.ensures empty) c.first_answer-outcome.ensures.answered)
+    (new_desk _ c.in-Ok.desk _ _ c.first_size-size.result _ c.first_size-size.ensures empty c.in-Ok.ensures.idle) c.first_answer-outcome.ensures.answered)
 
 pub returns-in-NoMemory-clause-ends : goal.returns-in-NoMemory-clause-ends
 returns-in-NoMemory-clause-ends g c =

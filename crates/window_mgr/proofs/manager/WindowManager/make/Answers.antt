@@ -27,6 +27,12 @@ returns-in-Size g c = let done = c.size_window.ensures _ c.requires in record { 
 pub returns-in-Draw : goal.returns-in-Draw
 returns-in-Draw g c = let done = c.answer_draw.ensures _ c.requires in record { whole = done.0; step = rw c.in-Draw.is (done.1) }
 
+pub returns-in-SetPicture : goal.returns-in-SetPicture
+returns-in-SetPicture g c = let done = c.set_picture.ensures _ c.requires in record { whole = done.0; step = rw c.in-SetPicture.is (done.1) }
+
+pub returns-in-Scroll : goal.returns-in-Scroll
+returns-in-Scroll g c = let done = c.scroll.ensures _ c.requires in record { whole = done.0; step = rw c.in-Scroll.is (done.1) }
+
 pub returns-in-Find : goal.returns-in-Find
 returns-in-Find g c = let done = c.answer_find.ensures _ c.requires in record { whole = done.0; step = rw c.in-Find.is (done.1) }
 

@@ -1,0 +1,42 @@
+-- Which calls may come while something is open.
+use Rattle.std.specs.Prelude.{ℕ, ◌==◌, if◌then◌else◌, Option, None, Some}
+use Rattle.tb_geom.specs.declared.refusal.Refusal.{Refusal}
+use Rattle.tb_geom.specs.declared.refusal.Refusal.TheVariants.{Busy, NotBusy}
+use Rattle.desk_call.specs.declared.activity.Activity.{Activity}
+use Rattle.desk_call.specs.declared.activity.Activity.TheVariants.{Idle, Updating}
+use Rattle.desk_call.specs.declared.activity.Standing.{Standing}
+use Rattle.desk_call.specs.declared.activity.Standing.TheVariants.{Asks, Updates, Changes}
+use Rattle.desk_call.specs.declared.call.Call.{Call}
+use Rattle.desk_call.specs.declared.call.Call.TheVariants.{Window, Update}
+use Rattle.desk_call.specs.declared.update.UpdateCall.{UpdateCall}
+use Rattle.desk_call.specs.declared.update.UpdateCall.TheVariants.{Draw as DrawLayers, End}
+use Rattle.desk_call.specs.declared.window.WindowCall.{WindowCall}
+use Rattle.desk_call.specs.declared.window.WindowCall.TheVariants.{Find, Front, Info, VisibleRegion, UpdateRegion}
+
+-- the calls on windows that ask may come at any time
+abbrev pub window_standing : WindowCall → Standing
+window_standing (Find p) = Asks
+window_standing Front = Asks
+window_standing (Info s) = Asks
+window_standing (VisibleRegion s) = Asks
+window_standing (UpdateRegion s) = Asks
+window_standing _ = Changes
+
+-- layer draws and the end belong to the update of their window
+abbrev pub update_standing : UpdateCall → Standing
+update_standing (DrawLayers d) = Updates d.window
+update_standing (End s) = Updates s
+update_standing _ = Changes
+
+-- when a call may come
+abbrev pub standing_of : Call → Standing
+standing_of (Window call) = window_standing call
+standing_of (Update call) = update_standing call
+
+-- why a call of a standing may not come while this is open
+abbrev pub gate : Activity → Standing → Option Refusal
+gate activity Asks = None
+gate Idle Changes = None
+gate (Updating s) Changes = Some Busy
+gate Idle (Updates t) = Some NotBusy
+gate (Updating s) (Updates t) = if s == t then None else Some NotBusy

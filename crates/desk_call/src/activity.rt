@@ -1,0 +1,80 @@
+//! Which calls may come while something is open.
+ghost use Rattle.std.specs.Prelude.{◌≡◌, None, MatchResult, Some};
+ghost use Rattle.desk_call.specs.Gates.{gate, standing_of, window_standing, update_standing};
+
+use crate::{Call, UpdateCall, WindowCall};
+use tb_geom::Refusal;
+
+/// What is open between its begin and its end. At most one thing is.
+#[derive(Clone, Copy, PartialEq, Eq)]
+pub enum Activity {
+    /// Nothing is.
+    Idle,
+    /// The update of this window.
+    Updating(u64),
+}
+
+/// When a call may come.
+#[derive(Clone, Copy, PartialEq, Eq)]
+pub enum Standing {
+    /// It asks something, at any time.
+    Asks,
+    /// It goes on with the update of this window or ends it, while that is open.
+    Updates(u64),
+    /// It is any other, while nothing is open.
+    Changes,
+}
+
+impl Activity {
+    /// Whether a call of this standing may come. Busy where it has to wait until nothing is open, NotBusy
+    /// where what it goes on with is not open.
+    pub fn admit(self, standing: Standing) -> Result<(), Refusal>
+        ensures { MatchResult result (λ _. gate self standing ≡ None) (λ e. gate self standing ≡ Some e) }
+    {
+        match (self, standing) {
+            (_, Standing::Asks) => Ok(()),
+            (Activity::Idle, Standing::Changes) => Ok(()),
+            (Activity::Updating(_), Standing::Changes) => Err(Refusal::Busy),
+            (Activity::Updating(open), Standing::Updates(window)) if open == window => Ok(()),
+            (_, Standing::Updates(_)) => Err(Refusal::NotBusy),
+        }
+    }
+}
+
+impl Call<'_> {
+    /// When the call may come.
+    pub fn standing(&self) -> Standing
+        ensures { result ≡ standing_of self.now }
+    {
+        match self {
+            Call::Window(call) => call.standing(),
+            Call::Update(call) => call.standing(),
+        }
+    }
+}
+
+impl WindowCall<'_> {
+    /// When the call may come.
+    pub fn standing(&self) -> Standing
+        ensures { result ≡ window_standing self.now }
+    {
+        match self {
+            WindowCall::Find(_) | WindowCall::Front | WindowCall::Info(_) => Standing::Asks,
+            WindowCall::VisibleRegion(_) | WindowCall::UpdateRegion(_) => Standing::Asks,
+            _ => Standing::Changes,
+        }
+    }
+}
+
+impl UpdateCall<'_> {
+    /// When the call may come.
+    pub fn standing(&self) -> Standing
+        ensures { result ≡ update_standing self.now }
+    {
+        match self {
+            UpdateCall::Draw(draw) => Standing::Updates(draw.window),
+            UpdateCall::End(window) => Standing::Updates(*window),
+            _ => Standing::Changes,
+        }
+    }
+}

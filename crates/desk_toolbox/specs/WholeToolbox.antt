@@ -1,0 +1,23 @@
+-- What holds of a Toolbox and its stock between calls, and the state of its desk.
+use Rattle.std.specs.Prelude.{List}
+use Rattle.def_iface.specs.declared.taken.Taken.{Taken}
+use Rattle.def_iface.specs.Meaning.{Loan}
+use Rattle.def_iface.specs.Stocked.{SlotView}
+use Rattle.window_mgr.specs.Whole.{IsWholeManager}
+use Rattle.window_update.specs.DeskStates.{DeskState, IsWholeUpdates, desk_state}
+use Rattle.desk_toolbox.specs.declared.toolbox.Toolbox.{Toolbox}
+
+-- `loan` says what a definition that was taken means
+module _ {V : Type 0} {H : V → Type 0} (loan : Taken V H → Loan) where
+  -- a Toolbox and the slots of its stock, between calls: each of its managers is whole
+  pub record IsWholeToolbox (t : Toolbox V H) (slots : List SlotView) : Type 0 where
+    pub windows : IsWholeManager loan t.windows slots
+    pub updates : IsWholeUpdates t.windows t.updates
+
+  -- a Toolbox by itself: it is whole over some slots
+  pub record IsKeptToolbox (t : Toolbox V H) : Type 0 where
+    pub slots : List SlotView
+    pub whole : IsWholeToolbox t slots
+
+  abbrev pub toolbox_state : Toolbox V H → List SlotView → DeskState
+  toolbox_state t slots = desk_state loan t.windows t.updates slots

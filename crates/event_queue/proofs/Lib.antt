@@ -1,0 +1,3 @@
+-- Lemmas on the queue and on runs.
+pub mod QueueLemmas
+pub mod HistoryLemmas

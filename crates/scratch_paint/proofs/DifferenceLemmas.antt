@@ -1,0 +1,112 @@
+-- Counting the pixels that differ from the desk painted from nothing.
+use Rattle.std.proofs.Common.{◌≡◌, ℕ, ◌+◌, Bool, true, false, not, ◌&&◌, cond, inl, inr, List, [], ◌∷◌, map, sum, count_by, ℤ, pos, nat_abs, refl, sym, ap, ◌∙◌, arith}
+use Rattle.std.specs.Bool.{beq}
+use Rattle.std.specs.List.{range_with_len}
+use Rattle.std.proofs.lemmas.Bool.{cases_Bool}
+use Rattle.std.proofs.lemmas.List.FromFn.{sum_by-map-range_with_len_more}
+use Rattle.tb_geom.specs.declared.point.Point.{Point}
+use Rattle.tb_geom.specs.Rects.{between}
+use Rattle.bit_map.specs.Bits.{Bits, on_map, bit}
+use Rattle.region_bytes.specs.Edges.{differ}
+use Rattle.def_iface.specs.Desk.{on_screen}
+use Rattle.def_iface.specs.Scratch.{scratch}
+use Rattle.window_mgr.proofs.Arranged.{between-is_below}
+use Rattle.window_mgr.specs.FullDesk.{FullDesk, FullState, IsRightState, layered_desk}
+use Rattle.scratch_paint.specs.Paints.{IsPaintedDesk}
+use Rattle.scratch_paint.specs.Differences.{differs, row_differences, differences_of, difference_count}
+
+-- ---- a desk that is right
+
+alike : (b : Bool) → differ b b ≡ false
+alike true = refl
+alike false = refl
+
+nowhere : (s : FullState) → IsRightState s → (p : Point) → differs s p ≡ false
+nowhere s right p =
+    elim (cases_Bool (on_screen (layered_desk s.desk) p)) [
+      | inl on ↦ elim (cases_Bool (s.stale p)) [
+        | inl stale ↦ rw (on, stale) refl
+        | inr fresh ↦ rw (on, fresh, right.plain.right p on fresh) (alike (scratch (layered_desk s.desk) p))
+      ]
+      | inr off ↦ rw off refl
+    ]
+
+none_counted : {X : Type 0} (test : X → Bool) → ((x : X) → test x ≡ false) → (xs : List X) → count_by test xs ≡ 0
+none_counted test none [] = refl
+none_counted test none (x ∷ xs) = rw (none x) (none_counted test none xs)
+
+no_sum : (f : ℕ → ℕ) → ((n : ℕ) → f n ≡ 0) → (ns : List ℕ) → sum (map f ns) ≡ 0
+no_sum f none [] = refl
+no_sum f none (n ∷ ns) = rw (none n) (no_sum f none ns)
+
+pub none_differs : (s : FullState) → IsRightState s → difference_count s ≡ 0
+unfolding row_differences differences_of
+none_differs s right =
+    no_sum (row_differences s (nat_abs s.desk.width)) (λ v. none_counted (differs s) (nowhere s right) (map (λ h. record { h = pos h; v = pos v }) (range_with_len 0 (nat_abs s.desk.width))))
+    (range_with_len 0 (nat_abs s.desk.height))
+
+-- ---- pixel by pixel
+
+and_true : (b : Bool) → (b && true) ≡ b
+and_true true = refl
+and_true false = refl
+
+-- the pixels of a map that is as wide and high as the screen are the screen's
+pub on_its_screen : (desk : FullDesk) (m : Bits) → pos m.width ≡ desk.width → pos m.height ≡ desk.height → (p : Point) → on_screen (layered_desk desk) p ≡ on_map m p
+unfolding on_map
+on_its_screen desk m wide high p =
+    (λ i. between (pos 0) p.h (sym wide i) && between (pos 0) p.v (sym high i))
+    ∙ (λ i. between-is_below m.width p.h i && between-is_below m.height p.v i)
+
+-- a pixel of one such map is one of another
+pub on_both : (desk : FullDesk) (m screen : Bits) → IsPaintedDesk desk m → pos screen.width ≡ desk.width → pos screen.height ≡ desk.height → (p : Point) → on_map m p ≡ true → on_map screen p ≡ true
+on_both desk m screen painted wide high p on =
+    sym (on_its_screen desk screen wide high p) ∙ on_its_screen desk m painted.wide painted.high p ∙ on
+
+unlike : (a b : Bool) → not (beq a b) ≡ true → differ a b ≡ true
+unlike true true e = absurd (cc)
+unlike true false e = refl
+unlike false true e = refl
+unlike false false e = absurd (cc)
+
+-- a pixel whose bits in two maps are those of the screen and of the desk painted from nothing
+module _ (s : FullState) (m : Bits) (p : Point) (painted : IsPaintedDesk s.desk m) (on : on_map m p ≡ true) where
+  there : on_screen (layered_desk s.desk) p ≡ true
+  there = on_its_screen s.desk m painted.wide painted.high p ∙ on
+
+  differs_where : differs s p ≡ (not (s.stale p) && differ (s.image p) (bit m p))
+  differs_where = rw (there, painted.pixels p there) refl
+
+  -- where the two bits are not the same
+  pub differs_if : (a b stale : Bool) → a ≡ s.image p → b ≡ bit m p → not (beq a b) ≡ true → stale ≡ s.stale p → not stale ≡ differs s p
+  differs_if a b stale shown scratched unlikely is =
+      let yes : differ (s.image p) (bit m p) ≡ true = sym (λ i. differ (shown i) (scratched i)) ∙ unlike a b unlikely in
+      ap not is ∙ sym (and_true (not (s.stale p))) ∙ ap (λ y. not (s.stale p) && y) (sym yes) ∙ sym differs_where
+
+-- one pixel more
+row_more : (s : FullState) (v h : ℕ) → row_differences s (h + 1) v ≡ row_differences s h v + cond (differs s (record { h = pos h; v = pos v })) 1 0
+unfolding row_differences
+row_more s v h = sum_by-map-range_with_len_more (λ p. cond (differs s p) 1 0) (λ n. record { h = pos n; v = pos v }) 0 h h (omega arith)
+
+pub counted_pixel : (s : FullState) (row column n new : ℕ) (result : Bool) (h v : ℤ) → n ≡ row_differences s column row → result ≡ differs s (record { h = h; v = v })
+    → h ≡ pos column → v ≡ pos row → new ≡ n + cond result 1 0 → new ≡ row_differences s (column + 1) row
+counted_pixel s row column n new result h v counted is at below more =
+    more ∙ ap (λ k. k + cond result 1 0) counted
+    ∙ ap (λ b. row_differences s column row + cond b 1 0) (is ∙ (λ i. differs s (record { h = at i; v = below i })))
+    ∙ sym (row_more s row column)
+
+pub row_start : (s : FullState) (v : ℕ) → row_differences s 0 v ≡ 0
+unfolding row_differences
+row_start s v = refl
+
+-- one row more
+rows_more : (s : FullState) (width v : ℕ) → differences_of s width (v + 1) ≡ differences_of s width v + row_differences s width v
+unfolding differences_of
+rows_more s width v = sum_by-map-range_with_len_more (λ n. n) (row_differences s width) 0 v v (omega arith)
+
+pub counted_row : (s : FullState) (width row n more : ℕ) → n ≡ differences_of s width row → more ≡ row_differences s width row → n + more ≡ differences_of s width (row + 1)
+counted_row s width row n more counted is = (λ i. counted i + is i) ∙ sym (rows_more s width row)
+
+pub rows_start : (s : FullState) (width : ℕ) → differences_of s width 0 ≡ 0
+unfolding differences_of
+rows_start s width = refl

@@ -1,0 +1,108 @@
+-- A window all of whose visible content is to be redrawn.
+use Rattle.std.proofs.Common.{◌≡◌, ℕ, zero, suc, ◌==◌, ◌&&◌, ◌||◌, Bool, true, false, List, [], ◌∷◌, map, set, None, Some, refl, sym, ap, ◌∙◌, subst}
+use Rattle.std.specs.Prelude.{slice_get}
+use Rattle.std.proofs.lemmas.Bool.{eqb-true, and_parts}
+use Rattle.tb_geom.specs.declared.point.Point.{Point}
+use Rattle.tb_geom.specs.Points.{PixelSet}
+use Rattle.tb_geom.specs.Pixels.{holds}
+use Rattle.def_iface.specs.Desk as layers
+use Rattle.def_iface.specs.Desk.{LayeredDesk}
+use Rattle.def_iface.specs.Owner.{Owner, owner}
+use Rattle.def_iface.specs.Owner.Owner.{Desktop, Bar, Frame, Content}
+use Rattle.def_iface.proofs.Owning.{not_first}
+use Rattle.vis_update.specs.declared.area.Area.{Area}
+use Rattle.vis_update.specs.Records.{WindowRecord, layered_window}
+use Rattle.vis_update.specs.Areas.{stale_in, IsArea, AreAreas, is_content_of}
+use Rattle.window_mgr.proofs.FindLemmas.{not_among}
+
+-- the area, all of whose visible content is to be redrawn
+abbrev pub marked : Area → Area
+marked a = record a { update = a.visible }
+
+-- those pixels are stale too
+module _ (desk : LayeredDesk) (s : ℕ) (a : Area) where
+  abbrev pub stale_more : PixelSet → PixelSet
+  stale_more stale p = holds a.visible p || stale p
+
+  -- ---- what is stale
+
+  any_marked : (stale : PixelSet) → IsArea desk stale s a → (areas : List Area) (i : ℕ) → slice_get areas i ≡ Some a → (p : Point) → stale_in (set areas i (marked a)) p ≡ stale_more (stale_in areas) p
+  any_marked stale its [] i there p = absurd (cc)
+  any_marked stale its (b ∷ areas) zero there p =
+      let same : b ≡ a = cc in
+      by_test (holds a.visible p) (holds a.update p) (stale p) (stale_in areas p) (its.update p) ∙ ap (λ (c : Area). holds a.visible p || (holds c.update p || stale_in areas p)) (sym same)
+    where
+      by_test : (v u x rest : Bool) → u ≡ (v && x) → (v || rest) ≡ (v || (u || rest))
+      by_test true u x rest e = refl
+      by_test false u x rest e = ap (λ c. c || rest) (sym e)
+  any_marked stale its (b ∷ areas) (suc i) there p =
+      ap (λ c. holds b.update p || c) (any_marked stale its areas i there p) ∙ turned (holds b.update p) (holds a.visible p) (stale_in areas p)
+    where
+      turned : (b v rest : Bool) → (b || (v || rest)) ≡ (v || (b || rest))
+      turned true true rest = refl
+      turned true false rest = refl
+      turned false v rest = refl
+
+  pub stale_marked : (stale : PixelSet) → IsArea desk stale s a → (areas : List Area) (i : ℕ) → slice_get areas i ≡ Some a → stale_more (stale_in areas) ≡ stale_in (set areas i (marked a))
+  stale_marked stale its areas i there = λ k p. sym (any_marked stale its areas i there p) k
+
+  -- ---- the areas
+
+  module _ (stale : PixelSet) (its : IsArea desk stale s a) where
+    -- no pixel is content of two windows
+    apart : (t : ℕ) (o : Owner) → is_content_of t o ≡ true → (t == s) ≡ false → is_content_of s o ≡ false
+    apart t Desktop e other = refl
+    apart t Bar e other = refl
+    apart t (Frame n) e other = refl
+    apart t (Content n part) e other = ap (λ m. m == s) (eqb-true n t e) ∙ other
+
+    -- the area of another window has none of them
+    another : (t : ℕ) (b : Area) → (t == s) ≡ false → IsArea desk stale t b → IsArea desk (stale_more stale) t b
+    another t b other it = record {
+      visible = it.visible;
+      update = λ p. it.update p ∙ by_visible p (holds b.visible p) refl;
+      frame = it.frame;
+    }
+      where
+        by_visible : (p : Point) (v : Bool) → holds b.visible p ≡ v → (v && stale p) ≡ (v && stale_more stale p)
+        by_visible p false e = refl
+        by_visible p true e =
+            let here = and_parts (layers.on_screen desk p) (is_content_of t (owner desk p)) (sym (it.visible p) ∙ e) in
+            sym (ap (λ c. c || stale p) (its.visible p ∙ ap (λ c. layers.on_screen desk p && c) (apart t (owner desk p) here.1 other) ∙ and_false (layers.on_screen desk p)))
+          where
+            and_false : (c : Bool) → (c && false) ≡ false
+            and_false true = refl
+            and_false false = refl
+
+    others_marked : (font : List ℕ) (ws : List WindowRecord) (areas : List Area) → layers.window_of s (map (layered_window font) ws) ≡ None → AreAreas desk stale ws areas → AreAreas desk (stale_more stale) ws areas
+    others_marked font [] [] none are = tt
+    others_marked font (w ∷ ws) (b ∷ areas) none are =
+        let first = not_first (w.serial == s) (layered_window font w) (layers.window_of s (map (layered_window font) ws)) none in
+        (another w.serial b first.0 are.0, others_marked font ws areas first.1 are.1)
+    others_marked font [] (b ∷ areas) none are = absurd are
+    others_marked font (w ∷ ws) [] none are = absurd are
+
+    own_marked : IsArea desk (stale_more stale) s (marked a)
+    own_marked = record {
+      visible = its.visible;
+      update = λ p. by_test (holds a.visible p) (stale p);
+      frame = its.frame;
+    }
+      where
+        by_test : (v x : Bool) → v ≡ (v && (v || x))
+        by_test true x = refl
+        by_test false x = refl
+
+    pub areas_marked : (font : List ℕ) (ws : List WindowRecord) (areas : List Area) (i : ℕ) (w : WindowRecord) → layers.AreWindows (map (layered_window font) ws) → slice_get ws i ≡ Some w → w.serial ≡ s → slice_get areas i ≡ Some a
+        → AreAreas desk stale ws areas → AreAreas desk (stale_more stale) ws (set areas i (marked a))
+    areas_marked font [] areas i w distinct here number there are = absurd (cc)
+    areas_marked font (v ∷ ws) [] i w distinct here number there are = absurd are
+    areas_marked font (v ∷ ws) (b ∷ areas) zero w distinct here number there are =
+        let same : v ≡ w = cc in
+        let serial : v.serial ≡ s = ap (λ (x : WindowRecord). x.serial) same ∙ number in (
+          subst (λ n. IsArea desk (stale_more stale) n (marked a)) (sym serial) own_marked,
+          others_marked font ws areas (subst (λ n. layers.window_of n (map (layered_window font) ws) ≡ None) serial distinct.0) are.1,
+        )
+    areas_marked font (v ∷ ws) (b ∷ areas) (suc i) w distinct here number there are =
+        let other : (v.serial == w.serial) ≡ false = not_among font v.serial ws i w distinct.0 here in
+        (another v.serial b (ap (λ n. v.serial == n) (sym number) ∙ other) are.0, areas_marked font ws areas i w distinct.1.1 here number there are.1)

@@ -1,0 +1,28 @@
+-- Why a call is refused for its names and bytes alone.
+use Rattle.std.proofs.Common.{◌≡◌, inl, inr, true, false, Some, None, refl, sym, ap, ◌∙◌, subst}
+use Rattle.tb_geom.specs.declared.refusal.Refusal.{Refusal}
+use Rattle.tb_geom.specs.declared.refusal.Refusal.TheVariants.{BadSyntax, BadRegion, OutOfRange, TooLong}
+use Rattle.op_ref.specs.OpRefs.{IsGood, IsRefused}
+use Rattle.desk_call.specs.declared.window.Drawing.{Drawing}
+use Rattle.desk_call.specs.declared.window.WindowCall.TheVariants.{Draw}
+use Rattle.window_mgr.specs.FullDesk.{FullDesk}
+use Rattle.window_mgr.specs.Refused.{IsFormRefusal, is_formal}
+
+module _ (d : Drawing) (desk : FullDesk) where
+  -- an operation that is good waits for its turn
+  pub good : IsGood d.operation → IsFormRefusal (Draw d) desk None
+  good its = (None, its, refl)
+
+  -- bytes that have not their form are refused at once
+  pub formal : (e : Refusal) → IsRefused d.operation e → is_formal e ≡ true → IsFormRefusal (Draw d) desk (Some e)
+  formal e (inl (is, rows)) f = subst (λ x. IsFormRefusal (Draw d) desk (Some x)) (sym is) (Some BadSyntax, inl (refl, rows), refl)
+  formal e (inr (inl (is, bad))) f = subst (λ x. IsFormRefusal (Draw d) desk (Some x)) (sym is) (Some BadRegion, inr (inl (refl, bad)), refl)
+  formal e (inr (inr (inl (is, far)))) f = let two : is_formal OutOfRange ≡ true = sym (ap is_formal is) ∙ f in absurd (cc)
+  formal e (inr (inr (inr (is, long)))) f = let two : is_formal TooLong ≡ true = sym (ap is_formal is) ∙ f in absurd (cc)
+
+  -- other refusals wait for their turn
+  pub waits : (e : Refusal) → IsRefused d.operation e → is_formal e ≡ false → IsFormRefusal (Draw d) desk None
+  waits e (inl (is, rows)) f = let two : is_formal BadSyntax ≡ false = sym (ap is_formal is) ∙ f in absurd (cc)
+  waits e (inr (inl (is, bad))) f = let two : is_formal BadRegion ≡ false = sym (ap is_formal is) ∙ f in absurd (cc)
+  waits e (inr (inr (inl (is, far)))) f = (Some OutOfRange, inr (inr (inl (refl, far))), refl)
+  waits e (inr (inr (inr (is, long)))) f = (Some TooLong, inr (inr (inr (refl, long))), refl)

@@ -1,0 +1,191 @@
+-- What a call does to pixels that changes or draws the update region of one window.
+use Rattle.std.proofs.Common.{◌≡◌, ℕ, ◌&&◌, ◌||◌, not, Bool, true, false, if◌then◌else◌, List, refl, sym, ap, ◌∙◌, subst}
+use Rattle.std.proofs.lemmas.Bool.{false≢true}
+use Rattle.tb_geom.specs.declared.point.Point.{Point}
+use Rattle.tb_geom.specs.Pixels.{Pixels, holds}
+use Rattle.def_iface.specs.declared.taken.Taken.{Taken}
+use Rattle.def_iface.specs.Meaning.{Loan}
+use Rattle.def_iface.specs.Stocked.{SlotView}
+use Rattle.def_iface.specs.Desk as layers
+use Rattle.def_iface.specs.Desk.{LayeredDesk}
+use Rattle.def_iface.specs.Owner.{Owner, owner, is_content}
+use Rattle.def_iface.specs.Scratch.{scratch}
+use Rattle.def_iface.specs.Change as plain
+use Rattle.def_iface.proofs.Changing.{stays_right}
+use Rattle.def_iface.proofs.Owning.{same_owner-self}
+use Rattle.def_iface.proofs.Painting.{scratch_is_owners}
+use Rattle.vis_update.specs.Areas.{is_content_of, stale_in}
+use Rattle.window_mgr.specs.declared.manager.WindowManager.{WindowManager}
+use Rattle.window_mgr.specs.FullDesk.{FullDesk, FullState, IsRightState, AreNumbered, layered_desk, layered_state}
+use Rattle.window_mgr.specs.Records.{desk_of, state_of}
+use Rattle.window_mgr.specs.Updating.{IsRemarked, IsRefreshed, refresh_change}
+use Rattle.window_mgr.specs.Whole.{IsWholeManager, AreFramesShown}
+use Rattle.window_mgr.proofs.Repicturing.{no_content, not_stale}
+use Rattle.window_mgr.proofs.Remarked.{unless}
+
+-- a change of these pixels alone: they are put into the update sets, or taken out
+abbrev pub adding : (Owner → Point → Bool) → plain.Change
+adding these = record plain.no_change { added = these }
+
+abbrev pub taking : (Owner → Point → Bool) → plain.Change
+taking these = record plain.no_change { taken = these }
+
+-- ---- a desk that stays as it is
+
+-- a sound change that leaves the desk keeps a right state right
+same_desk_stays_right : (c : plain.Change) (before after : FullState) → after.desk ≡ before.desk → IsRightState before → plain.IsSound c (layered_state before) (layered_desk before.desk) → plain.IsChanged c (layered_state before) (layered_state after) → IsRightState after
+same_desk_stays_right c before after same right sound changed = record {
+  plain = stays_right c (layered_state before) (layered_state after) right.plain (subst (plain.IsSound c (layered_state before)) (sym (ap layered_desk same)) sound) changed;
+  numbered = subst (λ (d : FullDesk). AreNumbered d.next d.windows) (sym same) right.numbered;
+}
+
+module _ (before : FullState) (distinct : layers.IsDesk (layered_desk before.desk)) where
+  abbrev desk : LayeredDesk
+  desk = layered_desk before.desk
+
+  pub refreshed_is_sound : (s : ℕ) → plain.IsSound (refresh_change s before) (layered_state before) desk
+  refreshed_is_sound s = record { desk = distinct; kept = λ p on content afresh taken put drawn there. refl; right = λ p on taken. absurd (false≢true taken) }
+
+  pub added_is_sound : (these : Owner → Point → Bool) → plain.IsSound (adding these) (layered_state before) desk
+  added_is_sound these = record { desk = distinct; kept = λ p on content afresh taken put drawn there. refl; right = λ p on taken. absurd (false≢true taken) }
+
+  pub taken_is_sound : (these : Owner → Point → Bool) → ((p : Point) → layers.on_screen desk p ≡ true → these (owner desk p) p ≡ true → before.image p ≡ scratch desk p) → plain.IsSound (taking these) (layered_state before) desk
+  taken_is_sound these shown = record {
+    desk = distinct;
+    kept = λ p on content afresh taken put drawn there. refl;
+    right = λ p on taken. by_content p on (shown p on taken) (is_content (owner desk p)) refl;
+  }
+    where
+      by_content : (p : Point) → layers.on_screen desk p ≡ true → before.image p ≡ scratch desk p → (b : Bool) → is_content (owner desk p) ≡ b → plain.image_by (taking these) (layered_state before) desk (owner desk p) p ≡ scratch desk p
+      by_content p on is false c = unless (is_content (owner desk p)) (scratch desk p) _ c
+      by_content p on is true c = (λ i. if not (c i) then scratch desk p else (if not (on i && same_owner-self (owner desk p) i) then false else before.image p)) ∙ is
+
+-- ---- a right state stays right
+
+-- where what was stale of a window's picture was drawn
+pub refreshed_stays_right : (s : ℕ) (before after : FullState) → IsRightState before → IsRefreshed s before after → IsRightState after
+refreshed_stays_right s before after right done = same_desk_stays_right (refresh_change s before) before after done.desk right (refreshed_is_sound before right.plain.desk s) done.pixels
+
+-- where pixels were put into update sets
+pub added_stays_right : (these : Owner → Point → Bool) (before after : FullState) → after.desk ≡ before.desk → plain.IsChanged (adding these) (layered_state before) (layered_state after) → IsRightState before → IsRightState after
+added_stays_right these before after same changed right = same_desk_stays_right (adding these) before after same right (added_is_sound before right.plain.desk these) changed
+
+-- where pixels were taken out that are right
+pub taken_stays_right : (these : Owner → Point → Bool) (before after : FullState) → after.desk ≡ before.desk → plain.IsChanged (taking these) (layered_state before) (layered_state after)
+    → ((p : Point) → layers.on_screen (layered_desk before.desk) p ≡ true → these (owner (layered_desk before.desk) p) p ≡ true → before.image p ≡ scratch (layered_desk before.desk) p)
+    → IsRightState before → IsRightState after
+taken_stays_right these before after same changed shown right = same_desk_stays_right (taking these) before after same right (taken_is_sound before right.plain.desk these shown) changed
+
+-- ---- the update region of a window, made another
+
+-- frames are shown, and only content is stale
+record IsOrdered (before : FullState) : Type 0 where
+  distinct : layers.IsDesk (layered_desk before.desk)
+  frames : AreFramesShown before
+  fresh : (p : Point) → layers.on_screen (layered_desk before.desk) p ≡ true → is_content (owner (layered_desk before.desk) p) ≡ false → before.stale p ≡ false
+
+ordered : {V : Type 0} {H : V → Type 0} (loan : Taken V H → Loan) (t : WindowManager V H) (slots : List SlotView) → IsWholeManager loan t slots → IsOrdered (state_of loan t slots)
+ordered loan t slots whole = record {
+  distinct = whole.sound.distinct;
+  frames = whole.frames;
+  fresh = λ p on c. not_stale (layered_desk (desk_of loan t slots)) (stale_in t.areas.items) (desk_of loan t slots).windows t.areas.items p whole.areas c;
+}
+
+module _ (s : ℕ) (update : Pixels) (before after : FullState) (is : IsOrdered before) (done : IsRemarked s update before after) where
+  abbrev was : LayeredDesk
+  was = layered_desk before.desk
+
+  -- the pixels of this window's content that the owner gives
+  abbrev OfContent : (Owner → Point → Bool) → Type 0
+  OfContent these = (o : Owner) (p : Point) → these o p ≡ true → is_content_of s o ≡ true
+
+  -- the region is this, where the window's content shows
+  abbrev IsRegion : (Point → Bool) → Type 0
+  IsRegion pixels = (p : Point) → layers.on_screen was p ≡ true → is_content_of s (owner was p) ≡ true → holds update p ≡ pixels p
+
+  -- a change that moves no pixel and draws on none leaves the image
+  image_stays : (c : plain.Change) → ((p : Point) → layers.on_screen was p ≡ true → before.image p ≡ plain.image_by c (layered_state before) was (owner was p) p)
+      → ((p : Point) → layers.on_screen was p ≡ true → after.stale p ≡ plain.stale_by c (layered_state before) (owner was p) p) → plain.IsChanged c (layered_state before) (layered_state after)
+  image_stays c image stale = record {
+    stale = subst (λ (k : LayeredDesk). (p : Point) → layers.on_screen k p ≡ true → after.stale p ≡ plain.stale_by c (layered_state before) (owner k p) p) (sym (ap layered_desk done.desk)) stale;
+    image = subst (λ (k : LayeredDesk). (p : Point) → layers.on_screen k p ≡ true → after.image p ≡ plain.image_by c (layered_state before) k (owner k p) p) (sym (ap layered_desk done.desk))
+        (λ p on. ap (λ f. f p) done.image ∙ image p on);
+  }
+
+  module _ (p : Point) (on : layers.on_screen was p ≡ true) where
+    abbrev its : Owner
+    its = owner was p
+
+    had_is : plain.had plain.no_change was its p ≡ true
+    had_is = λ i. on i && same_owner-self its i
+
+    frame_is : is_content its ≡ false → before.image p ≡ scratch was p
+    frame_is c = is.frames p on c ∙ sym (scratch_is_owners was p is.distinct)
+
+    image_is : (b : Bool) → is_content its ≡ b → before.image p ≡ (if not (is_content its) then scratch was p else (if not (plain.had plain.no_change was its p) then false else before.image p))
+    image_is false c = frame_is c ∙ sym (unless (is_content its) (scratch was p) _ c)
+    image_is true c = sym (λ i. if not (c i) then scratch was p else (if not (had_is i) then false else before.image p))
+
+    -- outside content nothing is stale
+    stays_fresh : is_content its ≡ false → after.stale p ≡ false
+    stays_fresh c = done.stale p on ∙ (λ i. if no_content s its c i then holds update p else before.stale p) ∙ is.fresh p on c
+
+    -- none of these pixels is another's
+    away : (these : Owner → Point → Bool) → OfContent these → is_content_of s its ≡ false → these its p ≡ false
+    away these of other = by_test (these its p) refl
+      where
+        by_test : (b : Bool) → these its p ≡ b → b ≡ false
+        by_test true e = absurd (false≢true (sym other ∙ of its p e))
+        by_test false e = refl
+
+    added_is : (these : Owner → Point → Bool) → OfContent these → IsRegion (λ q. before.stale q || these (owner was q) q) → (b : Bool) → is_content its ≡ b → after.stale p ≡ plain.stale_by (adding these) (layered_state before) its p
+    added_is these of region false c = stays_fresh c ∙ sym (unless (is_content its) false _ c)
+    added_is these of region true c =
+        done.stale p on
+        ∙ by_window (is_content_of s its) refl
+        ∙ sym (λ i. if not (c i) then false else (if these its p then true else (if had_is i then before.stale p else true)))
+      where
+        either : (old now : Bool) → (old || now) ≡ (if now then true else old)
+        either true true = refl
+        either true false = refl
+        either false true = refl
+        either false false = refl
+
+        by_window : (m : Bool) → is_content_of s its ≡ m → (if is_content_of s its then holds update p else before.stale p) ≡ (if these its p then true else before.stale p)
+        by_window true e = (λ i. if e i then holds update p else before.stale p) ∙ region p on e ∙ either (before.stale p) (these its p)
+        by_window false e = (λ i. if e i then holds update p else before.stale p) ∙ sym (ap (λ b. if b then true else before.stale p) (away these of e))
+
+    taken_is : (these : Owner → Point → Bool) → OfContent these → IsRegion (λ q. before.stale q && not (these (owner was q) q)) → (b : Bool) → is_content its ≡ b → after.stale p ≡ plain.stale_by (taking these) (layered_state before) its p
+    taken_is these of region false c = stays_fresh c ∙ sym (unless (is_content its) false _ c)
+    taken_is these of region true c =
+        done.stale p on
+        ∙ by_window (is_content_of s its) refl
+        ∙ sym (λ i. if not (c i) then false else (if these its p then false else (if had_is i then before.stale p else true)))
+      where
+        without : (old now : Bool) → (old && not now) ≡ (if now then false else old)
+        without true true = refl
+        without true false = refl
+        without false true = refl
+        without false false = refl
+
+        by_window : (m : Bool) → is_content_of s its ≡ m → (if is_content_of s its then holds update p else before.stale p) ≡ (if these its p then false else before.stale p)
+        by_window true e = (λ i. if e i then holds update p else before.stale p) ∙ region p on e ∙ without (before.stale p) (these its p)
+        by_window false e = (λ i. if e i then holds update p else before.stale p) ∙ sym (ap (λ b. if b then false else before.stale p) (away these of e))
+
+module _ {V : Type 0} {H : V → Type 0} (loan : Taken V H → Loan) (t : WindowManager V H) (slots : List SlotView) (whole : IsWholeManager loan t slots) (s : ℕ) (update : Pixels) (after : FullState) (done : IsRemarked s update (state_of loan t slots) after) (these : Owner → Point → Bool) (of : (o : Owner) (p : Point) → these o p ≡ true → is_content_of s o ≡ true) where
+  abbrev now : LayeredDesk
+  now = layered_desk (desk_of loan t slots)
+
+  -- pixels of the window's content were put into its update region
+  pub added_is_changed : ((p : Point) → layers.on_screen now p ≡ true → is_content_of s (owner now p) ≡ true → holds update p ≡ (stale_in t.areas.items p || these (owner now p) p)) → plain.IsChanged (adding these) (layered_state (state_of loan t slots)) (layered_state after)
+  added_is_changed region =
+      let is = ordered loan t slots whole in
+      image_stays s update (state_of loan t slots) after is done (adding these) (λ p on. image_is s update (state_of loan t slots) after is done p on (is_content (owner now p)) refl)
+      (λ p on. added_is s update (state_of loan t slots) after is done p on these of region (is_content (owner now p)) refl)
+
+  -- pixels of the window's content were taken out of its update region
+  pub taken_is_changed : ((p : Point) → layers.on_screen now p ≡ true → is_content_of s (owner now p) ≡ true → holds update p ≡ (stale_in t.areas.items p && not (these (owner now p) p))) → plain.IsChanged (taking these) (layered_state (state_of loan t slots)) (layered_state after)
+  taken_is_changed region =
+      let is = ordered loan t slots whole in
+      image_stays s update (state_of loan t slots) after is done (taking these) (λ p on. image_is s update (state_of loan t slots) after is done p on (is_content (owner now p)) refl)
+      (λ p on. taken_is s update (state_of loan t slots) after is done p on these of region (is_content (owner now p)) refl)

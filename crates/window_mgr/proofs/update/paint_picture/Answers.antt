@@ -1,0 +1,15 @@
+use Rattle.std.proofs.Common.{◌∙◌, refl, ap, rules}
+use Rattle.tb_geom.specs.Points.{minus}
+use Rattle.draw_port.specs.Ops.{picture_bit}
+use Rattle.window_mgr.proofs.DrawLemmas.{plus_is_near, minus_twice}
+use Rattle.window_mgr.proofs.PictureLemmas.{painted_within}
+use Rattle.window_mgr.proofs.update.paint_picture.Goals as goal
+
+pub invariant_of-canvas : goal.invariant_of-canvas
+invariant_of-canvas g c = record { near = rw c.picture_place.ensures (plus_is_near c.args.window.now.place c.args.window.now.origin c.requires.placed c.requires.origin) }
+
+pub returns : goal.returns
+returns g c =
+    painted_within c.args.region c.args.region.now c.bbox-clip.result _ _ c.args.map.now c.paint_picture.new.self.map.now _ refl (search rules) (λ p e. c.bbox-clip.ensures.exact.holds p e)
+    (λ p. ap (picture_bit c.args.font.now c.args.window.now.picture) (ap (minus p) c.picture_place.ensures ∙ minus_twice p c.args.window.now.place c.args.window.now.origin))
+    c.paint_picture.ensures.drawn

@@ -1,0 +1,40 @@
+-- The update region of one window: another set of pixels, or drawn.
+use Rattle.std.specs.Prelude.{◌≡◌, ℕ, Bool, true, ◌&&◌, if◌then◌else◌, List}
+use Rattle.tb_geom.specs.declared.point.Point.{Point}
+use Rattle.tb_geom.specs.Pixels.{Pixels, holds}
+use Rattle.def_iface.specs.declared.taken.Taken.{Taken}
+use Rattle.def_iface.specs.Meaning.{Loan}
+use Rattle.def_iface.specs.Stocked.{SlotView}
+use Rattle.def_iface.specs.Desk.{on_screen}
+use Rattle.def_iface.specs.Desk.Part.{Picture}
+use Rattle.def_iface.specs.Owner.{owner, same_owner}
+use Rattle.def_iface.specs.Owner.Owner.{Content}
+use Rattle.def_iface.specs.Change.{Change, no_change, IsChanged}
+use Rattle.vis_update.specs.Areas.{is_content_of}
+use Rattle.window_mgr.specs.declared.manager.WindowManager.{WindowManager}
+use Rattle.window_mgr.specs.FullDesk.{FullState, layered_desk, layered_state}
+use Rattle.window_mgr.specs.Records.{state_of}
+use Rattle.window_mgr.specs.Whole.{IsWholeManager}
+
+-- of the window of this serial just these pixels are to be redrawn; all else is as it was
+pub record IsRemarked (s : ℕ) (update : Pixels) (before after : FullState) : Type 0 where
+  pub desk : after.desk ≡ before.desk
+  pub image : after.image ≡ before.image
+  pub stale : (p : Point) → on_screen (layered_desk before.desk) p ≡ true
+      → after.stale p ≡ (if is_content_of s (owner (layered_desk before.desk) p) then holds update p else before.stale p)
+
+-- the change of a call that draws what is stale of the picture of this window
+abbrev pub refresh_change : ℕ → FullState → Change
+refresh_change s before = record no_change { afresh = λ o p. same_owner o (Content s Picture) && before.stale p }
+
+-- what was stale of the window's picture was drawn
+pub record IsRefreshed (s : ℕ) (before after : FullState) : Type 0 where
+  pub desk : after.desk ≡ before.desk
+  pub pixels : IsChanged (refresh_change s before) (layered_state before) (layered_state after)
+
+-- `loan` says what a definition that was taken means
+module _ {V : Type 0} {H : V → Type 0} (loan : Taken V H → Loan) where
+  -- over any slots over which the window manager is whole it is whole afterwards, and its state is such a one
+  abbrev pub LeavesState : (FullState → FullState → Type 0) → WindowManager V H → WindowManager V H → Type 0
+  LeavesState after old new = (slots : List SlotView) → IsWholeManager loan old slots
+      → IsWholeManager loan new slots × after (state_of loan old slots) (state_of loan new slots)

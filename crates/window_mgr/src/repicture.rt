@@ -1,0 +1,84 @@
+//! The calls that change which picture a window shows, and where.
+ghost use Rattle.std.specs.Prelude.{◌≡◌, true, false, IfNone, IfSome, OnOk, OnErr};
+ghost use Rattle.tb_geom.specs.Points.{plus};
+ghost use Rattle.tb_geom.specs.Rects.{in_plane};
+ghost use Rattle.desk_call.specs.declared.window.WindowCall.TheVariants as asks;
+ghost use Rattle.window_mgr.specs.AnySlots.{IsStepOverAnySlots};
+ghost use Rattle.window_mgr.specs.Edits.{StandsAt};
+ghost use Rattle.window_mgr.specs.Kept.{IsKept};
+ghost use Rattle.window_mgr.specs.Planned.{SameDesk, IsPictureAt};
+
+use crate::arrange::{Activates, Edit};
+use crate::{NewPicture, ScrollPicture, WindowManager, WindowReply};
+use def_iface::{Defined, Taken};
+use std::alloc::AllocError;
+use tb_geom::{Point, Refusal};
+
+impl WindowManager {
+    /// Gives a window another picture, all of which is to be redrawn where it shows.
+    pub(crate) fn set_picture(&mut self, new: &NewPicture<'_>) -> Result<WindowReply, Refusal>
+        requires { IsKept ⟦<Taken as Defined>⟧.loan self.old }
+        ensures { IsStepOverAnySlots ⟦<Taken as Defined>⟧.loan (asks.SetPicture new.now) result self.old self.new }
+    {
+        let Some(at) = self.find(new.window) else {
+            return Err(Refusal::NoSuchWindow);
+        };
+        if !new.origin.is_in_range() {
+            return Err(Refusal::OutOfRange);
+        }
+        match self.replace_picture(at, new) {
+            Ok(()) => Ok(WindowReply::Done),
+            Err(AllocError) => Err(Refusal::NoMemory),
+        }
+    }
+
+    /// Gives the window at this place another picture. Where there is no memory the desk stays as it was.
+    fn replace_picture(&mut self, at: usize, new: &NewPicture<'_>) -> Result<(), AllocError>
+        requires kept { IsKept ⟦<Taken as Defined>⟧.loan self.old }
+        requires at { StandsAt self.old.windows.records.items new.now.window at }
+        ensures set { OnOk result (IsPictureAt at new.now self.old self.new) }
+        ensures same { OnErr result (SameDesk self.old self.new) }
+    {
+        let picture = new.picture.copy(self.alloc)?;
+        let update = self.areas[at].visible.copy(self.alloc)?;
+        self.windows.set_picture(at, picture, new.origin);
+        self.areas[at].update = update;
+        Ok(())
+    }
+
+    /// Moves a window's picture in its content. What comes into sight of it is to be redrawn.
+    pub(crate) fn scroll(&mut self, scroll: ScrollPicture) -> Result<WindowReply, Refusal>
+        requires { IsKept ⟦<Taken as Defined>⟧.loan self.old }
+        ensures { IsStepOverAnySlots ⟦<Taken as Defined>⟧.loan (asks.Scroll scroll) result self.old self.new }
+    {
+        let Some(at) = self.find(scroll.window) else {
+            return Err(Refusal::NoSuchWindow);
+        };
+        let found = self.windows.at(at);
+        let Some(origin) = moved_origin(found.origin, scroll.by) else {
+            return Err(Refusal::OutOfRange);
+        };
+        let edit = Edit::of(at, found);
+        let Ok(answer) = self.rearrange(edit, Activates::Nothing, Some(scroll.by)) else {
+            return Err(Refusal::NoMemory);
+        };
+        self.windows.set_origin(at, origin);
+        Ok(answer)
+    }
+}
+
+/// The origin of a picture, moved; None where that is no point.
+fn moved_origin(origin: Point, by: Point) -> Option<Point>
+    ensures none { IfNone result (in_plane (plus origin by) ≡ false) }
+    ensures some { IfSome result (λ p. (p ≡ plus origin by) × (in_plane p ≡ true)) }
+{
+    let moved = Point {
+        h: origin.h.checked_add(by.h)?,
+        v: origin.v.checked_add(by.v)?,
+    };
+    if moved.is_in_range() {
+        Some(moved)
+    } else {
+        None
+    }
+}

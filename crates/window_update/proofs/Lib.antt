@@ -1,0 +1,8 @@
+-- Lemmas on areas and marks, on the pixels that are right, on the steps of updates, and the law that they keep a right state right.
+pub mod AreaLemmas
+pub mod RightLemmas
+pub mod MarkLemmas
+pub mod ServeLemmas
+pub mod Judging
+pub mod StepLemmas
+pub mod UpdateLaws

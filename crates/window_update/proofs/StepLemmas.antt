@@ -1,0 +1,187 @@
+-- The steps of marks, and of an update.
+use Rattle.std.proofs.Common.{◌≡◌, ◌⊎◌, inl, inr, ℕ, ◌<◌, Bool, true, false, not, ◌&&◌, ◌||◌, if◌then◌else◌, List, [], ◌∷◌, length, map, Option, None, Some, Result, Ok, Err, pos, refl, sym, ap, ◌∙◌, subst}
+use Rattle.std.specs.Prelude.{slice_index_or, is_none, nat_abs}
+use Rattle.std.proofs.lemmas.Bool.{and_parts}
+use Rattle.tb_geom.specs.declared.point.Point.{Point}
+use Rattle.tb_geom.specs.declared.refusal.Refusal.{Refusal}
+use Rattle.tb_geom.specs.declared.refusal.Refusal.TheVariants.{NoMemory, NoSuchWindow, StalePixels}
+use Rattle.tb_geom.specs.Points.{PixelSet, plus, minus}
+use Rattle.tb_geom.specs.Pixels.{Pixels, holds}
+use Rattle.def_iface.specs.declared.taken.Taken.{Taken}
+use Rattle.def_iface.specs.Meaning.{Loan}
+use Rattle.def_iface.specs.Stocked.{SlotView}
+use Rattle.def_iface.specs.Desk as layers
+use Rattle.def_iface.specs.Owner.{Owner, owner}
+use Rattle.desk_call.specs.declared.update.UpdateCall.{UpdateCall}
+use Rattle.desk_call.specs.declared.update.UpdateCall.TheVariants as asks
+use Rattle.desk_call.specs.declared.update.WindowArea.{WindowArea}
+use Rattle.desk_call.specs.declared.window.WindowReply.{WindowReply}
+use Rattle.desk_call.specs.declared.window.WindowReply.TheVariants.{Done}
+use Rattle.window_list.specs.declared.window.Window.{Window}
+use Rattle.vis_update.specs.declared.area.Area.{Area}
+use Rattle.vis_update.specs.Areas.{IsArea, stale_in, is_content_of}
+use Rattle.vis_update.specs.Records.{record_of}
+use Rattle.window_mgr.specs.declared.manager.WindowManager.{WindowManager}
+use Rattle.window_mgr.specs.Edits.{IsWindowAt, StandsAt}
+use Rattle.window_mgr.specs.Finding.{record_with}
+use Rattle.window_mgr.specs.FullDesk.{FullDesk, FullState, layered_desk}
+use Rattle.window_mgr.specs.Kept.{IsKept}
+use Rattle.window_mgr.specs.Records.{desk_of, state_of}
+use Rattle.window_mgr.specs.Updating.{LeavesState, IsRemarked}
+use Rattle.window_mgr.specs.Whole.{IsWholeManager}
+use Rattle.window_mgr.proofs.EditSeats.{there_is}
+use Rattle.window_mgr.proofs.KeptLemmas.{kept}
+use Rattle.window_mgr.proofs.TellLemmas as telling
+use Rattle.window_mgr.proofs.UpdateSteps.{added_is_changed, taken_is_changed}
+use Rattle.window_update.specs.declared.marking.Verdict.{Verdict}
+use Rattle.window_update.specs.declared.marking.Verdict.TheVariants.{Stale, Right}
+use Rattle.window_update.specs.declared.updates.Updates.{Updates}
+use Rattle.window_update.specs.DeskStates.{IsDeskUnchanged, desk_state, activity_of, begun_of}
+use Rattle.window_update.specs.Marks.{marked_by, IsUpdateAfter, IsMarkedBy}
+use Rattle.window_update.specs.Rightness.{IsJudgement}
+use Rattle.window_update.specs.Sets.{IsAreaOf, marked_in, on_place}
+use Rattle.window_update.specs.UpdateRefusals.{IsAreaRefusal, IsStaleRefusal, IsUpdateRefusal, may_update_grow}
+use Rattle.window_update.specs.UpdateSteps.{adding, taking, IsMarked, IsUpdateRefused, IsUpdateStep, IsUpdateStepOverAnySlots}
+use Rattle.window_update.proofs.MarkLemmas.{its_area}
+
+-- a call that is refused and leaves all as it was
+pub is_refused : {V : Type 0} {H : V → Type 0} (loan : Taken V H → Loan) (t : WindowManager V H) (u : Updates) (call : UpdateCall) (e : Refusal)
+    → ((slots : List SlotView) → IsUpdateRefused call e (state_of loan t slots)) → IsUpdateStepOverAnySlots loan call (Err e) t u t u
+is_refused loan t u call e refused slots whole =
+    (whole, (refused slots, record { windows = record { desk = refl; stale = λ p on. refl; image = λ p on. refl }; activity = refl; begun = refl }))
+
+-- so does one for which there is no memory
+pub short_of_memory : {V : Type 0} {H : V → Type 0} (loan : Taken V H → Loan) (t new : WindowManager V H) (u : Updates) (call : UpdateCall) (e : Refusal) → new ≡ t
+    → ((slots : List SlotView) → IsUpdateRefusal call (state_of loan t slots) None × ((may_update_grow call ≡ true) × (e ≡ NoMemory))) → IsUpdateStepOverAnySlots loan call (Err e) t u new u
+short_of_memory loan t new u call e same free =
+    subst (λ n. IsUpdateStepOverAnySlots loan call (Err e) t u n u) (sym same) (is_refused loan t u call e (λ slots. inr (free slots)))
+
+-- ---- marks
+
+-- what was judged of the window at a place, by its number
+pub judged_there : {V : Type 0} {H : V → Type 0} (loan : Taken V H → Loan) (t : WindowManager V H) (at s : ℕ) → StandsAt t.windows.records.items s at → (set : PixelSet) (right : Bool)
+    → ((w : Window V H) → IsWindowAt t.windows.records.items at w → IsJudgement w.serial set (state_of loan t []) right) → IsJudgement s set (state_of loan t []) right
+judged_there loan t at s stands set right judged =
+    let x = there_is t.windows.records.items at stands.0 in
+    subst (λ n. IsJudgement n set (state_of loan t []) right) (stands.1 x.0 x.1) (judged x.0 x.1)
+
+module _ {V : Type 0} {H : V → Type 0} (loan : Taken V H → Loan) (t : WindowManager V H) (kept : IsKept loan t) (m : WindowArea) (at : ℕ) (stands : StandsAt t.windows.records.items m.window at) where
+  here : (x : Window V H) × (IsWindowAt t.windows.records.items at x)
+  here = there_is t.windows.records.items at stands.0
+
+  abbrev x : Window V H
+  x = here.0
+
+  number : x.serial ≡ m.window
+  number = stands.1 x here.1
+
+  found : record_with m.window (desk_of loan t []).windows ≡ Some (record_of loan x)
+  found = telling.found loan t kept m.window at x stands.0 here.1 number
+
+  -- which pixels are marked
+  marked_is : (set : PixelSet) (o : Owner) (p : Point) → is_content_of m.window o ≡ true → marked_in m.window set (desk_of loan t []) o p ≡ set (minus p x.place)
+  marked_is set o p its = (λ i. its i && on_place (found i) set p)
+
+  only_its : (set : PixelSet) (o : Owner) (p : Point) → marked_in m.window set (desk_of loan t []) o p ≡ true → is_content_of m.window o ≡ true
+  only_its set o p e = (and_parts (is_content_of m.window o) _ e).0
+
+  module _ (new : WindowManager V H) (update : Pixels) (set : PixelSet) (verdict : Verdict)
+      (after : (w : Window V H) (a : Area) → IsWindowAt t.windows.records.items at w → a ≡ slice_index_or t.areas.items at a → (p : Point) → holds update p ≡ marked_by verdict (holds a.update p) (holds a.visible p && set (minus p w.place)))
+      (low : at < length t.areas.items) (slots : List SlotView) (whole : IsWholeManager loan t slots)
+      (remarked : IsRemarked x.serial update (state_of loan t slots) (state_of loan new slots)) where
+    its_mark : IsRemarked m.window update (state_of loan t slots) (state_of loan new slots)
+    its_mark = subst (λ n. IsRemarked n update (state_of loan t slots) (state_of loan new slots)) number remarked
+
+    -- what is in the update region then, of the window's content
+    by_mark : (p : Point) → layers.on_screen (layered_desk (desk_of loan t slots)) p ≡ true → is_content_of m.window (owner (layered_desk (desk_of loan t slots)) p) ≡ true
+        → holds update p ≡ marked_by verdict (stale_in t.areas.items p) (marked_in m.window set (desk_of loan t slots) (owner (layered_desk (desk_of loan t slots)) p) p)
+    by_mark p on own =
+        let a = there_is t.areas.items at low in
+        let its = its_area loan t kept at stands.0 x a.0 here.1 a.1 in
+        let own_x : is_content_of x.serial (owner (layered_desk (desk_of loan t [])) p) ≡ true = ap (λ n. is_content_of n (owner (layered_desk (desk_of loan t [])) p)) number ∙ own in
+        let shown : holds a.0.visible p ≡ true = its.visible p ∙ (λ i. on i && own_x i) in
+        let stale : holds a.0.update p ≡ stale_in t.areas.items p = its.update p ∙ ap (λ b. b && stale_in t.areas.items p) shown in
+        after x a.0 here.1 a.1 p
+        ∙ (λ i. marked_by verdict (stale i) (shown i && set (minus p x.place)))
+        ∙ ap (marked_by verdict (stale_in t.areas.items p)) (sym (marked_is set (owner (layered_desk (desk_of loan t [])) p) p own))
+
+  -- whether what shows of the area is right, as it was judged
+  module _ (set : PixelSet) (is_set : IsAreaOf m.area set) (slots : List SlotView) (free : IsAreaRefusal m (state_of loan t slots) None) (right : Bool)
+      (judged : (w : Window V H) → IsWindowAt t.windows.records.items at w → IsJudgement w.serial set (state_of loan t []) right) where
+    judgement : IsJudgement m.window set (state_of loan t slots) right
+    judgement = judged_there loan t at m.window stands set right judged
+
+    pub wrong_pixels : right ≡ false → IsUpdateRefusal (asks.Validate m) (state_of loan t slots) (Some StalePixels)
+    wrong_pixels wrong = (None, free, (set, is_set, (right, judgement, ap (λ b. if b then None else Some StalePixels) wrong)))
+
+    pub right_pixels : right ≡ true → IsUpdateRefusal (asks.Validate m) (state_of loan t slots) None
+    right_pixels all = (None, free, (set, is_set, (right, judgement, ap (λ b. if b then None else Some StalePixels) all)))
+
+  module _ (new : WindowManager V H) (u : Updates) where
+    -- pixels were put into the update region
+    pub invalidated : ((slots : List SlotView) → IsAreaRefusal m (state_of loan t slots) None) → at < length t.areas.items → (result : Result WindowReply Refusal) → IsMarkedBy loan Stale at m.area result t new
+        → IsUpdateStepOverAnySlots loan (asks.Invalidate m) result t u new u
+    invalidated free low (Ok answer) (done, (update, (set, is_set, after), leaves)) slots whole =
+        let left = leaves x here.1 slots whole in
+        let mark = its_mark new update set Stale after low slots whole left.1 in (
+          left.0,
+          (
+            free slots,
+            (
+              done,
+              (
+                record { activity = refl; begun = refl },
+                (
+                  set,
+                  is_set,
+                  record {
+                    desk = left.1.desk;
+                    pixels = added_is_changed loan t slots whole m.window update (state_of loan new slots) mark (marked_in m.window set (desk_of loan t slots)) (only_its set) (by_mark new update set Stale after low slots whole left.1);
+                  },
+                ),
+              ),
+            ),
+          ),
+        )
+    invalidated free low (Err e) (memory, same) slots whole = short_of_memory loan t new u (asks.Invalidate m) e same (λ k. (free k, (refl, memory))) slots whole
+
+    -- pixels were taken out of it, being right
+    pub validated : ((slots : List SlotView) → IsUpdateRefusal (asks.Validate m) (state_of loan t slots) None) → at < length t.areas.items → (result : Result WindowReply Refusal) → IsMarkedBy loan Right at m.area result t new
+        → IsUpdateStepOverAnySlots loan (asks.Validate m) result t u new u
+    validated free low (Ok answer) (done, (update, (set, is_set, after), leaves)) slots whole =
+        let left = leaves x here.1 slots whole in
+        let mark = its_mark new update set Right after low slots whole left.1 in (
+          left.0,
+          (
+            free slots,
+            (
+              done,
+              (
+                record { activity = refl; begun = refl },
+                (
+                  set,
+                  is_set,
+                  record {
+                    desk = left.1.desk;
+                    pixels = taken_is_changed loan t slots whole m.window update (state_of loan new slots) mark (marked_in m.window set (desk_of loan t slots)) (only_its set) (by_mark new update set Right after low slots whole left.1);
+                  },
+                ),
+              ),
+            ),
+          ),
+        )
+    validated free low (Err e) (memory, same) slots whole = short_of_memory loan t new u (asks.Validate m) e same (λ k. (free k, (refl, memory))) slots whole
+
+    -- the screen has the same sides
+    pub sides_stay : (verdict : Verdict) (result : Result WindowReply Refusal) → IsMarkedBy loan verdict at m.area result t new → (new.screen.width ≡ t.screen.width) × (new.screen.height ≡ t.screen.height)
+    sides_stay verdict (Ok answer) (done, (update, after, leaves)) =
+        let left = leaves x here.1 kept.slots kept.whole in
+        (ap (λ (d : FullDesk). nat_abs d.width) left.1.desk, ap (λ (d : FullDesk). nat_abs d.height) left.1.desk)
+    sides_stay verdict (Err e) (memory, same) = (ap (λ (n : WindowManager V H). n.screen.width) same, ap (λ (n : WindowManager V H). n.screen.height) same)
+
+-- another map for comparing changes no state
+pub other_map : {V : Type 0} {H : V → Type 0} (loan : Taken V H → Loan) (t new : WindowManager V H) (u other : Updates) (call : UpdateCall) (result : Result WindowReply Refusal) → other.update ≡ u.update
+    → IsUpdateStepOverAnySlots loan call result t u new u → IsUpdateStepOverAnySlots loan call result t u new other
+other_map loan t new u other call result same step slots whole =
+    let done = step slots whole in
+    (done.0, subst (λ o. IsUpdateStep call result (desk_state loan t u slots) (record { windows = state_of loan new slots; activity = activity_of o; begun = begun_of o })) (sym same) done.1)

@@ -1,0 +1,26 @@
+//! Update regions: which pixels of a window's visible content are to be redrawn, and their redrawing.
+//!
+//! A program says that pixels are to be redrawn (`Invalidate`) or are right as they are (`Validate`), and serves what is
+//! to be redrawn between `Begin` and `End`, layer by layer (*Inside Macintosh* I, "The Window Manager", "Update Region
+//! Maintenance"). `Updates` makes these calls on the windows of a `WindowManager`. It keeps which update is open, with
+//! what was to be redrawn when it began, which is the window's visible region until its end.
+//!
+//! What is right, `Rightness` says: a pixel of the content that shows and has the value that painting the desk from
+//! nothing gives. `Validate` is refused where a pixel is not; to know, the window's picture is drawn into a map that
+//! `Updates::new` made, so that asking takes no memory.
+//!
+//! Between begin and end nothing but the activity changes: what is to be redrawn stays in one set, the update set, in
+//! which a pixel is pending while the update is open. So a layer draw only takes pixels out of it, and takes no memory;
+//! what was not drawn is stale again after the end.
+#![tactic(auto)]
+
+mod areas;
+pub mod laws;
+mod marking;
+mod right;
+mod serving;
+mod updates;
+
+pub use areas::update_form_refusal;
+pub use desk_call::{AreaRef, LayerDraw, Layers, UpdateCall, WindowArea};
+pub use updates::{OpenUpdate, Updates};

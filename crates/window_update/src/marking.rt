@@ -1,0 +1,189 @@
+//! Pixels of a window that are to be redrawn, or are right as they are.
+ghost use Rattle.std.specs.Prelude.{◌≡◌, ◌&&◌, ◌||◌, not, true, if◌then◌else◌, length, ◌<◌, slice_index_or, IfOk, OnOk, OnErr, MatchResult, [], None, Some};
+ghost use Rattle.tb_geom.specs.declared.point.Point.{Point};
+ghost use Rattle.tb_geom.specs.Points.{minus, plus};
+ghost use Rattle.tb_geom.specs.Pixels.{holds};
+ghost use Rattle.tb_geom.specs.Rects.{in_plane};
+ghost use Rattle.scan_region.specs.Moves.{is_pixel_in_range};
+ghost use Rattle.desk_call.specs.declared.update.UpdateCall.TheVariants as asks;
+ghost use Rattle.window_mgr.specs.Edits.{IsWindowAt, StandsAt};
+ghost use Rattle.window_mgr.specs.Kept.{IsKept};
+ghost use Rattle.window_mgr.specs.Records.{state_of};
+ghost use Rattle.window_update.specs.DeskStates.{IsWholeUpdates};
+ghost use Rattle.window_update.specs.Marks.{IsMarkedBy, IsUpdateAfter, marked_by};
+ghost use Rattle.window_update.specs.Rightness.{IsJudgement};
+ghost use Rattle.window_update.specs.Sets.{IsAreaOf, judged_set};
+ghost use Rattle.window_update.specs.UpdateRefusals.{IsAreaRefusal};
+ghost use Rattle.window_update.specs.UpdateSteps.{IsUpdateStepOverAnySlots};
+
+use crate::areas::{JudgedArea, form_refusal_of, judge, region_of};
+use crate::right::agree;
+use crate::{AreaRef, Updates, WindowArea};
+use def_iface::{Defined, Taken};
+use desk_call::WindowReply;
+use scan_region::Region;
+use std::alloc::{AllocError, Global};
+use tb_geom::{Point, Refusal};
+use vis_update::Area;
+use window_list::local;
+use window_mgr::{WindowManager, move_by, paint_picture};
+
+impl Updates {
+    /// Puts what lies in an area of a window's visible content into its update region.
+    pub(crate) fn invalidate(
+        &self,
+        windows: &mut WindowManager,
+        marking: &WindowArea<'_>,
+    ) -> Result<WindowReply, Refusal>
+        requires kept { IsKept ⟦<Taken as Defined>⟧.loan windows.old }
+        ensures step { IsUpdateStepOverAnySlots ⟦<Taken as Defined>⟧.loan (asks.Invalidate marking.now) result windows.old self.now windows.new self.now }
+        ensures width { windows.new.screen.width ≡ windows.old.screen.width }
+        ensures height { windows.new.screen.height ≡ windows.old.screen.height }
+    {
+        let place = match place_of(windows, marking) {
+            Ok(place) => place,
+            Err(refusal) => return Err(refusal),
+        };
+        mark(self.alloc, windows, place.at, &marking.area, Verdict::Stale)
+    }
+
+    /// Takes what lies in an area of a window's visible content out of its update region, where its pixels are right.
+    pub(crate) fn validate(
+        &mut self,
+        windows: &mut WindowManager,
+        marking: &WindowArea<'_>,
+    ) -> Result<WindowReply, Refusal>
+        requires kept { IsKept ⟦<Taken as Defined>⟧.loan windows.old }
+        requires whole { IsWholeUpdates windows.old self.old }
+        ensures step { IsUpdateStepOverAnySlots ⟦<Taken as Defined>⟧.loan (asks.Validate marking.now) result windows.old self.old windows.new self.new }
+        ensures whole { IsWholeUpdates windows.new self.new }
+    {
+        let place = match place_of(windows, marking) {
+            Ok(place) => place,
+            Err(refusal) => return Err(refusal),
+        };
+        if !self.is_right(windows, place.at, &place.area) {
+            return Err(Refusal::StalePixels);
+        }
+        mark(self.alloc, windows, place.at, &marking.area, Verdict::Right)
+    }
+
+    /// Whether what shows of a window's content in an area is right.
+    pub(crate) fn is_right(
+        &mut self,
+        windows: &WindowManager,
+        at: usize,
+        area: &JudgedArea<'_>,
+    ) -> bool
+        requires kept { IsKept ⟦<Taken as Defined>⟧.loan windows.now }
+        requires whole { IsWholeUpdates windows.now self.old }
+        requires at { at < length windows.now.windows.records.items }
+        ensures whole { IsWholeUpdates windows.now self.new }
+        ensures same { self.new.update ≡ self.old.update }
+        ensures right { (w : _) → IsWindowAt windows.now.windows.records.items at w
+            → IsJudgement w.serial (judged_set area.now) (state_of ⟦<Taken as Defined>⟧.loan windows.now []) result }
+    {
+        let parts = windows.parts();
+        let window = parts.windows.at(at);
+        let visible = &windows.area(at).visible;
+        paint_picture(&mut self.buffer, visible, window, parts.font);
+        agree(windows.screen(), &self.buffer, visible, window.place, area)
+    }
+}
+
+/// A window's place in the list, and an area of it that was judged.
+#[derive(Drop)]
+struct Place<'a> {
+    at: usize,
+    area: JudgedArea<'a>,
+}
+
+/// The window that an area is of, and the area. The refusal is the first of these: BadRegion, NoSuchWindow, OutOfRange.
+fn place_of<'a>(windows: &WindowManager, marking: &WindowArea<'a>) -> Result<Place<'a>, Refusal>
+    requires kept { IsKept ⟦<Taken as Defined>⟧.loan windows.now }
+    ensures { MatchResult result
+        (λ r. StandsAt windows.now.windows.records.items marking.now.window r.at × IsAreaOf marking.now.area (judged_set r.area)
+        × IsAreaRefusal marking.now (state_of ⟦<Taken as Defined>⟧.loan windows.now []) None)
+        (λ e. IsAreaRefusal marking.now (state_of ⟦<Taken as Defined>⟧.loan windows.now []) (Some e)) }
+{
+    if let Some(refusal) = form_refusal_of(marking) {
+        return Err(refusal);
+    }
+    let Some(at) = windows.find(marking.window) else {
+        return Err(Refusal::NoSuchWindow);
+    };
+    match judge(&marking.area) {
+        Ok(area) => Ok(Place { at, area }),
+        Err(refusal) => Err(refusal),
+    }
+}
+
+/// Marks an area of the window at this place. NoMemory is the only refusal.
+fn mark(
+    alloc: Global,
+    windows: &mut WindowManager,
+    at: usize,
+    area: &AreaRef<'_>,
+    verdict: Verdict,
+) -> Result<WindowReply, Refusal>
+    requires kept { IsKept ⟦<Taken as Defined>⟧.loan windows.old }
+    requires at { at < length windows.old.windows.records.items }
+    ensures { IsMarkedBy ⟦<Taken as Defined>⟧.loan verdict at area.now result windows.old windows.new }
+{
+    match update_after(alloc, windows, at, area, verdict) {
+        Ok(update) => {
+            windows.set_update(at, update);
+            Ok(WindowReply::Done)
+        }
+        Err(AllocError) => Err(Refusal::NoMemory),
+    }
+}
+
+/// The update region of the window at this place, once an area is marked.
+fn update_after(
+    alloc: Global,
+    windows: &WindowManager,
+    at: usize,
+    area: &AreaRef<'_>,
+    verdict: Verdict,
+) -> Result<Region, AllocError>
+    requires kept { IsKept ⟦<Taken as Defined>⟧.loan windows.now }
+    requires at { at < length windows.now.windows.records.items }
+    ensures { IfOk result (IsUpdateAfter windows.now at area.now verdict) }
+{
+    let pixels = region_of(alloc, area)?;
+    let place = windows.parts().windows.at(at).place;
+    marked(alloc, windows.area(at), place, &pixels, verdict)
+}
+
+/// What becomes of pixels in an update region.
+#[derive(Clone, Copy)]
+pub(crate) enum Verdict {
+    /// They are put in.
+    Stale,
+    /// They are taken out.
+    Right,
+}
+
+/// The update region of a window at a place, once these pixels, which are in its own coordinates, are marked where its content shows.
+fn marked(
+    alloc: Global,
+    area: &Area,
+    place: Point,
+    pixels: &Region,
+    verdict: Verdict,
+) -> Result<Region, AllocError>
+    requires place { in_plane place ≡ true }
+    requires there { (p : Point) → holds area.now.visible (plus p place) ≡ true → is_pixel_in_range p ≡ true }
+    requires here { (p : Point) → holds area.now.visible p ≡ true → is_pixel_in_range p ≡ true }
+    ensures { IfOk result (λ update. (p : Point) → holds update p ≡ marked_by verdict (holds area.now.update p) (holds area.now.visible p && holds pixels.now (minus p place))) }
+{
+    let mut shown = area.visible.copy(alloc)?;
+    move_by(&mut shown, local(Point { h: 0, v: 0 }, place));
+    let mut part = shown.sect(alloc, pixels)?;
+    move_by(&mut part, place);
+    match verdict {
+        Verdict::Stale => area.update.union(alloc, &part),
+        Verdict::Right => area.update.diff(alloc, &part),
+    }
+}

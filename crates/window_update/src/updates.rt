@@ -1,0 +1,141 @@
+//! What is open of an update, and the calls about updates.
+ghost use Rattle.std.specs.Prelude.{◌≡◌, IfOk, None, Some, MatchOption, MatchResult, pos, [], true, false};
+ghost use Rattle.tb_geom.specs.declared.point.Point.{Point};
+ghost use Rattle.tb_geom.specs.Points.{PixelSet};
+ghost use Rattle.tb_geom.specs.Pixels.{holds};
+ghost use Rattle.tb_geom.specs.Rects.{rect_holds};
+ghost use Rattle.desk_ground.specs.Screens as screens;
+ghost use Rattle.window_mgr.specs.Kept.{IsKept};
+ghost use Rattle.window_mgr.specs.Records.{state_of};
+ghost use Rattle.window_mgr.specs.Refused.{is_missing};
+ghost use Rattle.window_update.specs.DeskStates.{IsWholeUpdates, activity_of, begun_of, narrowed};
+ghost use Rattle.window_update.specs.Rightness.{IsJudgement};
+ghost use Rattle.window_update.specs.UpdateSteps.{IsUpdateStepOverAnySlots, IsToldOf};
+
+use crate::UpdateCall;
+use crate::areas::JudgedArea;
+use bit_map::BitMap;
+use def_iface::{Defined, Taken};
+use desk_call::{Activity, WindowCall, WindowReply};
+use scan_region::Region;
+use std::alloc::{AllocError, Global};
+use tb_geom::{Rect, Refusal};
+use window_mgr::WindowManager;
+
+/// An update between its begin and its end.
+#[derive(Drop)]
+pub struct OpenUpdate {
+    pub(crate) window: u64,
+    /// What was to be redrawn when it began, in the window's own coordinates.
+    pub(crate) begun: Region,
+}
+
+/// The update that is open, if one is, and a map to compare the screen with.
+#[derive(Drop)]
+pub struct Updates {
+    pub(crate) alloc: Global,
+    pub(crate) update: Option<OpenUpdate>,
+    /// As wide and high as the screen.
+    pub(crate) buffer: BitMap,
+}
+
+impl Updates {
+    /// No update, for a desk on a screen of `width` by `height` pixels, of which each is 8 to 1024.
+    pub fn new(alloc: Global, width: i32, height: i32) -> Result<Updates, AllocError>
+        requires width { screens.is_screen_side width ≡ true }
+        requires height { screens.is_screen_side height ≡ true }
+        ensures sides { IfOk result (λ u. (pos u.buffer.width ≡ width) × (pos u.buffer.height ≡ height)) }
+        ensures idle { IfOk result (λ u. u.update ≡ None) }
+    {
+        match BitMap::new(alloc, width, height) {
+            Ok(buffer) => Ok(Updates {
+                alloc,
+                update: None,
+                buffer,
+            }),
+            Err(_) => Err(AllocError),
+        }
+    }
+
+    /// What is open.
+    pub fn activity(&self) -> Activity
+        ensures { result ≡ activity_of self.now.update }
+    {
+        match &self.update {
+            Some(open) => Activity::Updating(open.window),
+            None => Activity::Idle,
+        }
+    }
+
+    /// Makes one call on these windows, and gives its answer. A refused call changes nothing; which refusal comes first
+    /// where several would do stands with the call. It does not ask what is open.
+    pub fn make(
+        &mut self,
+        windows: &mut WindowManager,
+        call: &UpdateCall<'_>,
+    ) -> Result<WindowReply, Refusal>
+        requires kept { IsKept ⟦<Taken as Defined>⟧.loan windows.old }
+        requires whole { IsWholeUpdates windows.old self.old }
+        ensures whole { IsWholeUpdates windows.new self.new }
+        ensures step { IsUpdateStepOverAnySlots ⟦<Taken as Defined>⟧.loan call.now result windows.old self.old windows.new self.new }
+    {
+        match call {
+            UpdateCall::Invalidate(marking) => self.invalidate(windows, marking),
+            UpdateCall::Validate(marking) => self.validate(windows, marking),
+            UpdateCall::Begin(window) => self.begin(windows, *window),
+            UpdateCall::Draw(draw) => self.draw(windows, *draw),
+            UpdateCall::End(_) => self.end(),
+            UpdateCall::Serve(window) => self.serve(windows, *window),
+        }
+    }
+
+    /// The answer to a call that asks for a region of the window whose update is open: its visible region is what was to be
+    /// redrawn when the update began, and its update region is empty.
+    pub fn tell(&self, call: &WindowCall<'_>) -> Option<Result<WindowReply, Refusal>>
+        ensures { let asked = narrowed call.now (activity_of self.now.update) (begun_of self.now.update) in
+            MatchOption result (asked ≡ None) (λ answer. (set : PixelSet) × (asked ≡ Some set) × IsToldOf set answer) }
+    {
+        let open = self.update.as_ref()?;
+        match call {
+            WindowCall::VisibleRegion(window) if *window == open.window => {
+                Some(told(self.alloc, &open.begun))
+            }
+            WindowCall::UpdateRegion(window) if *window == open.window => {
+                Some(told(self.alloc, &Region::empty(self.alloc)))
+            }
+            _ => None,
+        }
+    }
+
+    /// Whether the pixels of a window's content that show in a rectangle, which is in the window's own coordinates and may
+    /// be any, are right. Takes no memory. NoSuchWindow is the only refusal.
+    pub fn pixels_right(
+        &mut self,
+        windows: &WindowManager,
+        window: u64,
+        rect: Rect,
+    ) -> Result<bool, Refusal>
+        requires kept { IsKept ⟦<Taken as Defined>⟧.loan windows.now }
+        requires whole { IsWholeUpdates windows.now self.old }
+        ensures whole { IsWholeUpdates windows.now self.new }
+        ensures same { self.new.update ≡ self.old.update }
+        ensures right { let state = state_of ⟦<Taken as Defined>⟧.loan windows.now [] in MatchResult result
+            (λ right. (is_missing window state.desk.windows ≡ false) × IsJudgement window (rect_holds rect) state right)
+            (λ e. (is_missing window state.desk.windows ≡ true) × (e ≡ Refusal.NoSuchWindow)) }
+    {
+        match windows.find(window) {
+            Some(at) => Ok(self.is_right(windows, at, &JudgedArea::Rect(rect))),
+            None => Err(Refusal::NoSuchWindow),
+        }
+    }
+}
+
+/// The region as an answer tells it.
+fn told(alloc: Global, region: &Region) -> Result<WindowReply, Refusal>
+    ensures { (set : PixelSet) → ((p : Point) → holds region.now p ≡ set p) → IsToldOf set result }
+{
+    match region.to_bytes(alloc) {
+        Ok(bytes) => Ok(WindowReply::Region(bytes)),
+        Err(refusal) => Err(refusal),
+    }
+}
