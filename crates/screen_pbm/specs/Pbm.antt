@@ -24,9 +24,9 @@ unfoldable pub row_text : ℕ → PixelSet → ℕ → List ℕ
 row_text width black v = flat_map (line_text (row_digits width black v)) (range_with_len 0 (line_count width))
 
 -- the format's name, the width and the height
-abbrev pub head_text : ℕ → ℕ → List ℕ
-head_text width height = codes "P1\n" ++ (decimal width ++ (codes " " ++ (decimal height ++ codes "\n")))
+abbrev pub head_text : List ℕ → ℕ → ℕ → List ℕ
+head_text name width height = name ++ (codes "\n" ++ (decimal width ++ (codes " " ++ (decimal height ++ codes "\n"))))
 
 -- an image of a character for each pixel, the top row first
 unfoldable pub p1 : ℕ → ℕ → PixelSet → List ℕ
-p1 width height black = head_text width height ++ flat_map (row_text width black) (range_with_len 0 height)
+p1 width height black = head_text (codes "P1") width height ++ flat_map (row_text width black) (range_with_len 0 height)

@@ -5,6 +5,7 @@
 //! alone; `laws` says what they are in the words of their subject.
 #![tactic(auto)]
 
+mod head;
 pub mod laws;
 mod p1;
 

@@ -5,27 +5,13 @@
 ghost use Rattle.std.specs.Prelude.{◌≡◌, ◌<◌, ◌≤◌, pos, false};
 ghost use Rattle.bit_map.specs.Bits.{bit};
 ghost use Rattle.watched_io.specs.Writes.{Sends};
-ghost use Rattle.screen_pbm.specs.Pbm.{digit_of, row_digits, line_count, line_text, row_text, head_text, p1};
+ghost use Rattle.screen_pbm.specs.Pbm.{digit_of, row_digits, line_count, line_text, row_text, p1};
 
+use crate::head::{height_of, width_of, write_head};
 use arrayvec::ArrayVec;
 use bit_map::BitMap;
-use itoa::Buffer;
 use tb_geom::{Point, Refusal};
-use watched_io::{Sink, send, send_all};
-
-/// How many columns a map has.
-fn width_of(map: &BitMap) -> u16
-    ensures { result ≡ map.now.width }
-{
-    map.bounds().right as u16
-}
-
-/// How many rows a map has.
-fn height_of(map: &BitMap) -> u16
-    ensures { result ≡ map.now.height }
-{
-    map.bounds().bottom as u16
-}
+use watched_io::{Sink, send};
 
 /// The character of the pixel in a column of a row.
 fn digit(map: &BitMap, row: u16, column: u16) -> u8
@@ -72,23 +58,6 @@ fn row_of(map: &BitMap, row: u16) -> ArrayVec<u8, 1039>
     text
 }
 
-/// Writes the head of an image of this many columns and rows.
-fn write_head<S: Sink>(sink: &mut S, width: u16, height: u16) -> Result<(), Refusal>
-    requires { (S.output sink.old).has_failed ≡ false }
-    ensures { Sends (S.output sink.old) (S.output sink.new) result (head_text width height) }
-{
-    let mut columns = Buffer::new();
-    let mut rows = Buffer::new();
-    let pieces: [&[u8]; 5] = [
-        b"P1\n",
-        columns.format(width).as_bytes(),
-        b" ",
-        rows.format(height).as_bytes(),
-        b"\n",
-    ];
-    send_all(sink, &pieces)
-}
-
 /// Writes a map as a P1 image; black is 1. WriteFault exactly where a write fails; then a front of the
 /// image was written.
 pub fn write_p1<S: Sink>(sink: &mut S, map: &BitMap) -> Result<(), Refusal>
@@ -97,7 +66,7 @@ pub fn write_p1<S: Sink>(sink: &mut S, map: &BitMap) -> Result<(), Refusal>
     ensures { Sends (S.output sink.old) (S.output sink.new) result (p1 map.now.width map.now.height (bit map.now)) }
 {
     let height = height_of(map);
-    write_head(sink, width_of(map), height)?;
+    write_head(sink, b"P1", width_of(map), height)?;
     for row in 0..height {
         let text = row_of(map, row);
         send(sink, text.as_slice())?;

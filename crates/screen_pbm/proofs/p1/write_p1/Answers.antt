@@ -1,4 +1,4 @@
-use Rattle.std.proofs.Common.{arith}
+use Rattle.std.proofs.Common.{codes, arith}
 use Rattle.std.specs.List.{flat_map, range_with_len}
 use Rattle.bit_map.specs.Bits.{bit}
 use Rattle.screen_pbm.specs.Pbm.{head_text, row_text, p1}
@@ -10,14 +10,14 @@ pub returns-in_err-write_head : goal.returns-in_err-write_head
 unfolding p1
 returns-in_err-write_head g c =
     let map = c.args.map.now in
-    Sends-exit_first _ _ c.from_residual.result c.in_err-write_head.field-0.0 (head_text map.width map.height) (flat_map (row_text map.width (bit map)) (range_with_len 0 map.height))
+    Sends-exit_first _ _ c.from_residual.result c.in_err-write_head.field-0.0 (head_text (codes "P1") map.width map.height) (flat_map (row_text map.width (bit map)) (range_with_len 0 map.height))
     c.from_residual.ensures.1 (rw (c.width_of.ensures, c.height_of-height.ensures) at c.in_err-write_head.ensures)
 
 pub returns-in_err-send : goal.returns-in_err-send
 unfolding p1
 returns-in_err-send g c =
     let map = c.args.map.now in
-    Sends-after _ _ _ c.from_residual-in_err-send.result (head_text map.width map.height) _ (rw (c.width_of.ensures, c.height_of-height.ensures) at c.in_ok-write_head.ensures)
+    Sends-after _ _ _ c.from_residual-in_err-send.result (head_text (codes "P1") map.width map.height) _ (rw (c.width_of.ensures, c.height_of-height.ensures) at c.in_ok-write_head.ensures)
     (Sends-range_exit _ _ _ c.from_residual-in_err-send.result c.in_err-send.field-0.0 (row_text map.width (bit map)) map.height c.loop-row.row
     (omega arith) c.from_residual-in_err-send.ensures.1 c.loop-row.invariant (rw (← c.row_of-text.ensures, ← c.as_slice.ensures.value) c.in_err-send.ensures))
 
@@ -29,5 +29,5 @@ pub returns : goal.returns
 unfolding p1
 returns g c =
     let map = c.args.map.now in
-    Sent-trans _ _ _ (head_text map.width map.height) _ (rw (c.width_of.ensures, c.height_of-height.ensures) at c.in_ok-write_head.ensures)
+    Sent-trans _ _ _ (head_text (codes "P1") map.width map.height) _ (rw (c.width_of.ensures, c.height_of-height.ensures) at c.in_ok-write_head.ensures)
     (Sent-range_end _ _ (row_text map.width (bit map)) map.height c.loop-row.row (omega arith) c.loop-row.invariant)
