@@ -1,3 +1,5 @@
 mod ImageLaws
+mod Packed
+mod PackedLaws
 mod Ranges
 mod Rows

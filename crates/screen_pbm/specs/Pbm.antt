@@ -1,5 +1,6 @@
--- The bytes of an image, by the Netpbm PBM format: a head, then each row in lines of at most 70 characters.
-use Rattle.std.specs.Prelude.{ℕ, pos, ◌+◌, ◌*◌, ◌/◌, Bool, List, [], ◌∷◌, ◌++◌, map, take, drop, codes, decimal, if◌then◌else◌}
+-- The bytes of an image, by the Netpbm PBM formats: a head, and then each row, in the plain format in lines of at most
+-- 70 characters, in the raw one in bytes of eight pixels.
+use Rattle.std.specs.Prelude.{ℕ, pos, ◌+◌, ◌-◌, ◌*◌, ◌/◌, ◌%◌, ◌^◌, Bool, ◌&&◌, nat_lt, sum_by, List, [], ◌∷◌, ◌++◌, map, take, drop, codes, decimal, if◌then◌else◌}
 use Rattle.std.specs.List.{flat_map, range_with_len}
 use Rattle.tb_geom.specs.Points.{PixelSet}
 
@@ -30,3 +31,20 @@ head_text name width height = name ++ (codes "\n" ++ (decimal width ++ (codes " 
 -- an image of a character for each pixel, the top row first
 unfoldable pub p1 : ℕ → ℕ → PixelSet → List ℕ
 p1 width height black = head_text (codes "P1") width height ++ flat_map (row_text width black) (range_with_len 0 height)
+
+-- what the pixel in column h of row v adds to its byte: a black one the value of its bit, of which the leftmost is the
+-- highest, and a white one 0. Past the width each pixel is white
+abbrev pub column_value : ℕ → PixelSet → ℕ → ℕ → ℕ
+column_value width black v h = if nat_lt h width && black (record { h = pos h; v = pos v }) then 2 ^ (7 - h % 8) else 0
+
+-- byte k of row v: the sum over its eight columns
+unfoldable pub row_byte : ℕ → PixelSet → ℕ → ℕ → ℕ
+row_byte width black v k = sum_by (column_value width black v) (range_with_len (8 * k) 8)
+
+-- row v, in as many bytes as its pixels take
+unfoldable pub row_bytes : ℕ → PixelSet → ℕ → List ℕ
+row_bytes width black v = map (row_byte width black v) (range_with_len 0 ((width + 7) / 8))
+
+-- an image of a bit for each pixel, the top row first
+unfoldable pub p4 : ℕ → ℕ → PixelSet → List ℕ
+p4 width height black = head_text (codes "P4") width height ++ flat_map (row_bytes width black) (range_with_len 0 height)

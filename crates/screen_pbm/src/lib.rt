@@ -8,5 +8,7 @@
 mod head;
 pub mod laws;
 mod p1;
+mod p4;
 
 pub use p1::write_p1;
+pub use p4::write_p4;
