@@ -25,6 +25,7 @@ room_beside width black v place k byte low room =
     let value = column_fits width black v (8 * place + k) in
     rw right (omega (arith, value, ap (λ n. 2 ^ n) own, twice, room))
 
-pub sum_fits : (width : ℕ) (black : PixelSet) (v place k byte : ℕ) → k < 8 → byte + 2 ^ (8 - k) ≤ 256 → byte + column_value width black v (8 * place + k) < 256
+pub sum_fits : (width : ℕ) (black : PixelSet) (v place k byte : ℕ) → k < 8 → byte + 2 ^ (8 - k) ≤ 256
+    → byte + column_value width black v (8 * place + k) < 256
 sum_fits width black v place k byte low room =
     omega (arith, room_beside width black v place k byte low room, pow_pos (8 - (k + 1)))

@@ -1,8 +1,9 @@
 -- The bytes of an image, by the Netpbm PBM formats: a head, and then each row, in the plain format in lines of at most
 -- 70 characters, in the raw one in bytes of eight pixels.
-use Rattle.std.specs.Prelude.{ℕ, pos, ◌+◌, ◌-◌, ◌*◌, ◌/◌, ◌%◌, ◌^◌, Bool, ◌&&◌, nat_lt, sum_by, List, [], ◌∷◌, ◌++◌, map, take, drop, codes, decimal, if◌then◌else◌}
+use Rattle.std.specs.Prelude.{ℕ, pos, ◌+◌, ◌-◌, ◌*◌, ◌/◌, ◌%◌, ◌^◌, Bool, ◌&&◌, nat_lt, sum_by, List, [], ◌∷◌, ◌++◌, map, length, take, drop, codes, decimal, if◌then◌else◌}
 use Rattle.std.specs.List.{flat_map, range_with_len}
 use Rattle.tb_geom.specs.Points.{PixelSet}
+use Rattle.bit_map.specs.Images.{Image}
 
 -- the character of a pixel: 1 is black, 0 is white
 abbrev pub digit_of : Bool → ℕ
@@ -48,3 +49,9 @@ row_bytes width black v = map (row_byte width black v) (range_with_len 0 ((width
 -- an image of a bit for each pixel, the top row first
 unfoldable pub p4 : ℕ → ℕ → PixelSet → List ℕ
 p4 width height black = head_text (codes "P4") width height ++ flat_map (row_bytes width black) (range_with_len 0 height)
+
+-- what stands behind the head of such an image, as a bit image
+abbrev pub raster : ℕ → ℕ → PixelSet → Image
+raster width height black =
+    let head = head_text (codes "P4") width height in
+    record { width = width; height = height; rows = drop (length head) (p4 width height black) }
