@@ -55,7 +55,8 @@ column_is : (width : ℕ) (black : PixelSet) (v k i : ℕ) → i < 8
 column_is width black v k i low = worth (is_black width black v (8 * k + i)) (7 - (8 * k + i) % 8) (7 - i) (omega (arith, low))
 
 sum_of_eight : (f : ℕ → ℕ) (a : ℕ)
-    → sum_by f (range_with_len a 8) ≡ f (a + 0) + f (a + 1) + f (a + 2) + f (a + 3) + f (a + 4) + f (a + 5) + f (a + 6) + f (a + 7)
+    → sum_by f (range_with_len a 8) ≡ f (a + 0) + f (a + 1) + f (a + 2) + f (a + 3) + f (a + 4) + f (a + 5)
+    + f (a + 6) + f (a + 7)
 sum_of_eight f a =
     let e0 : a + 0 ≡ a = omega arith in
     let e2 : a + 1 + 1 ≡ a + 2 = omega arith in
@@ -66,7 +67,8 @@ sum_of_eight f a =
     let e7 : a + 6 + 1 ≡ a + 7 = omega arith in
     rw (e0, e2, e3, e4, e5, e6, e7) (omega arith)
 
-byte_bit : (width : ℕ) (black : PixelSet) (v k i : ℕ) → i < 8 → bit_of (row_byte width black v k) i ≡ is_black width black v (8 * k + i)
+byte_bit : (width : ℕ) (black : PixelSet) (v k i : ℕ) → i < 8
+    → bit_of (row_byte width black v k) i ≡ is_black width black v (8 * k + i)
 unfolding row_byte
 byte_bit width black v k i low =
     let w = λ (j : ℕ). digit (is_black width black v (8 * k + j)) in
@@ -98,7 +100,8 @@ row_bit_is width black v h low =
     let own : 8 * (h / 8) + h % 8 ≡ h = omega arith in
     let byte : slice_index (row_bytes width black v) (h / 8) ≡ row_byte width black v (h / 8) =
     get_or-map-range_with_len (row_byte width black v) 0 ((width + 7) / 8) (h / 8) (h / 8) 0 low (omega arith) in
-    ap (λ (b : ℕ). bit_of b (h % 8)) byte ∙ byte_bit width black v (h / 8) (h % 8) (omega arith) ∙ ap (is_black width black v) own
+    ap (λ (b : ℕ). bit_of b (h % 8)) byte ∙ byte_bit width black v (h / 8) (h % 8) (omega arith)
+    ∙ ap (is_black width black v) own
 
 pub row_has_each_pixel : (width : ℕ) (black : PixelSet) (v h : ℕ) → h < width
     → bit_of (slice_index (row_bytes width black v) (h / 8)) (h % 8) ≡ black (record { h = pos h; v = pos v })
@@ -106,20 +109,24 @@ row_has_each_pixel width black v h low =
     let inside : nat_lt h width ≡ true = lt-ltb h width low in
     row_bit_is width black v h (omega (arith, low)) ∙ ap (λ (b : Bool). b && black (record { h = pos h; v = pos v })) inside
 
-pub length-row_bytes : (width : ℕ) (black : PixelSet) (v : ℕ) → length (row_bytes width black v) ≡ (width + 7) / 8
+length-row_bytes : (width : ℕ) (black : PixelSet) (v : ℕ) → length (row_bytes width black v) ≡ (width + 7) / 8
 unfolding row_bytes
 length-row_bytes width black v = length-map-range_with_len (row_byte width black v) 0 ((width + 7) / 8)
 
 no_bit : (i : ℕ) → bit_of 0 i ≡ false
 no_bit i = ap (λ (n : ℕ). nat_eq (n % 2) 1) (zero-div (2 ^ (7 - i)))
 
+-- past a row's bytes there are none
+no_byte : (width : ℕ) (black : PixelSet) (v k : ℕ) → (width + 7) / 8 ≤ k → slice_index (row_bytes width black v) k ≡ 0
+no_byte width black v k past = get_or_past (row_bytes width black v) k 0 (omega (arith, past, length-row_bytes width black v))
+
 pub row_is_white_past_the_width : (width : ℕ) (black : PixelSet) (v h : ℕ) → width ≤ h
     → bit_of (slice_index (row_bytes width black v) (h / 8)) (h % 8) ≡ false
 row_is_white_past_the_width width black v h past =
-    let long = length-row_bytes width black v in
+    let outside : nat_lt h width ≡ false = le-ltb h width past in
     elim (cases_lt (h / 8) ((width + 7) / 8)) [
-      | inl low ↦ row_bit_is width black v h low ∙ ap (λ (b : Bool). b && black (record { h = pos h; v = pos v })) (le-ltb h width past)
-      | inr high ↦ ap (λ (b : ℕ). bit_of b (h % 8)) (get_or_past (row_bytes width black v) (h / 8) 0 (omega (arith, high, long))) ∙ no_bit (h % 8)
+      | inl low ↦ row_bit_is width black v h low ∙ ap (λ (b : Bool). b && black (record { h = pos h; v = pos v })) outside
+      | inr high ↦ ap (λ (b : ℕ). bit_of b (h % 8)) (no_byte width black v (h / 8) high) ∙ no_bit (h % 8)
     ]
 
 -- ---- an image

@@ -10,24 +10,32 @@ pub returns-in_err-write_head : goal.returns-in_err-write_head
 unfolding p4
 returns-in_err-write_head g c =
     let map = c.args.map.now in
-    Sends-exit_first _ _ c.from_residual.result c.in_err-write_head.field-0.0 (head_text (codes "P4") map.width map.height) (flat_map (row_bytes map.width (bit map)) (range_with_len 0 map.height))
+    let head = head_text (codes "P4") map.width map.height in
+    Sends-exit_first _ _ c.from_residual.result c.in_err-write_head.field-0.0 head
+    (flat_map (row_bytes map.width (bit map)) (range_with_len 0 map.height))
     c.from_residual.ensures.1 (rw (c.width_of.ensures, c.height_of-height.ensures) at c.in_err-write_head.ensures)
 
 pub returns-in_err-send : goal.returns-in_err-send
 unfolding p4
 returns-in_err-send g c =
     let map = c.args.map.now in
-    Sends-after _ _ _ c.from_residual-in_err-send.result (head_text (codes "P4") map.width map.height) _ (rw (c.width_of.ensures, c.height_of-height.ensures) at c.in_ok-write_head.ensures)
-    (Sends-range_exit _ _ _ c.from_residual-in_err-send.result c.in_err-send.field-0.0 (row_bytes map.width (bit map)) map.height c.loop-row.row
-    (omega arith) c.from_residual-in_err-send.ensures.1 c.loop-row.invariant (rw (← c.row_of-bytes.ensures, ← c.as_slice.ensures.value) c.in_err-send.ensures))
+    let head = head_text (codes "P4") map.width map.height in
+    Sends-after _ _ _ c.from_residual-in_err-send.result head _
+    (rw (c.width_of.ensures, c.height_of-height.ensures) at c.in_ok-write_head.ensures)
+    (Sends-range_exit _ _ _ c.from_residual-in_err-send.result c.in_err-send.field-0.0
+    (row_bytes map.width (bit map)) map.height c.loop-row.row (omega arith)
+    c.from_residual-in_err-send.ensures.1 c.loop-row.invariant (rw (← c.row_of-bytes.ensures, ← c.as_slice.ensures.value) c.in_err-send.ensures))
 
 pub loop-row-preserved : goal.loop-row-preserved
 loop-row-preserved g c =
-    Sent-range_more _ _ _ (row_bytes c.args.map.now.width (bit c.args.map.now)) c.loop-row.row c.loop-row.invariant (rw (← c.row_of-bytes.ensures, ← c.as_slice.ensures.value) c.in_ok-send.ensures)
+    let map = c.args.map.now in
+    Sent-range_more _ _ _ (row_bytes map.width (bit map)) c.loop-row.row c.loop-row.invariant
+    (rw (← c.row_of-bytes.ensures, ← c.as_slice.ensures.value) c.in_ok-send.ensures)
 
 pub returns : goal.returns
 unfolding p4
 returns g c =
     let map = c.args.map.now in
-    Sent-trans _ _ _ (head_text (codes "P4") map.width map.height) _ (rw (c.width_of.ensures, c.height_of-height.ensures) at c.in_ok-write_head.ensures)
+    Sent-trans _ _ _ (head_text (codes "P4") map.width map.height) _
+    (rw (c.width_of.ensures, c.height_of-height.ensures) at c.in_ok-write_head.ensures)
     (Sent-range_end _ _ (row_bytes map.width (bit map)) map.height c.loop-row.row (omega arith) c.loop-row.invariant)

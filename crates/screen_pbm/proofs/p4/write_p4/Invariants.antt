@@ -5,4 +5,6 @@ use Rattle.screen_pbm.specs.Pbm.{row_bytes}
 use Rattle.screen_pbm.proofs.p4.write_p4.Given as goal
 
 abbrev pub invariant-loop-row : goal.invariant-loop-row
-invariant-loop-row g l = Sent (g.S.Sink.output l.initial.sink) (g.S.Sink.output l.sink) (flat_map (row_bytes l.map.width (bit l.map)) (range_with_len 0 l.row))
+invariant-loop-row g l =
+    Sent (g.S.Sink.output l.initial.sink) (g.S.Sink.output l.sink)
+    (flat_map (row_bytes l.map.width (bit l.map)) (range_with_len 0 l.row))
