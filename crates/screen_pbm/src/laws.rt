@@ -1,4 +1,4 @@
-//! What the definition of an image says of its rows.
+//! What the definitions of images say of their rows and pixels.
 ghost use Rattle.std.specs.Prelude.{◌≡◌, ◌≤◌, ◌<◌, ◌==◌, ◌/◌, ◌%◌, ℕ, pos, true, false, length, not, filter, slice_index, All};
 ghost use Rattle.std.specs.List.{slice_split};
 ghost use Rattle.tb_geom.specs.Points.{PixelSet};

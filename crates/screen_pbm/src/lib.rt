@@ -1,8 +1,9 @@
 //! Images of bitmaps in the formats of Netpbm, written to a `Sink`.
 //!
-//! So far there is the plain format, P1: a character for each pixel, 1 for black. The bytes of an image are
-//! written as plain data in `specs/Pbm.antt` (`p1`), from the picture's width, its height and its black pixels
-//! alone; `laws` says what they are in the words of their subject.
+//! There are two formats: the plain one, P1, has a character for each pixel, and the raw one, P4, a bit. 1 is
+//! black in both. The bytes of an image are written as plain data in `specs/Pbm.antt` (`p1`, `p4`), from the
+//! picture's width, its height and its black pixels alone; `laws` says what they are in the words of their
+//! subject.
 #![tactic(auto)]
 
 mod head;

@@ -24,7 +24,8 @@ returns-in_err-send g c =
     (rw (c.width_of.ensures, c.height_of-height.ensures) at c.in_ok-write_head.ensures)
     (Sends-range_exit _ _ _ c.from_residual-in_err-send.result c.in_err-send.field-0.0
     (row_bytes map.width (bit map)) map.height c.loop-row.row (omega arith)
-    c.from_residual-in_err-send.ensures.1 c.loop-row.invariant (rw (← c.row_of-bytes.ensures, ← c.as_slice.ensures.value) c.in_err-send.ensures))
+    c.from_residual-in_err-send.ensures.1 c.loop-row.invariant
+    (rw (← c.row_of-bytes.ensures, ← c.as_slice.ensures.value) c.in_err-send.ensures))
 
 pub loop-row-preserved : goal.loop-row-preserved
 loop-row-preserved g c =
