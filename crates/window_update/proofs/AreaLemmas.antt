@@ -1,10 +1,10 @@
 -- Areas that were judged.
-use Rattle.std.proofs.Common.{◌≡◌, ◌⊎◌, inl, inr, ℕ, Bool, true, false, if◌then◌else◌, List, [], ◌∷◌, Option, None, Some, refl, sym, ap, ◌∙◌, subst}
+use Rattle.std.proofs.Common.{◌≡◌, inl, inr, ℕ, Bool, true, false, if◌then◌else◌, List, [], ◌∷◌, Option, None, Some, refl, sym, ap, subst}
 use Rattle.tb_geom.specs.declared.refusal.Refusal.{Refusal}
 use Rattle.tb_geom.specs.declared.refusal.Refusal.TheVariants.{BadRegion, NoSuchWindow, OutOfRange}
 use Rattle.tb_geom.specs.Pixels.{Pixels, holds}
 use Rattle.tb_geom.specs.Rects.{is_in_range}
-use Rattle.region_bytes.specs.Bytes.{IsRegionBytes, IsBad}
+use Rattle.region_bytes.specs.Bytes.{IsRegionBytes}
 use Rattle.desk_call.specs.declared.update.AreaRef.{AreaRef}
 use Rattle.desk_call.specs.declared.update.AreaRef.TheVariants.{Rect, Region}
 use Rattle.window_mgr.specs.Refused.{first_refusal, is_found}

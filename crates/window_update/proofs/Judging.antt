@@ -1,10 +1,10 @@
 -- What the content of a window is to show, and whether it does.
-use Rattle.std.proofs.Common.{◌≡◌, ℕ, ◌<◌, ◌==◌, Bool, true, false, ◌&&◌, if◌then◌else◌, List, [], ◌∷◌, length, map, Option, None, Some, refl, sym, ap, ◌∙◌, subst}
+use Rattle.std.proofs.Common.{◌≡◌, ℕ, ◌<◌, ◌==◌, Bool, true, false, ◌&&◌, if◌then◌else◌, List, [], ◌∷◌, length, map, Some, refl, sym, ap, ◌∙◌, subst}
 use Rattle.std.specs.Prelude.{slice_index_or}
 use Rattle.std.proofs.lemmas.Bool.{and_parts}
 use Rattle.tb_geom.specs.declared.point.Point.{Point}
 use Rattle.tb_geom.specs.Points.{PixelSet, minus}
-use Rattle.tb_geom.specs.Pixels.{Pixels, holds}
+use Rattle.tb_geom.specs.Pixels.{holds}
 use Rattle.bit_map.specs.Bits.{Bits, on_map, bit}
 use Rattle.bit_blit.specs.Draws.{Draws}
 use Rattle.draw_port.specs.Ops.{picture_bit}
@@ -12,7 +12,7 @@ use Rattle.def_iface.specs.declared.taken.Taken.{Taken}
 use Rattle.def_iface.specs.Meaning.{Loan}
 use Rattle.def_iface.specs.Desk as layers
 use Rattle.def_iface.specs.Desk.Part.{Picture}
-use Rattle.def_iface.specs.Owner.{Owner, owner, own_bit, content_bit, same_owner}
+use Rattle.def_iface.specs.Owner.{Owner, owner, own_bit, content_bit}
 use Rattle.def_iface.specs.Owner.Owner.{Content}
 use Rattle.def_iface.specs.Scratch.{scratch}
 use Rattle.def_iface.proofs.Owning.{same_owner-true}
@@ -32,7 +32,7 @@ use Rattle.window_mgr.proofs.EditSeats.{same_at}
 use Rattle.window_mgr.proofs.Repicturing.{content_is_picture}
 use Rattle.window_mgr.proofs.TellLemmas as telling
 use Rattle.window_update.specs.Sets.{marked_in, on_place}
-use Rattle.window_update.specs.Rightness.{AreRight, IsAgreement, IsJudgement}
+use Rattle.window_update.specs.Rightness.{IsAgreement, IsJudgement}
 use Rattle.window_update.proofs.MarkLemmas.{its_area}
 
 -- the window of a record, as layers

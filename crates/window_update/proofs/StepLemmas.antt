@@ -1,11 +1,11 @@
 -- The steps of marks, and of an update.
-use Rattle.std.proofs.Common.{◌≡◌, ◌⊎◌, inl, inr, ℕ, ◌<◌, Bool, true, false, not, ◌&&◌, ◌||◌, if◌then◌else◌, List, [], ◌∷◌, length, map, Option, None, Some, Result, Ok, Err, pos, refl, sym, ap, ◌∙◌, subst}
-use Rattle.std.specs.Prelude.{slice_index_or, is_none, nat_abs}
+use Rattle.std.proofs.Common.{◌≡◌, inr, ℕ, ◌<◌, Bool, true, false, ◌&&◌, if◌then◌else◌, List, [], length, None, Some, Result, Ok, Err, refl, sym, ap, ◌∙◌, subst}
+use Rattle.std.specs.Prelude.{slice_index_or, nat_abs}
 use Rattle.std.proofs.lemmas.Bool.{and_parts}
 use Rattle.tb_geom.specs.declared.point.Point.{Point}
 use Rattle.tb_geom.specs.declared.refusal.Refusal.{Refusal}
-use Rattle.tb_geom.specs.declared.refusal.Refusal.TheVariants.{NoMemory, NoSuchWindow, StalePixels}
-use Rattle.tb_geom.specs.Points.{PixelSet, plus, minus}
+use Rattle.tb_geom.specs.declared.refusal.Refusal.TheVariants.{NoMemory, StalePixels}
+use Rattle.tb_geom.specs.Points.{PixelSet, minus}
 use Rattle.tb_geom.specs.Pixels.{Pixels, holds}
 use Rattle.def_iface.specs.declared.taken.Taken.{Taken}
 use Rattle.def_iface.specs.Meaning.{Loan}
@@ -16,32 +16,30 @@ use Rattle.desk_call.specs.declared.update.UpdateCall.{UpdateCall}
 use Rattle.desk_call.specs.declared.update.UpdateCall.TheVariants as asks
 use Rattle.desk_call.specs.declared.update.WindowArea.{WindowArea}
 use Rattle.desk_call.specs.declared.window.WindowReply.{WindowReply}
-use Rattle.desk_call.specs.declared.window.WindowReply.TheVariants.{Done}
 use Rattle.window_list.specs.declared.window.Window.{Window}
 use Rattle.vis_update.specs.declared.area.Area.{Area}
-use Rattle.vis_update.specs.Areas.{IsArea, stale_in, is_content_of}
+use Rattle.vis_update.specs.Areas.{stale_in, is_content_of}
 use Rattle.vis_update.specs.Records.{record_of}
 use Rattle.window_mgr.specs.declared.manager.WindowManager.{WindowManager}
 use Rattle.window_mgr.specs.Edits.{IsWindowAt, StandsAt}
 use Rattle.window_mgr.specs.Finding.{record_with}
-use Rattle.window_mgr.specs.FullDesk.{FullDesk, FullState, layered_desk}
+use Rattle.window_mgr.specs.FullDesk.{FullDesk, layered_desk}
 use Rattle.window_mgr.specs.Kept.{IsKept}
 use Rattle.window_mgr.specs.Records.{desk_of, state_of}
-use Rattle.window_mgr.specs.Updating.{LeavesState, IsRemarked}
+use Rattle.window_mgr.specs.Updating.{IsRemarked}
 use Rattle.window_mgr.specs.Whole.{IsWholeManager}
 use Rattle.window_mgr.proofs.EditSeats.{there_is}
-use Rattle.window_mgr.proofs.KeptLemmas.{kept}
 use Rattle.window_mgr.proofs.TellLemmas as telling
 use Rattle.window_mgr.proofs.UpdateSteps.{added_is_changed, taken_is_changed}
 use Rattle.window_update.specs.declared.marking.Verdict.{Verdict}
 use Rattle.window_update.specs.declared.marking.Verdict.TheVariants.{Stale, Right}
 use Rattle.window_update.specs.declared.updates.Updates.{Updates}
-use Rattle.window_update.specs.DeskStates.{IsDeskUnchanged, desk_state, activity_of, begun_of}
-use Rattle.window_update.specs.Marks.{marked_by, IsUpdateAfter, IsMarkedBy}
+use Rattle.window_update.specs.DeskStates.{desk_state, activity_of, begun_of}
+use Rattle.window_update.specs.Marks.{marked_by, IsMarkedBy}
 use Rattle.window_update.specs.Rightness.{IsJudgement}
 use Rattle.window_update.specs.Sets.{IsAreaOf, marked_in, on_place}
-use Rattle.window_update.specs.UpdateRefusals.{IsAreaRefusal, IsStaleRefusal, IsUpdateRefusal, may_update_grow}
-use Rattle.window_update.specs.UpdateSteps.{adding, taking, IsMarked, IsUpdateRefused, IsUpdateStep, IsUpdateStepOverAnySlots}
+use Rattle.window_update.specs.UpdateRefusals.{IsAreaRefusal, IsUpdateRefusal, may_update_grow}
+use Rattle.window_update.specs.UpdateSteps.{IsUpdateRefused, IsUpdateStep, IsUpdateStepOverAnySlots}
 use Rattle.window_update.proofs.MarkLemmas.{its_area}
 
 -- a call that is refused and leaves all as it was

@@ -1,13 +1,13 @@
 -- The steps of updates keep a right state right.
-use Rattle.std.proofs.Common.{◌≡◌, ◌⊎◌, inl, inr, ℕ, Bool, true, false, ◌&&◌, if◌then◌else◌, Option, None, Some, Result, Ok, Err, refl, sym, ap, ◌∙◌, subst}
+use Rattle.std.proofs.Common.{◌≡◌, ℕ, Bool, true, false, ◌&&◌, if◌then◌else◌, Option, None, Some, Result, Ok, Err, refl, sym, ap, ◌∙◌}
 use Rattle.tb_geom.specs.declared.point.Point.{Point}
 use Rattle.tb_geom.specs.declared.refusal.Refusal.{Refusal}
 use Rattle.tb_geom.specs.declared.refusal.Refusal.TheVariants.{StalePixels}
 use Rattle.tb_geom.specs.Points.{PixelSet, minus}
-use Rattle.tb_geom.specs.Pixels.{Pixels, holds}
+use Rattle.tb_geom.specs.Pixels.{holds}
 use Rattle.region_bytes.proofs.Decoded.{same_set}
 use Rattle.def_iface.specs.Desk as layers
-use Rattle.def_iface.specs.Owner.{Owner, owner}
+use Rattle.def_iface.specs.Owner.{owner}
 use Rattle.def_iface.specs.Scratch.{scratch}
 use Rattle.desk_call.specs.declared.update.AreaRef.{AreaRef}
 use Rattle.desk_call.specs.declared.update.AreaRef.TheVariants.{Rect, Region}
@@ -20,13 +20,13 @@ use Rattle.desk_call.specs.declared.window.WindowReply.{WindowReply}
 use Rattle.vis_update.specs.Areas.{is_content_of}
 use Rattle.vis_update.specs.Records.{WindowRecord}
 use Rattle.window_mgr.specs.Finding.{record_with}
-use Rattle.window_mgr.specs.FullDesk.{FullDesk, FullState, IsRightState, layered_desk}
+use Rattle.window_mgr.specs.FullDesk.{FullState, IsRightState, layered_desk}
 use Rattle.window_mgr.proofs.Running.{unchanged_stays_right}
 use Rattle.window_mgr.proofs.UpdateSteps.{added_stays_right, taken_stays_right, refreshed_stays_right}
 use Rattle.window_update.specs.Sets.{IsAreaOf, marked_in, on_place}
-use Rattle.window_update.specs.Rightness.{AreRight, IsJudgement}
+use Rattle.window_update.specs.Rightness.{IsJudgement}
 use Rattle.window_update.specs.DeskStates.{DeskState}
-use Rattle.window_update.specs.UpdateRefusals.{IsStaleRefusal, IsUpdateRefusal}
+use Rattle.window_update.specs.UpdateRefusals.{IsStaleRefusal}
 use Rattle.window_update.specs.UpdateSteps.{IsUpdateStep, AreDrawn}
 
 -- an area is one set of pixels

@@ -1,6 +1,5 @@
 -- A desk of which one window may be in an update.
 use Rattle.std.specs.Prelude.{◌≡◌, ℕ, ◌==◌, Bool, false, if◌then◌else◌, Option, None, Some, List}
-use Rattle.tb_geom.specs.declared.point.Point.{Point}
 use Rattle.tb_geom.specs.Points.{PixelSet}
 use Rattle.tb_geom.specs.Pixels.{holds}
 use Rattle.def_iface.specs.declared.taken.Taken.{Taken}
@@ -14,7 +13,6 @@ use Rattle.window_mgr.specs.declared.manager.WindowManager.{WindowManager}
 use Rattle.window_mgr.specs.FullDesk.{FullState}
 use Rattle.window_mgr.specs.Effects as windows
 use Rattle.window_mgr.specs.Records.{state_of}
-use Rattle.window_mgr.specs.Whole.{IsWholeManager}
 use Rattle.window_update.specs.declared.updates.OpenUpdate.{OpenUpdate}
 use Rattle.window_update.specs.declared.updates.Updates.{Updates}
 

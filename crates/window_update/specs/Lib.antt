@@ -1,8 +1,9 @@
 -- What the contracts speak of: the pixels of an area, which of them are right, a desk of which one window may be in an update, why
--- a call about updates refuses, what it does, and one step.
+-- a call about updates refuses, what it does, one step, and which window is to be updated first.
 pub mod Sets
 pub mod Rightness
 pub mod DeskStates
 pub mod UpdateRefusals
 pub mod UpdateSteps
 pub mod Marks
+pub mod Waiting

@@ -20,6 +20,7 @@ mod marking;
 mod right;
 mod serving;
 mod updates;
+mod waiting;
 
 pub use areas::update_form_refusal;
 pub use desk_call::{AreaRef, LayerDraw, Layers, UpdateCall, WindowArea};

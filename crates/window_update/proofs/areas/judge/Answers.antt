@@ -1,5 +1,4 @@
 use Rattle.std.proofs.Common.{subst}
-use Rattle.tb_geom.specs.Pixels.{holds}
 use Rattle.region_bytes.specs.Bytes.{IsRegionBytes}
 use Rattle.window_update.proofs.AreaLemmas.{region_read, is_read}
 use Rattle.window_update.proofs.areas.judge.Goals as goal

@@ -1,4 +1,4 @@
-use Rattle.std.proofs.Common.{◌≡◌, sym, ap, ◌∙◌, ◌&&◌, ◌||◌, not}
+use Rattle.std.proofs.Common.{sym, ap, ◌∙◌, ◌&&◌, ◌||◌, not}
 use Rattle.tb_geom.specs.Points.{plus, minus}
 use Rattle.tb_geom.specs.Pixels.{holds}
 use Rattle.window_mgr.proofs.TellLemmas as telling

@@ -1,4 +1,4 @@
-use Rattle.std.proofs.Common.{◌≡◌, Some, None, refl, sym, ap, ◌∙◌}
+use Rattle.std.proofs.Common.{Some, None, ap}
 use Rattle.std.specs.Prelude.{is_none}
 use Rattle.window_update.proofs.AreaLemmas.{area_refused, area_accepted, form_first, missing_next}
 use Rattle.window_update.proofs.MarkLemmas.{not_missing}

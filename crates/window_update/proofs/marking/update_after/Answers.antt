@@ -1,4 +1,4 @@
-use Rattle.std.proofs.Common.{◌≡◌, ap, ◌∙◌, sym}
+use Rattle.std.proofs.Common.{ap, ◌∙◌}
 use Rattle.std.specs.Prelude.{slice_index_or}
 use Rattle.window_list.specs.declared.list.WindowList.{WindowList}
 use Rattle.window_update.proofs.MarkLemmas.{if_ok, after_is, settled, seen_in, shown_in, area_low}

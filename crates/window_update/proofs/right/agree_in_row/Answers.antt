@@ -3,7 +3,6 @@ use Rattle.std.proofs.lemmas.Bool.{and_parts}
 use Rattle.std.proofs.lemmas.Int.{ints, to_z-of_z}
 use Rattle.tb_geom.specs.declared.point.Point.{Point}
 use Rattle.tb_geom.specs.Points.{minus}
-use Rattle.bit_map.specs.Bits.{bit}
 use Rattle.bit_blit.specs.Draws.{in_row}
 use Rattle.bit_blit.proofs.WalkLemmas.{fits_next, in_row-at, in_row-end}
 use Rattle.scan_region.specs.Scan.{span_holds}

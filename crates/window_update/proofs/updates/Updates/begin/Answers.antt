@@ -1,4 +1,4 @@
-use Rattle.std.proofs.Common.{◌≡◌, Some, refl, ap, ◌∙◌}
+use Rattle.std.proofs.Common.{Some, refl, ap, ◌∙◌}
 use Rattle.std.specs.Prelude.{slice_index_or}
 use Rattle.window_list.specs.declared.list.WindowList.{WindowList}
 use Rattle.window_update.proofs.MarkLemmas.{settled, seen_in, stale_shows, area_low}

@@ -1,4 +1,4 @@
-use Rattle.std.proofs.Common.{◌≡◌, refl, sym, ap, ◌∙◌, subst, true, ◌&&◌, []}
+use Rattle.std.proofs.Common.{ap, ◌∙◌, subst, ◌&&◌}
 use Rattle.std.specs.Prelude.{slice_index_or}
 use Rattle.tb_geom.specs.Points.{minus}
 use Rattle.tb_geom.specs.Pixels.{holds}

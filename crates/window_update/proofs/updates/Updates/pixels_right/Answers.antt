@@ -1,6 +1,4 @@
-use Rattle.std.proofs.Common.{subst, []}
 use Rattle.tb_geom.specs.Rects.{rect_holds}
-use Rattle.window_mgr.proofs.EditSeats.{there_is}
 use Rattle.window_update.proofs.MarkLemmas.{not_missing}
 use Rattle.window_update.proofs.StepLemmas.{judged_there}
 use Rattle.window_update.proofs.updates.Updates.pixels_right.Goals as goal

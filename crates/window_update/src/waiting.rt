@@ -1,0 +1,51 @@
+//! Which window is to be updated first.
+ghost use Rattle.std.specs.Prelude.{◌≡◌, ◌<◌, length, List};
+ghost use Rattle.def_iface.specs.Stocked.{SlotView};
+ghost use Rattle.window_mgr.specs.Edits.{IsWindowAt};
+ghost use Rattle.window_mgr.specs.Kept.{IsKept};
+ghost use Rattle.window_update.specs.DeskStates.{activity_of, desk_state, is_updating};
+ghost use Rattle.window_update.specs.Waiting.{IsWaiting, IsFirstToUpdate};
+
+use crate::Updates;
+use def_iface::{Defined, Taken};
+use window_mgr::WindowManager;
+
+impl Updates {
+    /// The number of the first window, from the front, whose update region is not empty. While a window's update is open
+    /// its update region is. Takes no memory.
+    pub fn first_to_update(&self, windows: &WindowManager) -> Option<u64>
+        requires { IsKept ⟦<Taken as Defined>⟧.loan windows.now }
+        ensures { (slots : List SlotView) → IsFirstToUpdate (desk_state ⟦<Taken as Defined>⟧.loan windows.now self.now slots) result }
+    {
+        let list = windows.parts().windows;
+        for at in 0..list.len() {
+            if self.is_waiting(windows, at) {
+                return Some(list.at(at).serial);
+            }
+        }
+        None
+    }
+
+    /// Whether the window at this place is to be updated.
+    fn is_waiting(&self, windows: &WindowManager, at: usize) -> bool
+        requires kept { IsKept ⟦<Taken as Defined>⟧.loan windows.now }
+        requires at { at < length windows.now.windows.records.items }
+        ensures { (w : _) → IsWindowAt windows.now.windows.records.items at w → (slots : List SlotView)
+            → IsWaiting w.serial (desk_state ⟦<Taken as Defined>⟧.loan windows.now self.now slots) result }
+    {
+        if self.is_open(windows.parts().windows.at(at).serial) {
+            return false;
+        }
+        !windows.area(at).update.is_empty()
+    }
+
+    /// Whether the update of this window is open.
+    fn is_open(&self, window: u64) -> bool
+        ensures { result ≡ is_updating window (activity_of self.now.update) }
+    {
+        match &self.update {
+            Some(open) => open.window == window,
+            None => false,
+        }
+    }
+}
