@@ -11,8 +11,8 @@ use def_iface::{Defined, Taken};
 use window_mgr::WindowManager;
 
 impl Updates {
-    /// The number of the first window, from the front, whose update region is not empty. While a window's update is open
-    /// its update region is. Takes no memory.
+    /// The number of the first window, from the front, whose update region is not empty (*Inside Macintosh* I, "The Window
+    /// Manager", CheckUpdate). While a window's update is open its update region is. Takes no memory.
     pub fn first_to_update(&self, windows: &WindowManager) -> Option<u64>
         requires { IsKept ⟦<Taken as Defined>⟧.loan windows.now }
         ensures { (slots : List SlotView) → IsFirstToUpdate (desk_state ⟦<Taken as Defined>⟧.loan windows.now self.now slots) result }
