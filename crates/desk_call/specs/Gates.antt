@@ -7,7 +7,7 @@ use Rattle.desk_call.specs.declared.activity.Activity.TheVariants.{Idle, Updatin
 use Rattle.desk_call.specs.declared.activity.Standing.{Standing}
 use Rattle.desk_call.specs.declared.activity.Standing.TheVariants.{Asks, Updates, Changes}
 use Rattle.desk_call.specs.declared.call.Call.{Call}
-use Rattle.desk_call.specs.declared.call.Call.TheVariants.{Window, Update}
+use Rattle.desk_call.specs.declared.call.Call.TheVariants.{Window, Update, Event}
 use Rattle.desk_call.specs.declared.update.UpdateCall.{UpdateCall}
 use Rattle.desk_call.specs.declared.update.UpdateCall.TheVariants.{Draw as DrawLayers, End}
 use Rattle.desk_call.specs.declared.window.WindowCall.{WindowCall}
@@ -28,10 +28,11 @@ update_standing (DrawLayers d) = Updates d.window
 update_standing (End s) = Updates s
 update_standing _ = Changes
 
--- when a call may come
+-- when a call may come; one about events may at any time
 abbrev pub standing_of : Call → Standing
 standing_of (Window call) = window_standing call
 standing_of (Update call) = update_standing call
+standing_of (Event call) = Asks
 
 -- why a call of a standing may not come while this is open
 abbrev pub gate : Activity → Standing → Option Refusal

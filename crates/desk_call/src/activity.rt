@@ -17,7 +17,7 @@ pub enum Activity {
 /// When a call may come.
 #[derive(Clone, Copy, PartialEq, Eq)]
 pub enum Standing {
-    /// It asks something, at any time.
+    /// It asks something, or is about events: at any time.
     Asks,
     /// It goes on with the update of this window or ends it, while that is open.
     Updates(u64),
@@ -49,6 +49,7 @@ impl Call<'_> {
         match self {
             Call::Window(call) => call.standing(),
             Call::Update(call) => call.standing(),
+            Call::Event(_) => Standing::Asks,
         }
     }
 }

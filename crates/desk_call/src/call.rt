@@ -1,6 +1,6 @@
 //! What a Toolbox can be asked, and what it answers.
 
-use crate::{UpdateCall, WindowCall, WindowReply};
+use crate::{EventCall, EventReply, UpdateCall, WindowCall, WindowReply};
 
 /// A call of the Toolbox, by the manager that answers it. Texts and the bytes of operations are
 /// borrowed, so that a call takes no memory.
@@ -8,10 +8,12 @@ use crate::{UpdateCall, WindowCall, WindowReply};
 pub enum Call<'a> {
     Window(WindowCall<'a>),
     Update(UpdateCall<'a>),
+    Event(EventCall),
 }
 
-/// The value of a call that was done, by the manager that answered.
+/// The value of a call that was done. Windows and updates answer alike.
 #[derive(Debug, PartialEq, Eq, Drop)]
 pub enum Reply {
     Window(WindowReply),
+    Event(EventReply),
 }
