@@ -42,7 +42,14 @@ is_in_ranges p = is_word p.kind && (is_word p.message && (is_word p.modifiers &&
 
 -- the event of a kind with these numbers
 abbrev pub event_of : PostEvent → EventKind → Event
-event_of p k = record { what = k; message = nat_abs p.message; when = nat_abs p.when; h = p.place.h; v = p.place.v; modifiers = nat_abs p.modifiers }
+event_of p k = record {
+  what = k;
+  message = nat_abs p.message;
+  when = nat_abs p.when;
+  h = p.place.h;
+  v = p.place.v;
+  modifiers = nat_abs p.modifiers;
+}
 
 -- the event that is to be posted; none where a number lies outside its range, or no kind has the code
 abbrev pub asked_event : PostEvent → Option Event
@@ -69,24 +76,34 @@ with_word (Err e) before step = (Err e, before)
 abbrev pub by_word : ℤ → Events → (ℕ → EventStep) → EventStep
 by_word z before step = with_word (word_of z) before step
 
+-- these are queued then
+abbrev pub with_queued : List Event → Events → Events
+with_queued queued before = record before { queue = record before.queue { events = queued } }
+
 -- an event is posted, if events of its kind are
 abbrev pub posting : Option Event → Events → EventStep
 posting None before = refused before
 posting (Some e) before =
     if is_posted e.what
-    then (Ok (Posted (selected before.queue.system_mask e)), record before { queue = record before.queue { events = posted before.queue.system_mask before.queue.events e } })
+    then (Ok (Posted (selected before.queue.system_mask e)), with_queued (posted before.queue.system_mask before.queue.events e) before)
     else refused before
 
--- where this window is active, and this one is to be updated first
+-- the event that is told next, where this window is active, and this one is to be updated first
+abbrev pub told_next : ℕ → Option ℕ → Option ℕ → Events → EventReply
+told_next mask active update before = Told (next_event mask before.told active before.queue.events update)
+
+-- what is left once it was told
+abbrev pub after_telling : ℕ → Option ℕ → Events → Events
+after_telling mask active before =
+    record (with_queued (events_after mask before.told active before.queue.events) before) { told = told_after mask before.told active }
+
 abbrev pub event_step : EventCall → Option ℕ → Option ℕ → Events → EventStep
 event_step (Post p) active update before = posting (asked_event p) before
-event_step (Next mask) active update before = by_word mask before (λ m. (
-  Ok (Told (next_event m before.told active before.queue.events update)),
-  record { queue = record before.queue { events = events_after m before.told active before.queue.events }; told = told_after m before.told active },
-))
-event_step (Avail mask) active update before = by_word mask before (λ m. (Ok (Told (next_event m before.told active before.queue.events update)), before))
-event_step (Flush f) active update before = by_word f.mask before (λ m. by_word f.stop before (λ stop.
-    (Ok Done, record before { queue = record before.queue { events = flushed (selected m) (selected stop) before.queue.events } })))
+event_step (Next mask) active update before = by_word mask before (λ m. (Ok (told_next m active update before), after_telling m active before))
+event_step (Avail mask) active update before = by_word mask before (λ m. (Ok (told_next m active update before), before))
+event_step (Flush f) active update before =
+    by_word f.mask before (λ m. by_word f.stop before (λ stop.
+    (Ok Done, with_queued (flushed (selected m) (selected stop) before.queue.events) before)))
 event_step (SetMask mask) active update before = by_word mask before (λ m. (Ok Done, record before { queue = record before.queue { system_mask = m } }))
 
 -- ---- the events of the desk, apart from these calls

@@ -42,12 +42,16 @@ IsEventAnswer call result before after = IsDeskUnchanged before.desk after.desk
 
 -- a call that may come is a step of its manager
 abbrev pub IsAdmitted : Call → Result Reply Refusal → ToolboxState → ToolboxState → Type 0
-IsAdmitted (Window call) (Ok (reply.Window answer)) before after = IsWindowAnswered call (Ok answer) before.desk after.desk × (after.events ≡ events_left call before.events)
+IsAdmitted (Window call) (Ok (reply.Window answer)) before after =
+    IsWindowAnswered call (Ok answer) before.desk after.desk × (after.events ≡ events_left call before.events)
 IsAdmitted (Window call) (Ok (reply.Event answer)) before after = ⊥
-IsAdmitted (Window call) (Err e) before after = IsWindowAnswered call (Err e) before.desk after.desk × (after.events ≡ before.events)
-IsAdmitted (Update call) (Ok (reply.Window answer)) before after = IsUpdateStep call (Ok answer) before.desk after.desk × (after.events ≡ before.events)
+IsAdmitted (Window call) (Err e) before after =
+    IsWindowAnswered call (Err e) before.desk after.desk × (after.events ≡ before.events)
+IsAdmitted (Update call) (Ok (reply.Window answer)) before after =
+    IsUpdateStep call (Ok answer) before.desk after.desk × (after.events ≡ before.events)
 IsAdmitted (Update call) (Ok (reply.Event answer)) before after = ⊥
-IsAdmitted (Update call) (Err e) before after = IsUpdateStep call (Err e) before.desk after.desk × (after.events ≡ before.events)
+IsAdmitted (Update call) (Err e) before after =
+    IsUpdateStep call (Err e) before.desk after.desk × (after.events ≡ before.events)
 IsAdmitted (Event call) (Ok (reply.Window answer)) before after = ⊥
 IsAdmitted (Event call) (Ok (reply.Event answer)) before after = IsEventAnswer call (Ok answer) before after
 IsAdmitted (Event call) (Err e) before after = IsEventAnswer call (Err e) before after
@@ -61,7 +65,8 @@ IsForm (Event call) before form = form ≡ None
 -- a call that may not come for this is refused: for its form, if that is refused, and else for this. It changes nothing
 abbrev pub IsStopped : Refusal → Call → Result Reply Refusal → ToolboxState → ToolboxState → Type 0
 IsStopped e call (Ok answer) before after = ⊥
-IsStopped e call (Err f) before after = (form : Option Refusal) × IsForm call before.desk form × ((f ≡ unwrap_or form e) × IsToolboxUnchanged before after)
+IsStopped e call (Err f) before after =
+    (form : Option Refusal) × IsForm call before.desk form × ((f ≡ unwrap_or form e) × IsToolboxUnchanged before after)
 
 -- whether a call may come, one table says for every call (`gate`)
 abbrev pub IsGated : Option Refusal → Call → Result Reply Refusal → ToolboxState → ToolboxState → Type 0
