@@ -17,12 +17,13 @@ use Rattle.window_mgr.proofs.KeptKinds as kinds
 use Rattle.window_mgr.proofs.KeptKinds.{kinds_of}
 use Rattle.window_mgr.proofs.Running as windowing
 use Rattle.desk_call.specs.declared.call.Call.{Call}
-use Rattle.desk_call.specs.declared.call.Call.TheVariants.{Window, Update}
+use Rattle.desk_call.specs.declared.call.Call.TheVariants.{Window, Update, Event}
 use Rattle.desk_call.specs.declared.call.Reply.{Reply}
 use Rattle.desk_call.specs.declared.call.Reply.TheVariants as reply
 use Rattle.desk_call.specs.Gates.{gate, standing_of}
-use Rattle.window_update.specs.DeskStates.{DeskState, narrowed}
+use Rattle.window_update.specs.DeskStates.{DeskState, IsDeskUnchanged, narrowed}
 use Rattle.window_update.specs.UpdateSteps.{IsToldOf}
+use Rattle.desk_toolbox.specs.ToolboxStates.{ToolboxState}
 use Rattle.desk_toolbox.specs.Run.{IsWindowAnswer, IsAdmitted, IsGated, IsStep, IsRunOfCalls, number_made, made, AreCounted}
 use Rattle.window_update.proofs.UpdateLaws.{update_stays_right}
 use Rattle.desk_toolbox.proofs.UpdatedDesks.{update_keeps_desk}
@@ -36,19 +37,27 @@ answer_stays_right : (asked : Option PixelSet) (call : WindowCall) (answer : Res
 answer_stays_right None call answer before after right step = windowing.step_stays_right call answer before.windows after.windows right step.1
 answer_stays_right (Some set) call answer before after right step = unchanged_stays_right before.windows after.windows right step.1.windows
 
-pub admitted_stays_right : (call : Call) (answer : Result Reply Refusal) (before after : DeskState) → IsRightState before.windows → IsAdmitted call answer before after → IsRightState after.windows
-admitted_stays_right (Window call) (Ok (reply.Window answer)) before after right step = answer_stays_right (narrowed call before.activity before.begun) call (Ok answer) before after right step
-admitted_stays_right (Window call) (Err e) before after right step = answer_stays_right (narrowed call before.activity before.begun) call (Err e) before after right step
-admitted_stays_right (Update call) (Ok (reply.Window answer)) before after right step = update_stays_right call (Ok answer) before after right step
-admitted_stays_right (Update call) (Err e) before after right step = update_stays_right call (Err e) before after right step
+unchanged_desk_stays_right : (before after : ToolboxState) → IsRightState before.desk.windows → IsDeskUnchanged before.desk after.desk → IsRightState after.desk.windows
+unchanged_desk_stays_right before after right same = unchanged_stays_right before.desk.windows after.desk.windows right same.windows
 
-gated_stays_right : (stopped : Option Refusal) (call : Call) (answer : Result Reply Refusal) (before after : DeskState) → IsRightState before.windows → IsGated stopped call answer before after → IsRightState after.windows
+pub admitted_stays_right : (call : Call) (answer : Result Reply Refusal) (before after : ToolboxState) → IsRightState before.desk.windows → IsAdmitted call answer before after → IsRightState after.desk.windows
+admitted_stays_right (Window call) (Ok (reply.Window answer)) before after right step = answer_stays_right (narrowed call before.desk.activity before.desk.begun) call (Ok answer) before.desk after.desk right step.0
+admitted_stays_right (Window call) (Ok (reply.Event answer)) before after right step = absurd step
+admitted_stays_right (Window call) (Err e) before after right step = answer_stays_right (narrowed call before.desk.activity before.desk.begun) call (Err e) before.desk after.desk right step.0
+admitted_stays_right (Update call) (Ok (reply.Window answer)) before after right step = update_stays_right call (Ok answer) before.desk after.desk right step.0
+admitted_stays_right (Update call) (Ok (reply.Event answer)) before after right step = absurd step
+admitted_stays_right (Update call) (Err e) before after right step = update_stays_right call (Err e) before.desk after.desk right step.0
+admitted_stays_right (Event call) (Ok (reply.Window answer)) before after right step = absurd step
+admitted_stays_right (Event call) (Ok (reply.Event answer)) before after right step = unchanged_desk_stays_right before after right step.0
+admitted_stays_right (Event call) (Err e) before after right step = unchanged_desk_stays_right before after right step.0
+
+gated_stays_right : (stopped : Option Refusal) (call : Call) (answer : Result Reply Refusal) (before after : ToolboxState) → IsRightState before.desk.windows → IsGated stopped call answer before after → IsRightState after.desk.windows
 gated_stays_right None call answer before after right step = admitted_stays_right call answer before after right step
 gated_stays_right (Some e) call (Ok answer) before after right step = absurd step
-gated_stays_right (Some e) call (Err f) before after right (form, why, (is, same)) = unchanged_stays_right before.windows after.windows right same.windows
+gated_stays_right (Some e) call (Err f) before after right (form, why, (is, same)) = unchanged_desk_stays_right before after right same.desk
 
-pub step_stays_right : (call : Call) (answer : Result Reply Refusal) (before after : DeskState) → IsRightState before.windows → IsStep call answer before after → IsRightState after.windows
-step_stays_right call answer before after right step = gated_stays_right (gate before.activity (standing_of call)) call answer before after right step
+pub step_stays_right : (call : Call) (answer : Result Reply Refusal) (before after : ToolboxState) → IsRightState before.desk.windows → IsStep call answer before after → IsRightState after.desk.windows
+step_stays_right call answer before after right step = gated_stays_right (gate before.desk.activity (standing_of call)) call answer before after right step
 
 -- and the stock keeps its kinds
 same_kinds : (before after : FullState) → after.desk ≡ before.desk → kinds_of after ≡ kinds_of before
@@ -58,22 +67,27 @@ answer_keeps_kinds : (asked : Option PixelSet) (call : WindowCall) (answer : Res
 answer_keeps_kinds None call answer before after step = kinds.step_keeps_kinds call answer before.windows after.windows step.1
 answer_keeps_kinds (Some set) call answer before after step = same_kinds before.windows after.windows step.1.windows.desk
 
-admitted_keeps_kinds : (call : Call) (answer : Result Reply Refusal) (before after : DeskState) → IsAdmitted call answer before after → kinds_of after.windows ≡ kinds_of before.windows
-admitted_keeps_kinds (Window call) (Ok (reply.Window answer)) before after step = answer_keeps_kinds (narrowed call before.activity before.begun) call (Ok answer) before after step
-admitted_keeps_kinds (Window call) (Err e) before after step = answer_keeps_kinds (narrowed call before.activity before.begun) call (Err e) before after step
-admitted_keeps_kinds (Update call) (Ok (reply.Window answer)) before after step = same_kinds before.windows after.windows (update_keeps_desk call (Ok answer) before after step)
-admitted_keeps_kinds (Update call) (Err e) before after step = same_kinds before.windows after.windows (update_keeps_desk call (Err e) before after step)
+admitted_keeps_kinds : (call : Call) (answer : Result Reply Refusal) (before after : ToolboxState) → IsAdmitted call answer before after → kinds_of after.desk.windows ≡ kinds_of before.desk.windows
+admitted_keeps_kinds (Window call) (Ok (reply.Window answer)) before after step = answer_keeps_kinds (narrowed call before.desk.activity before.desk.begun) call (Ok answer) before.desk after.desk step.0
+admitted_keeps_kinds (Window call) (Ok (reply.Event answer)) before after step = absurd step
+admitted_keeps_kinds (Window call) (Err e) before after step = answer_keeps_kinds (narrowed call before.desk.activity before.desk.begun) call (Err e) before.desk after.desk step.0
+admitted_keeps_kinds (Update call) (Ok (reply.Window answer)) before after step = same_kinds before.desk.windows after.desk.windows (update_keeps_desk call (Ok answer) before.desk after.desk step.0)
+admitted_keeps_kinds (Update call) (Ok (reply.Event answer)) before after step = absurd step
+admitted_keeps_kinds (Update call) (Err e) before after step = same_kinds before.desk.windows after.desk.windows (update_keeps_desk call (Err e) before.desk after.desk step.0)
+admitted_keeps_kinds (Event call) (Ok (reply.Window answer)) before after step = absurd step
+admitted_keeps_kinds (Event call) (Ok (reply.Event answer)) before after step = same_kinds before.desk.windows after.desk.windows step.0.windows.desk
+admitted_keeps_kinds (Event call) (Err e) before after step = same_kinds before.desk.windows after.desk.windows step.0.windows.desk
 
-gated_keeps_kinds : (stopped : Option Refusal) (call : Call) (answer : Result Reply Refusal) (before after : DeskState) → IsGated stopped call answer before after → kinds_of after.windows ≡ kinds_of before.windows
+gated_keeps_kinds : (stopped : Option Refusal) (call : Call) (answer : Result Reply Refusal) (before after : ToolboxState) → IsGated stopped call answer before after → kinds_of after.desk.windows ≡ kinds_of before.desk.windows
 gated_keeps_kinds None call answer before after step = admitted_keeps_kinds call answer before after step
 gated_keeps_kinds (Some e) call (Ok answer) before after step = absurd step
-gated_keeps_kinds (Some e) call (Err f) before after (form, why, (is, same)) = same_kinds before.windows after.windows same.windows.desk
+gated_keeps_kinds (Some e) call (Err f) before after (form, why, (is, same)) = same_kinds before.desk.windows after.desk.windows same.desk.windows.desk
 
-pub step_keeps_kinds : (call : Call) (answer : Result Reply Refusal) (before after : DeskState) → IsStep call answer before after → kinds_of after.windows ≡ kinds_of before.windows
-step_keeps_kinds call answer before after step = gated_keeps_kinds (gate before.activity (standing_of call)) call answer before after step
+pub step_keeps_kinds : (call : Call) (answer : Result Reply Refusal) (before after : ToolboxState) → IsStep call answer before after → kinds_of after.desk.windows ≡ kinds_of before.desk.windows
+step_keeps_kinds call answer before after step = gated_keeps_kinds (gate before.desk.activity (standing_of call)) call answer before after step
 
-pub run_stays_right : (first last : DeskState) (calls : List Call) (answers : List (Result Reply Refusal)) → IsRightState first.windows → IsRunOfCalls first calls answers last → IsRightState last.windows
-run_stays_right first last [] [] right run = subst (λ (s : DeskState). IsRightState s.windows) (sym run) right
+pub run_stays_right : (first last : ToolboxState) (calls : List Call) (answers : List (Result Reply Refusal)) → IsRightState first.desk.windows → IsRunOfCalls first calls answers last → IsRightState last.desk.windows
+run_stays_right first last [] [] right run = subst (λ (s : ToolboxState). IsRightState s.desk.windows) (sym run) right
 run_stays_right first last [] (answer ∷ answers) right run = absurd run
 run_stays_right first last (call ∷ calls) [] right run = absurd run
 run_stays_right first last (call ∷ calls) (answer ∷ answers) right run =
@@ -81,14 +95,14 @@ run_stays_right first last (call ∷ calls) (answer ∷ answers) right run =
 
 -- ---- runs that go on
 
-run_more : (first middle last : DeskState) (calls : List Call) (answers : List (Result Reply Refusal)) (call : Call) (answer : Result Reply Refusal) → IsRunOfCalls first calls answers middle → IsStep call answer middle last → IsRunOfCalls first (calls ++ call ∷ []) (answers ++ answer ∷ []) last
+run_more : (first middle last : ToolboxState) (calls : List Call) (answers : List (Result Reply Refusal)) (call : Call) (answer : Result Reply Refusal) → IsRunOfCalls first calls answers middle → IsStep call answer middle last → IsRunOfCalls first (calls ++ call ∷ []) (answers ++ answer ∷ []) last
 run_more first middle last [] [] call answer r s = (last, subst (λ m. IsStep call answer m last) r s, refl)
 run_more first middle last (c ∷ calls) (a ∷ answers) call answer r s = (r.0, r.1, run_more r.0 middle last calls answers call answer r.2 s)
 run_more first middle last [] (a ∷ answers) call answer r s = absurd r
 run_more first middle last (c ∷ calls) [] call answer r s = absurd r
 
 -- a run of the calls so far goes on by the next
-pub run_step : (first middle last : DeskState) (calls : List Call) (answers more : List (Result Reply Refusal)) (i : ℕ) (call : Call) (answer : Result Reply Refusal) → more ≡ answers ++ answer ∷ [] → call ≡ get_or calls i call → IsRunOfCalls first (take i calls) answers middle → i < length calls → IsStep call answer middle last → IsRunOfCalls first (take (i + 1) calls) more last
+pub run_step : (first middle last : ToolboxState) (calls : List Call) (answers more : List (Result Reply Refusal)) (i : ℕ) (call : Call) (answer : Result Reply Refusal) → more ≡ answers ++ answer ∷ [] → call ≡ get_or calls i call → IsRunOfCalls first (take i calls) answers middle → i < length calls → IsStep call answer middle last → IsRunOfCalls first (take (i + 1) calls) more last
 run_step first middle last calls answers more i call answer e read r l s =
     subst (λ (x : List Call × List (Result Reply Refusal)). IsRunOfCalls first x.0 x.1 last) (λ k. (sym (take_more calls i call l) k, sym e k))
     (run_more first middle last (take i calls) answers (get_or calls i call) answer r (subst (λ c. IsStep c answer middle last) read s))
@@ -189,28 +203,35 @@ answer_is_counted (Some set) call answer before after numbers step h =
 -- the numbers of the windows that any call made
 abbrev made_by : Result Reply Refusal → List ℕ
 made_by (Ok (reply.Window answer)) = number_made answer
+made_by (Ok (reply.Event answer)) = []
 made_by (Err e) = []
 
-admitted_is_counted : (call : Call) (answer : Result Reply Refusal) (before after : DeskState) (numbers : List ℕ) → IsAdmitted call answer before after → AreCounted after.windows.desk.next numbers → AreCounted before.windows.desk.next (made_by answer ++ numbers)
-admitted_is_counted (Window call) (Ok (reply.Window answer)) before after numbers step h = answer_is_counted (narrowed call before.activity before.begun) call (Ok answer) before after numbers step h
-admitted_is_counted (Window call) (Err e) before after numbers step h = answer_is_counted (narrowed call before.activity before.begun) call (Err e) before after numbers step h
+admitted_is_counted : (call : Call) (answer : Result Reply Refusal) (before after : ToolboxState) (numbers : List ℕ) → IsAdmitted call answer before after → AreCounted after.desk.windows.desk.next numbers → AreCounted before.desk.windows.desk.next (made_by answer ++ numbers)
+admitted_is_counted (Window call) (Ok (reply.Window answer)) before after numbers step h = answer_is_counted (narrowed call before.desk.activity before.desk.begun) call (Ok answer) before.desk after.desk numbers step.0 h
+admitted_is_counted (Window call) (Ok (reply.Event answer)) before after numbers step h = absurd step
+admitted_is_counted (Window call) (Err e) before after numbers step h = answer_is_counted (narrowed call before.desk.activity before.desk.begun) call (Err e) before.desk after.desk numbers step.0 h
 admitted_is_counted (Update call) (Ok (reply.Window answer)) before after numbers step h =
-    same_counted before.windows after.windows numbers (number_made answer) (ap number_made step.1.0) (update_keeps_desk call (Ok answer) before after step) h
-admitted_is_counted (Update call) (Err e) before after numbers step h = counted_on before.windows after.windows numbers step.1.windows h
+    same_counted before.desk.windows after.desk.windows numbers (number_made answer) (ap number_made step.0.1.0) (update_keeps_desk call (Ok answer) before.desk after.desk step.0) h
+admitted_is_counted (Update call) (Ok (reply.Event answer)) before after numbers step h = absurd step
+admitted_is_counted (Update call) (Err e) before after numbers step h = counted_on before.desk.windows after.desk.windows numbers step.0.1.windows h
+admitted_is_counted (Event call) (Ok (reply.Window answer)) before after numbers step h = absurd step
+admitted_is_counted (Event call) (Ok (reply.Event answer)) before after numbers step h = counted_on before.desk.windows after.desk.windows numbers step.0.windows h
+admitted_is_counted (Event call) (Err e) before after numbers step h = counted_on before.desk.windows after.desk.windows numbers step.0.windows h
 
-gated_is_counted : (stopped : Option Refusal) (call : Call) (answer : Result Reply Refusal) (before after : DeskState) (numbers : List ℕ) → IsGated stopped call answer before after → AreCounted after.windows.desk.next numbers → AreCounted before.windows.desk.next (made_by answer ++ numbers)
+gated_is_counted : (stopped : Option Refusal) (call : Call) (answer : Result Reply Refusal) (before after : ToolboxState) (numbers : List ℕ) → IsGated stopped call answer before after → AreCounted after.desk.windows.desk.next numbers → AreCounted before.desk.windows.desk.next (made_by answer ++ numbers)
 gated_is_counted None call answer before after numbers step h = admitted_is_counted call answer before after numbers step h
 gated_is_counted (Some e) call (Ok answer) before after numbers step h = absurd step
-gated_is_counted (Some e) call (Err f) before after numbers (form, why, (is, same)) h = counted_on before.windows after.windows numbers same.windows h
+gated_is_counted (Some e) call (Err f) before after numbers (form, why, (is, same)) h = counted_on before.desk.windows after.desk.windows numbers same.desk.windows h
 
 made_first : (answer : Result Reply Refusal) (answers : List (Result Reply Refusal)) → made_by answer ++ made answers ≡ made (answer ∷ answers)
 made_first (Ok (reply.Window answer)) answers = refl
+made_first (Ok (reply.Event answer)) answers = refl
 made_first (Err e) answers = refl
 
-pub made_are_counted : (first last : DeskState) (calls : List Call) (answers : List (Result Reply Refusal)) → IsRunOfCalls first calls answers last → AreCounted first.windows.desk.next (made answers)
+pub made_are_counted : (first last : ToolboxState) (calls : List Call) (answers : List (Result Reply Refusal)) → IsRunOfCalls first calls answers last → AreCounted first.desk.windows.desk.next (made answers)
 made_are_counted first last [] [] run = tt
 made_are_counted first last [] (answer ∷ answers) run = absurd run
 made_are_counted first last (call ∷ calls) [] run = absurd run
 made_are_counted first last (call ∷ calls) (answer ∷ answers) run =
-    subst (λ (ns : List ℕ). AreCounted first.windows.desk.next ns) (made_first answer answers)
-    (gated_is_counted (gate first.activity (standing_of call)) call answer first run.0 (made answers) run.1 (made_are_counted run.0 last calls answers run.2))
+    subst (λ (ns : List ℕ). AreCounted first.desk.windows.desk.next ns) (made_first answer answers)
+    (gated_is_counted (gate first.desk.activity (standing_of call)) call answer first run.0 (made answers) run.1 (made_are_counted run.0 last calls answers run.2))

@@ -1,3 +1,5 @@
--- What the contracts speak of: a whole Toolbox, steps of any manager's calls, and runs of steps.
+-- What the contracts speak of: a whole Toolbox and its state, steps of any manager's calls, and runs of steps.
+pub mod EventSteps
+pub mod ToolboxStates
 pub mod WholeToolbox
 pub mod Run

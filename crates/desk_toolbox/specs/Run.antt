@@ -4,9 +4,11 @@ use Rattle.std.specs.Option.{unwrap_or}
 use Rattle.tb_geom.specs.declared.refusal.Refusal.{Refusal}
 use Rattle.tb_geom.specs.Points.{PixelSet}
 use Rattle.desk_call.specs.declared.call.Call.{Call}
-use Rattle.desk_call.specs.declared.call.Call.TheVariants.{Window, Update}
+use Rattle.desk_call.specs.declared.call.Call.TheVariants.{Window, Update, Event}
 use Rattle.desk_call.specs.declared.call.Reply.{Reply}
 use Rattle.desk_call.specs.declared.call.Reply.TheVariants as reply
+use Rattle.desk_call.specs.declared.event.EventCall.{EventCall}
+use Rattle.desk_call.specs.declared.event.EventReply.{EventReply}
 use Rattle.desk_call.specs.declared.window.WindowCall.{WindowCall}
 use Rattle.desk_call.specs.declared.window.WindowReply.{WindowReply}
 use Rattle.desk_call.specs.declared.window.WindowReply.TheVariants.{Made}
@@ -17,6 +19,9 @@ use Rattle.window_mgr.specs.Step as windows
 use Rattle.window_update.specs.DeskStates.{DeskState, IsDeskUnchanged, SameActivity, narrowed}
 use Rattle.window_update.specs.UpdateRefusals.{IsUpdateForm}
 use Rattle.window_update.specs.UpdateSteps.{IsUpdateStep, IsToldOf}
+use Rattle.window_update.specs.Waiting.{IsFirstToUpdate}
+use Rattle.desk_toolbox.specs.EventSteps.{event_step, events_left}
+use Rattle.desk_toolbox.specs.ToolboxStates.{ToolboxState, IsToolboxUnchanged}
 
 -- ---- one step
 
@@ -25,38 +30,54 @@ abbrev pub IsWindowAnswer : Option PixelSet → WindowCall → Result WindowRepl
 IsWindowAnswer None call result before after = SameActivity before after × windows.IsWindowStep call result before.windows after.windows
 IsWindowAnswer (Some set) call result before after = IsToldOf set result × IsDeskUnchanged before after
 
+-- it is narrowed while the update of the window is open that it asks about
+abbrev pub IsWindowAnswered : WindowCall → Result WindowReply Refusal → DeskState → DeskState → Type 0
+IsWindowAnswered call result before after = IsWindowAnswer (narrowed call before.activity before.begun) call result before after
+
+-- a call about events leaves the desk as it is, and its answer and the events that it leaves are those of its step
+abbrev pub IsEventAnswer : EventCall → Result EventReply Refusal → ToolboxState → ToolboxState → Type 0
+IsEventAnswer call result before after = IsDeskUnchanged before.desk after.desk
+    × ((update : Option ℕ) × IsFirstToUpdate before.desk update
+    × ((result, after.events) ≡ event_step call before.desk.windows.desk.active update before.events))
+
 -- a call that may come is a step of its manager
-abbrev pub IsAdmitted : Call → Result Reply Refusal → DeskState → DeskState → Type 0
-IsAdmitted (Window call) (Ok (reply.Window answer)) before after = IsWindowAnswer (narrowed call before.activity before.begun) call (Ok answer) before after
-IsAdmitted (Window call) (Err e) before after = IsWindowAnswer (narrowed call before.activity before.begun) call (Err e) before after
-IsAdmitted (Update call) (Ok (reply.Window answer)) before after = IsUpdateStep call (Ok answer) before after
-IsAdmitted (Update call) (Err e) before after = IsUpdateStep call (Err e) before after
+abbrev pub IsAdmitted : Call → Result Reply Refusal → ToolboxState → ToolboxState → Type 0
+IsAdmitted (Window call) (Ok (reply.Window answer)) before after = IsWindowAnswered call (Ok answer) before.desk after.desk × (after.events ≡ events_left call before.events)
+IsAdmitted (Window call) (Ok (reply.Event answer)) before after = ⊥
+IsAdmitted (Window call) (Err e) before after = IsWindowAnswered call (Err e) before.desk after.desk × (after.events ≡ before.events)
+IsAdmitted (Update call) (Ok (reply.Window answer)) before after = IsUpdateStep call (Ok answer) before.desk after.desk × (after.events ≡ before.events)
+IsAdmitted (Update call) (Ok (reply.Event answer)) before after = ⊥
+IsAdmitted (Update call) (Err e) before after = IsUpdateStep call (Err e) before.desk after.desk × (after.events ≡ before.events)
+IsAdmitted (Event call) (Ok (reply.Window answer)) before after = ⊥
+IsAdmitted (Event call) (Ok (reply.Event answer)) before after = IsEventAnswer call (Ok answer) before after
+IsAdmitted (Event call) (Err e) before after = IsEventAnswer call (Err e) before after
 
 -- why a call is refused for its names and bytes alone, whatever is open
 abbrev pub IsForm : Call → DeskState → Option Refusal → Type 0
 IsForm (Window call) before form = IsFormRefusal call before.windows.desk form
 IsForm (Update call) before form = IsUpdateForm call form
+IsForm (Event call) before form = form ≡ None
 
 -- a call that may not come for this is refused: for its form, if that is refused, and else for this. It changes nothing
-abbrev pub IsStopped : Refusal → Call → Result Reply Refusal → DeskState → DeskState → Type 0
+abbrev pub IsStopped : Refusal → Call → Result Reply Refusal → ToolboxState → ToolboxState → Type 0
 IsStopped e call (Ok answer) before after = ⊥
-IsStopped e call (Err f) before after = (form : Option Refusal) × IsForm call before form × ((f ≡ unwrap_or form e) × IsDeskUnchanged before after)
+IsStopped e call (Err f) before after = (form : Option Refusal) × IsForm call before.desk form × ((f ≡ unwrap_or form e) × IsToolboxUnchanged before after)
 
 -- whether a call may come, one table says for every call (`gate`)
-abbrev pub IsGated : Option Refusal → Call → Result Reply Refusal → DeskState → DeskState → Type 0
+abbrev pub IsGated : Option Refusal → Call → Result Reply Refusal → ToolboxState → ToolboxState → Type 0
 IsGated None = IsAdmitted
 IsGated (Some e) = IsStopped e
 
-abbrev pub IsStep : Call → Result Reply Refusal → DeskState → DeskState → Type 0
-IsStep call answer before after = IsGated (gate before.activity (standing_of call)) call answer before after
+abbrev pub IsStep : Call → Result Reply Refusal → ToolboxState → ToolboxState → Type 0
+IsStep call answer before after = IsGated (gate before.desk.activity (standing_of call)) call answer before after
 
 -- ---- runs
 
 -- from the first state these calls may have these answers and leave the last state: each step begins as the one before
 -- it ended
-abbrev pub IsRunOfCalls : DeskState → List Call → List (Result Reply Refusal) → DeskState → Type 0
+abbrev pub IsRunOfCalls : ToolboxState → List Call → List (Result Reply Refusal) → ToolboxState → Type 0
 IsRunOfCalls first [] [] last = last ≡ first
-IsRunOfCalls first (call ∷ calls) (answer ∷ answers) last = (middle : DeskState) × IsStep call answer first middle × IsRunOfCalls middle calls answers last
+IsRunOfCalls first (call ∷ calls) (answer ∷ answers) last = (middle : ToolboxState) × IsStep call answer first middle × IsRunOfCalls middle calls answers last
 IsRunOfCalls first [] (answer ∷ answers) last = ⊥
 IsRunOfCalls first (call ∷ calls) [] last = ⊥
 
@@ -69,6 +90,7 @@ number_made _ = []
 abbrev pub made : List (Result Reply Refusal) → List ℕ
 made [] = []
 made (Ok (reply.Window answer) ∷ answers) = number_made answer ++ made answers
+made (Ok (reply.Event answer) ∷ answers) = made answers
 made (Err e ∷ answers) = made answers
 
 -- the numbers follow each other, and the first is the next one

@@ -1,11 +1,12 @@
--- What holds of a Toolbox and its stock between calls, and the state of its desk.
+-- What holds of a Toolbox and its stock between calls, and its state.
 use Rattle.std.specs.Prelude.{List}
 use Rattle.def_iface.specs.declared.taken.Taken.{Taken}
 use Rattle.def_iface.specs.Meaning.{Loan}
 use Rattle.def_iface.specs.Stocked.{SlotView}
 use Rattle.window_mgr.specs.Whole.{IsWholeManager}
-use Rattle.window_update.specs.DeskStates.{DeskState, IsWholeUpdates, desk_state}
+use Rattle.window_update.specs.DeskStates.{IsWholeUpdates, desk_state}
 use Rattle.desk_toolbox.specs.declared.toolbox.Toolbox.{Toolbox}
+use Rattle.desk_toolbox.specs.ToolboxStates.{ToolboxState}
 
 -- `loan` says what a definition that was taken means
 module _ {V : Type 0} {H : V → Type 0} (loan : Taken V H → Loan) where
@@ -19,5 +20,5 @@ module _ {V : Type 0} {H : V → Type 0} (loan : Taken V H → Loan) where
     pub slots : List SlotView
     pub whole : IsWholeToolbox t slots
 
-  abbrev pub toolbox_state : Toolbox V H → List SlotView → DeskState
-  toolbox_state t slots = desk_state loan t.windows t.updates slots
+  abbrev pub toolbox_state : Toolbox V H → List SlotView → ToolboxState
+  toolbox_state t slots = record { desk = desk_state loan t.windows t.updates slots; events = t.events }

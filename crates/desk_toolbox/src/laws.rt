@@ -11,9 +11,9 @@ ghost use Rattle.vis_update.specs.Records.{WindowRecord};
 ghost use Rattle.window_mgr.specs.FullDesk.{FullDesk, IsRightState, layered_desk};
 ghost use Rattle.window_mgr.specs.Finding.{front_of};
 ghost use Rattle.window_mgr.specs.Refused.{first_refusal};
-ghost use Rattle.window_update.specs.DeskStates.{DeskState};
 ghost use Rattle.desk_call.specs.declared.call.Call.{Call};
 ghost use Rattle.desk_call.specs.declared.call.Reply.{Reply};
+ghost use Rattle.desk_toolbox.specs.ToolboxStates.{ToolboxState};
 ghost use Rattle.desk_toolbox.specs.Run.{IsStep, IsRunOfCalls, made, AreCounted};
 
 /// Painting the desk from nothing, back to front, gives each pixel the value of its owner.
@@ -40,29 +40,29 @@ pub fn a_refusal_is_the_first_that_holds()
 /// Whatever a call does, the stock has the same slots, for the same kinds.
 #[tactic(auto, using(crate::proofs::Runs::step_keeps_kinds))]
 pub fn steps_keep_the_kinds()
-    ensures { (call : Call) (answer : Result Reply Refusal) (before after : DeskState)
+    ensures { (call : Call) (answer : Result Reply Refusal) (before after : ToolboxState)
         → IsStep call answer before after
-        → map (λ slot. slot.kind) after.windows.desk.stock ≡ map (λ slot. slot.kind) before.windows.desk.stock }
+        → map (λ slot. slot.kind) after.desk.windows.desk.stock ≡ map (λ slot. slot.kind) before.desk.windows.desk.stock }
 {}
 
 /// A step keeps a right state right.
 #[tactic(auto, using(crate::proofs::Runs::step_stays_right))]
 pub fn steps_stay_right()
-    ensures { (call : Call) (answer : Result Reply Refusal) (before after : DeskState)
-        → IsRightState before.windows → IsStep call answer before after → IsRightState after.windows }
+    ensures { (call : Call) (answer : Result Reply Refusal) (before after : ToolboxState)
+        → IsRightState before.desk.windows → IsStep call answer before after → IsRightState after.desk.windows }
 {}
 
 /// The windows that a run makes have numbers that follow each other: none is used again.
 #[tactic(auto, using(crate::proofs::Runs::made_are_counted))]
 pub fn windows_are_counted()
-    ensures { (first last : DeskState) (calls : List Call) (answers : List (Result Reply Refusal))
-        → IsRunOfCalls first calls answers last → AreCounted first.windows.desk.next (made answers) }
+    ensures { (first last : ToolboxState) (calls : List Call) (answers : List (Result Reply Refusal))
+        → IsRunOfCalls first calls answers last → AreCounted first.desk.windows.desk.next (made answers) }
 {}
 
 /// After any run from a right state each pixel of the screen in no update set has the value that
 /// painting the desk from nothing gives.
 #[tactic(auto, using(crate::proofs::Runs::run_stays_right))]
 pub fn runs_stay_right()
-    ensures { (first last : DeskState) (calls : List Call) (answers : List (Result Reply Refusal))
-        → IsRightState first.windows → IsRunOfCalls first calls answers last → IsRightState last.windows }
+    ensures { (first last : ToolboxState) (calls : List Call) (answers : List (Result Reply Refusal))
+        → IsRightState first.desk.windows → IsRunOfCalls first calls answers last → IsRightState last.desk.windows }
 {}

@@ -11,13 +11,14 @@
 //! Definitions live outside, in a `Stock` that each call is handed; `Toolbox::close` puts them back Closed.
 #![tactic(auto)]
 
+mod events;
 pub mod laws;
 mod toolbox;
 
 pub use desk_call::{
-    Activity, AreaRef, Call, Drawing, Found, LayerDraw, Layers, MoveWindow, NewPicture, NewWindow,
-    PictureRef, Reply, ScrollPicture, SendBehind, ShowHide, SizeWindow, UpdateCall, WindowArea,
-    WindowCall, WindowInfo, WindowPart, WindowReply,
+    Activity, AreaRef, Call, Drawing, EventCall, EventReply, FlushEvents, Found, LayerDraw, Layers,
+    MoveWindow, NewPicture, NewWindow, PictureRef, Reply, ScrollPicture, SendBehind, ShowHide,
+    SizeWindow, UpdateCall, WindowArea, WindowCall, WindowInfo, WindowPart, WindowReply,
 };
 pub use toolbox::Toolbox;
 pub use window_mgr::NotBegun;

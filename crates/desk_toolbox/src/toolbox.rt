@@ -9,12 +9,15 @@ ghost use Rattle.window_mgr.specs.FullDesk.{IsRightState};
 ghost use Rattle.window_mgr.specs.Records.{desk_of, state_of};
 ghost use Rattle.window_mgr.specs.Refused.{is_missing};
 ghost use Rattle.window_mgr.specs.Whole.{IsWholeManager};
-ghost use Rattle.window_update.specs.DeskStates.{DeskState, IsDeskUnchanged, narrowed};
+ghost use Rattle.window_update.specs.DeskStates.{DeskState};
 ghost use Rattle.window_update.specs.Rightness.{IsJudgement};
-ghost use Rattle.desk_toolbox.specs.Run.{IsAdmitted, IsForm, IsRunOfCalls, IsStep, IsWindowAnswer};
+ghost use Rattle.desk_toolbox.specs.EventSteps.{first_events};
+ghost use Rattle.desk_toolbox.specs.Run.{IsAdmitted, IsEventAnswer, IsForm, IsRunOfCalls, IsStep, IsWindowAnswered};
+ghost use Rattle.desk_toolbox.specs.ToolboxStates.{IsToolboxUnchanged};
 ghost use Rattle.desk_toolbox.specs.WholeToolbox.{IsKeptToolbox, IsWholeToolbox, toolbox_state};
 
-use crate::{Call, Reply, WindowCall, WindowReply};
+use crate::events::Events;
+use crate::{Call, EventCall, EventReply, Reply, WindowCall, WindowReply};
 use bit_map::BitMap;
 use def_iface::{Defined, Stock, Stocked, Taken};
 use desk_ground::is_screen;
@@ -25,12 +28,13 @@ use window_list::{Ranks, WindowList};
 use window_mgr::{NotBegun, WindowManager, form_refusal};
 use window_update::{Updates, update_form_refusal};
 
-/// A desk: its screen, its windows, what of them has to be drawn, and which update is open.
+/// A desk: its screen, its windows, what of them has to be drawn, which update is open, and the events that are to be told.
 #[derive(Drop)]
 pub struct Toolbox {
     pub(crate) alloc: Global,
     pub(crate) windows: WindowManager,
     pub(crate) updates: Updates,
+    pub(crate) events: Events,
 }
 
 impl Toolbox {
@@ -48,6 +52,7 @@ impl Toolbox {
         ensures begun { IfOk result (λ t. (slots : List SlotView) → All IsFull slots
             → IsEmptyDesk ⟦<Taken as Defined>⟧.loan width height bar font t.windows slots) }
         ensures idle { IfOk result (λ t. t.updates.update ≡ None) }
+        ensures events { IfOk result (λ t. t.events ≡ first_events) }
         ensures whole { IfOk result (λ t. (slots : List SlotView) → All IsFull slots
             → IsWholeToolbox ⟦<Taken as Defined>⟧.loan t slots) }
         ensures in_range { IfOk result (λ t. screens.is_screen width height bar ≡ true) }
@@ -60,29 +65,33 @@ impl Toolbox {
                 font,
             });
         }
-        match Updates::new(alloc, width, height) {
-            Ok(updates) => Toolbox::with_updates(alloc, width, height, bar, font, updates),
-            Err(AllocError) => Err(NotBegun {
+        match (Updates::new(alloc, width, height), Events::new(alloc)) {
+            (Ok(updates), Ok(events)) => Toolbox::with_parts(
+                alloc, width, height, bar, font, updates, events,
+            ),
+            _ => Err(NotBegun {
                 refusal: Refusal::NoMemory,
                 font,
             }),
         }
     }
 
-    /// The same desk, where its screen was judged and nothing is open.
-    fn with_updates(
+    /// The same desk, where its screen was judged, and of these updates and events.
+    fn with_parts(
         alloc: Global,
         width: i32,
         height: i32,
         bar: i32,
         font: Font,
         updates: Updates,
+        events: Events,
     ) -> Result<Toolbox, NotBegun>
         requires width { pos updates.buffer.width ≡ width }
         requires height { pos updates.buffer.height ≡ height }
         ensures begun { IfOk result (λ t. (slots : List SlotView) → All IsFull slots
             → IsEmptyDesk ⟦<Taken as Defined>⟧.loan width height bar font t.windows slots) }
         ensures open { IfOk result (λ t. t.updates.update ≡ updates.update) }
+        ensures events { IfOk result (λ t. t.events ≡ events) }
         ensures whole { IfOk result (λ t. (slots : List SlotView) → All IsFull slots
             → IsWholeToolbox ⟦<Taken as Defined>⟧.loan t slots) }
         ensures in_range { IfOk result (λ t. screens.is_screen width height bar ≡ true) }
@@ -95,6 +104,7 @@ impl Toolbox {
                 alloc,
                 windows,
                 updates,
+                events,
             }),
             Err(refused) => Err(refused),
         }
@@ -145,11 +155,18 @@ impl Toolbox {
     {
         match call {
             Call::Window(call) => match self.answer_window(call, stock) {
-                Ok(reply) => Ok(Reply::Window(reply)),
+                Ok(reply) => {
+                    self.events.follow(call);
+                    Ok(Reply::Window(reply))
+                }
                 Err(refusal) => Err(refusal),
             },
             Call::Update(call) => match self.updates.make(&mut self.windows, call) {
                 Ok(reply) => Ok(Reply::Window(reply)),
+                Err(refusal) => Err(refusal),
+            },
+            Call::Event(call) => match self.answer_event(*call) {
+                Ok(reply) => Ok(Reply::Event(reply)),
                 Err(refusal) => Err(refusal),
             },
         }
@@ -163,14 +180,28 @@ impl Toolbox {
     ) -> Result<WindowReply, Refusal>
         requires { IsWholeToolbox ⟦<Taken as Defined>⟧.loan self.old (⟦<Stock as Stocked>⟧.slots stock.old) }
         ensures whole { IsWholeToolbox ⟦<Taken as Defined>⟧.loan self.new (⟦<Stock as Stocked>⟧.slots stock.new) }
-        ensures step { let before = toolbox_state ⟦<Taken as Defined>⟧.loan self.old (⟦<Stock as Stocked>⟧.slots stock.old) in
-            IsWindowAnswer (narrowed call.now before.activity before.begun) call.now result before
-            (toolbox_state ⟦<Taken as Defined>⟧.loan self.new (⟦<Stock as Stocked>⟧.slots stock.new)) }
+        ensures step { IsWindowAnswered call.now result
+            (toolbox_state ⟦<Taken as Defined>⟧.loan self.old (⟦<Stock as Stocked>⟧.slots stock.old)).desk
+            (toolbox_state ⟦<Taken as Defined>⟧.loan self.new (⟦<Stock as Stocked>⟧.slots stock.new)).desk }
+        ensures events { self.new.events ≡ self.old.events }
     {
         match self.updates.tell(call) {
             Some(answer) => answer,
             None => self.windows.make(call, stock),
         }
+    }
+
+    /// Answers a call about events.
+    fn answer_event(&mut self, call: EventCall) -> Result<EventReply, Refusal>
+        requires { IsKeptToolbox ⟦<Taken as Defined>⟧.loan self.old }
+        ensures whole { (slots : List SlotView) → IsWholeToolbox ⟦<Taken as Defined>⟧.loan self.old slots
+            → IsWholeToolbox ⟦<Taken as Defined>⟧.loan self.new slots }
+        ensures step { (slots : List SlotView) → IsEventAnswer call result
+            (toolbox_state ⟦<Taken as Defined>⟧.loan self.old slots) (toolbox_state ⟦<Taken as Defined>⟧.loan self.new slots) }
+    {
+        let active = self.windows.parts().windows.active();
+        let update = self.updates.first_to_update(&self.windows);
+        self.events.make(call, active, update)
     }
 
     /// Makes the calls one after another, and gives their answers in the same order. Memory for the
@@ -186,7 +217,7 @@ impl Toolbox {
             (toolbox_state ⟦<Taken as Defined>⟧.loan self.old (⟦<Stock as Stocked>⟧.slots stock.old))
             calls.now answers.items
             (toolbox_state ⟦<Taken as Defined>⟧.loan self.new (⟦<Stock as Stocked>⟧.slots stock.new))) }
-        ensures kept { OnErr result (IsDeskUnchanged
+        ensures kept { OnErr result (IsToolboxUnchanged
             (toolbox_state ⟦<Taken as Defined>⟧.loan self.old (⟦<Stock as Stocked>⟧.slots stock.old))
             (toolbox_state ⟦<Taken as Defined>⟧.loan self.new (⟦<Stock as Stocked>⟧.slots stock.new))) }
         ensures right { IsRightState (state_of ⟦<Taken as Defined>⟧.loan self.old.windows (⟦<Stock as Stocked>⟧.slots stock.old))
@@ -236,5 +267,6 @@ fn form_refusal_of(call: &Call<'_>, stock: &Stock) -> Option<Refusal>
     match call {
         Call::Window(call) => form_refusal(call, stock),
         Call::Update(call) => update_form_refusal(call),
+        Call::Event(_) => None,
     }
 }

@@ -2,9 +2,9 @@ use Rattle.std.proofs.Common.{rules, SFits, w32}
 use Rattle.std.proofs.lemmas.Int.{to_z-of_z}
 use Rattle.desk_toolbox.proofs.toolbox.Toolbox.new.Goals as goal
 
-pub returns-in-Ok-clause-begun : goal.returns-in-Ok-clause-begun
-returns-in-Ok-clause-begun g c =
+pub returns-in-Ok-Ok-clause-begun : goal.returns-in-Ok-Ok-clause-begun
+returns-in-Ok-Ok-clause-begun g c =
     let fits_w : SFits w32 c.args.width = search rules in
     let fits_h : SFits w32 c.args.height = search rules in
     let fits_b : SFits w32 c.args.bar = search rules in
-    simp to_z-of_z at c.with_updates.ensures.begun
+    simp to_z-of_z at c.with_parts.ensures.begun

@@ -1,7 +1,7 @@
 use Rattle.std.proofs.Common.{rules, SFits, w32}
 use Rattle.std.proofs.lemmas.Int.{to_z-of_z}
 use Rattle.desk_toolbox.proofs.Sides.{begins_sized}
-use Rattle.desk_toolbox.proofs.toolbox.Toolbox.with_updates.Goals as goal
+use Rattle.desk_toolbox.proofs.toolbox.Toolbox.with_parts.Goals as goal
 
 pub returns-in-Ok-clause-begun : goal.returns-in-Ok-clause-begun
 returns-in-Ok-clause-begun g c slots full =
