@@ -59,6 +59,6 @@ written_images old [] text new written = subst (AreImages 0) (sym written.0) non
 written_images old (line ∷ lines) text new (middle, first, others, answered, rest, whole) =
     let count = sum_by-cons (λ line. cond (asks_image (said line)) 1 0) line lines in
     let both = joined (cond (asks_image (said line)) 1 0) (count_by (λ line. asks_image (said line)) lines) first others
-      (said_images old (said line) first middle answered) (written_images middle lines others new rest) in
+    (said_images old (said line) first middle answered) (written_images middle lines others new rest) in
     subst (AreImages (count_by (λ line. asks_image (said line)) (line ∷ lines))) (sym whole)
     (subst (λ n. AreImages n (first ++ others)) (sym count) both)
