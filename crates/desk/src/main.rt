@@ -97,6 +97,7 @@ fn run_script(
                 &mut sink,
                 stock,
                 font,
+                chosen.raw,
                 chosen.check,
             )
         }
@@ -109,6 +110,7 @@ fn run_script(
                     &mut sink,
                     stock,
                     font,
+                    chosen.raw,
                     chosen.check,
                 )
             }

@@ -3,4 +3,5 @@ mod ChoicesLemmas
 mod Ends
 mod Sessions
 mod StockKinds
+mod RawRuns
 mod RightSessions

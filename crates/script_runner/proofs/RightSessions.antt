@@ -1,9 +1,9 @@
 -- Whatever a script's lines do, its desk stays right.
-use Rattle.std.proofs.Common.{◌≡◌, ◌⊎◌, inl, inr, ℕ, List, [], ◌∷◌, Option, None, Some, Result, Ok, Err, sym, ap, ◌∙◌, subst}
+use Rattle.std.proofs.Common.{◌≡◌, ◌⊎◌, inl, inr, ℕ, Bool, List, [], ◌∷◌, Option, None, Some, Result, Ok, Err, sym, ap, ◌∙◌, subst}
 use Rattle.tb_geom.specs.declared.refusal.Refusal.{Refusal}
 use Rattle.def_iface.specs.Stocked.{SlotView}
 use Rattle.window_mgr.specs.FullDesk.{IsRightState}
-use Rattle.window_update.specs.DeskStates.{DeskState}
+use Rattle.desk_toolbox.specs.ToolboxStates.{ToolboxState}
 use Rattle.desk_toolbox.proofs.Runs.{step_stays_right}
 use Rattle.scratch_paint.proofs.DifferenceLemmas.{none_differs}
 use Rattle.script_text.specs.declared.command.Command.{Command}
@@ -15,41 +15,41 @@ use Rattle.script_runner.specs.Session.{SessionState, unmade, made, Answers, Fir
 -- the session's desk, if it has one, is right
 abbrev IsRightSession : SessionState → Type 0
 IsRightSession (unmade font slots) = Unit {0}
-IsRightSession (made s) = IsRightState s.windows
+IsRightSession (made s) = IsRightState s.desk.windows
 
-answers_right : (s : DeskState) (command : Command) (text : List ℕ) (after : DeskState) → Answers s command text after → IsRightState s.windows → IsRightState after.windows
-answers_right s (Desk size) text after answered right = subst (λ t. IsRightState t.windows) (sym answered.1) right
-answers_right s Image text after answered right = subst (λ t. IsRightState t.windows) (sym answered.1) right
-answers_right s (Call asked) text after answered right = step_stays_right asked answered.0 s after right answered.1
+answers_right : (raw : Bool) (s : ToolboxState) (command : Command) (text : List ℕ) (after : ToolboxState) → Answers raw s command text after → IsRightState s.desk.windows → IsRightState after.desk.windows
+answers_right raw s (Desk size) text after answered right = subst (λ (t : ToolboxState). IsRightState t.desk.windows) (sym answered.1) right
+answers_right raw s Image text after answered right = subst (λ (t : ToolboxState). IsRightState t.desk.windows) (sym answered.1) right
+answers_right raw s (Call asked) text after answered right = step_stays_right asked answered.0 s after right answered.1
 
-first_right : (s : DeskState) (command : Command) (text : List ℕ) (after : DeskState) → FirstAnswers s command text after → IsRightState s.windows → IsRightState after.windows
-first_right s (Desk size) text after answered right = subst (λ t. IsRightState t.windows) (sym answered.1) right
-first_right s Image text after answered right = answers_right s Image text after answered right
-first_right s (Call asked) text after answered right = answers_right s (Call asked) text after answered right
+first_right : (raw : Bool) (s : ToolboxState) (command : Command) (text : List ℕ) (after : ToolboxState) → FirstAnswers raw s command text after → IsRightState s.desk.windows → IsRightState after.desk.windows
+first_right raw s (Desk size) text after answered right = subst (λ (t : ToolboxState). IsRightState t.desk.windows) (sym answered.1) right
+first_right raw s Image text after answered right = answers_right raw s Image text after answered right
+first_right raw s (Call asked) text after answered right = answers_right raw s (Call asked) text after answered right
 
-opens_right : (why : Option Refusal) (font : List ℕ) (slots : List SlotView) (command : Command) (text : List ℕ) (new : SessionState) → Opens why font slots command text new → IsRightSession new
-opens_right (Some e) font slots command text new opened = subst IsRightSession (sym opened.1) tt
-opens_right None font slots command text new (first, after, fresh, answered, is) = subst IsRightSession (sym is) (first_right first command text after answered fresh.right)
+opens_right : (raw : Bool) (why : Option Refusal) (font : List ℕ) (slots : List SlotView) (command : Command) (text : List ℕ) (new : SessionState) → Opens raw why font slots command text new → IsRightSession new
+opens_right raw (Some e) font slots command text new opened = subst IsRightSession (sym opened.1) tt
+opens_right raw None font slots command text new (first, after, fresh, answered, is) = subst IsRightSession (sym is) (first_right raw first command text after answered fresh.right)
 
-obeys_right : (old : SessionState) (command : Command) (text : List ℕ) (new : SessionState) → Obeys old command text new → IsRightSession old → IsRightSession new
-obeys_right (unmade font slots) command text new obeyed right = opens_right (why_unmade command slots) font slots command text new obeyed
-obeys_right (made s) command text new (after, answered, is) right = subst IsRightSession (sym is) (answers_right s command text after answered right)
+obeys_right : (raw : Bool) (old : SessionState) (command : Command) (text : List ℕ) (new : SessionState) → Obeys raw old command text new → IsRightSession old → IsRightSession new
+obeys_right raw (unmade font slots) command text new obeyed right = opens_right raw (why_unmade command slots) font slots command text new obeyed
+obeys_right raw (made s) command text new (after, answered, is) right = subst IsRightSession (sym is) (answers_right raw s command text after answered right)
 
-said_right : (old : SessionState) (line : Option (Result Command Refusal)) (text : List ℕ) (new : SessionState) → SaidAnswers old line text new → IsRightSession old → IsRightSession new
-said_right old None text new answered right = subst IsRightSession (sym answered.1) right
-said_right old (Some (Err e)) text new answered right = subst IsRightSession (sym answered.1) right
-said_right old (Some (Ok command)) text new answered right = obeys_right old command text new answered right
+said_right : (raw : Bool) (old : SessionState) (line : Option (Result Command Refusal)) (text : List ℕ) (new : SessionState) → SaidAnswers raw old line text new → IsRightSession old → IsRightSession new
+said_right raw old None text new answered right = subst IsRightSession (sym answered.1) right
+said_right raw old (Some (Err e)) text new answered right = subst IsRightSession (sym answered.1) right
+said_right raw old (Some (Ok command)) text new answered right = obeys_right raw old command text new answered right
 
-written_right : (old : SessionState) (lines : List (List ℕ)) (text : List ℕ) (new : SessionState) → Written old lines text new → IsRightSession old → IsRightSession new
-written_right old [] text new written right = subst IsRightSession (sym written.1) right
-written_right old (line ∷ lines) text new (middle, first, others, one, rest, whole) right =
-    written_right middle lines others new rest (said_right old (said line) first middle one right)
+written_right : (raw : Bool) (old : SessionState) (lines : List (List ℕ)) (text : List ℕ) (new : SessionState) → Written raw old lines text new → IsRightSession old → IsRightSession new
+written_right raw old [] text new written right = subst IsRightSession (sym written.1) right
+written_right raw old (line ∷ lines) text new (middle, first, others, one, rest, whole) right =
+    written_right raw middle lines others new rest (said_right raw old (said line) first middle one right)
 
 found : (session : SessionState) (line : List ℕ) → IsRightSession session → IsCheckLine session line → (line ≡ check_text (Some 0)) ⊎ (line ≡ check_text None)
 found (unmade font slots) line right is = inl is
-found (made s) line right (inl counted) = inl (counted ∙ ap (λ n. check_text (Some n)) (none_differs s.windows right))
+found (made s) line right (inl counted) = inl (counted ∙ ap (λ n. check_text (Some n)) (none_differs s.desk.windows right))
 found (made s) line right (inr none) = inr none
 
-pub no_pixel_found : (font : List ℕ) (slots : List SlotView) (lines : List (List ℕ)) (text line : List ℕ) (session : SessionState) → Written (unmade font slots) lines text session
+pub no_pixel_found : (raw : Bool) (font : List ℕ) (slots : List SlotView) (lines : List (List ℕ)) (text line : List ℕ) (session : SessionState) → Written raw (unmade font slots) lines text session
     → IsCheckLine session line → (line ≡ check_text (Some 0)) ⊎ (line ≡ check_text None)
-no_pixel_found font slots lines text line session written is = found session line (written_right (unmade font slots) lines text session written tt) is
+no_pixel_found raw font slots lines text line session written is = found session line (written_right raw (unmade font slots) lines text session written tt) is

@@ -3,6 +3,7 @@ pub mod Choices
 pub mod Endings
 pub mod Fonts
 pub mod Progress
+pub mod RawText
 pub mod Runs
 pub mod Session
 pub mod SessionViews

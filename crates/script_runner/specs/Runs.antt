@@ -18,15 +18,15 @@ abbrev pub AreTaken : Input → Input → List ℕ → List ℕ → List (List �
 AreTaken input rest seen ahead lines = (lines ≡ whole_lines seen) ⊎ (IsEntire input rest seen × (ahead ≡ []) × (lines ≡ lines_of seen))
 
 -- how a script ends that begins with the first session, and leaves the other: from one state of reader and writer to
--- another
-module _ (first : SessionState) (input rest : Input) (old new : Output) (session : SessionState) where
+-- another. `raw` says whether the run is raw
+module _ (raw : Bool) (first : SessionState) (input rest : Input) (old new : Output) (session : SessionState) where
   -- the whole script was read, and each of its lines answered; no read and no write failed
   pub record IsDone : Type 0 where
     pub script : List ℕ
     pub text : List ℕ
     pub entire : IsEntire input rest script
     pub quiet : rest.has_failed ≡ false
-    pub answered : Written first (lines_of script) text session
+    pub answered : Written raw first (lines_of script) text session
     pub sent : Sent old new text
 
   -- a read failed, or there were as many as there may be and none came to the end; each line that was ended before is
@@ -35,7 +35,7 @@ module _ (first : SessionState) (input rest : Input) (old new : Output) (session
     pub seen : List ℕ
     pub text : List ℕ
     pub read : Consumes input.remaining rest.remaining seen
-    pub answered : Written first (whole_lines seen) text session
+    pub answered : Written raw first (whole_lines seen) text session
     pub sent : Sent old new text
     pub why : IsCutOff rest
 
@@ -48,7 +48,7 @@ module _ (first : SessionState) (input rest : Input) (old new : Output) (session
     pub read : Consumes input.remaining rest.remaining (seen ++ ahead)
     pub quiet : rest.has_failed ≡ false
     pub taken : AreTaken input rest seen ahead lines
-    pub answered : Written first lines text session
+    pub answered : Written raw first lines text session
     pub broken : BrokeOff old new text
 
   -- there was no memory for the desk that a line was to make; the lines before it are answered
@@ -64,7 +64,7 @@ module _ (first : SessionState) (input rest : Input) (old new : Output) (session
     pub taken : AreTaken input rest seen ahead (before ++ line ∷ [])
     pub says : said line ≡ Some (Ok command)
     pub makes : makes_desk session command ≡ true
-    pub answered : Written first before text session
+    pub answered : Written raw first before text session
     pub sent : Sent old new text
 
   -- what stopped the script
@@ -79,21 +79,21 @@ module _ (first : SessionState) (input rest : Input) (old new : Output) (session
   ScriptEnds (Err e) = Stops e
 
 -- a script ends so, and then comes the line of its check, where one is asked for
-pub record CheckedEnds (check : Bool) (first : SessionState) (input rest : Input) (old new : Output) (session : SessionState) {X : Type 0} (r : Result X Refusal) : Type 0 where
+pub record CheckedEnds (raw check : Bool) (first : SessionState) (input rest : Input) (old new : Output) (session : SessionState) {X : Type 0} (r : Result X Refusal) : Type 0 where
   pub between : Output
   pub script : Result X Refusal
-  pub ends : ScriptEnds first input rest old between session script
+  pub ends : ScriptEnds raw first input rest old between session script
   pub followed : IsFollowed check script session between new r
 
--- `asked` are the bytes of the font that a run is asked to draw texts in, if it is; `check` says whether it is to be checked
--- at its end. It is a run from a stock with these slots, of which it leaves those
-module _ (asked : Option (List ℕ)) (check : Bool) (slots left : List SlotView) (input rest : Input) (old new : Output) where
+-- `asked` are the bytes of the font that a run is asked to draw texts in, if it is; `raw` says whether it is raw, and `check`
+-- whether it is to be checked at its end. It is a run from a stock with these slots, of which it leaves those
+module _ (asked : Option (List ℕ)) (raw check : Bool) (slots left : List SlotView) (input rest : Input) (old new : Output) where
   -- with that font the script ran, from no desk to its end, and was checked
   pub record HasRun {X : Type 0} (r : Result X Refusal) : Type 0 where
     pub font : List ℕ
     pub is_font : IsFontOf asked font
     pub session : SessionState
-    pub ends : CheckedEnds check (unmade font slots) input rest old new session r
+    pub ends : CheckedEnds raw check (unmade font slots) input rest old new session r
     pub closed : LeavesStock session left
 
   -- there was no font: nothing was read, written or taken out of the stock

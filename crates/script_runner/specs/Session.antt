@@ -3,51 +3,39 @@ use Rattle.std.specs.Prelude.{◌≡◌, ℕ, pos, nat_abs, Bool, true, false, L
 use Rattle.tb_geom.specs.declared.point.Point.{Point}
 use Rattle.tb_geom.specs.declared.refusal.Refusal.{Refusal}
 use Rattle.tb_geom.specs.declared.refusal.Refusal.TheVariants.{NoSuchName, OutOfRange, Busy}
+use Rattle.tb_geom.specs.Points.{PixelSet}
 use Rattle.def_iface.specs.Stocked.{SlotView, has_kind}
-use Rattle.desk_call.specs.declared.call.Call.TheVariants.{Window, Update}
+use Rattle.desk_call.specs.declared.call.Call.TheVariants.{Window, Update, Event}
 use Rattle.desk_call.specs.declared.window.WindowCall.TheVariants.{New}
 use Rattle.desk_call.specs.declared.call.Reply.{Reply}
 use Rattle.desk_call.specs.declared.activity.Activity.TheVariants.{Idle}
 use Rattle.window_mgr.specs.FullDesk.{IsRightState}
-use Rattle.window_update.specs.DeskStates.{DeskState}
 use Rattle.window_mgr.specs.Begin.{empty_desk}
 use Rattle.window_mgr.specs.Closing.{IsClosed}
+use Rattle.desk_toolbox.specs.EventSteps.{first_events}
 use Rattle.desk_toolbox.specs.Run.{IsStep}
+use Rattle.desk_toolbox.specs.ToolboxStates.{ToolboxState}
 use Rattle.desk_ground.specs.Screens.{is_screen}
 use Rattle.script_text.specs.declared.command.Command.{Command}
 use Rattle.script_text.specs.declared.command.DeskSize.{DeskSize}
 use Rattle.script_text.specs.declared.command.Command.TheVariants.{Desk, Image, Call}
 use Rattle.script_text.specs.Lines.{said}
-use Rattle.screen_pbm.specs.Pbm.{p1}
+use Rattle.screen_pbm.specs.Pbm.{p1, p4}
 use Rattle.script_text.specs.Replies.{done_text, refused_text, reply_text}
 
 -- the desk of a script: none so far, with this font and over these slots of the stock, or one in this state
 pub data SessionState : Type 0 where
   unmade : List ℕ → List SlotView → SessionState
-  made : DeskState → SessionState
+  made : ToolboxState → SessionState
 
--- a new desk of this size, with this font: it has no windows, nothing of it is to be redrawn, and it is right
-pub record IsNewDesk (size : DeskSize) (font : List ℕ) (slots : List SlotView) (s : DeskState) : Type 0 where
-  pub desk : s.windows.desk ≡ empty_desk size.width size.height size.bar font slots
-  pub idle : s.activity ≡ Idle
-  pub drawn : (p : Point) → s.windows.stale p ≡ false
-  pub right : IsRightState s.windows
-
--- the bytes of the screen as an image
-abbrev pub image_text : DeskState → List ℕ
-image_text s = p1 (nat_abs s.windows.desk.width) (nat_abs s.windows.desk.height) s.windows.image
-
--- with a desk, the command may be answered so and leave this state
-abbrev pub Answers : DeskState → Command → List ℕ → DeskState → Type 0
-Answers s (Desk size) text after = (text ≡ refused_text Busy) × (after ≡ s)
-Answers s Image text after = (text ≡ image_text s) × (after ≡ s)
-Answers s (Call call) text after = (answer : Result Reply Refusal) × IsStep call answer s after × (text ≡ reply_text answer)
-
--- the answer of the command that made the desk: `ok` where it asked for nothing else
-abbrev pub FirstAnswers : DeskState → Command → List ℕ → DeskState → Type 0
-FirstAnswers s (Desk size) text after = (text ≡ done_text) × (after ≡ s)
-FirstAnswers s Image text after = Answers s Image text after
-FirstAnswers s (Call call) text after = Answers s (Call call) text after
+-- a new desk of this size, with this font: it has no windows, nothing of it is to be redrawn, it is right, and nothing was posted or
+-- told
+pub record IsNewDesk (size : DeskSize) (font : List ℕ) (slots : List SlotView) (s : ToolboxState) : Type 0 where
+  pub desk : s.desk.windows.desk ≡ empty_desk size.width size.height size.bar font slots
+  pub idle : s.desk.activity ≡ Idle
+  pub drawn : (p : Point) → s.desk.windows.stale p ≡ false
+  pub right : IsRightState s.desk.windows
+  pub events : s.events ≡ first_events
 
 -- the desk that the first command makes: of the size that it asks for, and else of 512 by 342 with a menu bar of 20 rows
 abbrev pub first_size : Command → DeskSize
@@ -62,6 +50,7 @@ is_known Image slots = true
 is_known (Call (Window (New w))) slots = has_kind w.kind slots
 is_known (Call (Window _)) slots = true
 is_known (Call (Update _)) slots = true
+is_known (Call (Event _)) slots = true
 
 -- whether a screen may have this size
 abbrev pub may_be : DeskSize → Bool
@@ -71,36 +60,62 @@ may_be size = is_screen size.width size.height size.bar
 abbrev pub why_unmade : Command → List SlotView → Option Refusal
 why_unmade command slots = if is_known command slots then (if may_be (first_size command) then None else Some OutOfRange) else Some NoSuchName
 
--- without a desk, the command is refused, or makes the desk and is then answered
-abbrev pub Opens : Option Refusal → List ℕ → List SlotView → Command → List ℕ → SessionState → Type 0
-Opens (Some e) font slots command text new = (text ≡ refused_text e) × (new ≡ unmade font slots)
-Opens None font slots command text new = (first : DeskState) × (after : DeskState) × IsNewDesk (first_size command) font slots first
-    × FirstAnswers first command text after × (new ≡ made after)
-
--- the command may be answered so, and leave this
-abbrev pub Obeys : SessionState → Command → List ℕ → SessionState → Type 0
-Obeys (unmade font slots) command text new = Opens (why_unmade command slots) font slots command text new
-Obeys (made s) command text new = (after : DeskState) × Answers s command text after × (new ≡ made after)
-
 -- whether the command is the one that makes the desk
 abbrev pub makes_desk : SessionState → Command → Bool
 makes_desk (unmade font slots) command = is_none (why_unmade command slots)
 makes_desk (made s) command = false
 
--- what a line says may be answered so, and leave this: a line that says nothing is not answered
-abbrev pub SaidAnswers : SessionState → Option (Result Command Refusal) → List ℕ → SessionState → Type 0
-SaidAnswers old None text new = (text ≡ []) × (new ≡ old)
-SaidAnswers old (Some (Err e)) text new = (text ≡ refused_text e) × (new ≡ old)
-SaidAnswers old (Some (Ok command)) text new = Obeys old command text new
+-- what is written of a reply: nothing in a raw run
+abbrev pub reply_shown : Bool → List ℕ → List ℕ
+reply_shown raw text = if raw then [] else text
 
--- the lines, one after another, may be answered by this text, and leave this
-abbrev pub Written : SessionState → List (List ℕ) → List ℕ → SessionState → Type 0
-Written old [] text new = (text ≡ []) × (new ≡ old)
-Written old (line ∷ lines) text new = (middle : SessionState) × (first : List ℕ) × (others : List ℕ)
-    × SaidAnswers old (said line) first middle × Written middle lines others new × (text ≡ first ++ others)
+-- the bytes of an image: P4 in a raw run, and else P1
+abbrev pub image_shown : Bool → ℕ → ℕ → PixelSet → List ℕ
+image_shown raw width height black = if raw then p4 width height black else p1 width height black
+
+-- the bytes of the screen as an image
+abbrev pub image_text : Bool → ToolboxState → List ℕ
+image_text raw s = image_shown raw (nat_abs s.desk.windows.desk.width) (nat_abs s.desk.windows.desk.height) s.desk.windows.image
+
+-- `raw` says whether a run is raw: whether it shows images alone
+module _ (raw : Bool) where
+  -- with a desk, the command may be answered so and leave this state
+  abbrev pub Answers : ToolboxState → Command → List ℕ → ToolboxState → Type 0
+  Answers s (Desk size) text after = (text ≡ reply_shown raw (refused_text Busy)) × (after ≡ s)
+  Answers s Image text after = (text ≡ image_text raw s) × (after ≡ s)
+  Answers s (Call call) text after = (answer : Result Reply Refusal) × IsStep call answer s after × (text ≡ reply_shown raw (reply_text answer))
+
+  -- the answer of the command that made the desk: `ok` where it asked for nothing else
+  abbrev pub FirstAnswers : ToolboxState → Command → List ℕ → ToolboxState → Type 0
+  FirstAnswers s (Desk size) text after = (text ≡ reply_shown raw done_text) × (after ≡ s)
+  FirstAnswers s Image text after = Answers s Image text after
+  FirstAnswers s (Call call) text after = Answers s (Call call) text after
+
+  -- without a desk, the command is refused, or makes the desk and is then answered
+  abbrev pub Opens : Option Refusal → List ℕ → List SlotView → Command → List ℕ → SessionState → Type 0
+  Opens (Some e) font slots command text new = (text ≡ reply_shown raw (refused_text e)) × (new ≡ unmade font slots)
+  Opens None font slots command text new = (first : ToolboxState) × (after : ToolboxState) × IsNewDesk (first_size command) font slots first
+      × FirstAnswers first command text after × (new ≡ made after)
+
+  -- the command may be answered so, and leave this
+  abbrev pub Obeys : SessionState → Command → List ℕ → SessionState → Type 0
+  Obeys (unmade font slots) command text new = Opens (why_unmade command slots) font slots command text new
+  Obeys (made s) command text new = (after : ToolboxState) × Answers s command text after × (new ≡ made after)
+
+  -- what a line says may be answered so, and leave this: a line that says nothing is not answered
+  abbrev pub SaidAnswers : SessionState → Option (Result Command Refusal) → List ℕ → SessionState → Type 0
+  SaidAnswers old None text new = (text ≡ []) × (new ≡ old)
+  SaidAnswers old (Some (Err e)) text new = (text ≡ reply_shown raw (refused_text e)) × (new ≡ old)
+  SaidAnswers old (Some (Ok command)) text new = Obeys old command text new
+
+  -- the lines, one after another, may be answered by this text, and leave this
+  abbrev pub Written : SessionState → List (List ℕ) → List ℕ → SessionState → Type 0
+  Written old [] text new = (text ≡ []) × (new ≡ old)
+  Written old (line ∷ lines) text new = (middle : SessionState) × (first : List ℕ) × (others : List ℕ)
+      × SaidAnswers old (said line) first middle × Written middle lines others new × (text ≡ first ++ others)
 
 -- what the end of the session leaves of the stock: the definitions of the desk's windows are closed and back in their
 -- slots, and every other slot is as it was
 abbrev pub LeavesStock : SessionState → List SlotView → Type 0
 LeavesStock (unmade font slots) left = left ≡ slots
-LeavesStock (made s) left = IsClosed s.windows.desk.windows s.windows.desk.stock left
+LeavesStock (made s) left = IsClosed s.desk.windows.desk.windows s.desk.windows.desk.stock left

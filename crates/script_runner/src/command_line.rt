@@ -1,5 +1,5 @@
-//! The command line: `desk [--check] [--font FILE] [SCRIPT]`.
-ghost use Rattle.std.specs.Prelude.{◌≡◌, IfOk, IfErr, OnOk, map, false, option_map, codes, []};
+//! The command line: `desk [--raw] [--check] [--font FILE] [SCRIPT]`.
+ghost use Rattle.std.specs.Prelude.{◌≡◌, ◌&&◌, IfOk, IfErr, OnOk, map, false, option_map, codes, []};
 ghost use Rattle.clap.specs.Words.{HasKind, app_of, rule_of, first_value, one_text, found_of};
 ghost use Rattle.script_runner.specs.Choices.{desk_app, word_rule, flag_rule, option_rule, faults_in, IsFlag, IsChosen, AreWordsRefused};
 
@@ -16,6 +16,8 @@ pub struct Choices<'a> {
     pub script: Option<&'a str>,
     /// The path of the font; the built-in font where there is none.
     pub font: Option<&'a str>,
+    /// Whether only images are to be shown, in the format P4.
+    pub raw: bool,
     /// Whether the run is to be checked at its end.
     pub check: bool,
 }
@@ -27,6 +29,9 @@ pub enum OptionsError {
     /// Something is wrong with the words, or they ask for help.
     #[error("{0}")]
     Words(clap::Error),
+    /// Nothing is wrong with the words but that both flags are there.
+    #[error("desk: --check and --raw exclude each other\n")]
+    Excluded,
     /// There was no memory to read them.
     #[error("desk: no memory for the command line\n")]
     Memory(AllocError),
@@ -78,6 +83,11 @@ fn desk_command<'a>(alloc: Global) -> Result<Command<'a>, AllocError>
         "FILE",
         "The file of the font for all texts, a FONT record; the built-in font where none is named",
     );
+    let raw = flag(
+        alloc,
+        "raw",
+        "Write no replies, and images in the raw format, P4",
+    );
     let check = flag(
         alloc,
         "check",
@@ -87,6 +97,7 @@ fn desk_command<'a>(alloc: Global) -> Result<Command<'a>, AllocError>
         .about("Runs a script of Toolbox calls, and writes what each of its lines answers")
         .bin_name("desk")?;
     let command = command.arg(script)?;
+    let command = command.arg(raw)?;
     let command = command.arg(check)?;
     let command = command.arg(font)?;
     Ok(command)
@@ -96,11 +107,13 @@ fn desk_command<'a>(alloc: Global) -> Result<Command<'a>, AllocError>
 fn chosen<'a>(matches: &ArgMatches<'a>) -> Choices<'a>
     ensures script { option_map (λ s. s.now) result.script ≡ first_value (found_of matches.now) (codes "SCRIPT") }
     ensures font { option_map (λ s. s.now) result.font ≡ first_value (found_of matches.now) (codes "FILE") }
+    ensures raw { IsFlag (one_text (found_of matches.now) (codes "raw")) result.raw }
     ensures check { IsFlag (one_text (found_of matches.now) (codes "check")) result.check }
 {
     Choices {
         script: matches.get_str("SCRIPT"),
         font: matches.get_str("FILE"),
+        raw: matches.get_flag("raw"),
         check: matches.get_flag("check"),
     }
 }
@@ -117,10 +130,11 @@ fn refused(error: clap::Error) -> OptionsError
 }
 
 /// What the words of a command line choose; the first of them is the program's name. They are taken
-/// where nothing is wrong with them. An error of their own says what is, and Memory says that there
-/// was none to read them.
+/// where nothing is wrong with them and not both flags are there: else they are refused as Excluded. An
+/// error of their own says what is wrong with them, and Memory says that there was none to read them.
 pub fn options<'a, S: AsStr>(alloc: Global, words: &'a [S]) -> Result<Choices<'a>, OptionsError>
     ensures chosen { IfOk result (IsChosen (map S.text words.entry.now)) }
+    ensures apart { IfOk result (λ choices. (choices.raw && choices.check) ≡ false) }
     ensures taken { OnOk result (faults_in (map S.text words.entry.now) ≡ []) }
     ensures refused { IfErr result (AreWordsRefused (map S.text words.entry.now)) }
 {
@@ -129,7 +143,13 @@ pub fn options<'a, S: AsStr>(alloc: Global, words: &'a [S]) -> Result<Choices<'a
         Err(error) => return Err(OptionsError::Memory(error)),
     };
     match command.try_get_matches_from(words) {
-        Ok(matches) => Ok(chosen(&matches)),
+        Ok(matches) => {
+            let choices = chosen(&matches);
+            if choices.raw && choices.check {
+                return Err(OptionsError::Excluded);
+            }
+            Ok(choices)
+        }
         Err(error) => Err(refused(error)),
     }
 }

@@ -3,7 +3,8 @@
 //! `run` makes the font of the desk's texts first. Then it reads bytes from a `Source`, cuts them into lines,
 //! and has each answered on a `Sink` before it reads on. A line is a command, a comment or nothing, as
 //! `script_text` says. A `Session` holds the script's desk, which the first command makes, and answers one
-//! command: a call of the Toolbox by the line of its reply, and `image` by the bytes that `screen_pbm` writes.
+//! command: a call of the Toolbox by the line of its reply, and `image` by the bytes that `screen_pbm` writes. A raw run
+//! shows images alone, in the format P4.
 //!
 //! What a script answers is stated apart from all this code, in `specs/`: `Session` says what may be answered
 //! to a line and what that leaves of the desk, over the Toolbox's own steps, and `Runs` how a run ends. The
@@ -19,6 +20,7 @@ mod command_line;
 pub mod laws;
 mod runner;
 mod session;
+mod shown;
 
 pub use command_line::{Choices, OptionsError, options};
 pub use runner::run;

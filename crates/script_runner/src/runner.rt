@@ -21,7 +21,7 @@ use watched_io::{MOST_READS, Sink, Source};
 
 /// Answers each line of the script that the source gives, in bytes to the sink, and writes nothing
 /// else, but for the check: where that is asked for, and each line was answered, a last line says how many pixels of the screen in no
-/// update region differ from the desk painted from nothing. What a line answers is written before the next read. ReadFault where a read failed or
+/// update region differ from the desk painted from nothing. A raw run shows the images alone, as P4: no line of a reply is written. What a line answers is written before the next read. ReadFault where a read failed or
 /// 1,000,000 came without the end of the input, WriteFault where a write failed, and NoMemory where
 /// there was none for the desk, which the first command makes. However the run ends, each definition
 /// of the stock is back in its slot: that of a window Closed, and every other as it was.
@@ -35,6 +35,7 @@ pub fn run<R: Source, W: Sink>(
     sink: &mut W,
     stock: &mut Stock,
     font: Option<&[u8]>,
+    raw: bool,
     check: bool,
 ) -> Result<(), Refusal>
     requires full { All IsFull (⟦<Stock as Stocked>⟧.slots stock.old) }
@@ -44,13 +45,13 @@ pub fn run<R: Source, W: Sink>(
     ensures full { All IsFull (⟦<Stock as Stocked>⟧.slots stock.new) }
     ensures kinds { map (λ s. s.kind) (⟦<Stock as Stocked>⟧.slots stock.new)
         ≡ map (λ s. s.kind) (⟦<Stock as Stocked>⟧.slots stock.old) }
-    ensures ends { RunEnds (option_map (λ bytes. bytes.now) font.entry) check
+    ensures ends { RunEnds (option_map (λ bytes. bytes.now) font.entry) raw check
         (⟦<Stock as Stocked>⟧.slots stock.old) (⟦<Stock as Stocked>⟧.slots stock.new)
         (R.input source.old) (R.input source.new) (W.output sink.old) (W.output sink.new) result }
 {
     let font = make_font(alloc, font)?;
     let mut session = Session::new(alloc, font);
-    let outcome = answer_and_check(&mut session, source, sink, stock, check);
+    let outcome = answer_and_check(&mut session, source, sink, stock, raw, check);
     session.close(stock);
     outcome
 }
@@ -61,6 +62,7 @@ fn answer_and_check<R: Source, W: Sink>(
     source: &mut R,
     sink: &mut W,
     stock: &mut Stock,
+    raw: bool,
     check: bool,
 ) -> Result<(), Refusal>
     requires ready { IsReady ⟦<Taken as Defined>⟧.loan session.old (⟦<Stock as Stocked>⟧.slots stock.old) }
@@ -68,12 +70,12 @@ fn answer_and_check<R: Source, W: Sink>(
     requires going { IsOpen (R.input source.old) }
     requires unfailed { (W.output sink.old).has_failed ≡ false }
     ensures ready { IsReady ⟦<Taken as Defined>⟧.loan session.new (⟦<Stock as Stocked>⟧.slots stock.new) }
-    ensures ends { CheckedEnds check
+    ensures ends { CheckedEnds raw check
         (session_of ⟦<Taken as Defined>⟧.loan session.old (⟦<Stock as Stocked>⟧.slots stock.old))
         (R.input source.old) (R.input source.new) (W.output sink.old) (W.output sink.new)
         (session_of ⟦<Taken as Defined>⟧.loan session.new (⟦<Stock as Stocked>⟧.slots stock.new)) result }
 {
-    match answer_all(session, source, sink, stock) {
+    match answer_all(session, source, sink, stock, raw) {
         Ok(()) if check => session.check(sink),
         outcome => outcome,
     }
@@ -97,13 +99,14 @@ fn answer_all<R: Source, W: Sink>(
     source: &mut R,
     sink: &mut W,
     stock: &mut Stock,
+    raw: bool,
 ) -> Result<(), Refusal>
     requires ready { IsReady ⟦<Taken as Defined>⟧.loan session.old (⟦<Stock as Stocked>⟧.slots stock.old) }
     requires unread { (R.input source.old).reads ≡ 0 }
     requires going { IsOpen (R.input source.old) }
     requires unfailed { (W.output sink.old).has_failed ≡ false }
     ensures ready { IsReady ⟦<Taken as Defined>⟧.loan session.new (⟦<Stock as Stocked>⟧.slots stock.new) }
-    ensures ends { ScriptEnds
+    ensures ends { ScriptEnds raw
         (session_of ⟦<Taken as Defined>⟧.loan session.old (⟦<Stock as Stocked>⟧.slots stock.old))
         (R.input source.old) (R.input source.new) (W.output sink.old) (W.output sink.new)
         (session_of ⟦<Taken as Defined>⟧.loan session.new (⟦<Stock as Stocked>⟧.slots stock.new)) result }
@@ -113,9 +116,9 @@ fn answer_all<R: Source, W: Sink>(
     for read in 0..MOST_READS {
         let count = source.read_some(&mut buffer)?;
         if count == 0 {
-            return session.answer(line.said_last(), stock, sink);
+            return session.answer(line.said_last(), stock, sink, raw);
         }
-        take_all(session, &mut line, &buffer[..count], stock, sink)?;
+        take_all(session, &mut line, &buffer[..count], stock, sink, raw)?;
     }
     Err(Refusal::ReadFault)
 }
@@ -127,18 +130,19 @@ fn take_all<W: Sink>(
     bytes: &[u8],
     stock: &mut Stock,
     sink: &mut W,
+    raw: bool,
 ) -> Result<(), Refusal>
     requires ready { IsReady ⟦<Taken as Defined>⟧.loan session.old (⟦<Stock as Stocked>⟧.slots stock.old) }
     requires unfailed { (W.output sink.old).has_failed ≡ false }
     ensures ready { IsReady ⟦<Taken as Defined>⟧.loan session.new (⟦<Stock as Stocked>⟧.slots stock.new) }
     ensures quiet { OnOk result ((W.output sink.new).has_failed ≡ false) }
-    ensures goes_on { (first : SessionState) (input rest : Input) (old : Output) → SoFar first input old rest (W.output sink.old)
+    ensures goes_on { (first : SessionState) (input rest : Input) (old : Output) → SoFar raw first input old rest (W.output sink.old)
         (session_of ⟦<Taken as Defined>⟧.loan session.old (⟦<Stock as Stocked>⟧.slots stock.old)) line.old bytes.now
-        → GoesOn first input old rest (W.output sink.new)
+        → GoesOn raw first input old rest (W.output sink.new)
         (session_of ⟦<Taken as Defined>⟧.loan session.new (⟦<Stock as Stocked>⟧.slots stock.new)) line.new result }
 {
     for byte in bytes {
-        take(session, line, *byte, stock, sink)?;
+        take(session, line, *byte, stock, sink, raw)?;
     }
     Ok(())
 }
@@ -150,12 +154,13 @@ fn take<W: Sink>(
     byte: u8,
     stock: &mut Stock,
     sink: &mut W,
+    raw: bool,
 ) -> Result<(), Refusal>
     requires ready { IsReady ⟦<Taken as Defined>⟧.loan session.old (⟦<Stock as Stocked>⟧.slots stock.old) }
     requires unfailed { (W.output sink.old).has_failed ≡ false }
     ensures ready { IsReady ⟦<Taken as Defined>⟧.loan session.new (⟦<Stock as Stocked>⟧.slots stock.new) }
     ensures quiet { OnOk result ((W.output sink.new).has_failed ≡ false) }
-    ensures newline { byte ≡ 10 → LineEnds
+    ensures newline { byte ≡ 10 → LineEnds raw
         (session_of ⟦<Taken as Defined>⟧.loan session.old (⟦<Stock as Stocked>⟧.slots stock.old)) (said_held line.old)
         (session_of ⟦<Taken as Defined>⟧.loan session.new (⟦<Stock as Stocked>⟧.slots stock.new))
         (W.output sink.old) (W.output sink.new) result }
@@ -169,7 +174,7 @@ fn take<W: Sink>(
         line.push(byte);
         return Ok(());
     }
-    session.answer(line.said(), stock, sink)?;
+    session.answer(line.said(), stock, sink, raw)?;
     line.clear();
     Ok(())
 }

@@ -11,11 +11,11 @@ ghost use Rattle.script_runner.specs.SessionViews.{session_of, IsReady};
 ghost use Rattle.script_runner.specs.Endings.{IsAnswered, IsFirstAnswered, CommandEnds, LineEnds};
 
 use crate::check_line::write_check;
+use crate::shown::{show_done, show_image, show_reply};
 use def_iface::{Defined, Stock, Stocked, Taken};
 use desk_toolbox::{Call, NotBegun, Toolbox, WindowCall};
 use scratch_paint::differences;
-use screen_pbm::write_p1;
-use script_text::{Command, DeskSize, write_done, write_reply};
+use script_text::{Command, DeskSize};
 use std::alloc::Global;
 use strike_font::Font;
 use tb_geom::Refusal;
@@ -51,27 +51,28 @@ impl Session {
     }
 
     /// Answers what a line says, in bytes to the sink: a reply line, or an image. Nothing is written
-    /// for a line that says nothing. The first command makes the desk: where there is no memory for
+    /// for a line that says nothing, and, where the run is raw, in place of a reply line. The first command makes the desk: where there is no memory for
     /// that, the answer is NoMemory and nothing is written. Else WriteFault is the only error.
     pub fn answer<S: Sink>(
         &mut self,
         said: Option<Result<Command<'_>, Refusal>>,
         stock: &mut Stock,
         sink: &mut S,
+        raw: bool,
     ) -> Result<(), Refusal>
         requires ready { IsReady ⟦<Taken as Defined>⟧.loan self.old (⟦<Stock as Stocked>⟧.slots stock.old) }
         requires unfailed { (S.output sink.old).has_failed ≡ false }
         ensures ready { IsReady ⟦<Taken as Defined>⟧.loan self.new (⟦<Stock as Stocked>⟧.slots stock.new) }
         ensures quiet { OnOk result ((S.output sink.new).has_failed ≡ false) }
-        ensures ends { LineEnds
+        ensures ends { LineEnds raw
             (session_of ⟦<Taken as Defined>⟧.loan self.old (⟦<Stock as Stocked>⟧.slots stock.old)) said.entry
             (session_of ⟦<Taken as Defined>⟧.loan self.new (⟦<Stock as Stocked>⟧.slots stock.new))
             (S.output sink.old) (S.output sink.new) result }
     {
         match said {
             None => Ok(()),
-            Some(Err(refusal)) => write_reply(sink, &Err(refusal)),
-            Some(Ok(command)) => self.obey(&command, stock, sink),
+            Some(Err(refusal)) => show_reply(sink, &Err(refusal), raw),
+            Some(Ok(command)) => self.obey(&command, stock, sink, raw),
         }
     }
 
@@ -81,20 +82,21 @@ impl Session {
         command: &Command<'_>,
         stock: &mut Stock,
         sink: &mut S,
+        raw: bool,
     ) -> Result<(), Refusal>
         requires ready { IsReady ⟦<Taken as Defined>⟧.loan self.old (⟦<Stock as Stocked>⟧.slots stock.old) }
         requires unfailed { (S.output sink.old).has_failed ≡ false }
         ensures ready { IsReady ⟦<Taken as Defined>⟧.loan self.new (⟦<Stock as Stocked>⟧.slots stock.new) }
         ensures quiet { OnOk result ((S.output sink.new).has_failed ≡ false) }
-        ensures ends { CommandEnds
+        ensures ends { CommandEnds raw
             (session_of ⟦<Taken as Defined>⟧.loan self.old (⟦<Stock as Stocked>⟧.slots stock.old)) command.now
             (session_of ⟦<Taken as Defined>⟧.loan self.new (⟦<Stock as Stocked>⟧.slots stock.new))
             (S.output sink.old) (S.output sink.new) result }
     {
         match &mut self.desk {
-            Some(desk) => answer_on(desk, command, stock, sink),
-            None if is_known(command, stock) => self.open(command, stock, sink),
-            None => write_reply(sink, &Err(Refusal::NoSuchName)),
+            Some(desk) => answer_on(desk, command, stock, sink, raw),
+            None if is_known(command, stock) => self.open(command, stock, sink, raw),
+            None => show_reply(sink, &Err(Refusal::NoSuchName), raw),
         }
     }
 
@@ -105,6 +107,7 @@ impl Session {
         command: &Command<'_>,
         stock: &mut Stock,
         sink: &mut S,
+        raw: bool,
     ) -> Result<(), Refusal>
         requires unmade { self.old.desk ≡ None }
         requires ready { IsReady ⟦<Taken as Defined>⟧.loan self.old (⟦<Stock as Stocked>⟧.slots stock.old) }
@@ -112,7 +115,7 @@ impl Session {
         requires unfailed { (S.output sink.old).has_failed ≡ false }
         ensures ready { IsReady ⟦<Taken as Defined>⟧.loan self.new (⟦<Stock as Stocked>⟧.slots stock.new) }
         ensures quiet { OnOk result ((S.output sink.new).has_failed ≡ false) }
-        ensures ends { CommandEnds
+        ensures ends { CommandEnds raw
             (session_of ⟦<Taken as Defined>⟧.loan self.old (⟦<Stock as Stocked>⟧.slots stock.old)) command.now
             (session_of ⟦<Taken as Defined>⟧.loan self.new (⟦<Stock as Stocked>⟧.slots stock.new))
             (S.output sink.old) (S.output sink.new) result }
@@ -124,7 +127,7 @@ impl Session {
         match Toolbox::new(self.alloc, size.width, size.height, size.bar, font) {
             Ok(desk) => {
                 let mut desk = desk;
-                let outcome = first_answer(&mut desk, command, stock, sink);
+                let outcome = first_answer(&mut desk, command, stock, sink, raw);
                 self.desk = Some(desk);
                 outcome
             }
@@ -132,7 +135,7 @@ impl Session {
                 self.font = Some(font);
                 match refusal {
                     Refusal::NoMemory => Err(Refusal::NoMemory),
-                    refusal => write_reply(sink, &Err(refusal)),
+                    refusal => show_reply(sink, &Err(refusal), raw),
                 }
             }
         }
@@ -188,6 +191,7 @@ fn is_known(command: &Command<'_>, stock: &Stock) -> bool
     match command {
         Command::Call(Call::Window(call)) => is_known_call(call, stock),
         Command::Call(Call::Update(_)) => true,
+        Command::Call(Call::Event(_)) => true,
         Command::Desk(_) => true,
         Command::Image => true,
     }
@@ -209,20 +213,21 @@ fn first_answer<S: Sink>(
     command: &Command<'_>,
     stock: &mut Stock,
     sink: &mut S,
+    raw: bool,
 ) -> Result<(), Refusal>
     requires whole { IsWholeToolbox ⟦<Taken as Defined>⟧.loan desk.old (⟦<Stock as Stocked>⟧.slots stock.old) }
     requires unfailed { (S.output sink.old).has_failed ≡ false }
     ensures whole { IsWholeToolbox ⟦<Taken as Defined>⟧.loan desk.new (⟦<Stock as Stocked>⟧.slots stock.new) }
     ensures quiet { OnOk result ((S.output sink.new).has_failed ≡ false) }
-    ensures answered { IsFirstAnswered
+    ensures answered { IsFirstAnswered raw
         (toolbox_state ⟦<Taken as Defined>⟧.loan desk.old (⟦<Stock as Stocked>⟧.slots stock.old)) command.now
         (toolbox_state ⟦<Taken as Defined>⟧.loan desk.new (⟦<Stock as Stocked>⟧.slots stock.new))
         (S.output sink.old) (S.output sink.new) result }
 {
     match command {
-        Command::Desk(_) => write_done(sink),
-        Command::Image => answer_on(desk, command, stock, sink),
-        Command::Call(_) => answer_on(desk, command, stock, sink),
+        Command::Desk(_) => show_done(sink, raw),
+        Command::Image => answer_on(desk, command, stock, sink, raw),
+        Command::Call(_) => answer_on(desk, command, stock, sink, raw),
     }
 }
 
@@ -232,22 +237,23 @@ fn answer_on<S: Sink>(
     command: &Command<'_>,
     stock: &mut Stock,
     sink: &mut S,
+    raw: bool,
 ) -> Result<(), Refusal>
     requires whole { IsWholeToolbox ⟦<Taken as Defined>⟧.loan desk.old (⟦<Stock as Stocked>⟧.slots stock.old) }
     requires unfailed { (S.output sink.old).has_failed ≡ false }
     ensures whole { IsWholeToolbox ⟦<Taken as Defined>⟧.loan desk.new (⟦<Stock as Stocked>⟧.slots stock.new) }
     ensures quiet { OnOk result ((S.output sink.new).has_failed ≡ false) }
-    ensures answered { IsAnswered
+    ensures answered { IsAnswered raw
         (toolbox_state ⟦<Taken as Defined>⟧.loan desk.old (⟦<Stock as Stocked>⟧.slots stock.old)) command.now
         (toolbox_state ⟦<Taken as Defined>⟧.loan desk.new (⟦<Stock as Stocked>⟧.slots stock.new))
         (S.output sink.old) (S.output sink.new) result }
 {
     match command {
-        Command::Desk(_) => write_reply(sink, &Err(Refusal::Busy)),
-        Command::Image => write_p1(sink, desk.screen()),
+        Command::Desk(_) => show_reply(sink, &Err(Refusal::Busy), raw),
+        Command::Image => show_image(sink, desk.screen(), raw),
         Command::Call(call) => {
             let answer = desk.call(call, stock);
-            write_reply(sink, &answer)
+            show_reply(sink, &answer, raw)
         }
     }
 }

@@ -35,14 +35,22 @@ fn run_first(alloc: Global, piece: usize, reads: u32, paper: &mut Paper) -> Resu
     requires { 0 < piece }
 {
     let mut script = Script::new(FIRST_WINDOW, piece, reads);
-    run_with(alloc, None, false, &mut script, paper)
+    run_with(alloc, None, Shows::Replies, &mut script, paper)
 }
 
-/// Runs a script with a font, checked or not, and with its answers on the paper.
+/// What a run shows.
+#[derive(Clone, Copy, PartialEq, Eq)]
+enum Shows {
+    Replies,
+    RepliesAndCheck,
+    Images,
+}
+
+/// Runs a script with a font, and with its answers on the paper.
 fn run_with(
     alloc: Global,
     font: Option<&[u8]>,
-    check: bool,
+    shows: Shows,
     script: &mut Script<'_>,
     paper: &mut Paper,
 ) -> Result<Ended, Fail> {
@@ -53,7 +61,9 @@ fn run_with(
     };
     let mut source = WatchedReader::new(script);
     let mut sink = WatchedWriter::new(paper);
-    let outcome = run(alloc, &mut source, &mut sink, &mut stock, font, check);
+    let raw = shows == Shows::Images;
+    let check = shows == Shows::RepliesAndCheck;
+    let outcome = run(alloc, &mut source, &mut sink, &mut stock, font, raw, check);
     let is_used = stock.take(b"plain").is_err();
     Ok(Ended { outcome, is_used })
 }
@@ -134,7 +144,16 @@ fn a_script_ends_within_a_million_reads(rt: HostRuntime) -> Result<(), Fail> {
         let mut source = WatchedReader::new(&mut script);
         let mut paper = Paper::new(rt.alloc(), 4096, 1000);
         let mut sink = WatchedWriter::new(&mut paper);
-        assert!(rt; run(rt.alloc(), &mut source, &mut sink, &mut stock, None, false) == outcome);
+        let ended = run(
+            rt.alloc(),
+            &mut source,
+            &mut sink,
+            &mut stock,
+            None,
+            false,
+            false,
+        );
+        assert!(rt; ended == outcome);
         assert!(rt; script.reads_left == left);
         assert!(rt; paper.text.as_slice() == answers);
     }
@@ -151,7 +170,13 @@ fn a_run_has_its_font_before_it_reads(rt: HostRuntime) -> Result<(), Fail> {
     for (font, outcome, left, answers) in cases {
         let mut script = Script::new(FIRST_WINDOW, 4096, 2);
         let mut paper = Paper::new(rt.alloc(), 4096, 1000);
-        let ended = run_with(rt.alloc(), Some(font), false, &mut script, &mut paper)?;
+        let ended = run_with(
+            rt.alloc(),
+            Some(font),
+            Shows::Replies,
+            &mut script,
+            &mut paper,
+        )?;
         let is_used = outcome.is_ok();
         assert!(rt; ended == Ended { outcome, is_used });
         assert!(rt; script.reads_left == left);
@@ -171,11 +196,27 @@ fn a_checked_run_ends_with_its_line(rt: HostRuntime) -> Result<(), Fail> {
     for (text, reads, outcome, answers) in cases {
         let mut script = Script::new(text, 4096, reads);
         let mut paper = Paper::new(rt.alloc(), 4096, 1000);
-        let ended = run_with(rt.alloc(), None, true, &mut script, &mut paper)?;
+        let ended = run_with(
+            rt.alloc(),
+            None,
+            Shows::RepliesAndCheck,
+            &mut script,
+            &mut paper,
+        )?;
         let is_used = false;
         assert!(rt; ended == Ended { outcome, is_used });
         assert!(rt; paper.text.as_slice() == answers);
     }
+    Ok(())
+}
+
+#[test]
+fn a_raw_run_writes_its_images_alone(rt: HostRuntime) -> Result<(), Fail> {
+    let mut script = Script::new(FIRST_WINDOW, 4096, 2);
+    let mut paper = Paper::new(rt.alloc(), 4096, 1000);
+    let ended = run_with(rt.alloc(), None, Shows::Images, &mut script, &mut paper)?;
+    assert!(rt; ended.outcome == Ok(()));
+    assert!(rt; paper.text.as_slice() == b"P4\n8 8\n\xFF\x81\x81\x81\x81\x81\x81\xFF");
     Ok(())
 }
 

@@ -107,6 +107,9 @@ command-so verbs.Scroll = λ window h v. tt
 command-so (verbs.OfWindow verb) = λ window. tt
 command-so (verbs.OfRect verb) = λ window l t r b. tt
 command-so (verbs.OfRegion verb) = λ window bytes. tt
+command-so (verbs.OfMask verb) = λ mask. tt
+command-so verbs.Post = λ kind message when h v modifiers. tt
+command-so verbs.Flush = λ mask stop. tt
 
 -- what a line says is a command, or that it names what there is not
 pub line-so : (line : List ℕ) (r : Result Command Refusal) → IsLine line r → IfErr r (λ e. e ≡ NoSuchName)

@@ -11,12 +11,14 @@ use Rattle.script_text.specs.declared.verb.Verb.{Verb}
 use Rattle.script_text.specs.declared.verb.Verb.TheVariants as words
 use Rattle.script_text.specs.declared.verb.WindowVerb.TheVariants as window_words
 use Rattle.script_text.specs.declared.verb.AreaVerb.TheVariants as area_words
+use Rattle.script_text.specs.declared.verb.MaskVerb.TheVariants as mask_words
 use Rattle.line_words.specs.Words.{◌>>=◌, word_at}
 use Rattle.script_text.specs.Names.{named}
 use Rattle.script_text.specs.Grammar.{Shape, done, number, flag, name, text, mapped, reading}
 use Rattle.script_text.specs.Drawings.{drawing_shape}
 use Rattle.script_text.specs.Windows.{of_window_shape, show_hide_shape, behind_shape, move_shape, size_shape, scroll_shape}
 use Rattle.script_text.specs.Updates.{of_rect_shape, of_region_shape}
+use Rattle.script_text.specs.EventWords.{of_mask_shape, post_shape, flush_shape}
 
 -- a window with its content at (h, v)
 abbrev pub new_window_of : List ℕ → ℤ → ℤ → ℤ → ℤ → Bool → Bool → List ℕ → NewWindow
@@ -87,6 +89,11 @@ verbs =
     ∷ (codes "valid", words.OfRect area_words.Validate)
     ∷ (codes "invalrgn", words.OfRegion area_words.Invalidate)
     ∷ (codes "validrgn", words.OfRegion area_words.Validate)
+    ∷ (codes "next", words.OfMask mask_words.Next)
+    ∷ (codes "avail", words.OfMask mask_words.Avail)
+    ∷ (codes "setmask", words.OfMask mask_words.SetMask)
+    ∷ (codes "post", words.Post)
+    ∷ (codes "flush", words.Flush)
     ∷ []
 
 -- the words that follow a verb
@@ -105,6 +112,9 @@ shape_of words.Scroll = scroll_shape
 shape_of (words.OfWindow verb) = of_window_shape verb
 shape_of (words.OfRect verb) = of_rect_shape verb
 shape_of (words.OfRegion verb) = of_region_shape verb
+shape_of (words.OfMask verb) = of_mask_shape verb
+shape_of words.Post = post_shape
+shape_of words.Flush = flush_shape
 
 -- what is read after a first word that stands for a verb, or for none
 abbrev pub read_with : Option Verb → Option (List ℕ) → Result Command Refusal

@@ -1,5 +1,6 @@
 pub mod Commands
 pub mod Drawings
+pub mod EventWords
 pub mod Grammar
 pub mod Held
 pub mod Lines

@@ -5,11 +5,15 @@ use Rattle.tb_geom.specs.declared.refusal.Refusal.{Refusal}
 use Rattle.tb_geom.specs.Refusals.{name_of, number_of}
 use Rattle.desk_call.specs.declared.window.Found.{Found}
 use Rattle.desk_call.specs.declared.call.Reply.{Reply}
-use Rattle.desk_call.specs.declared.call.Reply.TheVariants.{Window}
+use Rattle.desk_call.specs.declared.call.Reply.TheVariants.{Window, Event}
+use Rattle.desk_call.specs.declared.event.EventReply.{EventReply}
+use Rattle.desk_call.specs.declared.event.EventReply.TheVariants as event_reply
 use Rattle.desk_call.specs.declared.window.WindowInfo.{WindowInfo}
 use Rattle.desk_call.specs.declared.window.WindowReply.{WindowReply}
 use Rattle.desk_call.specs.declared.window.WindowReply.TheVariants as window_reply
 use Rattle.desk_call.specs.Parts.{part_number}
+use Rattle.event_queue.specs.declared.event.Event as queue
+use Rattle.event_queue.specs.Events as events
 use Rattle.line_words.specs.Hex.{hex_text}
 
 -- a call that was done and has no value
@@ -57,7 +61,25 @@ window_reply_text (window_reply.Front window) = number_text (window_number windo
 window_reply_text (window_reply.Info info) = info_text info
 window_reply_text (window_reply.Region bytes) = region_text bytes.items
 
+-- what is answered to an event that was to be posted: 0 where it was queued, and 1 where the system event mask did not select it
+abbrev pub post_result : Bool → ℕ
+post_result queued = if queued then 0 else 1
+
+-- an event: its code, message, time, the column and row of the mouse, and modifier flags
+abbrev pub event_text : queue.Event → List ℕ
+event_text event =
+    codes "ok " ++ (decimal (events.number_of event.what) ++ (codes " " ++ (decimal event.message ++ (codes " " ++ (decimal event.when
+    ++ (codes " " ++ (signed_decimal event.h ++ (codes " " ++ (signed_decimal event.v
+    ++ (codes " " ++ (decimal event.modifiers ++ codes "\n")))))))))))
+
+-- what was answered about events
+abbrev pub event_reply_text : EventReply → List ℕ
+event_reply_text event_reply.Done = done_text
+event_reply_text (event_reply.Posted queued) = number_text (post_result queued)
+event_reply_text (event_reply.Told event) = event_text event
+
 -- what a call answered
 abbrev pub reply_text : Result Reply Refusal → List ℕ
 reply_text (Ok (Window reply)) = window_reply_text reply
+reply_text (Ok (Event reply)) = event_reply_text reply
 reply_text (Err e) = refused_text e

@@ -13,6 +13,7 @@
 
 mod command;
 mod drawing;
+mod events;
 pub mod laws;
 mod lines;
 mod names;

@@ -2,7 +2,7 @@
 //!
 //! A line is a verb and the words that follow it: `specs/Spelling.antt` says which line says which command, and
 //! `specs/Commands.antt` how it is read. Each command has a function that reads its words: those of windows that
-//! are there stand in `windows`, those of areas of windows in `updates`.
+//! are there stand in `windows`, those of areas of windows in `updates`, and those for events in `events`.
 //! The form of a whole line is judged here, and then the names of modes and patterns; no range of a number, no kind
 //! of a window and no region.
 ghost use Rattle.std.specs.Prelude.{◌≡◌, ◌⊎◌, Result, Err};
@@ -15,6 +15,7 @@ ghost use Rattle.script_text.specs.Spelling.{IsLine};
 
 use crate::command::{Command, DeskSize};
 use crate::drawing::drawing;
+use crate::events::{flush, of_mask, post};
 use crate::updates::{of_rect, of_region};
 use crate::verb::{Verb, verb_of};
 use crate::windows::{behind, move_to, of_window, resize, scroll, show_hide};
@@ -114,6 +115,9 @@ fn command<'a>(verb: Verb, words: Words<'a>) -> Result<Command<'a>, Refusal>
         Verb::OfWindow(verb) => of_window(verb, words),
         Verb::OfRect(verb) => of_rect(verb, words),
         Verb::OfRegion(verb) => of_region(verb, words),
+        Verb::OfMask(verb) => of_mask(verb, words),
+        Verb::Post => post(words),
+        Verb::Flush => flush(words),
     }
 }
 

@@ -1,10 +1,11 @@
 //! Replies as lines.
 ghost use Rattle.watched_io.specs.Writes.{Sends};
 ghost use Rattle.std.specs.Prelude.{◌≡◌, false};
-ghost use Rattle.script_text.specs.Replies.{done_text, refused_text, number_text, found_text, flag_text, info_text, reply_text, window_reply_text, window_number};
+ghost use Rattle.script_text.specs.Replies.{done_text, refused_text, number_text, found_text, flag_text, info_text, reply_text, window_reply_text, event_reply_text, event_text, post_result, window_number};
 
 use crate::region_line::write_region;
-use desk_call::{Found, Reply, WindowInfo, WindowReply};
+use desk_call::{EventReply, Found, Reply, WindowInfo, WindowReply};
+use event_queue::Event;
 use itoa::Buffer;
 use tb_geom::Refusal;
 use watched_io::{Sink, send, send_all};
@@ -25,6 +26,7 @@ pub fn write_reply<S: Sink>(sink: &mut S, reply: &Result<Reply, Refusal>) -> Res
 {
     match reply {
         Ok(Reply::Window(reply)) => write_window_reply(sink, reply),
+        Ok(Reply::Event(reply)) => write_event_reply(sink, reply),
         Err(refusal) => write_refusal(sink, *refusal),
     }
 }
@@ -109,6 +111,55 @@ fn write_info<S: Sink>(sink: &mut S, info: WindowInfo) -> Result<(), Refusal>
         flag_text(info.shown),
         b" ",
         flag_text(info.highlighted),
+        b"\n",
+    ];
+    send_all(sink, &pieces)
+}
+
+/// Writes the line of what was answered about events.
+fn write_event_reply<S: Sink>(sink: &mut S, reply: &EventReply) -> Result<(), Refusal>
+    requires { (S.output sink.old).has_failed ≡ false }
+    ensures { Sends (S.output sink.old) (S.output sink.new) result (event_reply_text reply.now) }
+{
+    match reply {
+        EventReply::Done => write_done(sink),
+        EventReply::Posted(queued) => write_number(sink, post_result(*queued)),
+        EventReply::Told(event) => write_event(sink, *event),
+    }
+}
+
+/// What PostEvent answers (*Inside Macintosh* II, "The Operating System Event Manager"): 0 (noErr) where the event was queued,
+/// and 1 (evtNotEnb) where the system event mask did not select it.
+fn post_result(queued: bool) -> u64
+    ensures { result ≡ post_result queued }
+{
+    if queued { 0 } else { 1 }
+}
+
+/// Writes the line of an event.
+fn write_event<S: Sink>(sink: &mut S, event: Event) -> Result<(), Refusal>
+    requires { (S.output sink.old).has_failed ≡ false }
+    ensures { Sends (S.output sink.old) (S.output sink.new) result (event_text event) }
+{
+    let mut what = Buffer::new();
+    let mut message = Buffer::new();
+    let mut when = Buffer::new();
+    let mut h = Buffer::new();
+    let mut v = Buffer::new();
+    let mut modifiers = Buffer::new();
+    let pieces: [&[u8]; 13] = [
+        b"ok ",
+        what.format(event.what.number()).as_bytes(),
+        b" ",
+        message.format(event.message).as_bytes(),
+        b" ",
+        when.format(event.when).as_bytes(),
+        b" ",
+        h.format(event.h).as_bytes(),
+        b" ",
+        v.format(event.v).as_bytes(),
+        b" ",
+        modifiers.format(event.modifiers).as_bytes(),
         b"\n",
     ];
     send_all(sink, &pieces)

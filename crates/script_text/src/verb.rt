@@ -22,6 +22,9 @@ pub enum Verb {
     OfWindow(WindowVerb),
     OfRect(AreaVerb),
     OfRegion(AreaVerb),
+    OfMask(MaskVerb),
+    Post,
+    Flush,
 }
 
 /// A first word that the number of a window follows, and nothing else.
@@ -51,8 +54,16 @@ pub enum AreaVerb {
     Validate,
 }
 
+/// A first word that an event mask follows, and nothing else.
+#[derive(Clone, Copy, Debug, PartialEq, Eq)]
+pub enum MaskVerb {
+    Next,
+    Avail,
+    SetMask,
+}
+
 /// Each first word, and what it stands for.
-static VERBS: [(&[u8], Verb); 30] = [
+static VERBS: [(&[u8], Verb); 35] = [
     (b"desk", Verb::Desk),
     (b"image", Verb::Image),
     (b"window", Verb::Window),
@@ -83,6 +94,11 @@ static VERBS: [(&[u8], Verb); 30] = [
     (b"valid", Verb::OfRect(AreaVerb::Validate)),
     (b"invalrgn", Verb::OfRegion(AreaVerb::Invalidate)),
     (b"validrgn", Verb::OfRegion(AreaVerb::Validate)),
+    (b"next", Verb::OfMask(MaskVerb::Next)),
+    (b"avail", Verb::OfMask(MaskVerb::Avail)),
+    (b"setmask", Verb::OfMask(MaskVerb::SetMask)),
+    (b"post", Verb::Post),
+    (b"flush", Verb::Flush),
 ];
 
 /// The verb that this word is, byte by byte; None of a word that is no verb.

@@ -12,6 +12,6 @@ invariant-loop-read g l =
     record {
       ready : IsReady loan l.session (slots l.stock);
       quiet : (g.W.Sink.output l.sink).has_failed ≡ false;
-      so_far : SoFar (session_of loan l.fn.session (slots l.fn.stock)) (g.R.Source.input l.fn.source) (g.W.Sink.output l.fn.sink) (g.R.Source.input l.source) (g.W.Sink.output l.sink) (session_of loan l.session (slots l.stock)) l.line [];
+      so_far : SoFar l.raw (session_of loan l.fn.session (slots l.fn.stock)) (g.R.Source.input l.fn.source) (g.W.Sink.output l.fn.sink) (g.R.Source.input l.source) (g.W.Sink.output l.sink) (session_of loan l.session (slots l.stock)) l.line [];
       counted : (g.R.Source.input l.source).reads ≡ l.read;
     }

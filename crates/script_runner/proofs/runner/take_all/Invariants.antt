@@ -16,6 +16,6 @@ invariant-loop-byte g l =
       ready : IsReady loan l.session (slots l.stock);
       quiet : (g.W.Sink.output l.sink).has_failed ≡ false;
       so_far : (first : SessionState) (input rest : Input) (old : Output)
-          → SoFar first input old rest (g.W.Sink.output l.initial.sink) (session_of loan l.initial.session (slots l.initial.stock)) l.initial.line l.bytes
-          → SoFar first input old rest (g.W.Sink.output l.sink) (session_of loan l.session (slots l.stock)) l.line (drop l.byte-index l.bytes);
+          → SoFar l.raw first input old rest (g.W.Sink.output l.initial.sink) (session_of loan l.initial.session (slots l.initial.stock)) l.initial.line l.bytes
+          → SoFar l.raw first input old rest (g.W.Sink.output l.sink) (session_of loan l.session (slots l.stock)) l.line (drop l.byte-index l.bytes);
     }

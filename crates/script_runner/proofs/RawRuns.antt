@@ -1,0 +1,64 @@
+-- A raw run writes the images that its lines ask for.
+use Rattle.std.proofs.Common.{◌≡◌, ℕ, ◌+◌, true, cond, List, [], ◌∷◌, ◌++◌, length, Option, None, Some, Result, Ok, Err, refl, sym, ap, ◌∙◌, subst, append-nil, count_by, arith}
+use Rattle.std.specs.List.{flat_map}
+use Rattle.std.proofs.lemmas.List.{length-append}
+use Rattle.std.proofs.lemmas.List.Concat.{flat_map-append}
+use Rattle.std.proofs.lemmas.List.Sums.{sum_by-cons}
+use Rattle.tb_geom.specs.declared.refusal.Refusal.{Refusal}
+use Rattle.def_iface.specs.Stocked.{SlotView}
+use Rattle.desk_toolbox.specs.ToolboxStates.{ToolboxState}
+use Rattle.script_text.specs.declared.command.Command.{Command}
+use Rattle.script_text.specs.declared.command.Command.TheVariants.{Desk, Image, Call}
+use Rattle.script_text.specs.Lines.{said}
+use Rattle.script_runner.specs.RawText.{asks_image, AreImages}
+use Rattle.script_runner.specs.Session.{SessionState, unmade, made, image_text, Answers, FirstAnswers, Opens, Obeys, SaidAnswers, Written, why_unmade}
+
+none : AreImages 0 []
+none = ([], refl, refl)
+
+one : (s : ToolboxState) → AreImages 1 (image_text true s)
+one s = (s ∷ [], refl, sym (append-nil (image_text true s)))
+
+joined : (m n : ℕ) (xs ys : List ℕ) → AreImages m xs → AreImages n ys → AreImages (m + n) (xs ++ ys)
+joined m n xs ys (front, long, is) (back, far, ends) =
+    (front ++ back, length-append front back ∙ (λ i. long i + far i), (λ i. is i ++ ends i) ∙ sym (flat_map-append (image_text true) front back))
+
+-- how many images a command asks for
+abbrev asked : Command → ℕ
+asked command = cond (asks_image (Some (Ok command))) 1 0
+
+answers_images : (s : ToolboxState) (command : Command) (text : List ℕ) (after : ToolboxState) → Answers true s command text after → AreImages (asked command) text
+answers_images s (Desk size) text after answered = subst (AreImages 0) (sym answered.0) none
+answers_images s Image text after answered = subst (AreImages 1) (sym answered.0) (one s)
+answers_images s (Call call) text after answered = subst (AreImages 0) (sym answered.2) none
+
+first_images : (s : ToolboxState) (command : Command) (text : List ℕ) (after : ToolboxState) → FirstAnswers true s command text after → AreImages (asked command) text
+first_images s (Desk size) text after answered = subst (AreImages 0) (sym answered.0) none
+first_images s Image text after answered = answers_images s Image text after answered
+first_images s (Call call) text after answered = answers_images s (Call call) text after answered
+
+-- the usual desk can always be made, so `image` is not refused
+opens_images : (font : List ℕ) (slots : List SlotView) (command : Command) (why : Option Refusal) (text : List ℕ) (new : SessionState)
+    → why_unmade command slots ≡ why → Opens true why font slots command text new → AreImages (asked command) text
+opens_images font slots command None text new is (first, after, fresh, answered, then) = first_images first command text after answered
+opens_images font slots (Desk size) (Some e) text new is opened = subst (AreImages 0) (sym opened.0) none
+opens_images font slots Image (Some e) text new is opened =
+    let bad : ◌≡◌ {A = Option Refusal} None (Some e) = is in
+    absurd (cc)
+opens_images font slots (Call call) (Some e) text new is opened = subst (AreImages 0) (sym opened.0) none
+
+said_images : (old : SessionState) (says : Option (Result Command Refusal)) (text : List ℕ) (new : SessionState) → SaidAnswers true old says text new → AreImages (cond (asks_image says) 1 0) text
+said_images old None text new answered = subst (AreImages 0) (sym answered.0) none
+said_images old (Some (Err e)) text new answered = subst (AreImages 0) (sym answered.0) none
+said_images (unmade font slots) (Some (Ok command)) text new obeyed = opens_images font slots command (why_unmade command slots) text new refl obeyed
+said_images (made s) (Some (Ok command)) text new (after, answered, is) = answers_images s command text after answered
+
+pub written_images : (old : SessionState) (lines : List (List ℕ)) (text : List ℕ) (new : SessionState) → Written true old lines text new
+    → AreImages (count_by (λ line. asks_image (said line)) lines) text
+written_images old [] text new written = subst (AreImages 0) (sym written.0) none
+written_images old (line ∷ lines) text new (middle, first, others, answered, rest, whole) =
+    let count = sum_by-cons (λ line. cond (asks_image (said line)) 1 0) line lines in
+    let both = joined (cond (asks_image (said line)) 1 0) (count_by (λ line. asks_image (said line)) lines) first others
+    (said_images old (said line) first middle answered) (written_images middle lines others new rest) in
+    subst (AreImages (count_by (λ line. asks_image (said line)) (line ∷ lines))) (sym whole)
+    (subst (λ n. AreImages n (first ++ others)) (sym count) both)
