@@ -19,5 +19,6 @@ pub fn checks_find_no_pixel()
 #[tactic(auto, using(crate::proofs::RawRuns::written_images))]
 pub fn raw_runs_write_images_alone()
     ensures { (font : List ℕ) (slots : List SlotView) (lines : List (List ℕ)) (text : List ℕ) (session : SessionState)
-        → Written true (unmade font slots) lines text session → AreImages (count_by (λ line. asks_image (said line)) lines) text }
+        → Written true (unmade font slots) lines text session
+        → AreImages (count_by (λ line. asks_image (said line)) lines) text }
 {}

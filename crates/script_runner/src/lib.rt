@@ -10,7 +10,8 @@
 //! to a line and what that leaves of the desk, over the Toolbox's own steps, and `Runs` how a run ends. The
 //! contract of `run` is that and nothing else: the bytes that went out are the answers to the lines that came
 //! in, and, where a check is asked for, a last line of how many pixels differ from the desk painted from nothing
-//! (`Checks`): the laws say that none does. It holds for every stock: whose window definitions they are, and of which kinds, is the caller's.
+//! (`Checks`): the laws say that none does. It holds for every stock: whose window definitions they are, and of
+//! which kinds, is the caller's.
 //!
 //! `options` reads the words of the command line.
 #![tactic(auto)]

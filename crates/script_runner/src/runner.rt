@@ -20,11 +20,13 @@ use tb_geom::Refusal;
 use watched_io::{MOST_READS, Sink, Source};
 
 /// Answers each line of the script that the source gives, in bytes to the sink, and writes nothing
-/// else, but for the check: where that is asked for, and each line was answered, a last line says how many pixels of the screen in no
-/// update region differ from the desk painted from nothing. A raw run shows the images alone, as P4: no line of a reply is written. What a line answers is written before the next read. ReadFault where a read failed or
-/// 1,000,000 came without the end of the input, WriteFault where a write failed, and NoMemory where
-/// there was none for the desk, which the first command makes. However the run ends, each definition
-/// of the stock is back in its slot: that of a window Closed, and every other as it was.
+/// else, but for the check: where that is asked for, and each line was answered, a last line says how
+/// many pixels of the screen in no update region differ from the desk painted from nothing. A raw run
+/// shows the images alone, as P4: no line of a reply is written. What a line answers is written before
+/// the next read. ReadFault where a read failed or 1,000,000 came without the end of the input,
+/// WriteFault where a write failed, and NoMemory where there was none for the desk, which the first
+/// command makes. However the run ends, each definition of the stock is back in its slot: that of a
+/// window Closed, and every other as it was.
 ///
 /// The desk has the font that has the bytes `font`, or the built-in one where there are none. It is
 /// made before the first read. BadFont exactly where the bytes are no FONT record; then, and where

@@ -51,8 +51,9 @@ impl Session {
     }
 
     /// Answers what a line says, in bytes to the sink: a reply line, or an image. Nothing is written
-    /// for a line that says nothing, and, where the run is raw, in place of a reply line. The first command makes the desk: where there is no memory for
-    /// that, the answer is NoMemory and nothing is written. Else WriteFault is the only error.
+    /// for a line that says nothing, and, where the run is raw, in place of a reply line. The first
+    /// command makes the desk: where there is no memory for that, the answer is NoMemory and nothing is
+    /// written. Else WriteFault is the only error.
     pub fn answer<S: Sink>(
         &mut self,
         said: Option<Result<Command<'_>, Refusal>>,

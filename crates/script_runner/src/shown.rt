@@ -42,7 +42,8 @@ pub(crate) fn show_done<S: Sink>(sink: &mut S, raw: bool) -> Result<(), Refusal>
 pub(crate) fn show_image<S: Sink>(sink: &mut S, map: &BitMap, raw: bool) -> Result<(), Refusal>
     requires unfailed { (S.output sink.old).has_failed ≡ false }
     requires width { map.now.width ≤ 1024 }
-    ensures { Sends (S.output sink.old) (S.output sink.new) result (image_shown raw map.now.width map.now.height (bit map.now)) }
+    ensures { Sends (S.output sink.old) (S.output sink.new) result
+        (image_shown raw map.now.width map.now.height (bit map.now)) }
 {
     if raw {
         write_p4(sink, map)

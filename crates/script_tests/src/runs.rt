@@ -216,7 +216,8 @@ fn a_raw_run_writes_its_images_alone(rt: HostRuntime) -> Result<(), Fail> {
     let mut paper = Paper::new(rt.alloc(), 4096, 1000);
     let ended = run_with(rt.alloc(), None, Shows::Images, &mut script, &mut paper)?;
     assert!(rt; ended.outcome == Ok(()));
-    assert!(rt; paper.text.as_slice() == b"P4\n8 8\n\xFF\x81\x81\x81\x81\x81\x81\xFF");
+    let image: &[u8] = b"P4\n8 8\n\xFF\x81\x81\x81\x81\x81\x81\xFF";
+    assert!(rt; paper.text.as_slice() == image);
     Ok(())
 }
 
