@@ -38,7 +38,8 @@ fn mark(canvas: &mut Canvas<'_>, mark: Mark, text: &[u8])
     requires { length text.now ≤ 65535 }
     ensures same_map { canvas.new.map.ghost_name ≡ canvas.old.map.ghost_name }
     ensures same_frame { SameFrame canvas.old canvas.new }
-    ensures drawn { Draws (λ p. canvas_holds canvas.old p && mark_holds (lettering canvas.old.font.now text.now) mark (canvas_point canvas.old p))
+    ensures drawn { Draws (λ p. canvas_holds canvas.old p
+        && mark_holds (lettering canvas.old.font.now text.now) mark (canvas_point canvas.old p))
         (λ p d. mark_value mark (canvas_point canvas.old p) d)
         canvas.old.map.now canvas.new.map.now }
 {

@@ -1,7 +1,8 @@
 -- Which kinds of window have what.
 use Rattle.std.specs.Prelude.{ℕ, Bool, true, false, ◌&&◌, nat_lt, List, length, take}
 use Rattle.def_iface.specs.declared.window_def.WindowChange.{WindowChange}
-use Rattle.def_iface.specs.declared.window_def.WindowChange.TheVariants.{Resized, Titled, Highlighted, Closable, Zoomed, Tracked}
+use Rattle.def_iface.specs.declared.window_def.WindowChange.TheVariants.{Resized, Titled, Highlighted, Closable, Zoomed}
+use Rattle.def_iface.specs.declared.window_def.WindowChange.TheVariants.{Tracked}
 use Rattle.std_wdef.specs.declared.kind.Variation.{Variation}
 use Rattle.std_wdef.specs.declared.kind.Variation.TheVariants.{Document, Dialog, Plain, Shadow, NoGrow, Zoom}
 use Rattle.std_wdef.specs.declared.kind.Flags.{Flags}

@@ -1,7 +1,7 @@
 //! The definition of the standard windows.
 ghost use Rattle.std.specs.Prelude.{◌≡◌, true};
 ghost use Rattle.def_iface.specs.Meaning.{SameRegions, IsDamage, is_fitting, size_after};
-ghost use Rattle.std_wdef.specs.Told.{window_meaning, told_window, window_at};
+ghost use Rattle.std_wdef.specs.Told.{window_meaning, fresh_window, told_window, window_at};
 
 use crate::areas::{content_of, structure_box, structure_of};
 use crate::hits::std_hit;
@@ -30,7 +30,7 @@ impl StdWindow {
     /// A Fresh definition of this kind, with no title and no size yet.
     pub fn new(variation: Variation) -> StdWindow
         ensures fresh { (⟦<StdWindow as WindowDef>⟧.meaning result).stage ≡ Stage.Fresh }
-        ensures kind { result.variation ≡ variation }
+        ensures value { result ≡ fresh_window variation }
     {
         StdWindow {
             variation,
