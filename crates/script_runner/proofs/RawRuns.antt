@@ -1,6 +1,5 @@
 -- A raw run writes the images that its lines ask for.
-use Rattle.std.proofs.Common.{◌≡◌, ℕ, ◌+◌, true, cond, List, [], ◌∷◌, ◌++◌, length, Option, None, Some, Result, Ok, Err, refl, sym, ap, ◌∙◌, subst, append-nil, count_by, arith}
-use Rattle.std.specs.List.{flat_map}
+use Rattle.std.proofs.Common.{◌≡◌, ℕ, ◌+◌, true, cond, List, [], ◌∷◌, ◌++◌, Option, None, Some, Result, Ok, Err, refl, sym, ◌∙◌, subst, append-nil, count_by}
 use Rattle.std.proofs.lemmas.List.{length-append}
 use Rattle.std.proofs.lemmas.List.Concat.{flat_map-append}
 use Rattle.std.proofs.lemmas.List.Sums.{sum_by-cons}
@@ -11,7 +10,7 @@ use Rattle.script_text.specs.declared.command.Command.{Command}
 use Rattle.script_text.specs.declared.command.Command.TheVariants.{Desk, Image, Call}
 use Rattle.script_text.specs.Lines.{said}
 use Rattle.script_runner.specs.RawText.{asks_image, AreImages}
-use Rattle.script_runner.specs.Session.{SessionState, unmade, made, image_text, Answers, FirstAnswers, Opens, Obeys, SaidAnswers, Written, why_unmade}
+use Rattle.script_runner.specs.Session.{SessionState, unmade, made, image_text, Answers, FirstAnswers, Opens, SaidAnswers, Written, why_unmade}
 
 none : AreImages 0 []
 none = ([], refl, refl)
