@@ -39,9 +39,10 @@ pub record SameRegions (old new : Definition) : Type 0 where
 abbrev pub is_fitting : Definition → Size → Bool
 is_fitting d s = is_size s && is_in_range (d.bounds s)
 
--- the size after a change
+-- the size after a change: no other change touches it
 abbrev pub size_after : WindowChange → Size → Size
 size_after (Resized s) old = s
+size_after _ old = old
 
 -- in every font, the pictures are equal outside the damage, as far as coordinates go
 abbrev pub IsDamage : Rect → Definition → Definition → Type 0

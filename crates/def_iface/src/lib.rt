@@ -10,9 +10,10 @@
 //! begins at 0 0 and lies in its structure.
 //!
 //! A definition's life has three stages. It is Fresh when it is made. `begin` makes it Live, and from
-//! then on it can be told of changes and can draw. Each change is answered by a rectangle outside which
-//! the picture stayed as it was, in every font and within the range of coordinates. `dispose` makes it
-//! Closed, and Closed it remains: no window is made with it again.
+//! then on it can draw, and can be told of changes (`WindowChange`): of the size, the title, the
+//! highlighting, the go-away box and its tracking, and the zoom state. Each change is answered by a
+//! rectangle outside which the picture stayed as it was, in every font and within the range of
+//! coordinates. `dispose` makes it Closed, and Closed it remains: no window is made with it again.
 //!
 //! Definitions wait in a `Stock`: a list of slots, each for a kind that goes by its name, and several
 //! slots may be for one kind. `take` gives the first Fresh definition of a kind, in the order in which

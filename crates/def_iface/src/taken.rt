@@ -75,13 +75,13 @@ impl Taken {
 
     /// Tells a Live definition of a change. The answer is the damage: in every font the pictures before
     /// and after are equal outside it, within the range of coordinates.
-    pub fn told(&mut self, change: WindowChange) -> Rect
+    pub fn told(&mut self, change: WindowChange<'_>) -> Rect
         requires live { (⟦<Taken as Defined>⟧.loan self.old).definition.stage ≡ Stage.Live }
         requires fits { is_fitting (⟦<Taken as Defined>⟧.loan self.old).definition
             (size_after change (⟦<Taken as Defined>⟧.loan self.old).definition.size) ≡ true }
         ensures stays { (⟦<Taken as Defined>⟧.loan self.new).definition.stage ≡ Stage.Live }
         ensures size { (⟦<Taken as Defined>⟧.loan self.new).definition.size
-            ≡ size_after change (⟦<Taken as Defined>⟧.loan self.old).definition.size }
+            ≡ size_after change.entry (⟦<Taken as Defined>⟧.loan self.old).definition.size }
         ensures regions { SameRegions (⟦<Taken as Defined>⟧.loan self.old).definition
             (⟦<Taken as Defined>⟧.loan self.new).definition }
         ensures damage { IsDamage result (⟦<Taken as Defined>⟧.loan self.old).definition

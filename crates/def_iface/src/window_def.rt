@@ -29,9 +29,19 @@ pub enum Stage {
 
 /// What a definition is told of its window.
 #[derive(Clone, Copy, Debug, PartialEq, Eq)]
-pub enum WindowChange {
+pub enum WindowChange<'a> {
     /// The size of the content rectangle.
     Resized(Size),
+    /// The bytes of the title.
+    Titled(&'a [u8]),
+    /// Whether the window is highlighted.
+    Highlighted(bool),
+    /// Whether it has a go-away box.
+    Closable(bool),
+    /// Whether it is zoomed.
+    Zoomed(bool),
+    /// Whether its go-away box is tracked, with the point inside.
+    Tracked(bool),
 }
 
 /// The part of a window that a point lies in, as its definition tells (the codes of the message
@@ -79,11 +89,11 @@ pub trait WindowDef: Drop {
 
     /// Tells a Live definition of a change. The answer is the damage: in every font the pictures before
     /// and after are equal outside it, within the range of coordinates.
-    fn told(&mut self, change: WindowChange) -> Rect
+    fn told(&mut self, change: WindowChange<'_>) -> Rect
         requires live { (meaning self.old).stage ≡ Stage.Live }
         requires fits { is_fitting (meaning self.old) (size_after change (meaning self.old).size) ≡ true }
         ensures stays { (meaning self.new).stage ≡ Stage.Live }
-        ensures size { (meaning self.new).size ≡ size_after change (meaning self.old).size }
+        ensures size { (meaning self.new).size ≡ size_after change.entry (meaning self.old).size }
         ensures regions { SameRegions (meaning self.old) (meaning self.new) }
         ensures damage { IsDamage result (meaning self.old) (meaning self.new) };
 

@@ -15,7 +15,7 @@ use std::alloc::AllocError;
 use std::process::ExitCode;
 use std::rt::Files;
 use std::{env, fs, io};
-use std_wdef::PlainWindow;
+use std_wdef::{StdWindow, Variation};
 use tb_geom::Refusal;
 use watched_io::{WatchedReader, WatchedWriter, read_all};
 
@@ -138,7 +138,7 @@ fn main(rt: HostRuntime) -> ExitCode {
     };
     let mut stock = Stock::new(alloc);
     for _ in 0..DEFINITIONS {
-        let Ok(plain) = Box::new(alloc, PlainWindow::new()) else {
+        let Ok(plain) = Box::new(alloc, StdWindow::new(Variation::Plain)) else {
             return ended(&rt, Err(Refusal::NoMemory));
         };
         let Ok(()) = stock.add(b"plain", plain) else {

@@ -9,7 +9,7 @@ use ground_tests::pixels::{Pixels, map_of, mark, picture};
 use scan_region::Region;
 use std::alloc::Global;
 use std::test::Fail;
-use std_wdef::PlainWindow;
+use std_wdef::{StdWindow, Variation};
 use strike_font::Font;
 use tb_geom::{Point, Rect, Refusal};
 
@@ -53,7 +53,7 @@ fn a_stock_gives_the_first_fresh_definition_of_a_kind(rt: HostRuntime) -> Result
     assert!(rt; stock.take(b"window").err() == Some(Refusal::NoSuchName));
     let first: Box<dyn WindowDef> = Box::new(alloc, Titled::new())?;
     assert!(rt; stock.add(b"window", first).is_ok());
-    let second: Box<dyn WindowDef> = Box::new(alloc, PlainWindow::new())?;
+    let second: Box<dyn WindowDef> = Box::new(alloc, StdWindow::new(Variation::Plain))?;
     assert!(rt; stock.add(b"window", second).is_ok());
     let fresh = stock.take(b"window")?;
     stock.put_back(fresh);

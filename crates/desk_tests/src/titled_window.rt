@@ -56,8 +56,11 @@ impl WindowDef for Titled {
         self.stage = Stage::Live;
     }
 
-    fn told(&mut self, change: WindowChange) -> Rect {
-        let WindowChange::Resized(size) = change;
+    fn told(&mut self, change: WindowChange<'_>) -> Rect {
+        let size = match change {
+            WindowChange::Resized(size) => size,
+            _ => self.size,
+        };
         let damage = self.size.rect().union(size.rect());
         self.size = size;
         damage

@@ -11,7 +11,7 @@ use ground_tests::pixels::{Pixels, are_alike, mark};
 use op_ref::{BytesRef, LineRef, OpRef, ShapeRef};
 use std::alloc::{AllocError, Global};
 use std::test::Fail;
-use std_wdef::PlainWindow;
+use std_wdef::{StdWindow, Variation};
 use strike_font::Font;
 use tb_geom::{Point, Refusal};
 
@@ -90,7 +90,7 @@ fn a_window_that_was_covered_is_updated(rt: HostRuntime) -> Result<(), Fail> {
     let alloc = rt.alloc();
     let mut stock = Stock::new(alloc);
     for _ in 0..2 {
-        let Ok(()) = stock.add(b"plain", Box::new(alloc, PlainWindow::new())?) else {
+        let Ok(()) = stock.add(b"plain", Box::new(alloc, StdWindow::new(Variation::Plain))?) else {
             return Err(Fail::from(Refusal::NoMemory));
         };
     }
@@ -136,7 +136,7 @@ fn bar(alloc: Global) -> Result<Picture, Refusal> {
 fn a_window_is_given_a_picture(rt: HostRuntime) -> Result<(), Fail> {
     let alloc = rt.alloc();
     let mut stock = Stock::new(alloc);
-    let Ok(()) = stock.add(b"plain", Box::new(alloc, PlainWindow::new())?) else {
+    let Ok(()) = stock.add(b"plain", Box::new(alloc, StdWindow::new(Variation::Plain))?) else {
         return Err(Fail::from(Refusal::NoMemory));
     };
     let Ok(mut desk) = Toolbox::new(alloc, 8, 8, 0, Font::built_in(alloc)?) else {

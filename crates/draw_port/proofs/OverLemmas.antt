@@ -99,7 +99,7 @@ black_everywhere : (p : Point) → pattern_bit (equal_rows 255) p ≡ true
 black_everywhere p = ap (λ byte. bit_of byte (eighth_of p.h)) (row-byte 255 (eighth_of p.v) (eighth-below p.v)) ∙ black-bit (eighth_of p.h) (eighth-below p.h)
 
 -- the white pattern is black nowhere
-white_everywhere : (p : Point) → pattern_bit (equal_rows 0) p ≡ false
+pub white_everywhere : (p : Point) → pattern_bit (equal_rows 0) p ≡ false
 white_everywhere p = ap (λ byte. bit_of byte (eighth_of p.h)) (row-byte 0 (eighth_of p.v) (eighth-below p.v)) ∙ white-bit (eighth_of p.h) (eighth-below p.h)
 
 -- black on all of a canvas and then white on a rectangle of it: black where the rectangle is not

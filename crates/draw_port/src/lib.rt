@@ -35,4 +35,5 @@ pub use bytes::{Bytes, ShortText};
 pub use canvas::Canvas;
 pub use cut::Cut;
 pub use picture::Picture;
+pub use placed::placed_within;
 pub use shapes::{Line, Op, RowsOfBits, Shade, Shape, TextMode, TextRun};

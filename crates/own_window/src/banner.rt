@@ -85,9 +85,10 @@ impl WindowDef for Banner {
     }
 
     // The answer is the damage, outside which the picture is as it was. It may be greater than it has to be.
-    fn told(&mut self, change: WindowChange) -> Rect {
-        let WindowChange::Resized(size) = change;
-        self.size = size;
+    fn told(&mut self, change: WindowChange<'_>) -> Rect {
+        if let WindowChange::Resized(size) = change {
+            self.size = size;
+        }
         EVERYWHERE
     }
 

@@ -10,7 +10,7 @@ use font_tests::small::SMALL;
 use script_runner::{OptionsError, run};
 use std::alloc::{AllocError, Global};
 use std::test::Fail;
-use std_wdef::PlainWindow;
+use std_wdef::{StdWindow, Variation};
 use tb_geom::Refusal;
 use watched_io::{WatchedReader, WatchedWriter};
 
@@ -55,7 +55,7 @@ fn run_with(
     paper: &mut Paper,
 ) -> Result<Ended, Fail> {
     let mut stock = Stock::new(alloc);
-    let plain: Box<dyn WindowDef> = Box::new(alloc, PlainWindow::new())?;
+    let plain: Box<dyn WindowDef> = Box::new(alloc, StdWindow::new(Variation::Plain))?;
     let Ok(()) = stock.add(b"plain", plain) else {
         return Err(Fail::from(Refusal::NoMemory));
     };

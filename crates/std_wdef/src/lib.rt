@@ -1,10 +1,27 @@
-//! The standard window definitions.
+//! The standard window definitions (*Inside Macintosh* I, "The Window Manager", "Defining Your Own
+//! Windows").
 //!
-//! So far there is one, `PlainWindow`: a black frame of one pixel around the content, and nothing else. What it
-//! looks like at each size is written as plain data in `specs/PlainWindows.antt`, and its contract is that of
-//! `WindowDef` at that data.
+//! `StdWindow` is the definition of the standard kinds: a `Variation` names one. A document window has
+//! a title bar with the title, and perhaps a go-away box, a zoom box and a size box; dialog, plain and
+//! shadow windows have a frame alone. `NotchedWindow` is a kind with another shape: its upper right
+//! corner is cut out.
+//!
+//! What a window of a kind looks like, which pixels it has, and which part of it a point lies in, are
+//! tables of its size, its title and what else it was told (`Flags`). Each table stands twice, in
+//! `specs/` and in the code, and the check finds the two equal; the loops over them are those of
+//! `looks`. All rectangles are in the window's own coordinates, where its content begins at 0 0.
 #![tactic(auto)]
 
-mod plain_window;
+mod areas;
+mod hits;
+mod kind;
+mod notched_window;
+mod rects;
+mod shown;
+mod std_window;
+mod tables;
+mod title;
 
-pub use plain_window::PlainWindow;
+pub use kind::{Flags, Variation};
+pub use notched_window::NotchedWindow;
+pub use std_window::StdWindow;

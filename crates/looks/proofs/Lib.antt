@@ -1,0 +1,5 @@
+-- Lemmas on steps, on looks that differ, and on areas.
+pub mod PaintLemmas
+pub mod DamageLemmas
+pub mod SameLemmas
+pub mod AreaLemmas

@@ -1,0 +1,15 @@
+use Rattle.std.proofs.Common.{◌∙◌, sym}
+use Rattle.looks.proofs.DamageLemmas.{outside_both, step_outside}
+use Rattle.looks.proofs.damage.with_step.Goals as goal
+
+pub returns-then-is_alike-clause-same : goal.returns-then-is_alike-clause-same
+returns-then-is_alike-clause-same c = λ u t same p d out. c.is_alike.ensures c.if-is_alike.true u t same p d
+
+pub returns-else-is_alike-clause-before : goal.returns-else-is_alike-clause-before
+returns-else-is_alike-clause-before c = λ p out. (outside_both _ _ _ c.union.ensures.exact p (outside_both _ _ _ c.union-else-is_alike.ensures.exact p out).0).0
+
+pub returns-else-is_alike-clause-same : goal.returns-else-is_alike-clause-same
+returns-else-is_alike-clause-same c = λ u t same p d out.
+    let second = outside_both _ _ _ c.union-else-is_alike.ensures.exact p out in
+    let first = outside_both _ _ _ c.union.ensures.exact p second.0 in
+    step_outside t p d c.args.new second.1 ∙ sym (step_outside u p d c.args.old first.1)

@@ -1,0 +1,6 @@
+-- What the contracts speak of: the text of a look, its steps, areas, and spots.
+pub mod Letters
+pub mod Marks
+pub mod Same
+pub mod Areas
+pub mod Spots

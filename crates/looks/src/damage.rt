@@ -1,0 +1,49 @@
+//! Where two looks differ.
+ghost use Rattle.std.specs.Prelude.{◌≡◌, Bool, true, false, length};
+ghost use Rattle.tb_geom.specs.declared.point.Point.{Point};
+ghost use Rattle.tb_geom.specs.Rects.{rect_holds};
+ghost use Rattle.looks.specs.Letters.{Lettering};
+ghost use Rattle.looks.specs.Marks.{look_bit, step_value};
+
+use crate::same::{is_same, keeps_text};
+use crate::step::Step;
+use tb_geom::{Point, Rect};
+
+/// A rectangle outside which two looks of as many steps are equal: the box of the steps that differ.
+pub fn damage_between(old: &[Step], new: &[Step], same_text: bool) -> Rect
+    requires { length old.now ≡ length new.now }
+    ensures { (u t : Lettering) → (same_text ≡ true → t ≡ u) → (p : Point)
+        → rect_holds result p ≡ false → look_bit t new.now p ≡ look_bit u old.now p }
+{
+    let mut damage = Rect {
+        left: 0,
+        top: 0,
+        right: 0,
+        bottom: 0,
+    };
+    for at in 0..old.len() {
+        damage = with_step(damage, old[at], new[at], same_text);
+    }
+    damage
+}
+
+/// The damage, with that of a step in place of another.
+fn with_step(damage: Rect, old: Step, new: Step, same_text: bool) -> Rect
+    ensures before { (p : Point) → rect_holds result p ≡ false → rect_holds damage p ≡ false }
+    ensures same { (u t : Lettering) → (same_text ≡ true → t ≡ u) → (p : Point) (d : Bool)
+        → rect_holds result p ≡ false → step_value t p d new ≡ step_value u p d old }
+{
+    if is_alike(old, new, same_text) {
+        damage
+    } else {
+        damage.union(old.cut).union(new.cut)
+    }
+}
+
+/// Whether two steps draw alike. The texts of their looks are the same where `same_text` says so.
+fn is_alike(old: Step, new: Step, same_text: bool) -> bool
+    ensures { result ≡ true → (u t : Lettering) → (same_text ≡ true → t ≡ u) → (p : Point) (d : Bool)
+        → step_value t p d new ≡ step_value u p d old }
+{
+    is_same(old, new) && keeps_text(old.mark, same_text)
+}

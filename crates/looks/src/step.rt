@@ -1,0 +1,142 @@
+//! The steps of a look.
+ghost use Rattle.std.specs.Prelude.{◌≡◌, false};
+ghost use Rattle.looks.specs.Marks.{black_fill, white_fill, black_frame, white_plate, black_text, when, cut_to, box};
+
+use crate::pen::{Pen, Place, Plate};
+use bit_map::{Mode, Pattern};
+use draw_port::Shade;
+use tb_geom::Rect;
+
+/// What a step draws.
+#[derive(Clone, Copy)]
+pub enum Mark {
+    /// All of a rectangle.
+    Fill(Rect, Shade),
+    /// The outermost pixels of a rectangle.
+    Frame(Rect, Shade),
+    /// White behind the text.
+    Behind(Plate),
+    /// The text in black, on a baseline.
+    Text(Place),
+}
+
+/// A step of a look. It draws nothing where it is off.
+#[derive(Clone, Copy)]
+pub struct Step {
+    pub on: bool,
+    /// Pixels outside stay as they are.
+    pub cut: Rect,
+    pub mark: Mark,
+}
+
+/// All black.
+const BLACK: Shade = Shade {
+    pattern: Pattern::BLACK,
+    mode: Mode::Copy,
+};
+
+/// All white.
+const WHITE: Shade = Shade {
+    pattern: Pattern::WHITE,
+    mode: Mode::Copy,
+};
+
+impl Step {
+    /// Black on all of a rectangle.
+    pub fn black_fill(rect: Rect) -> Step
+        ensures { result ≡ black_fill rect }
+    {
+        Step {
+            on: true,
+            cut: rect,
+            mark: Mark::Fill(rect, BLACK),
+        }
+    }
+
+    /// White on all of a rectangle.
+    pub fn white_fill(rect: Rect) -> Step
+        ensures { result ≡ white_fill rect }
+    {
+        Step {
+            on: true,
+            cut: rect,
+            mark: Mark::Fill(rect, WHITE),
+        }
+    }
+
+    /// The outermost pixels of a rectangle in black.
+    pub fn black_frame(rect: Rect) -> Step
+        ensures { result ≡ black_frame rect }
+    {
+        Step {
+            on: true,
+            cut: rect,
+            mark: Mark::Frame(rect, BLACK),
+        }
+    }
+
+    /// White behind the text, within a cut.
+    pub fn white_plate(cut: Rect, plate: Plate) -> Step
+        ensures { result ≡ white_plate cut plate }
+    {
+        Step {
+            on: true,
+            cut,
+            mark: Mark::Behind(plate),
+        }
+    }
+
+    /// The text in the middle of a width, on a baseline, within a cut.
+    pub fn black_text(cut: Rect, width: u16, baseline: i32) -> Step
+        ensures { result ≡ black_text cut width baseline }
+    {
+        Step {
+            on: true,
+            cut,
+            mark: Mark::Text(Place {
+                pen: Pen::Middle(width),
+                baseline,
+            }),
+        }
+    }
+
+    /// The step, where the test holds, and off where it does not.
+    pub fn when(self, test: bool) -> Step
+        ensures { result ≡ when test self }
+    {
+        Step { on: test, ..self }
+    }
+
+    /// The step within another cut.
+    pub fn cut_to(self, cut: Rect) -> Step
+        ensures { result ≡ cut_to cut self }
+    {
+        Step { cut, ..self }
+    }
+}
+
+/// A step that draws nothing.
+impl Default for Step {
+    ghost is_default = { λ s. s.on ≡ false };
+
+    fn default() -> Step {
+        let rect = sides(0, 0, 0, 0);
+        Step {
+            on: false,
+            cut: rect,
+            mark: Mark::Fill(rect, WHITE),
+        }
+    }
+}
+
+/// A rectangle by its sides.
+pub fn sides(left: i32, top: i32, right: i32, bottom: i32) -> Rect
+    ensures { result ≡ box left top right bottom }
+{
+    Rect {
+        left,
+        top,
+        right,
+        bottom,
+    }
+}

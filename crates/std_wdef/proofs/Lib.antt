@@ -1,0 +1,3 @@
+-- Lemmas on the areas of windows.
+pub mod AreaFacts
+pub mod NotchFacts

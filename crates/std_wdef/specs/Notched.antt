@@ -1,0 +1,53 @@
+-- The notched window: its upper right corner is cut out.
+use Rattle.std.specs.Prelude.{List, [], ◌∷◌, ℤ, pos, ◌+ℤ◌, ◌-ℤ◌, if◌then◌else◌}
+use Rattle.std.specs.Int.{int_min, int_div_euclid}
+use Rattle.tb_geom.specs.declared.point.Point.{Point}
+use Rattle.def_iface.specs.declared.size.Size.{Size}
+use Rattle.def_iface.specs.declared.window_def.Stage.{Stage}
+use Rattle.def_iface.specs.declared.window_def.Hit.{Hit}
+use Rattle.def_iface.specs.declared.window_def.Hit.TheVariants.{NoHit, InContent}
+use Rattle.def_iface.specs.Sizes.{rect_of}
+use Rattle.def_iface.specs.Meaning.{Definition}
+use Rattle.looks.specs.declared.area.Piece.{Piece}
+use Rattle.looks.specs.Areas.{added_rect, removed_rect, area_holds}
+use Rattle.looks.specs.declared.step.Step.{Step}
+use Rattle.looks.specs.Letters.{lettering}
+use Rattle.looks.specs.Marks.{box, neg, black_fill, look_bit}
+use Rattle.std_wdef.specs.Looks.{ring}
+
+-- n: min(w, h) div 2
+unfoldable pub notch : Size → ℤ
+notch s = int_div_euclid (int_min s.width s.height) (pos 2)
+
+-- structure: -1 -1 w+1 h+1 without w-n+1 -1 w+1 n-1
+abbrev pub notched_structure : Size → List Piece
+notched_structure s =
+    added_rect (ring 1 s)
+    ∷ removed_rect (box (s.width -ℤ notch s +ℤ pos 1) (neg 1) (s.width +ℤ pos 1) (notch s -ℤ pos 1))
+    ∷ []
+
+-- content: 0 0 w h without w-n 0 w n
+abbrev pub notched_content : Size → List Piece
+notched_content s =
+    added_rect (rect_of s)
+    ∷ removed_rect (box (s.width -ℤ notch s) (pos 0) s.width (notch s))
+    ∷ []
+
+-- all black
+abbrev pub notched_look : Size → List Step
+notched_look s = black_fill (ring 1 s) ∷ []
+
+abbrev pub notched_hit : Size → Point → Hit
+notched_hit s p = if area_holds (notched_content s) p then InContent else NoHit
+
+-- a notched window's definition as a value
+abbrev pub notched_window : Stage → Size → Definition
+notched_window stage size = record {
+  stage = stage;
+  size = size;
+  structure = λ s. area_holds (notched_structure s);
+  content = λ s. area_holds (notched_content s);
+  bounds = λ s. ring 1 s;
+  picture = λ font. look_bit (lettering font []) (notched_look size);
+  hit = notched_hit size;
+}

@@ -1,0 +1,31 @@
+//! What no clause says of the standard windows, by tests: that they come out where memory is not refused, and that
+//! their tables are those that were asked for. Expected values are pixels worked out by hand.
+//!
+//! `told` tests what a window is told and where a point lies in it, `drawn` what windows look like.
+#![tactic(auto)]
+
+/// A point, by its column and its row.
+#[cfg(test)]
+macro_rules! point {
+    ($h:expr, $v:expr) => {
+        tb_geom::Point { h: $h, v: $v }
+    };
+}
+
+/// A rectangle, by its left side, its top, its right side and its bottom.
+#[cfg(test)]
+macro_rules! rect {
+    ($left:expr, $top:expr, $right:expr, $bottom:expr) => {
+        tb_geom::Rect {
+            left: $left,
+            top: $top,
+            right: $right,
+            bottom: $bottom,
+        }
+    };
+}
+
+#[cfg(test)]
+mod drawn;
+#[cfg(test)]
+mod told;
