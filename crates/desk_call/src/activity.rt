@@ -1,8 +1,8 @@
 //! Which calls may come while something is open.
 ghost use Rattle.std.specs.Prelude.{◌≡◌, None, MatchResult, Some};
-ghost use Rattle.desk_call.specs.Gates.{gate, standing_of, window_standing, update_standing};
+ghost use Rattle.desk_call.specs.Gates.{gate, standing_of, window_standing, update_standing, frame_standing};
 
-use crate::{Call, UpdateCall, WindowCall};
+use crate::{Call, FrameCall, UpdateCall, WindowCall};
 use tb_geom::Refusal;
 
 /// What is open between its begin and its end. At most one thing is.
@@ -12,6 +12,8 @@ pub enum Activity {
     Idle,
     /// The update of this window.
     Updating(u64),
+    /// The tracking of this window's go-away box.
+    Tracking(u64),
 }
 
 /// When a call may come.
@@ -21,6 +23,8 @@ pub enum Standing {
     Asks,
     /// It goes on with the update of this window or ends it, while that is open.
     Updates(u64),
+    /// It goes on with the tracking of a go-away box or ends it, while that is open.
+    Tracks,
     /// It is any other, while nothing is open.
     Changes,
 }
@@ -34,9 +38,10 @@ impl Activity {
         match (self, standing) {
             (_, Standing::Asks) => Ok(()),
             (Activity::Idle, Standing::Changes) => Ok(()),
-            (Activity::Updating(_), Standing::Changes) => Err(Refusal::Busy),
+            (_, Standing::Changes) => Err(Refusal::Busy),
             (Activity::Updating(open), Standing::Updates(window)) if open == window => Ok(()),
-            (_, Standing::Updates(_)) => Err(Refusal::NotBusy),
+            (Activity::Tracking(_), Standing::Tracks) => Ok(()),
+            _ => Err(Refusal::NotBusy),
         }
     }
 }
@@ -49,6 +54,7 @@ impl Call<'_> {
         match self {
             Call::Window(call) => call.standing(),
             Call::Update(call) => call.standing(),
+            Call::Frame(call) => call.standing(),
             Call::Event(_) => Standing::Asks,
         }
     }
@@ -75,6 +81,18 @@ impl UpdateCall<'_> {
         match self {
             UpdateCall::Draw(draw) => Standing::Updates(draw.window),
             UpdateCall::End(window) => Standing::Updates(*window),
+            _ => Standing::Changes,
+        }
+    }
+}
+
+impl FrameCall<'_> {
+    /// When the call may come.
+    pub fn standing(&self) -> Standing
+        ensures { result ≡ frame_standing self.now }
+    {
+        match self {
+            FrameCall::StepGoAway(_) | FrameCall::EndGoAway(_) => Standing::Tracks,
             _ => Standing::Changes,
         }
     }

@@ -1,6 +1,6 @@
 //! What a Toolbox can be asked, and what it answers.
 
-use crate::{EventCall, EventReply, UpdateCall, WindowCall, WindowReply};
+use crate::{EventCall, EventReply, FrameCall, FrameReply, UpdateCall, WindowCall, WindowReply};
 
 /// A call of the Toolbox, by the manager that answers it. Texts and the bytes of operations are
 /// borrowed, so that a call takes no memory.
@@ -8,6 +8,7 @@ use crate::{EventCall, EventReply, UpdateCall, WindowCall, WindowReply};
 pub enum Call<'a> {
     Window(WindowCall<'a>),
     Update(UpdateCall<'a>),
+    Frame(FrameCall<'a>),
     Event(EventCall),
 }
 
@@ -15,5 +16,6 @@ pub enum Call<'a> {
 #[derive(Debug, PartialEq, Eq, Drop)]
 pub enum Reply {
     Window(WindowReply),
+    Frame(FrameReply),
     Event(EventReply),
 }

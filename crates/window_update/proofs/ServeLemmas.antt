@@ -34,6 +34,8 @@ use Rattle.window_mgr.specs.Telling.{IsNotTold}
 use Rattle.window_mgr.specs.Updating.{LeavesState, IsRefreshed}
 use Rattle.window_mgr.proofs.EditSeats.{there_is}
 use Rattle.window_mgr.proofs.TellLemmas as telling
+use Rattle.window_update.specs.declared.updates.OpenActivity.{OpenActivity}
+use Rattle.window_update.specs.declared.updates.OpenActivity.TheVariants.{Nothing, Update}
 use Rattle.window_update.specs.declared.updates.OpenUpdate.{OpenUpdate}
 use Rattle.window_update.specs.declared.updates.Updates.{Updates}
 use Rattle.window_update.specs.DeskStates.{narrowed, activity_of, begun_of, desk_state}
@@ -45,12 +47,12 @@ not_told region e (inl (is, long)) set same = inl (is, (region, same, long))
 not_told region e (inr (is, written)) set same = inr (is, (region, same, written))
 
 -- what a call is told of the window whose update is open
-pub narrowed_visible : (call : WindowCall) (update : Option OpenUpdate) (o : OpenUpdate) (w : ℕ) → update ≡ Some o → w ≡ o.window → call ≡ VisibleRegion w → narrowed call (activity_of update) (begun_of update) ≡ Some (begun_of (Some o))
+pub narrowed_visible : (call : WindowCall) (update : OpenActivity) (o : OpenUpdate) (w : ℕ) → update ≡ Update o → w ≡ o.window → call ≡ VisibleRegion w → narrowed call (activity_of update) (begun_of update) ≡ Some (begun_of (Update o))
 narrowed_visible call update o w is same asks =
     (λ i. narrowed (asks i) (activity_of (is i)) (begun_of (is i)))
-    ∙ ap (λ b. if b then Some (begun_of (Some o)) else None) (ap (λ n. o.window == n) same ∙ same_number o.window)
+    ∙ ap (λ b. if b then Some (begun_of (Update o)) else None) (ap (λ n. o.window == n) same ∙ same_number o.window)
 
-pub narrowed_update : (call : WindowCall) (update : Option OpenUpdate) (o : OpenUpdate) (w : ℕ) → update ≡ Some o → w ≡ o.window → call ≡ UpdateRegion w → narrowed call (activity_of update) (begun_of update) ≡ Some (λ p. false)
+pub narrowed_update : (call : WindowCall) (update : OpenActivity) (o : OpenUpdate) (w : ℕ) → update ≡ Update o → w ≡ o.window → call ≡ UpdateRegion w → narrowed call (activity_of update) (begun_of update) ≡ Some (λ p. false)
 narrowed_update call update o w is same asks =
     (λ i. narrowed (asks i) (activity_of (is i)) (begun_of (is i)))
     ∙ ap (λ b. if b then Some (λ p. false) else None) (ap (λ n. o.window == n) same ∙ same_number o.window)
@@ -88,7 +90,7 @@ module _ {V : Type 0} {H : V → Type 0} (loan : Taken V H → Loan) (t : Window
 
     -- its update is begun by its update region, as the window sees it
     pub is_begun : (u new : Updates) (region : Pixels) (w : Window V H) (a : Area) → IsWindowAt t.windows.records.items at w → a ≡ slice_index_or t.areas.items at a
-        → ((p : Point) → holds region p ≡ holds a.update (plus p w.place)) → new.update ≡ Some (record { window = s; begun = region })
+        → ((p : Point) → holds region p ≡ holds a.update (plus p w.place)) → new.current ≡ Update (record { window = s; begun = region })
         → IsUpdateStepOverAnySlots loan (asks.Begin s) (Ok Done) t u t new
     is_begun u new region w a w_is a_is seen opened slots whole = (
       whole,
@@ -99,7 +101,7 @@ module _ {V : Type 0} {H : V → Type 0} (loan : Taken V H → Loan) (t : Window
           record {
             windows = record { desk = refl; stale = λ p on. refl; image = λ p on. refl };
             opened = ap activity_of opened;
-            begun = λ p. ap (λ (o : Option OpenUpdate). begun_of o p) opened ∙ seen p ∙ telling.update_seen loan t kept s at w stands.0 w_is (stands.1 w w_is) a a_is p;
+            begun = λ p. ap (λ (o : OpenActivity). begun_of o p) opened ∙ seen p ∙ telling.update_seen loan t kept s at w stands.0 w_is (stands.1 w w_is) a a_is p;
           },
         ),
       ),
@@ -123,7 +125,7 @@ module _ {V : Type 0} {H : V → Type 0} (loan : Taken V H → Loan) (t : Window
       same_height = ap (λ (d : FullDesk). nat_abs d.height) (refreshed kept.slots kept.whole).1.desk
 
       -- so the window is served, once no update is open
-      pub served : (u after : Updates) (result : Result WindowReply Refusal) → after.update ≡ None → result ≡ Ok Done → IsUpdateStepOverAnySlots loan (asks.Serve s) result t u new after
+      pub served : (u after : Updates) (result : Result WindowReply Refusal) → after.current ≡ Nothing → result ≡ Ok Done → IsUpdateStepOverAnySlots loan (asks.Serve s) result t u new after
       served u after result idle done slots whole =
           let left = refreshed slots whole in
           (left.0, subst (λ r. IsUpdateStep (asks.Serve s) r (desk_state loan t u slots) (desk_state loan new after slots)) (sym done) (free slots, (refl, (ap activity_of idle, left.1))))

@@ -178,7 +178,7 @@ module _ {V : Type 0} {H : V → Type 0} (loan : Taken V H → Loan) (t : Window
     sides_stay verdict (Err e) (memory, same) = (ap (λ (n : WindowManager V H). n.screen.width) same, ap (λ (n : WindowManager V H). n.screen.height) same)
 
 -- another map for comparing changes no state
-pub other_map : {V : Type 0} {H : V → Type 0} (loan : Taken V H → Loan) (t new : WindowManager V H) (u other : Updates) (call : UpdateCall) (result : Result WindowReply Refusal) → other.update ≡ u.update
+pub other_map : {V : Type 0} {H : V → Type 0} (loan : Taken V H → Loan) (t new : WindowManager V H) (u other : Updates) (call : UpdateCall) (result : Result WindowReply Refusal) → other.current ≡ u.current
     → IsUpdateStepOverAnySlots loan call result t u new u → IsUpdateStepOverAnySlots loan call result t u new other
 other_map loan t new u other call result same step slots whole =
     let done = step slots whole in

@@ -24,4 +24,4 @@ mod waiting;
 
 pub use areas::update_form_refusal;
 pub use desk_call::{AreaRef, LayerDraw, Layers, UpdateCall, WindowArea};
-pub use updates::{OpenUpdate, Updates};
+pub use updates::{OpenActivity, OpenUpdate, Updates};

@@ -79,7 +79,7 @@ impl Updates {
         requires whole { IsWholeUpdates windows.now self.old }
         requires at { at < length windows.now.windows.records.items }
         ensures whole { IsWholeUpdates windows.now self.new }
-        ensures same { self.new.update ≡ self.old.update }
+        ensures same { self.new.current ≡ self.old.current }
         ensures right { (w : _) → IsWindowAt windows.now.windows.records.items at w
             → IsJudgement w.serial (judged_set area.now) (state_of ⟦<Taken as Defined>⟧.loan windows.now []) result }
     {

@@ -8,10 +8,10 @@ ghost use Rattle.tb_geom.specs.Rects.{in_plane};
 ghost use Rattle.scan_region.specs.Moves.{is_pixel_in_range};
 ghost use Rattle.desk_call.specs.declared.update.UpdateCall.TheVariants as asks;
 ghost use Rattle.window_mgr.specs.Kept.{IsKept};
+ghost use Rattle.window_update.specs.declared.updates.OpenActivity.TheVariants.{Nothing};
 ghost use Rattle.window_update.specs.UpdateSteps.{IsUpdateStepOverAnySlots};
 
-use crate::updates::OpenUpdate;
-use crate::{LayerDraw, Layers, Updates};
+use crate::{LayerDraw, Layers, OpenActivity, OpenUpdate, Updates};
 use def_iface::{Defined, Taken};
 use desk_call::WindowReply;
 use scan_region::Region;
@@ -38,7 +38,7 @@ impl Updates {
         let Ok(begun) = seen_from(self.alloc, &windows.area(at).update, place) else {
             return Err(Refusal::NoMemory);
         };
-        self.update = Some(OpenUpdate { window, begun });
+        self.current = OpenActivity::Update(OpenUpdate { window, begun });
         Ok(WindowReply::Done)
     }
 
@@ -68,11 +68,11 @@ impl Updates {
 
     /// Ends the update that is open.
     pub(crate) fn end(&mut self) -> Result<WindowReply, Refusal>
-        ensures idle { self.new.update ≡ None }
+        ensures idle { self.new.current ≡ Nothing }
         ensures buffer { self.new.buffer ≡ self.old.buffer }
         ensures done { result ≡ Ok Done }
     {
-        self.update = None;
+        self.current = OpenActivity::Nothing;
         Ok(WindowReply::Done)
     }
 

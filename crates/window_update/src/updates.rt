@@ -8,6 +8,7 @@ ghost use Rattle.desk_ground.specs.Screens as screens;
 ghost use Rattle.window_mgr.specs.Kept.{IsKept};
 ghost use Rattle.window_mgr.specs.Records.{state_of};
 ghost use Rattle.window_mgr.specs.Refused.{is_missing};
+ghost use Rattle.window_update.specs.declared.updates.OpenActivity.TheVariants.{Nothing};
 ghost use Rattle.window_update.specs.DeskStates.{IsWholeUpdates, activity_of, begun_of, narrowed};
 ghost use Rattle.window_update.specs.Rightness.{IsJudgement};
 ghost use Rattle.window_update.specs.UpdateSteps.{IsUpdateStepOverAnySlots, IsToldOf};
@@ -30,27 +31,37 @@ pub struct OpenUpdate {
     pub(crate) begun: Region,
 }
 
-/// The update that is open, if one is, and a map to compare the screen with.
+/// What is open between its begin and its end.
+#[derive(Drop)]
+pub enum OpenActivity {
+    Nothing,
+    /// An update.
+    Update(OpenUpdate),
+    /// The tracking of the go-away box of the window of this number.
+    GoAway(u64),
+}
+
+/// What is open, and a map to compare the screen with.
 #[derive(Drop)]
 pub struct Updates {
     pub(crate) alloc: Global,
-    pub(crate) update: Option<OpenUpdate>,
+    pub(crate) current: OpenActivity,
     /// As wide and high as the screen.
     pub(crate) buffer: BitMap,
 }
 
 impl Updates {
-    /// No update, for a desk on a screen of `width` by `height` pixels, of which each is 8 to 1024.
+    /// Nothing is open, for a desk on a screen of `width` by `height` pixels, of which each is 8 to 1024.
     pub fn new(alloc: Global, width: i32, height: i32) -> Result<Updates, AllocError>
         requires width { screens.is_screen_side width ≡ true }
         requires height { screens.is_screen_side height ≡ true }
         ensures sides { IfOk result (λ u. (pos u.buffer.width ≡ width) × (pos u.buffer.height ≡ height)) }
-        ensures idle { IfOk result (λ u. u.update ≡ None) }
+        ensures idle { IfOk result (λ u. u.current ≡ Nothing) }
     {
         match BitMap::new(alloc, width, height) {
             Ok(buffer) => Ok(Updates {
                 alloc,
-                update: None,
+                current: OpenActivity::Nothing,
                 buffer,
             }),
             Err(_) => Err(AllocError),
@@ -59,11 +70,12 @@ impl Updates {
 
     /// What is open.
     pub fn activity(&self) -> Activity
-        ensures { result ≡ activity_of self.now.update }
+        ensures { result ≡ activity_of self.now.current }
     {
-        match &self.update {
-            Some(open) => Activity::Updating(open.window),
-            None => Activity::Idle,
+        match &self.current {
+            OpenActivity::Nothing => Activity::Idle,
+            OpenActivity::Update(update) => Activity::Updating(update.window),
+            OpenActivity::GoAway(window) => Activity::Tracking(*window),
         }
     }
 
@@ -92,15 +104,17 @@ impl Updates {
     /// The answer to a call that asks for a region of the window whose update is open: its visible region is what was to be
     /// redrawn when the update began, and its update region is empty.
     pub fn tell(&self, call: &WindowCall<'_>) -> Option<Result<WindowReply, Refusal>>
-        ensures { let asked = narrowed call.now (activity_of self.now.update) (begun_of self.now.update) in
+        ensures { let asked = narrowed call.now (activity_of self.now.current) (begun_of self.now.current) in
             MatchOption result (asked ≡ None) (λ answer. (set : PixelSet) × (asked ≡ Some set) × IsToldOf set answer) }
     {
-        let open = self.update.as_ref()?;
+        let OpenActivity::Update(update) = &self.current else {
+            return None;
+        };
         match call {
-            WindowCall::VisibleRegion(window) if *window == open.window => {
-                Some(told(self.alloc, &open.begun))
+            WindowCall::VisibleRegion(window) if *window == update.window => {
+                Some(told(self.alloc, &update.begun))
             }
-            WindowCall::UpdateRegion(window) if *window == open.window => {
+            WindowCall::UpdateRegion(window) if *window == update.window => {
                 Some(told(self.alloc, &Region::empty(self.alloc)))
             }
             _ => None,
@@ -118,7 +132,7 @@ impl Updates {
         requires kept { IsKept ⟦<Taken as Defined>⟧.loan windows.now }
         requires whole { IsWholeUpdates windows.now self.old }
         ensures whole { IsWholeUpdates windows.now self.new }
-        ensures same { self.new.update ≡ self.old.update }
+        ensures same { self.new.current ≡ self.old.current }
         ensures right { let state = state_of ⟦<Taken as Defined>⟧.loan windows.now [] in MatchResult result
             (λ right. (is_missing window state.desk.windows ≡ false) × IsJudgement window (rect_holds rect) state right)
             (λ e. (is_missing window state.desk.windows ≡ true) × (e ≡ Refusal.NoSuchWindow)) }

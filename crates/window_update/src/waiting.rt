@@ -6,7 +6,7 @@ ghost use Rattle.window_mgr.specs.Kept.{IsKept};
 ghost use Rattle.window_update.specs.DeskStates.{activity_of, desk_state, is_updating};
 ghost use Rattle.window_update.specs.Waiting.{IsWaiting, IsFirstToUpdate};
 
-use crate::Updates;
+use crate::{OpenActivity, Updates};
 use def_iface::{Defined, Taken};
 use window_mgr::WindowManager;
 
@@ -41,11 +41,11 @@ impl Updates {
 
     /// Whether the update of this window is open.
     fn is_open(&self, window: u64) -> bool
-        ensures { result ≡ is_updating window (activity_of self.now.update) }
+        ensures { result ≡ is_updating window (activity_of self.now.current) }
     {
-        match &self.update {
-            Some(open) => open.window == window,
-            None => false,
+        match &self.current {
+            OpenActivity::Update(update) => update.window == window,
+            _ => false,
         }
     }
 }

@@ -15,5 +15,5 @@ pub returns : goal.returns
 returns g c = λ w w_is slots.
     let there = c.at.ensures ∙ ap (λ (l : WindowList _ _). slice_index_or l.records.items c.args.at c.at.result.now) c.parts.ensures.windows in
     let same = same_at c.args.windows.now.windows.records.items c.args.at w c.at.result.now c.requires.at w_is there in
-    let closed = ap (λ (x : Window _ _). is_updating x.serial (activity_of c.args.self.now.update)) same ∙ sym c.is_open.ensures ∙ c.if-is_open.false in
+    let closed = ap (λ (x : Window _ _). is_updating x.serial (activity_of c.args.self.now.current)) same ∙ sym c.is_open.ensures ∙ c.if-is_open.false in
     told_waiting _ c.args.windows.now c.args.self.now c.requires.kept c.args.at c.requires.at w w_is c.area.result.now c.area.ensures slots closed c.is_empty.result c.is_empty.ensures
