@@ -3,20 +3,23 @@ use Rattle.std.specs.Prelude.{ℕ, ℤ, Bool, List, [], ◌∷◌, Option, Some,
 use Rattle.tb_geom.specs.declared.refusal.Refusal.{Refusal}
 use Rattle.tb_geom.specs.declared.refusal.Refusal.TheVariants.{BadSyntax}
 use Rattle.desk_call.specs.declared.call.Call.TheVariants.{Window}
-use Rattle.desk_call.specs.declared.window.WindowCall.TheVariants.{New, Draw, Find, Front}
+use Rattle.desk_call.specs.declared.window.WindowCall.TheVariants.{New, Draw, Front}
 use Rattle.desk_call.specs.declared.window.NewWindow.{NewWindow}
 use Rattle.script_text.specs.declared.command.Command.{Command}
 use Rattle.script_text.specs.declared.command.Command.TheVariants.{Desk, Image, Call}
 use Rattle.script_text.specs.declared.verb.Verb.{Verb}
 use Rattle.script_text.specs.declared.verb.Verb.TheVariants as words
 use Rattle.script_text.specs.declared.verb.WindowVerb.TheVariants as window_words
+use Rattle.script_text.specs.declared.verb.FlagVerb.TheVariants as flag_words
+use Rattle.script_text.specs.declared.verb.PointVerb.TheVariants as point_words
 use Rattle.script_text.specs.declared.verb.AreaVerb.TheVariants as area_words
 use Rattle.script_text.specs.declared.verb.MaskVerb.TheVariants as mask_words
 use Rattle.line_words.specs.Words.{◌>>=◌, word_at}
 use Rattle.script_text.specs.Names.{named}
 use Rattle.script_text.specs.Grammar.{Shape, done, number, flag, name, text, mapped, reading}
 use Rattle.script_text.specs.Drawings.{drawing_shape}
-use Rattle.script_text.specs.Windows.{of_window_shape, show_hide_shape, behind_shape, move_shape, size_shape, scroll_shape}
+use Rattle.script_text.specs.Windows.{of_window_shape, of_flag_shape, of_point_shape, behind_shape, move_shape, size_shape, scroll_shape}
+use Rattle.script_text.specs.FrameWords.{title_shape, track_shape}
 use Rattle.script_text.specs.Updates.{of_rect_shape, of_region_shape}
 use Rattle.script_text.specs.EventWords.{of_mask_shape, post_shape, flush_shape}
 
@@ -48,10 +51,6 @@ window_shape = name (λ kind. number (λ h. number (λ v. number (λ width. numb
 abbrev pub draw_shape : Shape Command
 draw_shape = mapped (λ drawing. Call (Window (Draw drawing))) drawing_shape
 
--- find h v
-abbrev pub find_shape : Shape Command
-find_shape = number (λ h. number (λ v. done (Ok (Call (Window (Find (record { h = h; v = v })))))))
-
 -- frontwin
 abbrev pub frontwin_shape : Shape Command
 frontwin_shape = done (Ok (Call (Window Front)))
@@ -63,13 +62,18 @@ verbs =
     ∷ (codes "image", words.Image)
     ∷ (codes "window", words.Window)
     ∷ (codes "draw", words.Draw)
-    ∷ (codes "find", words.Find)
     ∷ (codes "frontwin", words.FrontWindow)
-    ∷ (codes "showhide", words.ShowHide)
     ∷ (codes "behind", words.Behind)
     ∷ (codes "move", words.Move)
     ∷ (codes "size", words.Size)
     ∷ (codes "scroll", words.Scroll)
+    ∷ (codes "title", words.Title)
+    ∷ (codes "goaway", words.TrackGoAway)
+    ∷ (codes "showhide", words.OfFlag flag_words.ShowHide)
+    ∷ (codes "hilite", words.OfFlag flag_words.Hilite)
+    ∷ (codes "find", words.OfPoint point_words.Find)
+    ∷ (codes "gastep", words.OfPoint point_words.StepGoAway)
+    ∷ (codes "gaend", words.OfPoint point_words.EndGoAway)
     ∷ (codes "close", words.OfWindow window_words.Close)
     ∷ (codes "show", words.OfWindow window_words.Show)
     ∷ (codes "hide", words.OfWindow window_words.Hide)
@@ -102,14 +106,16 @@ shape_of words.Desk = desk_shape
 shape_of words.Image = image_shape
 shape_of words.Window = window_shape
 shape_of words.Draw = draw_shape
-shape_of words.Find = find_shape
 shape_of words.FrontWindow = frontwin_shape
-shape_of words.ShowHide = show_hide_shape
 shape_of words.Behind = behind_shape
 shape_of words.Move = move_shape
 shape_of words.Size = size_shape
 shape_of words.Scroll = scroll_shape
+shape_of words.Title = title_shape
+shape_of words.TrackGoAway = track_shape
 shape_of (words.OfWindow verb) = of_window_shape verb
+shape_of (words.OfFlag verb) = of_flag_shape verb
+shape_of (words.OfPoint verb) = of_point_shape verb
 shape_of (words.OfRect verb) = of_rect_shape verb
 shape_of (words.OfRegion verb) = of_region_shape verb
 shape_of (words.OfMask verb) = of_mask_shape verb

@@ -1,6 +1,7 @@
 pub mod Commands
 pub mod Drawings
 pub mod EventWords
+pub mod FrameWords
 pub mod Grammar
 pub mod Held
 pub mod Lines

@@ -1,13 +1,15 @@
 -- The one line of each reply.
-use Rattle.std.specs.Prelude.{ℕ, Bool, List, ◌++◌, Option, None, Some, Result, Ok, Err, codes, decimal, if◌then◌else◌}
+use Rattle.std.specs.Prelude.{ℕ, Bool, not, List, ◌++◌, Option, None, Some, Result, Ok, Err, codes, decimal, if◌then◌else◌}
 use Rattle.std.specs.Fmt.{signed_decimal}
 use Rattle.tb_geom.specs.declared.refusal.Refusal.{Refusal}
 use Rattle.tb_geom.specs.Refusals.{name_of, number_of}
 use Rattle.desk_call.specs.declared.window.Found.{Found}
 use Rattle.desk_call.specs.declared.call.Reply.{Reply}
-use Rattle.desk_call.specs.declared.call.Reply.TheVariants.{Window, Event}
+use Rattle.desk_call.specs.declared.call.Reply.TheVariants.{Window, Frame, Event}
 use Rattle.desk_call.specs.declared.event.EventReply.{EventReply}
 use Rattle.desk_call.specs.declared.event.EventReply.TheVariants as event_reply
+use Rattle.desk_call.specs.declared.frame.FrameReply.{FrameReply}
+use Rattle.desk_call.specs.declared.frame.FrameReply.TheVariants as frame_reply
 use Rattle.desk_call.specs.declared.window.WindowInfo.{WindowInfo}
 use Rattle.desk_call.specs.declared.window.WindowReply.{WindowReply}
 use Rattle.desk_call.specs.declared.window.WindowReply.TheVariants as window_reply
@@ -61,9 +63,14 @@ window_reply_text (window_reply.Front window) = number_text (window_number windo
 window_reply_text (window_reply.Info info) = info_text info
 window_reply_text (window_reply.Region bytes) = region_text bytes.items
 
--- what is answered to an event that was to be posted: 0 where it was queued, and 1 where the system event mask did not select it
-abbrev pub post_result : Bool → ℕ
-post_result queued = if queued then 0 else 1
+-- 1 for true, 0 for false
+abbrev pub flag_number : Bool → ℕ
+flag_number flag = if flag then 1 else 0
+
+-- what was answered about a window's frame: 1 where the point lies in the go-away box that is tracked, and else 0
+abbrev pub frame_reply_text : FrameReply → List ℕ
+frame_reply_text frame_reply.Done = done_text
+frame_reply_text (frame_reply.Tracked inside) = number_text (flag_number inside)
 
 -- an event: its code, message, time, the column and row of the mouse, and modifier flags
 abbrev pub event_text : queue.Event → List ℕ
@@ -72,14 +79,16 @@ event_text event =
     ++ (codes " " ++ (signed_decimal event.h ++ (codes " " ++ (signed_decimal event.v
     ++ (codes " " ++ (decimal event.modifiers ++ codes "\n")))))))))))
 
--- what was answered about events
+-- what was answered about events; an event that was to be posted: 0 where it was queued, and 1 where the system event mask did
+-- not select it
 abbrev pub event_reply_text : EventReply → List ℕ
 event_reply_text event_reply.Done = done_text
-event_reply_text (event_reply.Posted queued) = number_text (post_result queued)
+event_reply_text (event_reply.Posted queued) = number_text (flag_number (not queued))
 event_reply_text (event_reply.Told event) = event_text event
 
 -- what a call answered
 abbrev pub reply_text : Result Reply Refusal → List ℕ
 reply_text (Ok (Window reply)) = window_reply_text reply
+reply_text (Ok (Frame reply)) = frame_reply_text reply
 reply_text (Ok (Event reply)) = event_reply_text reply
 reply_text (Err e) = refused_text e

@@ -1,9 +1,11 @@
 -- The words of the commands for windows that are there.
-use Rattle.std.specs.Prelude.{ℕ, ℤ, pos, nat_abs, [], Option, Some, None, Ok, if◌then◌else◌}
+use Rattle.std.specs.Prelude.{ℕ, ℤ, Bool, pos, nat_abs, [], Option, Some, None, Ok, if◌then◌else◌}
 use Rattle.std.specs.Int.{int_max}
 use Rattle.std.specs.Ordering.{int_eq}
 use Rattle.desk_call.specs.declared.call.Call as desk
-use Rattle.desk_call.specs.declared.call.Call.TheVariants.{Window, Update}
+use Rattle.desk_call.specs.declared.call.Call.TheVariants.{Window, Update, Frame}
+use Rattle.desk_call.specs.declared.frame.FrameCall.TheVariants as frames
+use Rattle.tb_geom.specs.declared.point.Point.{Point}
 use Rattle.desk_call.specs.declared.update.UpdateCall.TheVariants as updates
 use Rattle.desk_call.specs.declared.update.Layers.{Layers}
 use Rattle.desk_call.specs.declared.update.Layers.TheVariants.{Picture, Lists, Controls}
@@ -13,6 +15,10 @@ use Rattle.script_text.specs.declared.command.Command.{Command}
 use Rattle.script_text.specs.declared.command.Command.TheVariants.{Call}
 use Rattle.script_text.specs.declared.verb.WindowVerb.{WindowVerb}
 use Rattle.script_text.specs.declared.verb.WindowVerb.TheVariants as words
+use Rattle.script_text.specs.declared.verb.FlagVerb.{FlagVerb}
+use Rattle.script_text.specs.declared.verb.FlagVerb.TheVariants as flag_words
+use Rattle.script_text.specs.declared.verb.PointVerb.{PointVerb}
+use Rattle.script_text.specs.declared.verb.PointVerb.TheVariants as point_words
 use Rattle.script_text.specs.Grammar.{Shape, done, number, flag}
 
 -- a window's number; a number below 1 is no window's, as 0 is
@@ -54,10 +60,24 @@ call_of words.ServeUpdate window = Update (updates.Serve window)
 abbrev pub of_window_shape : WindowVerb → Shape Command
 of_window_shape verb = number (λ window. done (Ok (Call (call_of verb (named_window window)))))
 
--- showhide W SHOWN
-abbrev pub show_hide_shape : Shape Command
-show_hide_shape = number (λ window. flag (λ shown.
-    done (Ok (Call (Window (calls.ShowHide (record { window = named_window window; shown = shown })))))))
+-- what a verb asks about a window with a flag
+abbrev pub flag_call : FlagVerb → ℕ → Bool → desk.Call
+flag_call flag_words.ShowHide window on = Window (calls.ShowHide (record { window = window; shown = on }))
+flag_call flag_words.Hilite window on = Frame (frames.Hilite (record { window = window; highlighted = on }))
+
+-- W FLAG, after a verb that asks something of one window with a flag
+abbrev pub of_flag_shape : FlagVerb → Shape Command
+of_flag_shape verb = number (λ window. flag (λ on. done (Ok (Call (flag_call verb (named_window window) on)))))
+
+-- what a verb asks about a point of the screen
+abbrev pub point_call : PointVerb → Point → desk.Call
+point_call point_words.Find point = Window (calls.Find point)
+point_call point_words.StepGoAway point = Frame (frames.StepGoAway point)
+point_call point_words.EndGoAway point = Frame (frames.EndGoAway point)
+
+-- h v, after a verb that asks something about a point of the screen
+abbrev pub of_point_shape : PointVerb → Shape Command
+of_point_shape verb = number (λ h. number (λ v. done (Ok (Call (point_call verb (record { h = h; v = v }))))))
 
 -- behind W X
 abbrev pub behind_shape : Shape Command

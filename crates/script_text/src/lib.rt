@@ -14,6 +14,7 @@
 mod command;
 mod drawing;
 mod events;
+mod frames;
 pub mod laws;
 mod lines;
 mod names;

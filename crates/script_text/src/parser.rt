@@ -2,7 +2,8 @@
 //!
 //! A line is a verb and the words that follow it: `specs/Spelling.antt` says which line says which command, and
 //! `specs/Commands.antt` how it is read. Each command has a function that reads its words: those of windows that
-//! are there stand in `windows`, those of areas of windows in `updates`, and those for events in `events`.
+//! are there stand in `windows`, those of their frames in `frames`, those of areas of windows in `updates`, and those for
+//! events in `events`.
 //! The form of a whole line is judged here, and then the names of modes and patterns; no range of a number, no kind
 //! of a window and no region.
 ghost use Rattle.std.specs.Prelude.{◌≡◌, ◌⊎◌, Result, Err};
@@ -10,15 +11,16 @@ ghost use Rattle.tb_geom.specs.declared.refusal.Refusal.{Refusal};
 ghost use Rattle.tb_geom.specs.declared.refusal.Refusal.TheVariants.{BadSyntax};
 ghost use Rattle.script_text.specs.declared.command.Command.{Command};
 ghost use Rattle.script_text.specs.Grammar.{reading};
-ghost use Rattle.script_text.specs.Commands.{command_of, shape_of, desk_shape, image_shape, window_shape, draw_shape, find_shape, frontwin_shape};
+ghost use Rattle.script_text.specs.Commands.{command_of, shape_of, desk_shape, image_shape, window_shape, draw_shape, frontwin_shape};
 ghost use Rattle.script_text.specs.Spelling.{IsLine};
 
 use crate::command::{Command, DeskSize};
 use crate::drawing::drawing;
 use crate::events::{flush, of_mask, post};
+use crate::frames::{set_title, track};
 use crate::updates::{of_rect, of_region};
 use crate::verb::{Verb, verb_of};
-use crate::windows::{behind, move_to, of_window, resize, scroll, show_hide};
+use crate::windows::{behind, move_to, of_flag, of_point, of_window, resize, scroll};
 use def_iface::Size;
 use desk_call::{Call, NewWindow, WindowCall};
 use line_words::Words;
@@ -78,16 +80,6 @@ fn draw<'a>(words: Words<'a>) -> Result<Command<'a>, Refusal>
     Ok(Command::Call(Call::Window(WindowCall::Draw(drawing))))
 }
 
-/// The words after `find`: a point of the screen.
-fn find<'a>(words: Words<'a>) -> Result<Command<'a>, Refusal>
-    ensures { result ≡ reading find_shape words.entry }
-{
-    let (h, words) = words.number()?;
-    let (v, words) = words.number()?;
-    words.end()?;
-    Ok(Command::Call(Call::Window(WindowCall::Find(Point { h, v }))))
-}
-
 /// Nothing follows `frontwin`.
 fn frontwin<'a>(words: Words<'a>) -> Result<Command<'a>, Refusal>
     ensures { result ≡ reading frontwin_shape words.entry }
@@ -105,14 +97,16 @@ fn command<'a>(verb: Verb, words: Words<'a>) -> Result<Command<'a>, Refusal>
         Verb::Image => image(words),
         Verb::Window => window(words),
         Verb::Draw => draw(words),
-        Verb::Find => find(words),
         Verb::FrontWindow => frontwin(words),
-        Verb::ShowHide => show_hide(words),
         Verb::Behind => behind(words),
         Verb::Move => move_to(words),
         Verb::Size => resize(words),
         Verb::Scroll => scroll(words),
+        Verb::Title => set_title(words),
+        Verb::TrackGoAway => track(words),
         Verb::OfWindow(verb) => of_window(verb, words),
+        Verb::OfFlag(verb) => of_flag(verb, words),
+        Verb::OfPoint(verb) => of_point(verb, words),
         Verb::OfRect(verb) => of_rect(verb, words),
         Verb::OfRegion(verb) => of_region(verb, words),
         Verb::OfMask(verb) => of_mask(verb, words),

@@ -1,10 +1,10 @@
 //! Replies as lines.
 ghost use Rattle.watched_io.specs.Writes.{Sends};
 ghost use Rattle.std.specs.Prelude.{◌≡◌, false};
-ghost use Rattle.script_text.specs.Replies.{done_text, refused_text, number_text, found_text, flag_text, info_text, reply_text, window_reply_text, event_reply_text, event_text, post_result, window_number};
+ghost use Rattle.script_text.specs.Replies.{done_text, refused_text, number_text, found_text, flag_text, info_text, reply_text, window_reply_text, frame_reply_text, event_reply_text, event_text, flag_number, window_number};
 
 use crate::region_line::write_region;
-use desk_call::{EventReply, Found, Reply, WindowInfo, WindowReply};
+use desk_call::{EventReply, Found, FrameReply, Reply, WindowInfo, WindowReply};
 use event_queue::Event;
 use itoa::Buffer;
 use tb_geom::Refusal;
@@ -26,6 +26,7 @@ pub fn write_reply<S: Sink>(sink: &mut S, reply: &Result<Reply, Refusal>) -> Res
 {
     match reply {
         Ok(Reply::Window(reply)) => write_window_reply(sink, reply),
+        Ok(Reply::Frame(reply)) => write_frame_reply(sink, *reply),
         Ok(Reply::Event(reply)) => write_event_reply(sink, reply),
         Err(refusal) => write_refusal(sink, *refusal),
     }
@@ -116,6 +117,17 @@ fn write_info<S: Sink>(sink: &mut S, info: WindowInfo) -> Result<(), Refusal>
     send_all(sink, &pieces)
 }
 
+/// Writes the line of what was answered about a window's frame.
+fn write_frame_reply<S: Sink>(sink: &mut S, reply: FrameReply) -> Result<(), Refusal>
+    requires { (S.output sink.old).has_failed ≡ false }
+    ensures { Sends (S.output sink.old) (S.output sink.new) result (frame_reply_text reply) }
+{
+    match reply {
+        FrameReply::Done => write_done(sink),
+        FrameReply::Tracked(inside) => write_number(sink, flag_number(inside)),
+    }
+}
+
 /// Writes the line of what was answered about events.
 fn write_event_reply<S: Sink>(sink: &mut S, reply: &EventReply) -> Result<(), Refusal>
     requires { (S.output sink.old).has_failed ≡ false }
@@ -123,17 +135,17 @@ fn write_event_reply<S: Sink>(sink: &mut S, reply: &EventReply) -> Result<(), Re
 {
     match reply {
         EventReply::Done => write_done(sink),
-        EventReply::Posted(queued) => write_number(sink, post_result(*queued)),
+        EventReply::Posted(queued) => write_number(sink, flag_number(!*queued)),
         EventReply::Told(event) => write_event(sink, *event),
     }
 }
 
-/// What PostEvent answers (*Inside Macintosh* II, "The Operating System Event Manager"): 0 (noErr) where the event was queued,
-/// and 1 (evtNotEnb) where the system event mask did not select it.
-fn post_result(queued: bool) -> u64
-    ensures { result ≡ post_result queued }
+/// A flag as a number. PostEvent answers so that an event was not queued (*Inside Macintosh* II, "The Operating System Event
+/// Manager"): 0 (noErr) where it was, and 1 (evtNotEnb) where the system event mask did not select it.
+fn flag_number(flag: bool) -> u64
+    ensures { result ≡ flag_number flag }
 {
-    if queued { 0 } else { 1 }
+    if flag { 1 } else { 0 }
 }
 
 /// Writes the line of an event.

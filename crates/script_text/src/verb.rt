@@ -12,14 +12,16 @@ pub enum Verb {
     Image,
     Window,
     Draw,
-    Find,
     FrontWindow,
-    ShowHide,
     Behind,
     Move,
     Size,
     Scroll,
+    Title,
+    TrackGoAway,
     OfWindow(WindowVerb),
+    OfFlag(FlagVerb),
+    OfPoint(PointVerb),
     OfRect(AreaVerb),
     OfRegion(AreaVerb),
     OfMask(MaskVerb),
@@ -47,6 +49,21 @@ pub enum WindowVerb {
     ServeUpdate,
 }
 
+/// A first word that the number of a window and a flag follow, and nothing else.
+#[derive(Clone, Copy, Debug, PartialEq, Eq)]
+pub enum FlagVerb {
+    ShowHide,
+    Hilite,
+}
+
+/// A first word that a point of the screen follows, and nothing else.
+#[derive(Clone, Copy, Debug, PartialEq, Eq)]
+pub enum PointVerb {
+    Find,
+    StepGoAway,
+    EndGoAway,
+}
+
 /// What is done with an area of a window.
 #[derive(Clone, Copy, Debug, PartialEq, Eq)]
 pub enum AreaVerb {
@@ -63,18 +80,23 @@ pub enum MaskVerb {
 }
 
 /// Each first word, and what it stands for.
-static VERBS: [(&[u8], Verb); 35] = [
+static VERBS: [(&[u8], Verb); 40] = [
     (b"desk", Verb::Desk),
     (b"image", Verb::Image),
     (b"window", Verb::Window),
     (b"draw", Verb::Draw),
-    (b"find", Verb::Find),
     (b"frontwin", Verb::FrontWindow),
-    (b"showhide", Verb::ShowHide),
     (b"behind", Verb::Behind),
     (b"move", Verb::Move),
     (b"size", Verb::Size),
     (b"scroll", Verb::Scroll),
+    (b"title", Verb::Title),
+    (b"goaway", Verb::TrackGoAway),
+    (b"showhide", Verb::OfFlag(FlagVerb::ShowHide)),
+    (b"hilite", Verb::OfFlag(FlagVerb::Hilite)),
+    (b"find", Verb::OfPoint(PointVerb::Find)),
+    (b"gastep", Verb::OfPoint(PointVerb::StepGoAway)),
+    (b"gaend", Verb::OfPoint(PointVerb::EndGoAway)),
     (b"close", Verb::OfWindow(WindowVerb::Close)),
     (b"show", Verb::OfWindow(WindowVerb::Show)),
     (b"hide", Verb::OfWindow(WindowVerb::Hide)),

@@ -1,14 +1,14 @@
 //! The words of the commands for windows that are there.
 ghost use Rattle.std.specs.Prelude.{◌≡◌};
 ghost use Rattle.script_text.specs.Grammar.{reading};
-ghost use Rattle.script_text.specs.Windows.{named_window, other_window, no_picture, layers_of, call_of, of_window_shape, show_hide_shape, behind_shape, move_shape, size_shape, scroll_shape};
+ghost use Rattle.script_text.specs.Windows.{named_window, other_window, no_picture, layers_of, call_of, flag_call, point_call, of_window_shape, of_flag_shape, of_point_shape, behind_shape, move_shape, size_shape, scroll_shape};
 
 use crate::command::Command;
-use crate::verb::WindowVerb;
+use crate::verb::{FlagVerb, PointVerb, WindowVerb};
 use def_iface::Size;
 use desk_call::{
-    Call, LayerDraw, Layers, MoveWindow, NewPicture, PictureRef, ScrollPicture, SendBehind,
-    ShowHide, SizeWindow, UpdateCall, WindowCall,
+    Call, FrameCall, HiliteWindow, LayerDraw, Layers, MoveWindow, NewPicture, PictureRef,
+    ScrollPicture, SendBehind, ShowHide, SizeWindow, UpdateCall, WindowCall,
 };
 use line_words::Words;
 use tb_geom::{Point, Refusal};
@@ -82,16 +82,48 @@ pub fn of_window<'a>(verb: WindowVerb, words: Words<'a>) -> Result<Command<'a>, 
     Ok(Command::Call(call_of(verb, named_window(window))))
 }
 
-/// The words after `showhide`: a window, and whether it is to be shown.
-pub fn show_hide<'a>(words: Words<'a>) -> Result<Command<'a>, Refusal>
-    ensures { result ≡ reading show_hide_shape words.entry }
+/// What a verb asks about the window that follows it, with the flag behind that.
+fn flag_call<'a>(verb: FlagVerb, window: u64, on: bool) -> Call<'a>
+    ensures { result ≡ flag_call verb window on }
+{
+    match verb {
+        FlagVerb::ShowHide => Call::Window(WindowCall::ShowHide(ShowHide { window, shown: on })),
+        FlagVerb::Hilite => Call::Frame(FrameCall::Hilite(HiliteWindow {
+            window,
+            highlighted: on,
+        })),
+    }
+}
+
+/// The words after a verb that asks something of one window with a flag: its number, and the flag.
+pub fn of_flag<'a>(verb: FlagVerb, words: Words<'a>) -> Result<Command<'a>, Refusal>
+    ensures { result ≡ reading (of_flag_shape verb) words.entry }
 {
     let (window, words) = words.number()?;
-    let (shown, words) = words.flag()?;
+    let (on, words) = words.flag()?;
     words.end()?;
-    let window = named_window(window);
-    let change = ShowHide { window, shown };
-    Ok(Command::Call(Call::Window(WindowCall::ShowHide(change))))
+    Ok(Command::Call(flag_call(verb, named_window(window), on)))
+}
+
+/// What a verb asks about the point of the screen that follows it.
+fn point_call<'a>(verb: PointVerb, point: Point) -> Call<'a>
+    ensures { result ≡ point_call verb point }
+{
+    match verb {
+        PointVerb::Find => Call::Window(WindowCall::Find(point)),
+        PointVerb::StepGoAway => Call::Frame(FrameCall::StepGoAway(point)),
+        PointVerb::EndGoAway => Call::Frame(FrameCall::EndGoAway(point)),
+    }
+}
+
+/// The words after a verb that asks something about a point of the screen: its column and row.
+pub fn of_point<'a>(verb: PointVerb, words: Words<'a>) -> Result<Command<'a>, Refusal>
+    ensures { result ≡ reading (of_point_shape verb) words.entry }
+{
+    let (h, words) = words.number()?;
+    let (v, words) = words.number()?;
+    words.end()?;
+    Ok(Command::Call(point_call(verb, Point { h, v })))
 }
 
 /// The words after `behind`: a window, and the window that is to be in front of it.
