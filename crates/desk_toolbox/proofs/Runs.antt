@@ -4,34 +4,40 @@ use Rattle.std.proofs.lemmas.List.{take_more}
 use Rattle.tb_geom.specs.declared.refusal.Refusal.{Refusal}
 use Rattle.tb_geom.specs.Points.{PixelSet}
 use Rattle.window_mgr.specs.FullDesk.{FullDesk, FullState, IsRightState}
+use Rattle.desk_call.specs.declared.event.EventCall.{EventCall}
+use Rattle.desk_call.specs.declared.event.EventReply.{EventReply}
+use Rattle.desk_call.specs.declared.frame.FrameCall.{FrameCall}
+use Rattle.desk_call.specs.declared.frame.FrameReply.{FrameReply}
+use Rattle.desk_call.specs.declared.update.UpdateCall.{UpdateCall}
 use Rattle.desk_call.specs.declared.window.WindowCall.{WindowCall}
 use Rattle.desk_call.specs.declared.window.WindowReply.{WindowReply}
 use Rattle.desk_call.specs.declared.window.WindowReply.TheVariants.{Done, Made, Found, Front, Info, Region}
 use Rattle.desk_call.specs.declared.window.WindowCall.TheVariants as asks
 use Rattle.vis_update.specs.Records.{WindowRecord}
-use Rattle.window_mgr.specs.Finding.{record_with, info_of, front_of}
+use Rattle.window_mgr.specs.Finding.{record_with, info_of}
 use Rattle.window_mgr.specs.Effects.{Effect, IsEffect, IsUnchanged, effect_of}
 use Rattle.window_mgr.specs.Effects.Effect.{Makes, Disposes, Draws, Pictures, Scrolls, Arranges, Sizes, Tells, Describes}
 use Rattle.window_mgr.specs.Telling.{IsRegionTold}
 use Rattle.window_mgr.proofs.KeptKinds as kinds
 use Rattle.window_mgr.proofs.KeptKinds.{kinds_of}
 use Rattle.window_mgr.proofs.Running as windowing
+use Rattle.window_mgr.proofs.Running.{unchanged_stays_right}
 use Rattle.desk_call.specs.declared.call.Call.{Call}
-use Rattle.desk_call.specs.declared.call.Call.TheVariants.{Window, Update, Event}
+use Rattle.desk_call.specs.declared.call.Call.TheVariants.{Window, Update, Frame, Event}
 use Rattle.desk_call.specs.declared.call.Reply.{Reply}
 use Rattle.desk_call.specs.declared.call.Reply.TheVariants as reply
 use Rattle.desk_call.specs.Gates.{gate, standing_of}
 use Rattle.window_update.specs.DeskStates.{DeskState, IsDeskUnchanged, narrowed}
-use Rattle.window_update.specs.UpdateSteps.{IsToldOf}
+use Rattle.window_update.specs.UpdateSteps.{IsUpdateStep, IsToldOf}
+use Rattle.window_frame.specs.Followers.{followers}
+use Rattle.window_frame.specs.FrameSteps.{IsFrameStep}
+use Rattle.window_frame.proofs.FrameLaws.{are_told_keep, are_told_stay_right, frame_keeps, frame_stays_right}
 use Rattle.desk_toolbox.specs.ToolboxStates.{ToolboxState}
-use Rattle.desk_toolbox.specs.Run.{IsWindowAnswer, IsAdmitted, IsGated, IsStep, IsRunOfCalls, number_made, made, AreCounted}
+use Rattle.desk_toolbox.specs.Run.{IsWindowAnswer, IsWindowMade, IsEventAnswer, IsAdmitted, replied, IsGated, IsStep, IsRunOfCalls, number_made, made, AreCounted}
 use Rattle.window_update.proofs.UpdateLaws.{update_stays_right}
 use Rattle.desk_toolbox.proofs.UpdatedDesks.{update_keeps_desk}
 
 -- ---- what is right stays so
-
-unchanged_stays_right : (before after : FullState) → IsRightState before → IsUnchanged before after → IsRightState after
-unchanged_stays_right before after right same = windowing.step_stays_right asks.Front (Ok (Front (front_of before.desk.windows))) before after right (refl, (refl, same))
 
 answer_stays_right : (asked : Option PixelSet) (call : WindowCall) (answer : Result WindowReply Refusal) (before after : DeskState) → IsRightState before.windows → IsWindowAnswer asked call answer before after → IsRightState after.windows
 answer_stays_right None call answer before after right step = windowing.step_stays_right call answer before.windows after.windows right step.1
@@ -40,16 +46,20 @@ answer_stays_right (Some set) call answer before after right step = unchanged_st
 unchanged_desk_stays_right : (before after : ToolboxState) → IsRightState before.desk.windows → IsDeskUnchanged before.desk after.desk → IsRightState after.desk.windows
 unchanged_desk_stays_right before after right same = unchanged_stays_right before.desk.windows after.desk.windows right same.windows
 
+window_stays_right : (call : WindowCall) (answer : Result WindowReply Refusal) (before after : ToolboxState) → IsRightState before.desk.windows → IsWindowMade call answer before after → IsRightState after.desk.windows
+window_stays_right call (Ok answer) before after right ((middle, answered, (same, told)), events) =
+    are_told_stay_right (followers call before.desk.windows.desk.active middle.windows.desk.active) middle.windows after.desk.windows
+    (answer_stays_right (narrowed call before.desk.activity before.desk.begun) call (Ok answer) before.desk middle right answered) told
+window_stays_right call (Err e) before after right step = answer_stays_right (narrowed call before.desk.activity before.desk.begun) call (Err e) before.desk after.desk right step.0
+
+event_stays_right : (call : EventCall) (answer : Result EventReply Refusal) (before after : ToolboxState) → IsRightState before.desk.windows → IsEventAnswer call answer before after → IsRightState after.desk.windows
+event_stays_right call answer before after right step = unchanged_desk_stays_right before after right step.0
+
 pub admitted_stays_right : (call : Call) (answer : Result Reply Refusal) (before after : ToolboxState) → IsRightState before.desk.windows → IsAdmitted call answer before after → IsRightState after.desk.windows
-admitted_stays_right (Window call) (Ok (reply.Window answer)) before after right step = answer_stays_right (narrowed call before.desk.activity before.desk.begun) call (Ok answer) before.desk after.desk right step.0
-admitted_stays_right (Window call) (Ok (reply.Event answer)) before after right step = absurd step
-admitted_stays_right (Window call) (Err e) before after right step = answer_stays_right (narrowed call before.desk.activity before.desk.begun) call (Err e) before.desk after.desk right step.0
-admitted_stays_right (Update call) (Ok (reply.Window answer)) before after right step = update_stays_right call (Ok answer) before.desk after.desk right step.0
-admitted_stays_right (Update call) (Ok (reply.Event answer)) before after right step = absurd step
-admitted_stays_right (Update call) (Err e) before after right step = update_stays_right call (Err e) before.desk after.desk right step.0
-admitted_stays_right (Event call) (Ok (reply.Window answer)) before after right step = absurd step
-admitted_stays_right (Event call) (Ok (reply.Event answer)) before after right step = unchanged_desk_stays_right before after right step.0
-admitted_stays_right (Event call) (Err e) before after right step = unchanged_desk_stays_right before after right step.0
+admitted_stays_right (Window call) answer before after right (own, is, step) = window_stays_right call own before after right step
+admitted_stays_right (Update call) answer before after right (own, is, step) = update_stays_right call own before.desk after.desk right step.0
+admitted_stays_right (Frame call) answer before after right (own, is, step) = frame_stays_right call own before.desk after.desk right step.0
+admitted_stays_right (Event call) answer before after right (own, is, step) = event_stays_right call own before after right step
 
 gated_stays_right : (stopped : Option Refusal) (call : Call) (answer : Result Reply Refusal) (before after : ToolboxState) → IsRightState before.desk.windows → IsGated stopped call answer before after → IsRightState after.desk.windows
 gated_stays_right None call answer before after right step = admitted_stays_right call answer before after right step
@@ -67,16 +77,17 @@ answer_keeps_kinds : (asked : Option PixelSet) (call : WindowCall) (answer : Res
 answer_keeps_kinds None call answer before after step = kinds.step_keeps_kinds call answer before.windows after.windows step.1
 answer_keeps_kinds (Some set) call answer before after step = same_kinds before.windows after.windows step.1.windows.desk
 
+window_keeps_kinds : (call : WindowCall) (answer : Result WindowReply Refusal) (before after : ToolboxState) → IsWindowMade call answer before after → kinds_of after.desk.windows ≡ kinds_of before.desk.windows
+window_keeps_kinds call (Ok answer) before after ((middle, answered, (same, told)), events) =
+    are_told_keep (λ d. map (λ slot. slot.kind) d.stock) (λ d ws. refl) (followers call before.desk.windows.desk.active middle.windows.desk.active) middle.windows after.desk.windows told
+    ∙ answer_keeps_kinds (narrowed call before.desk.activity before.desk.begun) call (Ok answer) before.desk middle answered
+window_keeps_kinds call (Err e) before after step = answer_keeps_kinds (narrowed call before.desk.activity before.desk.begun) call (Err e) before.desk after.desk step.0
+
 admitted_keeps_kinds : (call : Call) (answer : Result Reply Refusal) (before after : ToolboxState) → IsAdmitted call answer before after → kinds_of after.desk.windows ≡ kinds_of before.desk.windows
-admitted_keeps_kinds (Window call) (Ok (reply.Window answer)) before after step = answer_keeps_kinds (narrowed call before.desk.activity before.desk.begun) call (Ok answer) before.desk after.desk step.0
-admitted_keeps_kinds (Window call) (Ok (reply.Event answer)) before after step = absurd step
-admitted_keeps_kinds (Window call) (Err e) before after step = answer_keeps_kinds (narrowed call before.desk.activity before.desk.begun) call (Err e) before.desk after.desk step.0
-admitted_keeps_kinds (Update call) (Ok (reply.Window answer)) before after step = same_kinds before.desk.windows after.desk.windows (update_keeps_desk call (Ok answer) before.desk after.desk step.0)
-admitted_keeps_kinds (Update call) (Ok (reply.Event answer)) before after step = absurd step
-admitted_keeps_kinds (Update call) (Err e) before after step = same_kinds before.desk.windows after.desk.windows (update_keeps_desk call (Err e) before.desk after.desk step.0)
-admitted_keeps_kinds (Event call) (Ok (reply.Window answer)) before after step = absurd step
-admitted_keeps_kinds (Event call) (Ok (reply.Event answer)) before after step = same_kinds before.desk.windows after.desk.windows step.0.windows.desk
-admitted_keeps_kinds (Event call) (Err e) before after step = same_kinds before.desk.windows after.desk.windows step.0.windows.desk
+admitted_keeps_kinds (Window call) answer before after (own, is, step) = window_keeps_kinds call own before after step
+admitted_keeps_kinds (Update call) answer before after (own, is, step) = same_kinds before.desk.windows after.desk.windows (update_keeps_desk call own before.desk after.desk step.0)
+admitted_keeps_kinds (Frame call) answer before after (own, is, step) = frame_keeps (λ d. map (λ slot. slot.kind) d.stock) (λ d ws. refl) call own before.desk after.desk step.0
+admitted_keeps_kinds (Event call) answer before after (own, is, step) = same_kinds before.desk.windows after.desk.windows step.0.windows.desk
 
 gated_keeps_kinds : (stopped : Option Refusal) (call : Call) (answer : Result Reply Refusal) (before after : ToolboxState) → IsGated stopped call answer before after → kinds_of after.desk.windows ≡ kinds_of before.desk.windows
 gated_keeps_kinds None call answer before after step = admitted_keeps_kinds call answer before after step
@@ -203,20 +214,44 @@ answer_is_counted (Some set) call answer before after numbers step h =
 -- the numbers of the windows that any call made
 abbrev made_by : Result Reply Refusal → List ℕ
 made_by (Ok (reply.Window answer)) = number_made answer
+made_by (Ok (reply.Frame answer)) = []
 made_by (Ok (reply.Event answer)) = []
 made_by (Err e) = []
 
+-- what follows a desk with the same next number
+next_counted : (before after : FullState) (numbers : List ℕ) → after.desk.next ≡ before.desk.next → AreCounted after.desk.next numbers → AreCounted before.desk.next numbers
+next_counted before after numbers same h = subst (λ n. AreCounted n numbers) same h
+
+window_is_counted : (call : WindowCall) (answer : Result WindowReply Refusal) (before after : ToolboxState) (numbers : List ℕ) → IsWindowMade call answer before after → AreCounted after.desk.windows.desk.next numbers → AreCounted before.desk.windows.desk.next (made_by (replied reply.Window answer) ++ numbers)
+window_is_counted call (Ok answer) before after numbers ((middle, answered, (same, told)), events) h =
+    answer_is_counted (narrowed call before.desk.activity before.desk.begun) call (Ok answer) before.desk middle numbers answered
+    (next_counted middle.windows after.desk.windows numbers (are_told_keep (λ d. d.next) (λ d ws. refl) (followers call before.desk.windows.desk.active middle.windows.desk.active) middle.windows after.desk.windows told) h)
+window_is_counted call (Err e) before after numbers step h = answer_is_counted (narrowed call before.desk.activity before.desk.begun) call (Err e) before.desk after.desk numbers step.0 h
+
+update_is_counted : (call : UpdateCall) (answer : Result WindowReply Refusal) (before after : DeskState) (numbers : List ℕ) → IsUpdateStep call answer before after → AreCounted after.windows.desk.next numbers → AreCounted before.windows.desk.next (made_by (replied reply.Window answer) ++ numbers)
+update_is_counted call (Ok answer) before after numbers step h =
+    same_counted before.windows after.windows numbers (number_made answer) (ap number_made step.1.0) (update_keeps_desk call (Ok answer) before after step) h
+update_is_counted call (Err e) before after numbers step h = counted_on before.windows after.windows numbers step.1.windows h
+
+frame_is_counted : (call : FrameCall) (answer : Result FrameReply Refusal) (before after : DeskState) (numbers : List ℕ) → IsFrameStep call answer before after → AreCounted after.windows.desk.next numbers → AreCounted before.windows.desk.next (made_by (replied reply.Frame answer) ++ numbers)
+frame_is_counted call (Ok answer) before after numbers step h = next_counted before.windows after.windows numbers (frame_keeps (λ d. d.next) (λ d ws. refl) call (Ok answer) before after step) h
+frame_is_counted call (Err e) before after numbers step h = next_counted before.windows after.windows numbers (frame_keeps (λ d. d.next) (λ d ws. refl) call (Err e) before after step) h
+
+event_is_counted : (call : EventCall) (answer : Result EventReply Refusal) (before after : ToolboxState) (numbers : List ℕ) → IsEventAnswer call answer before after → AreCounted after.desk.windows.desk.next numbers → AreCounted before.desk.windows.desk.next (made_by (replied reply.Event answer) ++ numbers)
+event_is_counted call (Ok answer) before after numbers step h = counted_on before.desk.windows after.desk.windows numbers step.0.windows h
+event_is_counted call (Err e) before after numbers step h = counted_on before.desk.windows after.desk.windows numbers step.0.windows h
+
 admitted_is_counted : (call : Call) (answer : Result Reply Refusal) (before after : ToolboxState) (numbers : List ℕ) → IsAdmitted call answer before after → AreCounted after.desk.windows.desk.next numbers → AreCounted before.desk.windows.desk.next (made_by answer ++ numbers)
-admitted_is_counted (Window call) (Ok (reply.Window answer)) before after numbers step h = answer_is_counted (narrowed call before.desk.activity before.desk.begun) call (Ok answer) before.desk after.desk numbers step.0 h
-admitted_is_counted (Window call) (Ok (reply.Event answer)) before after numbers step h = absurd step
-admitted_is_counted (Window call) (Err e) before after numbers step h = answer_is_counted (narrowed call before.desk.activity before.desk.begun) call (Err e) before.desk after.desk numbers step.0 h
-admitted_is_counted (Update call) (Ok (reply.Window answer)) before after numbers step h =
-    same_counted before.desk.windows after.desk.windows numbers (number_made answer) (ap number_made step.0.1.0) (update_keeps_desk call (Ok answer) before.desk after.desk step.0) h
-admitted_is_counted (Update call) (Ok (reply.Event answer)) before after numbers step h = absurd step
-admitted_is_counted (Update call) (Err e) before after numbers step h = counted_on before.desk.windows after.desk.windows numbers step.0.1.windows h
-admitted_is_counted (Event call) (Ok (reply.Window answer)) before after numbers step h = absurd step
-admitted_is_counted (Event call) (Ok (reply.Event answer)) before after numbers step h = counted_on before.desk.windows after.desk.windows numbers step.0.windows h
-admitted_is_counted (Event call) (Err e) before after numbers step h = counted_on before.desk.windows after.desk.windows numbers step.0.windows h
+admitted_is_counted call answer before after numbers step h = by_manager call step
+  where
+    abbrev Counted : Result Reply Refusal → Type 0
+    Counted r = AreCounted before.desk.windows.desk.next (made_by r ++ numbers)
+
+    by_manager : (c : Call) → IsAdmitted c answer before after → Counted answer
+    by_manager (Window c) (own, is, made_so) = subst Counted (sym is) (window_is_counted c own before after numbers made_so h)
+    by_manager (Update c) (own, is, made_so) = subst Counted (sym is) (update_is_counted c own before.desk after.desk numbers made_so.0 h)
+    by_manager (Frame c) (own, is, made_so) = subst Counted (sym is) (frame_is_counted c own before.desk after.desk numbers made_so.0 h)
+    by_manager (Event c) (own, is, made_so) = subst Counted (sym is) (event_is_counted c own before after numbers made_so h)
 
 gated_is_counted : (stopped : Option Refusal) (call : Call) (answer : Result Reply Refusal) (before after : ToolboxState) (numbers : List ℕ) → IsGated stopped call answer before after → AreCounted after.desk.windows.desk.next numbers → AreCounted before.desk.windows.desk.next (made_by answer ++ numbers)
 gated_is_counted None call answer before after numbers step h = admitted_is_counted call answer before after numbers step h
@@ -225,6 +260,7 @@ gated_is_counted (Some e) call (Err f) before after numbers (form, why, (is, sam
 
 made_first : (answer : Result Reply Refusal) (answers : List (Result Reply Refusal)) → made_by answer ++ made answers ≡ made (answer ∷ answers)
 made_first (Ok (reply.Window answer)) answers = refl
+made_first (Ok (reply.Frame answer)) answers = refl
 made_first (Ok (reply.Event answer)) answers = refl
 made_first (Err e) answers = refl
 

@@ -10,19 +10,12 @@ use Rattle.window_mgr.specs.declared.manager.WindowManager.{WindowManager}
 use Rattle.window_mgr.specs.Begin.{IsEmptyDesk}
 use Rattle.window_mgr.specs.Records.{desk_of}
 use Rattle.window_update.specs.declared.updates.Updates.{Updates}
+use Rattle.window_update.proofs.Sides.{SameSides, equal_sides}
 use Rattle.window_update.specs.DeskStates.{IsWholeUpdates}
 use Rattle.window_mgr.specs.FullDesk.{FullDesk, FullState}
 use Rattle.window_mgr.specs.Step.{IsWindowStep}
 use Rattle.window_mgr.specs.Effects.{Effect, IsEffect, effect_of}
 use Rattle.window_mgr.specs.Effects.Effect.{Makes, Disposes, Draws, Pictures, Scrolls, Arranges, Sizes, Tells, Describes}
-
--- the screen of a desk is as wide and high as that of another
-pub record SameSides (before after : FullDesk) : Type 0 where
-  pub width : after.width ≡ before.width
-  pub height : after.height ≡ before.height
-
-pub equal_sides : (before after : FullDesk) → after ≡ before → SameSides before after
-equal_sides before after same = record { width = ap (λ (d : FullDesk). d.width) same; height = ap (λ (d : FullDesk). d.height) same }
 
 effect_keeps_sides : (effect : Effect) (answer : WindowReply) (before after : FullState) → IsEffect effect answer before after → SameSides before.desk after.desk
 effect_keeps_sides (Makes w) answer before after (n, is, new) = record { width = ap (λ (d : FullDesk). d.width) new.desk; height = ap (λ (d : FullDesk). d.height) new.desk }
@@ -40,13 +33,6 @@ step_keeps_sides call (Ok answer) before after step = effect_keeps_sides (effect
 step_keeps_sides call (Err e) before after step = equal_sides before.desk after.desk step.1.desk
 
 -- ---- what is kept of updates
-
--- the maps for comparing stay as large as the screen
-pub stays_sized : {V : Type 0} {H : V → Type 0} (loan : Taken V H → Loan) (old new : WindowManager V H) (u : Updates) (before after : List SlotView) → IsWholeUpdates old u → SameSides (desk_of loan old before) (desk_of loan new after) → IsWholeUpdates new u
-stays_sized loan old new u before after whole same = record {
-  width = whole.width ∙ sym (ap nat_abs same.width);
-  height = whole.height ∙ sym (ap nat_abs same.height);
-}
 
 -- they are as large as the screen that a desk began with
 pub begins_sized : {V : Type 0} {H : V → Type 0} (loan : Taken V H → Loan) (width height bar : ℤ) (font : List ℕ) (t : WindowManager V H) (u : Updates) (slots : List SlotView) → pos u.buffer.width ≡ width → pos u.buffer.height ≡ height → IsEmptyDesk loan width height bar font t slots → IsWholeUpdates t u

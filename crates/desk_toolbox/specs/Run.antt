@@ -4,11 +4,12 @@ use Rattle.std.specs.Option.{unwrap_or}
 use Rattle.tb_geom.specs.declared.refusal.Refusal.{Refusal}
 use Rattle.tb_geom.specs.Points.{PixelSet}
 use Rattle.desk_call.specs.declared.call.Call.{Call}
-use Rattle.desk_call.specs.declared.call.Call.TheVariants.{Window, Update, Event}
+use Rattle.desk_call.specs.declared.call.Call.TheVariants.{Window, Update, Frame, Event}
 use Rattle.desk_call.specs.declared.call.Reply.{Reply}
 use Rattle.desk_call.specs.declared.call.Reply.TheVariants as reply
 use Rattle.desk_call.specs.declared.event.EventCall.{EventCall}
 use Rattle.desk_call.specs.declared.event.EventReply.{EventReply}
+use Rattle.desk_call.specs.declared.frame.FrameReply.{FrameReply}
 use Rattle.desk_call.specs.declared.window.WindowCall.{WindowCall}
 use Rattle.desk_call.specs.declared.window.WindowReply.{WindowReply}
 use Rattle.desk_call.specs.declared.window.WindowReply.TheVariants.{Made}
@@ -20,6 +21,8 @@ use Rattle.window_update.specs.DeskStates.{DeskState, IsDeskUnchanged, SameActiv
 use Rattle.window_update.specs.UpdateRefusals.{IsUpdateForm}
 use Rattle.window_update.specs.UpdateSteps.{IsUpdateStep, IsToldOf}
 use Rattle.window_update.specs.Waiting.{IsFirstToUpdate}
+use Rattle.window_frame.specs.Followers.{AreTold, followers}
+use Rattle.window_frame.specs.FrameSteps.{IsFrameStep}
 use Rattle.desk_toolbox.specs.EventSteps.{event_step, events_left}
 use Rattle.desk_toolbox.specs.ToolboxStates.{ToolboxState, IsToolboxUnchanged}
 
@@ -40,26 +43,38 @@ IsEventAnswer call result before after = IsDeskUnchanged before.desk after.desk
     × ((update : Option ℕ) × IsFirstToUpdate before.desk update
     × ((result, after.events) ≡ event_step call before.desk.windows.desk.active update before.events))
 
--- a call that may come is a step of its manager
+-- the definitions of the windows that were active and are so now are told how these stand, once a call led to the middle state
+abbrev pub IsFollowed : WindowCall → DeskState → DeskState → DeskState → Type 0
+IsFollowed call before middle after = SameActivity middle after
+    × AreTold (followers call before.windows.desk.active middle.windows.desk.active) middle.windows after.windows
+
+-- a call on windows that may come: one that was done has definitions told, and a window that is gone is forgotten
+abbrev pub IsWindowMade : WindowCall → Result WindowReply Refusal → ToolboxState → ToolboxState → Type 0
+IsWindowMade call (Ok answer) before after = ((middle : DeskState) × IsWindowAnswered call (Ok answer) before.desk middle × IsFollowed call before.desk middle after.desk)
+    × (after.events ≡ events_left call before.events)
+IsWindowMade call (Err e) before after = IsWindowAnswered call (Err e) before.desk after.desk × (after.events ≡ before.events)
+
+-- the answer of a manager, as one of the Toolbox
+abbrev pub replied : {R : Type 0} → (R → Reply) → Result R Refusal → Result Reply Refusal
+replied as (Ok answer) = Ok (as answer)
+replied as (Err e) = Err e
+
+-- a call that may come is a step of its manager, which answers it
 abbrev pub IsAdmitted : Call → Result Reply Refusal → ToolboxState → ToolboxState → Type 0
-IsAdmitted (Window call) (Ok (reply.Window answer)) before after =
-    IsWindowAnswered call (Ok answer) before.desk after.desk × (after.events ≡ events_left call before.events)
-IsAdmitted (Window call) (Ok (reply.Event answer)) before after = ⊥
-IsAdmitted (Window call) (Err e) before after =
-    IsWindowAnswered call (Err e) before.desk after.desk × (after.events ≡ before.events)
-IsAdmitted (Update call) (Ok (reply.Window answer)) before after =
-    IsUpdateStep call (Ok answer) before.desk after.desk × (after.events ≡ before.events)
-IsAdmitted (Update call) (Ok (reply.Event answer)) before after = ⊥
-IsAdmitted (Update call) (Err e) before after =
-    IsUpdateStep call (Err e) before.desk after.desk × (after.events ≡ before.events)
-IsAdmitted (Event call) (Ok (reply.Window answer)) before after = ⊥
-IsAdmitted (Event call) (Ok (reply.Event answer)) before after = IsEventAnswer call (Ok answer) before after
-IsAdmitted (Event call) (Err e) before after = IsEventAnswer call (Err e) before after
+IsAdmitted (Window call) result before after =
+    (own : Result WindowReply Refusal) × (result ≡ replied reply.Window own) × IsWindowMade call own before after
+IsAdmitted (Update call) result before after =
+    (own : Result WindowReply Refusal) × (result ≡ replied reply.Window own) × (IsUpdateStep call own before.desk after.desk × (after.events ≡ before.events))
+IsAdmitted (Frame call) result before after =
+    (own : Result FrameReply Refusal) × (result ≡ replied reply.Frame own) × (IsFrameStep call own before.desk after.desk × (after.events ≡ before.events))
+IsAdmitted (Event call) result before after =
+    (own : Result EventReply Refusal) × (result ≡ replied reply.Event own) × IsEventAnswer call own before after
 
 -- why a call is refused for its names and bytes alone, whatever is open
 abbrev pub IsForm : Call → DeskState → Option Refusal → Type 0
 IsForm (Window call) before form = IsFormRefusal call before.windows.desk form
 IsForm (Update call) before form = IsUpdateForm call form
+IsForm (Frame call) before form = form ≡ None
 IsForm (Event call) before form = form ≡ None
 
 -- a call that may not come for this is refused: for its form, if that is refused, and else for this. It changes nothing
@@ -95,6 +110,7 @@ number_made _ = []
 abbrev pub made : List (Result Reply Refusal) → List ℕ
 made [] = []
 made (Ok (reply.Window answer) ∷ answers) = number_made answer ++ made answers
+made (Ok (reply.Frame answer) ∷ answers) = made answers
 made (Ok (reply.Event answer) ∷ answers) = made answers
 made (Err e ∷ answers) = made answers
 

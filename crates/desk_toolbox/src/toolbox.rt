@@ -9,10 +9,11 @@ ghost use Rattle.window_mgr.specs.FullDesk.{IsRightState};
 ghost use Rattle.window_mgr.specs.Records.{desk_of, state_of};
 ghost use Rattle.window_mgr.specs.Refused.{is_missing};
 ghost use Rattle.window_mgr.specs.Whole.{IsWholeManager};
+ghost use Rattle.window_update.specs.declared.updates.OpenActivity.TheVariants.{Nothing};
 ghost use Rattle.window_update.specs.DeskStates.{DeskState};
 ghost use Rattle.window_update.specs.Rightness.{IsJudgement};
 ghost use Rattle.desk_toolbox.specs.EventSteps.{first_events};
-ghost use Rattle.desk_toolbox.specs.Run.{IsAdmitted, IsEventAnswer, IsForm, IsRunOfCalls, IsStep, IsWindowAnswered};
+ghost use Rattle.desk_toolbox.specs.Run.{IsAdmitted, IsEventAnswer, IsForm, IsRunOfCalls, IsStep, IsWindowAnswered, IsWindowMade};
 ghost use Rattle.desk_toolbox.specs.ToolboxStates.{IsToolboxUnchanged};
 ghost use Rattle.desk_toolbox.specs.WholeToolbox.{IsKeptToolbox, IsWholeToolbox, toolbox_state};
 
@@ -24,6 +25,7 @@ use desk_ground::is_screen;
 use std::alloc::{AllocError, Global};
 use strike_font::Font;
 use tb_geom::{Rect, Refusal};
+use window_frame::follow;
 use window_list::{Ranks, WindowList};
 use window_mgr::{NotBegun, WindowManager, form_refusal};
 use window_update::{Updates, update_form_refusal};
@@ -51,7 +53,7 @@ impl Toolbox {
     ) -> Result<Toolbox, NotBegun>
         ensures begun { IfOk result (λ t. (slots : List SlotView) → All IsFull slots
             → IsEmptyDesk ⟦<Taken as Defined>⟧.loan width height bar font t.windows slots) }
-        ensures idle { IfOk result (λ t. t.updates.update ≡ None) }
+        ensures idle { IfOk result (λ t. t.updates.current ≡ Nothing) }
         ensures events { IfOk result (λ t. t.events ≡ first_events) }
         ensures whole { IfOk result (λ t. (slots : List SlotView) → All IsFull slots
             → IsWholeToolbox ⟦<Taken as Defined>⟧.loan t slots) }
@@ -90,7 +92,7 @@ impl Toolbox {
         requires height { pos updates.buffer.height ≡ height }
         ensures begun { IfOk result (λ t. (slots : List SlotView) → All IsFull slots
             → IsEmptyDesk ⟦<Taken as Defined>⟧.loan width height bar font t.windows slots) }
-        ensures open { IfOk result (λ t. t.updates.update ≡ updates.update) }
+        ensures idle { IfOk result (λ t. t.updates.current ≡ updates.current) }
         ensures events { IfOk result (λ t. t.events ≡ events) }
         ensures whole { IfOk result (λ t. (slots : List SlotView) → All IsFull slots
             → IsWholeToolbox ⟦<Taken as Defined>⟧.loan t slots) }
@@ -154,21 +156,48 @@ impl Toolbox {
             (toolbox_state ⟦<Taken as Defined>⟧.loan self.new (⟦<Stock as Stocked>⟧.slots stock.new)) }
     {
         match call {
-            Call::Window(call) => match self.answer_window(call, stock) {
-                Ok(reply) => {
-                    self.events.follow(call);
-                    Ok(Reply::Window(reply))
-                }
+            Call::Window(call) => match self.make_window(call, stock) {
+                Ok(reply) => Ok(Reply::Window(reply)),
                 Err(refusal) => Err(refusal),
             },
             Call::Update(call) => match self.updates.make(&mut self.windows, call) {
                 Ok(reply) => Ok(Reply::Window(reply)),
                 Err(refusal) => Err(refusal),
             },
+            Call::Frame(call) => {
+                match window_frame::make(&mut self.windows, &mut self.updates, call) {
+                    Ok(reply) => Ok(Reply::Frame(reply)),
+                    Err(refusal) => Err(refusal),
+                }
+            }
             Call::Event(call) => match self.answer_event(*call) {
                 Ok(reply) => Ok(Reply::Event(reply)),
                 Err(refusal) => Err(refusal),
             },
+        }
+    }
+
+    /// Makes a call on windows. Once it was done, the definitions of the windows that were and are active are told how these
+    /// stand, and a window that is gone is forgotten.
+    fn make_window(
+        &mut self,
+        call: &WindowCall<'_>,
+        stock: &mut Stock,
+    ) -> Result<WindowReply, Refusal>
+        requires { IsWholeToolbox ⟦<Taken as Defined>⟧.loan self.old (⟦<Stock as Stocked>⟧.slots stock.old) }
+        ensures whole { IsWholeToolbox ⟦<Taken as Defined>⟧.loan self.new (⟦<Stock as Stocked>⟧.slots stock.new) }
+        ensures step { IsWindowMade call.now result
+            (toolbox_state ⟦<Taken as Defined>⟧.loan self.old (⟦<Stock as Stocked>⟧.slots stock.old))
+            (toolbox_state ⟦<Taken as Defined>⟧.loan self.new (⟦<Stock as Stocked>⟧.slots stock.new)) }
+    {
+        let former = self.windows.parts().windows.active();
+        match self.answer_window(call, stock) {
+            Ok(reply) => {
+                follow(&mut self.windows, call, former);
+                self.events.follow(call);
+                Ok(reply)
+            }
+            Err(refusal) => Err(refusal),
         }
     }
 
@@ -267,6 +296,6 @@ fn form_refusal_of(call: &Call<'_>, stock: &Stock) -> Option<Refusal>
     match call {
         Call::Window(call) => form_refusal(call, stock),
         Call::Update(call) => update_form_refusal(call),
-        Call::Event(_) => None,
+        Call::Frame(_) | Call::Event(_) => None,
     }
 }

@@ -21,7 +21,7 @@ use Rattle.watched_io.specs.Writes.{Output, Sends}
 
 -- the desk that the Toolbox made
 pub new_desk : {V : Type 0} {H : V → Type 0} (loan : Taken V H → Loan) (t : Toolbox V H) (font : List ℕ) (slots : List SlotView) (size wanted : DeskSize) → size ≡ wanted
-    → IsEmptyDesk loan size.width size.height size.bar font t.windows slots → t.updates.update ≡ None → t.events ≡ first_events → IsNewDesk wanted font slots (toolbox_state loan t slots)
+    → IsEmptyDesk loan size.width size.height size.bar font t.windows slots → t.updates.current ≡ Nothing → t.events ≡ first_events → IsNewDesk wanted font slots (toolbox_state loan t slots)
 new_desk loan t font slots size wanted same empty idle events =
     subst (λ s. IsNewDesk s font slots (toolbox_state loan t slots)) same (record { desk = empty.desk; idle = ap activity_of idle; drawn = empty.drawn; right = empty.right; events = events })
 

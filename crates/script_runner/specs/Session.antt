@@ -5,7 +5,7 @@ use Rattle.tb_geom.specs.declared.refusal.Refusal.{Refusal}
 use Rattle.tb_geom.specs.declared.refusal.Refusal.TheVariants.{NoSuchName, OutOfRange, Busy}
 use Rattle.tb_geom.specs.Points.{PixelSet}
 use Rattle.def_iface.specs.Stocked.{SlotView, has_kind}
-use Rattle.desk_call.specs.declared.call.Call.TheVariants.{Window, Update, Event}
+use Rattle.desk_call.specs.declared.call.Call.TheVariants.{Window, Update, Frame, Event}
 use Rattle.desk_call.specs.declared.window.WindowCall.TheVariants.{New}
 use Rattle.desk_call.specs.declared.call.Reply.{Reply}
 use Rattle.desk_call.specs.declared.activity.Activity.TheVariants.{Idle}
@@ -50,6 +50,7 @@ is_known Image slots = true
 is_known (Call (Window (New w))) slots = has_kind w.kind slots
 is_known (Call (Window _)) slots = true
 is_known (Call (Update _)) slots = true
+is_known (Call (Frame _)) slots = true
 is_known (Call (Event _)) slots = true
 
 -- whether a screen may have this size

@@ -192,6 +192,7 @@ fn is_known(command: &Command<'_>, stock: &Stock) -> bool
     match command {
         Command::Call(Call::Window(call)) => is_known_call(call, stock),
         Command::Call(Call::Update(_)) => true,
+        Command::Call(Call::Frame(_)) => true,
         Command::Call(Call::Event(_)) => true,
         Command::Desk(_) => true,
         Command::Image => true,

@@ -2,6 +2,7 @@
 pub mod AreaLemmas
 pub mod RightLemmas
 pub mod MarkLemmas
+pub mod Sides
 pub mod ServeLemmas
 pub mod Judging
 pub mod StepLemmas

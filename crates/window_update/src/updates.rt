@@ -79,6 +79,20 @@ impl Updates {
         }
     }
 
+    /// The tracking of this window's go-away box begins, and is open.
+    pub fn begin_tracking(&mut self, window: u64)
+        ensures { self.new ≡ record self.old { current = OpenActivity.GoAway window } }
+    {
+        self.current = OpenActivity::GoAway(window);
+    }
+
+    /// Nothing is open any more.
+    pub fn end_tracking(&mut self)
+        ensures { self.new ≡ record self.old { current = Nothing } }
+    {
+        self.current = OpenActivity::Nothing;
+    }
+
     /// Makes one call on these windows, and gives its answer. A refused call changes nothing; which refusal comes first
     /// where several would do stands with the call. It does not ask what is open.
     pub fn make(

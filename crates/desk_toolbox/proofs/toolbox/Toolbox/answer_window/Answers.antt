@@ -1,4 +1,5 @@
-use Rattle.desk_toolbox.proofs.Sides.{step_keeps_sides, stays_sized}
+use Rattle.window_update.proofs.Sides.{stays_sized}
+use Rattle.desk_toolbox.proofs.Sides.{step_keeps_sides}
 use Rattle.desk_toolbox.proofs.toolbox.Toolbox.answer_window.Goals as goal
 
 pub returns-in-None-clause-whole : goal.returns-in-None-clause-whole

@@ -1,0 +1,78 @@
+-- One step of a call about a frame: what it leaves, and what it answers.
+use Rattle.std.specs.Prelude.{◌≡◌, ℕ, Bool, true, false, ◌&&◌, List, None, Some, Result, Ok, Err}
+use Rattle.tb_geom.specs.declared.point.Point.{Point}
+use Rattle.tb_geom.specs.declared.refusal.Refusal.{Refusal}
+use Rattle.def_iface.specs.declared.taken.Taken.{Taken}
+use Rattle.def_iface.specs.Meaning.{Loan}
+use Rattle.def_iface.specs.Stocked.{SlotView}
+use Rattle.desk_call.specs.declared.activity.Activity.TheVariants.{Idle, Tracking}
+use Rattle.desk_call.specs.declared.frame.FrameCall.{FrameCall}
+use Rattle.desk_call.specs.declared.frame.FrameCall.TheVariants.{SetTitle, Hilite, TrackGoAway, StepGoAway, EndGoAway}
+use Rattle.desk_call.specs.declared.frame.FrameReply.{FrameReply}
+use Rattle.desk_call.specs.declared.frame.FrameReply.TheVariants.{Done, Tracked}
+use Rattle.desk_call.specs.declared.window.Found.{Found}
+use Rattle.desk_call.specs.declared.window.WindowPart.{WindowPart}
+use Rattle.desk_call.specs.declared.window.WindowPart.TheVariants.{InGoAway}
+use Rattle.vis_update.specs.Records.{WindowRecord}
+use Rattle.vis_update.specs.Touches.{is_this}
+use Rattle.window_mgr.specs.declared.manager.WindowManager.{WindowManager}
+use Rattle.window_mgr.specs.Finding.{found_at}
+use Rattle.window_mgr.specs.FrameTelling.{IsFrameTold}
+use Rattle.window_mgr.specs.FullDesk.{FullDesk}
+use Rattle.window_mgr.specs.Refused.{first_refusal}
+use Rattle.window_mgr.specs.Whole.{IsWholeManager}
+use Rattle.window_update.specs.declared.updates.Updates.{Updates}
+use Rattle.window_update.specs.DeskStates.{DeskState, IsDeskUnchanged, SameActivity, desk_state}
+use Rattle.window_frame.specs.Followers.{IsTold}
+use Rattle.window_frame.specs.FrameRefusals.{frame_refusals}
+
+abbrev pub with_title : List ℕ → WindowRecord → WindowRecord
+with_title title w = record w { title = title }
+
+abbrev pub with_flag : Bool → WindowRecord → WindowRecord
+with_flag on w = record w { highlighted = on }
+
+abbrev pub is_go_away : WindowPart → Bool
+is_go_away InGoAway = true
+is_go_away _ = false
+
+-- FindWindow answers the go-away box of the window of this serial at the point
+abbrev pub in_go_away : ℕ → FullDesk → Point → Bool
+in_go_away s desk p = let found = found_at desk p in is_go_away found.part && is_this found.window s
+
+-- tracking begins where the point lies in the box, and the definition is told; elsewhere nothing does
+abbrev pub IsBegunAt : ℕ → Bool → DeskState → DeskState → Type 0
+IsBegunAt s true before after = (after.activity ≡ Tracking s) × IsTold s before.windows after.windows
+IsBegunAt s false before after = IsDeskUnchanged before after
+
+-- tracking of some window goes on at this point, or ends there: its definition is told whether that lies in the box, or that
+-- nothing is tracked any more
+record pub IsTrackedAt (p : Point) (inside : Bool) (before after : DeskState) : Type 0 where
+  pub window : ℕ
+  pub tracked : before.activity ≡ Tracking window
+  pub answer : inside ≡ in_go_away window before.windows.desk p
+  pub told : IsTold window before.windows after.windows
+
+-- what a call that nothing refuses answers and leaves
+abbrev pub IsFrameEffect : FrameCall → FrameReply → DeskState → DeskState → Type 0
+IsFrameEffect (SetTitle n) Done before after = SameActivity before after × IsFrameTold n.window (with_title n.title) before.windows after.windows
+IsFrameEffect (Hilite h) Done before after = SameActivity before after × IsFrameTold h.window (with_flag h.highlighted) before.windows after.windows
+IsFrameEffect (TrackGoAway g) (Tracked inside) before after =
+    (inside ≡ in_go_away g.window before.windows.desk g.point) × IsBegunAt g.window inside before after
+IsFrameEffect (StepGoAway p) (Tracked inside) before after = SameActivity before after × IsTrackedAt p inside before after
+IsFrameEffect (EndGoAway p) (Tracked inside) before after = (after.activity ≡ Idle) × IsTrackedAt p inside before after
+IsFrameEffect _ _ before after = ⊥
+
+-- one step: a call that nothing refuses has its effect, and a refused one changes nothing; none takes memory
+abbrev pub IsFrameStep : FrameCall → Result FrameReply Refusal → DeskState → DeskState → Type 0
+IsFrameStep call (Ok answer) before after =
+    (first_refusal (frame_refusals call before.activity before.windows.desk) ≡ None) × IsFrameEffect call answer before after
+IsFrameStep call (Err e) before after =
+    (first_refusal (frame_refusals call before.activity before.windows.desk) ≡ Some e) × IsDeskUnchanged before after
+
+-- `loan` says what a definition that was taken means
+module _ {V : Type 0} {H : V → Type 0} (loan : Taken V H → Loan) where
+  -- over any slots over which the window manager is whole, it is whole after the call, which is one step
+  abbrev pub IsFrameStepOverAnySlots : FrameCall → Result FrameReply Refusal → WindowManager V H → Updates → WindowManager V H → Updates → Type 0
+  IsFrameStepOverAnySlots call result old old_updates new new_updates = (slots : List SlotView) → IsWholeManager loan old slots
+      → IsWholeManager loan new slots × IsFrameStep call result (desk_state loan old old_updates slots) (desk_state loan new new_updates slots)

@@ -1,0 +1,4 @@
+-- What the contracts speak of: why a call about a frame refuses, what it does, and whose definitions are told after a call.
+pub mod FrameRefusals
+pub mod Followers
+pub mod FrameSteps

@@ -1,0 +1,123 @@
+//! The tracking of a go-away box.
+ghost use Rattle.std.specs.Prelude.{◌≡◌, if◌then◌else◌, Ok, Err, []};
+ghost use Rattle.tb_geom.specs.declared.refusal.Refusal.TheVariants.{OutOfRange};
+ghost use Rattle.tb_geom.specs.Rects.{in_plane};
+ghost use Rattle.desk_call.specs.declared.frame.FrameCall.TheVariants as asks;
+ghost use Rattle.window_mgr.specs.Kept.{IsKept};
+ghost use Rattle.window_mgr.specs.Records.{desk_of};
+ghost use Rattle.window_mgr.specs.Updating.{LeavesState};
+ghost use Rattle.window_update.specs.DeskStates.{IsWholeUpdates};
+ghost use Rattle.window_frame.specs.Followers.{IsTold};
+ghost use Rattle.window_frame.specs.FrameSteps.{IsFrameStepOverAnySlots, in_go_away, is_go_away};
+
+use crate::{FrameReply, GoAwayPoint};
+use def_iface::{Defined, Taken, WindowChange};
+use desk_call::{Activity, WindowPart};
+use tb_geom::{Point, Refusal};
+use window_mgr::WindowManager;
+use window_update::Updates;
+
+/// Begins to track the go-away box of a window, where the mouse button was pressed in it.
+pub(crate) fn track_go_away(
+    windows: &mut WindowManager,
+    updates: &mut Updates,
+    pressed: GoAwayPoint,
+) -> Result<FrameReply, Refusal>
+    requires kept { IsKept ⟦<Taken as Defined>⟧.loan windows.old }
+    requires whole { IsWholeUpdates windows.old updates.old }
+    ensures whole { IsWholeUpdates windows.new updates.new }
+    ensures step { IsFrameStepOverAnySlots ⟦<Taken as Defined>⟧.loan (asks.TrackGoAway pressed) result
+        windows.old updates.old windows.new updates.new }
+{
+    if windows.find(pressed.window).is_none() {
+        return Err(Refusal::NoSuchWindow);
+    }
+    match is_inside(windows, pressed.window, pressed.point) {
+        Ok(true) => {
+            updates.begin_tracking(pressed.window);
+            tell_tracked(windows, pressed.window, true);
+            Ok(FrameReply::Tracked(true))
+        }
+        Ok(false) => Ok(FrameReply::Tracked(false)),
+        Err(refusal) => Err(refusal),
+    }
+}
+
+/// Goes on to track, with the mouse at this point.
+pub(crate) fn step_go_away(
+    windows: &mut WindowManager,
+    updates: &Updates,
+    point: Point,
+) -> Result<FrameReply, Refusal>
+    requires kept { IsKept ⟦<Taken as Defined>⟧.loan windows.old }
+    requires whole { IsWholeUpdates windows.old updates.now }
+    ensures whole { IsWholeUpdates windows.new updates.now }
+    ensures step { IsFrameStepOverAnySlots ⟦<Taken as Defined>⟧.loan (asks.StepGoAway point) result
+        windows.old updates.now windows.new updates.now }
+{
+    let Activity::Tracking(window) = updates.activity() else {
+        return Err(Refusal::NotBusy);
+    };
+    match is_inside(windows, window, point) {
+        Ok(inside) => {
+            tell_tracked(windows, window, inside);
+            Ok(FrameReply::Tracked(inside))
+        }
+        Err(refusal) => Err(refusal),
+    }
+}
+
+/// Ends the tracking, with the mouse button released at this point.
+pub(crate) fn end_go_away(
+    windows: &mut WindowManager,
+    updates: &mut Updates,
+    point: Point,
+) -> Result<FrameReply, Refusal>
+    requires kept { IsKept ⟦<Taken as Defined>⟧.loan windows.old }
+    requires whole { IsWholeUpdates windows.old updates.old }
+    ensures whole { IsWholeUpdates windows.new updates.new }
+    ensures step { IsFrameStepOverAnySlots ⟦<Taken as Defined>⟧.loan (asks.EndGoAway point) result
+        windows.old updates.old windows.new updates.new }
+{
+    let Activity::Tracking(window) = updates.activity() else {
+        return Err(Refusal::NotBusy);
+    };
+    match is_inside(windows, window, point) {
+        Ok(inside) => {
+            tell_tracked(windows, window, false);
+            updates.end_tracking();
+            Ok(FrameReply::Tracked(inside))
+        }
+        Err(refusal) => Err(refusal),
+    }
+}
+
+/// Whether FindWindow answers the go-away box of this window at the point. OutOfRange where the point is out of range.
+fn is_inside(windows: &WindowManager, window: u64, point: Point) -> Result<bool, Refusal>
+    requires { IsKept ⟦<Taken as Defined>⟧.loan windows.now }
+    ensures { result ≡ (if in_plane point then Ok (in_go_away window (desk_of ⟦<Taken as Defined>⟧.loan windows.now []) point)
+        else Err OutOfRange) }
+{
+    let found = windows.find_window(point)?;
+    Ok(is_go_away(found.part) && found.window == Some(window))
+}
+
+/// Whether the part is a go-away box.
+fn is_go_away(part: WindowPart) -> bool
+    ensures { result ≡ is_go_away part }
+{
+    match part {
+        WindowPart::InGoAway => true,
+        _ => false,
+    }
+}
+
+/// Tells the definition of a window, if there is one, whether its go-away box is tracked with the mouse in it.
+fn tell_tracked(windows: &mut WindowManager, window: u64, inside: bool)
+    requires { IsKept ⟦<Taken as Defined>⟧.loan windows.old }
+    ensures { LeavesState ⟦<Taken as Defined>⟧.loan (IsTold window) windows.old windows.new }
+{
+    if let Some(at) = windows.find(window) {
+        windows.tell_frame(at, WindowChange::Tracked(inside));
+    }
+}
