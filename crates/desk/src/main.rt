@@ -9,18 +9,28 @@ ghost use Rattle.std.specs.Prelude.{◌≡◌, All, IfOk, OnOk, OnErr, is_some};
 ghost use Rattle.std.specs.Process.{exit_status};
 ghost use Rattle.def_iface.specs.Stocked.{IsFull};
 
-use def_iface::{Stock, Stocked, WindowDef};
+use def_iface::{Stock, Stocked};
 use script_runner::{Choices, OptionsError, options, run};
-use std::alloc::AllocError;
+use std::alloc::{AllocError, Global};
 use std::process::ExitCode;
 use std::rt::Files;
 use std::{env, fs, io};
-use std_wdef::{StdWindow, Variation};
+use std_wdef::{NotchedWindow, StdWindow, Variation};
 use tb_geom::Refusal;
 use watched_io::{WatchedReader, WatchedWriter, read_all};
 
-/// How many definitions of a kind of window the stock begins with.
+/// How many definitions of each kind of window the stock begins with.
 const DEFINITIONS: u8 = 16;
+
+/// The names of the standard kinds of windows, as a script has them.
+static STANDARD: [(&[u8], Variation); 6] = [
+    (b"document", Variation::Document),
+    (b"dialog", Variation::Dialog),
+    (b"plain", Variation::Plain),
+    (b"shadow", Variation::Shadow),
+    (b"nogrow", Variation::NoGrow),
+    (b"zoom", Variation::Zoom),
+];
 
 /// What is said where the words of the command line cannot be had as text. The first of them is the path by
 /// which the program was called.
@@ -119,6 +129,55 @@ fn run_script(
     }
 }
 
+/// Adds as many definitions of a standard kind as the stock begins with.
+fn add_standard(
+    alloc: Global,
+    stock: &mut Stock,
+    kind: &[u8],
+    variation: Variation,
+) -> Result<(), Refusal>
+    requires { All IsFull (⟦<Stock as Stocked>⟧.slots stock.old) }
+    ensures { OnOk result (All IsFull (⟦<Stock as Stocked>⟧.slots stock.new)) }
+{
+    for _ in 0..DEFINITIONS {
+        let Ok(window) = Box::new(alloc, StdWindow::new(variation)) else {
+            return Err(Refusal::NoMemory);
+        };
+        let Ok(()) = stock.add(kind, window) else {
+            return Err(Refusal::NoMemory);
+        };
+    }
+    Ok(())
+}
+
+/// Adds as many notched ones.
+fn add_notched(alloc: Global, stock: &mut Stock) -> Result<(), Refusal>
+    requires { All IsFull (⟦<Stock as Stocked>⟧.slots stock.old) }
+    ensures { OnOk result (All IsFull (⟦<Stock as Stocked>⟧.slots stock.new)) }
+{
+    for _ in 0..DEFINITIONS {
+        let Ok(window) = Box::new(alloc, NotchedWindow::new()) else {
+            return Err(Refusal::NoMemory);
+        };
+        let Ok(()) = stock.add(b"notched", window) else {
+            return Err(Refusal::NoMemory);
+        };
+    }
+    Ok(())
+}
+
+/// The stock: as many definitions of each kind of window, all Fresh.
+fn filled(alloc: Global) -> Result<Stock, Refusal>
+    ensures { IfOk result (λ stock. All IsFull (⟦<Stock as Stocked>⟧.slots stock)) }
+{
+    let mut stock = Stock::new(alloc);
+    for (kind, variation) in &STANDARD {
+        add_standard(alloc, &mut stock, kind, *variation)?;
+    }
+    add_notched(alloc, &mut stock)?;
+    Ok(stock)
+}
+
 fn main(rt: HostRuntime) -> ExitCode {
     let alloc = rt.alloc();
     let words = match env::args(&rt) {
@@ -136,14 +195,9 @@ fn main(rt: HostRuntime) -> ExitCode {
         Ok(chosen) => chosen,
         Err(error) => return refused_words(&rt, error),
     };
-    let mut stock = Stock::new(alloc);
-    for _ in 0..DEFINITIONS {
-        let Ok(plain) = Box::new(alloc, StdWindow::new(Variation::Plain)) else {
-            return ended(&rt, Err(Refusal::NoMemory));
-        };
-        let Ok(()) = stock.add(b"plain", plain) else {
-            return ended(&rt, Err(Refusal::NoMemory));
-        };
-    }
+    let mut stock = match filled(alloc) {
+        Ok(stock) => stock,
+        Err(refusal) => return ended(&rt, Err(refusal)),
+    };
     ended(&rt, run_script(&rt, &chosen, &mut stock))
 }

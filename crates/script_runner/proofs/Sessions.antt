@@ -8,6 +8,7 @@ use Rattle.def_iface.specs.Meaning.{Loan}
 use Rattle.def_iface.specs.Stocked.{SlotView}
 use Rattle.desk_toolbox.specs.declared.toolbox.Toolbox.{Toolbox}
 use Rattle.window_mgr.specs.Begin.{IsEmptyDesk}
+use Rattle.window_update.specs.declared.updates.OpenActivity.TheVariants.{Nothing}
 use Rattle.window_update.specs.DeskStates.{activity_of}
 use Rattle.desk_toolbox.specs.EventSteps.{first_events}
 use Rattle.desk_toolbox.specs.ToolboxStates.{ToolboxState}
