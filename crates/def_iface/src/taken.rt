@@ -61,8 +61,9 @@ impl Taken {
         self.definition.regions_for(alloc, size)
     }
 
-    /// Makes a Fresh definition Live, and tells it the size.
-    pub fn begin(&mut self, size: Size)
+    /// Makes a Fresh definition Live, and tells it what a new window is: its size, the bytes of its title, and whether it
+    /// has a go-away box.
+    pub fn begin(&mut self, size: Size, title: &[u8], go_away: bool)
         requires fresh { (⟦<Taken as Defined>⟧.loan self.old).definition.stage ≡ Stage.Fresh }
         requires fits { is_fitting (⟦<Taken as Defined>⟧.loan self.old).definition size ≡ true }
         ensures begun { IsBegun size (⟦<Taken as Defined>⟧.loan self.old).definition
@@ -71,6 +72,8 @@ impl Taken {
     {
         self.definition.begin();
         let _damage = self.definition.told(WindowChange::Resized(size));
+        let _damage = self.definition.told(WindowChange::Titled(title));
+        let _damage = self.definition.told(WindowChange::Closable(go_away));
     }
 
     /// Tells a Live definition of a change. The answer is the damage: in every font the pictures before

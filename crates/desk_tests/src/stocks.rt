@@ -60,7 +60,7 @@ fn a_stock_gives_the_first_fresh_definition_of_a_kind(rt: HostRuntime) -> Result
     let mut used = stock.take(b"window")?;
     assert!(rt; SIZE.is_in_range() && used.bounds(SIZE).is_in_range());
     assert!(rt; used.bounds(SIZE) == TITLED);
-    used.begin(SIZE);
+    used.begin(SIZE, b"", false);
     used.dispose();
     stock.put_back(used);
     let other = stock.take(b"window")?;
@@ -184,7 +184,7 @@ fn a_boxed_definition_is_reached(rt: HostRuntime) -> Result<(), Fail> {
     assert!(rt; SIZE.is_in_range() && taken.bounds(SIZE).is_in_range());
     assert!(rt; taken.bounds(SIZE) == TITLED);
     assert!(rt; regions(alloc, &taken)?.as_slice() == REGIONS);
-    taken.begin(SIZE);
+    taken.begin(SIZE, b"", false);
     assert!(rt;
         taken.hit(point!(2, 1)) == Hit::InContent && taken.hit(point!(2, -1)) == Hit::InDrag
     );

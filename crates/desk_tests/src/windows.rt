@@ -188,7 +188,7 @@ fn a_window_is_disposed_of_where_it_lies(rt: HostRuntime) -> Result<(), Fail> {
     let mut windows = WindowList::new(Ranks::new(alloc));
     let mut taken = stock.take(b"titled")?;
     assert!(rt; SIZE.is_in_range() && taken.bounds(SIZE).is_in_range());
-    taken.begin(SIZE);
+    taken.begin(SIZE, b"", false);
     windows.reserve()?;
     windows.add(window(alloc, 1, false, taken));
     windows.dispose(0);
@@ -205,7 +205,7 @@ fn a_window_is_told_its_size_where_it_lies(rt: HostRuntime) -> Result<(), Fail> 
     let mut windows = WindowList::new(Ranks::new(alloc));
     let mut taken = stock.take(b"titled")?;
     assert!(rt; SIZE.is_in_range() && taken.bounds(SIZE).is_in_range());
-    taken.begin(SIZE);
+    taken.begin(SIZE, b"", false);
     assert!(rt; WIDE.is_in_range() && taken.bounds(WIDE).is_in_range());
     windows.reserve()?;
     windows.add(window(alloc, 1, false, taken));

@@ -188,7 +188,7 @@ impl WindowManager {
         } = addition;
         let Ticket { serial, title } = ticket;
         let mut taken = taken;
-        taken.begin(window.size);
+        taken.begin(window.size, window.title.as_slice(), window.go_away);
         let added = record_for(self.alloc, window, serial, title, taken);
         self.windows.add(added);
         self.commit(plan, touch.by);
