@@ -1,11 +1,11 @@
 -- The pixels of a window's frame, within a rectangle of the window.
-use Rattle.std.proofs.Common.{◌≡◌, Bool, true, false, ◌&&◌, if◌then◌else◌, [], ◌∷◌, Some, None, ℤ, pos, ◌+ℤ◌, ◌≤ℤ◌, ◌<ℤ◌, refl, sym, ap, ◌∙◌, subst, arith}
+use Rattle.std.proofs.Common.{◌≡◌, Bool, true, false, ◌&&◌, if◌then◌else◌, [], ◌∷◌, Some, None, ℤ, pos, ◌+ℤ◌, ◌≤ℤ◌, ◌<ℤ◌, refl, ap, ◌∙◌, arith}
 use Rattle.std.specs.Borrow.{Bor}
 use Rattle.std.proofs.lemmas.Bool.{and_parts}
 use Rattle.std.proofs.lemmas.Int.{ints}
 use Rattle.tb_geom.specs.declared.point.Point.{Point}
 use Rattle.tb_geom.specs.declared.rect.Rect.{Rect}
-use Rattle.tb_geom.specs.Points.{PixelSet, minus}
+use Rattle.tb_geom.specs.Points.{PixelSet}
 use Rattle.tb_geom.specs.Pixels.{Pixels, holds}
 use Rattle.tb_geom.specs.Rects.{rect_holds, is_in_range, is_coordinate, in_plane, moved_rect, is_empty_rect, empty_rect}
 use Rattle.tb_geom.proofs.RectLemmas.{sides_of, sides_rise, is_around}

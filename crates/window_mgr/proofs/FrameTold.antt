@@ -1,10 +1,9 @@
 -- A window manager that told a window's definition something, and drew the window's frame.
-use Rattle.std.proofs.Common.{◌≡◌, ℕ, zero, suc, ◌==◌, ◌<◌, ◌&&◌, not, Bool, true, false, if◌then◌else◌, List, [], ◌∷◌, length, get_or, map, None, Some, pos, refl, sym, ap, ◌∙◌, subst, arith}
-use Rattle.std.specs.Prelude.{All, slice_get, slice_set}
+use Rattle.std.proofs.Common.{◌≡◌, ℕ, zero, suc, ◌==◌, ◌<◌, ◌&&◌, not, Bool, true, false, if◌then◌else◌, List, [], ◌∷◌, length, get_or, map, Some, pos, refl, sym, ap, ◌∙◌, subst, arith}
+use Rattle.std.specs.Prelude.{slice_get}
 use Rattle.std.specs.List.{remove}
 use Rattle.std.proofs.lemmas.Bool.{and_parts, eqb-true, false≢true}
 use Rattle.std.proofs.lemmas.List.{get_or-set_same, length-set}
-use Rattle.std.proofs.lemmas.List.Elements.{All-head}
 use Rattle.tb_geom.specs.declared.point.Point.{Point}
 use Rattle.tb_geom.specs.declared.rect.Rect.{Rect}
 use Rattle.tb_geom.specs.Points.{PixelSet, minus}
@@ -46,7 +45,7 @@ use Rattle.window_mgr.proofs.Arranged.{between-is_below}
 use Rattle.window_mgr.proofs.FindLemmas.{not_among, record_at}
 use Rattle.window_mgr.proofs.FrameSteps.{noted, told_keeps, noted_edit, desk_noted, owner_same, frame_now, frame_was, others_same}
 use Rattle.window_mgr.proofs.PaintLemmas.{settled_in}
-use Rattle.window_mgr.proofs.PutIn.{put_in, taken_out, map-put, is_put, distinct_out}
+use Rattle.window_mgr.proofs.PutIn.{put_in, taken_out, map-put, is_put}
 use Rattle.window_mgr.proofs.Rearranged.{free, sound_now}
 use Rattle.window_mgr.proofs.Remarked as remarked
 use Rattle.window_mgr.proofs.Remarked.{unless}

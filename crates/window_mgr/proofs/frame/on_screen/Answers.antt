@@ -1,4 +1,4 @@
-use Rattle.std.proofs.Common.{◌≡◌, true, sym, ap, ◌∙◌}
+use Rattle.std.proofs.Common.{sym, ap, ◌∙◌}
 use Rattle.std.proofs.lemmas.Bool.{and_parts}
 use Rattle.tb_geom.specs.Points.{minus}
 use Rattle.tb_geom.specs.Rects.{is_in_range, moved_rect, rect_holds}

@@ -1,4 +1,4 @@
-use Rattle.std.proofs.Common.{◌≡◌, sym, ap, ◌∙◌, subst, arith}
+use Rattle.std.proofs.Common.{arith}
 use Rattle.window_mgr.proofs.EditSeats.{there_is}
 use Rattle.window_mgr.proofs.FrameTold as telling
 use Rattle.window_mgr.proofs.Remarked.{area_there, settled_there}
