@@ -41,3 +41,6 @@ pub mod PictureLemmas
 pub mod Remarked
 pub mod Refreshed
 pub mod UpdateSteps
+pub mod FrameLemmas
+pub mod FrameSteps
+pub mod FrameTold

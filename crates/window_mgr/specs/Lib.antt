@@ -16,6 +16,7 @@ pub mod Planned
 pub mod Edits
 pub mod AnySlots
 pub mod Updating
+pub mod FrameTelling
 pub mod Sizing
 pub mod Without
 pub mod Begin

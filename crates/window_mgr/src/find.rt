@@ -7,7 +7,7 @@ ghost use Rattle.def_iface.specs.Desk.{on_screen, in_bar};
 ghost use Rattle.window_mgr.specs.FullDesk.{layered_desk};
 ghost use Rattle.window_mgr.specs.Kept.{IsKept};
 ghost use Rattle.vis_update.specs.Areas.{area_has};
-ghost use Rattle.window_mgr.specs.Finding.{found_at, found_none, part_of_hit, front_of};
+ghost use Rattle.window_mgr.specs.Finding.{found_at, found_none, part_of_hit};
 ghost use Rattle.vis_update.specs.Records.{record_of};
 ghost use Rattle.window_mgr.specs.Records.{desk_of};
 ghost use Rattle.window_mgr.specs.Whole.{IsSettled};
@@ -69,13 +69,6 @@ impl WindowManager {
         ensures { result ≡ position (area_has point) self.now.areas.items }
     {
         self.areas.iter().position(|area| area.has(point))
-    }
-
-    /// The first visible window.
-    pub(crate) fn front_window(&self) -> Option<u64>
-        ensures { result ≡ front_of (desk_of ⟦<Taken as Defined>⟧.loan self.now []).windows }
-    {
-        self.windows.front()
     }
 }
 

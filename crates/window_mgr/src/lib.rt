@@ -33,6 +33,7 @@ mod dispose_window;
 mod draw;
 mod find;
 mod forms;
+mod frame;
 mod make;
 mod manager;
 mod new_window;
