@@ -31,7 +31,8 @@ use Rattle.window_update.specs.DeskStates.{DeskState, IsDeskUnchanged, narrowed}
 use Rattle.window_update.specs.UpdateSteps.{IsUpdateStep, IsToldOf}
 use Rattle.window_frame.specs.Followers.{followers}
 use Rattle.window_frame.specs.FrameSteps.{IsFrameStep}
-use Rattle.window_frame.proofs.FrameLaws.{are_told_keep, are_told_stay_right, frame_keeps, frame_stays_right}
+use Rattle.window_frame.proofs.FrameKeeps.{are_told_keep, frame_keeps}
+use Rattle.window_frame.proofs.FrameLaws.{are_told_stay_right, frame_stays_right}
 use Rattle.desk_toolbox.specs.ToolboxStates.{ToolboxState}
 use Rattle.desk_toolbox.specs.Run.{IsWindowAnswer, IsWindowMade, IsEventAnswer, IsAdmitted, replied, IsGated, IsStep, IsRunOfCalls, number_made, made, AreCounted}
 use Rattle.window_update.proofs.UpdateLaws.{update_stays_right}

@@ -30,7 +30,7 @@ use Rattle.window_update.proofs.Sides.{stays_sized}
 use Rattle.window_frame.specs.Followers.{IsTold, AreTold, listed}
 use Rattle.window_frame.specs.FrameRefusals.{frame_refusals}
 use Rattle.window_frame.specs.FrameSteps.{IsFrameStepOverAnySlots}
-use Rattle.window_frame.proofs.FrameLaws.{told_keeps}
+use Rattle.window_frame.proofs.FrameKeeps.{told_keeps}
 
 module _ {V : Type 0} {H : V → Type 0} (loan : Taken V H → Loan) (t : WindowManager V H) where
   -- ---- nothing changes

@@ -1,3 +1,4 @@
--- Lemmas on frames that are told and drawn, on the steps of their calls, and the law that these keep a right state right.
-pub mod FrameLaws
+-- Lemmas on what frames that are told and drawn leave as it is, on the steps of their calls, and the law that these keep a
+-- right state right.
+pub mod FrameKeeps
 pub mod FrameSteps

@@ -14,7 +14,6 @@
 mod follow;
 mod frames;
 mod goaway;
-pub mod laws;
 
 pub use desk_call::{FrameCall, FrameReply, GoAwayPoint, HiliteWindow, NewTitle};
 pub use follow::follow;
