@@ -19,7 +19,7 @@ use window_list::{Window, local};
 
 impl WindowManager {
     /// Whose the point of the screen is. OutOfRange where it lies outside the range of coordinates.
-    pub(crate) fn find_window(&self, point: Point) -> Result<Found, Refusal>
+    pub fn find_window(&self, point: Point) -> Result<Found, Refusal>
         requires { IsKept ⟦<Taken as Defined>⟧.loan self.now }
         ensures { result ≡ (if in_plane point
             then Ok (found_at (desk_of ⟦<Taken as Defined>⟧.loan self.now []) point)
