@@ -1,26 +1,23 @@
 -- A desk of which one window's definition was told something that leaves where the window stands.
-use Rattle.std.proofs.Common.{◌≡◌, ℕ, zero, suc, ◌==◌, Bool, false, if◌then◌else◌, List, [], ◌∷◌, map, None, Some, refl, sym, ap, ◌∙◌, subst}
+use Rattle.std.proofs.Common.{◌≡◌, ℕ, zero, suc, ◌==◌, Bool, false, if◌then◌else◌, List, [], ◌∷◌, map, Some, refl, sym, ap, ◌∙◌}
 use Rattle.tb_geom.specs.declared.point.Point.{Point}
-use Rattle.tb_geom.specs.Points.{PixelSet, minus}
+use Rattle.tb_geom.specs.Points.{minus}
 use Rattle.draw_port.specs.Ops.{picture_bit}
 use Rattle.def_iface.specs.declared.window_def.WindowChange.{WindowChange}
 use Rattle.def_iface.specs.declared.window_def.WindowChange.TheVariants.{Resized, Titled, Highlighted, Closable, Zoomed, Tracked}
 use Rattle.def_iface.specs.Meaning.{Definition, SameRegions}
 use Rattle.def_iface.specs.Desk as layers
 use Rattle.def_iface.specs.Desk.Part.{Picture}
-use Rattle.def_iface.specs.Owner.{owner, owner_among, owner_within, own_bit, frame_bit, content_bit}
+use Rattle.def_iface.specs.Owner.{owner, owner_among, owner_within, own_bit, frame_bit}
 use Rattle.def_iface.specs.Owner.Owner.{Bar, Frame}
-use Rattle.def_iface.specs.Change as plain
-use Rattle.def_iface.proofs.Changing.{stays_right}
 use Rattle.def_iface.proofs.Owning.{same_number}
 use Rattle.vis_update.specs.Records.{WindowRecord, layered_window}
 use Rattle.window_mgr.specs.declared.arrange.Activation.TheVariants.{Stays}
-use Rattle.window_mgr.specs.Arrange.{changed}
-use Rattle.window_mgr.specs.FrameTelling.{IsFrameTold, told_record}
-use Rattle.window_mgr.specs.FullDesk.{FullDesk, FullState, IsRightState, AreNumbered, layered_desk, layered_state}
+use Rattle.window_mgr.specs.FrameTelling.{told_record}
+use Rattle.window_mgr.specs.FullDesk.{FullDesk, layered_desk}
 use Rattle.window_mgr.proofs.Committing.{turned}
-use Rattle.window_mgr.proofs.PutIn.{put_in, IsFree, found_put, is_put, IsTakenOut, out_of, distinct_out}
-use Rattle.window_mgr.proofs.Rearranged.{IsEdit, free, free_now, others_found, edit_is_sound, numbered_now}
+use Rattle.window_mgr.proofs.PutIn.{put_in, found_put}
+use Rattle.window_mgr.proofs.Rearranged.{IsEdit, free, free_now, others_found}
 
 -- ---- the record of the window
 
@@ -91,35 +88,3 @@ module _ (before : FullDesk) (distinct : layers.IsDesk (layered_desk before)) (i
   -- another window's frame shows what it showed
   pub others_same : (n : ℕ) (p : Point) → (n == w.serial) ≡ false → own_bit (layered_desk before) (Frame n) p ≡ own_bit (layered_desk desk_noted) (Frame n) p
   others_same n p away = ap (λ o. frame_bit o p) (others_found before w.serial i i w v rest noted_edit Stays distinct n (turned n w.serial away))
-
-  -- that no pixel moves and none is drawn on is right of it
-  pub noted_is_sound : (stale image : PixelSet) → plain.IsSound plain.no_change (record { desk = layered_desk before; stale = stale; image = image }) (layered_desk desk_noted)
-  noted_is_sound stale image = edit_is_sound before w.serial i i w v rest noted_edit Stays distinct stale image None same_content
-    where
-      same_content : (part : layers.Part) (p : Point) → content_bit (Some (layered_window before.font w)) part p ≡ content_bit (Some (layered_window before.font v)) part p
-      same_content Picture p = refl
-
--- ---- a right state stays right
-
--- where a window's definition was told something, and the frame drawn
-pub frame_told_stays_right : (s : ℕ) (kept : WindowRecord → WindowRecord) (before after : FullState) → KeepsStand kept → IsRightState before → IsFrameTold s kept before after → IsRightState after
-frame_told_stays_right s kept before after keeps right done =
-    let w = done.window in
-    let d = done.definition in
-    let out : IsTakenOut s before.desk.windows w = out_of s before.desk.windows w done.found in
-    let others : IsFree before.desk.font s out.rest =
-    subst (λ n. IsFree before.desk.font n out.rest) out.serial (distinct_out before.desk.font out.place w out.rest (subst (λ ws. layers.AreWindows (map (layered_window before.desk.font) ws)) out.is right.plain.desk)).0 in
-    let title = (kept w).title in
-    let highlighted = (kept w).highlighted in
-    let edit = noted_edit before.desk right.plain.desk out.place w out.rest out.is title highlighted d done.told.regions in
-    let windows_are : changed s (λ x. record (kept x) { definition = d }) before.desk.windows ≡ put_in out.place (noted title highlighted d w) out.rest =
-    ap (changed s (λ x. record (kept x) { definition = d })) out.is
-    ∙ (is_put before.desk.font s out.place w out.rest out.serial others).changed_is (λ x. record (kept x) { definition = d })
-    ∙ (λ k. put_in out.place (record (keeps w k) { definition = d }) out.rest) in
-    let desk_is : after.desk ≡ desk_noted before.desk right.plain.desk out.place w out.rest out.is title highlighted d done.told.regions =
-    done.desk ∙ ap (λ ws. record before.desk { windows = ws }) windows_are in
-    let sound = noted_is_sound before.desk right.plain.desk out.place w out.rest out.is title highlighted d done.told.regions before.stale before.image in
-    record {
-      plain = stays_right plain.no_change (layered_state before) (layered_state after) right.plain (subst (plain.IsSound plain.no_change (layered_state before)) (sym (ap layered_desk desk_is)) sound) done.pixels;
-      numbered = subst (λ (x : FullDesk). AreNumbered x.next x.windows) (sym desk_is) (numbered_now before.desk w.serial out.place out.place w (noted title highlighted d w) out.rest edit Stays right.numbered);
-    }

@@ -44,3 +44,4 @@ pub mod UpdateSteps
 pub mod FrameLemmas
 pub mod FrameSteps
 pub mod FrameTold
+pub mod FrameRight
