@@ -13,7 +13,7 @@ use Rattle.window_frame.specs.Followers.{IsTold, AreTold}
 use Rattle.window_frame.specs.FrameSteps.{IsFrameStep, IsFrameEffect, IsBegunAt, with_flag, with_title}
 
 module _ {A : Type 0} (f : FullDesk → A) (apart : (d : FullDesk) (ws : List WindowRecord) → f (record d { windows = ws }) ≡ f d) where
-  frame_told_keeps : (s : ℕ) (kept : WindowRecord → WindowRecord) (before after : FullState) → IsFrameTold s kept before after → f after.desk ≡ f before.desk
+  pub frame_told_keeps : (s : ℕ) (kept : WindowRecord → WindowRecord) (before after : FullState) → IsFrameTold s kept before after → f after.desk ≡ f before.desk
   frame_told_keeps s kept before after told = ap f told.desk ∙ apart before.desk _
 
   pub told_keeps : (s : ℕ) (before after : FullState) → IsTold s before after → f after.desk ≡ f before.desk

@@ -8,8 +8,18 @@ use Rattle.tb_geom.specs.Rects.{in_plane}
 use Rattle.def_iface.specs.declared.taken.Taken.{Taken}
 use Rattle.def_iface.specs.Meaning.{Loan}
 use Rattle.def_iface.specs.Stocked.{SlotView}
+use Rattle.desk_call.specs.declared.activity.Standing.{Standing}
+use Rattle.desk_call.specs.declared.activity.Standing.TheVariants as standings
+use Rattle.desk_call.specs.Gates.{window_standing}
+use Rattle.desk_call.specs.declared.window.WindowCall.{WindowCall}
 use Rattle.desk_call.specs.declared.frame.FrameCall.{FrameCall}
+use Rattle.desk_call.specs.declared.activity.Activity.TheVariants.{Tracking}
+use Rattle.desk_call.specs.declared.frame.FrameCall.TheVariants as asks
 use Rattle.desk_call.specs.declared.frame.FrameReply.{FrameReply}
+use Rattle.desk_call.specs.declared.frame.FrameReply.TheVariants.{Done, Tracked}
+use Rattle.desk_call.specs.declared.frame.GoAwayPoint.{GoAwayPoint}
+use Rattle.desk_call.specs.declared.frame.HiliteWindow.{HiliteWindow}
+use Rattle.desk_call.specs.declared.frame.NewTitle.{NewTitle}
 use Rattle.vis_update.specs.Records.{WindowRecord, record_of}
 use Rattle.window_list.specs.declared.window.Window.{Window}
 use Rattle.window_mgr.specs.declared.manager.WindowManager.{WindowManager}
@@ -19,18 +29,50 @@ use Rattle.window_mgr.specs.FrameTelling.{IsFrameTold}
 use Rattle.window_mgr.specs.FullDesk.{FullDesk, FullState}
 use Rattle.window_mgr.specs.Kept.{IsKept}
 use Rattle.window_mgr.specs.Records.{desk_of, state_of}
-use Rattle.window_mgr.specs.Refused.{first_refusal, is_missing}
+use Rattle.window_mgr.specs.Refused.{first_refusal, is_missing, longest_text}
 use Rattle.window_mgr.specs.Updating.{LeavesState}
 use Rattle.window_mgr.specs.Whole.{IsWholeManager}
-use Rattle.window_mgr.proofs.EditSeats.{there_is}
+use Rattle.window_mgr.proofs.EditSeats.{same_at, there_is}
+use Rattle.window_mgr.proofs.FrameRight.{told_alike}
 use Rattle.window_mgr.proofs.TellLemmas as telling
+use Rattle.window_update.specs.declared.updates.OpenActivity.TheVariants.{Nothing, GoAway}
 use Rattle.window_update.specs.declared.updates.Updates.{Updates}
 use Rattle.window_update.specs.DeskStates.{IsDeskUnchanged, IsWholeUpdates, activity_of, desk_state}
-use Rattle.window_update.proofs.Sides.{stays_sized}
-use Rattle.window_frame.specs.Followers.{IsTold, AreTold, listed}
-use Rattle.window_frame.specs.FrameRefusals.{frame_refusals}
-use Rattle.window_frame.specs.FrameSteps.{IsFrameStepOverAnySlots}
-use Rattle.window_frame.proofs.FrameKeeps.{told_keeps}
+use Rattle.window_update.proofs.Sides.{SameSides, stays_sized}
+use Rattle.bit_map.specs.Bits.{Bits}
+use Rattle.window_frame.specs.Followers.{IsTold, AreTold, followers, followers_by, listed}
+use Rattle.window_frame.specs.FrameRefusals.{frame_refusals, is_tracking, tracking_refusals}
+use Rattle.window_frame.specs.FrameSteps.{IsFrameStepOverAnySlots, IsTrackedAt, in_go_away, with_flag, with_title}
+use Rattle.window_frame.proofs.FrameKeeps.{frame_told_keeps, told_keeps}
+
+-- ---- several windows
+
+-- windows that were told, and then others
+are_told_both : (ss others : List ℕ) (before middle after : FullState) → AreTold ss before middle → AreTold others middle after → AreTold (ss ++ others) before after
+are_told_both [] others before middle after same told = subst (λ m. AreTold others m after) same told
+are_told_both (s ∷ ss) others before middle after (first, one, rest) told = (first, one, are_told_both ss others first middle after rest told)
+
+followers_so : (standing : Standing) (former active : Option ℕ) → (standing ≡ standings.Asks → ⊥) → followers_by standing former active ≡ listed former ++ listed active
+followers_so standings.Asks former active none = absurd (none refl)
+followers_so (standings.Updates s) former active none = refl
+followers_so standings.Tracks former active none = refl
+followers_so standings.Changes former active none = refl
+
+pub followed : {V : Type 0} {H : V → Type 0} (loan : Taken V H → Loan) (t between new : WindowManager V H) (call : WindowCall) (standing : Standing) (former active was : Option ℕ)
+    → standing ≡ window_standing call → (standing ≡ standings.Asks → ⊥) → active ≡ was
+    → LeavesState loan (AreTold (listed former)) t between → LeavesState loan (AreTold (listed active)) between new → LeavesState loan (AreTold (followers call former was)) t new
+followed loan t between new call standing former active was is none same first second slots whole =
+    let one = first slots whole in
+    let other = second slots one.0 in
+    let both = are_told_both (listed former) (listed active) (state_of loan t slots) (state_of loan between slots) (state_of loan new slots) one.1 other.1 in
+    let named = ap (λ o. followers_by (window_standing call) former o) (sym same) ∙ ap (λ k. followers_by k former active) (sym is) ∙ followers_so standing former active none in
+    (other.0, subst (λ ss. AreTold ss (state_of loan t slots) (state_of loan new slots)) (sym named) both)
+
+-- a window manager that was whole over some slots, and is so over the same
+pub still_kept : {V : Type 0} {H : V → Type 0} (loan : Taken V H → Loan) (t new : WindowManager V H) (after : FullState → FullState → Type 0) → IsKept loan t → LeavesState loan after t new → IsKept loan new
+still_kept loan t new after kept leaves = record { slots = kept.slots; whole = (leaves kept.slots kept.whole).0 }
+
+-- ---- one window
 
 module _ {V : Type 0} {H : V → Type 0} (loan : Taken V H → Loan) (t : WindowManager V H) where
   -- ---- nothing changes
@@ -52,20 +94,113 @@ module _ {V : Type 0} {H : V → Type 0} (loan : Taken V H → Loan) (t : Window
     here : (x : Window V H) × (IsWindowAt t.windows.records.items at x)
     here = there_is t.windows.records.items at stands.0
 
-    pub found : record_with s (desk_of loan t []).windows ≡ Some (record_of loan here.0)
+    found : record_with s (desk_of loan t []).windows ≡ Some (record_of loan here.0)
     found = telling.found loan t kept s at here.0 stands.0 here.1 (stands.1 here.0 here.1)
 
     pub is_there : (slots : List SlotView) → is_missing s (desk_of loan t slots).windows ≡ false
     is_there slots = ap is_none found
 
     -- what is said of the window at its place is said of that of its number
-    pub by_number : (new : WindowManager V H) (kept_so : WindowRecord → WindowRecord) → ((w : Window V H) → IsWindowAt t.windows.records.items at w → LeavesState loan (IsFrameTold w.serial kept_so) t new)
-        → LeavesState loan (IsFrameTold s kept_so) t new
-    by_number new kept_so leaves = subst (λ n. LeavesState loan (IsFrameTold n kept_so) t new) (stands.1 here.0 here.1) (leaves here.0 here.1)
+    pub by_number : (new : WindowManager V H) (f : WindowRecord → WindowRecord) → ((w : Window V H) → IsWindowAt t.windows.records.items at w → LeavesState loan (IsFrameTold w.serial f) t new)
+        → LeavesState loan (IsFrameTold s f) t new
+    by_number new f leaves = subst (λ n. LeavesState loan (IsFrameTold n f) t new) (stands.1 here.0 here.1) (leaves here.0 here.1)
+
+    -- so its definition was told something that its record does not keep
+    pub told_apart : (new : WindowManager V H) → ((w : Window V H) → IsWindowAt t.windows.records.items at w → LeavesState loan (IsFrameTold w.serial (λ x. x)) t new)
+        → LeavesState loan (IsTold s) t new
+    told_apart new leaves slots whole = let left = by_number new (λ x. x) leaves slots whole in (left.0, inr left.1)
+
+    -- or what its record says already
+    pub told_again : (new : WindowManager V H) (x : Window V H) → IsWindowAt t.windows.records.items at x
+        → ((w : Window V H) → IsWindowAt t.windows.records.items at w → LeavesState loan (IsFrameTold w.serial (with_flag x.highlighted)) t new)
+        → LeavesState loan (AreTold (s ∷ [])) t new
+    told_again new x x_is leaves slots whole =
+        let left = by_number new (with_flag x.highlighted) leaves slots whole in
+        let same = same_at t.windows.records.items at here.0 x stands.0 here.1 x_is in
+        let told = told_alike s (with_flag x.highlighted) (λ w. w) (record_of loan here.0) (state_of loan t slots) (state_of loan new slots) found (ap (λ (y : Window V H). record (record_of loan here.0) { highlighted = y.highlighted }) (sym same)) left.1 in
+        (left.0, (state_of loan new slots, inr told, refl))
+
+  -- ---- titles and highlighting
+
+  module _ (kept : IsKept loan t) (n : NewTitle) (at : ℕ) (stands : StandsAt t.windows.records.items n.window at) (title : List ℕ) (same : title ≡ n.title) where
+    is_long : (b : Bool) → nat_lt longest_text (length title) ≡ b → nat_lt longest_text (length n.title) ≡ b
+    is_long b e = subst (λ (l : List ℕ). nat_lt longest_text (length l) ≡ b) same e
+
+    pub too_long : (u : Updates) → nat_lt longest_text (length title) ≡ true → IsFrameStepOverAnySlots loan (asks.SetTitle n) (Err TooLong) t u t u
+    too_long u e = refused u (asks.SetTitle n) TooLong
+        (λ slots. λ i. first_refusal ((is_there kept n.window at stands slots i, NoSuchWindow) ∷ (is_long true e i, TooLong) ∷ []))
+
+    pub titled : (u : Updates) (new : WindowManager V H) → nat_lt longest_text (length title) ≡ false
+        → ((w : Window V H) → IsWindowAt t.windows.records.items at w → LeavesState loan (IsFrameTold w.serial (with_title title)) t new)
+        → IsFrameStepOverAnySlots loan (asks.SetTitle n) (Ok Done) t u new u
+    titled u new e leaves slots whole =
+        let left = by_number kept n.window at stands new (with_title title) leaves slots whole in (
+          left.0,
+          (
+            λ i. first_refusal ((is_there kept n.window at stands slots i, NoSuchWindow) ∷ (is_long false e i, TooLong) ∷ []),
+            (
+              record { activity = refl; begun = refl },
+              subst (λ (l : List ℕ). IsFrameTold n.window (with_title l) (state_of loan t slots) (state_of loan new slots)) same left.1,
+            ),
+          ),
+        )
+
+  pub highlighted : (kept : IsKept loan t) (h : HiliteWindow) (at : ℕ) → StandsAt t.windows.records.items h.window at → (u : Updates) (new : WindowManager V H)
+      → ((w : Window V H) → IsWindowAt t.windows.records.items at w → LeavesState loan (IsFrameTold w.serial (with_flag h.highlighted)) t new)
+      → IsFrameStepOverAnySlots loan (asks.Hilite h) (Ok Done) t u new u
+  highlighted kept h at stands u new leaves slots whole =
+      let left = by_number kept h.window at stands new (with_flag h.highlighted) leaves slots whole in
+      (left.0, (λ i. first_refusal ((is_there kept h.window at stands slots i, NoSuchWindow) ∷ []), (record { activity = refl; begun = refl }, left.1)))
+
+  -- ---- the tracking of a go-away box
+
+  module _ (kept : IsKept loan t) (g : GoAwayPoint) (at : ℕ) (stands : StandsAt t.windows.records.items g.window at) where
+    refused_or_not : (slots : List SlotView) (u : Updates) (b : Bool) → in_plane g.point ≡ b → first_refusal (frame_refusals (asks.TrackGoAway g) (activity_of u.current) (desk_of loan t slots)) ≡ (if b then None else Some OutOfRange)
+    refused_or_not slots u true e = λ i. first_refusal ((is_there kept g.window at stands slots i, NoSuchWindow) ∷ (not (e i), OutOfRange) ∷ [])
+    refused_or_not slots u false e = λ i. first_refusal ((is_there kept g.window at stands slots i, NoSuchWindow) ∷ (not (e i), OutOfRange) ∷ [])
+
+    pub no_point : (u : Updates) (e : Refusal) → in_plane g.point ≡ false → e ≡ OutOfRange → IsFrameStepOverAnySlots loan (asks.TrackGoAway g) (Err e) t u t u
+    no_point u e outside is = subst (λ f. IsFrameStepOverAnySlots loan (asks.TrackGoAway g) (Err f) t u t u) (sym is) (refused u (asks.TrackGoAway g) OutOfRange (λ slots. refused_or_not slots u false outside))
+
+    pub begun : (u after : Updates) (new : WindowManager V H) → in_plane g.point ≡ true → true ≡ in_go_away g.window (desk_of loan t []) g.point → after.current ≡ GoAway g.window
+        → LeavesState loan (IsTold g.window) t new → IsFrameStepOverAnySlots loan (asks.TrackGoAway g) (Ok (Tracked true)) t u new after
+    begun u after new inside is opened leaves slots whole =
+        let left = leaves slots whole in (left.0, (refused_or_not slots u true inside, (is, (ap activity_of opened, left.1))))
+
+    pub not_begun : (u : Updates) → in_plane g.point ≡ true → false ≡ in_go_away g.window (desk_of loan t []) g.point → IsFrameStepOverAnySlots loan (asks.TrackGoAway g) (Ok (Tracked false)) t u t u
+    not_begun u inside is slots whole = (whole, (refused_or_not slots u true inside, (is, unchanged u slots)))
+
+  module _ (u : Updates) (w : ℕ) (p : Point) (inside : Bool) (new : WindowManager V H) (open_is : Tracking w ≡ activity_of u.current) (planar : in_plane p ≡ true) (is : inside ≡ in_go_away w (desk_of loan t []) p) (leaves : LeavesState loan (IsTold w) t new) where
+    free : first_refusal (tracking_refusals (activity_of u.current) p) ≡ None
+    free i = first_refusal ((not (is_tracking (sym open_is i)), NotBusy) ∷ (not (planar i), OutOfRange) ∷ [])
+
+    tracked_at : (after : Updates) (slots : List SlotView) (whole : IsWholeManager loan t slots) → IsTrackedAt p inside (desk_state loan t u slots) (desk_state loan new after slots)
+    tracked_at after slots whole = record { window = w; tracked = sym open_is; answer = is; told = (leaves slots whole).1 }
+
+    pub stepped : IsFrameStepOverAnySlots loan (asks.StepGoAway p) (Ok (Tracked inside)) t u new u
+    stepped slots whole = ((leaves slots whole).0, (free, (record { activity = refl; begun = refl }, tracked_at u slots whole)))
+
+    pub ended : (after : Updates) → after.current ≡ Nothing → IsFrameStepOverAnySlots loan (asks.EndGoAway p) (Ok (Tracked inside)) t u new after
+    ended after idle slots whole = ((leaves slots whole).0, (free, (ap activity_of idle, tracked_at after slots whole)))
 
   -- ---- the screen keeps its sides
 
-  pub stays_whole : (s : ℕ) (kept : IsKept loan t) (new : WindowManager V H) (u : Updates) → LeavesState loan (IsTold s) t new → IsWholeUpdates t u → IsWholeUpdates new u
-  stays_whole s kept new u leaves whole =
-      let told = (leaves kept.slots kept.whole).1 in
-      stays_sized loan t new u kept.slots kept.slots whole (record { width = told_keeps (λ d. d.width) (λ d ws. refl) s _ _ told; height = told_keeps (λ d. d.height) (λ d ws. refl) s _ _ told })
+  sides_stay : (kept : IsKept loan t) (new : WindowManager V H) (u : Updates) (done : FullState → FullState → Type 0) → ((before after : FullState) → done before after → SameSides before.desk after.desk)
+      → LeavesState loan done t new → IsWholeUpdates t u → IsWholeUpdates new u
+  sides_stay kept new u done keeps leaves whole = stays_sized loan t new u kept.slots kept.slots whole (keeps _ _ (leaves kept.slots kept.whole).1)
+
+  pub told_stays_whole : (kept : IsKept loan t) (s : ℕ) (new : WindowManager V H) (u after : Updates) → after.buffer ≡ u.buffer → LeavesState loan (IsTold s) t new → IsWholeUpdates t u → IsWholeUpdates new after
+  told_stays_whole kept s new u after same leaves whole =
+      let stays = sides_stay kept new u (IsTold s) (λ before later told. record { width = told_keeps (λ d. d.width) (λ d ws. refl) s before later told; height = told_keeps (λ d. d.height) (λ d ws. refl) s before later told }) leaves whole in
+      record { width = ap (λ (b : Bits). b.width) same ∙ stays.width; height = ap (λ (b : Bits). b.height) same ∙ stays.height }
+
+  pub frame_stays_whole : (kept : IsKept loan t) (s at : ℕ) → StandsAt t.windows.records.items s at → (f : WindowRecord → WindowRecord) (new : WindowManager V H) (u : Updates)
+      → ((w : Window V H) → IsWindowAt t.windows.records.items at w → LeavesState loan (IsFrameTold w.serial f) t new) → IsWholeUpdates t u → IsWholeUpdates new u
+  frame_stays_whole kept s at stands f new u leaves whole =
+      sides_stay kept new u (IsFrameTold s f) (λ before later told. record { width = frame_told_keeps (λ d. d.width) (λ d ws. refl) s f before later told; height = frame_told_keeps (λ d. d.height) (λ d ws. refl) s f before later told })
+      (by_number kept s at stands new f leaves) whole
+
+-- the step of a call is that of the call that it is
+pub of_call : {V : Type 0} {H : V → Type 0} (loan : Taken V H → Loan) (t new : WindowManager V H) (u after : Updates) (call other : FrameCall) (result : Result FrameReply Refusal) → call ≡ other
+    → IsFrameStepOverAnySlots loan other result t u new after → IsFrameStepOverAnySlots loan call result t u new after
+of_call loan t new u after call other result is step = subst (λ k. IsFrameStepOverAnySlots loan k result t u new after) (sym is) step

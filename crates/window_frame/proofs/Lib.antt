@@ -1,4 +1,5 @@
 -- Lemmas on what frames that are told and drawn leave as it is, on the steps of their calls, and the law that these keep a
 -- right state right.
 pub mod FrameKeeps
+pub mod FrameLaws
 pub mod FrameSteps

@@ -47,7 +47,7 @@ IsBegunAt s false before after = IsDeskUnchanged before after
 
 -- tracking of some window goes on at this point, or ends there: its definition is told whether that lies in the box, or that
 -- nothing is tracked any more
-record pub IsTrackedAt (p : Point) (inside : Bool) (before after : DeskState) : Type 0 where
+pub record IsTrackedAt (p : Point) (inside : Bool) (before after : DeskState) : Type 0 where
   pub window : ℕ
   pub tracked : before.activity ≡ Tracking window
   pub answer : inside ≡ in_go_away window before.windows.desk p

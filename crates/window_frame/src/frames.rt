@@ -1,7 +1,8 @@
 //! The calls about a frame.
-ghost use Rattle.std.specs.Prelude.{◌≡◌};
+ghost use Rattle.std.specs.Prelude.{◌≡◌, length, nat_lt};
 ghost use Rattle.desk_call.specs.declared.frame.FrameCall.TheVariants as asks;
 ghost use Rattle.window_mgr.specs.Kept.{IsKept};
+ghost use Rattle.window_mgr.specs.Refused.{longest_text};
 ghost use Rattle.window_update.specs.declared.updates.Updates.{Updates};
 ghost use Rattle.window_update.specs.DeskStates.{IsWholeUpdates};
 ghost use Rattle.window_frame.specs.FrameSteps.{IsFrameStepOverAnySlots};
@@ -49,11 +50,18 @@ fn set_title(windows: &mut WindowManager, new: &NewTitle<'_>) -> Result<FrameRep
         return Err(Refusal::NoSuchWindow);
     };
     let title = new.title.as_slice();
-    if LONGEST_TITLE < title.len() {
+    if is_too_long(title) {
         return Err(Refusal::TooLong);
     }
     windows.tell_frame(at, WindowChange::Titled(title));
     Ok(FrameReply::Done)
+}
+
+/// Whether a title has too many bytes.
+fn is_too_long(title: &[u8]) -> bool
+    ensures { result ≡ nat_lt longest_text (length title.now) }
+{
+    LONGEST_TITLE < title.len()
 }
 
 /// Highlights a window, or not.

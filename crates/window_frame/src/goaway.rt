@@ -1,6 +1,5 @@
 //! The tracking of a go-away box.
-ghost use Rattle.std.specs.Prelude.{◌≡◌, if◌then◌else◌, Ok, Err, []};
-ghost use Rattle.tb_geom.specs.declared.refusal.Refusal.TheVariants.{OutOfRange};
+ghost use Rattle.std.specs.Prelude.{◌≡◌, MatchResult, true, false, []};
 ghost use Rattle.tb_geom.specs.Rects.{in_plane};
 ghost use Rattle.desk_call.specs.declared.frame.FrameCall.TheVariants as asks;
 ghost use Rattle.window_mgr.specs.Kept.{IsKept};
@@ -29,13 +28,13 @@ pub(crate) fn track_go_away(
     ensures step { IsFrameStepOverAnySlots ⟦<Taken as Defined>⟧.loan (asks.TrackGoAway pressed) result
         windows.old updates.old windows.new updates.new }
 {
-    if windows.find(pressed.window).is_none() {
+    let Some(at) = windows.find(pressed.window) else {
         return Err(Refusal::NoSuchWindow);
-    }
+    };
     match is_inside(windows, pressed.window, pressed.point) {
         Ok(true) => {
             updates.begin_tracking(pressed.window);
-            tell_tracked(windows, pressed.window, true);
+            windows.tell_frame(at, WindowChange::Tracked(true));
             Ok(FrameReply::Tracked(true))
         }
         Ok(false) => Ok(FrameReply::Tracked(false)),
@@ -95,8 +94,9 @@ pub(crate) fn end_go_away(
 /// Whether FindWindow answers the go-away box of this window at the point. OutOfRange where the point is out of range.
 fn is_inside(windows: &WindowManager, window: u64, point: Point) -> Result<bool, Refusal>
     requires { IsKept ⟦<Taken as Defined>⟧.loan windows.now }
-    ensures { result ≡ (if in_plane point then Ok (in_go_away window (desk_of ⟦<Taken as Defined>⟧.loan windows.now []) point)
-        else Err OutOfRange) }
+    ensures { MatchResult result
+        (λ inside. (in_plane point ≡ true) × (inside ≡ in_go_away window (desk_of ⟦<Taken as Defined>⟧.loan windows.now []) point))
+        (λ e. (in_plane point ≡ false) × (e ≡ Refusal.OutOfRange)) }
 {
     let found = windows.find_window(point)?;
     Ok(is_go_away(found.part) && found.window == Some(window))

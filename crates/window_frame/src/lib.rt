@@ -11,10 +11,11 @@
 //! these calls takes memory.
 #![tactic(auto)]
 
-mod follow;
+mod followers;
 mod frames;
 mod goaway;
+pub mod laws;
 
 pub use desk_call::{FrameCall, FrameReply, GoAwayPoint, HiliteWindow, NewTitle};
-pub use follow::follow;
+pub use followers::follow;
 pub use frames::make;

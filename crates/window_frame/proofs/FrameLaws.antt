@@ -1,0 +1,55 @@
+-- What is right stays right where definitions are told.
+use Rattle.std.proofs.Common.{◌≡◌, ◌⊎◌, inl, inr, ℕ, Bool, true, false, List, [], ◌∷◌, Result, Ok, Err, refl, sym, ap, ◌∙◌, subst}
+use Rattle.tb_geom.specs.declared.refusal.Refusal.{Refusal}
+use Rattle.desk_call.specs.declared.frame.FrameCall.{FrameCall}
+use Rattle.desk_call.specs.declared.frame.FrameCall.TheVariants.{SetTitle, Hilite, TrackGoAway, StepGoAway, EndGoAway}
+use Rattle.desk_call.specs.declared.frame.FrameReply.{FrameReply}
+use Rattle.desk_call.specs.declared.frame.FrameReply.TheVariants.{Done, Tracked}
+use Rattle.vis_update.specs.Records.{WindowRecord}
+use Rattle.window_mgr.specs.Effects.{IsUnchanged}
+use Rattle.window_mgr.specs.FrameTelling.{IsFrameTold}
+use Rattle.window_mgr.specs.FullDesk.{FullDesk, FullState, IsRightState}
+use Rattle.window_mgr.proofs.FrameRight.{KeepsLayers, frame_told_stays_right}
+use Rattle.window_mgr.proofs.Running.{unchanged_stays_right}
+use Rattle.window_update.specs.DeskStates.{DeskState}
+use Rattle.window_frame.specs.Followers.{IsTold, AreTold}
+use Rattle.window_frame.specs.FrameSteps.{IsFrameStep, IsFrameEffect, IsBegunAt, with_flag, with_title}
+
+-- ---- what is right stays so
+
+keeps_all : KeepsLayers (λ w. w)
+keeps_all = record { serial = λ w. refl; place = λ w. refl; size = λ w. refl; shown = λ w. refl; picture = λ w. refl; origin = λ w. refl }
+
+keeps_titled : (title : List ℕ) → KeepsLayers (with_title title)
+keeps_titled title = record { serial = λ w. refl; place = λ w. refl; size = λ w. refl; shown = λ w. refl; picture = λ w. refl; origin = λ w. refl }
+
+keeps_flagged : (on : Bool) → KeepsLayers (with_flag on)
+keeps_flagged on = record { serial = λ w. refl; place = λ w. refl; size = λ w. refl; shown = λ w. refl; picture = λ w. refl; origin = λ w. refl }
+
+told_stays_right : (s : ℕ) (before after : FullState) → IsRightState before → IsTold s before after → IsRightState after
+told_stays_right s before after right (inl (missing, same)) = subst IsRightState (sym same) right
+told_stays_right s before after right (inr told) = frame_told_stays_right s (λ w. w) before after keeps_all right told
+
+pub are_told_stay_right : (ss : List ℕ) (before after : FullState) → IsRightState before → AreTold ss before after → IsRightState after
+are_told_stay_right [] before after right same = subst IsRightState (sym same) right
+are_told_stay_right (s ∷ ss) before after right (middle, told, rest) = are_told_stay_right ss middle after (told_stays_right s before middle right told) rest
+
+begun_stays_right : (s : ℕ) (inside : Bool) (before after : DeskState) → IsRightState before.windows → IsBegunAt s inside before after → IsRightState after.windows
+begun_stays_right s true before after right (tracked, told) = told_stays_right s before.windows after.windows right told
+begun_stays_right s false before after right same = unchanged_stays_right before.windows after.windows right same.windows
+
+effect_stays_right : (call : FrameCall) (answer : FrameReply) (before after : DeskState) → IsRightState before.windows → IsFrameEffect call answer before after → IsRightState after.windows
+effect_stays_right (SetTitle n) Done before after right (same, told) = frame_told_stays_right n.window (with_title n.title) before.windows after.windows (keeps_titled n.title) right told
+effect_stays_right (Hilite h) Done before after right (same, told) = frame_told_stays_right h.window (with_flag h.highlighted) before.windows after.windows (keeps_flagged h.highlighted) right told
+effect_stays_right (TrackGoAway g) (Tracked inside) before after right (is, begun) = begun_stays_right g.window inside before after right begun
+effect_stays_right (StepGoAway p) (Tracked inside) before after right (same, tracked) = told_stays_right tracked.window before.windows after.windows right tracked.told
+effect_stays_right (EndGoAway p) (Tracked inside) before after right (idle, tracked) = told_stays_right tracked.window before.windows after.windows right tracked.told
+effect_stays_right (SetTitle n) (Tracked inside) before after right wrong = absurd wrong
+effect_stays_right (Hilite h) (Tracked inside) before after right wrong = absurd wrong
+effect_stays_right (TrackGoAway g) Done before after right wrong = absurd wrong
+effect_stays_right (StepGoAway p) Done before after right wrong = absurd wrong
+effect_stays_right (EndGoAway p) Done before after right wrong = absurd wrong
+
+pub frame_stays_right : (call : FrameCall) (answer : Result FrameReply Refusal) (before after : DeskState) → IsRightState before.windows → IsFrameStep call answer before after → IsRightState after.windows
+frame_stays_right call (Ok answer) before after right step = effect_stays_right call answer before after right step.1
+frame_stays_right call (Err e) before after right step = unchanged_stays_right before.windows after.windows right step.1.windows
