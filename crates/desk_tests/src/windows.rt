@@ -2,7 +2,7 @@
 ghost use Rattle.std.specs.Prelude.{◌≡◌, ◌<◌, length, OnOk};
 
 use crate::titled_window::Titled;
-use def_iface::{Size, Stock, Taken, WindowDef};
+use def_iface::{Size, Stock, Taken, WindowChange, WindowDef};
 use draw_port::{Op, Picture, Shape};
 use std::alloc::Global;
 use std::test::Fail;
@@ -95,13 +95,6 @@ fn change(windows: &mut WindowList, at: usize) -> Result<(), Refusal> {
     there(windows, at)?;
     windows.set_stand(at, point!(7, -8), true);
     there(windows, at)?;
-    windows.set_highlighted(at, true);
-    there(windows, at)?;
-    let mut title = Title::new();
-    if title.try_extend_from_slice(b"new").is_ok() {
-        windows.set_title(at, title);
-    }
-    there(windows, at)?;
     let operation = Op {
         clip: None,
         shape: Shape::Invert(rect!(0, 0, 1, 1)),
@@ -116,8 +109,7 @@ fn is_changed(windows: &WindowList, at: usize) -> bool {
     }
     let window = windows.at(at);
     let moved = window.place == point!(7, -8);
-    let seen = window.shown && window.highlighted && window.title.as_slice() == b"new".as_slice();
-    moved && seen && window.picture.ops().len() == 1
+    moved && window.shown && window.picture.ops().len() == 1
 }
 
 /// Moves the window at a place to the front, and takes the last of so many out.
@@ -160,7 +152,7 @@ fn windows_lie_from_front_to_back(rt: HostRuntime) -> Result<(), Fail> {
     assert!(rt; is_changed(&windows, 0) && windows.front() == Some(3));
     let behind = reorder(&mut windows, 1, 2)?;
     assert!(rt; behind.serial == 1);
-    assert!(rt; are(&windows, &[(2, false), (3, true)]));
+    assert!(rt; are(&windows, &[(2, false), (3, false)]));
     Ok(())
 }
 
@@ -211,5 +203,41 @@ fn a_window_is_told_its_size_where_it_lies(rt: HostRuntime) -> Result<(), Fail> 
     windows.add(window(alloc, 1, false, taken));
     windows.resize(0, WIDE);
     assert!(rt; windows.len() == 1 && windows.at(0).size.width == WIDE.width);
+    Ok(())
+}
+
+#[test]
+fn a_window_is_told_its_title_where_it_lies(rt: HostRuntime) -> Result<(), Fail> {
+    let alloc = rt.alloc();
+    let mut stock = Stock::new(alloc);
+    let first: Box<dyn WindowDef> = Box::new(alloc, Titled::new())?;
+    assert!(rt; stock.add(b"titled", first).is_ok());
+    let mut windows = WindowList::new(Ranks::new(alloc));
+    let mut taken = stock.take(b"titled")?;
+    assert!(rt; SIZE.is_in_range() && taken.bounds(SIZE).is_in_range());
+    taken.begin(SIZE, b"", false);
+    windows.reserve()?;
+    windows.add(window(alloc, 1, false, taken));
+    let damage = windows.tell(0, WindowChange::Titled(b"new"));
+    assert!(rt; damage == SIZE.rect());
+    assert!(rt; windows.len() == 1 && windows.at(0).title.as_slice() == b"new".as_slice());
+    Ok(())
+}
+
+#[test]
+fn a_window_is_told_its_highlighting_where_it_lies(rt: HostRuntime) -> Result<(), Fail> {
+    let alloc = rt.alloc();
+    let mut stock = Stock::new(alloc);
+    let first: Box<dyn WindowDef> = Box::new(alloc, Titled::new())?;
+    assert!(rt; stock.add(b"titled", first).is_ok());
+    let mut windows = WindowList::new(Ranks::new(alloc));
+    let mut taken = stock.take(b"titled")?;
+    assert!(rt; SIZE.is_in_range() && taken.bounds(SIZE).is_in_range());
+    taken.begin(SIZE, b"", false);
+    windows.reserve()?;
+    windows.add(window(alloc, 1, false, taken));
+    let damage = windows.tell(0, WindowChange::Highlighted(true));
+    assert!(rt; damage == SIZE.rect());
+    assert!(rt; windows.len() == 1 && windows.at(0).highlighted);
     Ok(())
 }

@@ -17,7 +17,7 @@ told_record (Highlighted b) w = record w { highlighted = b }
 told_record _ w = w
 
 -- the definition of the window of this serial was told something: it is live, and its size and its regions are as before.
--- The window's record kept this of it. What the frame shows now is drawn wherever it shows, and no other pixel changed.
+-- The window's record keeps this of it. Where the window's frame shows, it is drawn as it is now; no other pixel changed.
 pub record IsFrameTold (s : ℕ) (kept : WindowRecord → WindowRecord) (before after : FullState) : Type 0 where
   pub window : WindowRecord
   pub definition : Definition

@@ -3,8 +3,6 @@ ghost use Rattle.std.specs.Prelude.{◌≡◌, if◌then◌else◌, Ok, Err, Som
 ghost use Rattle.tb_geom.specs.declared.refusal.Refusal.TheVariants.{OutOfRange};
 ghost use Rattle.tb_geom.specs.Points.{minus};
 ghost use Rattle.tb_geom.specs.Rects.{in_plane};
-ghost use Rattle.def_iface.specs.Desk.{on_screen, in_bar};
-ghost use Rattle.window_mgr.specs.FullDesk.{layered_desk};
 ghost use Rattle.window_mgr.specs.Kept.{IsKept};
 ghost use Rattle.vis_update.specs.Areas.{area_has};
 ghost use Rattle.window_mgr.specs.Finding.{found_at, found_none, part_of_hit};
@@ -38,30 +36,16 @@ impl WindowManager {
         requires in_plane { in_plane point ≡ true }
         ensures { result ≡ found_at (desk_of ⟦<Taken as Defined>⟧.loan self.now []) point }
     {
-        if !self.is_on_screen(point) {
+        if !self.screen.bounds().contains(point) {
             return found_none(WindowPart::InDesk);
         }
-        if self.is_in_bar(point) {
+        if point.v < self.bar {
             return found_none(WindowPart::InMenuBar);
         }
         match self.window_at(point) {
             Some(at) => found(self.windows.at(at), point),
             None => found_none(WindowPart::InDesk),
         }
-    }
-
-    /// Whether the screen has the pixel.
-    fn is_on_screen(&self, point: Point) -> bool
-        ensures { result ≡ on_screen (layered_desk (desk_of ⟦<Taken as Defined>⟧.loan self.now [])) point }
-    {
-        self.screen.bounds().contains(point)
-    }
-
-    /// Whether the pixel, if it is the screen's, is the menu bar's.
-    fn is_in_bar(&self, point: Point) -> bool
-        ensures { result ≡ in_bar (layered_desk (desk_of ⟦<Taken as Defined>⟧.loan self.now [])) point }
-    {
-        point.v < self.bar
     }
 
     /// The place of the window that owns the pixel.
