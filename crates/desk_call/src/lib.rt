@@ -17,5 +17,5 @@ pub use event::{EventCall, EventReply, FlushEvents, PostEvent};
 pub use update::{AreaRef, LayerDraw, Layers, UpdateCall, WindowArea};
 pub use window::{
     Drawing, Found, MoveWindow, NewPicture, NewWindow, PictureRef, ScrollPicture, SendBehind,
-    ShowHide, SizeWindow, WindowCall, WindowInfo, WindowPart, WindowReply,
+    ShowHide, SizeWindow, WindowCall, WindowInfo, WindowPart, WindowReply, Zoom, ZoomWindow,
 };
