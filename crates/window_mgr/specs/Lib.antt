@@ -4,6 +4,7 @@ pub mod FullDesk
 pub mod Records
 pub mod Finding
 pub mod Telling
+pub mod Placings
 pub mod Refused
 pub mod Whole
 pub mod Kept

@@ -1,7 +1,5 @@
 //! The calls that arrange windows: each says how one window is put anew, and what becomes active.
-ghost use Rattle.std.specs.Prelude.{◌≡◌, [], Some, MatchResult, ◌+◌, ◌&&◌, nat_lt, if◌then◌else◌, true};
-ghost use Rattle.tb_geom.specs.Points.{minus};
-ghost use Rattle.tb_geom.specs.Rects.{in_plane};
+ghost use Rattle.std.specs.Prelude.{◌≡◌, [], Some, MatchResult, ◌+◌, nat_lt, if◌then◌else◌};
 ghost use Rattle.desk_call.specs.declared.window.WindowCall.TheVariants as asks;
 ghost use Rattle.window_mgr.specs.declared.arrange.Activates.TheVariants.{Nothing};
 ghost use Rattle.window_mgr.specs.AnySlots.{IsStepOverAnySlots};
@@ -13,38 +11,29 @@ ghost use Rattle.window_mgr.specs.Refused.{first_refusal, behind_refusals};
 use crate::arrange::{Activates, Edit};
 use crate::{MoveWindow, SendBehind, ShowHide, WindowManager, WindowReply};
 use def_iface::{Defined, Taken};
-use tb_geom::{Point, Refusal};
+use tb_geom::Refusal;
 use vis_update::is_placed_with;
 use window_list::local;
 
 impl WindowManager {
-    /// Brings a window to the front; a visible one becomes active.
-    pub(crate) fn select(&mut self, window: u64) -> Result<WindowReply, Refusal>
+    /// Brings a window to the front; a visible one becomes active where it is selected.
+    pub(crate) fn bring_to_front(
+        &mut self,
+        window: u64,
+        select: bool,
+    ) -> Result<WindowReply, Refusal>
         requires { IsKept ⟦<Taken as Defined>⟧.loan self.old }
-        ensures { IsStepOverAnySlots ⟦<Taken as Defined>⟧.loan (asks.Select window) result self.old self.new }
+        ensures { IsStepOverAnySlots ⟦<Taken as Defined>⟧.loan
+            (if select then asks.Select window else asks.BringToFront window) result self.old self.new }
     {
         let Some(at) = self.find(window) else {
             return Err(Refusal::NoSuchWindow);
         };
         let found = self.windows.at(at);
-        let activates = if_so(found.shown, Activates::Itself);
+        let activates = if_so(select, if_so(found.shown, Activates::Itself));
         let mut edit = Edit::of(at, found);
         edit.to = 0;
         self.rearrange(edit, activates, None)
-    }
-
-    /// Brings a window to the front.
-    pub(crate) fn bring_to_front(&mut self, window: u64) -> Result<WindowReply, Refusal>
-        requires { IsKept ⟦<Taken as Defined>⟧.loan self.old }
-        ensures { IsStepOverAnySlots ⟦<Taken as Defined>⟧.loan (asks.BringToFront window) result self.old self.new }
-    {
-        let Some(at) = self.find(window) else {
-            return Err(Refusal::NoSuchWindow);
-        };
-        let found = self.windows.at(at);
-        let mut edit = Edit::of(at, found);
-        edit.to = 0;
-        self.rearrange(edit, Activates::Nothing, None)
     }
 
     /// Puts a window behind another or behind all.
@@ -96,10 +85,11 @@ impl WindowManager {
         if !is_placed_with(moved.place, found.size, &found.taken) {
             return Err(Refusal::OutOfRange);
         }
-        let activates = if_so(both(moved.select, found.shown), Activates::Itself);
-        let by = way(found.place, moved.place);
+        let activates = if_so(moved.select, if_so(found.shown, Activates::Itself));
+        let by = local(moved.place, found.place);
         let mut edit = Edit::of(at, found);
         edit.place = moved.place;
+        edit.user_state = None;
         edit.to = place_in(moved.select, at);
         self.rearrange(edit, activates, Some(by))
     }
@@ -156,13 +146,6 @@ fn if_so(holds: bool, activates: Activates) -> Activates
     if holds { activates } else { Activates::Nothing }
 }
 
-/// Whether both hold.
-fn both(one: bool, other: bool) -> bool
-    ensures { result ≡ (one && other) }
-{
-    one && other
-}
-
 /// The place in the list, counted without a window, of what goes behind another: the places of both
 /// are given.
 fn place_behind(there: usize, at: usize) -> usize
@@ -176,13 +159,4 @@ fn place_in(front: bool, at: usize) -> usize
     ensures { result ≡ (if front then 0 else at) }
 {
     if front { 0 } else { at }
-}
-
-/// How far it is from one place to another.
-fn way(from: Point, to: Point) -> Point
-    requires from { in_plane from ≡ true }
-    requires to { in_plane to ≡ true }
-    ensures { result ≡ minus to from }
-{
-    local(to, from)
 }
