@@ -53,7 +53,7 @@ use Rattle.window_mgr.specs.Finding.{record_with}
 use Rattle.window_mgr.specs.Kept.{IsKept}
 use Rattle.window_mgr.specs.Records.{desk_of, state_of}
 use Rattle.window_mgr.specs.Refused.{IsRefusal, may_grow, may_lie, first_refusal, size_refusals, zoom_refusals}
-use Rattle.window_mgr.specs.Sizing.{MayHave, IsPlaceableAt, IsPlacementCommitted, IsLaid, IsLaidOverAnySlots}
+use Rattle.window_mgr.specs.Laying.{MayHave, IsPlaceableAt, IsPlacementCommitted, IsLaid, IsLaidOverAnySlots}
 use Rattle.window_mgr.specs.Step.{IsWindowStep}
 use Rattle.window_mgr.specs.Whole.{IsWholeManager, IsSettled}
 use Rattle.window_mgr.proofs.PutIn.{put_in, put_is_insert, taken_out, map-put, All-out, All-put}

@@ -19,7 +19,6 @@ use Rattle.window_mgr.specs.declared.arrange.Activates.TheVariants.{Nothing, Its
 use Rattle.window_mgr.specs.declared.arrange.Edit.{Edit}
 use Rattle.desk_call.specs.declared.window.MoveWindow.{MoveWindow}
 use Rattle.desk_call.specs.declared.window.SendBehind as sending
-use Rattle.desk_call.specs.declared.window.ShowHide as showing
 use Rattle.desk_call.specs.declared.window.WindowCall.{WindowCall}
 use Rattle.desk_call.specs.declared.window.WindowCall.TheVariants.{Show, Hide, ShowHide, Select, BringToFront, SendBehind, Move}
 use Rattle.desk_call.specs.declared.window.WindowReply.{WindowReply}
@@ -102,30 +101,23 @@ module _ {V : Type 0} {H : V → Type 0} (loan : Taken V H → Loan) (t new : Wi
       (λ k. record { window = sym serial k; by = None; windows = brought_so k; activates = Nothing })
       (subst (λ (y : Edit × Activates). IsRearrangedOverAnySlots loan y.0 y.1 None result t new) (λ k. (e_is k, activates_is k)) done)
 
-  pub show_step : (e : Edit) (activates : Activates) (result : Result WindowReply Refusal) → e ≡ record (stays_put i x) { shown = true } → activates ≡ (if not x.shown then ItselfIfFront else Nothing)
-      → IsRearrangedOverAnySlots loan e activates None result t new → IsStep (Show s) result
-  show_step e activates result e_is activates_is done =
-      edit_step (Show s) (record (stays_put i x) { shown = true }) (if not x.shown then ItselfIfFront else Nothing) None result _ refl refl refl not_missing
-      (λ k. record { window = sym serial k; by = None; windows = changed_so (with_shown true) k; activates = (ap (λ o. if is_visible o then Nothing else ItselfIfFront) found ∙ turned x.shown) k })
+  -- the window becomes visible or hidden, and what becomes so by that becomes active where that is asked
+  pub show_step : (on shown : Bool) (e : Edit) (activates : Activates) (result : Result WindowReply Refusal) → e ≡ record (stays_put i x) { shown = shown }
+      → activates ≡ (if on then (if shown then (if x.shown then Nothing else ItselfIfFront) else (if x.shown then FrontInItsPlace else Nothing)) else Nothing)
+      → IsRearrangedOverAnySlots loan e activates None result t new
+      → IsStep (if on then (if shown then Show s else Hide s) else ShowHide (record { window = s; shown = shown })) result
+  show_step true true e activates result e_is activates_is done =
+      edit_step (Show s) (record (stays_put i x) { shown = true }) (if x.shown then Nothing else ItselfIfFront) None result _ refl refl refl not_missing
+      (λ k. record { window = sym serial k; by = None; windows = changed_so (with_shown true) k; activates = (ap (λ o. if is_visible o then Nothing else ItselfIfFront) found) k })
       (subst (λ (y : Edit × Activates). IsRearrangedOverAnySlots loan y.0 y.1 None result t new) (λ k. (e_is k, activates_is k)) done)
-    where
-      turned : (b : Bool) → (if b then Nothing else ItselfIfFront) ≡ (if not b then ItselfIfFront else Nothing)
-      turned true = refl
-      turned false = refl
-
-  pub hide_step : (e : Edit) (activates : Activates) (result : Result WindowReply Refusal) → e ≡ record (stays_put i x) { shown = false } → activates ≡ (if x.shown then FrontInItsPlace else Nothing)
-      → IsRearrangedOverAnySlots loan e activates None result t new → IsStep (Hide s) result
-  hide_step e activates result e_is activates_is done =
+  show_step true false e activates result e_is activates_is done =
       edit_step (Hide s) (record (stays_put i x) { shown = false }) (if x.shown then FrontInItsPlace else Nothing) None result _ refl refl refl not_missing
       (λ k. record { window = sym serial k; by = None; windows = changed_so (with_shown false) k; activates = if_visible (found k) FrontInItsPlace })
       (subst (λ (y : Edit × Activates). IsRearrangedOverAnySlots loan y.0 y.1 None result t new) (λ k. (e_is k, activates_is k)) done)
-
-  pub show_hide_step : (c : showing.ShowHide) (e : Edit) (result : Result WindowReply Refusal) → s ≡ c.window → e ≡ record (stays_put i x) { shown = c.shown }
-      → IsRearrangedOverAnySlots loan e Nothing None result t new → IsStep (ShowHide c) result
-  show_hide_step c e result named e_is done =
-      edit_step (ShowHide c) (record (stays_put i x) { shown = c.shown }) Nothing None result _ refl refl refl (subst (λ n. first_refusal ((is_missing n desk.windows, NoSuchWindow) ∷ []) ≡ None) named not_missing)
-      (λ k. record { window = sym (serial ∙ named) k; by = None; windows = (ap (λ n. changed n (with_shown c.shown) desk.windows) (sym named) ∙ changed_so (with_shown c.shown)) k; activates = Nothing })
-      (subst (λ (y : Edit). IsRearrangedOverAnySlots loan y Nothing None result t new) e_is done)
+  show_step false shown e activates result e_is activates_is done =
+      edit_step (ShowHide (record { window = s; shown = shown })) (record (stays_put i x) { shown = shown }) Nothing None result _ refl refl refl not_missing
+      (λ k. record { window = sym serial k; by = None; windows = changed_so (with_shown shown) k; activates = Nothing })
+      (subst (λ (y : Edit × Activates). IsRearrangedOverAnySlots loan y.0 y.1 None result t new) (λ k. (e_is k, activates_is k)) done)
 
   pub send_step : (b : sending.SendBehind) (to : ℕ) (e : Edit) (result : Result WindowReply Refusal) → s ≡ b.window → IsPlaceBehind loan b i t to → e ≡ record (stays_put i x) { to = to }
       → IsRearrangedOverAnySlots loan e NextInItsPlace None result t new → IsStep (SendBehind b) result

@@ -17,7 +17,7 @@ pub mod Planned
 pub mod Edits
 pub mod AnySlots
 pub mod Updating
-pub mod Sizing
+pub mod Laying
 pub mod Without
 pub mod Begin
 pub mod Closing

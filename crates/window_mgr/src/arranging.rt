@@ -1,7 +1,7 @@
 //! The calls that arrange windows: each says how one window is put anew, and what becomes active.
 ghost use Rattle.std.specs.Prelude.{◌≡◌, [], Some, MatchResult, ◌+◌, nat_lt, if◌then◌else◌};
 ghost use Rattle.desk_call.specs.declared.window.WindowCall.TheVariants as asks;
-ghost use Rattle.window_mgr.specs.declared.arrange.Activates.TheVariants.{Nothing};
+ghost use Rattle.window_mgr.specs.declared.arrange.Activates.TheVariants.{Nothing, ItselfIfFront, FrontInItsPlace};
 ghost use Rattle.window_mgr.specs.AnySlots.{IsStepOverAnySlots};
 ghost use Rattle.window_mgr.specs.Edits.{StandsAt, IsPlaceBehind};
 ghost use Rattle.window_mgr.specs.Kept.{IsKept};
@@ -94,48 +94,26 @@ impl WindowManager {
         self.rearrange(edit, activates, Some(by))
     }
 
-    /// Makes a window visible; it becomes active where it is the first visible one then.
-    pub(crate) fn show(&mut self, window: u64) -> Result<WindowReply, Refusal>
+    /// Makes a window visible or hidden. One that becomes visible becomes active where it is the first visible one
+    /// then, and in the place of an active one that becomes hidden the first visible one, or none, where that is asked.
+    pub(crate) fn show_hide(
+        &mut self,
+        change: ShowHide,
+        activates: bool,
+    ) -> Result<WindowReply, Refusal>
         requires { IsKept ⟦<Taken as Defined>⟧.loan self.old }
-        ensures { IsStepOverAnySlots ⟦<Taken as Defined>⟧.loan (asks.Show window) result self.old self.new }
-    {
-        let Some(at) = self.find(window) else {
-            return Err(Refusal::NoSuchWindow);
-        };
-        let found = self.windows.at(at);
-        let activates = if_so(!found.shown, Activates::ItselfIfFront);
-        let mut edit = Edit::of(at, found);
-        edit.shown = true;
-        self.rearrange(edit, activates, None)
-    }
-
-    /// Makes a window hidden; where it was active, the first visible one becomes so, or none.
-    pub(crate) fn hide(&mut self, window: u64) -> Result<WindowReply, Refusal>
-        requires { IsKept ⟦<Taken as Defined>⟧.loan self.old }
-        ensures { IsStepOverAnySlots ⟦<Taken as Defined>⟧.loan (asks.Hide window) result self.old self.new }
-    {
-        let Some(at) = self.find(window) else {
-            return Err(Refusal::NoSuchWindow);
-        };
-        let found = self.windows.at(at);
-        let activates = if_so(found.shown, Activates::FrontInItsPlace);
-        let mut edit = Edit::of(at, found);
-        edit.shown = false;
-        self.rearrange(edit, activates, None)
-    }
-
-    /// Makes a window visible or hidden.
-    pub(crate) fn show_hide(&mut self, change: ShowHide) -> Result<WindowReply, Refusal>
-        requires { IsKept ⟦<Taken as Defined>⟧.loan self.old }
-        ensures { IsStepOverAnySlots ⟦<Taken as Defined>⟧.loan (asks.ShowHide change) result self.old self.new }
+        ensures { IsStepOverAnySlots ⟦<Taken as Defined>⟧.loan
+            (if activates then (if change.shown then asks.Show change.window else asks.Hide change.window)
+            else asks.ShowHide change) result self.old self.new }
     {
         let Some(at) = self.find(change.window) else {
             return Err(Refusal::NoSuchWindow);
         };
         let found = self.windows.at(at);
+        let activates = if_so(activates, when_shown(found.shown, change.shown));
         let mut edit = Edit::of(at, found);
         edit.shown = change.shown;
-        self.rearrange(edit, Activates::Nothing, None)
+        self.rearrange(edit, activates, None)
     }
 }
 
@@ -144,6 +122,17 @@ fn if_so(holds: bool, activates: Activates) -> Activates
     ensures { result ≡ (if holds then activates else Nothing) }
 {
     if holds { activates } else { Activates::Nothing }
+}
+
+/// What becomes active where a window becomes visible or hidden, or stays so.
+fn when_shown(was: bool, is: bool) -> Activates
+    ensures { result ≡ (if is then (if was then Nothing else ItselfIfFront) else (if was then FrontInItsPlace else Nothing)) }
+{
+    match (was, is) {
+        (false, true) => Activates::ItselfIfFront,
+        (true, false) => Activates::FrontInItsPlace,
+        _ => Activates::Nothing,
+    }
 }
 
 /// The place in the list, counted without a window, of what goes behind another: the places of both

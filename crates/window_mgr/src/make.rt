@@ -7,7 +7,7 @@ ghost use Rattle.window_mgr.specs.Records.{state_of};
 ghost use Rattle.window_mgr.specs.Step.{IsWindowStep};
 ghost use Rattle.window_mgr.specs.Whole.{IsWholeManager};
 
-use crate::{Drawing, WindowCall, WindowInfo, WindowManager, WindowReply};
+use crate::{Drawing, ShowHide, WindowCall, WindowInfo, WindowManager, WindowReply};
 use def_iface::{Defined, Stock, Stocked, Taken};
 use std::alloc::AllocError;
 use tb_geom::{Point, Refusal};
@@ -26,9 +26,21 @@ impl WindowManager {
         match call {
             WindowCall::New(window) => self.new_window(window, stock),
             WindowCall::Dispose(window) => self.dispose_window(*window, stock),
-            WindowCall::Show(window) => self.show(*window),
-            WindowCall::Hide(window) => self.hide(*window),
-            WindowCall::ShowHide(change) => self.show_hide(*change),
+            WindowCall::Show(window) => self.show_hide(
+                ShowHide {
+                    window: *window,
+                    shown: true,
+                },
+                true,
+            ),
+            WindowCall::Hide(window) => self.show_hide(
+                ShowHide {
+                    window: *window,
+                    shown: false,
+                },
+                true,
+            ),
+            WindowCall::ShowHide(change) => self.show_hide(*change, false),
             WindowCall::Select(window) => self.bring_to_front(*window, true),
             WindowCall::BringToFront(window) => self.bring_to_front(*window, false),
             WindowCall::SendBehind(sent) => self.send_behind(*sent),

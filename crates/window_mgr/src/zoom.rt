@@ -45,14 +45,15 @@ impl WindowManager {
     {
         match (direction, window.user_state) {
             (Zoom::Out, None) => {
+                let kept = UserState {
+                    place: window.place,
+                    size: window.size,
+                };
                 let UserState { place, size } = standard_state(self.screen.bounds(), self.bar);
                 Some(Placement {
                     place,
                     size,
-                    user_state: Some(UserState {
-                        place: window.place,
-                        size: window.size,
-                    }),
+                    user_state: Some(kept),
                 })
             }
             (Zoom::In, Some(UserState { place, size })) => Some(Placement {

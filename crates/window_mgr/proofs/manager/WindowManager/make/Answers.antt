@@ -1,13 +1,13 @@
 use Rattle.window_mgr.proofs.manager.WindowManager.make.Goals as goal
 
 pub returns-in-Show : goal.returns-in-Show
-returns-in-Show g c = let done = c.show.ensures _ c.requires in record { whole = done.0; step = rw c.in-Show.is (done.1) }
+returns-in-Show g c = let done = c.show_hide.ensures _ c.requires in record { whole = done.0; step = rw c.in-Show.is (done.1) }
 
 pub returns-in-Hide : goal.returns-in-Hide
-returns-in-Hide g c = let done = c.hide.ensures _ c.requires in record { whole = done.0; step = rw c.in-Hide.is (done.1) }
+returns-in-Hide g c = let done = c.show_hide-in-Hide.ensures _ c.requires in record { whole = done.0; step = rw c.in-Hide.is (done.1) }
 
 pub returns-in-ShowHide : goal.returns-in-ShowHide
-returns-in-ShowHide g c = let done = c.show_hide.ensures _ c.requires in record { whole = done.0; step = rw c.in-ShowHide.is (done.1) }
+returns-in-ShowHide g c = let done = c.show_hide-in-ShowHide.ensures _ c.requires in record { whole = done.0; step = rw c.in-ShowHide.is (done.1) }
 
 pub returns-in-Select : goal.returns-in-Select
 returns-in-Select g c = let done = c.bring_to_front.ensures _ c.requires in record { whole = done.0; step = rw c.in-Select.is (done.1) }

@@ -22,7 +22,7 @@ returns-then-not-is_placed_with g c =
     inl (placing.may_zoom _ c.args.self.now c.args.self.now slots whole c.in-Some.at c.args.zoom.window c.at-found.result.now c.in-Some.ensures.0 (search rules) (c.in-Some.ensures.1 c.at-found.result.now (search rules)) c.args.zoom refl c.in-Some-direction.direction (search rules) c.in-Some-zoom_target.placement (search rules) false (search rules)))
 
 pub local-by-requires-clause-point : goal.local-by-requires-clause-point
-local-by-requires-clause-point g c = 
+local-by-requires-clause-point g c =
     placing.arrives _ c.args.self.now c.requires c.in-Some.at c.in-Some-zoom_target.placement c.in-Some.ensures.0 c.at-found.result.now (search rules) (search rules)
 
 pub local-by-requires-clause-place : goal.local-by-requires-clause-place
