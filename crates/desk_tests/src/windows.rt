@@ -2,12 +2,12 @@
 ghost use Rattle.std.specs.Prelude.{◌≡◌, ◌<◌, length, OnOk};
 
 use crate::titled_window::Titled;
-use def_iface::{Size, Stock, Taken, WindowDef};
+use def_iface::{Size, Stock, Taken, WindowChange, WindowDef};
 use draw_port::{Op, Picture, Shape};
 use std::alloc::Global;
 use std::test::Fail;
 use tb_geom::Refusal;
-use window_list::{Ranks, Title, Window, WindowList};
+use window_list::{Placement, Ranks, Title, Window, WindowList};
 
 #[test]
 fn values_keep_their_order(rt: HostRuntime) -> Result<(), Fail> {
@@ -55,6 +55,7 @@ fn window(alloc: Global, serial: u64, shown: bool, taken: Taken) -> Window
         serial,
         place: point!(0, 0),
         size: SIZE,
+        user_state: None,
         shown,
         highlighted: shown,
         go_away: false,
@@ -93,14 +94,7 @@ fn there(windows: &WindowList, at: usize) -> Result<(), Refusal>
 /// Changes all of the window at this place that can be changed by itself.
 fn change(windows: &mut WindowList, at: usize) -> Result<(), Refusal> {
     there(windows, at)?;
-    windows.set_stand(at, point!(7, -8), true);
-    there(windows, at)?;
-    windows.set_highlighted(at, true);
-    there(windows, at)?;
-    let mut title = Title::new();
-    if title.try_extend_from_slice(b"new").is_ok() {
-        windows.set_title(at, title);
-    }
+    windows.set_stand(at, point!(7, -8), true, None);
     there(windows, at)?;
     let operation = Op {
         clip: None,
@@ -116,8 +110,7 @@ fn is_changed(windows: &WindowList, at: usize) -> bool {
     }
     let window = windows.at(at);
     let moved = window.place == point!(7, -8);
-    let seen = window.shown && window.highlighted && window.title.as_slice() == b"new".as_slice();
-    moved && seen && window.picture.ops().len() == 1
+    moved && window.shown && window.picture.ops().len() == 1
 }
 
 /// Moves the window at a place to the front, and takes the last of so many out.
@@ -160,7 +153,7 @@ fn windows_lie_from_front_to_back(rt: HostRuntime) -> Result<(), Fail> {
     assert!(rt; is_changed(&windows, 0) && windows.front() == Some(3));
     let behind = reorder(&mut windows, 1, 2)?;
     assert!(rt; behind.serial == 1);
-    assert!(rt; are(&windows, &[(2, false), (3, true)]));
+    assert!(rt; are(&windows, &[(2, false), (3, false)]));
     Ok(())
 }
 
@@ -209,7 +202,49 @@ fn a_window_is_told_its_size_where_it_lies(rt: HostRuntime) -> Result<(), Fail> 
     assert!(rt; WIDE.is_in_range() && taken.bounds(WIDE).is_in_range());
     windows.reserve()?;
     windows.add(window(alloc, 1, false, taken));
-    windows.resize(0, WIDE);
+    let wide = Placement {
+        place: point!(3, 4),
+        size: WIDE,
+        user_state: None,
+    };
+    windows.set_placement(0, wide);
     assert!(rt; windows.len() == 1 && windows.at(0).size.width == WIDE.width);
+    assert!(rt; windows.at(0).place == point!(3, 4));
+    Ok(())
+}
+
+#[test]
+fn a_window_is_told_its_title_where_it_lies(rt: HostRuntime) -> Result<(), Fail> {
+    let alloc = rt.alloc();
+    let mut stock = Stock::new(alloc);
+    let first: Box<dyn WindowDef> = Box::new(alloc, Titled::new())?;
+    assert!(rt; stock.add(b"titled", first).is_ok());
+    let mut windows = WindowList::new(Ranks::new(alloc));
+    let mut taken = stock.take(b"titled")?;
+    assert!(rt; SIZE.is_in_range() && taken.bounds(SIZE).is_in_range());
+    taken.begin(SIZE, b"", false);
+    windows.reserve()?;
+    windows.add(window(alloc, 1, false, taken));
+    let damage = windows.tell(0, WindowChange::Titled(b"new"));
+    assert!(rt; damage == SIZE.rect());
+    assert!(rt; windows.len() == 1 && windows.at(0).title.as_slice() == b"new".as_slice());
+    Ok(())
+}
+
+#[test]
+fn a_window_is_told_its_highlighting_where_it_lies(rt: HostRuntime) -> Result<(), Fail> {
+    let alloc = rt.alloc();
+    let mut stock = Stock::new(alloc);
+    let first: Box<dyn WindowDef> = Box::new(alloc, Titled::new())?;
+    assert!(rt; stock.add(b"titled", first).is_ok());
+    let mut windows = WindowList::new(Ranks::new(alloc));
+    let mut taken = stock.take(b"titled")?;
+    assert!(rt; SIZE.is_in_range() && taken.bounds(SIZE).is_in_range());
+    taken.begin(SIZE, b"", false);
+    windows.reserve()?;
+    windows.add(window(alloc, 1, false, taken));
+    let damage = windows.tell(0, WindowChange::Highlighted(true));
+    assert!(rt; damage == SIZE.rect());
+    assert!(rt; windows.len() == 1 && windows.at(0).highlighted);
     Ok(())
 }

@@ -2,3 +2,4 @@
 pub mod RanksLemmas
 pub mod ListLemmas
 pub mod NumberLemmas
+pub mod ChangeLemmas

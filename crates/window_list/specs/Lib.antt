@@ -2,3 +2,4 @@
 pub mod Ranks
 pub mod Lends
 pub mod Lists
+pub mod Changes

@@ -1,6 +1,5 @@
 -- The windows of a list, and one of them changed.
 use Rattle.std.specs.Prelude.{◌≡◌, ℕ, Bool, ◌==◌, List, [], ◌∷◌, Option, None, Some, if◌then◌else◌, zero, suc, map, nat_lt, false, ◌+◌, ◌++◌, ◌^◌, true, slice_set}
-use Rattle.arrayvec.specs.ArrayVec.{ArrayVec}
 use Rattle.tb_geom.specs.declared.point.Point.{Point}
 use Rattle.draw_port.specs.declared.shapes.Op.{Op}
 use Rattle.def_iface.specs.declared.taken.Taken.{Taken}
@@ -46,9 +45,6 @@ module _ {V : Type 0} {H : V → Type 0} where
   abbrev pub with_stand : Point → Bool → Option UserState → Window V H → Window V H
   with_stand place shown user_state w = record w { place = place; shown = shown; user_state = user_state }
 
-  abbrev pub with_highlighted : Bool → Window V H → Window V H
-  with_highlighted highlighted w = record w { highlighted = highlighted }
-
   -- the window, highlighted if it is the one of this number
   abbrev pub lit : Option ℕ → Window V H → Window V H
   lit None w = w
@@ -57,9 +53,6 @@ module _ {V : Type 0} {H : V → Type 0} where
   -- the window where another one becomes active in the place of the former
   abbrev pub relit : Option ℕ → Option ℕ → Window V H → Window V H
   relit former active w = lit active (dimmed former w)
-
-  abbrev pub with_title : ArrayVec ℕ → Window V H → Window V H
-  with_title title w = record w { title = title }
 
   -- the window with this picture, whose 0 0 lies there
   abbrev pub with_picture : List Op → Point → Window V H → Window V H

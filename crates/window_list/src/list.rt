@@ -4,13 +4,14 @@ ghost use Rattle.std.specs.List.{remove};
 ghost use Rattle.std.specs.Option.{option_map};
 ghost use Rattle.def_iface.specs.Meaning.{is_fitting};
 ghost use Rattle.window_list.specs.Ranks.{moved_item};
-ghost use Rattle.window_list.specs.Lists.{is_numbered, first_shown, dimmed, relit, number_after, map_ranked, edit_at, IsLastBox, with_stand, with_highlighted, with_title, with_picture, with_origin, with_operation, IsDisposedAt, IsPlacedAt};
+ghost use Rattle.window_list.specs.Lists.{is_numbered, first_shown, dimmed, relit, number_after, map_ranked, edit_at, IsLastBox, with_stand, with_picture, with_origin, with_operation, IsDisposedAt, IsPlacedAt};
+ghost use Rattle.window_list.specs.Changes.{keeps_size, has_short_title, IsToldAt};
 
-use crate::{Placement, Ranks, Title, UserState, Window};
+use crate::{Placement, Ranks, UserState, Window};
 use def_iface::{Defined, Stage, Taken, WindowChange};
 use draw_port::{Op, Picture};
 use std::alloc::{AllocError, Global};
-use tb_geom::{Point, Refusal};
+use tb_geom::{Point, Rect, Refusal};
 
 /// Windows from front to back.
 #[derive(Drop)]
@@ -183,24 +184,6 @@ impl WindowList {
         window.user_state = placement.user_state;
     }
 
-    /// Highlights the window at this place, or not.
-    pub fn set_highlighted(&mut self, at: usize, highlighted: bool)
-        requires { at < length self.old.records.items }
-        ensures { self.new ≡ record self.old { records = edit_at (with_highlighted highlighted) at self.old.records } }
-    {
-        let window = self.records.at_mut(at);
-        window.highlighted = highlighted;
-    }
-
-    /// Gives the window at this place another title.
-    pub fn set_title(&mut self, at: usize, title: Title)
-        requires { at < length self.old.records.items }
-        ensures { self.new ≡ record self.old { records = edit_at (with_title title) at self.old.records } }
-    {
-        let window = self.records.at_mut(at);
-        window.title = title;
-    }
-
     /// Gives the window at this place another picture, whose 0 0 is to lie there in the window.
     pub fn set_picture(&mut self, at: usize, picture: Picture, origin: Point)
         requires { at < length self.old.records.items }
@@ -247,6 +230,27 @@ impl WindowList {
             window.relight(former, active);
         }
         self.active = active;
+    }
+
+    /// Tells the definition of the window at this place of a change, whose title or highlighting the record keeps as
+    /// well. The answer is the damage, local to the window: in every font the definition's pictures before and after
+    /// are equal outside it. A change of the size is `set_placement`'s, and a title has at most 255 bytes.
+    pub fn tell(&mut self, at: usize, change: WindowChange<'_>) -> Rect
+        requires within { at < length self.old.records.items }
+        requires size { keeps_size change ≡ true }
+        requires title { has_short_title change ≡ true }
+        requires live { IfSome (slice_get self.old.records.items at)
+            (λ w. (⟦<Taken as Defined>⟧.loan w.taken).definition.stage ≡ Stage.Live) }
+        requires fits { IfSome (slice_get self.old.records.items at)
+            (λ w. is_fitting (⟦<Taken as Defined>⟧.loan w.taken).definition
+            (⟦<Taken as Defined>⟧.loan w.taken).definition.size ≡ true) }
+        ensures told { IfSome (slice_get self.old.records.items at) (λ w. IsToldAt ⟦<Taken as Defined>⟧.loan
+            at change.entry result w self.old.records.items self.new.records.items) }
+        ensures others { self.new ≡ record self.old { records = self.new.records } }
+    {
+        let window = self.records.at_mut(at);
+        window.keep(change);
+        window.taken.told(change)
     }
 
     /// Ends the use of the definition of the window at this place.

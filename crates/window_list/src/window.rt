@@ -1,10 +1,11 @@
 //! A window's record.
 
-ghost use Rattle.std.specs.Prelude.{◌≡◌};
+ghost use Rattle.std.specs.Prelude.{◌≡◌, ◌≤◌, true, length};
 ghost use Rattle.window_list.specs.Lists.{dimmed, relit};
+ghost use Rattle.window_list.specs.Changes.{has_short_title, with_change};
 
 use arrayvec::ArrayVec;
-use def_iface::{Size, Taken};
+use def_iface::{Size, Taken, WindowChange};
 use draw_port::Picture;
 use tb_geom::Point;
 
@@ -68,4 +69,24 @@ impl Window {
             self.highlighted = true;
         }
     }
+
+    /// Keeps the title or the highlighting that the window's definition is told.
+    pub(crate) fn keep(&mut self, change: WindowChange<'_>)
+        requires { has_short_title change ≡ true }
+        ensures { self.new ≡ with_change change.entry self.old }
+    {
+        match change {
+            WindowChange::Titled(title) => self.title = title_of(title),
+            WindowChange::Highlighted(highlighted) => self.highlighted = highlighted,
+            _ => {}
+        }
+    }
+}
+
+/// The title of these bytes.
+fn title_of(bytes: &[u8]) -> Title
+    requires { length bytes.now ≤ 255 }
+    ensures { result ≡ record { items = bytes.now } }
+{
+    ArrayVec::try_from(bytes).unwrap()
 }

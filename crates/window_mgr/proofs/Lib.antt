@@ -42,3 +42,7 @@ pub mod PictureLemmas
 pub mod Remarked
 pub mod Refreshed
 pub mod UpdateSteps
+pub mod FrameLemmas
+pub mod FrameSteps
+pub mod FrameTold
+pub mod FrameRight

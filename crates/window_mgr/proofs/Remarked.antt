@@ -15,7 +15,7 @@ use Rattle.def_iface.specs.Stocked.{SlotView}
 use Rattle.def_iface.specs.Desk as layers
 use Rattle.def_iface.specs.Desk.{LayeredDesk}
 use Rattle.def_iface.specs.Desk.Part.{Picture}
-use Rattle.def_iface.specs.Owner.{owner, own_bit, same_owner, is_content}
+use Rattle.def_iface.specs.Owner.{owner, own_bit, is_content}
 use Rattle.def_iface.specs.Owner.Owner.{Content}
 use Rattle.def_iface.specs.Change as plain
 use Rattle.def_iface.proofs.Owning.{same_number, same_owner-self, not_first}

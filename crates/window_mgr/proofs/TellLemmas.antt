@@ -1,6 +1,7 @@
 -- A window's own regions, moved into its own coordinates.
 use Rattle.std.proofs.Common.{◌≡◌, ◌⊎◌, inl, inr, ℕ, ◌<◌, ◌==◌, ◌&&◌, Bool, true, false, if◌then◌else◌, List, [], ◌∷◌, length, get_or, set, map, None, Some, Result, Ok, Err, ℤ, pos, negsuc, ◌+ℤ◌, ◌-ℤ◌, ◌≤ℤ◌, ◌<ℤ◌, neg_ℤ, refl, sym, ap, ◌∙◌, subst, arith}
 use Rattle.std.specs.Prelude.{MatchResult, is_none, slice_get}
+use Rattle.std.specs.Vec.{with_item}
 use Rattle.std.proofs.Math.IntN.{neg_ℤ-neg_ℤ, +ℤ-neg_ℤ_cancel, +ℤ_idl}
 use Rattle.std.proofs.lemmas.Bool.{and_parts}
 use Rattle.std.proofs.lemmas.Bool.Decides.{nat_tests}
@@ -35,18 +36,23 @@ use Rattle.window_list.specs.declared.window.Window.{Window}
 use Rattle.vis_update.specs.declared.area.Area.{Area}
 use Rattle.vis_update.specs.Records.{WindowRecord, layered_window, record_of}
 use Rattle.vis_update.specs.Areas.{IsArea, is_content_of, stale_in}
+use Rattle.desk_call.specs.declared.window.WindowCall.TheVariants.{VisibleRegion, UpdateRegion}
+use Rattle.desk_call.specs.declared.window.WindowReply.{WindowReply}
 use Rattle.window_mgr.specs.declared.manager.WindowManager.{WindowManager}
 use Rattle.window_mgr.specs.declared.tell.Told.{Told}
 use Rattle.window_mgr.specs.declared.tell.Told.TheVariants.{Visible, Update}
 use Rattle.window_mgr.specs.FullDesk.{FullDesk, layered_desk}
 use Rattle.window_mgr.specs.Records.{desk_of, state_of}
 use Rattle.window_mgr.specs.Finding.{record_with}
-use Rattle.window_mgr.specs.Telling.{IsRegionOf, IsMeasured, AreRegionBytes, IsNotTold, seen_from, visible_of, update_of, told_of, kept_region, asking}
+use Rattle.window_mgr.specs.Telling.{IsRegionOf, IsMeasured, AreRegionBytes, IsNotTold, seen_from, visible_of, update_of, told_of, kept_region, asking, IsRegionTold}
 use Rattle.window_mgr.specs.Refused.{IsRefusal, IsUntold, first_refusal, is_missing}
 use Rattle.window_mgr.specs.Step.{IsCallRefused}
+use Rattle.window_mgr.specs.AnySlots.{IsStepOverAnySlots}
 use Rattle.window_mgr.specs.Kept.{IsKept}
+use Rattle.window_mgr.specs.Planned.{SameDesk}
 use Rattle.window_mgr.specs.Whole.{IsSettled}
 use Rattle.desk_ground.specs.Screens.{is_screen_side}
+use Rattle.window_mgr.proofs.SameDeskLemmas.{stays_whole, stays_unchanged, stays_refused}
 use Rattle.window_mgr.proofs.Seating.{as_many}
 use Rattle.window_mgr.proofs.DrawRefusals.{record_there}
 use Rattle.window_mgr.proofs.DrawLemmas.{window_settled}
@@ -281,3 +287,28 @@ module _ {V : Type 0} {H : V → Type 0} (loan : Taken V H → Loan) (t : Window
 
       pub region_screen : (told : Told) (p : Point) → holds (kept_region told a) p ≡ true → is_pixel_in_range p ≡ true
       region_screen told p e = screen_in p (sym (area_is.visible p) ∙ visible_too told p e)
+
+  -- ---- the call
+
+  -- an area that is put back as it was leaves the desk
+  pub same_desk : (at : ℕ) (a b : Area) → a ≡ get_or t.areas.items at a → b ≡ a → SameDesk t (record t { areas = with_item t.areas at b })
+  same_desk at a b read same = record {
+    screen = refl;
+    bar = refl;
+    font = refl;
+    gray = refl;
+    desktop = refl;
+    windows = refl;
+    areas = put_back t.areas.items at a b read same;
+    active = refl;
+    next = refl;
+  }
+
+  -- a region that is told, or not, on a desk that stays
+  pub region_step : (told : Told) (u : WindowManager V H) (answer : WindowReply) → SameDesk t u → IsRefusal (asking told s) (state_of loan t []) None → IsRegionTold (told_of told s (state_of loan t [])) answer → IsStepOverAnySlots loan (asking told s) (Ok answer) t u
+  region_step Visible u answer same allowed its slots whole = (stays_whole loan t u slots slots same refl whole, (allowed, (its, stays_unchanged loan t u slots slots same refl)))
+  region_step Update u answer same allowed its slots whole = (stays_whole loan t u slots slots same refl whole, (allowed, (its, stays_unchanged loan t u slots slots same refl)))
+
+  pub region_refused : (told : Told) (u : WindowManager V H) (e : Refusal) → SameDesk t u → IsCallRefused (asking told s) e (state_of loan t []) → IsStepOverAnySlots loan (asking told s) (Err e) t u
+  region_refused Visible u e same refused = stays_refused loan t u same (VisibleRegion s) e (λ slots whole. refused)
+  region_refused Update u e same refused = stays_refused loan t u same (UpdateRegion s) e (λ slots whole. refused)

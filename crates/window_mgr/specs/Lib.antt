@@ -18,6 +18,7 @@ pub mod Edits
 pub mod AnySlots
 pub mod Updating
 pub mod Laying
+pub mod FrameTelling
 pub mod Without
 pub mod Begin
 pub mod Closing

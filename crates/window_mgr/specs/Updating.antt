@@ -1,5 +1,5 @@
 -- The update region of one window: another set of pixels, or drawn.
-use Rattle.std.specs.Prelude.{◌≡◌, ℕ, Bool, true, ◌&&◌, if◌then◌else◌, List}
+use Rattle.std.specs.Prelude.{◌≡◌, ℕ, true, ◌&&◌, if◌then◌else◌, List}
 use Rattle.tb_geom.specs.declared.point.Point.{Point}
 use Rattle.tb_geom.specs.Pixels.{Pixels, holds}
 use Rattle.def_iface.specs.declared.taken.Taken.{Taken}

@@ -3,11 +3,9 @@ ghost use Rattle.std.specs.Prelude.{◌≡◌, if◌then◌else◌, Ok, Err, Som
 ghost use Rattle.tb_geom.specs.declared.refusal.Refusal.TheVariants.{OutOfRange};
 ghost use Rattle.tb_geom.specs.Points.{minus};
 ghost use Rattle.tb_geom.specs.Rects.{in_plane};
-ghost use Rattle.def_iface.specs.Desk.{on_screen, in_bar};
-ghost use Rattle.window_mgr.specs.FullDesk.{layered_desk};
 ghost use Rattle.window_mgr.specs.Kept.{IsKept};
 ghost use Rattle.vis_update.specs.Areas.{area_has};
-ghost use Rattle.window_mgr.specs.Finding.{found_at, found_none, part_of_hit, front_of};
+ghost use Rattle.window_mgr.specs.Finding.{found_at, found_none, part_of_hit};
 ghost use Rattle.vis_update.specs.Records.{record_of};
 ghost use Rattle.window_mgr.specs.Records.{desk_of};
 ghost use Rattle.window_mgr.specs.Whole.{IsSettled};
@@ -19,7 +17,7 @@ use window_list::{Window, local};
 
 impl WindowManager {
     /// Whose the point of the screen is. OutOfRange where it lies outside the range of coordinates.
-    pub(crate) fn find_window(&self, point: Point) -> Result<Found, Refusal>
+    pub fn find_window(&self, point: Point) -> Result<Found, Refusal>
         requires { IsKept ⟦<Taken as Defined>⟧.loan self.now }
         ensures { result ≡ (if in_plane point
             then Ok (found_at (desk_of ⟦<Taken as Defined>⟧.loan self.now []) point)
@@ -38,10 +36,10 @@ impl WindowManager {
         requires in_plane { in_plane point ≡ true }
         ensures { result ≡ found_at (desk_of ⟦<Taken as Defined>⟧.loan self.now []) point }
     {
-        if !self.is_on_screen(point) {
+        if !self.screen.bounds().contains(point) {
             return found_none(WindowPart::InDesk);
         }
-        if self.is_in_bar(point) {
+        if point.v < self.bar {
             return found_none(WindowPart::InMenuBar);
         }
         match self.window_at(point) {
@@ -50,32 +48,11 @@ impl WindowManager {
         }
     }
 
-    /// Whether the screen has the pixel.
-    fn is_on_screen(&self, point: Point) -> bool
-        ensures { result ≡ on_screen (layered_desk (desk_of ⟦<Taken as Defined>⟧.loan self.now [])) point }
-    {
-        self.screen.bounds().contains(point)
-    }
-
-    /// Whether the pixel, if it is the screen's, is the menu bar's.
-    fn is_in_bar(&self, point: Point) -> bool
-        ensures { result ≡ in_bar (layered_desk (desk_of ⟦<Taken as Defined>⟧.loan self.now [])) point }
-    {
-        point.v < self.bar
-    }
-
     /// The place of the window that owns the pixel.
     fn window_at(&self, point: Point) -> Option<usize>
         ensures { result ≡ position (area_has point) self.now.areas.items }
     {
         self.areas.iter().position(|area| area.has(point))
-    }
-
-    /// The first visible window.
-    pub(crate) fn front_window(&self) -> Option<u64>
-        ensures { result ≡ front_of (desk_of ⟦<Taken as Defined>⟧.loan self.now []).windows }
-    {
-        self.windows.front()
     }
 }
 

@@ -19,7 +19,8 @@
 //! A call is judged and takes all its memory before the first change: its plan (`vis_update`) says what each window will
 //! own and what changes on the screen, and `commit` draws it, whichever call it was made for. `arrange` puts one window
 //! anew among the others, `size` gives one another size and `zoom` zooms it, `new_window` adds one, `dispose_window` takes
-//! one out, `draw` draws in one, `repicture` changes its picture or moves it.
+//! one out, `draw` draws in one, `repicture` changes its picture or moves it, `frame` tells a window's definition of a
+//! change and draws the frame anew.
 //!
 //! Whose a pixel is, the calls that ask (`find`) read off the same regions: the window whose visible content or frame
 //! has it owns it. There may be 64 windows.
@@ -33,6 +34,7 @@ mod dispose_window;
 mod draw;
 mod find;
 mod forms;
+mod frame;
 mod make;
 mod manager;
 mod new_window;

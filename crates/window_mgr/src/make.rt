@@ -7,6 +7,7 @@ ghost use Rattle.window_mgr.specs.Records.{state_of};
 ghost use Rattle.window_mgr.specs.Step.{IsWindowStep};
 ghost use Rattle.window_mgr.specs.Whole.{IsWholeManager};
 
+use crate::tell::Told;
 use crate::{Drawing, ShowHide, WindowCall, WindowInfo, WindowManager, WindowReply};
 use def_iface::{Defined, Stock, Stocked, Taken};
 use std::alloc::AllocError;
@@ -53,8 +54,8 @@ impl WindowManager {
             WindowCall::Find(point) => self.answer_find(*point),
             WindowCall::Front => self.answer_front(),
             WindowCall::Info(window) => self.answer_info(*window),
-            WindowCall::VisibleRegion(window) => self.answer_visible(*window),
-            WindowCall::UpdateRegion(window) => self.answer_update(*window),
+            WindowCall::VisibleRegion(window) => self.answer_region(*window, Told::Visible),
+            WindowCall::UpdateRegion(window) => self.answer_region(*window, Told::Update),
         }
     }
 
@@ -85,7 +86,7 @@ impl WindowManager {
     fn answer_front(&self) -> Result<WindowReply, Refusal>
         ensures { IsStepOverAnySlots ⟦<Taken as Defined>⟧.loan Front result self.now self.now }
     {
-        Ok(WindowReply::Front(self.front_window()))
+        Ok(WindowReply::Front(self.windows.front()))
     }
 
     /// Tells how a window stands.

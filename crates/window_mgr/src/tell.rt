@@ -1,18 +1,13 @@
 //! The calls that tell a window's regions.
-ghost use Rattle.std.specs.Prelude.{◌≡◌, [], true, None, MatchResult};
+ghost use Rattle.std.specs.Prelude.{◌≡◌, true, MatchResult};
 ghost use Rattle.tb_geom.specs.declared.point.Point.{Point};
 ghost use Rattle.tb_geom.specs.Points.{plus, minus};
 ghost use Rattle.tb_geom.specs.Rects.{in_plane};
 ghost use Rattle.tb_geom.specs.Pixels.{holds};
 ghost use Rattle.scan_region.specs.Moves.{StaysInRange, is_pixel_in_range};
-ghost use Rattle.desk_call.specs.declared.window.WindowCall.TheVariants.{VisibleRegion, UpdateRegion};
 ghost use Rattle.window_mgr.specs.AnySlots.{IsStepOverAnySlots};
 ghost use Rattle.window_mgr.specs.Kept.{IsKept};
-ghost use Rattle.window_mgr.specs.Planned.{SameDesk};
-ghost use Rattle.window_mgr.specs.Records.{state_of};
-ghost use Rattle.window_mgr.specs.Refused.{IsRefusal};
-ghost use Rattle.window_mgr.specs.Step.{IsCallRefused};
-ghost use Rattle.window_mgr.specs.Telling.{AreRegionBytes, IsNotTold, kept_region, told_of, asking};
+ghost use Rattle.window_mgr.specs.Telling.{AreRegionBytes, IsNotTold, kept_region, asking};
 
 use crate::{WindowManager, WindowReply};
 use def_iface::{Defined, Taken};
@@ -24,7 +19,7 @@ use window_list::local;
 
 /// Which of a window's regions is told.
 #[derive(Clone, Copy)]
-enum Told {
+pub(crate) enum Told {
     /// What of the screen its content owns.
     Visible,
     /// What of that is to be redrawn.
@@ -32,41 +27,19 @@ enum Told {
 }
 
 impl WindowManager {
-    /// Tells what of the screen a window's content owns, in the window's own coordinates.
-    pub(crate) fn answer_visible(&mut self, window: u64) -> Result<WindowReply, Refusal>
+    /// Tells one of a window's regions, in the window's own coordinates.
+    pub(crate) fn answer_region(&mut self, window: u64, told: Told) -> Result<WindowReply, Refusal>
         requires { IsKept ⟦<Taken as Defined>⟧.loan self.old }
-        ensures { IsStepOverAnySlots ⟦<Taken as Defined>⟧.loan (VisibleRegion window) result self.old self.new }
-    {
-        match self.region_bytes(window, Told::Visible) {
-            Ok(bytes) => Ok(WindowReply::Region(bytes)),
-            Err(refusal) => Err(refusal),
-        }
-    }
-
-    /// Tells what of that is to be redrawn.
-    pub(crate) fn answer_update(&mut self, window: u64) -> Result<WindowReply, Refusal>
-        requires { IsKept ⟦<Taken as Defined>⟧.loan self.old }
-        ensures { IsStepOverAnySlots ⟦<Taken as Defined>⟧.loan (UpdateRegion window) result self.old self.new }
-    {
-        match self.region_bytes(window, Told::Update) {
-            Ok(bytes) => Ok(WindowReply::Region(bytes)),
-            Err(refusal) => Err(refusal),
-        }
-    }
-
-    /// The bytes of one of a window's regions, in the window's own coordinates.
-    fn region_bytes(&mut self, window: u64, told: Told) -> Result<Vec<u8>, Refusal>
-        requires { IsKept ⟦<Taken as Defined>⟧.loan self.old }
-        ensures same { SameDesk self.old self.new }
-        ensures told { let state = state_of ⟦<Taken as Defined>⟧.loan self.old [] in MatchResult result
-            (λ bytes. IsRefusal (asking told window) state None × AreRegionBytes (told_of told window state) bytes.items)
-            (λ e. IsCallRefused (asking told window) e state) }
+        ensures { IsStepOverAnySlots ⟦<Taken as Defined>⟧.loan (asking told window) result self.old self.new }
     {
         let Some(at) = self.find(window) else {
             return Err(Refusal::NoSuchWindow);
         };
         let place = self.windows.at(at).place;
-        area_bytes(&mut self.areas[at], told, self.alloc, place)
+        match area_bytes(&mut self.areas[at], told, self.alloc, place) {
+            Ok(bytes) => Ok(WindowReply::Region(bytes)),
+            Err(refusal) => Err(refusal),
+        }
     }
 }
 

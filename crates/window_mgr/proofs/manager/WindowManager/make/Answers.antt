@@ -46,7 +46,7 @@ pub returns-in-Info : goal.returns-in-Info
 returns-in-Info g c = let done = c.answer_info.ensures _ c.requires in record { whole = done.0; step = rw c.in-Info.is (done.1) }
 
 pub returns-in-VisibleRegion : goal.returns-in-VisibleRegion
-returns-in-VisibleRegion g c = let done = c.answer_visible.ensures _ c.requires in record { whole = done.0; step = rw c.in-VisibleRegion.is (done.1) }
+returns-in-VisibleRegion g c = let done = c.answer_region.ensures _ c.requires in record { whole = done.0; step = rw c.in-VisibleRegion.is (done.1) }
 
 pub returns-in-UpdateRegion : goal.returns-in-UpdateRegion
-returns-in-UpdateRegion g c = let done = c.answer_update.ensures _ c.requires in record { whole = done.0; step = rw c.in-UpdateRegion.is (done.1) }
+returns-in-UpdateRegion g c = let done = c.answer_region-in-UpdateRegion.ensures _ c.requires in record { whole = done.0; step = rw c.in-UpdateRegion.is (done.1) }

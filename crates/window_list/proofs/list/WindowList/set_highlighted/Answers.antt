@@ -1,7 +1,0 @@
-use Rattle.std.proofs.Common.{ap}
-use Rattle.window_list.specs.Lists.{with_highlighted}
-use Rattle.window_list.proofs.ListLemmas.{written}
-use Rattle.window_list.proofs.list.WindowList.set_highlighted.Goals as goal
-
-pub returns : goal.returns
-returns g c = ap (λ r. record c.args.self.now { records = r }) (written (with_highlighted c.args.highlighted) c.args.self.now.records c.args.at c.at_mut-window.result.now c.at_mut-window.ensures.value)

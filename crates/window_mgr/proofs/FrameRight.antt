@@ -1,0 +1,107 @@
+-- A right state stays right where a window's definition was told something and the frame drawn.
+use Rattle.std.proofs.Common.{◌≡◌, ℕ, ◌==◌, Bool, true, false, if◌then◌else◌, List, [], ◌∷◌, map, None, Some, refl, sym, ap, ◌∙◌, subst}
+use Rattle.tb_geom.specs.declared.point.Point.{Point}
+use Rattle.tb_geom.specs.Points.{minus}
+use Rattle.draw_port.specs.Ops.{picture_bit}
+use Rattle.def_iface.specs.declared.window_def.WindowChange.{WindowChange}
+use Rattle.def_iface.specs.Desk as layers
+use Rattle.def_iface.specs.Desk.Part.{Picture}
+use Rattle.def_iface.specs.Owner.{content_bit}
+use Rattle.def_iface.specs.Change as plain
+use Rattle.def_iface.proofs.Changing.{stays_right}
+use Rattle.vis_update.specs.Records.{WindowRecord, layered_window}
+use Rattle.window_mgr.specs.declared.arrange.Activation.TheVariants.{Stays}
+use Rattle.window_mgr.specs.Arrange.{changed}
+use Rattle.window_mgr.specs.FrameTelling.{IsFrameTold, told_record}
+use Rattle.window_mgr.specs.Finding.{record_with}
+use Rattle.window_mgr.specs.FullDesk.{FullDesk, FullState, IsRightState, AreNumbered, layered_desk, layered_state}
+use Rattle.window_mgr.proofs.FrameSteps.{told_keeps}
+use Rattle.window_mgr.proofs.PutIn.{IsFree, is_put, IsTakenOut, out_of, distinct_out}
+use Rattle.window_mgr.proofs.Rearranged.{IsEdit, edited, edit_is_sound, numbered_now}
+
+-- what of a record makes the layers of its window stays, the definition aside
+pub record KeepsLayers (kept : WindowRecord → WindowRecord) : Type 0 where
+  pub serial : (w : WindowRecord) → (kept w).serial ≡ w.serial
+  pub place : (w : WindowRecord) → (kept w).place ≡ w.place
+  pub size : (w : WindowRecord) → (kept w).size ≡ w.size
+  pub shown : (w : WindowRecord) → (kept w).shown ≡ w.shown
+  pub picture : (w : WindowRecord) → (kept w).picture ≡ w.picture
+  pub origin : (w : WindowRecord) → (kept w).origin ≡ w.origin
+
+pub told_keeps_layers : (change : WindowChange) → KeepsLayers (told_record change)
+told_keeps_layers change = record {
+  serial = λ w. ap (λ (v : WindowRecord). v.serial) (told_keeps change w);
+  place = λ w. ap (λ (v : WindowRecord). v.place) (told_keeps change w);
+  size = λ w. ap (λ (v : WindowRecord). v.size) (told_keeps change w);
+  shown = λ w. ap (λ (v : WindowRecord). v.shown) (told_keeps change w);
+  picture = λ w. ap (λ (v : WindowRecord). v.picture) (told_keeps change w);
+  origin = λ w. ap (λ (v : WindowRecord). v.origin) (told_keeps change w);
+}
+
+-- ---- a right state stays right
+
+module _ (s : ℕ) (kept : WindowRecord → WindowRecord) (before after : FullState) (keeps : KeepsLayers kept) (right : IsRightState before) (done : IsFrameTold s kept before after) where
+  abbrev w : WindowRecord
+  w = done.window
+
+  abbrev v : WindowRecord
+  v = record (kept w) { definition = done.definition }
+
+  out : IsTakenOut s before.desk.windows w
+  out = out_of s before.desk.windows w done.found
+
+  free : IsFree before.desk.font s out.rest
+  free = subst (λ n. IsFree before.desk.font n out.rest) out.serial (distinct_out before.desk.font out.place w out.rest (subst (λ ws. layers.AreWindows (map (layered_window before.desk.font) ws)) out.is right.plain.desk)).0
+
+  edit : IsEdit before.desk w.serial out.place out.place w v out.rest
+  edit = record { windows = out.is; serial = refl; same_serial = keeps.serial w }
+
+  desk_is : after.desk ≡ edited before.desk w.serial out.place out.place w v out.rest edit Stays
+  desk_is =
+      done.desk
+      ∙ ap (λ ws. record before.desk { windows = ws })
+      (ap (changed s (λ x. record (kept x) { definition = done.definition })) out.is
+      ∙ (is_put before.desk.font s out.place w out.rest out.serial free).changed_is (λ x. record (kept x) { definition = done.definition }))
+
+  -- its content shows what it showed
+  same_content : (part : layers.Part) (p : Point) → content_bit (Some (layered_window before.desk.font w)) part p ≡ content_bit (Some (layered_window before.desk.font v)) part p
+  same_content Picture p = λ k. picture_bit before.desk.font (sym (keeps.picture w) k) (minus (minus p (sym (keeps.place w) k)) (sym (keeps.origin w) k))
+
+  told_right : IsRightState after
+  told_right = record {
+    plain = stays_right plain.no_change (layered_state before) (layered_state after) right.plain
+        (subst (plain.IsSound plain.no_change (layered_state before)) (sym (ap layered_desk desk_is))
+        (edit_is_sound before.desk w.serial out.place out.place w v out.rest edit Stays right.plain.desk before.stale before.image None same_content))
+        done.pixels;
+    numbered = subst (λ (x : FullDesk). AreNumbered x.next x.windows) (sym desk_is) (numbered_now before.desk w.serial out.place out.place w v out.rest edit Stays right.numbered);
+  }
+
+pub frame_told_stays_right : (s : ℕ) (kept : WindowRecord → WindowRecord) (before after : FullState) → KeepsLayers kept → IsRightState before → IsFrameTold s kept before after → IsRightState after
+frame_told_stays_right s kept before after keeps right done = told_right s kept before after keeps right done
+
+-- ---- what the record keeps
+
+-- of the windows only the one that is found is changed
+changed_alike : (s : ℕ) (f g : WindowRecord → WindowRecord) (w : WindowRecord) (ws : List WindowRecord) → record_with s ws ≡ Some w → f w ≡ g w → changed s f ws ≡ changed s g ws
+changed_alike s f g w [] found same = refl
+changed_alike s f g w (y ∷ ys) found same = by_test (λ e. changed_alike s f g w ys e same) (y.serial == s) found
+  where
+    by_test : (record_with s ys ≡ Some w → changed s f ys ≡ changed s g ys) → (b : Bool) → (if b then Some y else record_with s ys) ≡ Some w
+        → (if b then f y ∷ ys else y ∷ changed s f ys) ≡ (if b then g y ∷ ys else y ∷ changed s g ys)
+    by_test behind true e =
+        let first : y ≡ w = cc in
+        ap (λ x. x ∷ ys) (ap f first ∙ same ∙ ap g (sym first))
+    by_test behind false e = ap (λ xs. y ∷ xs) (behind e)
+
+-- so what its record keeps is told by that record alone
+pub told_alike : (s : ℕ) (f g : WindowRecord → WindowRecord) (w : WindowRecord) (before after : FullState) → record_with s before.desk.windows ≡ Some w → f w ≡ g w → IsFrameTold s f before after → IsFrameTold s g before after
+told_alike s f g w before after found same done = record {
+  window = done.window;
+  definition = done.definition;
+  found = done.found;
+  told = done.told;
+  desk = done.desk
+      ∙ ap (λ ws. record before.desk { windows = ws })
+      (changed_alike s (λ x. record (f x) { definition = done.definition }) (λ x. record (g x) { definition = done.definition }) w before.desk.windows found (ap (λ (x : WindowRecord). record x { definition = done.definition }) same));
+  pixels = done.pixels;
+}

@@ -1,0 +1,27 @@
+-- A window's definition, told of a change that leaves its size, and the window's frame, drawn where it shows.
+use Rattle.std.specs.Prelude.{◌≡◌, ℕ, Some}
+use Rattle.def_iface.specs.declared.window_def.WindowChange.{WindowChange}
+use Rattle.def_iface.specs.declared.window_def.WindowChange.TheVariants.{Titled, Highlighted}
+use Rattle.def_iface.specs.Meaning.{Definition}
+use Rattle.def_iface.specs.Change.{no_change, IsChanged}
+use Rattle.vis_update.specs.Records.{WindowRecord}
+use Rattle.window_mgr.specs.Arrange.{changed}
+use Rattle.window_mgr.specs.Effects.{IsToldSize}
+use Rattle.window_mgr.specs.Finding.{record_with}
+use Rattle.window_mgr.specs.FullDesk.{FullState, layered_state}
+
+-- the window's record after its definition was told so: it keeps the title and the highlighting
+abbrev pub told_record : WindowChange → WindowRecord → WindowRecord
+told_record (Titled t) w = record w { title = t.now }
+told_record (Highlighted b) w = record w { highlighted = b }
+told_record _ w = w
+
+-- the definition of the window of this serial was told something: it is live, and its size and its regions are as before.
+-- The window's record kept this of it. What the frame shows now is drawn wherever it shows, and no other pixel changed.
+pub record IsFrameTold (s : ℕ) (kept : WindowRecord → WindowRecord) (before after : FullState) : Type 0 where
+  pub window : WindowRecord
+  pub definition : Definition
+  pub found : record_with s before.desk.windows ≡ Some window
+  pub told : IsToldSize window.size window.definition definition
+  pub desk : after.desk ≡ record before.desk { windows = changed s (λ w. record (kept w) { definition = definition }) before.desk.windows }
+  pub pixels : IsChanged no_change (layered_state before) (layered_state after)
