@@ -19,5 +19,5 @@ pub use frame::{FrameCall, FrameReply, GoAwayPoint, HiliteWindow, NewTitle};
 pub use update::{AreaRef, LayerDraw, Layers, UpdateCall, WindowArea};
 pub use window::{
     Drawing, Found, MoveWindow, NewPicture, NewWindow, PictureRef, ScrollPicture, SendBehind,
-    ShowHide, SizeWindow, WindowCall, WindowInfo, WindowPart, WindowReply,
+    ShowHide, SizeWindow, WindowCall, WindowInfo, WindowPart, WindowReply, Zoom, ZoomWindow,
 };

@@ -37,6 +37,12 @@ pub enum WindowCall<'a> {
     Move(MoveWindow),
     /// Gives a window another size (SizeWindow). OutOfRange where it may not have it.
     Size(SizeWindow),
+    /// Zooms a window, which may be any (ZoomWindow). Part 8, InZoomOut, gives one that is not zoomed the place 1 across
+    /// and 19 rows below the menu bar, and the size of the screen, less 2 columns and less the menu bar and 20 rows; part
+    /// 7, InZoomIn, gives one that is zoomed the place and size that it had before. Where it is zoomed so already nothing
+    /// changes. A window that is moved or sized is not zoomed any more. OutOfRange where the part is another, and where
+    /// the window may not be there or have the size.
+    Zoom(ZoomWindow),
     /// Adds an operation to a window's picture, and draws it where the picture shows.
     Draw(Drawing<'a>),
     /// Gives a window another picture (SetWindowPic), all of which is to be redrawn where it shows. OutOfRange
@@ -91,6 +97,41 @@ pub struct SizeWindow {
     pub window: u64,
     /// Of its content.
     pub size: Size,
+}
+
+/// A window that is to be zoomed.
+#[derive(Clone, Copy, PartialEq, Eq)]
+pub struct ZoomWindow {
+    pub window: u64,
+    /// The code of the part, 7 or 8, as it was asked for, judged by nobody.
+    pub part: i32,
+}
+
+/// Which way a window is zoomed.
+#[derive(Clone, Copy, PartialEq, Eq)]
+pub enum Zoom {
+    /// To the size of the screen.
+    Out,
+    /// To the place and size that it had before.
+    In,
+}
+
+impl ZoomWindow {
+    ghost use Rattle.std.specs.Prelude.{◌≡◌};
+    ghost use Rattle.desk_call.specs.Parts.{zoom_of};
+
+    /// Which way the part zooms, if it does.
+    pub fn direction(self) -> Option<Zoom>
+        ensures { result ≡ zoom_of self.part }
+    {
+        if self.part == i32::from(WindowPart::InZoomOut.number()) {
+            Some(Zoom::Out)
+        } else if self.part == i32::from(WindowPart::InZoomIn.number()) {
+            Some(Zoom::In)
+        } else {
+            None
+        }
+    }
 }
 
 /// A window to be made (NewWindow: *Inside Macintosh* I, "The Window Manager").

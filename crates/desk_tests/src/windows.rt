@@ -7,7 +7,7 @@ use draw_port::{Op, Picture, Shape};
 use std::alloc::Global;
 use std::test::Fail;
 use tb_geom::Refusal;
-use window_list::{Ranks, Title, Window, WindowList};
+use window_list::{Placement, Ranks, Title, Window, WindowList};
 
 #[test]
 fn values_keep_their_order(rt: HostRuntime) -> Result<(), Fail> {
@@ -55,6 +55,7 @@ fn window(alloc: Global, serial: u64, shown: bool, taken: Taken) -> Window
         serial,
         place: point!(0, 0),
         size: SIZE,
+        user_state: None,
         shown,
         highlighted: shown,
         go_away: false,
@@ -93,7 +94,7 @@ fn there(windows: &WindowList, at: usize) -> Result<(), Refusal>
 /// Changes all of the window at this place that can be changed by itself.
 fn change(windows: &mut WindowList, at: usize) -> Result<(), Refusal> {
     there(windows, at)?;
-    windows.set_stand(at, point!(7, -8), true);
+    windows.set_stand(at, point!(7, -8), true, None);
     there(windows, at)?;
     let operation = Op {
         clip: None,
@@ -201,8 +202,14 @@ fn a_window_is_told_its_size_where_it_lies(rt: HostRuntime) -> Result<(), Fail> 
     assert!(rt; WIDE.is_in_range() && taken.bounds(WIDE).is_in_range());
     windows.reserve()?;
     windows.add(window(alloc, 1, false, taken));
-    windows.resize(0, WIDE);
+    let wide = Placement {
+        place: point!(3, 4),
+        size: WIDE,
+        user_state: None,
+    };
+    windows.set_placement(0, wide);
     assert!(rt; windows.len() == 1 && windows.at(0).size.width == WIDE.width);
+    assert!(rt; windows.at(0).place == point!(3, 4));
     Ok(())
 }
 

@@ -1,5 +1,5 @@
 -- A window's record as plain data, and as layers.
-use Rattle.std.specs.Prelude.{ℕ, Bool, List, [], ◌∷◌}
+use Rattle.std.specs.Prelude.{ℕ, Bool, List, [], ◌∷◌, Option}
 use Rattle.tb_geom.specs.declared.point.Point.{Point}
 use Rattle.tb_geom.specs.Points.{minus}
 use Rattle.draw_port.specs.declared.shapes.Op.{Op}
@@ -9,6 +9,7 @@ use Rattle.def_iface.specs.declared.taken.Taken.{Taken}
 use Rattle.def_iface.specs.Meaning.{Definition, Loan}
 use Rattle.def_iface.specs.Desk as layers
 use Rattle.def_iface.specs.Desk.Part.{Picture}
+use Rattle.window_list.specs.declared.window.UserState.{UserState}
 use Rattle.window_list.specs.declared.window.Window.{Window}
 
 -- a window's record; place is where its own 0 0 lies on the screen
@@ -16,6 +17,8 @@ pub record WindowRecord : Type 0 where
   pub serial : ℕ
   pub place : Point
   pub size : Size
+  -- the place and size that a zoomed window has when it is zoomed in again
+  pub user_state : Option UserState
   pub shown : Bool
   pub highlighted : Bool
   pub title : List ℕ
@@ -46,6 +49,7 @@ module _ {V : Type 0} {H : V → Type 0} (loan : Taken V H → Loan) where
     serial = w.serial;
     place = w.place;
     size = w.size;
+    user_state = w.user_state;
     shown = w.shown;
     highlighted = w.highlighted;
     title = w.title.items;

@@ -2,11 +2,12 @@
 use Rattle.std.specs.Prelude.{◌≡◌, ℕ, Bool, ◌==◌, List, [], ◌∷◌, Option, None, Some, if◌then◌else◌, zero, suc, map, nat_lt, false, ◌+◌, ◌++◌, ◌^◌, true, slice_set}
 use Rattle.tb_geom.specs.declared.point.Point.{Point}
 use Rattle.draw_port.specs.declared.shapes.Op.{Op}
-use Rattle.def_iface.specs.declared.size.Size.{Size}
 use Rattle.def_iface.specs.declared.taken.Taken.{Taken}
 use Rattle.def_iface.specs.declared.window_def.Stage.TheVariants.{Live, Closed}
 use Rattle.def_iface.specs.Meaning.{Loan, SameRegions}
 use Rattle.window_list.specs.Ranks.{Ranked}
+use Rattle.window_list.specs.declared.window.Placement.{Placement}
+use Rattle.window_list.specs.declared.window.UserState.{UserState}
 use Rattle.window_list.specs.declared.window.Window.{Window}
 
 -- the list with f of its i-th element in the place of that
@@ -41,8 +42,8 @@ module _ {V : Type 0} {H : V → Type 0} where
   first_shown [] = None
   first_shown (w ∷ ws) = if w.shown then Some w.serial else first_shown ws
 
-  abbrev pub with_stand : Point → Bool → Window V H → Window V H
-  with_stand place shown w = record w { place = place; shown = shown }
+  abbrev pub with_stand : Point → Bool → Option UserState → Window V H → Window V H
+  with_stand place shown user_state w = record w { place = place; shown = shown; user_state = user_state }
 
   -- the window, highlighted if it is the one of this number
   abbrev pub lit : Option ℕ → Window V H → Window V H
@@ -72,12 +73,12 @@ module _ {V : Type 0} {H : V → Type 0} where
     pub regions : SameRegions (loan w.taken).definition (loan taken).definition
     pub slot : (loan taken).slot ≡ (loan w.taken).slot
 
-  -- the i-th window, which is w, has this size, and its definition, which is live as before, was told so
-  pub record IsResizedAt (loan : Taken V H → Loan) (i : ℕ) (size : Size) (w : Window V H) (old new : List (Window V H)) : Type 0 where
+  -- the i-th window, which is w, has this place and size, and its definition, which is live as before, was told the size
+  pub record IsPlacedAt (loan : Taken V H → Loan) (i : ℕ) (to : Placement) (w : Window V H) (old new : List (Window V H)) : Type 0 where
     pub taken : Taken V H
-    pub items : new ≡ slice_set old i (record w { size = size; taken = taken })
+    pub items : new ≡ slice_set old i (record w { place = to.place; size = to.size; user_state = to.user_state; taken = taken })
     pub live : (loan taken).definition.stage ≡ Live
-    pub told : (loan taken).definition.size ≡ size
+    pub told : (loan taken).definition.size ≡ to.size
     pub regions : SameRegions (loan w.taken).definition (loan taken).definition
     pub slot : (loan taken).slot ≡ (loan w.taken).slot
 

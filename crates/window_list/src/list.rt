@@ -4,11 +4,11 @@ ghost use Rattle.std.specs.List.{remove};
 ghost use Rattle.std.specs.Option.{option_map};
 ghost use Rattle.def_iface.specs.Meaning.{is_fitting};
 ghost use Rattle.window_list.specs.Ranks.{moved_item};
-ghost use Rattle.window_list.specs.Lists.{is_numbered, first_shown, dimmed, relit, number_after, map_ranked, edit_at, IsLastBox, with_stand, with_picture, with_origin, with_operation, IsDisposedAt, IsResizedAt};
+ghost use Rattle.window_list.specs.Lists.{is_numbered, first_shown, dimmed, relit, number_after, map_ranked, edit_at, IsLastBox, with_stand, with_picture, with_origin, with_operation, IsDisposedAt, IsPlacedAt};
 ghost use Rattle.window_list.specs.Changes.{keeps_size, has_short_title, IsToldAt};
 
-use crate::{Ranks, Window};
-use def_iface::{Defined, Size, Stage, Taken, WindowChange};
+use crate::{Placement, Ranks, UserState, Window};
+use def_iface::{Defined, Stage, Taken, WindowChange};
 use draw_port::{Op, Picture};
 use std::alloc::{AllocError, Global};
 use tb_geom::{Point, Rect, Refusal};
@@ -153,30 +153,35 @@ impl WindowList {
         self.records.place(from, to);
     }
 
-    /// Sets where the window at this place stands, and whether it is visible.
-    pub fn set_stand(&mut self, at: usize, place: Point, shown: bool)
+    /// Sets where the window at this place stands, whether it is visible, and what it goes back to where it is zoomed.
+    pub fn set_stand(&mut self, at: usize, place: Point, shown: bool, user_state: Option<UserState>)
         requires { at < length self.old.records.items }
-        ensures { self.new ≡ record self.old { records = edit_at (with_stand place shown) at self.old.records } }
+        ensures { self.new ≡ record self.old { records = edit_at (with_stand place shown user_state) at self.old.records } }
     {
         let window = self.records.at_mut(at);
         window.place = place;
         window.shown = shown;
+        window.user_state = user_state;
     }
 
-    /// Gives the window at this place another size, and tells its definition.
-    pub fn resize(&mut self, at: usize, size: Size)
+    /// Gives the window at this place another place and size, and tells its definition the size and whether it is zoomed.
+    pub fn set_placement(&mut self, at: usize, placement: Placement)
         requires within { at < length self.old.records.items }
         requires live { IfSome (slice_get self.old.records.items at)
             (λ w. (⟦<Taken as Defined>⟧.loan w.taken).definition.stage ≡ Stage.Live) }
         requires fits { IfSome (slice_get self.old.records.items at)
-            (λ w. is_fitting (⟦<Taken as Defined>⟧.loan w.taken).definition size ≡ true) }
-        ensures resized { IfSome (slice_get self.old.records.items at) (λ w. IsResizedAt ⟦<Taken as Defined>⟧.loan
-            at size w self.old.records.items self.new.records.items) }
+            (λ w. is_fitting (⟦<Taken as Defined>⟧.loan w.taken).definition placement.size ≡ true) }
+        ensures placed { IfSome (slice_get self.old.records.items at) (λ w. IsPlacedAt ⟦<Taken as Defined>⟧.loan
+            at placement w self.old.records.items self.new.records.items) }
         ensures others { self.new ≡ record self.old { records = self.new.records } }
     {
+        let is_zoomed = placement.user_state.is_some();
         let window = self.records.at_mut(at);
-        let _damage = window.taken.told(WindowChange::Resized(size));
-        window.size = size;
+        let _damage = window.taken.told(WindowChange::Resized(placement.size));
+        let _damage = window.taken.told(WindowChange::Zoomed(is_zoomed));
+        window.place = placement.place;
+        window.size = placement.size;
+        window.user_state = placement.user_state;
     }
 
     /// Gives the window at this place another picture, whose 0 0 is to lie there in the window.
@@ -229,7 +234,7 @@ impl WindowList {
 
     /// Tells the definition of the window at this place of a change, whose title or highlighting the record keeps as
     /// well. The answer is the damage, local to the window: in every font the definition's pictures before and after
-    /// are equal outside it. A change of the size is `resize`'s, and a title has at most 255 bytes.
+    /// are equal outside it. A change of the size is `set_placement`'s, and a title has at most 255 bytes.
     pub fn tell(&mut self, at: usize, change: WindowChange<'_>) -> Rect
         requires within { at < length self.old.records.items }
         requires size { keeps_size change ≡ true }

@@ -12,6 +12,25 @@ use tb_geom::Point;
 /// A title: at most 255 bytes.
 pub type Title = ArrayVec<u8, 255>;
 
+/// The place and size that a zoomed window has when it is zoomed in again (the user state of a WStateData record:
+/// *Inside Macintosh* IV, "The Window Manager").
+#[derive(Clone, Copy)]
+pub struct UserState {
+    /// Where the content's 0 0 lies on the screen.
+    pub place: Point,
+    pub size: Size,
+}
+
+/// Where a window lies and how large it is, and whether it is zoomed.
+#[derive(Clone, Copy)]
+pub struct Placement {
+    /// Where the content's 0 0 lies on the screen.
+    pub place: Point,
+    pub size: Size,
+    /// What it has when it is zoomed in again, or None where it is not zoomed.
+    pub user_state: Option<UserState>,
+}
+
 /// A window's record. Whoever has it may read it; what lies in a list is changed by the list alone.
 #[derive(Drop)]
 pub struct Window {
@@ -19,6 +38,8 @@ pub struct Window {
     /// Where the content's 0 0 lies on the screen.
     pub place: Point,
     pub size: Size,
+    /// What it has when it is zoomed in again, or None where it is not zoomed.
+    pub user_state: Option<UserState>,
     pub shown: bool,
     pub highlighted: bool,
     pub go_away: bool,

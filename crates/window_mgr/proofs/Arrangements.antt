@@ -12,18 +12,20 @@ use Rattle.def_iface.specs.Owner.{content_bit, layer_bit}
 use Rattle.def_iface.specs.Owner.Owner.{Content}
 use Rattle.def_iface.proofs.Owning.{same_number}
 use Rattle.vis_update.specs.Records.{WindowRecord, layered_window}
-use Rattle.vis_update.specs.Touches.{moved_from, is_this}
+use Rattle.vis_update.specs.Touches.{moved_from, came_from, is_this}
 use Rattle.desk_call.specs.declared.window.WindowCall.{WindowCall}
-use Rattle.desk_call.specs.declared.window.WindowCall.TheVariants.{New, Dispose, Show, Hide, ShowHide, Select, BringToFront, SendBehind, Move, Size, Draw, SetPicture, Scroll, Find, Front, Info, VisibleRegion, UpdateRegion}
+use Rattle.desk_call.specs.declared.window.WindowCall.TheVariants.{New, Dispose, Show, Hide, ShowHide, Select, BringToFront, SendBehind, Move, Size, Zoom, Draw, SetPicture, Scroll, Find, Front, Info, VisibleRegion, UpdateRegion}
 use Rattle.desk_call.specs.declared.window.MoveWindow.{MoveWindow}
 use Rattle.desk_call.specs.declared.window.SendBehind as sending
-use Rattle.desk_call.specs.declared.window.SizeWindow.{SizeWindow}
 use Rattle.def_iface.specs.Meaning.{Definition}
 use Rattle.window_mgr.specs.FullDesk.{FullDesk, FullState, layered_desk}
 use Rattle.window_mgr.specs.Finding.{record_with}
-use Rattle.window_mgr.specs.Arrange.{Arrangement, put_behind, behind_this, in_front, without, brought, changed, at_place, with_shown, with_size, way_to, moved, sized}
-use Rattle.window_mgr.specs.Effects.{Effect, effect_of}
-use Rattle.window_mgr.specs.Effects.Effect.{Makes, Disposes, Draws, Pictures, Scrolls, Arranges, Sizes, Tells, Describes}
+use Rattle.window_mgr.specs.Arrange.{Arrangement, put_behind, behind_this, in_front, without, brought, changed, at_place, with_shown, with_placement, way_to, moved, placed}
+use Rattle.desk_call.specs.declared.window.Zoom as directions
+use Rattle.desk_call.specs.Parts.{zoom_of}
+use Rattle.window_mgr.specs.Placings.{Placing, sized, zoomed_by, gone, zoom_target}
+use Rattle.window_mgr.specs.Effects.{Effect, effect_of, places}
+use Rattle.window_mgr.specs.Effects.Effect.{Makes, Disposes, Draws, Pictures, Scrolls, Arranges, Places, Tells, Describes}
 use Rattle.window_mgr.specs.Refused.{IsRefusal}
 use Rattle.window_mgr.proofs.PutIn.{put_in, IsFree, IsPut, is_put, IsTakenOut, out_of, distinct_out}
 use Rattle.window_mgr.proofs.Rearranged.{IsEdit}
@@ -76,7 +78,12 @@ pub record IsSoundArrangement (a : Arrangement) (desk : FullDesk) : Type 0 where
   pub windows : a.windows ≡ put_in to new rest
   pub moves : (part : layers.Part) (p : Point) → content_bit (Some (layered_window desk.font old)) part (moved_from a.window a.by (Content a.window part) p) ≡ content_bit (Some (layered_window desk.font new)) part p
 
--- what an effect says of itself is enough, but of an arrangement, and of a window that is scrolled: it is there
+-- the content of a window that is put elsewhere moves as it does
+abbrev IsWay : Placing → WindowRecord → Type 0
+IsWay p w = (q : Point) → minus (came_from p.by q) w.place ≡ minus q p.to.place
+
+-- what an effect says of itself is enough, but of an arrangement, and of a window that is scrolled or put elsewhere: it is
+-- there
 abbrev pub IsSoundEffect : Effect → FullDesk → Type 0
 IsSoundEffect (Arranges a) desk = IsSoundArrangement a desk
 IsSoundEffect (Makes w) desk = Unit {0}
@@ -84,7 +91,7 @@ IsSoundEffect (Disposes s) desk = Unit {0}
 IsSoundEffect (Draws d) desk = Unit {0}
 IsSoundEffect (Pictures n) desk = Unit {0}
 IsSoundEffect (Scrolls m) desk = (w : WindowRecord) × (record_with m.window desk.windows ≡ Some w)
-IsSoundEffect (Sizes z) desk = Unit {0}
+IsSoundEffect (Places p) desk = (w : WindowRecord) × (record_with p.window desk.windows ≡ Some w) × IsWay p w
 IsSoundEffect (Tells r) desk = Unit {0}
 IsSoundEffect (Describes region) desk = Unit {0}
 
@@ -133,12 +140,27 @@ module _ (desk : FullDesk) (distinct : layers.IsDesk (layered_desk desk)) (s : �
   pub shown_sound : (a : Arrangement) (shown : Bool) → a.window ≡ s → a.by ≡ None → a.windows ≡ changed s (with_shown shown) desk.windows → IsSoundArrangement a desk
   shown_sound a shown its still windows = stays a out.place (with_shown shown w) its still refl (windows ∙ ap (changed s (with_shown shown)) out.is ∙ changed_is desk.font s out.place w out.rest out.serial free (with_shown shown)) (λ part p. refl)
 
-  -- whatever its size, the window's content has the same picture
-  pub sized_sound : (z : SizeWindow) (d : Definition) → z.window ≡ s → IsSoundArrangement (sized z d desk.windows) desk
-  sized_sound z d named = stays (sized z d desk.windows) out.place (with_size z.size d w) named refl refl (ap (λ n. changed n (with_size z.size d) desk.windows) named ∙ ap (changed s (with_size z.size d)) out.is ∙ changed_is desk.font s out.place w out.rest out.serial free (with_size z.size d)) same_content
+  -- wherever it lies and whatever its size, the window's content has the same picture
+  pub placed_sound : (p : Placing) (d : Definition) → p.window ≡ s → IsWay p w → IsSoundArrangement (placed p d desk.windows) desk
+  placed_sound p d named way = record {
+    old = w;
+    new = with_placement p.to d w;
+    place = out.place;
+    to = out.place;
+    rest = out.rest;
+    edit = subst (λ n. IsEdit desk n out.place out.place w (with_placement p.to d w) out.rest) (sym named) (edit out.place (with_placement p.to d w) refl);
+    windows = ap (λ n. changed n (with_placement p.to d) desk.windows) named ∙ ap (changed s (with_placement p.to d)) out.is ∙ changed_is desk.font s out.place w out.rest out.serial free (with_placement p.to d);
+    moves = came;
+  }
     where
-      same_content : (part : layers.Part) (p : Point) → content_bit (Some (layered_window desk.font w)) part p ≡ content_bit (Some (layered_window desk.font (with_size z.size d w))) part p
-      same_content Picture p = refl
+      from : (by : Option Point) (part : layers.Part) (q : Point) → moved_from p.window by (Content p.window part) q ≡ came_from by q
+      from None part q = refl
+      from (Some by) part q = ap (λ b. if b then minus q by else q) (same_number p.window)
+
+      came : (part : layers.Part) (q : Point) → content_bit (Some (layered_window desk.font w)) part (moved_from p.window p.by (Content p.window part) q) ≡ content_bit (Some (layered_window desk.font (with_placement p.to d w))) part q
+      came Picture q =
+          ap (content_bit (Some (layered_window desk.font w)) Picture) (from p.by Picture q)
+          ∙ ap (λ local. layer_bit (layers.layer_of Picture (layered_window desk.font w).layers) local) (way q)
 
   pub sent_sound : (a : Arrangement) (b : sending.SendBehind) → b.window ≡ s → a.window ≡ s → a.by ≡ None → a.windows ≡ behind_this b.behind (record_with s desk.windows) (without s desk.windows) → IsSoundArrangement a desk
   sent_sound a b named its still windows = stays a (place_after b.behind out.rest) w its still refl
@@ -182,6 +204,16 @@ module _ (desk : FullDesk) (distinct : layers.IsDesk (layered_desk desk)) (s : �
         moves = came;
       }
 
+-- a window that is sized stays where it is, and one that is zoomed moves as its content does
+module _ (desk : FullDesk) (s : ℕ) (w : WindowRecord) (found : record_with s desk.windows ≡ Some w) where
+  gone_sound : (o : _) → IsSoundEffect (places (gone s w o)) desk
+  gone_sound None = tt
+  gone_sound (Some to) = (w, found, λ q k. record { h = same_way q.h to.place.h w.place.h k; v = same_way q.v to.place.v w.place.v k })
+
+  zoomed_sound : (o : Option directions.Zoom) → IsSoundEffect (places (zoomed_by o s (Some w) desk)) desk
+  zoomed_sound None = tt
+  zoomed_sound (Some zoom) = gone_sound (zoom_target zoom w.user_state desk w)
+
 -- every call that nothing refuses has a sound effect
 pub effect_is_sound : (call : WindowCall) (state : FullState) → layers.IsDesk (layered_desk state.desk) → IsRefusal call state None → IsSoundEffect (effect_of call state.desk) state.desk
 effect_is_sound (New w) state distinct e = tt
@@ -189,7 +221,12 @@ effect_is_sound (Dispose s) state distinct e = tt
 effect_is_sound (Draw d) state distinct e = tt
 effect_is_sound (SetPicture n) state distinct e = tt
 effect_is_sound (Scroll m) state distinct e = there_of true (record_with m.window state.desk.windows) _ e
-effect_is_sound (Size z) state distinct e = tt
+effect_is_sound (Size z) state distinct e =
+    let w = there_of true (record_with z.window state.desk.windows) _ e in
+    subst (λ o. IsSoundEffect (places (sized z o)) state.desk) (sym w.1) (w.0, w.1, λ q. refl)
+effect_is_sound (Zoom z) state distinct e =
+    let w = there_of true (record_with z.window state.desk.windows) _ e in
+    subst (λ o. IsSoundEffect (places (zoomed_by (zoom_of z.part) z.window o state.desk)) state.desk) (sym w.1) (zoomed_sound state.desk z.window w.0 w.1 (zoom_of z.part))
 effect_is_sound (Find p) state distinct e = tt
 effect_is_sound Front state distinct e = tt
 effect_is_sound (Info s) state distinct e = tt

@@ -85,7 +85,7 @@ module _ {V : Type 0} {H : V → Type 0} (loan : Taken V H → Loan) where
     records_are : e.size ≡ w.size → map (record_of loan) (relit_all a t.windows.active (insert (remove t.windows.records.items e.at) e.to (put_window e w))) ≡ after.windows
     records_are size_is =
         relit_records a t.windows.active (insert (remove t.windows.records.items e.at) e.to (put_window e w))
-        ∙ ap (activated a t.windows.active) (map-insert (record_of loan) e.to (put_window e w) (remove t.windows.records.items e.at) ∙ (λ i. put_in e.to (record (record_of loan w) { place = e.place; size = sym size_is i; shown = e.shown }) rest))
+        ∙ ap (activated a t.windows.active) (map-insert (record_of loan) e.to (put_window e w) (remove t.windows.records.items e.at) ∙ (λ i. put_in e.to (record (record_of loan w) { place = e.place; size = sym size_is i; user_state = e.user_state; shown = e.shown }) rest))
 
     put_settled : IsPlaceable loan e t.windows.records.items → e.size ≡ w.size → All IsSettled (desk_of loan t slots).windows → IsSettled (put_record e (record_of loan w))
     put_settled may size_is all =

@@ -50,7 +50,7 @@ use Rattle.window_mgr.proofs.Rearranged.{free, sound_now}
 use Rattle.window_mgr.proofs.Remarked as remarked
 use Rattle.window_mgr.proofs.Remarked.{unless}
 use Rattle.window_mgr.proofs.Repicturing.{not_stale}
-use Rattle.window_mgr.proofs.SizeCalls.{set_is_put}
+use Rattle.window_mgr.proofs.PlacementCalls.{set_is_put}
 
 -- ---- whose the frame's pixels are
 

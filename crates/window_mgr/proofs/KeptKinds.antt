@@ -6,7 +6,7 @@ use Rattle.desk_call.specs.declared.window.WindowReply.{WindowReply}
 use Rattle.window_mgr.specs.FullDesk.{FullDesk, FullState}
 use Rattle.window_mgr.specs.Step.{IsWindowStep}
 use Rattle.window_mgr.specs.Effects.{Effect, IsEffect, effect_of}
-use Rattle.window_mgr.specs.Effects.Effect.{Makes, Disposes, Draws, Pictures, Scrolls, Arranges, Sizes, Tells, Describes}
+use Rattle.window_mgr.specs.Effects.Effect.{Makes, Disposes, Draws, Pictures, Scrolls, Arranges, Places, Tells, Describes}
 use Rattle.window_mgr.proofs.SlotLemmas.{kinds_when_taken}
 use Rattle.window_mgr.proofs.Disposed.{disposed_keeps_kinds}
 
@@ -21,7 +21,7 @@ effect_keeps_kinds (Pictures n) answer before after (is, done) = ap (λ (d : Ful
 effect_keeps_kinds (Scrolls m) answer before after (is, done) = ap (λ (d : FullDesk). map (λ slot. slot.kind) d.stock) done.desk
 effect_keeps_kinds (Arranges a) answer before after (is, arranged) = ap (λ (d : FullDesk). map (λ slot. slot.kind) d.stock) arranged.desk
 effect_keeps_kinds (Disposes s) answer before after (is, closed) = disposed_keeps_kinds s before after closed
-effect_keeps_kinds (Sizes z) answer before after (is, change) = ap (λ (d : FullDesk). map (λ slot. slot.kind) d.stock) change.arranged.desk
+effect_keeps_kinds (Places p) answer before after (is, change) = ap (λ (d : FullDesk). map (λ slot. slot.kind) d.stock) change.arranged.desk
 effect_keeps_kinds (Tells r) answer before after (is, same) = ap (λ (d : FullDesk). map (λ slot. slot.kind) d.stock) same.desk
 effect_keeps_kinds (Describes region) answer before after (is, same) = ap (λ (d : FullDesk). map (λ slot. slot.kind) d.stock) same.desk
 

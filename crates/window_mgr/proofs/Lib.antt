@@ -32,7 +32,8 @@ pub mod Steps
 pub mod Marking
 pub mod PictureSteps
 pub mod ScrollSteps
-pub mod SizeCalls
+pub mod PlacementCalls
+pub mod ZoomLemmas
 pub mod DisposeCalls
 pub mod Running
 pub mod KeptKinds

@@ -23,8 +23,8 @@ use Rattle.vis_update.specs.Records.{WindowRecord, layered_window}
 use Rattle.window_mgr.specs.FullDesk.{FullDesk, FullState, IsRightState, AreBelow, AreNumbered, layered_desk, layered_state}
 use Rattle.window_mgr.specs.Step.{IsWindowStep}
 use Rattle.window_mgr.specs.Effects.{IsNewWindow, IsDrawn, IsPictureSet, IsScrolled, IsUnchanged, IsArrangement, Effect, IsEffect, effect_of, new_record, desk_with, with_drawn, with_new_picture, with_scrolled, draw_change, picture_change, scroll_change}
-use Rattle.window_mgr.specs.Effects.Effect.{Makes, Disposes, Draws, Pictures, Scrolls, Arranges, Sizes, Tells, Describes}
-use Rattle.window_mgr.specs.Arrange.{with_highlighting, Arrangement, activation_of, desk_activated, sized}
+use Rattle.window_mgr.specs.Effects.Effect.{Makes, Disposes, Draws, Pictures, Scrolls, Arranges, Places, Tells, Describes}
+use Rattle.window_mgr.specs.Arrange.{with_highlighting, Arrangement, activation_of, desk_activated, placed}
 use Rattle.window_mgr.specs.Finding.{front_of, record_with}
 use Rattle.vis_update.specs.Touches.{moving}
 use Rattle.window_mgr.proofs.EachChanged.{below_map, map-map, numbered_map}
@@ -32,7 +32,7 @@ use Rattle.window_mgr.proofs.DimLemmas.{either}
 use Rattle.window_mgr.proofs.PictureChanges.{draw_is_sound, picture_is_sound, scroll_is_sound}
 use Rattle.window_mgr.proofs.Repictured.{repictured_serial}
 use Rattle.window_mgr.proofs.Rearranged.{edited, edit_is_sound, numbered_now}
-use Rattle.window_mgr.proofs.Arrangements.{IsSoundArrangement, IsSoundEffect, effect_is_sound, sized_sound}
+use Rattle.window_mgr.proofs.Arrangements.{IsSoundArrangement, IsSoundEffect, effect_is_sound, placed_sound}
 use Rattle.window_mgr.proofs.Disposed.{disposed_stays_right}
 
 -- ---- a window in front of others
@@ -172,7 +172,7 @@ effect_stays_right (Pictures n) answer before after right sound done = picture_s
 effect_stays_right (Scrolls m) answer before after right sound done = scroll_stays_right m before after sound.0 sound.1 right done.1
 effect_stays_right (Arranges a) answer before after right sound done = arranged_stays_right a before after right sound done.1
 effect_stays_right (Disposes s) answer before after right sound done = disposed_stays_right s before after right done.1
-effect_stays_right (Sizes z) answer before after right sound done = let change = done.1 in arranged_stays_right (sized z change.definition before.desk.windows) before after right (sized_sound before.desk right.plain.desk z.window change.window change.found z change.definition refl) change.arranged
+effect_stays_right (Places p) answer before after right (w, found, way) done = let change = done.1 in arranged_stays_right (placed p change.definition before.desk.windows) before after right (placed_sound before.desk right.plain.desk p.window w found p change.definition refl way) change.arranged
 effect_stays_right (Tells r) answer before after right sound done = unchanged_stays_right before after right done.1
 effect_stays_right (Describes region) answer before after right sound done = unchanged_stays_right before after right done.1
 

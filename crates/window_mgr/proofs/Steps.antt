@@ -1,5 +1,5 @@
 -- The steps of the calls that arrange windows.
-use Rattle.std.proofs.Common.{◌≡◌, inr, ℕ, ◌<◌, ◌&&◌, not, Bool, true, false, if◌then◌else◌, List, [], ◌∷◌, length, map, Option, None, Some, Result, Ok, Err, refl, sym, ap, ◌∙◌, subst}
+use Rattle.std.proofs.Common.{◌≡◌, inr, ℕ, ◌<◌, not, Bool, true, false, if◌then◌else◌, List, [], ◌∷◌, length, map, Option, None, Some, Result, Ok, Err, refl, sym, ap, ◌∙◌, subst}
 use Rattle.std.specs.Prelude.{is_none}
 use Rattle.std.specs.List.{insert, remove}
 use Rattle.tb_geom.specs.declared.point.Point.{Point}
@@ -19,7 +19,6 @@ use Rattle.window_mgr.specs.declared.arrange.Activates.TheVariants.{Nothing, Its
 use Rattle.window_mgr.specs.declared.arrange.Edit.{Edit}
 use Rattle.desk_call.specs.declared.window.MoveWindow.{MoveWindow}
 use Rattle.desk_call.specs.declared.window.SendBehind as sending
-use Rattle.desk_call.specs.declared.window.ShowHide as showing
 use Rattle.desk_call.specs.declared.window.WindowCall.{WindowCall}
 use Rattle.desk_call.specs.declared.window.WindowCall.TheVariants.{Show, Hide, ShowHide, Select, BringToFront, SendBehind, Move}
 use Rattle.desk_call.specs.declared.window.WindowReply.{WindowReply}
@@ -90,44 +89,35 @@ module _ {V : Type 0} {H : V → Type 0} (loan : Taken V H → Loan) (t new : Wi
 
   -- ---- one by one
 
-  pub select_step : (e : Edit) (activates : Activates) (result : Result WindowReply Refusal) → e ≡ record (stays_put i x) { to = 0 } → activates ≡ (if x.shown then Itself else Nothing)
-      → IsRearrangedOverAnySlots loan e activates None result t new → IsStep (Select s) result
-  select_step e activates result e_is activates_is done =
+  -- the window is brought to the front, and selected where that is asked
+  pub bring_step : (select : Bool) (e : Edit) (activates : Activates) (result : Result WindowReply Refusal) → e ≡ record (stays_put i x) { to = 0 } → activates ≡ (if select then (if x.shown then Itself else Nothing) else Nothing)
+      → IsRearrangedOverAnySlots loan e activates None result t new → IsStep (if select then Select s else BringToFront s) result
+  bring_step true e activates result e_is activates_is done =
       edit_step (Select s) (record (stays_put i x) { to = 0 }) (if x.shown then Itself else Nothing) None result _ refl refl refl not_missing
       (λ k. record { window = sym serial k; by = None; windows = brought_so k; activates = if_visible (found k) Itself })
       (subst (λ (y : Edit × Activates). IsRearrangedOverAnySlots loan y.0 y.1 None result t new) (λ k. (e_is k, activates_is k)) done)
-
-  pub bring_step : (e : Edit) (result : Result WindowReply Refusal) → e ≡ record (stays_put i x) { to = 0 }
-      → IsRearrangedOverAnySlots loan e Nothing None result t new → IsStep (BringToFront s) result
-  bring_step e result e_is done =
+  bring_step false e activates result e_is activates_is done =
       edit_step (BringToFront s) (record (stays_put i x) { to = 0 }) Nothing None result _ refl refl refl not_missing
       (λ k. record { window = sym serial k; by = None; windows = brought_so k; activates = Nothing })
-      (subst (λ (y : Edit). IsRearrangedOverAnySlots loan y Nothing None result t new) e_is done)
-
-  pub show_step : (e : Edit) (activates : Activates) (result : Result WindowReply Refusal) → e ≡ record (stays_put i x) { shown = true } → activates ≡ (if not x.shown then ItselfIfFront else Nothing)
-      → IsRearrangedOverAnySlots loan e activates None result t new → IsStep (Show s) result
-  show_step e activates result e_is activates_is done =
-      edit_step (Show s) (record (stays_put i x) { shown = true }) (if not x.shown then ItselfIfFront else Nothing) None result _ refl refl refl not_missing
-      (λ k. record { window = sym serial k; by = None; windows = changed_so (with_shown true) k; activates = (ap (λ o. if is_visible o then Nothing else ItselfIfFront) found ∙ turned x.shown) k })
       (subst (λ (y : Edit × Activates). IsRearrangedOverAnySlots loan y.0 y.1 None result t new) (λ k. (e_is k, activates_is k)) done)
-    where
-      turned : (b : Bool) → (if b then Nothing else ItselfIfFront) ≡ (if not b then ItselfIfFront else Nothing)
-      turned true = refl
-      turned false = refl
 
-  pub hide_step : (e : Edit) (activates : Activates) (result : Result WindowReply Refusal) → e ≡ record (stays_put i x) { shown = false } → activates ≡ (if x.shown then FrontInItsPlace else Nothing)
-      → IsRearrangedOverAnySlots loan e activates None result t new → IsStep (Hide s) result
-  hide_step e activates result e_is activates_is done =
+  -- the window becomes visible or hidden, and what becomes so by that becomes active where that is asked
+  pub show_step : (on shown : Bool) (e : Edit) (activates : Activates) (result : Result WindowReply Refusal) → e ≡ record (stays_put i x) { shown = shown }
+      → activates ≡ (if on then (if shown then (if x.shown then Nothing else ItselfIfFront) else (if x.shown then FrontInItsPlace else Nothing)) else Nothing)
+      → IsRearrangedOverAnySlots loan e activates None result t new
+      → IsStep (if on then (if shown then Show s else Hide s) else ShowHide (record { window = s; shown = shown })) result
+  show_step true true e activates result e_is activates_is done =
+      edit_step (Show s) (record (stays_put i x) { shown = true }) (if x.shown then Nothing else ItselfIfFront) None result _ refl refl refl not_missing
+      (λ k. record { window = sym serial k; by = None; windows = changed_so (with_shown true) k; activates = (ap (λ o. if is_visible o then Nothing else ItselfIfFront) found) k })
+      (subst (λ (y : Edit × Activates). IsRearrangedOverAnySlots loan y.0 y.1 None result t new) (λ k. (e_is k, activates_is k)) done)
+  show_step true false e activates result e_is activates_is done =
       edit_step (Hide s) (record (stays_put i x) { shown = false }) (if x.shown then FrontInItsPlace else Nothing) None result _ refl refl refl not_missing
       (λ k. record { window = sym serial k; by = None; windows = changed_so (with_shown false) k; activates = if_visible (found k) FrontInItsPlace })
       (subst (λ (y : Edit × Activates). IsRearrangedOverAnySlots loan y.0 y.1 None result t new) (λ k. (e_is k, activates_is k)) done)
-
-  pub show_hide_step : (c : showing.ShowHide) (e : Edit) (result : Result WindowReply Refusal) → s ≡ c.window → e ≡ record (stays_put i x) { shown = c.shown }
-      → IsRearrangedOverAnySlots loan e Nothing None result t new → IsStep (ShowHide c) result
-  show_hide_step c e result named e_is done =
-      edit_step (ShowHide c) (record (stays_put i x) { shown = c.shown }) Nothing None result _ refl refl refl (subst (λ n. first_refusal ((is_missing n desk.windows, NoSuchWindow) ∷ []) ≡ None) named not_missing)
-      (λ k. record { window = sym (serial ∙ named) k; by = None; windows = (ap (λ n. changed n (with_shown c.shown) desk.windows) (sym named) ∙ changed_so (with_shown c.shown)) k; activates = Nothing })
-      (subst (λ (y : Edit). IsRearrangedOverAnySlots loan y Nothing None result t new) e_is done)
+  show_step false shown e activates result e_is activates_is done =
+      edit_step (ShowHide (record { window = s; shown = shown })) (record (stays_put i x) { shown = shown }) Nothing None result _ refl refl refl not_missing
+      (λ k. record { window = sym serial k; by = None; windows = changed_so (with_shown shown) k; activates = Nothing })
+      (subst (λ (y : Edit × Activates). IsRearrangedOverAnySlots loan y.0 y.1 None result t new) (λ k. (e_is k, activates_is k)) done)
 
   pub send_step : (b : sending.SendBehind) (to : ℕ) (e : Edit) (result : Result WindowReply Refusal) → s ≡ b.window → IsPlaceBehind loan b i t to → e ≡ record (stays_put i x) { to = to }
       → IsRearrangedOverAnySlots loan e NextInItsPlace None result t new → IsStep (SendBehind b) result
@@ -170,15 +160,15 @@ module _ {V : Type 0} {H : V → Type 0} (loan : Taken V H → Loan) (t new : Wi
         (λ k. is_placed (Some (loan (same_at t.windows.records.items i w x low (subst (λ n. IsWindowAt t.windows.records.items n w) at w_is) x_is k).taken).definition) (place k) (size k)) ∙ placed
 
   pub move_step : (m : MoveWindow) (e : Edit) (activates : Activates) (by : Point) (result : Result WindowReply Refusal) → s ≡ m.window → first_refusal (move_refusals m desk) ≡ None
-      → e ≡ record { at = i; to = if m.select then 0 else i; place = m.place; size = x.size; shown = x.shown } → activates ≡ (if m.select && x.shown then Itself else Nothing) → by ≡ minus m.place x.place
+      → e ≡ record { at = i; to = if m.select then 0 else i; place = m.place; size = x.size; user_state = None; shown = x.shown } → activates ≡ (if m.select then (if x.shown then Itself else Nothing) else Nothing) → by ≡ minus m.place x.place
       → IsRearrangedOverAnySlots loan e activates (Some by) result t new → IsStep (Move m) result
   move_step m e activates by result named allowed e_is activates_is by_is done =
-      edit_step (Move m) (record { at = i; to = if m.select then 0 else i; place = m.place; size = x.size; shown = x.shown }) (if m.select && x.shown then Itself else Nothing) (Some (minus m.place x.place)) result _ refl refl refl allowed
+      edit_step (Move m) (record { at = i; to = if m.select then 0 else i; place = m.place; size = x.size; user_state = None; shown = x.shown }) (if m.select then (if x.shown then Itself else Nothing) else Nothing) (Some (minus m.place x.place)) result _ refl refl refl allowed
       (λ k. record {
         window = sym (serial ∙ named) k;
         by = (ap (way_to m.place) here) k;
         windows = (by_select m.select) k;
-        activates = (ap (λ o. if m.select then if_visible o Itself else Nothing) here ∙ both m.select x.shown) k;
+        activates = (ap (λ o. if m.select then if_visible o Itself else Nothing) here) k;
       })
       (subst (λ (y : Edit × Activates × Point). IsRearrangedOverAnySlots loan y.0 y.1 (Some y.2) result t new) (λ k. (e_is k, activates_is k, by_is k)) done)
     where
@@ -187,10 +177,6 @@ module _ {V : Type 0} {H : V → Type 0} (loan : Taken V H → Loan) (t new : Wi
 
       there : changed m.window (at_place m.place) desk.windows ≡ put_in i (at_place m.place (record_of loan x)) others
       there = ap (λ n. changed n (at_place m.place) desk.windows) (sym named) ∙ ap (changed s (at_place m.place)) windows ∙ changed_is t.font s i (record_of loan x) others serial free (at_place m.place)
-
-      both : (a b : Bool) → (if a then (if b then Itself else Nothing) else Nothing) ≡ (if a && b then Itself else Nothing)
-      both true b = refl
-      both false b = refl
 
       by_select : (b : Bool) → (if b then brought m.window (changed m.window (at_place m.place) desk.windows) else changed m.window (at_place m.place) desk.windows) ≡ insert others (if b then 0 else i) (at_place m.place (record_of loan x))
       by_select true = (λ k. brought (sym named k) (there k)) ∙ brought_is t.font s i (at_place m.place (record_of loan x)) others serial free ∙ put_is_insert 0 (at_place m.place (record_of loan x)) others

@@ -2,6 +2,7 @@
 use Rattle.std.specs.Prelude.{ℕ, Bool, true, false, if◌then◌else◌, ◌==◌, not, List, [], ◌∷◌, map, Option, None, Some}
 use Rattle.tb_geom.specs.declared.point.Point.{Point}
 use Rattle.tb_geom.specs.Points.{minus}
+use Rattle.window_list.specs.declared.window.Placement.{Placement}
 use Rattle.vis_update.specs.Records.{WindowRecord}
 use Rattle.vis_update.specs.Touches.{is_this}
 use Rattle.window_mgr.specs.declared.arrange.Activates.{Activates}
@@ -11,11 +12,10 @@ use Rattle.window_mgr.specs.declared.arrange.Activation.TheVariants.{Stays, Beco
 use Rattle.desk_call.specs.declared.window.MoveWindow.{MoveWindow}
 use Rattle.desk_call.specs.declared.window.SendBehind.{SendBehind}
 use Rattle.desk_call.specs.declared.window.ShowHide.{ShowHide}
-use Rattle.desk_call.specs.declared.window.SizeWindow.{SizeWindow}
-use Rattle.def_iface.specs.declared.size.Size.{Size}
 use Rattle.def_iface.specs.Meaning.{Definition}
 use Rattle.window_mgr.specs.FullDesk.{FullDesk}
 use Rattle.window_mgr.specs.Finding.{record_with, front_of}
+use Rattle.window_mgr.specs.Placings.{Placing}
 
 -- ---- highlighting
 
@@ -101,15 +101,16 @@ abbrev pub changed : ℕ → (WindowRecord → WindowRecord) → List WindowReco
 changed s f [] = []
 changed s f (w ∷ ws) = if w.serial == s then f w ∷ ws else w ∷ changed s f ws
 
+-- the window at this place, and not zoomed
 abbrev pub at_place : Point → WindowRecord → WindowRecord
-at_place place w = record w { place = place }
+at_place place w = record w { place = place; user_state = None }
 
 abbrev pub with_shown : Bool → WindowRecord → WindowRecord
 with_shown shown w = record w { shown = shown }
 
--- the window with this size, and its definition, which was told so
-abbrev pub with_size : Size → Definition → WindowRecord → WindowRecord
-with_size size d w = record w { size = size; definition = d }
+-- the window, which lies so, and its definition, which was told its size
+abbrev pub with_placement : Placement → Definition → WindowRecord → WindowRecord
+with_placement to d w = record w { place = to.place; size = to.size; user_state = to.user_state; definition = d }
 
 abbrev pub is_visible : Option WindowRecord → Bool
 is_visible None = false
@@ -174,6 +175,6 @@ made_hidden s ws = record { window = s; by = None; windows = changed s (with_sho
 abbrev pub made_so : ShowHide → List WindowRecord → Arrangement
 made_so c ws = record { window = c.window; by = None; windows = changed c.window (with_shown c.shown) ws; activates = Nothing }
 
--- the window has this size, and its definition, which was told so; no highlighting changes
-abbrev pub sized : SizeWindow → Definition → List WindowRecord → Arrangement
-sized z d ws = record { window = z.window; by = None; windows = changed z.window (with_size z.size d) ws; activates = Nothing }
+-- the window lies so, with its definition, which was told its size; no highlighting changes
+abbrev pub placed : Placing → Definition → List WindowRecord → Arrangement
+placed p d ws = record { window = p.window; by = p.by; windows = changed p.window (with_placement p.to d) ws; activates = Nothing }

@@ -35,9 +35,9 @@ use Rattle.window_mgr.specs.Effects.{IsArrangement, IsUnchanged}
 use Rattle.window_mgr.specs.Seats.{AreSeatsOf}
 use Rattle.window_mgr.specs.Whole.{IsSettled}
 
--- the record with the place, the size and the visibility of the edit
+-- the record with the place, the size, the user state and the visibility of the edit
 abbrev pub put_record : Edit → WindowRecord → WindowRecord
-put_record e w = record w { place = e.place; size = e.size; shown = e.shown }
+put_record e w = record w { place = e.place; size = e.size; user_state = e.user_state; shown = e.shown }
 
 module _ {V : Type 0} {H : V → Type 0} where
   -- the window at this place of the list
@@ -50,11 +50,11 @@ module _ {V : Type 0} {H : V → Type 0} where
 
   -- the window stays as it stands
   abbrev pub stays_put : ℕ → Window V H → Edit
-  stays_put at w = record { at = at; to = at; place = w.place; size = w.size; shown = w.shown }
+  stays_put at w = record { at = at; to = at; place = w.place; size = w.size; user_state = w.user_state; shown = w.shown }
 
-  -- the window, at the place and as visible as the edit says
+  -- the window, at the place, with the user state and as visible as the edit says
   abbrev pub put_window : Edit → Window V H → Window V H
-  put_window e w = record w { place = e.place; shown = e.shown }
+  put_window e w = record w { place = e.place; user_state = e.user_state; shown = e.shown }
 
   -- one of the windows was put anew
   pub record IsPutAnew (e : Edit) (old new : List (Window V H)) : Type 0 where

@@ -1,5 +1,5 @@
 -- What calls do: the kinds of effect, and which has which.
-use Rattle.std.specs.Prelude.{◌≡◌, ℕ, true, false, if◌then◌else◌, ◌==◌, List, [], ◌∷◌, ◌++◌, map, Some, pos}
+use Rattle.std.specs.Prelude.{◌≡◌, ℕ, true, false, if◌then◌else◌, ◌==◌, List, [], ◌∷◌, ◌++◌, map, Option, None, Some, pos}
 use Rattle.tb_geom.specs.declared.point.Point.{Point}
 use Rattle.tb_geom.specs.Points.{PixelSet, plus, minus}
 use Rattle.draw_port.specs.declared.shapes.Op.{Op}
@@ -18,18 +18,18 @@ use Rattle.window_list.specs.Lists.{number_after}
 use Rattle.vis_update.specs.Records.{WindowRecord}
 use Rattle.vis_update.specs.Touches.{moving}
 use Rattle.desk_call.specs.declared.window.WindowCall.{WindowCall}
-use Rattle.desk_call.specs.declared.window.WindowCall.TheVariants.{New, Dispose, Show, Hide, ShowHide, Select, BringToFront, SendBehind, Move, Size, Draw, SetPicture, Scroll, Find, Front, Info, VisibleRegion, UpdateRegion}
+use Rattle.desk_call.specs.declared.window.WindowCall.TheVariants.{New, Dispose, Show, Hide, ShowHide, Select, BringToFront, SendBehind, Move, Size, Zoom, Draw, SetPicture, Scroll, Find, Front, Info, VisibleRegion, UpdateRegion}
 use Rattle.desk_call.specs.declared.window.Drawing.{Drawing}
 use Rattle.desk_call.specs.declared.window.NewPicture.{NewPicture}
 use Rattle.desk_call.specs.declared.window.NewWindow.{NewWindow}
 use Rattle.desk_call.specs.declared.window.ScrollPicture.{ScrollPicture}
-use Rattle.desk_call.specs.declared.window.SizeWindow.{SizeWindow}
 use Rattle.window_mgr.specs.declared.arrange.Activates.TheVariants.{FrontInItsPlace}
 use Rattle.desk_call.specs.declared.window.WindowReply.{WindowReply}
 use Rattle.desk_call.specs.declared.window.WindowReply.TheVariants as reply
 use Rattle.window_mgr.specs.FullDesk.{FullDesk, FullState, layered_desk, layered_state}
 use Rattle.window_mgr.specs.Finding.{record_with, found_at, front_of, info_of}
-use Rattle.window_mgr.specs.Arrange.{Arrangement, with_highlighting, desk_arranged, without, selected, brought_forward, sent_behind, moved, made_visible, made_hidden, made_so, sized}
+use Rattle.window_mgr.specs.Arrange.{Arrangement, with_highlighting, desk_arranged, without, selected, brought_forward, sent_behind, moved, made_visible, made_hidden, made_so, placed}
+use Rattle.window_mgr.specs.Placings.{Placing, sized, zoomed}
 use Rattle.window_mgr.specs.Closing.{IsShut, loan_of}
 use Rattle.window_mgr.specs.Telling.{IsRegionTold, visible_of, update_of}
 
@@ -39,6 +39,7 @@ new_record w serial slot d = record {
   serial = serial;
   place = w.place;
   size = w.size;
+  user_state = None;
   shown = w.shown;
   highlighted = w.shown;
   title = w.title;
@@ -134,13 +135,13 @@ pub record IsToldSize (size : sizes.Size) (old new : Definition) : Type 0 where
   pub told : new.size ≡ size
   pub regions : SameRegions old new
 
--- the window got this size, and its definition was told so
-pub record IsWindowSized (z : SizeWindow) (before after : FullState) : Type 0 where
+-- the window lies so now, and its definition was told its size
+pub record IsWindowPlaced (p : Placing) (before after : FullState) : Type 0 where
   pub window : WindowRecord
   pub definition : Definition
-  pub found : record_with z.window before.desk.windows ≡ Some window
-  pub told : IsToldSize z.size window.definition definition
-  pub arranged : IsArrangement (sized z definition before.desk.windows) before after
+  pub found : record_with p.window before.desk.windows ≡ Some window
+  pub told : IsToldSize p.to.size window.definition definition
+  pub arranged : IsArrangement (placed p definition before.desk.windows) before after
 
 -- the window of this serial is there no more, and its definition went back Closed into its slot, which was there and
 -- empty; where it was active, the first visible window became so, or none
@@ -160,9 +161,14 @@ pub data Effect : Type 0 where
   Pictures : (picture : NewPicture) → Effect
   Scrolls : (scroll : ScrollPicture) → Effect
   Arranges : (arrangement : Arrangement) → Effect
-  Sizes : (change : SizeWindow) → Effect
+  Places : (placing : Placing) → Effect
   Tells : (answer : WindowReply) → Effect
   Describes : (region : FullState → PixelSet) → Effect
+
+-- where a call puts no window elsewhere nothing changes
+abbrev pub places : Option Placing → Effect
+places None = Tells reply.Done
+places (Some p) = Places p
 
 -- the effect of a call that nothing refuses
 abbrev pub effect_of : WindowCall → FullDesk → Effect
@@ -178,7 +184,8 @@ effect_of (Move m) desk = Arranges (moved m desk.windows)
 effect_of (Show s) desk = Arranges (made_visible s desk.windows)
 effect_of (Hide s) desk = Arranges (made_hidden s desk.windows)
 effect_of (ShowHide c) desk = Arranges (made_so c desk.windows)
-effect_of (Size z) desk = Sizes z
+effect_of (Size z) desk = places (sized z (record_with z.window desk.windows))
+effect_of (Zoom z) desk = places (zoomed z (record_with z.window desk.windows) desk)
 effect_of (Find p) desk = Tells (reply.Found (found_at desk p))
 effect_of Front desk = Tells (reply.Front (front_of desk.windows))
 effect_of (Info s) desk = Tells (info_of (record_with s desk.windows))
@@ -193,6 +200,6 @@ IsEffect (Draws d) answer before after = (answer ≡ reply.Done) × IsDrawn d be
 IsEffect (Pictures n) answer before after = (answer ≡ reply.Done) × IsPictureSet n before after
 IsEffect (Scrolls m) answer before after = (answer ≡ reply.Done) × IsScrolled m before after
 IsEffect (Arranges a) answer before after = (answer ≡ reply.Done) × IsArrangement a before after
-IsEffect (Sizes z) answer before after = (answer ≡ reply.Done) × IsWindowSized z before after
+IsEffect (Places p) answer before after = (answer ≡ reply.Done) × IsWindowPlaced p before after
 IsEffect (Tells r) answer before after = (answer ≡ r) × IsUnchanged before after
 IsEffect (Describes region) answer before after = IsRegionTold (region before) answer × IsUnchanged before after

@@ -4,6 +4,7 @@ pub mod FullDesk
 pub mod Records
 pub mod Finding
 pub mod Telling
+pub mod Placings
 pub mod Refused
 pub mod Whole
 pub mod Kept
@@ -16,8 +17,8 @@ pub mod Planned
 pub mod Edits
 pub mod AnySlots
 pub mod Updating
+pub mod Laying
 pub mod FrameTelling
-pub mod Sizing
 pub mod Without
 pub mod Begin
 pub mod Closing

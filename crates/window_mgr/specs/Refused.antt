@@ -14,16 +14,18 @@ use Rattle.vis_update.specs.Records.{WindowRecord}
 use Rattle.vis_update.specs.Places.{is_placed}
 use Rattle.vis_update.specs.Touches.{is_this}
 use Rattle.desk_call.specs.declared.window.WindowCall.{WindowCall}
-use Rattle.desk_call.specs.declared.window.WindowCall.TheVariants.{New, Dispose, Show, Hide, ShowHide, Select, BringToFront, SendBehind, Move, Size, Draw, SetPicture, Scroll, Find, Front, Info, VisibleRegion, UpdateRegion}
+use Rattle.desk_call.specs.declared.window.WindowCall.TheVariants.{New, Dispose, Show, Hide, ShowHide, Select, BringToFront, SendBehind, Move, Size, Zoom, Draw, SetPicture, Scroll, Find, Front, Info, VisibleRegion, UpdateRegion}
 use Rattle.desk_call.specs.declared.window.MoveWindow.{MoveWindow}
 use Rattle.desk_call.specs.declared.window.NewPicture.{NewPicture}
 use Rattle.desk_call.specs.declared.window.NewWindow.{NewWindow}
 use Rattle.desk_call.specs.declared.window.ScrollPicture.{ScrollPicture}
 use Rattle.desk_call.specs.declared.window.SendBehind as sending
 use Rattle.desk_call.specs.declared.window.SizeWindow.{SizeWindow}
-use Rattle.def_iface.specs.declared.size.Size as sizes
+use Rattle.desk_call.specs.declared.window.ZoomWindow.{ZoomWindow}
+use Rattle.desk_call.specs.Parts.{zoom_of}
 use Rattle.window_mgr.specs.Finding.{record_with}
 use Rattle.window_mgr.specs.FullDesk.{FullDesk, FullState}
+use Rattle.window_mgr.specs.Placings.{Placing, sized, zoomed}
 use Rattle.window_mgr.specs.Telling.{IsMeasured, visible_of, update_of}
 
 abbrev pub first_refusal : List (Bool × Refusal) → Option Refusal
@@ -119,15 +121,23 @@ abbrev pub move_refusals : MoveWindow → FullDesk → List (Bool × Refusal)
 move_refusals m desk =
     (is_missing m.window desk.windows, NoSuchWindow) ∷ (not (may_be_at m.place (record_with m.window desk.windows)), OutOfRange) ∷ []
 
--- the window may have this size, if there is one
-abbrev pub may_have_size : sizes.Size → Option WindowRecord → Bool
-may_have_size size None = true
-may_have_size size (Some w) = is_placed (Some w.definition) w.place size
+-- the window may lie where it is put, if there is one and it is put anywhere
+abbrev pub may_lie : Option Placing → Option WindowRecord → Bool
+may_lie None o = true
+may_lie (Some p) None = true
+may_lie (Some p) (Some w) = is_placed (Some w.definition) p.to.place p.to.size
 
 -- why a window may not get a size: it is missing, or may not have it
 abbrev pub size_refusals : SizeWindow → FullDesk → List (Bool × Refusal)
 size_refusals z desk =
-    (is_missing z.window desk.windows, NoSuchWindow) ∷ (not (may_have_size z.size (record_with z.window desk.windows)), OutOfRange) ∷ []
+    let w = record_with z.window desk.windows in
+    (is_missing z.window desk.windows, NoSuchWindow) ∷ (not (may_lie (sized z w) w), OutOfRange) ∷ []
+
+-- why a window may not be zoomed: it is missing, or the part does not zoom, or it may not lie so
+abbrev pub zoom_refusals : ZoomWindow → FullDesk → List (Bool × Refusal)
+zoom_refusals z desk =
+    let w = record_with z.window desk.windows in
+    (is_missing z.window desk.windows, NoSuchWindow) ∷ (is_none (zoom_of z.part), OutOfRange) ∷ (not (may_lie (zoomed z w desk) w), OutOfRange) ∷ []
 
 -- why a window may not get a picture: it is missing, or the origin is no point
 abbrev pub picture_refusals : NewPicture → FullDesk → List (Bool × Refusal)
@@ -161,6 +171,7 @@ IsRefusal (Scroll m) state why = first_refusal (scroll_refusals m state.desk) �
 IsRefusal (SendBehind b) state why = first_refusal (behind_refusals b state.desk) ≡ why
 IsRefusal (Move m) state why = first_refusal (move_refusals m state.desk) ≡ why
 IsRefusal (Size z) state why = first_refusal (size_refusals z state.desk) ≡ why
+IsRefusal (Zoom z) state why = first_refusal (zoom_refusals z state.desk) ≡ why
 IsRefusal (Find p) state why = first_refusal ((not (in_plane p), OutOfRange) ∷ []) ≡ why
 IsRefusal Front state why = None ≡ why
 IsRefusal (VisibleRegion s) state why = IsUntold s (visible_of s state) state.desk why

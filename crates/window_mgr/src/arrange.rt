@@ -13,7 +13,7 @@ use def_iface::{Defined, Size, Taken};
 use std::alloc::AllocError;
 use tb_geom::{Point, Refusal};
 use vis_update::{Plan, Seat, Touch, plan_of, seat_of};
-use window_list::Window;
+use window_list::{UserState, Window};
 
 /// How one window is put anew: from which place of the list to which, counted without it, and how it
 /// stands then.
@@ -23,6 +23,7 @@ pub struct Edit {
     pub(crate) to: usize,
     pub(crate) place: Point,
     pub(crate) size: Size,
+    pub(crate) user_state: Option<UserState>,
     pub(crate) shown: bool,
 }
 
@@ -118,6 +119,7 @@ impl Edit {
             to: at,
             place: window.place,
             size: window.size,
+            user_state: window.user_state,
             shown: window.shown,
         }
     }
@@ -225,7 +227,8 @@ impl WindowManager {
         ensures others { self.new ≡ record self.old { windows = self.new.windows } }
     {
         self.windows.move_to(edit.at, edit.to);
-        self.windows.set_stand(edit.to, edit.place, edit.shown);
+        self.windows
+            .set_stand(edit.to, edit.place, edit.shown, edit.user_state);
     }
 
     /// Makes a window active, or none, where that is so.

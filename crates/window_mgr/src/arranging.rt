@@ -1,9 +1,7 @@
 //! The calls that arrange windows: each says how one window is put anew, and what becomes active.
-ghost use Rattle.std.specs.Prelude.{◌≡◌, [], Some, MatchResult, ◌+◌, ◌&&◌, nat_lt, if◌then◌else◌, true};
-ghost use Rattle.tb_geom.specs.Points.{minus};
-ghost use Rattle.tb_geom.specs.Rects.{in_plane};
+ghost use Rattle.std.specs.Prelude.{◌≡◌, [], Some, MatchResult, ◌+◌, nat_lt, if◌then◌else◌};
 ghost use Rattle.desk_call.specs.declared.window.WindowCall.TheVariants as asks;
-ghost use Rattle.window_mgr.specs.declared.arrange.Activates.TheVariants.{Nothing};
+ghost use Rattle.window_mgr.specs.declared.arrange.Activates.TheVariants.{Nothing, ItselfIfFront, FrontInItsPlace};
 ghost use Rattle.window_mgr.specs.AnySlots.{IsStepOverAnySlots};
 ghost use Rattle.window_mgr.specs.Edits.{StandsAt, IsPlaceBehind};
 ghost use Rattle.window_mgr.specs.Kept.{IsKept};
@@ -13,38 +11,29 @@ ghost use Rattle.window_mgr.specs.Refused.{first_refusal, behind_refusals};
 use crate::arrange::{Activates, Edit};
 use crate::{MoveWindow, SendBehind, ShowHide, WindowManager, WindowReply};
 use def_iface::{Defined, Taken};
-use tb_geom::{Point, Refusal};
+use tb_geom::Refusal;
 use vis_update::is_placed_with;
 use window_list::local;
 
 impl WindowManager {
-    /// Brings a window to the front; a visible one becomes active.
-    pub(crate) fn select(&mut self, window: u64) -> Result<WindowReply, Refusal>
+    /// Brings a window to the front; a visible one becomes active where it is selected.
+    pub(crate) fn bring_to_front(
+        &mut self,
+        window: u64,
+        select: bool,
+    ) -> Result<WindowReply, Refusal>
         requires { IsKept ⟦<Taken as Defined>⟧.loan self.old }
-        ensures { IsStepOverAnySlots ⟦<Taken as Defined>⟧.loan (asks.Select window) result self.old self.new }
+        ensures { IsStepOverAnySlots ⟦<Taken as Defined>⟧.loan
+            (if select then asks.Select window else asks.BringToFront window) result self.old self.new }
     {
         let Some(at) = self.find(window) else {
             return Err(Refusal::NoSuchWindow);
         };
         let found = self.windows.at(at);
-        let activates = if_so(found.shown, Activates::Itself);
+        let activates = if_so(select, if_so(found.shown, Activates::Itself));
         let mut edit = Edit::of(at, found);
         edit.to = 0;
         self.rearrange(edit, activates, None)
-    }
-
-    /// Brings a window to the front.
-    pub(crate) fn bring_to_front(&mut self, window: u64) -> Result<WindowReply, Refusal>
-        requires { IsKept ⟦<Taken as Defined>⟧.loan self.old }
-        ensures { IsStepOverAnySlots ⟦<Taken as Defined>⟧.loan (asks.BringToFront window) result self.old self.new }
-    {
-        let Some(at) = self.find(window) else {
-            return Err(Refusal::NoSuchWindow);
-        };
-        let found = self.windows.at(at);
-        let mut edit = Edit::of(at, found);
-        edit.to = 0;
-        self.rearrange(edit, Activates::Nothing, None)
     }
 
     /// Puts a window behind another or behind all.
@@ -96,56 +85,35 @@ impl WindowManager {
         if !is_placed_with(moved.place, found.size, &found.taken) {
             return Err(Refusal::OutOfRange);
         }
-        let activates = if_so(both(moved.select, found.shown), Activates::Itself);
-        let by = way(found.place, moved.place);
+        let activates = if_so(moved.select, if_so(found.shown, Activates::Itself));
+        let by = local(moved.place, found.place);
         let mut edit = Edit::of(at, found);
         edit.place = moved.place;
+        edit.user_state = None;
         edit.to = place_in(moved.select, at);
         self.rearrange(edit, activates, Some(by))
     }
 
-    /// Makes a window visible; it becomes active where it is the first visible one then.
-    pub(crate) fn show(&mut self, window: u64) -> Result<WindowReply, Refusal>
+    /// Makes a window visible or hidden. One that becomes visible becomes active where it is the first visible one
+    /// then, and in the place of an active one that becomes hidden the first visible one, or none, where that is asked.
+    pub(crate) fn show_hide(
+        &mut self,
+        change: ShowHide,
+        activates: bool,
+    ) -> Result<WindowReply, Refusal>
         requires { IsKept ⟦<Taken as Defined>⟧.loan self.old }
-        ensures { IsStepOverAnySlots ⟦<Taken as Defined>⟧.loan (asks.Show window) result self.old self.new }
-    {
-        let Some(at) = self.find(window) else {
-            return Err(Refusal::NoSuchWindow);
-        };
-        let found = self.windows.at(at);
-        let activates = if_so(!found.shown, Activates::ItselfIfFront);
-        let mut edit = Edit::of(at, found);
-        edit.shown = true;
-        self.rearrange(edit, activates, None)
-    }
-
-    /// Makes a window hidden; where it was active, the first visible one becomes so, or none.
-    pub(crate) fn hide(&mut self, window: u64) -> Result<WindowReply, Refusal>
-        requires { IsKept ⟦<Taken as Defined>⟧.loan self.old }
-        ensures { IsStepOverAnySlots ⟦<Taken as Defined>⟧.loan (asks.Hide window) result self.old self.new }
-    {
-        let Some(at) = self.find(window) else {
-            return Err(Refusal::NoSuchWindow);
-        };
-        let found = self.windows.at(at);
-        let activates = if_so(found.shown, Activates::FrontInItsPlace);
-        let mut edit = Edit::of(at, found);
-        edit.shown = false;
-        self.rearrange(edit, activates, None)
-    }
-
-    /// Makes a window visible or hidden.
-    pub(crate) fn show_hide(&mut self, change: ShowHide) -> Result<WindowReply, Refusal>
-        requires { IsKept ⟦<Taken as Defined>⟧.loan self.old }
-        ensures { IsStepOverAnySlots ⟦<Taken as Defined>⟧.loan (asks.ShowHide change) result self.old self.new }
+        ensures { IsStepOverAnySlots ⟦<Taken as Defined>⟧.loan
+            (if activates then (if change.shown then asks.Show change.window else asks.Hide change.window)
+            else asks.ShowHide change) result self.old self.new }
     {
         let Some(at) = self.find(change.window) else {
             return Err(Refusal::NoSuchWindow);
         };
         let found = self.windows.at(at);
+        let activates = if_so(activates, when_shown(found.shown, change.shown));
         let mut edit = Edit::of(at, found);
         edit.shown = change.shown;
-        self.rearrange(edit, Activates::Nothing, None)
+        self.rearrange(edit, activates, None)
     }
 }
 
@@ -156,11 +124,15 @@ fn if_so(holds: bool, activates: Activates) -> Activates
     if holds { activates } else { Activates::Nothing }
 }
 
-/// Whether both hold.
-fn both(one: bool, other: bool) -> bool
-    ensures { result ≡ (one && other) }
+/// What becomes active where a window becomes visible or hidden, or stays so.
+fn when_shown(was: bool, is: bool) -> Activates
+    ensures { result ≡ (if is then (if was then Nothing else ItselfIfFront) else (if was then FrontInItsPlace else Nothing)) }
 {
-    one && other
+    match (was, is) {
+        (false, true) => Activates::ItselfIfFront,
+        (true, false) => Activates::FrontInItsPlace,
+        _ => Activates::Nothing,
+    }
 }
 
 /// The place in the list, counted without a window, of what goes behind another: the places of both
@@ -176,13 +148,4 @@ fn place_in(front: bool, at: usize) -> usize
     ensures { result ≡ (if front then 0 else at) }
 {
     if front { 0 } else { at }
-}
-
-/// How far it is from one place to another.
-fn way(from: Point, to: Point) -> Point
-    requires from { in_plane from ≡ true }
-    requires to { in_plane to ≡ true }
-    ensures { result ≡ minus to from }
-{
-    local(to, from)
 }

@@ -18,9 +18,9 @@
 //!
 //! A call is judged and takes all its memory before the first change: its plan (`vis_update`) says what each window will
 //! own and what changes on the screen, and `commit` draws it, whichever call it was made for. `arrange` puts one window
-//! anew among the others, `size` gives one another size, `new_window` adds one, `dispose_window` takes one out, `draw`
-//! draws in one, `repicture` changes its picture or moves it, `frame` tells a window's definition of a change and draws
-//! the frame anew.
+//! anew among the others, `size` gives one another size and `zoom` zooms it, `new_window` adds one, `dispose_window` takes
+//! one out, `draw` draws in one, `repicture` changes its picture or moves it, `frame` tells a window's definition of a
+//! change and draws the frame anew.
 //!
 //! Whose a pixel is, the calls that ask (`find`) read off the same regions: the window whose visible content or frame
 //! has it owns it. There may be 64 windows.
@@ -42,10 +42,11 @@ mod repicture;
 mod size;
 mod tell;
 mod update;
+mod zoom;
 
 pub use desk_call::{
     Drawing, Found, MoveWindow, NewPicture, NewWindow, ScrollPicture, SendBehind, ShowHide,
-    SizeWindow, WindowCall, WindowInfo, WindowPart, WindowReply,
+    SizeWindow, WindowCall, WindowInfo, WindowPart, WindowReply, Zoom, ZoomWindow,
 };
 pub use forms::form_refusal;
 pub use manager::{NotBegun, Parts, WindowManager};

@@ -8,7 +8,7 @@ ghost use Rattle.window_mgr.specs.Step.{IsWindowStep};
 ghost use Rattle.window_mgr.specs.Whole.{IsWholeManager};
 
 use crate::tell::Told;
-use crate::{Drawing, WindowCall, WindowInfo, WindowManager, WindowReply};
+use crate::{Drawing, ShowHide, WindowCall, WindowInfo, WindowManager, WindowReply};
 use def_iface::{Defined, Stock, Stocked, Taken};
 use std::alloc::AllocError;
 use tb_geom::{Point, Refusal};
@@ -27,14 +27,27 @@ impl WindowManager {
         match call {
             WindowCall::New(window) => self.new_window(window, stock),
             WindowCall::Dispose(window) => self.dispose_window(*window, stock),
-            WindowCall::Show(window) => self.show(*window),
-            WindowCall::Hide(window) => self.hide(*window),
-            WindowCall::ShowHide(change) => self.show_hide(*change),
-            WindowCall::Select(window) => self.select(*window),
-            WindowCall::BringToFront(window) => self.bring_to_front(*window),
+            WindowCall::Show(window) => self.show_hide(
+                ShowHide {
+                    window: *window,
+                    shown: true,
+                },
+                true,
+            ),
+            WindowCall::Hide(window) => self.show_hide(
+                ShowHide {
+                    window: *window,
+                    shown: false,
+                },
+                true,
+            ),
+            WindowCall::ShowHide(change) => self.show_hide(*change, false),
+            WindowCall::Select(window) => self.bring_to_front(*window, true),
+            WindowCall::BringToFront(window) => self.bring_to_front(*window, false),
             WindowCall::SendBehind(sent) => self.send_behind(*sent),
             WindowCall::Move(moved) => self.move_window(*moved),
             WindowCall::Size(sized) => self.size_window(*sized),
+            WindowCall::Zoom(zoom) => self.zoom_window(*zoom),
             WindowCall::Draw(drawing) => self.answer_draw(drawing),
             WindowCall::SetPicture(new) => self.set_picture(new),
             WindowCall::Scroll(scroll) => self.scroll(*scroll),

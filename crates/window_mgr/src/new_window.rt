@@ -229,6 +229,7 @@ fn record_for(
         serial,
         place: window.place,
         size: window.size,
+        user_state: None,
         shown: window.shown,
         highlighted: window.shown,
         go_away: window.go_away,

@@ -1,17 +1,18 @@
-//! The call that gives a window another size.
+//! One window put elsewhere or given another size, and the call that does the second.
 ghost use Rattle.std.specs.Prelude.{◌≡◌, ◌<◌, length, map, All, vec_len};
 ghost use Rattle.desk_call.specs.declared.window.WindowCall.TheVariants as asks;
 ghost use Rattle.vis_update.specs.Records.{record_of};
 ghost use Rattle.window_mgr.specs.AnySlots.{IsStepOverAnySlots};
 ghost use Rattle.window_mgr.specs.Kept.{IsKept};
-ghost use Rattle.window_mgr.specs.Sizing.{IsSizable, IsSizeCommitted};
+ghost use Rattle.window_mgr.specs.Laying.{IsPlaceableAt, IsPlacementCommitted, IsLaidOverAnySlots};
 ghost use Rattle.window_mgr.specs.Whole.{IsSettled};
 
 use crate::arrange::{Activates, Edit, Rearrangement};
 use crate::{SizeWindow, WindowManager, WindowReply};
-use def_iface::{Defined, Size, Taken};
-use tb_geom::Refusal;
+use def_iface::{Defined, Taken};
+use tb_geom::{Point, Refusal};
 use vis_update::{Plan, is_placed_with};
+use window_list::Placement;
 
 impl WindowManager {
     /// Gives a window another size, and tells its definition.
@@ -26,24 +27,47 @@ impl WindowManager {
         if !is_placed_with(found.place, sized.size, &found.taken) {
             return Err(Refusal::OutOfRange);
         }
-        let mut edit = Edit::of(at, found);
-        edit.size = sized.size;
-        let Ok(Rearrangement { plan, .. }) = self.plan_edit(edit, Activates::Nothing, None) else {
+        let placement = Placement {
+            place: found.place,
+            size: sized.size,
+            user_state: None,
+        };
+        self.place_window(at, placement, None)
+    }
+
+    /// Gives the window at this place of the list another place and size, its pixels coming from so far away, if they
+    /// move. NoMemory is the only refusal.
+    pub(crate) fn place_window(
+        &mut self,
+        at: usize,
+        placement: Placement,
+        by: Option<Point>,
+    ) -> Result<WindowReply, Refusal>
+        requires kept { IsKept ⟦<Taken as Defined>⟧.loan self.old }
+        requires at { at < length self.old.windows.records.items }
+        requires placeable { IsPlaceableAt ⟦<Taken as Defined>⟧.loan at placement self.old.windows.records.items }
+        ensures { IsLaidOverAnySlots ⟦<Taken as Defined>⟧.loan at placement by result self.old self.new }
+    {
+        let mut edit = Edit::of(at, self.windows.at(at));
+        edit.place = placement.place;
+        edit.size = placement.size;
+        let Ok(Rearrangement { plan, .. }) = self.plan_edit(edit, Activates::Nothing, by) else {
             return Err(Refusal::NoMemory);
         };
-        self.commit_size(at, sized.size, plan);
+        self.commit_placement(at, placement, plan, by);
         Ok(WindowReply::Done)
     }
 
-    /// Gives the window at this place of the list another size, tells its definition, and draws what a plan says.
-    fn commit_size(&mut self, at: usize, size: Size, plan: Plan)
+    /// Gives the window at this place of the list another place and size, tells its definition, and draws what a plan
+    /// says.
+    fn commit_placement(&mut self, at: usize, placement: Placement, plan: Plan, by: Option<Point>)
         requires at { at < length self.old.windows.records.items }
         requires settled { All IsSettled (map (record_of ⟦<Taken as Defined>⟧.loan) self.old.windows.records.items) }
-        requires sizable { IsSizable ⟦<Taken as Defined>⟧.loan at size self.old.windows.records.items }
+        requires placeable { IsPlaceableAt ⟦<Taken as Defined>⟧.loan at placement self.old.windows.records.items }
         requires parts { vec_len plan.parts ≡ length self.old.windows.records.items }
-        ensures { IsSizeCommitted ⟦<Taken as Defined>⟧.loan at size plan self.old self.new }
+        ensures { IsPlacementCommitted ⟦<Taken as Defined>⟧.loan at placement plan by self.old self.new }
     {
-        self.windows.resize(at, size);
-        self.commit(plan, None);
+        self.windows.set_placement(at, placement);
+        self.commit(plan, by);
     }
 }

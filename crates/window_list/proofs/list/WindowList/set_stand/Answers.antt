@@ -4,4 +4,4 @@ use Rattle.window_list.proofs.ListLemmas.{written}
 use Rattle.window_list.proofs.list.WindowList.set_stand.Goals as goal
 
 pub returns : goal.returns
-returns g c = ap (λ r. record c.args.self.now { records = r }) (written (with_stand c.args.place c.args.shown) c.args.self.now.records c.args.at c.at_mut-window.result.now c.at_mut-window.ensures.value)
+returns g c = ap (λ r. record c.args.self.now { records = r }) (written (with_stand c.args.place c.args.shown c.args.user_state) c.args.self.now.records c.args.at c.at_mut-window.result.now c.at_mut-window.ensures.value)

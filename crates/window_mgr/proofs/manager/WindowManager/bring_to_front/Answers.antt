@@ -1,4 +1,5 @@
-use Rattle.std.proofs.Common.{refl, ap, rules}
+use Rattle.std.proofs.Common.{refl, ap, rules, ◌∙◌, if◌then◌else◌}
+use Rattle.window_mgr.specs.declared.arrange.Activates.TheVariants.{Nothing}
 use Rattle.window_mgr.specs.declared.arrange.Edit.{Edit}
 use Rattle.window_mgr.specs.Edits.{stays_put}
 use Rattle.window_mgr.proofs.EditSeats as seating
@@ -11,4 +12,4 @@ rearrange-requires-clause-placed g c =
 
 pub returns : goal.returns
 returns g c slots whole =
-    steps.bring_step _ c.args.self.now c.rearrange.new.self slots whole c.in-Some.at c.args.window c.at-found.result.now c.in-Some.ensures.0 (search rules) (c.in-Some.ensures.1 c.at-found.result.now (search rules)) _ _ (ap (λ (e : Edit). record e { to = 0 }) c.of-edit.ensures) c.rearrange.ensures
+    steps.bring_step _ c.args.self.now c.rearrange.new.self slots whole c.in-Some.at c.args.window c.at-found.result.now c.in-Some.ensures.0 (search rules) (c.in-Some.ensures.1 c.at-found.result.now (search rules)) c.args.select _ _ _ (ap (λ (e : Edit). record e { to = 0 }) c.of-edit.ensures) (c.if_so-activates.ensures ∙ ap (λ a. if c.args.select then a else Nothing) c.if_so.ensures) c.rearrange.ensures

@@ -1,19 +1,19 @@
 use Rattle.window_mgr.proofs.manager.WindowManager.make.Goals as goal
 
 pub returns-in-Show : goal.returns-in-Show
-returns-in-Show g c = let done = c.show.ensures _ c.requires in record { whole = done.0; step = rw c.in-Show.is (done.1) }
+returns-in-Show g c = let done = c.show_hide.ensures _ c.requires in record { whole = done.0; step = rw c.in-Show.is (done.1) }
 
 pub returns-in-Hide : goal.returns-in-Hide
-returns-in-Hide g c = let done = c.hide.ensures _ c.requires in record { whole = done.0; step = rw c.in-Hide.is (done.1) }
+returns-in-Hide g c = let done = c.show_hide-in-Hide.ensures _ c.requires in record { whole = done.0; step = rw c.in-Hide.is (done.1) }
 
 pub returns-in-ShowHide : goal.returns-in-ShowHide
-returns-in-ShowHide g c = let done = c.show_hide.ensures _ c.requires in record { whole = done.0; step = rw c.in-ShowHide.is (done.1) }
+returns-in-ShowHide g c = let done = c.show_hide-in-ShowHide.ensures _ c.requires in record { whole = done.0; step = rw c.in-ShowHide.is (done.1) }
 
 pub returns-in-Select : goal.returns-in-Select
-returns-in-Select g c = let done = c.select.ensures _ c.requires in record { whole = done.0; step = rw c.in-Select.is (done.1) }
+returns-in-Select g c = let done = c.bring_to_front.ensures _ c.requires in record { whole = done.0; step = rw c.in-Select.is (done.1) }
 
 pub returns-in-BringToFront : goal.returns-in-BringToFront
-returns-in-BringToFront g c = let done = c.bring_to_front.ensures _ c.requires in record { whole = done.0; step = rw c.in-BringToFront.is (done.1) }
+returns-in-BringToFront g c = let done = c.bring_to_front-in-BringToFront.ensures _ c.requires in record { whole = done.0; step = rw c.in-BringToFront.is (done.1) }
 
 pub returns-in-SendBehind : goal.returns-in-SendBehind
 returns-in-SendBehind g c = let done = c.send_behind.ensures _ c.requires in record { whole = done.0; step = rw c.in-SendBehind.is (done.1) }
@@ -23,6 +23,9 @@ returns-in-Move g c = let done = c.move_window.ensures _ c.requires in record { 
 
 pub returns-in-Size : goal.returns-in-Size
 returns-in-Size g c = let done = c.size_window.ensures _ c.requires in record { whole = done.0; step = rw c.in-Size.is (done.1) }
+
+pub returns-in-Zoom : goal.returns-in-Zoom
+returns-in-Zoom g c = let done = c.zoom_window.ensures _ c.requires in record { whole = done.0; step = rw c.in-Zoom.is (done.1) }
 
 pub returns-in-Draw : goal.returns-in-Draw
 returns-in-Draw g c = let done = c.answer_draw.ensures _ c.requires in record { whole = done.0; step = rw c.in-Draw.is (done.1) }

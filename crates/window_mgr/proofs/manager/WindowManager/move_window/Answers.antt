@@ -1,6 +1,6 @@
-use Rattle.std.proofs.Common.{refl, ap, rules, ◌∙◌, inl, false, true, if◌then◌else◌}
+use Rattle.std.proofs.Common.{refl, ap, rules, ◌∙◌, inl, false, true, None, if◌then◌else◌}
 use Rattle.desk_call.specs.declared.window.WindowCall.TheVariants.{Move}
-use Rattle.window_mgr.specs.declared.arrange.Activates.TheVariants.{Nothing, Itself}
+use Rattle.window_mgr.specs.declared.arrange.Activates.TheVariants.{Nothing}
 use Rattle.window_mgr.specs.declared.arrange.Edit.{Edit}
 use Rattle.window_mgr.proofs.PaintLemmas.{settled_in}
 use Rattle.window_mgr.proofs.SameDeskLemmas.{is_refused}
@@ -12,16 +12,16 @@ returns-then-not-is_placed_with g c =
     is_refused _ c.args.self.now (Move c.args.moved) _ (λ slots whole.
     inl (steps.may_move _ c.args.self.now c.args.self.now slots whole c.in-Some.at c.args.moved.window c.at-found.result.now c.in-Some.ensures.0 (search rules) (c.in-Some.ensures.1 c.at-found.result.now (search rules)) c.args.moved false refl (search rules)))
 
-pub way-by-requires-clause-from : goal.way-by-requires-clause-from
-way-by-requires-clause-from g c = (settled_in _ c.args.self.now.windows.records.items c.in-Some.at c.at-found.result.now c.in-Some.ensures.0 (search rules) c.requires.whole.sound.settled).placed
+pub local-by-requires-clause-place : goal.local-by-requires-clause-place
+local-by-requires-clause-place g c = (settled_in _ c.args.self.now.windows.records.items c.in-Some.at c.at-found.result.now c.in-Some.ensures.0 (search rules) c.requires.whole.sound.settled).placed
 
-pub way-by-requires-clause-to : goal.way-by-requires-clause-to
-way-by-requires-clause-to g c =
+pub local-by-requires-clause-point : goal.local-by-requires-clause-point
+local-by-requires-clause-point g c =
     steps.arrives _ c.args.self.now c.args.self.now _ c.requires.whole c.in-Some.at c.args.moved.window c.at-found.result.now c.in-Some.ensures.0 (search rules) (c.in-Some.ensures.1 c.at-found.result.now (search rules)) c.args.moved (search rules)
 
 pub rearrange-requires-clause-placed : goal.rearrange-requires-clause-placed
 rearrange-requires-clause-placed g c =
-    steps.may_arrive _ c.args.self.now c.args.self.now _ c.requires.whole c.in-Some.at c.args.moved.window c.at-found.result.now c.in-Some.ensures.0 (search rules) (c.in-Some.ensures.1 c.at-found.result.now (search rules)) c.args.moved (search rules) (record c.of-edit.result { place = c.args.moved.place; to = c.place_in.result })
+    steps.may_arrive _ c.args.self.now c.args.self.now _ c.requires.whole c.in-Some.at c.args.moved.window c.at-found.result.now c.in-Some.ensures.0 (search rules) (c.in-Some.ensures.1 c.at-found.result.now (search rules)) c.args.moved (search rules) (record c.of-edit.result { place = c.args.moved.place; user_state = None; to = c.place_in.result })
     (ap (λ (e : Edit). e.at) c.of-edit.ensures) refl (ap (λ (e : Edit). e.size) c.of-edit.ensures)
 
 pub returns : goal.returns
@@ -29,6 +29,6 @@ returns g c slots whole =
     steps.move_step _ c.args.self.now c.rearrange.new.self slots whole c.in-Some.at c.args.moved.window c.at-found.result.now c.in-Some.ensures.0 (search rules) (c.in-Some.ensures.1 c.at-found.result.now (search rules)) c.args.moved
     _ _ _ _ refl
     (steps.may_move _ c.args.self.now c.args.self.now slots whole c.in-Some.at c.args.moved.window c.at-found.result.now c.in-Some.ensures.0 (search rules) (c.in-Some.ensures.1 c.at-found.result.now (search rules)) c.args.moved true refl (search rules))
-    (λ k. record { at = (ap (λ (e : Edit). e.at) c.of-edit.ensures) k; to = c.place_in.ensures k; place = c.args.moved.place; size = (ap (λ (e : Edit). e.size) c.of-edit.ensures) k; shown = (ap (λ (e : Edit). e.shown) c.of-edit.ensures) k })
-    (c.if_so-activates.ensures ∙ ap (λ b. if b then Itself else Nothing) c.both.ensures)
-    c.way-by.ensures c.rearrange.ensures
+    (λ k. record { at = (ap (λ (e : Edit). e.at) c.of-edit.ensures) k; to = c.place_in.ensures k; place = c.args.moved.place; size = (ap (λ (e : Edit). e.size) c.of-edit.ensures) k; user_state = None; shown = (ap (λ (e : Edit). e.shown) c.of-edit.ensures) k })
+    (c.if_so-activates.ensures ∙ ap (λ a. if c.args.moved.select then a else Nothing) c.if_so.ensures)
+    c.local-by.ensures c.rearrange.ensures

@@ -11,8 +11,8 @@ returns-clause-put g c =
       at = found.1;
       is =
           ap (λ l. l.records.items) c.set_stand.ensures
-          ∙ ap (edit (with_stand c.args.edit.place c.args.edit.shown) c.args.edit.to) c.move_to.ensures.items
-          ∙ moved_anew (with_stand c.args.edit.place c.args.edit.shown) c.args.self.now.windows.records.items c.args.edit.at c.args.edit.to found.0 c.requires.at c.requires.to found.1;
+          ∙ ap (edit (with_stand c.args.edit.place c.args.edit.shown c.args.edit.user_state) c.args.edit.to) c.move_to.ensures.items
+          ∙ moved_anew (with_stand c.args.edit.place c.args.edit.shown c.args.edit.user_state) c.args.self.now.windows.records.items c.args.edit.at c.args.edit.to found.0 c.requires.at c.requires.to found.1;
     }
 
 pub returns-clause-len : goal.returns-clause-len
@@ -20,7 +20,7 @@ returns-clause-len g c =
     let found = there_is c.args.self.now.windows.records.items c.args.edit.at c.requires.at in
     ap (λ l. length l.records.items) c.set_stand.ensures
     ∙ ap length (
-    ap (edit (with_stand c.args.edit.place c.args.edit.shown) c.args.edit.to) c.move_to.ensures.items
-    ∙ moved_anew (with_stand c.args.edit.place c.args.edit.shown) c.args.self.now.windows.records.items c.args.edit.at c.args.edit.to found.0 c.requires.at c.requires.to found.1
+    ap (edit (with_stand c.args.edit.place c.args.edit.shown c.args.edit.user_state) c.args.edit.to) c.move_to.ensures.items
+    ∙ moved_anew (with_stand c.args.edit.place c.args.edit.shown c.args.edit.user_state) c.args.self.now.windows.records.items c.args.edit.at c.args.edit.to found.0 c.requires.at c.requires.to found.1
     )
-    ∙ length-anew c.args.self.now.windows.records.items c.args.edit.at c.args.edit.to (with_stand c.args.edit.place c.args.edit.shown found.0) c.requires.at
+    ∙ length-anew c.args.self.now.windows.records.items c.args.edit.at c.args.edit.to (with_stand c.args.edit.place c.args.edit.shown c.args.edit.user_state found.0) c.requires.at

@@ -1,4 +1,5 @@
-use Rattle.std.proofs.Common.{refl, ap, rules}
+use Rattle.std.proofs.Common.{refl, ap, rules, ◌∙◌, if◌then◌else◌}
+use Rattle.window_mgr.specs.declared.arrange.Activates.TheVariants.{Nothing}
 use Rattle.window_mgr.specs.declared.arrange.Edit.{Edit}
 use Rattle.window_mgr.specs.Edits.{stays_put}
 use Rattle.window_mgr.proofs.EditSeats as seating
@@ -11,4 +12,5 @@ rearrange-requires-clause-placed g c =
 
 pub returns : goal.returns
 returns g c slots whole =
-    steps.show_hide_step _ c.args.self.now c.rearrange.new.self slots whole c.in-Some.at c.args.change.window c.at-found.result.now c.in-Some.ensures.0 (search rules) (c.in-Some.ensures.1 c.at-found.result.now (search rules)) c.args.change _ _ refl (ap (λ (e : Edit). record e { shown = c.args.change.shown }) c.of-edit.ensures) c.rearrange.ensures
+    steps.show_step _ c.args.self.now c.rearrange.new.self slots whole c.in-Some.at c.args.change.window c.at-found.result.now c.in-Some.ensures.0 (search rules) (c.in-Some.ensures.1 c.at-found.result.now (search rules)) c.args.activates c.args.change.shown _ _ _ (ap (λ (e : Edit). record e { shown = c.args.change.shown }) c.of-edit.ensures)
+    (c.if_so-activates.ensures ∙ ap (λ a. if c.args.activates then a else Nothing) c.when_shown.ensures) c.rearrange.ensures

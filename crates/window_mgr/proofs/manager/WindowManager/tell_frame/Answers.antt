@@ -2,7 +2,7 @@ use Rattle.std.proofs.Common.{arith}
 use Rattle.window_mgr.proofs.EditSeats.{there_is}
 use Rattle.window_mgr.proofs.FrameTold as telling
 use Rattle.window_mgr.proofs.Remarked.{area_there, settled_there}
-use Rattle.window_mgr.proofs.SizeCalls.{read_at}
+use Rattle.window_mgr.proofs.PlacementCalls.{read_at}
 use Rattle.window_mgr.proofs.manager.WindowManager.tell_frame.Goals as goal
 
 pub tell-damage-requires-clause-live : goal.tell-damage-requires-clause-live

@@ -1,0 +1,20 @@
+use Rattle.std.proofs.Common.{◌≡◌, Some, refl, sym, ap, ◌∙◌}
+use Rattle.std.specs.Prelude.{slice_get}
+use Rattle.std.proofs.lemmas.Option.{slice_get-get_or}
+use Rattle.window_list.proofs.list.WindowList.set_placement.Goals as goal
+
+pub returns-clause-placed : goal.returns-clause-placed
+returns-clause-placed g c =
+    let there : slice_get c.args.self.now.records.items c.args.at ≡ Some c.at_mut-window.result.now = slice_get-get_or _ _ _ c.requires.within ∙ ap Some (sym c.at_mut-window.ensures.value) in
+    rw there (record {
+      taken = c.told-damage-2.new.self;
+      items = refl;
+      live = c.told-damage-2.ensures.stays;
+      told = c.told-damage-2.ensures.size ∙ c.told-damage.ensures.size;
+      regions = record {
+        structure = c.told-damage-2.ensures.regions.structure ∙ c.told-damage.ensures.regions.structure;
+        content = c.told-damage-2.ensures.regions.content ∙ c.told-damage.ensures.regions.content;
+        bounds = c.told-damage-2.ensures.regions.bounds ∙ c.told-damage.ensures.regions.bounds;
+      };
+      slot = c.told-damage-2.ensures.slot ∙ c.told-damage.ensures.slot;
+    })
