@@ -40,7 +40,7 @@ use Rattle.window_update.specs.declared.updates.Updates.{Updates}
 use Rattle.window_update.specs.DeskStates.{IsDeskUnchanged, IsWholeUpdates, activity_of, desk_state}
 use Rattle.window_update.proofs.Sides.{SameSides, stays_sized}
 use Rattle.bit_map.specs.Bits.{Bits}
-use Rattle.window_frame.specs.Followers.{IsTold, AreTold, followers, followers_by, listed}
+use Rattle.window_frame.specs.Followers.{IsTold, AreTold, followers, followers_by, listed, moved_by}
 use Rattle.window_frame.specs.FrameRefusals.{frame_refusals, is_tracking, tracking_refusals}
 use Rattle.window_frame.specs.FrameSteps.{IsFrameStepOverAnySlots, IsTrackedAt, in_go_away, with_flag, with_title}
 use Rattle.window_frame.proofs.FrameKeeps.{frame_told_keeps, told_keeps}
@@ -52,21 +52,26 @@ are_told_both : (ss others : List ℕ) (before middle after : FullState) → Are
 are_told_both [] others before middle after same told = subst (λ m. AreTold others m after) same told
 are_told_both (s ∷ ss) others before middle after (first, one, rest) told = (first, one, are_told_both ss others first middle after rest told)
 
-followers_so : (standing : Standing) (former active : Option ℕ) → (standing ≡ standings.Asks → ⊥) → followers_by standing former active ≡ listed former ++ listed active
-followers_so standings.Asks former active none = absurd (none refl)
-followers_so (standings.Updates s) former active none = refl
-followers_so standings.Tracks former active none = refl
-followers_so standings.Changes former active none = refl
+followers_so : (standing : Standing) (former active moved : Option ℕ) → (standing ≡ standings.Asks → ⊥) → followers_by standing former active moved ≡ listed former ++ listed active ++ listed moved
+followers_so standings.Asks former active moved none = absurd (none refl)
+followers_so (standings.Updates s) former active moved none = refl
+followers_so standings.Tracks former active moved none = refl
+followers_so standings.Changes former active moved none = refl
 
-pub followed : {V : Type 0} {H : V → Type 0} (loan : Taken V H → Loan) (t between new : WindowManager V H) (call : WindowCall) (standing : Standing) (former active was : Option ℕ)
-    → standing ≡ window_standing call → (standing ≡ standings.Asks → ⊥) → active ≡ was
-    → LeavesState loan (AreTold (listed former)) t between → LeavesState loan (AreTold (listed active)) between new → LeavesState loan (AreTold (followers call former was)) t new
-followed loan t between new call standing former active was is none same first second slots whole =
+-- definitions were told in two calls
+pub told_both : {V : Type 0} {H : V → Type 0} (loan : Taken V H → Loan) (t between new : WindowManager V H) (ss others : List ℕ) → LeavesState loan (AreTold ss) t between → LeavesState loan (AreTold others) between new → LeavesState loan (AreTold (ss ++ others)) t new
+told_both loan t between new ss others first second slots whole =
     let one = first slots whole in
     let other = second slots one.0 in
-    let both = are_told_both (listed former) (listed active) (state_of loan t slots) (state_of loan between slots) (state_of loan new slots) one.1 other.1 in
-    let named = ap (λ o. followers_by (window_standing call) former o) (sym same) ∙ ap (λ k. followers_by k former active) (sym is) ∙ followers_so standing former active none in
-    (other.0, subst (λ ss. AreTold ss (state_of loan t slots) (state_of loan new slots)) (sym named) both)
+    (other.0, are_told_both ss others (state_of loan t slots) (state_of loan between slots) (state_of loan new slots) one.1 other.1)
+
+pub followed : {V : Type 0} {H : V → Type 0} (loan : Taken V H → Loan) (t new : WindowManager V H) (call : WindowCall) (standing : Standing) (former active was moved : Option ℕ)
+    → standing ≡ window_standing call → (standing ≡ standings.Asks → ⊥) → active ≡ was → moved ≡ moved_by call
+    → LeavesState loan (AreTold (listed former ++ listed active ++ listed moved)) t new → LeavesState loan (AreTold (followers call former was)) t new
+followed loan t new call standing former active was moved is none same it told =
+    let named = ap (λ o. followers_by (window_standing call) former o (moved_by call)) (sym same) ∙ ap (λ o. followers_by (window_standing call) former active o) (sym it)
+        ∙ ap (λ k. followers_by k former active moved) (sym is) ∙ followers_so standing former active moved none in
+    subst (λ ss. LeavesState loan (AreTold ss) t new) (sym named) told
 
 -- a window manager that was whole over some slots, and is so over the same
 pub still_kept : {V : Type 0} {H : V → Type 0} (loan : Taken V H → Loan) (t new : WindowManager V H) (after : FullState → FullState → Type 0) → IsKept loan t → LeavesState loan after t new → IsKept loan new
@@ -109,6 +114,10 @@ module _ {V : Type 0} {H : V → Type 0} (loan : Taken V H → Loan) (t : Window
     pub told_apart : (new : WindowManager V H) → ((w : Window V H) → IsWindowAt t.windows.records.items at w → LeavesState loan (IsFrameTold w.serial (λ x. x)) t new)
         → LeavesState loan (IsTold s) t new
     told_apart new leaves slots whole = let left = by_number new (λ x. x) leaves slots whole in (left.0, inr left.1)
+
+    pub told_alone : (new : WindowManager V H) → ((w : Window V H) → IsWindowAt t.windows.records.items at w → LeavesState loan (IsFrameTold w.serial (λ x. x)) t new)
+        → LeavesState loan (AreTold (s ∷ [])) t new
+    told_alone new leaves slots whole = let left = told_apart new leaves slots whole in (left.0, (state_of loan new slots, left.1, refl))
 
     -- or what its record says already
     pub told_again : (new : WindowManager V H) (x : Window V H) → IsWindowAt t.windows.records.items at x

@@ -3,6 +3,7 @@ use Rattle.std.specs.Prelude.{◌≡◌, ◌⊎◌, ℕ, true, List, [], ◌∷�
 use Rattle.desk_call.specs.declared.activity.Standing.{Standing}
 use Rattle.desk_call.specs.declared.activity.Standing.TheVariants.{Asks}
 use Rattle.desk_call.specs.declared.window.WindowCall.{WindowCall}
+use Rattle.desk_call.specs.declared.window.WindowCall.TheVariants.{Move}
 use Rattle.desk_call.specs.Gates.{window_standing}
 use Rattle.window_mgr.specs.FrameTelling.{IsFrameTold}
 use Rattle.window_mgr.specs.FullDesk.{FullState}
@@ -21,10 +22,16 @@ abbrev pub listed : Option ℕ → List ℕ
 listed None = []
 listed (Some s) = s ∷ []
 
--- after a call of this standing: the window that was active, and the one that is, where the call was none that asks
-abbrev pub followers_by : Standing → Option ℕ → Option ℕ → List ℕ
-followers_by Asks former active = []
-followers_by _ former active = listed former ++ listed active
+-- the window that a call moves, which is then not zoomed any more
+abbrev pub moved_by : WindowCall → Option ℕ
+moved_by (Move m) = Some m.window
+moved_by _ = None
+
+-- after a call of this standing that moves this window: the window that was active, the one that is, and that one, where the call
+-- was none that asks
+abbrev pub followers_by : Standing → Option ℕ → Option ℕ → Option ℕ → List ℕ
+followers_by Asks former active moved = []
+followers_by _ former active moved = listed former ++ listed active ++ listed moved
 
 abbrev pub followers : WindowCall → Option ℕ → Option ℕ → List ℕ
-followers call former active = followers_by (window_standing call) former active
+followers call former active = followers_by (window_standing call) former active (moved_by call)
