@@ -68,7 +68,7 @@ pub read_at : {X : Type 0} (xs : List X) (i : ℕ) (x : X) → i < length xs →
 read_at xs i x low x_is = slice_get_read xs (length xs) i x refl low x_is
 
 -- what was set at a place was put in there
-set_is_put : {X : Type 0} (xs : List X) (i : ℕ) (x : X) → i < length xs → slice_set xs i x ≡ put_in i x (remove xs i)
+pub set_is_put : {X : Type 0} (xs : List X) (i : ℕ) (x : X) → i < length xs → slice_set xs i x ≡ put_in i x (remove xs i)
 set_is_put [] i x low = absurd (omega arith)
 set_is_put (y ∷ ys) zero x low = refl
 set_is_put (y ∷ ys) (suc i) x low = ap (λ zs. y ∷ zs) (set_is_put ys i x (omega arith))
