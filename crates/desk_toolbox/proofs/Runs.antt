@@ -15,8 +15,9 @@ use Rattle.desk_call.specs.declared.window.WindowReply.TheVariants.{Done, Made, 
 use Rattle.desk_call.specs.declared.window.WindowCall.TheVariants as asks
 use Rattle.vis_update.specs.Records.{WindowRecord}
 use Rattle.window_mgr.specs.Finding.{record_with, info_of}
-use Rattle.window_mgr.specs.Effects.{Effect, IsEffect, IsUnchanged, effect_of}
-use Rattle.window_mgr.specs.Effects.Effect.{Makes, Disposes, Draws, Pictures, Scrolls, Arranges, Sizes, Tells, Describes}
+use Rattle.window_mgr.specs.Placings.{Placing, sized, zoomed}
+use Rattle.window_mgr.specs.Effects.{Effect, IsEffect, IsUnchanged, effect_of, places}
+use Rattle.window_mgr.specs.Effects.Effect.{Makes, Disposes, Draws, Pictures, Scrolls, Arranges, Places, Tells, Describes}
 use Rattle.window_mgr.specs.Telling.{IsRegionTold}
 use Rattle.window_mgr.proofs.KeptKinds as kinds
 use Rattle.window_mgr.proofs.KeptKinds.{kinds_of}
@@ -133,9 +134,14 @@ IsNumberless (Pictures n) = Unit {0}
 IsNumberless (Scrolls m) = Unit {0}
 IsNumberless (Arranges a) = Unit {0}
 IsNumberless (Disposes s) = Unit {0}
-IsNumberless (Sizes z) = Unit {0}
+IsNumberless (Places p) = Unit {0}
 IsNumberless (Tells r) = number_made r ≡ []
 IsNumberless (Describes region) = Unit {0}
+
+-- nor what a call answers that puts a window nowhere
+placed_numberless : (o : Option Placing) → IsNumberless (places o)
+placed_numberless None = refl
+placed_numberless (Some p) = tt
 
 numberless : (call : WindowCall) (desk : FullDesk) → IsNumberless (effect_of call desk)
 numberless (asks.New w) desk = tt
@@ -150,7 +156,8 @@ numberless (asks.Show s) desk = tt
 numberless (asks.Hide s) desk = tt
 numberless (asks.ShowHide c) desk = tt
 numberless (asks.Dispose s) desk = tt
-numberless (asks.Size z) desk = tt
+numberless (asks.Size z) desk = placed_numberless (sized z (record_with z.window desk.windows))
+numberless (asks.Zoom z) desk = placed_numberless (zoomed z (record_with z.window desk.windows) desk)
 numberless (asks.VisibleRegion s) desk = tt
 numberless (asks.UpdateRegion s) desk = tt
 numberless (asks.Find p) desk = refl
@@ -184,8 +191,8 @@ effect_is_counted (Arranges a) answer before after numbers none (is, arranged) h
     subst (λ (a : WindowReply). AreCounted before.desk.next (number_made a ++ numbers)) (sym is) (subst (λ (d : FullDesk). AreCounted d.next numbers) arranged.desk h)
 effect_is_counted (Disposes s) answer before after numbers none (is, closed) h =
     subst (λ (a : WindowReply). AreCounted before.desk.next (number_made a ++ numbers)) (sym is) (subst (λ (d : FullDesk). AreCounted d.next numbers) closed.desk h)
-effect_is_counted (Sizes z) answer before after numbers none (is, sized) h =
-    subst (λ (a : WindowReply). AreCounted before.desk.next (number_made a ++ numbers)) (sym is) (subst (λ (d : FullDesk). AreCounted d.next numbers) sized.arranged.desk h)
+effect_is_counted (Places p) answer before after numbers none (is, change) h =
+    subst (λ (a : WindowReply). AreCounted before.desk.next (number_made a ++ numbers)) (sym is) (subst (λ (d : FullDesk). AreCounted d.next numbers) change.arranged.desk h)
 effect_is_counted (Describes region) answer before after numbers none (told, same) h =
     subst (λ (ns : List ℕ). AreCounted before.desk.next (ns ++ numbers)) (sym (region_is_numberless (region before) answer told)) (counted_on before after numbers same h)
 effect_is_counted (Tells r) answer before after numbers none (is, same) h =

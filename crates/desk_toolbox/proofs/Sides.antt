@@ -15,7 +15,7 @@ use Rattle.window_update.specs.DeskStates.{IsWholeUpdates}
 use Rattle.window_mgr.specs.FullDesk.{FullDesk, FullState}
 use Rattle.window_mgr.specs.Step.{IsWindowStep}
 use Rattle.window_mgr.specs.Effects.{Effect, IsEffect, effect_of}
-use Rattle.window_mgr.specs.Effects.Effect.{Makes, Disposes, Draws, Pictures, Scrolls, Arranges, Sizes, Tells, Describes}
+use Rattle.window_mgr.specs.Effects.Effect.{Makes, Disposes, Draws, Pictures, Scrolls, Arranges, Places, Tells, Describes}
 
 effect_keeps_sides : (effect : Effect) (answer : WindowReply) (before after : FullState) → IsEffect effect answer before after → SameSides before.desk after.desk
 effect_keeps_sides (Makes w) answer before after (n, is, new) = record { width = ap (λ (d : FullDesk). d.width) new.desk; height = ap (λ (d : FullDesk). d.height) new.desk }
@@ -24,7 +24,7 @@ effect_keeps_sides (Pictures n) answer before after (is, placed) = record { widt
 effect_keeps_sides (Scrolls m) answer before after (is, scrolled) = record { width = ap (λ (d : FullDesk). d.width) scrolled.desk; height = ap (λ (d : FullDesk). d.height) scrolled.desk }
 effect_keeps_sides (Arranges a) answer before after (is, arranged) = record { width = ap (λ (d : FullDesk). d.width) arranged.desk; height = ap (λ (d : FullDesk). d.height) arranged.desk }
 effect_keeps_sides (Disposes s) answer before after (is, closed) = record { width = ap (λ (d : FullDesk). d.width) closed.desk; height = ap (λ (d : FullDesk). d.height) closed.desk }
-effect_keeps_sides (Sizes z) answer before after (is, change) = record { width = ap (λ (d : FullDesk). d.width) change.arranged.desk; height = ap (λ (d : FullDesk). d.height) change.arranged.desk }
+effect_keeps_sides (Places p) answer before after (is, change) = record { width = ap (λ (d : FullDesk). d.width) change.arranged.desk; height = ap (λ (d : FullDesk). d.height) change.arranged.desk }
 effect_keeps_sides (Tells r) answer before after (is, same) = equal_sides before.desk after.desk same.desk
 effect_keeps_sides (Describes region) answer before after (is, same) = equal_sides before.desk after.desk same.desk
 

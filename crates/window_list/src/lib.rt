@@ -1,7 +1,8 @@
 //! The windows of a desk, as one list from front to back.
 //!
-//! A window's record (`Window`) holds all that is its own: its number, its place and size and those that it
-//! goes back to where it is zoomed, its title, its picture and its definition. A record can only be changed by the list that it lies in.
+//! A window's record (`Window`) holds all that is its own: its number, its place and size and those that it goes back to
+//! where it is zoomed, its title, its picture and its definition. A record can only be changed by the list that it lies
+//! in.
 //!
 //! `Ranks` is a list whose values stay where they lie while their order changes. They lie in a slab, and
 //! the order is a list of their keys. A reader of its contracts sees neither: he sees the list of the values
