@@ -3,3 +3,4 @@ pub mod Sayings
 pub mod UpdatedDesks
 pub mod Sides
 pub mod Runs
+pub mod Followed

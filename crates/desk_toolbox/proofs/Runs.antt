@@ -249,17 +249,15 @@ event_is_counted : (call : EventCall) (answer : Result EventReply Refusal) (befo
 event_is_counted call (Ok answer) before after numbers step h = counted_on before.desk.windows after.desk.windows numbers step.0.windows h
 event_is_counted call (Err e) before after numbers step h = counted_on before.desk.windows after.desk.windows numbers step.0.windows h
 
-admitted_is_counted : (call : Call) (answer : Result Reply Refusal) (before after : ToolboxState) (numbers : List ℕ) → IsAdmitted call answer before after → AreCounted after.desk.windows.desk.next numbers → AreCounted before.desk.windows.desk.next (made_by answer ++ numbers)
-admitted_is_counted call answer before after numbers step h = by_manager call step
-  where
-    abbrev Counted : Result Reply Refusal → Type 0
-    Counted r = AreCounted before.desk.windows.desk.next (made_by r ++ numbers)
+-- the numbers of what this was answered follow, in front of others
+abbrev Counted : FullState → List ℕ → Result Reply Refusal → Type 0
+Counted before numbers r = AreCounted before.desk.next (made_by r ++ numbers)
 
-    by_manager : (c : Call) → IsAdmitted c answer before after → Counted answer
-    by_manager (Window c) (own, is, made_so) = subst Counted (sym is) (window_is_counted c own before after numbers made_so h)
-    by_manager (Update c) (own, is, made_so) = subst Counted (sym is) (update_is_counted c own before.desk after.desk numbers made_so.0 h)
-    by_manager (Frame c) (own, is, made_so) = subst Counted (sym is) (frame_is_counted c own before.desk after.desk numbers made_so.0 h)
-    by_manager (Event c) (own, is, made_so) = subst Counted (sym is) (event_is_counted c own before after numbers made_so h)
+admitted_is_counted : (call : Call) (answer : Result Reply Refusal) (before after : ToolboxState) (numbers : List ℕ) → IsAdmitted call answer before after → AreCounted after.desk.windows.desk.next numbers → AreCounted before.desk.windows.desk.next (made_by answer ++ numbers)
+admitted_is_counted (Window call) answer before after numbers (own, is, step) h = subst (Counted before.desk.windows numbers) (sym is) (window_is_counted call own before after numbers step h)
+admitted_is_counted (Update call) answer before after numbers (own, is, step) h = subst (Counted before.desk.windows numbers) (sym is) (update_is_counted call own before.desk after.desk numbers step.0 h)
+admitted_is_counted (Frame call) answer before after numbers (own, is, step) h = subst (Counted before.desk.windows numbers) (sym is) (frame_is_counted call own before.desk after.desk numbers step.0 h)
+admitted_is_counted (Event call) answer before after numbers (own, is, step) h = subst (Counted before.desk.windows numbers) (sym is) (event_is_counted call own before after numbers step h)
 
 gated_is_counted : (stopped : Option Refusal) (call : Call) (answer : Result Reply Refusal) (before after : ToolboxState) (numbers : List ℕ) → IsGated stopped call answer before after → AreCounted after.desk.windows.desk.next numbers → AreCounted before.desk.windows.desk.next (made_by answer ++ numbers)
 gated_is_counted None call answer before after numbers step h = admitted_is_counted call answer before after numbers step h

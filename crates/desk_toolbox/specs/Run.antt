@@ -56,8 +56,8 @@ IsWindowMade call (Err e) before after = IsWindowAnswered call (Err e) before.de
 
 -- the answer of a manager, as one of the Toolbox
 abbrev pub replied : {R : Type 0} → (R → Reply) → Result R Refusal → Result Reply Refusal
-replied as (Ok answer) = Ok (as answer)
-replied as (Err e) = Err e
+replied reply_of (Ok answer) = Ok (reply_of answer)
+replied reply_of (Err e) = Err e
 
 -- a call that may come is a step of its manager, which answers it
 abbrev pub IsAdmitted : Call → Result Reply Refusal → ToolboxState → ToolboxState → Type 0

@@ -101,6 +101,7 @@ command-so verbs.FrontWindow = tt
 command-so verbs.Behind = λ window other. tt
 command-so verbs.Move = λ window h v select. tt
 command-so verbs.Size = λ window width height. tt
+command-so verbs.Zoom = λ window part. tt
 command-so verbs.Scroll = λ window h v. tt
 command-so verbs.Title = λ window title. tt
 command-so verbs.TrackGoAway = λ window h v. tt

@@ -18,7 +18,7 @@ use Rattle.line_words.specs.Words.{◌>>=◌, word_at}
 use Rattle.script_text.specs.Names.{named}
 use Rattle.script_text.specs.Grammar.{Shape, done, number, flag, name, text, mapped, reading}
 use Rattle.script_text.specs.Drawings.{drawing_shape}
-use Rattle.script_text.specs.Windows.{of_window_shape, of_flag_shape, of_point_shape, behind_shape, move_shape, size_shape, scroll_shape}
+use Rattle.script_text.specs.Windows.{of_window_shape, of_flag_shape, of_point_shape, behind_shape, move_shape, size_shape, zoom_shape, scroll_shape}
 use Rattle.script_text.specs.FrameWords.{title_shape, track_shape}
 use Rattle.script_text.specs.Updates.{of_rect_shape, of_region_shape}
 use Rattle.script_text.specs.EventWords.{of_mask_shape, post_shape, flush_shape}
@@ -66,6 +66,7 @@ verbs =
     ∷ (codes "behind", words.Behind)
     ∷ (codes "move", words.Move)
     ∷ (codes "size", words.Size)
+    ∷ (codes "zoom", words.Zoom)
     ∷ (codes "scroll", words.Scroll)
     ∷ (codes "title", words.Title)
     ∷ (codes "goaway", words.TrackGoAway)
@@ -110,6 +111,7 @@ shape_of words.FrontWindow = frontwin_shape
 shape_of words.Behind = behind_shape
 shape_of words.Move = move_shape
 shape_of words.Size = size_shape
+shape_of words.Zoom = zoom_shape
 shape_of words.Scroll = scroll_shape
 shape_of words.Title = title_shape
 shape_of words.TrackGoAway = track_shape

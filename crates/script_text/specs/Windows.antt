@@ -94,6 +94,10 @@ abbrev pub size_shape : Shape Command
 size_shape = number (λ window. number (λ width. number (λ height.
     done (Ok (Call (Window (calls.Size (record { window = named_window window; size = record { width = width; height = height } }))))))))
 
+-- zoom W PART
+abbrev pub zoom_shape : Shape Command
+zoom_shape = number (λ window. number (λ part. done (Ok (Call (Window (calls.Zoom (record { window = named_window window; part = part })))))))
+
 -- scroll W dh dv
 abbrev pub scroll_shape : Shape Command
 scroll_shape = number (λ window. number (λ h. number (λ v.

@@ -20,7 +20,7 @@ use crate::events::{flush, of_mask, post};
 use crate::frames::{set_title, track};
 use crate::updates::{of_rect, of_region};
 use crate::verb::{Verb, verb_of};
-use crate::windows::{behind, move_to, of_flag, of_point, of_window, resize, scroll};
+use crate::windows::{behind, move_to, of_flag, of_point, of_window, resize, scroll, zoom};
 use def_iface::Size;
 use desk_call::{Call, NewWindow, WindowCall};
 use line_words::Words;
@@ -101,6 +101,7 @@ fn command<'a>(verb: Verb, words: Words<'a>) -> Result<Command<'a>, Refusal>
         Verb::Behind => behind(words),
         Verb::Move => move_to(words),
         Verb::Size => resize(words),
+        Verb::Zoom => zoom(words),
         Verb::Scroll => scroll(words),
         Verb::Title => set_title(words),
         Verb::TrackGoAway => track(words),

@@ -16,6 +16,7 @@ pub enum Verb {
     Behind,
     Move,
     Size,
+    Zoom,
     Scroll,
     Title,
     TrackGoAway,
@@ -80,7 +81,7 @@ pub enum MaskVerb {
 }
 
 /// Each first word, and what it stands for.
-static VERBS: [(&[u8], Verb); 40] = [
+static VERBS: [(&[u8], Verb); 41] = [
     (b"desk", Verb::Desk),
     (b"image", Verb::Image),
     (b"window", Verb::Window),
@@ -89,6 +90,7 @@ static VERBS: [(&[u8], Verb); 40] = [
     (b"behind", Verb::Behind),
     (b"move", Verb::Move),
     (b"size", Verb::Size),
+    (b"zoom", Verb::Zoom),
     (b"scroll", Verb::Scroll),
     (b"title", Verb::Title),
     (b"goaway", Verb::TrackGoAway),

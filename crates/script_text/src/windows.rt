@@ -1,14 +1,14 @@
 //! The words of the commands for windows that are there.
 ghost use Rattle.std.specs.Prelude.{◌≡◌};
 ghost use Rattle.script_text.specs.Grammar.{reading};
-ghost use Rattle.script_text.specs.Windows.{named_window, other_window, no_picture, layers_of, call_of, flag_call, point_call, of_window_shape, of_flag_shape, of_point_shape, behind_shape, move_shape, size_shape, scroll_shape};
+ghost use Rattle.script_text.specs.Windows.{named_window, other_window, no_picture, layers_of, call_of, flag_call, point_call, of_window_shape, of_flag_shape, of_point_shape, behind_shape, move_shape, size_shape, zoom_shape, scroll_shape};
 
 use crate::command::Command;
 use crate::verb::{FlagVerb, PointVerb, WindowVerb};
 use def_iface::Size;
 use desk_call::{
     Call, FrameCall, HiliteWindow, LayerDraw, Layers, MoveWindow, NewPicture, PictureRef,
-    ScrollPicture, SendBehind, ShowHide, SizeWindow, UpdateCall, WindowCall,
+    ScrollPicture, SendBehind, ShowHide, SizeWindow, UpdateCall, WindowCall, ZoomWindow,
 };
 use line_words::Words;
 use tb_geom::{Point, Refusal};
@@ -171,6 +171,18 @@ pub fn resize<'a>(words: Words<'a>) -> Result<Command<'a>, Refusal>
     let size = Size { width, height };
     let change = SizeWindow { window, size };
     Ok(Command::Call(Call::Window(WindowCall::Size(change))))
+}
+
+/// The words after `zoom`: a window, and the part of it that zooms.
+pub fn zoom<'a>(words: Words<'a>) -> Result<Command<'a>, Refusal>
+    ensures { result ≡ reading zoom_shape words.entry }
+{
+    let (window, words) = words.number()?;
+    let (part, words) = words.number()?;
+    words.end()?;
+    let window = named_window(window);
+    let change = ZoomWindow { window, part };
+    Ok(Command::Call(Call::Window(WindowCall::Zoom(change))))
 }
 
 /// The words after `scroll`: a window, and how far its picture moves to the right and down.

@@ -1,32 +1,38 @@
-use Rattle.std.proofs.Common.{rules}
+use Rattle.std.proofs.Common.{Ok, Err, refl}
 use Rattle.desk_toolbox.proofs.toolbox.Toolbox.make.Goals as goal
-
-pub returns-in-Ok-clause-step : goal.returns-in-Ok-clause-step
-returns-in-Ok-clause-step g c = rw c.in-Window.is (c.in-Ok.ensures.step, search rules)
-
-pub returns-in-Err-clause-step : goal.returns-in-Err-clause-step
-returns-in-Err-clause-step g c = rw c.in-Window.is (c.in-Err.ensures.step, search rules)
 
 pub returns-in-Ok-make-clause-whole : goal.returns-in-Ok-make-clause-whole
 returns-in-Ok-make-clause-whole g c = record { windows = (c.in-Ok-make.ensures.step _ c.requires.windows).0; updates = c.in-Ok-make.ensures.whole }
 
 pub returns-in-Ok-make-clause-step : goal.returns-in-Ok-make-clause-step
-returns-in-Ok-make-clause-step g c = let done = c.in-Ok-make.ensures.step _ c.requires.windows in rw c.in-Update.is (done.1, search rules)
+returns-in-Ok-make-clause-step g c = let done = c.in-Ok-make.ensures.step _ c.requires.windows in rw c.in-Update.is (Ok c.in-Ok-make.reply, refl, (done.1, refl))
 
 pub returns-in-Err-make-clause-whole : goal.returns-in-Err-make-clause-whole
 returns-in-Err-make-clause-whole g c = record { windows = (c.in-Err-make.ensures.step _ c.requires.windows).0; updates = c.in-Err-make.ensures.whole }
 
 pub returns-in-Err-make-clause-step : goal.returns-in-Err-make-clause-step
-returns-in-Err-make-clause-step g c = let done = c.in-Err-make.ensures.step _ c.requires.windows in rw c.in-Update.is (done.1, search rules)
+returns-in-Err-make-clause-step g c = let done = c.in-Err-make.ensures.step _ c.requires.windows in rw c.in-Update.is (Err c.in-Err-make.refusal, refl, (done.1, refl))
+
+pub returns-in-Ok-make-2-clause-whole : goal.returns-in-Ok-make-2-clause-whole
+returns-in-Ok-make-2-clause-whole g c = record { windows = (c.in-Ok-make-2.ensures.step _ c.requires.windows).0; updates = c.in-Ok-make-2.ensures.whole }
+
+pub returns-in-Ok-make-2-clause-step : goal.returns-in-Ok-make-2-clause-step
+returns-in-Ok-make-2-clause-step g c = let done = c.in-Ok-make-2.ensures.step _ c.requires.windows in rw c.in-Frame.is (Ok c.in-Ok-make-2.reply, refl, (done.1, refl))
+
+pub returns-in-Err-make-2-clause-whole : goal.returns-in-Err-make-2-clause-whole
+returns-in-Err-make-2-clause-whole g c = record { windows = (c.in-Err-make-2.ensures.step _ c.requires.windows).0; updates = c.in-Err-make-2.ensures.whole }
+
+pub returns-in-Err-make-2-clause-step : goal.returns-in-Err-make-2-clause-step
+returns-in-Err-make-2-clause-step g c = let done = c.in-Err-make-2.ensures.step _ c.requires.windows in rw c.in-Frame.is (Err c.in-Err-make-2.refusal, refl, (done.1, refl))
 
 pub returns-in-Ok-answer_event-clause-whole : goal.returns-in-Ok-answer_event-clause-whole
 returns-in-Ok-answer_event-clause-whole g c = c.in-Ok-answer_event.ensures.whole _ c.requires
 
 pub returns-in-Ok-answer_event-clause-step : goal.returns-in-Ok-answer_event-clause-step
-returns-in-Ok-answer_event-clause-step g c = rw c.in-Event.is (c.in-Ok-answer_event.ensures.step _)
+returns-in-Ok-answer_event-clause-step g c = rw c.in-Event.is (Ok c.in-Ok-answer_event.reply, refl, c.in-Ok-answer_event.ensures.step _)
 
 pub returns-in-Err-answer_event-clause-whole : goal.returns-in-Err-answer_event-clause-whole
 returns-in-Err-answer_event-clause-whole g c = c.in-Err-answer_event.ensures.whole _ c.requires
 
 pub returns-in-Err-answer_event-clause-step : goal.returns-in-Err-answer_event-clause-step
-returns-in-Err-answer_event-clause-step g c = rw c.in-Event.is (c.in-Err-answer_event.ensures.step _)
+returns-in-Err-answer_event-clause-step g c = rw c.in-Event.is (Err c.in-Err-answer_event.refusal, refl, c.in-Err-answer_event.ensures.step _)
