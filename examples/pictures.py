@@ -6,17 +6,22 @@ import zlib
 SIGNATURE = b"\x89PNG\r\n\x1a\n"
 
 
-def first_image(answers):
-    """The rows of the first image among a script's answers, each a text of 0 and 1."""
+def images(answers):
+    """The images among a script's answers, each as its rows, texts of 0 and 1. There is one at least."""
     lines = answers.split("\n")
-    if "P1" not in lines:
+    found = [image_at(lines, at) for at, line in enumerate(lines) if line == "P1"]
+    if not found:
         raise ValueError("there is no image among these lines")
-    at = lines.index("P1")
+    return found
+
+
+def image_at(lines, at):
+    """The rows of the image whose first line is this one."""
     sides = lines[at + 1].split() if at + 1 < len(lines) else []
     if len(sides) != 2 or not all(side.isdigit() for side in sides):
         raise ValueError("the image has no width and height")
     width, height = map(int, sides)
-    bits = "".join(lines[at + 2 :])[: width * height]
+    bits = "".join(lines[at + 2 : at + 2 + height * ((width + 69) // 70)])
     if len(bits) != width * height or bits.strip("01"):
         raise ValueError("the image is not whole")
     return [bits[v * width : (v + 1) * width] for v in range(height)]
