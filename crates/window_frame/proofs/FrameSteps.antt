@@ -70,7 +70,7 @@ pub followed : {V : Type 0} {H : V → Type 0} (loan : Taken V H → Loan) (t ne
     → LeavesState loan (AreTold (listed former ++ listed active ++ listed moved)) t new → LeavesState loan (AreTold (followers call former was)) t new
 followed loan t new call standing former active was moved is none same it told =
     let named = ap (λ o. followers_by (window_standing call) former o (moved_by call)) (sym same) ∙ ap (λ o. followers_by (window_standing call) former active o) (sym it)
-        ∙ ap (λ k. followers_by k former active moved) (sym is) ∙ followers_so standing former active moved none in
+    ∙ ap (λ k. followers_by k former active moved) (sym is) ∙ followers_so standing former active moved none in
     subst (λ ss. LeavesState loan (AreTold ss) t new) (sym named) told
 
 -- a window manager that was whole over some slots, and is so over the same
