@@ -11,7 +11,7 @@ ghost use Rattle.def_iface.specs.Stocked.{IsFull};
 
 use def_iface::{Stock, Stocked};
 use script_runner::{Choices, OptionsError, options, run};
-use std::alloc::{AllocError, Global};
+use std::alloc::AllocError;
 use std::process::ExitCode;
 use std::rt::Files;
 use std::{env, fs, io};
@@ -129,55 +129,6 @@ fn run_script(
     }
 }
 
-/// Adds as many definitions of a standard kind as the stock begins with.
-fn add_standard(
-    alloc: Global,
-    stock: &mut Stock,
-    kind: &[u8],
-    variation: Variation,
-) -> Result<(), Refusal>
-    requires { All IsFull (⟦<Stock as Stocked>⟧.slots stock.old) }
-    ensures { OnOk result (All IsFull (⟦<Stock as Stocked>⟧.slots stock.new)) }
-{
-    for _ in 0..DEFINITIONS {
-        let Ok(window) = Box::new(alloc, StdWindow::new(variation)) else {
-            return Err(Refusal::NoMemory);
-        };
-        let Ok(()) = stock.add(kind, window) else {
-            return Err(Refusal::NoMemory);
-        };
-    }
-    Ok(())
-}
-
-/// Adds as many notched ones.
-fn add_notched(alloc: Global, stock: &mut Stock) -> Result<(), Refusal>
-    requires { All IsFull (⟦<Stock as Stocked>⟧.slots stock.old) }
-    ensures { OnOk result (All IsFull (⟦<Stock as Stocked>⟧.slots stock.new)) }
-{
-    for _ in 0..DEFINITIONS {
-        let Ok(window) = Box::new(alloc, NotchedWindow::new()) else {
-            return Err(Refusal::NoMemory);
-        };
-        let Ok(()) = stock.add(b"notched", window) else {
-            return Err(Refusal::NoMemory);
-        };
-    }
-    Ok(())
-}
-
-/// The stock: as many definitions of each kind of window, all Fresh.
-fn filled(alloc: Global) -> Result<Stock, Refusal>
-    ensures { IfOk result (λ stock. All IsFull (⟦<Stock as Stocked>⟧.slots stock)) }
-{
-    let mut stock = Stock::new(alloc);
-    for (kind, variation) in &STANDARD {
-        add_standard(alloc, &mut stock, kind, *variation)?;
-    }
-    add_notched(alloc, &mut stock)?;
-    Ok(stock)
-}
-
 fn main(rt: HostRuntime) -> ExitCode {
     let alloc = rt.alloc();
     let words = match env::args(&rt) {
@@ -195,9 +146,22 @@ fn main(rt: HostRuntime) -> ExitCode {
         Ok(chosen) => chosen,
         Err(error) => return refused_words(&rt, error),
     };
-    let mut stock = match filled(alloc) {
-        Ok(stock) => stock,
-        Err(refusal) => return ended(&rt, Err(refusal)),
-    };
+    let mut stock = Stock::new(alloc);
+    for _ in 0..DEFINITIONS {
+        for (kind, variation) in &STANDARD {
+            let Ok(window) = Box::new(alloc, StdWindow::new(*variation)) else {
+                return ended(&rt, Err(Refusal::NoMemory));
+            };
+            let Ok(()) = stock.add(kind, window) else {
+                return ended(&rt, Err(Refusal::NoMemory));
+            };
+        }
+        let Ok(notched) = Box::new(alloc, NotchedWindow::new()) else {
+            return ended(&rt, Err(Refusal::NoMemory));
+        };
+        let Ok(()) = stock.add(b"notched", notched) else {
+            return ended(&rt, Err(Refusal::NoMemory));
+        };
+    }
     ended(&rt, run_script(&rt, &chosen, &mut stock))
 }
