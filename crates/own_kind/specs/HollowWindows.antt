@@ -5,7 +5,6 @@ use Rattle.tb_geom.specs.declared.point.Point.{Point}
 use Rattle.tb_geom.specs.declared.rect.Rect.{Rect}
 use Rattle.def_iface.specs.declared.size.Size.{Size}
 use Rattle.def_iface.specs.declared.window_def.Stage.{Stage}
-use Rattle.def_iface.specs.declared.window_def.Stage.TheVariants.{Fresh}
 use Rattle.def_iface.specs.declared.window_def.Hit.{Hit}
 use Rattle.def_iface.specs.declared.window_def.Hit.TheVariants.{InContent, InDrag, InGrow, InGoAway, InZoomIn, InZoomOut}
 use Rattle.def_iface.specs.declared.window_def.WindowChange.{WindowChange}

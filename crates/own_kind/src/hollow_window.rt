@@ -117,7 +117,7 @@ fn plane() -> Rect
     sides(-16384, -16384, 16384, 16384)
 }
 
-/// Where the looks of a window differ that has other flags, and another size.
+/// What a window's look is made of, beside its title.
 #[derive(Clone, Copy)]
 struct Shown {
     flags: Flags,

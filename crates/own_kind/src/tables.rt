@@ -59,12 +59,7 @@ fn lower_edge(size: Size) -> Rect
     requires { is_size size ≡ true }
     ensures { result ≡ lower_edge size }
 {
-    sides(
-        -1,
-        size.height,
-        more(size.width, 1),
-        more(size.height, 1),
-    )
+    sides(-1, size.height, more(size.width, 1), more(size.height, 1))
 }
 
 /// The go-away box.
@@ -101,14 +96,29 @@ fn third(size: Size) -> i32
     size.width.div_euclid(3)
 }
 
+/// Where the hole ends, and the right part of the content begins.
+fn hole_right(size: Size) -> i32
+    requires { is_size size ≡ true }
+    ensures value { result ≡ size.width -ℤ third size }
+    ensures within { is_coordinate result ≡ true }
+{
+    size.width - third(size)
+}
+
+/// Where the hole begins, and the left part of the content ends.
+fn hole_left(size: Size) -> i32
+    requires { is_size size ≡ true }
+    ensures { result ≡ size.width -ℤ third size -ℤ third size }
+{
+    hole_right(size) - third(size)
+}
+
 /// The hole, which the structure and the content leave out.
 fn hole(size: Size) -> Rect
     requires { is_size size ≡ true }
     ensures { result ≡ hole size }
 {
-    let columns = third(size);
-    let right = size.width - columns;
-    sides(right - columns, 0, right, size.height)
+    sides(hole_left(size), 0, hole_right(size), size.height)
 }
 
 /// The structure.
@@ -153,11 +163,11 @@ fn go_away_line(flags: Flags, size: Size) -> [Step; 3]
     ensures { result ≡ go_away_line flags size }
 {
     let bar = bar(size);
-    let box_of = go_away_box();
+    let closing = go_away_box();
     let mark = Step::black_fill(sides(11, -13, 16, -8));
     [
-        Step::white_fill(box_of).when(flags.go_away).cut_to(bar),
-        Step::black_frame(box_of).when(flags.go_away).cut_to(bar),
+        Step::white_fill(closing).when(flags.go_away).cut_to(bar),
+        Step::black_frame(closing).when(flags.go_away).cut_to(bar),
         mark.when(flags.tracked).cut_to(bar),
     ]
 }
