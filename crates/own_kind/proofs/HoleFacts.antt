@@ -1,5 +1,6 @@
 -- Structure, content and box of the hollow window.
-use Rattle.std.proofs.Common.{◌≡◌, zero, suc, [], ◌∷◌, Bool, true, false, ◌&&◌, if◌then◌else◌, ℤ, pos, negsuc, ◌+ℤ◌, ◌-ℤ◌, ◌≤ℤ◌, ◌<ℤ◌, refl, arith, All}
+use Rattle.std.proofs.Common.{◌≡◌, zero, suc, [], ◌∷◌, Bool, true, false, ◌&&◌, if◌then◌else◌, refl, arith, All}
+use Rattle.std.proofs.Common.{ℤ, pos, negsuc, ◌+ℤ◌, ◌-ℤ◌, ◌≤ℤ◌, ◌<ℤ◌}
 use Rattle.std.proofs.lemmas.Int.{ints}
 use Rattle.std.specs.Int.{int_div_euclid}
 use Rattle.tb_geom.specs.declared.point.Point.{Point}
@@ -75,12 +76,17 @@ module _ (s : Size) (e : is_size s ≡ true) where
   hole_fits l =
       let n = third_is s e in
       let m = size_some s e in
-      λ i. coordinate (hole s).left (omega (arith, ints)) (omega (arith, ints)) i && (true && (coordinate (hole s).right (omega (arith, ints)) (omega (arith, ints)) i && coordinate s.height (omega (arith, ints)) (omega (arith, ints)) i))
+      let left = coordinate (hole s).left (omega (arith, ints)) (omega (arith, ints)) in
+      let right = coordinate (hole s).right (omega (arith, ints)) (omega (arith, ints)) in
+      let bottom = coordinate s.height (omega (arith, ints)) (omega (arith, ints)) in
+      λ i. left i && (true && (right i && bottom i))
 
   size_fits : IsLow s → is_in_range (rect_of s) ≡ true
   size_fits l =
       let n = size_some s e in
-      λ i. true && (true && (coordinate s.width (omega (arith, ints)) (omega (arith, ints)) i && coordinate s.height (omega (arith, ints)) (omega (arith, ints)) i))
+      let right = coordinate s.width (omega (arith, ints)) (omega (arith, ints)) in
+      let bottom = coordinate s.height (omega (arith, ints)) (omega (arith, ints)) in
+      λ i. true && (true && (right i && bottom i))
 
   pub structure_fits : is_in_range (outline s) ≡ true → All (λ piece. piece_fits piece ≡ true) (hollow_structure s)
   structure_fits r = two (added_rect (outline s)) (removed_rect (hole s)) r (hole_fits (low_of s r))
@@ -120,12 +126,15 @@ exact s e =
     let last : Point = record { h = r.right -ℤ pos 1; v = r.bottom -ℤ pos 1 } in
     box-by-corners r _
     (λ p t. (without (rect_holds (hole s) p) (rect_holds r p) t).1)
-    (with_all _ _ (not-above (hole s) first (omega (arith, ints))) (holds_in r first (omega (arith, ints)) (omega (arith, ints)) (omega (arith, ints)) (omega (arith, ints))))
-    (with_all _ _ (not-below (hole s) last (omega (arith, ints))) (holds_in r last (omega (arith, ints)) (omega (arith, ints)) (omega (arith, ints)) (omega (arith, ints))))
+    (with_all _ _ (not-above (hole s) first (omega (arith, ints)))
+    (holds_in r first (omega (arith, ints)) (omega (arith, ints)) (omega (arith, ints)) (omega (arith, ints))))
+    (with_all _ _ (not-below (hole s) last (omega (arith, ints)))
+    (holds_in r last (omega (arith, ints)) (omega (arith, ints)) (omega (arith, ints)) (omega (arith, ints))))
 
 -- the content lies in the structure: both leave out the same hole
 pub within : (s : Size) → IsWithin (area_holds (hollow_content s)) (area_holds (hollow_structure s))
 within s p t =
     let both = without (rect_holds (hole s) p) (rect_holds (rect_of s) p) t in
     let k = sides_of (rect_of s) p both.1 in
-    with_all _ _ both.0 (holds_in (outline s) p (omega (arith, ints)) (omega (arith, ints)) (omega (arith, ints)) (omega (arith, ints)))
+    with_all _ _ both.0
+    (holds_in (outline s) p (omega (arith, ints)) (omega (arith, ints)) (omega (arith, ints)) (omega (arith, ints)))
