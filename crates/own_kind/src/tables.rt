@@ -13,7 +13,7 @@ use looks::{Look, Piece, Spot, Step, area_has, first_part, sides};
 use tb_geom::{Point, Rect};
 
 /// What a window was told beside its size and its title.
-#[derive(Clone, Copy, Debug, PartialEq, Eq)]
+#[derive(Clone, Copy)]
 pub(crate) struct Flags {
     pub highlighted: bool,
     /// It has a go-away box.
