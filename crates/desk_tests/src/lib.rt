@@ -33,6 +33,8 @@ macro_rules! point {
 #[cfg(test)]
 mod desks;
 #[cfg(test)]
+mod frames;
+#[cfg(test)]
 mod queue;
 #[cfg(test)]
 mod scratch;
