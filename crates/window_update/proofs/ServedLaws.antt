@@ -83,8 +83,8 @@ module _ (s : ℕ) (before after : FullState) (done : IsRefreshed s before after
   abbrev was : LayeredDesk
   was = layered_desk before.desk
 
-  -- what is to be redrawn of this window's content, or of any other
-  shown : ℕ → PixelSet
+  -- what shows of a window's content
+  abbrev shown : ℕ → PixelSet
   shown t q = on_screen was q && is_content_of t (owner was q)
 
   stale_after : (q : Point) → on_screen was q ≡ true → after.stale q ≡ stale_by (refresh_change s before) (layered_state before) (owner was q) q
@@ -137,10 +137,10 @@ served_leaves_others s t before after (free, (done, (idle, drawn))) = others_sta
 -- ---- an update drawn layer by layer
 
 unchanged_on : (a b c : FullState) → IsUnchanged a b → IsUnchanged b c → IsUnchanged a c
-unchanged_on a b c first then = record {
-  desk = then.desk ∙ first.desk;
-  stale = λ p on. then.stale p (still p on) ∙ first.stale p on;
-  image = λ p on. then.image p (still p on) ∙ first.image p on;
+unchanged_on a b c first next = record {
+  desk = next.desk ∙ first.desk;
+  stale = λ p on. next.stale p (still p on) ∙ first.stale p on;
+  image = λ p on. next.image p (still p on) ∙ first.image p on;
 }
   where
     still : (p : Point) → on_screen (layered_desk a.desk) p ≡ true → on_screen (layered_desk b.desk) p ≡ true
@@ -158,6 +158,10 @@ refreshed_stays s a b c done same = record {
   };
 }
 
+-- a state, as far as this pixel goes
+abbrev at : FullState → Point → FullState
+at x p = record { desk = x.desk; stale = λ q. x.stale p; image = λ q. x.image p }
+
 -- and is what it was when the update began
 refreshed_since : (s : ℕ) (a b c : FullState) → IsUnchanged a b → IsRefreshed s b c → IsRefreshed s a c
 refreshed_since s a b c same done = record {
@@ -170,10 +174,6 @@ refreshed_since s a b c same done = record {
   where
     on_before : (p : Point) → on_screen (layered_desk c.desk) p ≡ true → on_screen (layered_desk a.desk) p ≡ true
     on_before p on = sym (ap (λ (d : FullDesk). on_screen (layered_desk d) p) (done.desk ∙ same.desk)) ∙ on
-
-    -- as far as this pixel goes
-    abbrev at : FullState → Point → FullState
-    at x p = record { desk = x.desk; stale = λ q. x.stale p; image = λ q. x.image p }
 
     as_was : (p : Point) → on_screen (layered_desk c.desk) p ≡ true → at b p ≡ at a p
     as_was p on = λ i. record { desk = same.desk i; stale = λ q. same.stale p (on_before p on) i; image = λ q. same.image p (on_before p on) i }
@@ -206,21 +206,22 @@ is_there desk s p its = by_bar (layers.in_bar (layered_desk desk) p) its
     by_bar true e = absurd (false≢true e)
     by_bar false e = by_found (record_with s desk.windows) refl e
 
+module _ (state : FullState) (right : IsRightState state) (none : AreAllServed state) (p : Point) (on : on_screen (layered_desk state.desk) p ≡ true) where
+  abbrev desk : LayeredDesk
+  desk = layered_desk state.desk
+
+  not_stale : state.stale p ≡ true → ⊥
+  not_stale old =
+      let its = whose (owner desk p) (right.plain.content p on old) in
+      let w = is_there state.desk its.0 p its.1 in
+      let set = λ (q : Point). (on_screen desk q && is_content_of its.0 (owner desk q)) && state.stale q in
+      let told : update_of its.0 state (minus p w.0.place) ≡ true =
+      ap (λ (o : Option WindowRecord). seen_from o set (minus p w.0.place)) w.1 ∙ ap set (again_there p w.0.place) ∙ (λ i. (on i && its.1 i) && old i) in
+      false≢true (sym (none its.0 (minus p w.0.place)) ∙ told)
+
+  right_there : (b : Bool) → state.stale p ≡ b → state.image p ≡ scratch desk p
+  right_there true old = absurd (not_stale old)
+  right_there false fresh = right.plain.right p on fresh
+
 pub all_served_is_right : (state : FullState) → IsRightState state → AreAllServed state → IsAllRight state
-all_served_is_right state right none p on = by_stale (state.stale p) refl
-  where
-    abbrev desk : LayeredDesk
-    desk = layered_desk state.desk
-
-    not_stale : state.stale p ≡ true → ⊥
-    not_stale old =
-        let its = whose (owner desk p) (right.plain.content p on old) in
-        let w = is_there state.desk its.0 p its.1 in
-        let set : PixelSet = λ q. (on_screen desk q && is_content_of its.0 (owner desk q)) && state.stale q in
-        let told : update_of its.0 state (minus p w.0.place) ≡ true =
-        ap (λ (o : Option WindowRecord). seen_from o set (minus p w.0.place)) w.1 ∙ ap set (again_there p w.0.place) ∙ (λ i. (on i && its.1 i) && old i) in
-        false≢true (sym (none its.0 (minus p w.0.place)) ∙ told)
-
-    by_stale : (b : Bool) → state.stale p ≡ b → state.image p ≡ scratch desk p
-    by_stale true old = absurd (not_stale old)
-    by_stale false fresh = right.plain.right p on fresh
+all_served_is_right state right none p on = right_there state right none p on (state.stale p) refl
