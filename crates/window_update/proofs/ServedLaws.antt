@@ -90,7 +90,7 @@ module _ (s : ℕ) (before after : FullState) (done : IsRefreshed s before after
   stale_after : (q : Point) → on_screen was q ≡ true → after.stale q ≡ stale_by (refresh_change s before) (layered_state before) (owner was q) q
   stale_after = subst (λ (d : FullDesk). (q : Point) → on_screen (layered_desk d) q ≡ true → after.stale q ≡ stale_by (refresh_change s before) (layered_state before) (owner (layered_desk d) q) q) done.desk done.pixels.stale
 
-  -- of content that stays on the screen as it is, what was drawn is not stale any more, and the rest is where it was
+  -- of the content that shows, what was drawn is not stale any more, and the rest is stale where it was
   stale_is : (t : ℕ) (b : Bool) (q : Point) → on_screen was q ≡ true → is_content_of t (owner was q) ≡ true → is_content_of s (owner was q) ≡ b → after.stale q ≡ (if b && before.stale q then false else before.stale q)
   stale_is t b q on its served =
       let picture : same_owner (owner was q) (Content s Picture) ≡ b = sym (content_is_picture s (owner was q)) ∙ served in
@@ -102,7 +102,7 @@ module _ (s : ℕ) (before after : FullState) (done : IsRefreshed s before after
   update_is t p = ap (λ (d : FullDesk). seen_from (record_with t d.windows) (λ q. (on_screen (layered_desk d) q && is_content_of t (owner (layered_desk d) q)) && after.stale q) p) done.desk
 
   -- nothing is left of its own update region
-  pub nothing_left : IsEmpty (update_of s after)
+  nothing_left : IsEmpty (update_of s after)
   nothing_left p =
       update_is s p
       ∙ seen_alike (record_with s before.desk.windows) (λ q. shown s q && after.stale q) (λ q. false) (λ q. alike_within (shown s q) (after.stale q) false (fresh q) ∙ never_within (shown s q)) p
@@ -118,7 +118,7 @@ module _ (s : ℕ) (before after : FullState) (done : IsRefreshed s before after
           stale_is s true q parts.0 parts.1 parts.1 ∙ either (before.stale q)
 
   -- and those of the others are as they were
-  pub others_stay : (t : ℕ) → (t ≡ s → ⊥) → (p : Point) → update_of t after p ≡ update_of t before p
+  others_stay : (t : ℕ) → (t ≡ s → ⊥) → (p : Point) → update_of t after p ≡ update_of t before p
   others_stay t away p =
       update_is t p
       ∙ seen_alike (record_with t before.desk.windows) (λ q. shown t q && after.stale q) (λ q. shown t q && before.stale q) (λ q. alike_within (shown t q) (after.stale q) (before.stale q) (same q)) p
