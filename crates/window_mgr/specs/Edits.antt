@@ -13,6 +13,7 @@ use Rattle.window_list.specs.Lists.{relit}
 use Rattle.vis_update.specs.declared.area.Area.{Area}
 use Rattle.vis_update.specs.declared.plan.Plan.{Plan}
 use Rattle.vis_update.specs.declared.plan.Seat.{Seat}
+use Rattle.vis_update.specs.declared.plan.Touch.{Touch}
 use Rattle.vis_update.specs.Records.{WindowRecord, record_of}
 use Rattle.vis_update.specs.Places.{is_placed}
 use Rattle.vis_update.specs.Seats.{stand_of}
@@ -26,7 +27,7 @@ use Rattle.desk_call.specs.declared.window.WindowReply.TheVariants.{Done}
 use Rattle.window_mgr.specs.declared.manager.WindowManager.{WindowManager}
 use Rattle.window_mgr.specs.FullDesk.{FullDesk, layered_desk, layered_state}
 use Rattle.window_mgr.specs.Records.{desk_of, state_of}
-use Rattle.window_mgr.specs.Arrange.{activation_of, active_after, also_of, put_behind}
+use Rattle.window_mgr.specs.Arrange.{Arrangement, activation_of, active_after, also_of, put_behind}
 use Rattle.window_mgr.specs.Refused.{first_refusal, behind_refusals}
 use Rattle.desk_call.specs.declared.window.SendBehind.{SendBehind}
 use Rattle.window_mgr.specs.Finding.{front_of}
@@ -105,8 +106,8 @@ module _ {V : Type 0} {H : V → Type 0} (loan : Taken V H → Loan) where
   abbrev pub IsPlanOfEdit : Edit → Activation → Option Point → WindowManager V H → Plan → Type 0
   IsPlanOfEdit e activation by t plan = (w : Window V H) → IsWindowAt t.windows.records.items e.at w
       → (after : FullDesk) → IsDeskOfEdit e t w after
-      → IsPlan (record { window = w.serial; also = also_of activation w.serial t.windows.active; by = by })
-        (layered_state (state_of loan t [])) (layered_desk after) t.desktop after.windows plan
+      → let touch : Touch = record { window = w.serial; also = also_of activation w.serial t.windows.active; by = by } in
+      IsPlan touch (layered_state (state_of loan t [])) (layered_desk after) t.desktop after.windows plan
 
   -- nothing refuses that the window at this place goes behind another or behind all, and that is this place of the others
   pub record IsPlaceBehind (b : SendBehind) (at : ℕ) (t : WindowManager V H) (to : ℕ) : Type 0 where
@@ -141,7 +142,7 @@ module _ {V : Type 0} {H : V → Type 0} (loan : Taken V H → Loan) where
       → List SlotView → Type 0
   IsRearranged e activates by (Ok answer) old new slots = (answer ≡ Done)
       × ((w : Window V H) → IsWindowAt old.windows.records.items e.at w
-      → IsArrangement (record { window = w.serial; by = by; windows = records_put e w old; activates = activates })
-        (state_of loan old slots) (state_of loan new slots))
+      → let arrangement : Arrangement = record { window = w.serial; by = by; windows = records_put e w old; activates = activates } in
+      IsArrangement arrangement (state_of loan old slots) (state_of loan new slots))
   IsRearranged e activates by (Err refusal) old new slots =
       (refusal ≡ NoMemory) × IsUnchanged (state_of loan old slots) (state_of loan new slots)

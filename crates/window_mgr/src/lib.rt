@@ -1,12 +1,12 @@
 //! The Window Manager: a desk of windows on one screen, and the calls that change it.
 //!
-//! What a desk is, `specs/` says as plain data, which no code keeps: a `FullDesk` has the windows' records, from front to
-//! back, each with the operations of its picture, and no region and no saved pixel. `Step` says what a call leaves and
-//! answers (`IsWindowStep`): a call that nothing refuses has its effect; a refused one changes nothing, and its answer is
-//! the first refusal of the written order whose condition holds (`Refused`), or NoMemory where none holds and the call may
-//! ask for memory. There are few kinds of effect (`Effects`): a window is made or disposed of, an operation is drawn, a
-//! picture is replaced or scrolled, windows are arranged, one is given another place or size, something is told. How each
-//! call arranges the windows, and which becomes active, stands in `Arrange`.
+//! What a desk is, `specs/` says as plain data, which stands nowhere in code: a `FullDesk` has the windows' records, from
+//! front to back, each with the operations of its picture, and no region and no saved pixel. `Step` says what a call
+//! leaves and answers (`IsWindowStep`): a call that nothing refuses has its effect; a refused one changes nothing, and its
+//! answer is the first refusal of the written order whose condition holds (`Refused`), or NoMemory where none holds and
+//! the call may ask for memory. There are few kinds of effect (`Effects`): a window is made or disposed of, an operation
+//! is drawn, a picture is replaced or scrolled, windows are arranged, one is given another place or size, something is
+//! told. How each call arranges the windows, and which becomes active, stands in `Arrange`.
 //!
 //! A `WindowManager` keeps more than the desk: the screen, and for each window the regions that its content and its frame
 //! own on the screen and what of the content is not yet drawn (`Area`). `Records` reads the desk and its state off it;
@@ -14,7 +14,7 @@
 //!
 //! Definitions wait outside, in a `Stock` that each call is handed. A window's record holds its definition together
 //! with the number of the slot that it came from. Where the window or the desk ends, the definition goes back there, Closed.
-//! A call that leaves the stock alone keeps its promise whatever the slots hold (`AnySlots`).
+//! A call that leaves the stock alone is a step over any slots with which the windows are whole (`AnySlots`).
 //!
 //! A call is judged and takes all its memory before the first change: its plan (`vis_update`) says what each window will
 //! own and what changes on the screen, and `commit` draws it, whichever call it was made for. `arrange` puts one window

@@ -83,14 +83,14 @@ module _ (s : ℕ) (before after : FullState) (done : IsRefreshed s before after
   abbrev was : LayeredDesk
   was = layered_desk before.desk
 
-  -- what is to be redrawn of this window's content, or of any other
-  shown : ℕ → PixelSet
+  -- what shows of a window's content
+  abbrev shown : ℕ → PixelSet
   shown t q = on_screen was q && is_content_of t (owner was q)
 
   stale_after : (q : Point) → on_screen was q ≡ true → after.stale q ≡ stale_by (refresh_change s before) (layered_state before) (owner was q) q
   stale_after = subst (λ (d : FullDesk). (q : Point) → on_screen (layered_desk d) q ≡ true → after.stale q ≡ stale_by (refresh_change s before) (layered_state before) (owner (layered_desk d) q) q) done.desk done.pixels.stale
 
-  -- of content that stays on the screen as it is, what was drawn is not stale any more, and the rest is where it was
+  -- of the content that shows, what was drawn is not stale any more, and the rest is stale where it was
   stale_is : (t : ℕ) (b : Bool) (q : Point) → on_screen was q ≡ true → is_content_of t (owner was q) ≡ true → is_content_of s (owner was q) ≡ b → after.stale q ≡ (if b && before.stale q then false else before.stale q)
   stale_is t b q on its served =
       let picture : same_owner (owner was q) (Content s Picture) ≡ b = sym (content_is_picture s (owner was q)) ∙ served in
@@ -102,7 +102,7 @@ module _ (s : ℕ) (before after : FullState) (done : IsRefreshed s before after
   update_is t p = ap (λ (d : FullDesk). seen_from (record_with t d.windows) (λ q. (on_screen (layered_desk d) q && is_content_of t (owner (layered_desk d) q)) && after.stale q) p) done.desk
 
   -- nothing is left of its own update region
-  pub nothing_left : IsEmpty (update_of s after)
+  nothing_left : IsEmpty (update_of s after)
   nothing_left p =
       update_is s p
       ∙ seen_alike (record_with s before.desk.windows) (λ q. shown s q && after.stale q) (λ q. false) (λ q. alike_within (shown s q) (after.stale q) false (fresh q) ∙ never_within (shown s q)) p
@@ -118,7 +118,7 @@ module _ (s : ℕ) (before after : FullState) (done : IsRefreshed s before after
           stale_is s true q parts.0 parts.1 parts.1 ∙ either (before.stale q)
 
   -- and those of the others are as they were
-  pub others_stay : (t : ℕ) → (t ≡ s → ⊥) → (p : Point) → update_of t after p ≡ update_of t before p
+  others_stay : (t : ℕ) → (t ≡ s → ⊥) → (p : Point) → update_of t after p ≡ update_of t before p
   others_stay t away p =
       update_is t p
       ∙ seen_alike (record_with t before.desk.windows) (λ q. shown t q && after.stale q) (λ q. shown t q && before.stale q) (λ q. alike_within (shown t q) (after.stale q) (before.stale q) (same q)) p
@@ -137,10 +137,10 @@ served_leaves_others s t before after (free, (done, (idle, drawn))) = others_sta
 -- ---- an update drawn layer by layer
 
 unchanged_on : (a b c : FullState) → IsUnchanged a b → IsUnchanged b c → IsUnchanged a c
-unchanged_on a b c first then = record {
-  desk = then.desk ∙ first.desk;
-  stale = λ p on. then.stale p (still p on) ∙ first.stale p on;
-  image = λ p on. then.image p (still p on) ∙ first.image p on;
+unchanged_on a b c first next = record {
+  desk = next.desk ∙ first.desk;
+  stale = λ p on. next.stale p (still p on) ∙ first.stale p on;
+  image = λ p on. next.image p (still p on) ∙ first.image p on;
 }
   where
     still : (p : Point) → on_screen (layered_desk a.desk) p ≡ true → on_screen (layered_desk b.desk) p ≡ true
@@ -158,6 +158,10 @@ refreshed_stays s a b c done same = record {
   };
 }
 
+-- a state, as far as this pixel goes
+abbrev at : FullState → Point → FullState
+at x p = record { desk = x.desk; stale = λ q. x.stale p; image = λ q. x.image p }
+
 -- and is what it was when the update began
 refreshed_since : (s : ℕ) (a b c : FullState) → IsUnchanged a b → IsRefreshed s b c → IsRefreshed s a c
 refreshed_since s a b c same done = record {
@@ -170,10 +174,6 @@ refreshed_since s a b c same done = record {
   where
     on_before : (p : Point) → on_screen (layered_desk c.desk) p ≡ true → on_screen (layered_desk a.desk) p ≡ true
     on_before p on = sym (ap (λ (d : FullDesk). on_screen (layered_desk d) p) (done.desk ∙ same.desk)) ∙ on
-
-    -- as far as this pixel goes
-    abbrev at : FullState → Point → FullState
-    at x p = record { desk = x.desk; stale = λ q. x.stale p; image = λ q. x.image p }
 
     as_was : (p : Point) → on_screen (layered_desk c.desk) p ≡ true → at b p ≡ at a p
     as_was p on = λ i. record { desk = same.desk i; stale = λ q. same.stale p (on_before p on) i; image = λ q. same.image p (on_before p on) i }
@@ -206,21 +206,22 @@ is_there desk s p its = by_bar (layers.in_bar (layered_desk desk) p) its
     by_bar true e = absurd (false≢true e)
     by_bar false e = by_found (record_with s desk.windows) refl e
 
+module _ (state : FullState) (right : IsRightState state) (none : AreAllServed state) (p : Point) (on : on_screen (layered_desk state.desk) p ≡ true) where
+  abbrev desk : LayeredDesk
+  desk = layered_desk state.desk
+
+  not_stale : state.stale p ≡ true → ⊥
+  not_stale old =
+      let its = whose (owner desk p) (right.plain.content p on old) in
+      let w = is_there state.desk its.0 p its.1 in
+      let set = λ (q : Point). (on_screen desk q && is_content_of its.0 (owner desk q)) && state.stale q in
+      let told : update_of its.0 state (minus p w.0.place) ≡ true =
+      ap (λ (o : Option WindowRecord). seen_from o set (minus p w.0.place)) w.1 ∙ ap set (again_there p w.0.place) ∙ (λ i. (on i && its.1 i) && old i) in
+      false≢true (sym (none its.0 (minus p w.0.place)) ∙ told)
+
+  right_there : (b : Bool) → state.stale p ≡ b → state.image p ≡ scratch desk p
+  right_there true old = absurd (not_stale old)
+  right_there false fresh = right.plain.right p on fresh
+
 pub all_served_is_right : (state : FullState) → IsRightState state → AreAllServed state → IsAllRight state
-all_served_is_right state right none p on = by_stale (state.stale p) refl
-  where
-    abbrev desk : LayeredDesk
-    desk = layered_desk state.desk
-
-    not_stale : state.stale p ≡ true → ⊥
-    not_stale old =
-        let its = whose (owner desk p) (right.plain.content p on old) in
-        let w = is_there state.desk its.0 p its.1 in
-        let set : PixelSet = λ q. (on_screen desk q && is_content_of its.0 (owner desk q)) && state.stale q in
-        let told : update_of its.0 state (minus p w.0.place) ≡ true =
-        ap (λ (o : Option WindowRecord). seen_from o set (minus p w.0.place)) w.1 ∙ ap set (again_there p w.0.place) ∙ (λ i. (on i && its.1 i) && old i) in
-        false≢true (sym (none its.0 (minus p w.0.place)) ∙ told)
-
-    by_stale : (b : Bool) → state.stale p ≡ b → state.image p ≡ scratch desk p
-    by_stale true old = absurd (not_stale old)
-    by_stale false fresh = right.plain.right p on fresh
+all_served_is_right state right none p on = right_there state right none p on (state.stale p) refl

@@ -132,7 +132,7 @@ module _ {V : Type 0} {H : V → Type 0} (loan : Taken V H → Loan) (t : Window
   -- the change of the pixels of such a mark
   marked_pixels : (verdict : Verdict) (set : PixelSet) (update : Pixels) (slots : List SlotView) → IsWholeManager loan t slots → (after : FullState) → IsRemarked m.window update (state_of loan t slots) after
       → ((p : Point) → layers.on_screen (layered_desk (desk_of loan t slots)) p ≡ true → is_content_of m.window (owner (layered_desk (desk_of loan t slots)) p) ≡ true
-          → holds update p ≡ marked_by verdict (stale_in t.areas.items p) (marked_in m.window set (desk_of loan t slots) (owner (layered_desk (desk_of loan t slots)) p) p))
+      → holds update p ≡ marked_by verdict (stale_in t.areas.items p) (marked_in m.window set (desk_of loan t slots) (owner (layered_desk (desk_of loan t slots)) p) p))
       → IsChanged (marking_change verdict m.window set (state_of loan t slots)) (layered_state (state_of loan t slots)) (layered_state after)
   marked_pixels Stale set update slots whole after mark by_mark = added_is_changed loan t slots whole m.window update after mark (marked_in m.window set (desk_of loan t slots)) (only_its set) by_mark
   marked_pixels Right set update slots whole after mark by_mark = taken_is_changed loan t slots whole m.window update after mark (marked_in m.window set (desk_of loan t slots)) (only_its set) by_mark

@@ -1,5 +1,5 @@
 //! Pixels of a window that are to be redrawn, or are right as they are.
-ghost use Rattle.std.specs.Prelude.{◌≡◌, ◌&&◌, ◌||◌, not, true, if◌then◌else◌, length, ◌<◌, slice_index_or, IfOk, OnOk, OnErr, MatchResult, [], None, Some};
+ghost use Rattle.std.specs.Prelude.{◌≡◌, ◌&&◌, true, length, ◌<◌, IfOk, MatchResult, [], None, Some};
 ghost use Rattle.tb_geom.specs.declared.point.Point.{Point};
 ghost use Rattle.tb_geom.specs.Points.{minus, plus};
 ghost use Rattle.tb_geom.specs.Pixels.{holds};
