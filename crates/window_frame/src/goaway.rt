@@ -31,15 +31,12 @@ pub(crate) fn track_go_away(
     let Some(at) = windows.find(pressed.window) else {
         return Err(Refusal::NoSuchWindow);
     };
-    match is_inside(windows, pressed.window, pressed.point) {
-        Ok(true) => {
-            updates.begin_tracking(pressed.window);
-            windows.tell_frame(at, WindowChange::Tracked(true));
-            Ok(FrameReply::Tracked(true))
-        }
-        Ok(false) => Ok(FrameReply::Tracked(false)),
-        Err(refusal) => Err(refusal),
+    let inside = is_inside(windows, pressed.window, pressed.point)?;
+    if inside {
+        updates.begin_tracking(pressed.window);
+        windows.tell_frame(at, WindowChange::Tracked(true));
     }
+    Ok(FrameReply::Tracked(inside))
 }
 
 /// Goes on to track, with the mouse at this point.
@@ -57,13 +54,9 @@ pub(crate) fn step_go_away(
     let Activity::Tracking(window) = updates.activity() else {
         return Err(Refusal::NotBusy);
     };
-    match is_inside(windows, window, point) {
-        Ok(inside) => {
-            tell_tracked(windows, window, inside);
-            Ok(FrameReply::Tracked(inside))
-        }
-        Err(refusal) => Err(refusal),
-    }
+    let inside = is_inside(windows, window, point)?;
+    tell_tracked(windows, window, inside);
+    Ok(FrameReply::Tracked(inside))
 }
 
 /// Ends the tracking, with the mouse button released at this point.
@@ -81,14 +74,10 @@ pub(crate) fn end_go_away(
     let Activity::Tracking(window) = updates.activity() else {
         return Err(Refusal::NotBusy);
     };
-    match is_inside(windows, window, point) {
-        Ok(inside) => {
-            tell_tracked(windows, window, false);
-            updates.end_tracking();
-            Ok(FrameReply::Tracked(inside))
-        }
-        Err(refusal) => Err(refusal),
-    }
+    let inside = is_inside(windows, window, point)?;
+    tell_tracked(windows, window, false);
+    updates.end_tracking();
+    Ok(FrameReply::Tracked(inside))
 }
 
 /// Whether FindWindow answers the go-away box of this window at the point. OutOfRange where the point is out of range.
