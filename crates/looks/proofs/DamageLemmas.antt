@@ -45,7 +45,8 @@ pub none_off_mark : (t : Lettering) (s : Step) (r : Rect) (p : Point) → (mark_
 unfolding step_holds
 none_off_mark t s r p around out = each s.on (rect_holds s.cut p) (mark_holds t s.mark p) around out
   where
-    each : (on cut mark : Bool) → (mark ≡ true → rect_holds r p ≡ true) → (cut && rect_holds r p) ≡ false → (on && (cut && mark)) ≡ false
+    each : (on cut mark : Bool) → (mark ≡ true → rect_holds r p ≡ true) → (cut && rect_holds r p) ≡ false
+        → (on && (cut && mark)) ≡ false
     each false cut mark around out = refl
     each true false mark around out = refl
     each true true false around out = refl

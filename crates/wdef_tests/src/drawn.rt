@@ -2,7 +2,7 @@
 ghost use Rattle.std.specs.Prelude.{◌≡◌, true};
 ghost use Rattle.def_iface.specs.Meaning.{is_fitting};
 
-use crate::pixels::{ORIGIN, is_black};
+use crate::place::{ORIGIN, place_of};
 use bit_map::BitMap;
 use def_iface::{Size, Stage, WindowChange, WindowDef};
 use draw_port::{Canvas, Cut};
@@ -38,7 +38,12 @@ fn drawn<W: WindowDef>(alloc: Global, window: &W) -> Result<BitMap, Refusal>
 
 /// Whether the map is black at each of the first points, and white at each of the second, in the window's coordinates.
 fn shows(map: &BitMap, black: &[(i8, i8)], white: &[(i8, i8)]) -> bool {
-    black.iter().all(|p| is_black(map, p.0, p.1)) && !white.iter().any(|p| is_black(map, p.0, p.1))
+    black.iter().all(|p| is_black(map, *p)) && !white.iter().any(|p| is_black(map, *p))
+}
+
+fn is_black(map: &BitMap, point: (i8, i8)) -> bool {
+    let point = place_of(point.0, point.1);
+    map.bounds().contains(point) && map.get(point)
 }
 
 const SMALL: Size = Size {

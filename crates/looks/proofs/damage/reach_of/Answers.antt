@@ -5,11 +5,13 @@ use Rattle.looks.proofs.damage.reach_of.Goals as goal
 
 pub returns-in-Fill : goal.returns-in-Fill
 returns-in-Fill c = λ t p out.
-    none_off_mark t c.args.step c.in-Fill.rect p (λ e. sym (ap (λ m. mark_holds t m p) c.in-Fill.is) ∙ e) (sym (c.sect.ensures.pixels p) ∙ out)
+    let same = ap (λ m. mark_holds t m p) c.in-Fill.is in
+    none_off_mark t c.args.step c.in-Fill.rect p (λ e. sym same ∙ e) (sym (c.sect.ensures.pixels p) ∙ out)
 
 pub returns-in-Frame : goal.returns-in-Frame
 returns-in-Frame c = λ t p out.
-    none_off_mark t c.args.step c.in-Frame.rect p (λ e. frame_in c.in-Frame.rect p (sym (ap (λ m. mark_holds t m p) c.in-Frame.is) ∙ e))
+    let same = ap (λ m. mark_holds t m p) c.in-Frame.is in
+    none_off_mark t c.args.step c.in-Frame.rect p (λ e. frame_in c.in-Frame.rect p (sym same ∙ e))
     (sym (c.sect-in-Frame.ensures.pixels p) ∙ out)
 
 pub returns-in-Behind : goal.returns-in-Behind
