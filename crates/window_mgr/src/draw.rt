@@ -93,7 +93,8 @@ fn show_last(screen: &mut BitMap, area: &Area, window: &Window, font: &Font)
     requires placed { in_plane window.now.place ≡ true }
     requires origin { in_plane window.now.origin ≡ true }
     ensures { (before : List Op) (op : Op) → window.now.picture ≡ before ++ op ∷ []
-        → Draws (holds area.now.visible) (λ p value. op_value font.now op (minus (minus p window.now.place) window.now.origin) value)
+        → Draws (holds area.now.visible)
+        (λ p value. op_value font.now op (minus (minus p window.now.place) window.now.origin) value)
         screen.old screen.new }
 {
     let Some(operation) = window.picture.ops().last() else {
