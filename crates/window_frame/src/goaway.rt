@@ -31,12 +31,15 @@ pub(crate) fn track_go_away(
     let Some(at) = windows.find(pressed.window) else {
         return Err(Refusal::NoSuchWindow);
     };
-    let inside = is_inside(windows, pressed.window, pressed.point)?;
-    if inside {
-        updates.begin_tracking(pressed.window);
-        windows.tell_frame(at, WindowChange::Tracked(true));
+    match is_inside(windows, pressed.window, pressed.point) {
+        Ok(true) => {
+            updates.begin_tracking(pressed.window);
+            windows.tell_frame(at, WindowChange::Tracked(true));
+            Ok(FrameReply::Tracked(true))
+        }
+        Ok(false) => Ok(FrameReply::Tracked(false)),
+        Err(refusal) => Err(refusal),
     }
-    Ok(FrameReply::Tracked(inside))
 }
 
 /// Goes on to track, with the mouse at this point.
