@@ -1,0 +1,2 @@
+-- Lemmas on the areas of a hollow window.
+pub mod HoleFacts

@@ -1,0 +1,50 @@
+//! The program `desk` over a kind of window that is not its own: a script comes in on standard input, and what each of
+//! its lines answers goes out, with the check of the screen at the end.
+//!
+//! Each kind that a script can name is the hollow one here (`hollow_window`), whose structure has a hole and whose
+//! content has two parts. So every script runs, and `tests/own-kind` sees that it is answered as it has to be whatever
+//! the windows are.
+#![tactic(auto)]
+
+mod hollow_window;
+mod tables;
+
+use anyhow::{Result, bail};
+use def_iface::Stock;
+use hollow_window::HollowWindow;
+use script_runner::run;
+use std::io;
+use watched_io::{WatchedReader, WatchedWriter};
+
+/// How many definitions of each kind of window the stock begins with.
+const DEFINITIONS: u8 = 16;
+
+/// The names of the kinds, as scripts have them.
+static KINDS: [&[u8]; 7] = [
+    b"document",
+    b"dialog",
+    b"plain",
+    b"shadow",
+    b"nogrow",
+    b"zoom",
+    b"notched",
+];
+
+fn main(rt: HostRuntime) -> Result<()> {
+    let alloc = rt.alloc();
+    let mut stock = Stock::new(alloc);
+    for _ in 0..DEFINITIONS {
+        for kind in &KINDS {
+            let window = Box::new(alloc, HollowWindow::new())?;
+            let Ok(()) = stock.add(kind, window) else {
+                bail!("no memory for the stock");
+            };
+        }
+    }
+    let mut source = WatchedReader::new(rt.reader());
+    let mut sink = WatchedWriter::new(io::writer(&rt));
+    if let Err(refusal) = run(alloc, &mut source, &mut sink, &mut stock, None, false, true) {
+        bail!("{refusal}");
+    }
+    Ok(())
+}
