@@ -2,20 +2,27 @@
 
 use crate::{EventCall, EventReply, FrameCall, FrameReply, UpdateCall, WindowCall, WindowReply};
 
-/// A call of the Toolbox, by the manager that answers it. Texts and the bytes of operations are
-/// borrowed, so that a call takes no memory.
+/// A call of the Toolbox, by what it is about. Titles, and the bytes of operations and regions, are borrowed, so that
+/// the value of a call owns no memory; making the call may take some.
 #[derive(Drop)]
 pub enum Call<'a> {
+    /// About windows: which there are, how they stand, and their pictures.
     Window(WindowCall<'a>),
+    /// About what of a window is to be redrawn.
     Update(UpdateCall<'a>),
+    /// About a window's frame: its title, its highlighting and its go-away box.
     Frame(FrameCall<'a>),
+    /// About events.
     Event(EventCall),
 }
 
-/// The value of a call that was done. Windows and updates answer alike.
+/// What a call answers that was done. One that was refused has a `Refusal` in its place.
 #[derive(Debug, PartialEq, Eq, Drop)]
 pub enum Reply {
+    /// To a `Call::Window` or a `Call::Update`.
     Window(WindowReply),
+    /// To a `Call::Frame`.
     Frame(FrameReply),
+    /// To a `Call::Event`.
     Event(EventReply),
 }

@@ -2,9 +2,9 @@
 //! succeed where memory is not refused, and that the words of the contracts are the Toolbox's. Expected values are tables and
 //! pictures written by hand, or come from slow programs over single pixels, and never from the libraries.
 //!
-//! `stocks` tests `def_iface`, `windows` tests `window_list`, `queue` tests `event_queue`, `desks` and `updates` test
-//! `desk_toolbox`, and `scratch` tests `scratch_paint`. `titled_window` is the one window definition of the tests: it is
-//! proved, and no part of the program.
+//! `stocks` tests `def_iface`, `windows` tests `window_list`, `queue` tests `event_queue`, `desks`, `updates` and `frames`
+//! test `desk_toolbox` with the managers below it, and `scratch` tests `scratch_paint`. `titled_window` is the one window
+//! definition of the tests: it is proved, and no part of the program.
 #![tactic(auto)]
 
 pub mod titled_window;
@@ -32,6 +32,8 @@ macro_rules! point {
 
 #[cfg(test)]
 mod desks;
+#[cfg(test)]
+mod frames;
 #[cfg(test)]
 mod queue;
 #[cfg(test)]

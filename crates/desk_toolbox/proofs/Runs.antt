@@ -29,6 +29,7 @@ use Rattle.desk_call.specs.declared.call.Reply.{Reply}
 use Rattle.desk_call.specs.declared.call.Reply.TheVariants as reply
 use Rattle.desk_call.specs.Gates.{gate, standing_of}
 use Rattle.window_update.specs.DeskStates.{DeskState, IsDeskUnchanged, narrowed}
+use Rattle.window_update.specs.Served.{AreAllServed, IsAllRight}
 use Rattle.window_update.specs.UpdateSteps.{IsUpdateStep, IsToldOf}
 use Rattle.window_frame.specs.Followers.{followers}
 use Rattle.window_frame.specs.FrameSteps.{IsFrameStep}
@@ -36,6 +37,7 @@ use Rattle.window_frame.proofs.FrameKeeps.{are_told_keep, frame_keeps}
 use Rattle.window_frame.proofs.FrameLaws.{are_told_stay_right, frame_stays_right}
 use Rattle.desk_toolbox.specs.ToolboxStates.{ToolboxState}
 use Rattle.desk_toolbox.specs.Run.{IsWindowAnswer, IsWindowMade, IsEventAnswer, IsAdmitted, replied, IsGated, IsStep, IsRunOfCalls, number_made, made, AreCounted}
+use Rattle.window_update.proofs.ServedLaws.{all_served_is_right}
 use Rattle.window_update.proofs.UpdateLaws.{update_stays_right}
 use Rattle.desk_toolbox.proofs.UpdatedDesks.{update_keeps_desk}
 
@@ -105,6 +107,10 @@ run_stays_right first last [] (answer ∷ answers) right run = absurd run
 run_stays_right first last (call ∷ calls) [] right run = absurd run
 run_stays_right first last (call ∷ calls) (answer ∷ answers) right run =
     run_stays_right run.0 last calls answers (step_stays_right call answer first run.0 right run.1) run.2
+
+-- and all of the screen is right once every update is served
+pub served_run_is_all_right : (first last : ToolboxState) (calls : List Call) (answers : List (Result Reply Refusal)) → IsRightState first.desk.windows → IsRunOfCalls first calls answers last → AreAllServed last.desk.windows → IsAllRight last.desk.windows
+served_run_is_all_right first last calls answers right run served = all_served_is_right last.desk.windows (run_stays_right first last calls answers right run) served
 
 -- ---- runs that go on
 

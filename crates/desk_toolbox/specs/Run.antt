@@ -71,17 +71,17 @@ IsAdmitted (Event call) result before after =
     (own : Result EventReply Refusal) × (result ≡ replied reply.Event own) × IsEventAnswer call own before after
 
 -- why a call is refused for its names and bytes alone, whatever is open
-abbrev pub IsForm : Call → DeskState → Option Refusal → Type 0
-IsForm (Window call) before form = IsFormRefusal call before.windows.desk form
-IsForm (Update call) before form = IsUpdateForm call form
-IsForm (Frame call) before form = form ≡ None
-IsForm (Event call) before form = form ≡ None
+abbrev pub IsFormFault : Call → DeskState → Option Refusal → Type 0
+IsFormFault (Window call) before form = IsFormRefusal call before.windows.desk form
+IsFormFault (Update call) before form = IsUpdateForm call form
+IsFormFault (Frame call) before form = form ≡ None
+IsFormFault (Event call) before form = form ≡ None
 
 -- a call that may not come for this is refused: for its form, if that is refused, and else for this. It changes nothing
 abbrev pub IsStopped : Refusal → Call → Result Reply Refusal → ToolboxState → ToolboxState → Type 0
 IsStopped e call (Ok answer) before after = ⊥
 IsStopped e call (Err f) before after =
-    (form : Option Refusal) × IsForm call before.desk form × ((f ≡ unwrap_or form e) × IsToolboxUnchanged before after)
+    (form : Option Refusal) × IsFormFault call before.desk form × ((f ≡ unwrap_or form e) × IsToolboxUnchanged before after)
 
 -- whether a call may come, one table says for every call (`gate`)
 abbrev pub IsGated : Option Refusal → Call → Result Reply Refusal → ToolboxState → ToolboxState → Type 0

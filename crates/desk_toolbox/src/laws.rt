@@ -13,6 +13,7 @@ ghost use Rattle.window_mgr.specs.Finding.{front_of};
 ghost use Rattle.window_mgr.specs.Refused.{first_refusal};
 ghost use Rattle.desk_call.specs.declared.call.Call.{Call};
 ghost use Rattle.desk_call.specs.declared.call.Reply.{Reply};
+ghost use Rattle.window_update.specs.Served.{AreAllServed, IsAllRight};
 ghost use Rattle.desk_toolbox.specs.ToolboxStates.{ToolboxState};
 ghost use Rattle.desk_toolbox.specs.Run.{IsStep, IsRunOfCalls, made, AreCounted};
 
@@ -65,4 +66,13 @@ pub fn windows_are_counted()
 pub fn runs_stay_right()
     ensures { (first last : ToolboxState) (calls : List Call) (answers : List (Result Reply Refusal))
         → IsRightState first.desk.windows → IsRunOfCalls first calls answers last → IsRightState last.desk.windows }
+{}
+
+/// After any run from a right state that leaves no pixel in any window's update region, the whole screen shows what
+/// painting the desk from nothing gives.
+#[tactic(auto, using(crate::proofs::Runs::served_run_is_all_right))]
+pub fn runs_that_leave_every_update_served_are_all_right()
+    ensures { (first last : ToolboxState) (calls : List Call) (answers : List (Result Reply Refusal))
+        → IsRightState first.desk.windows → IsRunOfCalls first calls answers last
+        → AreAllServed last.desk.windows → IsAllRight last.desk.windows }
 {}

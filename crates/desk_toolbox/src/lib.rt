@@ -1,8 +1,9 @@
 //! The Toolbox: a desk, and the calls of all its managers, one by one and in a row.
 //!
 //! A `Call` says which manager it is for. What each does, its manager says (`window_mgr` for windows, `window_update` for
-//! update regions); here steps are strung together (`Run`), and the law that steps keep a right state right (`laws`)
-//! becomes one of runs: outside the update regions each pixel has the value that painting the desk from nothing gives.
+//! update regions, `window_frame` for titles, highlighting and go-away boxes, `event_queue` for events); here steps are
+//! strung together (`Run`), and the law that steps keep a right state right (`laws`) becomes one of runs: outside the
+//! update regions each pixel has the value that painting the desk from nothing gives.
 //!
 //! At most one thing is open at a time. Whether a call may come then, one table says for every call (`desk_call`'s `gate`):
 //! Busy where it has to wait, NotBusy where what it goes on with is not open. A call that may not come is still refused first
@@ -16,9 +17,10 @@ pub mod laws;
 mod toolbox;
 
 pub use desk_call::{
-    Activity, AreaRef, Call, Drawing, EventCall, EventReply, FlushEvents, Found, LayerDraw, Layers,
-    MoveWindow, NewPicture, NewWindow, PictureRef, Reply, ScrollPicture, SendBehind, ShowHide,
-    SizeWindow, UpdateCall, WindowArea, WindowCall, WindowInfo, WindowPart, WindowReply,
+    Activity, AreaRef, Call, Drawing, EventCall, EventReply, FlushEvents, Found, FrameCall,
+    FrameReply, GoAwayPoint, HiliteWindow, LayerDraw, Layers, MoveWindow, NewPicture, NewTitle,
+    NewWindow, PictureRef, PostEvent, Reply, ScrollPicture, SendBehind, ShowHide, SizeWindow,
+    UpdateCall, WindowArea, WindowCall, WindowInfo, WindowPart, WindowReply, Zoom, ZoomWindow,
 };
 pub use toolbox::Toolbox;
 pub use window_mgr::NotBegun;

@@ -13,7 +13,7 @@ ghost use Rattle.window_update.specs.declared.updates.OpenActivity.TheVariants.{
 ghost use Rattle.window_update.specs.DeskStates.{DeskState};
 ghost use Rattle.window_update.specs.Rightness.{IsJudgement};
 ghost use Rattle.desk_toolbox.specs.EventSteps.{first_events};
-ghost use Rattle.desk_toolbox.specs.Run.{IsAdmitted, IsEventAnswer, IsForm, IsRunOfCalls, IsStep, IsWindowAnswered, IsWindowMade};
+ghost use Rattle.desk_toolbox.specs.Run.{IsAdmitted, IsEventAnswer, IsFormFault, IsRunOfCalls, IsStep, IsWindowAnswered, IsWindowMade};
 ghost use Rattle.desk_toolbox.specs.ToolboxStates.{IsToolboxUnchanged};
 ghost use Rattle.desk_toolbox.specs.WholeToolbox.{IsKeptToolbox, IsWholeToolbox, toolbox_state};
 
@@ -291,7 +291,7 @@ impl Toolbox {
 /// Why a call is refused for its names and bytes alone, whatever is open.
 fn form_refusal_of(call: &Call<'_>, stock: &Stock) -> Option<Refusal>
     ensures { (before : DeskState) → before.windows.desk.stock ≡ ⟦<Stock as Stocked>⟧.slots stock.now
-        → IsForm call.now before result }
+        → IsFormFault call.now before result }
 {
     match call {
         Call::Window(call) => form_refusal(call, stock),

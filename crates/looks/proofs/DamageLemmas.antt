@@ -4,6 +4,7 @@ use Rattle.std.proofs.lemmas.List.Sums.{fold_more}
 use Rattle.tb_geom.specs.declared.point.Point.{Point}
 use Rattle.tb_geom.specs.declared.rect.Rect.{Rect}
 use Rattle.tb_geom.specs.Rects.{rect_holds, IsBoxOf}
+use Rattle.draw_port.specs.Ops.{frame_holds, is_end}
 use Rattle.looks.specs.declared.step.Step.{Step}
 use Rattle.looks.specs.declared.step.Mark.{Mark}
 use Rattle.looks.specs.declared.step.Mark.TheVariants.{Fill, Frame, Behind, Text}
@@ -20,14 +21,44 @@ outside_both r a b exact p out = each (rect_holds a p) (rect_holds b p) (exact.h
     each true y e = let t = e refl in absurd (cc)
     each false true e = let t = e refl in absurd (cc)
 
--- a step leaves a pixel outside its cut
-pub step_outside : (t : Lettering) → (p : Point) (d : Bool) (s : Step) → rect_holds s.cut p ≡ false → step_value t p d s ≡ d
+-- a step leaves a pixel that it does not draw
+pub step_outside : (t : Lettering) → (p : Point) (d : Bool) (s : Step) → step_holds t s p ≡ false → step_value t p d s ≡ d
+step_outside t p d s none = ap (λ b. cond b (mark_value s.mark p d) d) none
+
+-- a step that is off draws no pixel
+pub none_off : (t : Lettering) (s : Step) (p : Point) → s.on ≡ false → step_holds t s p ≡ false
 unfolding step_holds
-step_outside t p d s out = ap (λ b. cond (s.on && (b && mark_holds t s.mark p)) (mark_value s.mark p d) d) out ∙ each s.on
+none_off t s p off = ap (λ b. b && (rect_holds s.cut p && mark_holds t s.mark p)) off
+
+-- nor does one outside its cut
+pub none_cut_off : (t : Lettering) (s : Step) (p : Point) → rect_holds s.cut p ≡ false → step_holds t s p ≡ false
+unfolding step_holds
+none_cut_off t s p out = ap (λ b. s.on && (b && mark_holds t s.mark p)) out ∙ each s.on
   where
-    each : (on : Bool) → cond (on && false) (mark_value s.mark p d) d ≡ d
+    each : (on : Bool) → (on && false) ≡ false
     each true = refl
     each false = refl
+
+-- nor outside what its cut shares with a rectangle around the pixels of its mark
+pub none_off_mark : (t : Lettering) (s : Step) (r : Rect) (p : Point) → (mark_holds t s.mark p ≡ true → rect_holds r p ≡ true)
+    → (rect_holds s.cut p && rect_holds r p) ≡ false → step_holds t s p ≡ false
+unfolding step_holds
+none_off_mark t s r p around out = each s.on (rect_holds s.cut p) (mark_holds t s.mark p) around out
+  where
+    each : (on cut mark : Bool) → (mark ≡ true → rect_holds r p ≡ true) → (cut && rect_holds r p) ≡ false
+        → (on && (cut && mark)) ≡ false
+    each false cut mark around out = refl
+    each true false mark around out = refl
+    each true true false around out = refl
+    each true true true around out = sym (around refl) ∙ out
+
+-- a frame lies in its rectangle
+pub frame_in : (r : Rect) (p : Point) → frame_holds r p ≡ true → rect_holds r p ≡ true
+frame_in r p e = first (rect_holds r p) (is_end r.left p.h r.right || is_end r.top p.v r.bottom) e
+  where
+    first : (a b : Bool) → (a && b) ≡ true → a ≡ true
+    first true b e = refl
+    first false b e = absurd (cc)
 
 -- one step more of each look
 pub same-more : (u t : Lettering) (p : Point) (old new : List Step) (k : ℕ) (a b : Step) → k < length old → k < length new

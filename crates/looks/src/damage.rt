@@ -3,13 +3,14 @@ ghost use Rattle.std.specs.Prelude.{◌≡◌, Bool, true, false, length};
 ghost use Rattle.tb_geom.specs.declared.point.Point.{Point};
 ghost use Rattle.tb_geom.specs.Rects.{rect_holds};
 ghost use Rattle.looks.specs.Letters.{Lettering};
-ghost use Rattle.looks.specs.Marks.{look_bit, step_value};
+ghost use Rattle.looks.specs.Marks.{look_bit, step_value, step_holds};
 
 use crate::same::{is_same, keeps_text};
-use crate::step::Step;
+use crate::step::{Mark, Step, sides};
 use tb_geom::{Point, Rect};
 
-/// A rectangle outside which two looks of as many steps are equal: the box of the steps that differ.
+/// A rectangle outside which two looks of as many steps are equal: the box of what the steps that differ
+/// can draw on.
 pub fn damage_between(old: &[Step], new: &[Step], same_text: bool) -> Rect
     requires { length old.now ≡ length new.now }
     ensures { (u t : Lettering) → (same_text ≡ true → t ≡ u) → (p : Point)
@@ -36,7 +37,7 @@ fn with_step(damage: Rect, old: Step, new: Step, same_text: bool) -> Rect
     if is_alike(old, new, same_text) {
         damage
     } else {
-        damage.union(old.cut).union(new.cut)
+        damage.union(reach_of(old)).union(reach_of(new))
     }
 }
 
@@ -46,4 +47,19 @@ fn is_alike(old: Step, new: Step, same_text: bool) -> bool
         → step_value t p d new ≡ step_value u p d old }
 {
     is_same(old, new) && keeps_text(old.mark, same_text)
+}
+
+/// A rectangle outside which a step draws nothing, whatever the text is.
+fn reach_of(step: Step) -> Rect
+    ensures { (t : Lettering) (p : Point) → rect_holds result p ≡ false → step_holds t step p ≡ false }
+{
+    if step.on {
+        match step.mark {
+            Mark::Fill(rect, _) => step.cut.sect(rect),
+            Mark::Frame(rect, _) => step.cut.sect(rect),
+            Mark::Behind(_) | Mark::Text(_) => step.cut,
+        }
+    } else {
+        sides(0, 0, 0, 0)
+    }
 }

@@ -4,7 +4,7 @@ use Rattle.clap.specs.Words.{App, Text, HasMatchesOf, first_of, first_value, one
 use Rattle.clap.specs.declared.parser.matches.ArgMatches.{ArgMatches}
 use Rattle.clap.proofs.WalkLemmas.{first_value-rows, one_text-rows}
 use Rattle.script_runner.specs.declared.command_line.Choices.{Choices}
-use Rattle.script_runner.specs.Choices.{desk_app, faults_in, flag_in, IsChosen, IsFlag, AreBothThere}
+use Rattle.script_runner.specs.Choices.{desk_app, faults_in, flag_in, IsChosen, IsFlagText, AreBothThere}
 
 -- the program's command line is one of which clap gives the matches exactly
 desk_is_simple : is_simple desk_app ≡ true
@@ -24,21 +24,21 @@ taken_by_words app words is taken =
 pub chosen_by_words : (app : App) (words : List Text) (m : ArgMatches) (choices : Choices) → app ≡ desk_app → HasMatchesOf app words m
     → option_map (λ s. s.now) choices.script ≡ first_value (found_of m) (codes "SCRIPT")
     → option_map (λ s. s.now) choices.font ≡ first_value (found_of m) (codes "FILE")
-    → IsFlag (one_text (found_of m) (codes "raw")) choices.raw
-    → IsFlag (one_text (found_of m) (codes "check")) choices.check → IsChosen words choices
+    → IsFlagText (one_text (found_of m) (codes "raw")) choices.raw
+    → IsFlagText (one_text (found_of m) (codes "check")) choices.check → IsChosen words choices
 chosen_by_words app words m choices is matches script font raw check =
     let exact : HasMatchesOf desk_app words m = subst (λ (a : App). HasMatchesOf a words m) is matches in
     record {
       script = script ∙ first_value-rows (found_of m) (codes "SCRIPT") ∙ ap (first_of (codes "SCRIPT")) (exact desk_is_simple).0;
       font = font ∙ first_value-rows (found_of m) (codes "FILE") ∙ ap (first_of (codes "FILE")) (exact desk_is_simple).0;
-      raw = subst (λ t. IsFlag t choices.raw) (one_text-rows (found_of m) (codes "raw") ∙ ap (one_of (codes "raw")) (exact desk_is_simple).0) raw;
-      check = subst (λ t. IsFlag t choices.check) (one_text-rows (found_of m) (codes "check") ∙ ap (one_of (codes "check")) (exact desk_is_simple).0) check;
+      raw = subst (λ t. IsFlagText t choices.raw) (one_text-rows (found_of m) (codes "raw") ∙ ap (one_of (codes "raw")) (exact desk_is_simple).0) raw;
+      check = subst (λ t. IsFlagText t choices.check) (one_text-rows (found_of m) (codes "check") ∙ ap (one_of (codes "check")) (exact desk_is_simple).0) check;
     }
 
 -- where both flags were chosen, both are there
 pub both_there : (words : List Text) (choices : Choices) → IsChosen words choices → faults_in words ≡ [] → choices.raw ≡ true → choices.check ≡ true → AreBothThere words
 both_there words choices chosen taken raw check = record {
   taken = taken;
-  raw = subst (IsFlag (flag_in (codes "raw") words)) raw chosen.raw;
-  check = subst (IsFlag (flag_in (codes "check") words)) check chosen.check;
+  raw = subst (IsFlagText (flag_in (codes "raw") words)) raw chosen.raw;
+  check = subst (IsFlagText (flag_in (codes "check") words)) check chosen.check;
 }

@@ -33,8 +33,8 @@ abbrev pub flag_in : Text → List Text → Option Text
 flag_in word words = one_of word (matches_of desk_app words)
 
 -- whether a flag is there, by that
-abbrev pub IsFlag : Option Text → Bool → Type 0
-IsFlag text flag = (text ≡ Some (codes "true") → flag ≡ true) × (text ≡ Some (codes "false") → flag ≡ false) × (text ≡ None → flag ≡ false)
+abbrev pub IsFlagText : Option Text → Bool → Type 0
+IsFlagText text flag = (text ≡ Some (codes "true") → flag ≡ true) × (text ≡ Some (codes "false") → flag ≡ false) × (text ≡ None → flag ≡ false)
 
 -- what is wrong with the words; nothing where the program takes them
 abbrev pub faults_in : List Text → Kinds
@@ -44,14 +44,14 @@ faults_in words = fault_of desk_app words
 pub record IsChosen (words : List Text) (choices : Choices) : Type 0 where
   pub script : option_map (λ s. s.now) choices.script ≡ named_in (codes "SCRIPT") words
   pub font : option_map (λ s. s.now) choices.font ≡ named_in (codes "FILE") words
-  pub raw : IsFlag (flag_in (codes "raw") words) choices.raw
-  pub check : IsFlag (flag_in (codes "check") words) choices.check
+  pub raw : IsFlagText (flag_in (codes "raw") words) choices.raw
+  pub check : IsFlagText (flag_in (codes "check") words) choices.check
 
 -- both flags are there, which exclude each other
 pub record AreBothThere (words : List Text) : Type 0 where
   pub taken : faults_in words ≡ []
-  pub raw : IsFlag (flag_in (codes "raw") words) true
-  pub check : IsFlag (flag_in (codes "check") words) true
+  pub raw : IsFlagText (flag_in (codes "raw") words) true
+  pub check : IsFlagText (flag_in (codes "check") words) true
 
 -- something is wrong with the words, and it is among what the error says; or nothing is but that two flags exclude each other; or
 -- there was no memory

@@ -1,7 +1,7 @@
 //! The command line: `desk [--raw] [--check] [--font FILE] [SCRIPT]`.
 ghost use Rattle.std.specs.Prelude.{◌≡◌, ◌&&◌, IfOk, IfErr, OnOk, map, false, option_map, codes, []};
 ghost use Rattle.clap.specs.Words.{HasKind, app_of, rule_of, first_value, one_text, found_of};
-ghost use Rattle.script_runner.specs.Choices.{desk_app, word_rule, flag_rule, option_rule, faults_in, IsFlag, IsChosen, AreWordsRefused};
+ghost use Rattle.script_runner.specs.Choices.{desk_app, word_rule, flag_rule, option_rule, faults_in, IsFlagText, IsChosen, AreWordsRefused};
 
 use clap::error::ErrorKind;
 use clap::{Arg, ArgAction, ArgMatches, Command};
@@ -107,8 +107,8 @@ fn desk_command<'a>(alloc: Global) -> Result<Command<'a>, AllocError>
 fn chosen<'a>(matches: &ArgMatches<'a>) -> Choices<'a>
     ensures script { option_map (λ s. s.now) result.script ≡ first_value (found_of matches.now) (codes "SCRIPT") }
     ensures font { option_map (λ s. s.now) result.font ≡ first_value (found_of matches.now) (codes "FILE") }
-    ensures raw { IsFlag (one_text (found_of matches.now) (codes "raw")) result.raw }
-    ensures check { IsFlag (one_text (found_of matches.now) (codes "check")) result.check }
+    ensures raw { IsFlagText (one_text (found_of matches.now) (codes "raw")) result.raw }
+    ensures check { IsFlagText (one_text (found_of matches.now) (codes "check")) result.check }
 {
     Choices {
         script: matches.get_str("SCRIPT"),

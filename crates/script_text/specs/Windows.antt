@@ -35,8 +35,8 @@ abbrev pub no_picture : ℕ → NewPicture
 no_picture window = record { window = window; picture = []; origin = record { h = pos 0; v = pos 0 } }
 
 -- some layers of a window are to be drawn
-abbrev pub layers_of : Layers → ℕ → desk.Call
-layers_of layers window = Update (updates.Draw (record { window = window; layers = layers }))
+abbrev pub layer_draw : Layers → ℕ → desk.Call
+layer_draw layers window = Update (updates.Draw (record { window = window; layers = layers }))
 
 -- what a verb asks about a window
 abbrev pub call_of : WindowVerb → ℕ → desk.Call
@@ -50,9 +50,9 @@ call_of words.UpdateRegion window = Window (calls.UpdateRegion window)
 call_of words.VisibleRegion window = Window (calls.VisibleRegion window)
 call_of words.Clear window = Window (calls.SetPicture (no_picture window))
 call_of words.BeginUpdate window = Update (updates.Begin window)
-call_of words.DrawPicture window = layers_of Picture window
-call_of words.DrawLists window = layers_of Lists window
-call_of words.DrawControls window = layers_of Controls window
+call_of words.DrawPicture window = layer_draw Picture window
+call_of words.DrawLists window = layer_draw Lists window
+call_of words.DrawControls window = layer_draw Controls window
 call_of words.EndUpdate window = Update (updates.End window)
 call_of words.ServeUpdate window = Update (updates.Serve window)
 

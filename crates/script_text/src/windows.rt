@@ -1,7 +1,7 @@
 //! The words of the commands for windows that are there.
 ghost use Rattle.std.specs.Prelude.{◌≡◌};
 ghost use Rattle.script_text.specs.Grammar.{reading};
-ghost use Rattle.script_text.specs.Windows.{named_window, other_window, no_picture, layers_of, call_of, flag_call, point_call, of_window_shape, of_flag_shape, of_point_shape, behind_shape, move_shape, size_shape, zoom_shape, scroll_shape};
+ghost use Rattle.script_text.specs.Windows.{named_window, other_window, no_picture, layer_draw, call_of, flag_call, point_call, of_window_shape, of_flag_shape, of_point_shape, behind_shape, move_shape, size_shape, zoom_shape, scroll_shape};
 
 use crate::command::Command;
 use crate::verb::{FlagVerb, PointVerb, WindowVerb};
@@ -44,8 +44,8 @@ fn no_picture<'a>(window: u64) -> NewPicture<'a>
 }
 
 /// Some layers of a window are to be drawn.
-fn layers_of<'a>(layers: Layers, window: u64) -> Call<'a>
-    ensures { result ≡ layers_of layers window }
+fn layer_draw<'a>(layers: Layers, window: u64) -> Call<'a>
+    ensures { result ≡ layer_draw layers window }
 {
     Call::Update(UpdateCall::Draw(LayerDraw { window, layers }))
 }
@@ -65,9 +65,9 @@ fn call_of<'a>(verb: WindowVerb, window: u64) -> Call<'a>
         WindowVerb::VisibleRegion => Call::Window(WindowCall::VisibleRegion(window)),
         WindowVerb::Clear => Call::Window(WindowCall::SetPicture(no_picture(window))),
         WindowVerb::BeginUpdate => Call::Update(UpdateCall::Begin(window)),
-        WindowVerb::DrawPicture => layers_of(Layers::Picture, window),
-        WindowVerb::DrawLists => layers_of(Layers::Lists, window),
-        WindowVerb::DrawControls => layers_of(Layers::Controls, window),
+        WindowVerb::DrawPicture => layer_draw(Layers::Picture, window),
+        WindowVerb::DrawLists => layer_draw(Layers::Lists, window),
+        WindowVerb::DrawControls => layer_draw(Layers::Controls, window),
         WindowVerb::EndUpdate => Call::Update(UpdateCall::End(window)),
         WindowVerb::ServeUpdate => Call::Update(UpdateCall::Serve(window)),
     }

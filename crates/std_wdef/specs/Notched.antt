@@ -4,15 +4,18 @@ use Rattle.std.specs.Int.{int_min, int_div_euclid}
 use Rattle.tb_geom.specs.declared.point.Point.{Point}
 use Rattle.def_iface.specs.declared.size.Size.{Size}
 use Rattle.def_iface.specs.declared.window_def.Stage.{Stage}
+use Rattle.def_iface.specs.declared.window_def.Stage.TheVariants.{Fresh}
+use Rattle.def_iface.specs.declared.window_def.WindowChange.{WindowChange}
 use Rattle.def_iface.specs.declared.window_def.Hit.{Hit}
 use Rattle.def_iface.specs.declared.window_def.Hit.TheVariants.{NoHit, InContent}
 use Rattle.def_iface.specs.Sizes.{rect_of}
-use Rattle.def_iface.specs.Meaning.{Definition}
+use Rattle.def_iface.specs.Meaning.{Definition, size_after}
 use Rattle.looks.specs.declared.area.Piece.{Piece}
 use Rattle.looks.specs.Areas.{added_rect, removed_rect, area_holds}
 use Rattle.looks.specs.declared.step.Step.{Step}
 use Rattle.looks.specs.Letters.{lettering}
 use Rattle.looks.specs.Marks.{box, neg, black_fill, look_bit}
+use Rattle.std_wdef.specs.declared.notched_window.NotchedWindow.{NotchedWindow}
 use Rattle.std_wdef.specs.Looks.{ring}
 
 -- n: min(w, h) div 2
@@ -51,3 +54,19 @@ notched_window stage size = record {
   picture = λ font. look_bit (lettering font []) (notched_look size);
   hit = notched_hit size;
 }
+
+-- what the window is
+abbrev pub notched_meaning : NotchedWindow → Definition
+notched_meaning w = notched_window w.stage w.size
+
+-- a window that was told nothing yet
+abbrev pub fresh_notched : NotchedWindow
+fresh_notched = record { stage = Fresh; size = record { width = pos 0; height = pos 0 } }
+
+-- the window after a change: it keeps its size, which is all that it shows
+abbrev pub told_notched : WindowChange → NotchedWindow → NotchedWindow
+told_notched change w = record w { size = size_after change w.size }
+
+-- the window at another stage
+abbrev pub notched_at : Stage → NotchedWindow → NotchedWindow
+notched_at stage w = record w { stage = stage }

@@ -2,10 +2,12 @@
 ghost use Rattle.std.specs.Prelude.{◌≡◌, true, false, pos, ◌≤ℤ◌, ◌+ℤ◌, ◌-ℤ◌};
 ghost use Rattle.tb_geom.specs.declared.point.Point.{Point};
 ghost use Rattle.tb_geom.specs.Rects.{in_plane, is_coordinate, rect_holds};
+ghost use Rattle.def_iface.specs.Meaning.{SameRegions, IsDamage, is_fitting, size_after};
 ghost use Rattle.def_iface.specs.Sizes.{is_size};
 ghost use Rattle.looks.specs.Letters.{Lettering};
 ghost use Rattle.looks.specs.Marks.{box, neg, look_bit};
-ghost use Rattle.std_wdef.specs.Notched.{notch, notched_structure, notched_content, notched_look, notched_window};
+ghost use Rattle.std_wdef.specs.Notched.{notch, notched_structure, notched_content, notched_look, notched_meaning};
+ghost use Rattle.std_wdef.specs.Notched.{fresh_notched, told_notched, notched_at};
 
 use crate::rects::{less, more, plane, ring, size_after};
 use def_iface::{Hit, Size, Stage, WindowChange, WindowDef, WindowRegions};
@@ -24,7 +26,8 @@ pub struct NotchedWindow {
 impl NotchedWindow {
     /// A Fresh definition, with no size yet.
     pub fn new() -> NotchedWindow
-        ensures { (⟦<NotchedWindow as WindowDef>⟧.meaning result).stage ≡ Stage.Fresh }
+        ensures fresh { (⟦<NotchedWindow as WindowDef>⟧.meaning result).stage ≡ Stage.Fresh }
+        ensures value { result ≡ fresh_notched }
     {
         NotchedWindow {
             stage: Stage::Fresh,
@@ -119,17 +122,31 @@ fn notched_damage(old: Size, new: Size) -> Rect
 }
 
 impl WindowDef for NotchedWindow {
-    ghost meaning = { λ w. notched_window w.stage w.size };
+    ghost meaning = { notched_meaning };
 
     fn stage(&self) -> Stage {
         self.stage
     }
 
-    fn begin(&mut self) {
+    fn begin(&mut self)
+        requires { (notched_meaning self.old).stage ≡ Stage.Fresh }
+        ensures live { (notched_meaning self.new).stage ≡ Stage.Live }
+        ensures regions { SameRegions (notched_meaning self.old) (notched_meaning self.new) }
+        ensures kept { self.new ≡ notched_at Stage.Live self.old }
+    {
         self.stage = Stage::Live;
     }
 
-    fn told(&mut self, change: WindowChange<'_>) -> Rect {
+    /// It keeps its size, and shows nothing else: the clause `kept`, over those of the trait.
+    fn told(&mut self, change: WindowChange<'_>) -> Rect
+        requires live { (notched_meaning self.old).stage ≡ Stage.Live }
+        requires fits { is_fitting (notched_meaning self.old) (size_after change (notched_meaning self.old).size) ≡ true }
+        ensures stays { (notched_meaning self.new).stage ≡ Stage.Live }
+        ensures size { (notched_meaning self.new).size ≡ size_after change.entry (notched_meaning self.old).size }
+        ensures regions { SameRegions (notched_meaning self.old) (notched_meaning self.new) }
+        ensures damage { IsDamage result (notched_meaning self.old) (notched_meaning self.new) }
+        ensures kept { self.new ≡ told_notched change.entry self.old }
+    {
         let size = size_after(&change, self.size);
         let damage = notched_damage(self.size, size);
         self.size = size;
@@ -158,7 +175,12 @@ impl WindowDef for NotchedWindow {
         draw_look(canvas, &notched_look(self.size), b"");
     }
 
-    fn dispose(&mut self) {
+    fn dispose(&mut self)
+        requires { (notched_meaning self.old).stage ≡ Stage.Live }
+        ensures closed { (notched_meaning self.new).stage ≡ Stage.Closed }
+        ensures regions { SameRegions (notched_meaning self.old) (notched_meaning self.new) }
+        ensures kept { self.new ≡ notched_at Stage.Closed self.old }
+    {
         self.stage = Stage::Closed;
     }
 }

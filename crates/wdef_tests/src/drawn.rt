@@ -2,6 +2,7 @@
 ghost use Rattle.std.specs.Prelude.{◌≡◌, true};
 ghost use Rattle.def_iface.specs.Meaning.{is_fitting};
 
+use crate::place::{ORIGIN, place_of};
 use bit_map::BitMap;
 use def_iface::{Size, Stage, WindowChange, WindowDef};
 use draw_port::{Canvas, Cut};
@@ -9,16 +10,13 @@ use std::alloc::Global;
 use std::test::Fail;
 use std_wdef::{NotchedWindow, StdWindow, Variation};
 use strike_font::Font;
-use tb_geom::{Point, Rect, Refusal};
+use tb_geom::{Rect, Refusal};
 
 /// All pixels.
 const NOTHING_CUT: Cut<'static> = Cut {
     inside: [None; 3],
     outside: None,
 };
-
-/// Where the window's own 0 0 lies on the map.
-const ORIGIN: Point = point!(10, 20);
 
 /// A map of 80 by 60 pixels with the window on it.
 fn drawn<W: WindowDef>(alloc: Global, window: &W) -> Result<BitMap, Refusal>
@@ -44,7 +42,7 @@ fn shows(map: &BitMap, black: &[(i8, i8)], white: &[(i8, i8)]) -> bool {
 }
 
 fn is_black(map: &BitMap, point: (i8, i8)) -> bool {
-    let point = point!(i32::from(point.0) + ORIGIN.h, i32::from(point.1) + ORIGIN.v);
+    let point = place_of(point.0, point.1);
     map.bounds().contains(point) && map.get(point)
 }
 

@@ -1,8 +1,11 @@
 //! What no clause says of the standard windows, by tests: that they come out where memory is not refused, and that
 //! their tables are those that were asked for. Expected values are pixels worked out by hand.
 //!
-//! `told` tests what a window is told and where a point lies in it, `drawn` what windows look like.
+//! `told` tests what a window is told and where a point lies in it, `drawn` what windows look like. `place` is where
+//! those lie on a map.
 #![tactic(auto)]
+
+pub mod place;
 
 /// A point, by its column and its row.
 #[cfg(test)]

@@ -40,6 +40,40 @@ fn a_new_title_damages_the_title_bar_alone(rt: HostRuntime) {
 }
 
 #[test]
+fn tracking_damages_the_inside_of_the_go_away_box_alone(rt: HostRuntime) {
+    let mut window = StdWindow::new(Variation::NoGrow);
+    window.begin();
+    window.told(WindowChange::Resized(SIZE));
+    window.told(WindowChange::Closable(true));
+    assert!(rt; window.told(WindowChange::Tracked(true)) == rect!(0, 0, 0, 0));
+    window.told(WindowChange::Tracked(false));
+    window.told(WindowChange::Highlighted(true));
+    assert!(rt; window.told(WindowChange::Tracked(true)) == rect!(9, -15, 18, -6));
+    assert!(rt; window.told(WindowChange::Tracked(true)) == rect!(0, 0, 0, 0));
+    assert!(rt; window.told(WindowChange::Tracked(false)) == rect!(9, -15, 18, -6));
+    let narrow = Size {
+        width: 12,
+        height: 20,
+    };
+    window.told(WindowChange::Resized(narrow));
+    assert!(rt; window.told(WindowChange::Tracked(true)) == rect!(9, -15, 12, -6));
+}
+
+#[test]
+fn highlighting_damages_what_comes_and_goes_with_it(rt: HostRuntime) {
+    let mut window = StdWindow::new(Variation::NoGrow);
+    window.begin();
+    window.told(WindowChange::Resized(SIZE));
+    assert!(rt; window.told(WindowChange::Highlighted(true)) == rect!(1, -15, 59, -4));
+    assert!(rt; window.told(WindowChange::Closable(true)) == rect!(7, -16, 20, -4));
+    assert!(rt; window.told(WindowChange::Highlighted(false)) == rect!(1, -16, 59, -4));
+    let mut window = StdWindow::new(Variation::Zoom);
+    window.begin();
+    window.told(WindowChange::Resized(SIZE));
+    assert!(rt; window.told(WindowChange::Highlighted(true)) == rect!(1, -16, 59, 16));
+}
+
+#[test]
 fn a_notched_window_lacks_its_corner(rt: HostRuntime) -> Result<(), Fail> {
     let alloc = rt.alloc();
     let mut window = NotchedWindow::new();

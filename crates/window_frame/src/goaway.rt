@@ -57,13 +57,9 @@ pub(crate) fn step_go_away(
     let Activity::Tracking(window) = updates.activity() else {
         return Err(Refusal::NotBusy);
     };
-    match is_inside(windows, window, point) {
-        Ok(inside) => {
-            tell_tracked(windows, window, inside);
-            Ok(FrameReply::Tracked(inside))
-        }
-        Err(refusal) => Err(refusal),
-    }
+    let inside = is_inside(windows, window, point)?;
+    tell_tracked(windows, window, inside);
+    Ok(FrameReply::Tracked(inside))
 }
 
 /// Ends the tracking, with the mouse button released at this point.
@@ -81,14 +77,10 @@ pub(crate) fn end_go_away(
     let Activity::Tracking(window) = updates.activity() else {
         return Err(Refusal::NotBusy);
     };
-    match is_inside(windows, window, point) {
-        Ok(inside) => {
-            tell_tracked(windows, window, false);
-            updates.end_tracking();
-            Ok(FrameReply::Tracked(inside))
-        }
-        Err(refusal) => Err(refusal),
-    }
+    let inside = is_inside(windows, window, point)?;
+    tell_tracked(windows, window, false);
+    updates.end_tracking();
+    Ok(FrameReply::Tracked(inside))
 }
 
 /// Whether FindWindow answers the go-away box of this window at the point. OutOfRange where the point is out of range.

@@ -4,11 +4,11 @@
 //! (`FrameCall`): a new title, another highlighting (*Inside Macintosh* I, "The Window Manager", SetWTitle and
 //! HiliteWindow), and the tracking of a go-away box (TrackGoAway), which is open between its begin and its end. After
 //! each other call that changed the windows, `follow` tells the definitions how their windows stand now: that of the window
-//! which was active, and that of the one which is.
+//! which was active, that of the one which is, and that of one which was moved.
 //!
 //! A definition is told one thing at a time, and answers which pixels of its picture change. What of the frame shows
-//! there is drawn anew. Nothing else changes (`IsFrameTold` of `window_mgr`): no region, no pixel of any content, no size. So none of
-//! these calls takes memory.
+//! there is drawn anew. Nothing else changes (`IsFrameTold` of `window_mgr`): no region, no pixel of any content, no size.
+//! So none of these calls takes memory.
 #![tactic(auto)]
 
 mod followers;

@@ -169,7 +169,12 @@ made_visible s ws = record {
 -- a visible window becomes hidden, and where it was active the first visible one becomes so, or none where there is none;
 -- a hidden one stays
 abbrev pub made_hidden : ℕ → List WindowRecord → Arrangement
-made_hidden s ws = record { window = s; by = None; windows = changed s (with_shown false) ws; activates = if_visible (record_with s ws) FrontInItsPlace }
+made_hidden s ws = record {
+  window = s;
+  by = None;
+  windows = changed s (with_shown false) ws;
+  activates = if_visible (record_with s ws) FrontInItsPlace;
+}
 
 -- the window becomes visible or hidden, and no highlighting changes
 abbrev pub made_so : ShowHide → List WindowRecord → Arrangement
@@ -177,4 +182,9 @@ made_so c ws = record { window = c.window; by = None; windows = changed c.window
 
 -- the window lies so, with its definition, which was told its size; no highlighting changes
 abbrev pub placed : Placing → Definition → List WindowRecord → Arrangement
-placed p d ws = record { window = p.window; by = p.by; windows = changed p.window (with_placement p.to d) ws; activates = Nothing }
+placed p d ws = record {
+  window = p.window;
+  by = p.by;
+  windows = changed p.window (with_placement p.to d) ws;
+  activates = Nothing;
+}

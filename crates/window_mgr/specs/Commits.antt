@@ -21,7 +21,8 @@ painted_part font d place part p value =
 abbrev pub painted_parts : List ℕ → List WindowRecord → List Part → Point → Bool → Bool
 painted_parts font [] parts p value = value
 painted_parts font (w ∷ ws) [] p value = value
-painted_parts font (w ∷ ws) (part ∷ parts) p value = painted_parts font ws parts p (painted_part font w.definition w.place part p value)
+painted_parts font (w ∷ ws) (part ∷ parts) p value =
+    painted_parts font ws parts p (painted_part font w.definition w.place part p value)
 
 -- the bit after pixels moved
 abbrev pub moved_bit : Pixels → Option Point → Bits → PixelSet
@@ -49,4 +50,6 @@ IsMoved copied by old = Draws everywhere (λ p value. moved_bit copied by old p)
 
 -- a plan was drawn: pixels moved, the desktop that is new became gray, and the windows' parts were painted
 abbrev pub IsPlanDrawn : Plan → Option Point → List ℕ → List WindowRecord → Bits → Bits → Type 0
-IsPlanDrawn plan by font ws old = Draws everywhere (λ p value. painted_parts font ws plan.parts.items p (uncovered_bit plan.uncovered (moved_bit plan.copied by old) p)) old
+IsPlanDrawn plan by font ws old = Draws everywhere
+    (λ p value. painted_parts font ws plan.parts.items p (uncovered_bit plan.uncovered (moved_bit plan.copied by old) p))
+    old

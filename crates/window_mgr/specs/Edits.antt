@@ -13,6 +13,7 @@ use Rattle.window_list.specs.Lists.{relit}
 use Rattle.vis_update.specs.declared.area.Area.{Area}
 use Rattle.vis_update.specs.declared.plan.Plan.{Plan}
 use Rattle.vis_update.specs.declared.plan.Seat.{Seat}
+use Rattle.vis_update.specs.declared.plan.Touch.{Touch}
 use Rattle.vis_update.specs.Records.{WindowRecord, record_of}
 use Rattle.vis_update.specs.Places.{is_placed}
 use Rattle.vis_update.specs.Seats.{stand_of}
@@ -26,7 +27,7 @@ use Rattle.desk_call.specs.declared.window.WindowReply.TheVariants.{Done}
 use Rattle.window_mgr.specs.declared.manager.WindowManager.{WindowManager}
 use Rattle.window_mgr.specs.FullDesk.{FullDesk, layered_desk, layered_state}
 use Rattle.window_mgr.specs.Records.{desk_of, state_of}
-use Rattle.window_mgr.specs.Arrange.{activation_of, active_after, also_of, put_behind}
+use Rattle.window_mgr.specs.Arrange.{Arrangement, activation_of, active_after, also_of, put_behind}
 use Rattle.window_mgr.specs.Refused.{first_refusal, behind_refusals}
 use Rattle.desk_call.specs.declared.window.SendBehind.{SendBehind}
 use Rattle.window_mgr.specs.Finding.{front_of}
@@ -90,33 +91,38 @@ module _ {V : Type 0} {H : V → Type 0} (loan : Taken V H → Loan) where
   AreSettledAfter e activation former ws = (w : Window V H) → IsWindowAt ws e.at w
       → All IsSettled (map (record_of loan) (relit_all activation former (insert (remove ws e.at) e.to (put_window e w))))
 
+  -- the records of the windows once one was put anew
+  abbrev pub records_put : Edit → Window V H → WindowManager V H → List WindowRecord
+  records_put e w t = insert (map (record_of loan) (remove t.windows.records.items e.at)) e.to (put_record e (record_of loan w))
+
   -- a desk on which the windows stand as they do once one was put anew
   pub record IsDeskOfEdit (e : Edit) (t : WindowManager V H) (w : Window V H) (after : FullDesk) : Type 0 where
     pub distinct : IsDesk (layered_desk after)
     pub screen : layered_desk after ≡ record (layered_desk (desk_of loan t [])) { windows = (layered_desk after).windows }
-    pub stands : map stand_of after.windows ≡ map stand_of (insert (map (record_of loan) (remove t.windows.records.items e.at)) e.to (put_record e (record_of loan w)))
+    pub stands : map stand_of after.windows ≡ map stand_of (records_put e w t)
 
   -- the plan is right for each such desk, where pixels move so far; the frame of a window whose highlighting may change
   -- by this activation is drawn whole
   abbrev pub IsPlanOfEdit : Edit → Activation → Option Point → WindowManager V H → Plan → Type 0
-  IsPlanOfEdit e activation by t plan = (w : Window V H) → IsWindowAt t.windows.records.items e.at w → (after : FullDesk) → IsDeskOfEdit e t w after
-      → IsPlan (record { window = w.serial; also = also_of activation w.serial t.windows.active; by = by }) (layered_state (state_of loan t [])) (layered_desk after) t.desktop after.windows plan
+  IsPlanOfEdit e activation by t plan = (w : Window V H) → IsWindowAt t.windows.records.items e.at w
+      → (after : FullDesk) → IsDeskOfEdit e t w after
+      → let touch : Touch = record { window = w.serial; also = also_of activation w.serial t.windows.active; by = by } in
+      IsPlan touch (layered_state (state_of loan t [])) (layered_desk after) t.desktop after.windows plan
 
   -- nothing refuses that the window at this place goes behind another or behind all, and that is this place of the others
   pub record IsPlaceBehind (b : SendBehind) (at : ℕ) (t : WindowManager V H) (to : ℕ) : Type 0 where
     pub unrefused : first_refusal (behind_refusals b (desk_of loan t [])) ≡ None
     pub low : to < length t.windows.records.items
-    pub is : (w : WindowRecord) → put_behind b.behind w (map (record_of loan) (remove t.windows.records.items at)) ≡ insert (map (record_of loan) (remove t.windows.records.items at)) to w
-
-  -- the records of the windows once one was put anew
-  abbrev pub records_put : Edit → Window V H → WindowManager V H → List WindowRecord
-  records_put e w t = insert (map (record_of loan) (remove t.windows.records.items e.at)) e.to (put_record e (record_of loan w))
+    pub is : (w : WindowRecord) → put_behind b.behind w (map (record_of loan) (remove t.windows.records.items at))
+        ≡ insert (map (record_of loan) (remove t.windows.records.items at)) to w
 
   -- one window was put anew, another or it became active where that is so, and the plan was drawn
-  pub record IsCommitted (e : Edit) (activation : Activation) (plan : Plan) (by : Option Point) (old new : WindowManager V H) : Type 0 where
+  pub record IsCommitted (e : Edit) (activation : Activation) (plan : Plan) (by : Option Point)
+      (old new : WindowManager V H) : Type 0 where
     pub window : Window V H
     pub at : IsWindowAt old.windows.records.items e.at window
-    pub windows : new.windows.records.items ≡ relit_all activation old.windows.active (insert (remove old.windows.records.items e.at) e.to (put_window e window))
+    pub windows : new.windows.records.items
+        ≡ relit_all activation old.windows.active (insert (remove old.windows.records.items e.at) e.to (put_window e window))
     pub drawn : IsPlanDrawn plan by old.font (map (record_of loan) new.windows.records.items) old.screen new.screen
     pub areas : new.areas.items ≡ plan.areas.items
     pub desktop : new.desktop ≡ plan.desktop
@@ -132,7 +138,11 @@ module _ {V : Type 0} {H : V → Type 0} (loan : Taken V H → Loan) where
       → activation ≡ activation_of activates w.serial t.windows.active (front_of (records_put e w t))
 
   -- what a call that puts one window anew answers and leaves
-  abbrev pub IsRearranged : Edit → Activates → Option Point → Result WindowReply Refusal → WindowManager V H → WindowManager V H → List SlotView → Type 0
-  IsRearranged e activates by (Ok answer) old new slots = (answer ≡ Done) × ((w : Window V H) → IsWindowAt old.windows.records.items e.at w
-      → IsArrangement (record { window = w.serial; by = by; windows = records_put e w old; activates = activates }) (state_of loan old slots) (state_of loan new slots))
-  IsRearranged e activates by (Err refusal) old new slots = (refusal ≡ NoMemory) × IsUnchanged (state_of loan old slots) (state_of loan new slots)
+  abbrev pub IsRearranged : Edit → Activates → Option Point → Result WindowReply Refusal → WindowManager V H → WindowManager V H
+      → List SlotView → Type 0
+  IsRearranged e activates by (Ok answer) old new slots = (answer ≡ Done)
+      × ((w : Window V H) → IsWindowAt old.windows.records.items e.at w
+      → let arrangement : Arrangement = record { window = w.serial; by = by; windows = records_put e w old; activates = activates } in
+      IsArrangement arrangement (state_of loan old slots) (state_of loan new slots))
+  IsRearranged e activates by (Err refusal) old new slots =
+      (refusal ≡ NoMemory) × IsUnchanged (state_of loan old slots) (state_of loan new slots)

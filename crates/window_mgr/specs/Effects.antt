@@ -53,7 +53,8 @@ new_record w serial slot d = record {
 -- a new window in front of all: a visible one becomes active, in place of the window that was
 abbrev pub desk_with : NewWindow → ℕ → ℕ → Definition → FullDesk → FullDesk
 desk_with w serial slot d desk = record desk {
-  windows = new_record w serial slot d ∷ (if w.shown then map (with_highlighting false desk.active) desk.windows else desk.windows);
+  windows = new_record w serial slot d
+      ∷ (if w.shown then map (with_highlighting false desk.active) desk.windows else desk.windows);
   active = if w.shown then Some serial else desk.active;
   next = number_after serial;
 }
@@ -76,7 +77,8 @@ with_drawn s op w = if w.serial == s then record w { picture = w.picture ++ op �
 -- serial owns
 abbrev pub draw_change : List ℕ → ℕ → WindowRecord → Op → Change
 draw_change font s w op = record no_change {
-  drawn = λ o p value. if same_owner o (Content s Picture) then op_value font op (minus (minus p w.place) w.origin) value else value;
+  drawn = λ o p value.
+      if same_owner o (Content s Picture) then op_value font op (minus (minus p w.place) w.origin) value else value;
 }
 
 -- the operation was kept in the window's picture, and drawn
@@ -150,7 +152,8 @@ pub record IsWindowDisposed (s : ℕ) (before after : FullState) : Type 0 where
   pub found : record_with s before.desk.windows ≡ Some window
   pub left : is_left window.slot before.desk.stock ≡ true
   pub shut : IsShut (loan_of window) before.desk.stock after.desk.stock
-  pub desk : after.desk ≡ record (desk_arranged (without s before.desk.windows) FrontInItsPlace s before.desk) { stock = after.desk.stock }
+  pub desk : after.desk
+      ≡ record (desk_arranged (without s before.desk.windows) FrontInItsPlace s before.desk) { stock = after.desk.stock }
   pub pixels : IsChanged no_change (layered_state before) (layered_state after)
 
 -- the kinds of effect that a call can have

@@ -52,7 +52,8 @@ found_by ws (Content s layer) p = found_window s ws p
 
 -- what is found at a point: that of the topmost owner, and nothing off the screen
 abbrev pub found_at : FullDesk → Point → Found
-found_at desk p = if on_screen (layered_desk desk) p then found_by desk.windows (owner (layered_desk desk) p) p else found_none part.InDesk
+found_at desk p =
+    if on_screen (layered_desk desk) p then found_by desk.windows (owner (layered_desk desk) p) p else found_none part.InDesk
 
 -- the first visible window
 abbrev pub front_of : List WindowRecord → Option ℕ

@@ -23,5 +23,6 @@ pub record IsFrameTold (s : ℕ) (kept : WindowRecord → WindowRecord) (before 
   pub definition : Definition
   pub found : record_with s before.desk.windows ≡ Some window
   pub told : IsToldSize window.size window.definition definition
-  pub desk : after.desk ≡ record before.desk { windows = changed s (λ w. record (kept w) { definition = definition }) before.desk.windows }
+  pub desk : after.desk
+      ≡ record before.desk { windows = changed s (λ w. record (kept w) { definition = definition }) before.desk.windows }
   pub pixels : IsChanged no_change (layered_state before) (layered_state after)

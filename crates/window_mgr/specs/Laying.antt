@@ -26,14 +26,16 @@ use Rattle.window_mgr.specs.Whole.{IsWholeManager}
 module _ {V : Type 0} {H : V → Type 0} (loan : Taken V H → Loan) where
   -- the window may lie so, and its content then lies in the box of its structure
   abbrev pub MayHave : Placement → Window V H → Type 0
-  MayHave to w = let d = (loan w.taken).definition in (is_placed (Some d) to.place to.size ≡ true) × IsWithin (d.content to.size) (rect_holds (d.bounds to.size))
+  MayHave to w = let d = (loan w.taken).definition in
+      (is_placed (Some d) to.place to.size ≡ true) × IsWithin (d.content to.size) (rect_holds (d.bounds to.size))
 
   -- so may the window at this place of the list
   abbrev pub IsPlaceableAt : ℕ → Placement → List (Window V H) → Type 0
   IsPlaceableAt i to ws = (w : Window V H) → IsWindowAt ws i w → MayHave to w
 
   -- the window at this place of the list lies so, its definition was told its size, and the plan was drawn
-  pub record IsPlacementCommitted (i : ℕ) (to : Placement) (plan : Plan) (by : Option Point) (old new : WindowManager V H) : Type 0 where
+  pub record IsPlacementCommitted (i : ℕ) (to : Placement) (plan : Plan) (by : Option Point)
+      (old new : WindowManager V H) : Type 0 where
     pub window : Window V H
     pub at : IsWindowAt old.windows.records.items i window
     pub lies : IsPlacedAt loan i to window old.windows.records.items new.windows.records.items
@@ -47,12 +49,15 @@ module _ {V : Type 0} {H : V → Type 0} (loan : Taken V H → Loan) where
     pub next : new.windows.next ≡ old.windows.next
 
   -- what a call that puts the window at this place of the list there answers and leaves
-  abbrev pub IsLaid : ℕ → Placement → Option Point → Result WindowReply Refusal → WindowManager V H → WindowManager V H → List SlotView → Type 0
+  abbrev pub IsLaid : ℕ → Placement → Option Point → Result WindowReply Refusal → WindowManager V H → WindowManager V H
+      → List SlotView → Type 0
   IsLaid i to by (Ok answer) old new slots = (answer ≡ Done) × ((w : Window V H) → IsWindowAt old.windows.records.items i w
       → IsWindowPlaced (record { window = w.serial; by = by; to = to }) (state_of loan old slots) (state_of loan new slots))
-  IsLaid i to by (Err refusal) old new slots = (refusal ≡ NoMemory) × IsUnchanged (state_of loan old slots) (state_of loan new slots)
+  IsLaid i to by (Err refusal) old new slots =
+      (refusal ≡ NoMemory) × IsUnchanged (state_of loan old slots) (state_of loan new slots)
 
   -- over any slots over which the window manager is whole, it is whole after such a call
-  abbrev pub IsLaidOverAnySlots : ℕ → Placement → Option Point → Result WindowReply Refusal → WindowManager V H → WindowManager V H → Type 0
+  abbrev pub IsLaidOverAnySlots : ℕ → Placement → Option Point → Result WindowReply Refusal → WindowManager V H
+      → WindowManager V H → Type 0
   IsLaidOverAnySlots i to by result old new = (slots : List SlotView) → IsWholeManager loan old slots
       → IsWholeManager loan new slots × IsLaid i to by result old new slots

@@ -42,7 +42,11 @@ standard_size desk = record { width = desk.width -ℤ pos 2; height = (desk.heig
 
 -- zoomed out, the window keeps the place and the size that it had
 abbrev pub zoomed_out : FullDesk → WindowRecord → Placement
-zoomed_out desk w = record { place = standard_place desk; size = standard_size desk; user_state = Some (record { place = w.place; size = w.size }) }
+zoomed_out desk w = record {
+  place = standard_place desk;
+  size = standard_size desk;
+  user_state = Some (record { place = w.place; size = w.size });
+}
 
 -- zoomed in, it has them again
 abbrev pub zoomed_in : UserState → Placement

@@ -39,7 +39,11 @@ IsUnplanned w placed count next e =
 
 -- what a new window does with the windows: it is drawn whole, and becomes active where it is visible
 abbrev pub new_touch : NewWindow → ℕ → Option ℕ → Touch
-new_touch w serial active = record { window = serial; also = also_of (if_active w.shown (Some serial)) serial active; by = None }
+new_touch w serial active = record {
+  window = serial;
+  also = also_of (if_active w.shown (Some serial)) serial active;
+  by = None;
+}
 
 module _ {V : Type 0} {H : V → Type 0} where
   -- the same desk, whatever room its lists have
@@ -68,8 +72,10 @@ module _ {V : Type 0} {H : V → Type 0} where
     pub operation : Op
     pub there : slice_get old.windows.records.items at ≡ Some window
     pub meant : IsMeant d.operation operation
-    pub windows : new.windows.records.items ≡ set old.windows.records.items at (record window { picture = window.picture ++ operation ∷ [] })
-    pub pixels : IsSomeAnd (slice_get old.areas.items at) (λ area. Draws (holds area.visible) (λ p value. op_value old.font operation (minus (minus p window.place) window.origin) value) old.screen new.screen)
+    pub windows : new.windows.records.items
+        ≡ set old.windows.records.items at (record window { picture = window.picture ++ operation ∷ [] })
+    pub pixels : IsSomeAnd (slice_get old.areas.items at) (λ area. Draws (holds area.visible)
+        (λ p value. op_value old.font operation (minus (minus p window.place) window.origin) value) old.screen new.screen)
     pub areas : new.areas.items ≡ old.areas.items
     pub bar : new.bar ≡ old.bar
     pub font : new.font ≡ old.font
@@ -82,8 +88,10 @@ module _ {V : Type 0} {H : V → Type 0} where
   pub record IsPictureAt (at : ℕ) (n : NewPicture) (old new : WindowManager V H) : Type 0 where
     pub window : Window V H
     pub there : slice_get old.windows.records.items at ≡ Some window
-    pub windows : new.windows.records.items ≡ set old.windows.records.items at (record window { picture = n.picture; origin = n.origin })
-    pub areas : IsSomeAnd (slice_get old.areas.items at) (λ area. new.areas.items ≡ set old.areas.items at (record area { update = area.visible }))
+    pub windows : new.windows.records.items
+        ≡ set old.windows.records.items at (record window { picture = n.picture; origin = n.origin })
+    pub areas : IsSomeAnd (slice_get old.areas.items at)
+        (λ area. new.areas.items ≡ set old.areas.items at (record area { update = area.visible }))
     pub screen : new.screen ≡ old.screen
     pub bar : new.bar ≡ old.bar
     pub font : new.font ≡ old.font
@@ -101,7 +109,8 @@ module _ {V : Type 0} {H : V → Type 0} where
 module _ {V : Type 0} {H : V → Type 0} (loan : Taken V H → Loan) where
   -- all that changes on the screen once the window stands in front of the others, whichever slot its definition has
   abbrev pub IsPlanWith : NewWindow → ℕ → Definition → Touch → WindowManager V H → Plan → Type 0
-  IsPlanWith w serial d touch t plan = (slot : ℕ) (begun : Definition) → SameRegions d begun → let after = desk_with w serial slot begun (desk_of loan t []) in
+  IsPlanWith w serial d touch t plan = (slot : ℕ) (begun : Definition) → SameRegions d begun
+      → let after = desk_with w serial slot begun (desk_of loan t []) in
       IsPlan touch (layered_state (state_of loan t [])) (layered_desk after) t.desktop after.windows plan
 
   -- nothing refuses the window with this definition any more, whose content then lies in the box of its structure
@@ -114,12 +123,14 @@ module _ {V : Type 0} {H : V → Type 0} (loan : Taken V H → Loan) where
     pub within : IsWithin (d.content w.size) (rect_holds (d.bounds w.size))
 
   -- the window was put in front of all others, and the plan was drawn
-  pub record IsAdded (w : NewWindow) (serial : ℕ) (taken : Loan) (touch : Touch) (plan : Plan) (old new : WindowManager V H) : Type 0 where
+  pub record IsAdded (w : NewWindow) (serial : ℕ) (taken : Loan) (touch : Touch) (plan : Plan)
+      (old new : WindowManager V H) : Type 0 where
     pub record_is : Window V H
     pub begun : Definition
     pub live : IsBegun w.size taken.definition begun
     pub seen : record_of loan record_is ≡ new_record w serial taken.slot begun
-    pub windows : new.windows.records.items ≡ record_is ∷ (if w.shown then map (dimmed old.windows.active) old.windows.records.items else old.windows.records.items)
+    pub windows : new.windows.records.items ≡ record_is
+        ∷ (if w.shown then map (dimmed old.windows.active) old.windows.records.items else old.windows.records.items)
     pub areas : new.areas.items ≡ plan.areas.items
     pub desktop : new.desktop ≡ plan.desktop
     pub drawn : IsPlanDrawn plan touch.by old.font (map (record_of loan) new.windows.records.items) old.screen new.screen

@@ -114,12 +114,14 @@ is_named_missing (Some s) ws = is_missing s ws
 -- why a window may not be sent behind another: one of them is missing, or they are one
 abbrev pub behind_refusals : sending.SendBehind → FullDesk → List (Bool × Refusal)
 behind_refusals b desk =
-    (is_missing b.window desk.windows, NoSuchWindow) ∷ (is_named_missing b.behind desk.windows, NoSuchWindow) ∷ (is_this b.behind b.window, OutOfRange) ∷ []
+    (is_missing b.window desk.windows, NoSuchWindow) ∷ (is_named_missing b.behind desk.windows, NoSuchWindow)
+    ∷ (is_this b.behind b.window, OutOfRange) ∷ []
 
 -- why a window may not be moved: it is missing, or may not be there
 abbrev pub move_refusals : MoveWindow → FullDesk → List (Bool × Refusal)
 move_refusals m desk =
-    (is_missing m.window desk.windows, NoSuchWindow) ∷ (not (may_be_at m.place (record_with m.window desk.windows)), OutOfRange) ∷ []
+    (is_missing m.window desk.windows, NoSuchWindow)
+    ∷ (not (may_be_at m.place (record_with m.window desk.windows)), OutOfRange) ∷ []
 
 -- the window may lie where it is put, if there is one and it is put anywhere
 abbrev pub may_lie : Option Placing → Option WindowRecord → Bool
@@ -137,7 +139,8 @@ size_refusals z desk =
 abbrev pub zoom_refusals : ZoomWindow → FullDesk → List (Bool × Refusal)
 zoom_refusals z desk =
     let w = record_with z.window desk.windows in
-    (is_missing z.window desk.windows, NoSuchWindow) ∷ (is_none (zoom_of z.part), OutOfRange) ∷ (not (may_lie (zoomed z w desk) w), OutOfRange) ∷ []
+    (is_missing z.window desk.windows, NoSuchWindow) ∷ (is_none (zoom_of z.part), OutOfRange)
+    ∷ (not (may_lie (zoomed z w desk) w), OutOfRange) ∷ []
 
 -- why a window may not get a picture: it is missing, or the origin is no point
 abbrev pub picture_refusals : NewPicture → FullDesk → List (Bool × Refusal)
@@ -151,7 +154,8 @@ may_scroll by (Some w) = in_plane (plus w.origin by)
 -- why a window's picture may not be scrolled: the window is missing, or the origin would be no point
 abbrev pub scroll_refusals : ScrollPicture → FullDesk → List (Bool × Refusal)
 scroll_refusals m desk =
-    (is_missing m.window desk.windows, NoSuchWindow) ∷ (not (may_scroll m.by (record_with m.window desk.windows)), OutOfRange) ∷ []
+    (is_missing m.window desk.windows, NoSuchWindow)
+    ∷ (not (may_scroll m.by (record_with m.window desk.windows)), OutOfRange) ∷ []
 
 -- why a call about one window may be refused that asks nothing more of it: it is missing
 abbrev pub window_refusals : ℕ → FullDesk → List (Bool × Refusal)
@@ -160,12 +164,14 @@ window_refusals s desk = (is_missing s desk.windows, NoSuchWindow) ∷ []
 -- why a region of a window may not be told, where these are its pixels: the window is missing, or the bytes would be too
 -- long
 abbrev pub IsUntold : ℕ → PixelSet → FullDesk → Option Refusal → Type 0
-IsUntold s set desk why = (long : Bool) × IsMeasured set long × (first_refusal ((is_missing s desk.windows, NoSuchWindow) ∷ (long, TooLong) ∷ []) ≡ why)
+IsUntold s set desk why = (long : Bool) × IsMeasured set long
+    × (first_refusal ((is_missing s desk.windows, NoSuchWindow) ∷ (long, TooLong) ∷ []) ≡ why)
 
 -- why the call refuses, want of memory aside
 abbrev pub IsRefusal : WindowCall → FullState → Option Refusal → Type 0
 IsRefusal (New w) state why = first_refusal (new_window_refusals w state.desk) ≡ why
-IsRefusal (Draw d) state why = (judged : Option Refusal) × IsJudged d.operation judged × (first_refusal (draw_refusals judged (record_with d.window state.desk.windows)) ≡ why)
+IsRefusal (Draw d) state why = (judged : Option Refusal) × IsJudged d.operation judged
+    × (first_refusal (draw_refusals judged (record_with d.window state.desk.windows)) ≡ why)
 IsRefusal (SetPicture n) state why = first_refusal (picture_refusals n state.desk) ≡ why
 IsRefusal (Scroll m) state why = first_refusal (scroll_refusals m state.desk) ≡ why
 IsRefusal (SendBehind b) state why = first_refusal (behind_refusals b state.desk) ≡ why
@@ -187,7 +193,8 @@ IsRefusal (Info s) state why = first_refusal (window_refusals s state.desk) ≡ 
 -- what of that comes before all else, whatever is open: a name that no table has, or bytes without their form
 abbrev pub IsFormRefusal : WindowCall → FullDesk → Option Refusal → Type 0
 IsFormRefusal (New w) desk why = first_refusal (kind_refusals w desk) ≡ why
-IsFormRefusal (Draw d) desk why = (judged : Option Refusal) × IsJudged d.operation judged × (first_refusal (form_refusals judged) ≡ why)
+IsFormRefusal (Draw d) desk why = (judged : Option Refusal) × IsJudged d.operation judged
+    × (first_refusal (form_refusals judged) ≡ why)
 IsFormRefusal _ desk why = None ≡ why
 
 -- the call may ask for memory

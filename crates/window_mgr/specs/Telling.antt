@@ -27,11 +27,13 @@ seen_from (Some w) set p = set (plus p w.place)
 
 -- what of the screen the content of the window of this serial owns, in the window's own coordinates
 abbrev pub visible_of : ℕ → FullState → PixelSet
-visible_of s state = seen_from (record_with s state.desk.windows) (λ p. on_screen (layered_desk state.desk) p && is_content_of s (owner (layered_desk state.desk) p))
+visible_of s state = seen_from (record_with s state.desk.windows)
+    (λ p. on_screen (layered_desk state.desk) p && is_content_of s (owner (layered_desk state.desk) p))
 
 -- what of that is stale
 abbrev pub update_of : ℕ → FullState → PixelSet
-update_of s state = seen_from (record_with s state.desk.windows) (λ p. (on_screen (layered_desk state.desk) p && is_content_of s (owner (layered_desk state.desk) p)) && state.stale p)
+update_of s state = seen_from (record_with s state.desk.windows)
+    (λ p. (on_screen (layered_desk state.desk) p && is_content_of s (owner (layered_desk state.desk) p)) && state.stale p)
 
 -- ---- which of both is told
 

@@ -29,7 +29,8 @@ pub record IsSettled (w : WindowRecord) : Type 0 where
 
 -- a slot has its definition back, or belongs to one of these windows and is empty
 abbrev pub IsSlot : List WindowRecord → List SlotView → ℕ → Type 0
-IsSlot windows slots k = (s : SlotView) → slice_get slots k ≡ Some s → IsFull s ⊎ ((s.held ≡ None) × Contains (map (λ w. w.slot) windows) k)
+IsSlot windows slots k = (s : SlotView) → slice_get slots k ≡ Some s
+    → IsFull s ⊎ ((s.held ≡ None) × Contains (map (λ w. w.slot) windows) k)
 
 -- the empty slots of the stock are those of the windows' definitions, each of another, and the definitions in the
 -- other slots are fresh or closed
@@ -59,5 +60,6 @@ module _ {V : Type 0} {H : V → Type 0} (loan : Taken V H → Loan) where
     pub sound : IsSoundDesk (desk_of loan t slots)
     pub gray : IsGray (layered_desk (desk_of loan t slots)) t.gray
     pub desktop : IsDesktop (layered_desk (desk_of loan t slots)) t.desktop
-    pub areas : AreAreas (layered_desk (desk_of loan t slots)) (stale_in t.areas.items) (desk_of loan t slots).windows t.areas.items
+    pub areas : AreAreas (layered_desk (desk_of loan t slots)) (stale_in t.areas.items) (desk_of loan t slots).windows
+        t.areas.items
     pub frames : AreFramesShown (state_of loan t slots)

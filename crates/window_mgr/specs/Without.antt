@@ -8,6 +8,7 @@ use Rattle.window_list.specs.declared.window.Window.{Window}
 use Rattle.vis_update.specs.declared.area.Area.{Area}
 use Rattle.vis_update.specs.declared.plan.Plan.{Plan}
 use Rattle.vis_update.specs.declared.plan.Seat.{Seat}
+use Rattle.vis_update.specs.declared.plan.Touch.{Touch}
 use Rattle.vis_update.specs.Records.{WindowRecord, record_of}
 use Rattle.vis_update.specs.Seats.{stand_of}
 use Rattle.vis_update.specs.Plans.{IsPlan}
@@ -45,15 +46,18 @@ module _ {V : Type 0} {H : V → Type 0} (loan : Taken V H → Loan) where
   -- may change by this activation is drawn whole
   abbrev pub IsPlanWithout : ℕ → ℕ → Activation → WindowManager V H → Plan → Type 0
   IsPlanWithout at s activation t plan = (after : FullDesk) → IsDeskWithout at t after
-      → IsPlan (record { window = s; also = also_of activation s t.windows.active; by = None }) (layered_state (state_of loan t [])) (layered_desk after) t.desktop after.windows plan
+      → let touch : Touch = record { window = s; also = also_of activation s t.windows.active; by = None } in
+      IsPlan touch (layered_state (state_of loan t [])) (layered_desk after) t.desktop after.windows plan
 
   -- where the window was active, the first visible one of the others becomes so
   abbrev pub IsActivationWithout : ℕ → ℕ → WindowManager V H → Activation → Type 0
-  IsActivationWithout at s t activation = activation ≡ activation_of FrontInItsPlace s t.windows.active (front_of (records_without at t))
+  IsActivationWithout at s t activation =
+      activation ≡ activation_of FrontInItsPlace s t.windows.active (front_of (records_without at t))
 
   -- another window became active where that is so, the one at this place was taken out, with its definition, and the plan
   -- was drawn
-  pub record IsTakenOff (at : ℕ) (activation : Activation) (plan : Plan) (taken : Taken V H) (old new : WindowManager V H) : Type 0 where
+  pub record IsTakenOff (at : ℕ) (activation : Activation) (plan : Plan) (taken : Taken V H)
+      (old new : WindowManager V H) : Type 0 where
     pub window : Window V H
     pub there : IsWindowAt old.windows.records.items at window
     pub its : taken ≡ window.taken

@@ -22,8 +22,8 @@ impl WindowManager {
     pub(crate) fn commit(&mut self, plan: Plan, by: Option<Point>)
         requires settled { All IsSettled (map (record_of ⟦<Taken as Defined>⟧.loan) self.old.windows.records.items) }
         requires parts { length plan.parts.items ≡ length self.old.windows.records.items }
-        ensures drawn { IsPlanDrawn plan by self.old.font (map (record_of ⟦<Taken as Defined>⟧.loan) self.old.windows.records.items)
-            self.old.screen self.new.screen }
+        ensures drawn { IsPlanDrawn plan by self.old.font
+            (map (record_of ⟦<Taken as Defined>⟧.loan) self.old.windows.records.items) self.old.screen self.new.screen }
         ensures areas { self.new.areas.items ≡ plan.areas.items }
         ensures desktop { self.new.desktop ≡ plan.desktop }
         ensures others { self.new ≡ record self.old {
@@ -61,7 +61,8 @@ fn move_content(screen: &mut BitMap, copied: &Region, by: Option<Point>)
 fn paint_parts(screen: &mut BitMap, windows: &WindowList, parts: &[Part], font: &Font)
     requires settled { All IsSettled (map (record_of ⟦<Taken as Defined>⟧.loan) windows.now.records.items) }
     requires parts { length parts.now ≡ length windows.now.records.items }
-    ensures { ArePainted font.now (map (record_of ⟦<Taken as Defined>⟧.loan) windows.now.records.items) parts.now screen.old screen.new }
+    ensures { ArePainted font.now (map (record_of ⟦<Taken as Defined>⟧.loan) windows.now.records.items) parts.now
+        screen.old screen.new }
 {
     for at in 0..windows.len() {
         let window = windows.at(at);

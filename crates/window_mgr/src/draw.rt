@@ -1,5 +1,5 @@
 //! The call that draws.
-ghost use Rattle.std.specs.Prelude.{◌≡◌, ◌++◌, ◌∷◌, [], List, OnOk, OnErr, Some, None, MatchResult, MatchOption, IsSomeAnd, slice_get, true};
+ghost use Rattle.std.specs.Prelude.{◌≡◌, ◌++◌, ◌∷◌, [], List, OnOk, OnErr, Some, None, MatchResult, true};
 ghost use Rattle.tb_geom.specs.declared.point.Point.{Point};
 ghost use Rattle.tb_geom.specs.Points.{minus};
 ghost use Rattle.tb_geom.specs.Rects.{in_plane};
@@ -8,7 +8,6 @@ ghost use Rattle.bit_blit.specs.Draws.{Draws};
 ghost use Rattle.draw_port.specs.declared.shapes.Op.{Op};
 ghost use Rattle.draw_port.specs.Ops.{op_value};
 ghost use Rattle.desk_call.specs.declared.window.WindowCall.TheVariants.{Draw};
-ghost use Rattle.window_mgr.specs.Finding.{record_with};
 ghost use Rattle.window_mgr.specs.Kept.{IsKept};
 ghost use Rattle.window_mgr.specs.Planned.{SameDesk, MayDraw, IsDrawnAt};
 ghost use Rattle.window_mgr.specs.Records.{state_of};
@@ -93,7 +92,8 @@ fn show_last(screen: &mut BitMap, area: &Area, window: &Window, font: &Font)
     requires placed { in_plane window.now.place ≡ true }
     requires origin { in_plane window.now.origin ≡ true }
     ensures { (before : List Op) (op : Op) → window.now.picture ≡ before ++ op ∷ []
-        → Draws (holds area.now.visible) (λ p value. op_value font.now op (minus (minus p window.now.place) window.now.origin) value)
+        → Draws (holds area.now.visible)
+        (λ p value. op_value font.now op (minus (minus p window.now.place) window.now.origin) value)
         screen.old screen.new }
 {
     let Some(operation) = window.picture.ops().last() else {

@@ -48,8 +48,8 @@ impl WindowManager {
 /// Draws a window's frame on the pixels of a region of the screen that lie within a rectangle of the window.
 fn draw_frame(map: &mut BitMap, region: &Region, window: &Window, within: Rect, font: &Font)
     requires settled { IsSettled (record_of ⟦<Taken as Defined>⟧.loan window.now) }
-    requires inside { (p : Point) → holds region.now p ≡ true → (⟦<Taken as Defined>⟧.loan window.now.taken).definition.structure
-        window.now.size (minus p window.now.place) ≡ true }
+    requires inside { (p : Point) → holds region.now p ≡ true
+        → (⟦<Taken as Defined>⟧.loan window.now.taken).definition.structure window.now.size (minus p window.now.place) ≡ true }
     ensures drawn { Draws (λ p. holds region.now p && rect_holds within (minus p window.now.place))
         (λ p _. (⟦<Taken as Defined>⟧.loan window.now.taken).definition.picture font.now (minus p window.now.place))
         map.old map.new }

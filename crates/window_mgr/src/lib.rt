@@ -1,29 +1,30 @@
 //! The Window Manager: a desk of windows on one screen, and the calls that change it.
 //!
-//! What a desk is, a reader finds in `specs/`, and nowhere in code: `FullDesk` has the windows' records, from
-//! front to back, each with the operations of its picture, and no region and no saved pixel. `Step` says what a
-//! call leaves and answers (`IsWindowStep`): a call that nothing refuses has its effect; a refused one changes nothing, and its
-//! answer is the first refusal of the written order whose condition holds (`Refused`), or NoMemory where no other
-//! holds and the call may ask for memory. There are few kinds of effect (`Effects`): a window is made, an operation is
-//! drawn, a picture is changed or moved, windows are arranged, something is told. How each call arranges the windows, and
-//! which becomes active, stands in `Arrange`.
+//! What a desk is, `specs/` says as plain data, which stands nowhere in code: a `FullDesk` has the windows' records, from
+//! front to back, each with the operations of its picture, and no region and no saved pixel. `Step` says what a call
+//! leaves and answers (`IsWindowStep`): a call that nothing refuses has its effect; a refused one changes nothing, and its
+//! answer is the first refusal of the written order whose condition holds (`Refused`), or NoMemory where none holds and
+//! the call may ask for memory. There are few kinds of effect (`Effects`): a window is made or disposed of, an operation
+//! is drawn, a picture is replaced or scrolled, windows are arranged, one is given another place or size, something is
+//! told. How each call arranges the windows, and which becomes active, stands in `Arrange`.
 //!
 //! A `WindowManager` keeps more than the desk: the screen, and for each window the regions that its content and its frame
 //! own on the screen and what of the content is not yet drawn (`Area`). `Records` reads the desk and its state off it;
 //! `IsWholeManager` (in `Whole`) says that what is kept agrees with the desk. Every call keeps it.
 //!
-//! Definitions live outside, in a `Stock` that each call is handed. A window's record holds its definition together
-//! with the number of the slot that it came from, until its end or the desk's puts it back Closed. A call that leaves the
-//! stock alone is a step over any slots (`AnySlots`).
+//! Definitions wait outside, in a `Stock` that each call is handed. A window's record holds its definition together
+//! with the number of the slot that it came from. Where the window or the desk ends, the definition goes back there, Closed.
+//! A call that leaves the stock alone is a step over any slots with which the windows are whole (`AnySlots`).
 //!
 //! A call is judged and takes all its memory before the first change: its plan (`vis_update`) says what each window will
 //! own and what changes on the screen, and `commit` draws it, whichever call it was made for. `arrange` puts one window
 //! anew among the others, `size` gives one another size and `zoom` zooms it, `new_window` adds one, `dispose_window` takes
-//! one out, `draw` draws in one, `repicture` changes its picture or moves it, `frame` tells a window's definition of a
-//! change and draws the frame anew.
+//! one out, `draw` draws in one, `repicture` replaces its picture or scrolls it, `frame` tells a window's definition of a
+//! change and draws the frame anew. `update` is for the crate that redraws windows: it changes an update region, or
+//! draws what is in it.
 //!
-//! Whose a pixel is, the calls that ask (`find`) read off the same regions: the window whose visible content or frame
-//! has it owns it. There may be 64 windows.
+//! `find` reads off the same regions whose a pixel is: its owner is the window whose visible content or frame has it.
+//! There may be 64 windows.
 #![tactic(auto)]
 
 mod arrange;

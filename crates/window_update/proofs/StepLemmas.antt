@@ -12,6 +12,7 @@ use Rattle.def_iface.specs.Meaning.{Loan}
 use Rattle.def_iface.specs.Stocked.{SlotView}
 use Rattle.def_iface.specs.Desk as layers
 use Rattle.def_iface.specs.Owner.{Owner, owner}
+use Rattle.def_iface.specs.Change.{Change, IsChanged}
 use Rattle.desk_call.specs.declared.update.UpdateCall.{UpdateCall}
 use Rattle.desk_call.specs.declared.update.UpdateCall.TheVariants as asks
 use Rattle.desk_call.specs.declared.update.WindowArea.{WindowArea}
@@ -23,7 +24,7 @@ use Rattle.vis_update.specs.Records.{record_of}
 use Rattle.window_mgr.specs.declared.manager.WindowManager.{WindowManager}
 use Rattle.window_mgr.specs.Edits.{IsWindowAt, StandsAt}
 use Rattle.window_mgr.specs.Finding.{record_with}
-use Rattle.window_mgr.specs.FullDesk.{FullDesk, layered_desk}
+use Rattle.window_mgr.specs.FullDesk.{FullDesk, FullState, layered_desk, layered_state}
 use Rattle.window_mgr.specs.Kept.{IsKept}
 use Rattle.window_mgr.specs.Records.{desk_of, state_of}
 use Rattle.window_mgr.specs.Updating.{IsRemarked}
@@ -34,12 +35,12 @@ use Rattle.window_mgr.proofs.UpdateSteps.{added_is_changed, taken_is_changed}
 use Rattle.window_update.specs.declared.marking.Verdict.{Verdict}
 use Rattle.window_update.specs.declared.marking.Verdict.TheVariants.{Stale, Right}
 use Rattle.window_update.specs.declared.updates.Updates.{Updates}
-use Rattle.window_update.specs.DeskStates.{desk_state, activity_of, begun_of}
+use Rattle.window_update.specs.DeskStates.{DeskState, desk_state, activity_of, begun_of}
 use Rattle.window_update.specs.Marks.{marked_by, IsMarkedBy}
 use Rattle.window_update.specs.Rightness.{IsJudgement}
 use Rattle.window_update.specs.Sets.{IsAreaOf, marked_in, on_place}
 use Rattle.window_update.specs.UpdateRefusals.{IsAreaRefusal, IsUpdateRefusal, may_update_grow}
-use Rattle.window_update.specs.UpdateSteps.{IsUpdateRefused, IsUpdateStep, IsUpdateStepOverAnySlots}
+use Rattle.window_update.specs.UpdateSteps.{adding, taking, IsAreaMarked, IsUpdateEffect, IsUpdateRefused, IsUpdateStep, IsUpdateStepOverAnySlots}
 use Rattle.window_update.proofs.MarkLemmas.{its_area}
 
 -- a call that is refused and leaves all as it was
@@ -55,6 +56,19 @@ short_of_memory loan t new u call e same free =
     subst (λ n. IsUpdateStepOverAnySlots loan call (Err e) t u n u) (sym same) (is_refused loan t u call e (λ slots. inr (free slots)))
 
 -- ---- marks
+
+-- the call that makes a mark, and the change that it makes
+abbrev pub marking : Verdict → WindowArea → UpdateCall
+marking Stale m = asks.Invalidate m
+marking Right m = asks.Validate m
+
+abbrev marking_change : Verdict → ℕ → PixelSet → FullState → Change
+marking_change Stale = adding
+marking_change Right = taking
+
+marking_grows : (verdict : Verdict) (m : WindowArea) → may_update_grow (marking verdict m) ≡ true
+marking_grows Stale m = refl
+marking_grows Right m = refl
 
 -- what was judged of the window at a place, by its number
 pub judged_there : {V : Type 0} {H : V → Type 0} (loan : Taken V H → Loan) (t : WindowManager V H) (at s : ℕ) → StandsAt t.windows.records.items s at → (set : PixelSet) (right : Bool)
@@ -115,60 +129,28 @@ module _ {V : Type 0} {H : V → Type 0} (loan : Taken V H → Loan) (t : Window
     pub right_pixels : right ≡ true → IsUpdateRefusal (asks.Validate m) (state_of loan t slots) None
     right_pixels all = (None, free, (set, is_set, (right, judgement, ap (λ b. if b then None else Some StalePixels) all)))
 
-  module _ (new : WindowManager V H) (u : Updates) where
-    -- pixels were put into the update region
-    pub invalidated : ((slots : List SlotView) → IsAreaRefusal m (state_of loan t slots) None) → at < length t.areas.items → (result : Result WindowReply Refusal) → IsMarkedBy loan Stale at m.area result t new
-        → IsUpdateStepOverAnySlots loan (asks.Invalidate m) result t u new u
-    invalidated free low (Ok answer) (done, (update, (set, is_set, after), leaves)) slots whole =
-        let left = leaves x here.1 slots whole in
-        let mark = its_mark new update set Stale after low slots whole left.1 in (
-          left.0,
-          (
-            free slots,
-            (
-              done,
-              (
-                record { activity = refl; begun = refl },
-                (
-                  set,
-                  is_set,
-                  record {
-                    desk = left.1.desk;
-                    pixels = added_is_changed loan t slots whole m.window update (state_of loan new slots) mark (marked_in m.window set (desk_of loan t slots)) (only_its set) (by_mark new update set Stale after low slots whole left.1);
-                  },
-                ),
-              ),
-            ),
-          ),
-        )
-    invalidated free low (Err e) (memory, same) slots whole = short_of_memory loan t new u (asks.Invalidate m) e same (λ k. (free k, (refl, memory))) slots whole
+  -- the change of the pixels of such a mark
+  marked_pixels : (verdict : Verdict) (set : PixelSet) (update : Pixels) (slots : List SlotView) → IsWholeManager loan t slots → (after : FullState) → IsRemarked m.window update (state_of loan t slots) after
+      → ((p : Point) → layers.on_screen (layered_desk (desk_of loan t slots)) p ≡ true → is_content_of m.window (owner (layered_desk (desk_of loan t slots)) p) ≡ true
+      → holds update p ≡ marked_by verdict (stale_in t.areas.items p) (marked_in m.window set (desk_of loan t slots) (owner (layered_desk (desk_of loan t slots)) p) p))
+      → IsChanged (marking_change verdict m.window set (state_of loan t slots)) (layered_state (state_of loan t slots)) (layered_state after)
+  marked_pixels Stale set update slots whole after mark by_mark = added_is_changed loan t slots whole m.window update after mark (marked_in m.window set (desk_of loan t slots)) (only_its set) by_mark
+  marked_pixels Right set update slots whole after mark by_mark = taken_is_changed loan t slots whole m.window update after mark (marked_in m.window set (desk_of loan t slots)) (only_its set) by_mark
 
-    -- pixels were taken out of it, being right
-    pub validated : ((slots : List SlotView) → IsUpdateRefusal (asks.Validate m) (state_of loan t slots) None) → at < length t.areas.items → (result : Result WindowReply Refusal) → IsMarkedBy loan Right at m.area result t new
-        → IsUpdateStepOverAnySlots loan (asks.Validate m) result t u new u
-    validated free low (Ok answer) (done, (update, (set, is_set, after), leaves)) slots whole =
+  of_area : (verdict : Verdict) (before after : DeskState) → IsAreaMarked (marking_change verdict) m before after → IsUpdateEffect (marking verdict m) before after
+  of_area Stale before after marked = marked
+  of_area Right before after marked = marked
+
+  module _ (new : WindowManager V H) (u : Updates) where
+    -- the area was marked, or there was no memory for it
+    pub is_marked : (verdict : Verdict) → ((slots : List SlotView) → IsUpdateRefusal (marking verdict m) (state_of loan t slots) None) → at < length t.areas.items → (result : Result WindowReply Refusal) → IsMarkedBy loan verdict at m.area result t new
+        → IsUpdateStepOverAnySlots loan (marking verdict m) result t u new u
+    is_marked verdict free low (Ok answer) (done, (update, (set, is_set, after), leaves)) slots whole =
         let left = leaves x here.1 slots whole in
-        let mark = its_mark new update set Right after low slots whole left.1 in (
-          left.0,
-          (
-            free slots,
-            (
-              done,
-              (
-                record { activity = refl; begun = refl },
-                (
-                  set,
-                  is_set,
-                  record {
-                    desk = left.1.desk;
-                    pixels = taken_is_changed loan t slots whole m.window update (state_of loan new slots) mark (marked_in m.window set (desk_of loan t slots)) (only_its set) (by_mark new update set Right after low slots whole left.1);
-                  },
-                ),
-              ),
-            ),
-          ),
-        )
-    validated free low (Err e) (memory, same) slots whole = short_of_memory loan t new u (asks.Validate m) e same (λ k. (free k, (refl, memory))) slots whole
+        let mark = its_mark new update set verdict after low slots whole left.1 in
+        let pixels = marked_pixels verdict set update slots whole (state_of loan new slots) mark (by_mark new update set verdict after low slots whole left.1) in
+        (left.0, (free slots, (done, of_area verdict (desk_state loan t u slots) (desk_state loan new u slots) (record { activity = refl; begun = refl }, (set, is_set, record { desk = left.1.desk; pixels = pixels })))))
+    is_marked verdict free low (Err e) (memory, same) slots whole = short_of_memory loan t new u (marking verdict m) e same (λ k. (free k, (marking_grows verdict m, memory))) slots whole
 
     -- the screen has the same sides
     pub sides_stay : (verdict : Verdict) (result : Result WindowReply Refusal) → IsMarkedBy loan verdict at m.area result t new → (new.screen.width ≡ t.screen.width) × (new.screen.height ≡ t.screen.height)

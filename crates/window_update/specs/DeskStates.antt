@@ -65,4 +65,8 @@ pub record IsWholeUpdates {V : Type 0} {H : V → Type 0} (t : WindowManager V H
 -- `loan` says what a definition that was taken means
 module _ {V : Type 0} {H : V → Type 0} (loan : Taken V H → Loan) where
   abbrev pub desk_state : WindowManager V H → Updates → List SlotView → DeskState
-  desk_state t u slots = record { windows = state_of loan t slots; activity = activity_of u.current; begun = begun_of u.current }
+  desk_state t u slots = record {
+    windows = state_of loan t slots;
+    activity = activity_of u.current;
+    begun = begun_of u.current;
+  }

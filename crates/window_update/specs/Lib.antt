@@ -1,5 +1,6 @@
--- What the contracts speak of: the pixels of an area, which of them are right, a desk of which one window may be in an update, why
--- a call about updates refuses, what it does, one step, and which window is to be updated first.
+-- What the contracts speak of: the pixels of an area, which of them are right, a desk of which one window may be in an
+-- update, why a call about updates refuses, what it does, one step, which window is to be updated first, and updates that
+-- were served.
 pub mod Sets
 pub mod Rightness
 pub mod DeskStates
@@ -7,3 +8,4 @@ pub mod UpdateRefusals
 pub mod UpdateSteps
 pub mod Marks
 pub mod Waiting
+pub mod Served

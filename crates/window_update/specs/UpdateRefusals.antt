@@ -33,7 +33,8 @@ IsStaleRefusal m state None why = (set : PixelSet) × IsAreaOf m.area set
 -- why the call refuses, want of memory aside
 abbrev pub IsUpdateRefusal : UpdateCall → FullState → Option Refusal → Type 0
 IsUpdateRefusal (Invalidate m) state why = IsAreaRefusal m state why
-IsUpdateRefusal (Validate m) state why = (by_area : Option Refusal) × IsAreaRefusal m state by_area × IsStaleRefusal m state by_area why
+IsUpdateRefusal (Validate m) state why = (by_area : Option Refusal)
+    × IsAreaRefusal m state by_area × IsStaleRefusal m state by_area why
 IsUpdateRefusal (Begin s) state why = first_refusal (window_refusals s state.desk) ≡ why
 IsUpdateRefusal (Draw d) state why = first_refusal (window_refusals d.window state.desk) ≡ why
 IsUpdateRefusal (End s) state why = None ≡ why

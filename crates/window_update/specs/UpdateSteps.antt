@@ -1,8 +1,7 @@
 -- One step of a call about updates: what it leaves, and what it answers.
-use Rattle.std.specs.Prelude.{◌≡◌, ◌⊎◌, ℕ, true, List, None, Some, Result, Ok, Err}
+use Rattle.std.specs.Prelude.{◌≡◌, ℕ, List, None, Result, Ok, Err}
 use Rattle.tb_geom.specs.declared.point.Point.{Point}
 use Rattle.tb_geom.specs.declared.refusal.Refusal.{Refusal}
-use Rattle.tb_geom.specs.declared.refusal.Refusal.TheVariants.{NoMemory}
 use Rattle.tb_geom.specs.Points.{PixelSet}
 use Rattle.def_iface.specs.declared.taken.Taken.{Taken}
 use Rattle.def_iface.specs.Meaning.{Loan}
@@ -13,11 +12,13 @@ use Rattle.desk_call.specs.declared.update.Layers.{Layers}
 use Rattle.desk_call.specs.declared.update.Layers.TheVariants.{Picture, Lists, Controls}
 use Rattle.desk_call.specs.declared.update.UpdateCall.{UpdateCall}
 use Rattle.desk_call.specs.declared.update.UpdateCall.TheVariants.{Invalidate, Validate, Begin, Draw, End, Serve}
+use Rattle.desk_call.specs.declared.update.WindowArea.{WindowArea}
 use Rattle.desk_call.specs.declared.window.WindowReply.{WindowReply}
 use Rattle.desk_call.specs.declared.window.WindowReply.TheVariants.{Done}
 use Rattle.window_mgr.specs.declared.manager.WindowManager.{WindowManager}
 use Rattle.window_mgr.specs.FullDesk.{FullState, layered_state}
 use Rattle.window_mgr.specs.Effects.{IsUnchanged}
+use Rattle.window_mgr.specs.Step.{IsRefusedFor}
 use Rattle.window_mgr.specs.Telling.{IsRegionTold, IsNotTold, update_of}
 use Rattle.window_mgr.specs.Updating.{IsRefreshed}
 use Rattle.window_mgr.specs.Whole.{IsWholeManager}
@@ -39,6 +40,11 @@ pub record IsMarked (c : Change) (before after : FullState) : Type 0 where
   pub desk : after.desk ≡ before.desk
   pub pixels : IsChanged c (layered_state before) (layered_state after)
 
+-- an area of a window was marked, by this change of its pixels
+abbrev pub IsAreaMarked : (ℕ → PixelSet → FullState → Change) → WindowArea → DeskState → DeskState → Type 0
+IsAreaMarked change m before after = SameActivity before after
+    × ((set : PixelSet) × IsAreaOf m.area set × IsMarked (change m.window set before.windows) before.windows after.windows)
+
 -- the update of this window began
 pub record IsUpdateBegun (s : ℕ) (before after : DeskState) : Type 0 where
   pub windows : IsUnchanged before.windows after.windows
@@ -53,24 +59,22 @@ AreDrawn Controls s before after = IsUnchanged before after
 
 -- what a call that nothing refuses leaves
 abbrev pub IsUpdateEffect : UpdateCall → DeskState → DeskState → Type 0
-IsUpdateEffect (Invalidate m) before after = SameActivity before after
-    × ((set : PixelSet) × IsAreaOf m.area set × IsMarked (adding m.window set before.windows) before.windows after.windows)
-IsUpdateEffect (Validate m) before after = SameActivity before after
-    × ((set : PixelSet) × IsAreaOf m.area set × IsMarked (taking m.window set before.windows) before.windows after.windows)
+IsUpdateEffect (Invalidate m) before after = IsAreaMarked adding m before after
+IsUpdateEffect (Validate m) before after = IsAreaMarked taking m before after
 IsUpdateEffect (Begin s) before after = IsUpdateBegun s before after
 IsUpdateEffect (Draw d) before after = SameActivity before after × AreDrawn d.layers d.window before.windows after.windows
 IsUpdateEffect (End s) before after = (after.activity ≡ Idle) × IsUnchanged before.windows after.windows
 -- begun, all layers drawn, and ended
 IsUpdateEffect (Serve s) before after = (after.activity ≡ Idle) × IsRefreshed s before.windows after.windows
 
--- the call is refused for this: the first refusal of the written order whose condition holds, or, where there is none
--- and the call may grow, want of memory
+-- the call is refused for this
 abbrev pub IsUpdateRefused : UpdateCall → Refusal → FullState → Type 0
-IsUpdateRefused call e state = IsUpdateRefusal call state (Some e) ⊎ (IsUpdateRefusal call state None × ((may_update_grow call ≡ true) × (e ≡ NoMemory)))
+IsUpdateRefused call e state = IsRefusedFor (IsUpdateRefusal call state) (may_update_grow call) e
 
 -- one step: a call that nothing refuses has its effect, and a refused one changes nothing
 abbrev pub IsUpdateStep : UpdateCall → Result WindowReply Refusal → DeskState → DeskState → Type 0
-IsUpdateStep call (Ok answer) before after = IsUpdateRefusal call before.windows None × ((answer ≡ Done) × IsUpdateEffect call before after)
+IsUpdateStep call (Ok answer) before after =
+    IsUpdateRefusal call before.windows None × ((answer ≡ Done) × IsUpdateEffect call before after)
 IsUpdateStep call (Err e) before after = IsUpdateRefused call e before.windows × IsDeskUnchanged before after
 
 -- the answer tells the region of these pixels, or why it does not
@@ -81,6 +85,8 @@ IsToldOf set (Err e) = IsNotTold set e
 -- `loan` says what a definition that was taken means
 module _ {V : Type 0} {H : V → Type 0} (loan : Taken V H → Loan) where
   -- over any slots over which the window manager is whole, it is whole after the call, which is one step
-  abbrev pub IsUpdateStepOverAnySlots : UpdateCall → Result WindowReply Refusal → WindowManager V H → Updates → WindowManager V H → Updates → Type 0
+  abbrev pub IsUpdateStepOverAnySlots : UpdateCall → Result WindowReply Refusal
+      → WindowManager V H → Updates → WindowManager V H → Updates → Type 0
   IsUpdateStepOverAnySlots call result old old_updates new new_updates = (slots : List SlotView) → IsWholeManager loan old slots
-      → IsWholeManager loan new slots × IsUpdateStep call result (desk_state loan old old_updates slots) (desk_state loan new new_updates slots)
+      → IsWholeManager loan new slots
+      × IsUpdateStep call result (desk_state loan old old_updates slots) (desk_state loan new new_updates slots)

@@ -22,7 +22,9 @@ IsWaiting s state false = IsEmpty (update_told s state)
 -- of these windows, the front one first, this is the first that is to be updated, or none is
 abbrev pub IsFirstWaiting : DeskState → List WindowRecord → Option ℕ → Type 0
 IsFirstWaiting state [] first = None ≡ first
-IsFirstWaiting state (w ∷ ws) first = (IsWaiting w.serial state true × (Some w.serial ≡ first)) ⊎ (IsWaiting w.serial state false × IsFirstWaiting state ws first)
+IsFirstWaiting state (w ∷ ws) first =
+    (IsWaiting w.serial state true × (Some w.serial ≡ first))
+    ⊎ (IsWaiting w.serial state false × IsFirstWaiting state ws first)
 
 -- of all windows
 abbrev pub IsFirstToUpdate : DeskState → Option ℕ → Type 0

@@ -1,5 +1,5 @@
 //! Pixels of a window that are to be redrawn, or are right as they are.
-ghost use Rattle.std.specs.Prelude.{◌≡◌, ◌&&◌, ◌||◌, not, true, if◌then◌else◌, length, ◌<◌, slice_index_or, IfOk, OnOk, OnErr, MatchResult, [], None, Some};
+ghost use Rattle.std.specs.Prelude.{◌≡◌, ◌&&◌, true, length, ◌<◌, IfOk, MatchResult, [], None, Some};
 ghost use Rattle.tb_geom.specs.declared.point.Point.{Point};
 ghost use Rattle.tb_geom.specs.Points.{minus, plus};
 ghost use Rattle.tb_geom.specs.Pixels.{holds};
@@ -36,7 +36,8 @@ impl Updates {
         marking: &WindowArea<'_>,
     ) -> Result<WindowReply, Refusal>
         requires kept { IsKept ⟦<Taken as Defined>⟧.loan windows.old }
-        ensures step { IsUpdateStepOverAnySlots ⟦<Taken as Defined>⟧.loan (asks.Invalidate marking.now) result windows.old self.now windows.new self.now }
+        ensures step { IsUpdateStepOverAnySlots ⟦<Taken as Defined>⟧.loan (asks.Invalidate marking.now) result
+            windows.old self.now windows.new self.now }
         ensures width { windows.new.screen.width ≡ windows.old.screen.width }
         ensures height { windows.new.screen.height ≡ windows.old.screen.height }
     {
@@ -55,7 +56,8 @@ impl Updates {
     ) -> Result<WindowReply, Refusal>
         requires kept { IsKept ⟦<Taken as Defined>⟧.loan windows.old }
         requires whole { IsWholeUpdates windows.old self.old }
-        ensures step { IsUpdateStepOverAnySlots ⟦<Taken as Defined>⟧.loan (asks.Validate marking.now) result windows.old self.old windows.new self.new }
+        ensures step { IsUpdateStepOverAnySlots ⟦<Taken as Defined>⟧.loan (asks.Validate marking.now) result
+            windows.old self.old windows.new self.new }
         ensures whole { IsWholeUpdates windows.new self.new }
     {
         let place = match place_of(windows, marking) {
@@ -156,7 +158,7 @@ fn update_after(
     marked(alloc, windows.area(at), place, &pixels, verdict)
 }
 
-/// What becomes of pixels in an update region.
+/// What a mark does with pixels of an update region.
 #[derive(Clone, Copy)]
 pub(crate) enum Verdict {
     /// They are put in.
@@ -165,7 +167,8 @@ pub(crate) enum Verdict {
     Right,
 }
 
-/// The update region of a window at a place, once these pixels, which are in its own coordinates, are marked where its content shows.
+/// The update region of a window at a place, once these pixels, which are in the window's own coordinates, are marked
+/// where its content shows.
 fn marked(
     alloc: Global,
     area: &Area,
@@ -176,7 +179,8 @@ fn marked(
     requires place { in_plane place ≡ true }
     requires there { (p : Point) → holds area.now.visible (plus p place) ≡ true → is_pixel_in_range p ≡ true }
     requires here { (p : Point) → holds area.now.visible p ≡ true → is_pixel_in_range p ≡ true }
-    ensures { IfOk result (λ update. (p : Point) → holds update p ≡ marked_by verdict (holds area.now.update p) (holds area.now.visible p && holds pixels.now (minus p place))) }
+    ensures { IfOk result (λ update. (p : Point) → holds update p
+        ≡ marked_by verdict (holds area.now.update p) (holds area.now.visible p && holds pixels.now (minus p place))) }
 {
     let mut shown = area.visible.copy(alloc)?;
     move_by(&mut shown, local(Point { h: 0, v: 0 }, place));

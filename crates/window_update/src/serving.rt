@@ -1,5 +1,5 @@
 //! An update: begun, drawn and ended.
-ghost use Rattle.std.specs.Prelude.{◌≡◌, ◌<◌, length, true, slice_index_or, IfOk, None, Ok};
+ghost use Rattle.std.specs.Prelude.{◌≡◌, true, IfOk, Ok};
 ghost use Rattle.desk_call.specs.declared.window.WindowReply.TheVariants.{Done};
 ghost use Rattle.tb_geom.specs.declared.point.Point.{Point};
 ghost use Rattle.tb_geom.specs.Points.{plus};
@@ -28,7 +28,8 @@ impl Updates {
         window: u64,
     ) -> Result<WindowReply, Refusal>
         requires kept { IsKept ⟦<Taken as Defined>⟧.loan windows.now }
-        ensures step { IsUpdateStepOverAnySlots ⟦<Taken as Defined>⟧.loan (asks.Begin window) result windows.now self.old windows.now self.new }
+        ensures step { IsUpdateStepOverAnySlots ⟦<Taken as Defined>⟧.loan (asks.Begin window) result
+            windows.now self.old windows.now self.new }
         ensures buffer { self.new.buffer ≡ self.old.buffer }
     {
         let Some(at) = windows.find(window) else {
@@ -42,14 +43,16 @@ impl Updates {
         Ok(WindowReply::Done)
     }
 
-    /// Draws what is to be redrawn of some layers of a window.
+    /// Draws what is to be redrawn of a window's picture, of its lists or of its controls. Lists and controls there are
+    /// none yet.
     pub(crate) fn draw(
         &self,
         windows: &mut WindowManager,
         draw: LayerDraw,
     ) -> Result<WindowReply, Refusal>
         requires kept { IsKept ⟦<Taken as Defined>⟧.loan windows.old }
-        ensures step { IsUpdateStepOverAnySlots ⟦<Taken as Defined>⟧.loan (asks.Draw draw) result windows.old self.now windows.new self.now }
+        ensures step { IsUpdateStepOverAnySlots ⟦<Taken as Defined>⟧.loan (asks.Draw draw) result
+            windows.old self.now windows.new self.now }
         ensures width { windows.new.screen.width ≡ windows.old.screen.width }
         ensures height { windows.new.screen.height ≡ windows.old.screen.height }
     {
@@ -76,14 +79,16 @@ impl Updates {
         Ok(WindowReply::Done)
     }
 
-    /// Begins the update of a window, draws its layers, and ends it. Of the layers only the picture has pixels yet.
+    /// Begins the update of a window, draws its layers, and ends it. Of the layers only the picture has pixels, since
+    /// there are no lists and no controls yet.
     pub(crate) fn serve(
         &mut self,
         windows: &mut WindowManager,
         window: u64,
     ) -> Result<WindowReply, Refusal>
         requires kept { IsKept ⟦<Taken as Defined>⟧.loan windows.old }
-        ensures step { IsUpdateStepOverAnySlots ⟦<Taken as Defined>⟧.loan (asks.Serve window) result windows.old self.old windows.new self.new }
+        ensures step { IsUpdateStepOverAnySlots ⟦<Taken as Defined>⟧.loan (asks.Serve window) result
+            windows.old self.old windows.new self.new }
         ensures buffer { self.new.buffer ≡ self.old.buffer }
         ensures width { windows.new.screen.width ≡ windows.old.screen.width }
         ensures height { windows.new.screen.height ≡ windows.old.screen.height }

@@ -103,7 +103,8 @@ impl Updates {
         requires kept { IsKept ⟦<Taken as Defined>⟧.loan windows.old }
         requires whole { IsWholeUpdates windows.old self.old }
         ensures whole { IsWholeUpdates windows.new self.new }
-        ensures step { IsUpdateStepOverAnySlots ⟦<Taken as Defined>⟧.loan call.now result windows.old self.old windows.new self.new }
+        ensures step { IsUpdateStepOverAnySlots ⟦<Taken as Defined>⟧.loan call.now result
+            windows.old self.old windows.new self.new }
     {
         match call {
             UpdateCall::Invalidate(marking) => self.invalidate(windows, marking),

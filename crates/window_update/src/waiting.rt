@@ -12,10 +12,11 @@ use window_mgr::WindowManager;
 
 impl Updates {
     /// The number of the first window, from the front, whose update region is not empty (*Inside Macintosh* I, "The Window
-    /// Manager", CheckUpdate). While a window's update is open its update region is. Takes no memory.
+    /// Manager", CheckUpdate). That of a window whose update is open is empty. Takes no memory.
     pub fn first_to_update(&self, windows: &WindowManager) -> Option<u64>
         requires { IsKept ⟦<Taken as Defined>⟧.loan windows.now }
-        ensures { (slots : List SlotView) → IsFirstToUpdate (desk_state ⟦<Taken as Defined>⟧.loan windows.now self.now slots) result }
+        ensures { (slots : List SlotView)
+            → IsFirstToUpdate (desk_state ⟦<Taken as Defined>⟧.loan windows.now self.now slots) result }
     {
         let list = windows.parts().windows;
         for at in 0..list.len() {

@@ -12,4 +12,5 @@ pub returns-else-is_alike-clause-same : goal.returns-else-is_alike-clause-same
 returns-else-is_alike-clause-same c = λ u t same p d out.
     let second = outside_both _ _ _ c.union-else-is_alike.ensures.exact p out in
     let first = outside_both _ _ _ c.union.ensures.exact p second.0 in
-    step_outside t p d c.args.new second.1 ∙ sym (step_outside u p d c.args.old first.1)
+    step_outside t p d c.args.new (c.reach_of-else-is_alike.ensures t p second.1)
+    ∙ sym (step_outside u p d c.args.old (c.reach_of.ensures u p first.1))

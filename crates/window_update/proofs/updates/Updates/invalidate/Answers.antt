@@ -2,7 +2,7 @@ use Rattle.std.proofs.Common.{inl}
 use Rattle.desk_call.specs.declared.update.UpdateCall.TheVariants.{Invalidate}
 use Rattle.window_update.specs.declared.marking.Verdict.TheVariants.{Stale}
 use Rattle.window_update.proofs.MarkLemmas.{area_low}
-use Rattle.window_update.proofs.StepLemmas.{is_refused, invalidated, sides_stay}
+use Rattle.window_update.proofs.StepLemmas.{is_refused, is_marked, sides_stay}
 use Rattle.window_update.proofs.updates.Updates.invalidate.Goals as goal
 
 pub returns-in-Err-clause-step : goal.returns-in-Err-clause-step
@@ -11,7 +11,7 @@ returns-in-Err-clause-step g c = is_refused _ c.args.windows.now c.args.self.now
 pub returns-clause-step : goal.returns-clause-step
 returns-clause-step g c =
     let found = c.in-Ok.ensures in
-    invalidated _ c.args.windows.now c.requires.kept c.args.marking.now c.in-Ok.place.at found.0 c.mark.new.windows c.args.self.now (λ slots. found.2) (area_low _ c.args.windows.now c.requires.kept c.in-Ok.place.at found.0.0) c.mark.result c.mark.ensures
+    is_marked _ c.args.windows.now c.requires.kept c.args.marking.now c.in-Ok.place.at found.0 c.mark.new.windows c.args.self.now Stale (λ slots. found.2) (area_low _ c.args.windows.now c.requires.kept c.in-Ok.place.at found.0.0) c.mark.result c.mark.ensures
 
 pub returns-clause-width : goal.returns-clause-width
 returns-clause-width g c =

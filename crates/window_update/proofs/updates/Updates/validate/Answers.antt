@@ -4,7 +4,7 @@ use Rattle.tb_geom.specs.declared.refusal.Refusal.TheVariants.{StalePixels}
 use Rattle.window_update.specs.Sets.{judged_set}
 use Rattle.window_update.specs.declared.marking.Verdict.TheVariants.{Right}
 use Rattle.window_update.proofs.MarkLemmas.{area_low}
-use Rattle.window_update.proofs.StepLemmas.{is_refused, other_map, wrong_pixels, right_pixels, validated, sides_stay}
+use Rattle.window_update.proofs.StepLemmas.{is_refused, other_map, wrong_pixels, right_pixels, is_marked, sides_stay}
 use Rattle.window_update.proofs.updates.Updates.validate.Goals as goal
 
 pub is_right-requires-clause-at : goal.is_right-requires-clause-at
@@ -24,7 +24,7 @@ pub returns-clause-step : goal.returns-clause-step
 returns-clause-step g c =
     let found = c.in-Ok.ensures in
     other_map _ c.args.windows.now c.mark.new.windows c.args.self.now c.is_right.new.self (Validate c.args.marking.now) c.mark.result c.is_right.ensures.same
-    (validated _ c.args.windows.now c.requires.kept c.args.marking.now c.in-Ok.place.at found.0 c.mark.new.windows c.args.self.now
+    (is_marked _ c.args.windows.now c.requires.kept c.args.marking.now c.in-Ok.place.at found.0 c.mark.new.windows c.args.self.now Right
     (λ slots. right_pixels _ c.args.windows.now c.requires.kept c.args.marking.now c.in-Ok.place.at found.0 (judged_set c.in-Ok.place.area) found.1 slots found.2 c.is_right.result c.is_right.ensures.right c.if-not-is_right.false)
     (area_low _ c.args.windows.now c.requires.kept c.in-Ok.place.at found.0.0) c.mark.result c.mark.ensures)
 

@@ -1,0 +1,36 @@
+-- Updates that were served, and the desk once all are.
+use Rattle.std.specs.Prelude.{◌≡◌, ℕ, true, List, [], ◌∷◌, Ok}
+use Rattle.tb_geom.specs.declared.point.Point.{Point}
+use Rattle.def_iface.specs.Desk.{on_screen}
+use Rattle.def_iface.specs.Scratch.{scratch}
+use Rattle.desk_call.specs.declared.update.Layers.{Layers}
+use Rattle.desk_call.specs.declared.update.Layers.TheVariants.{Picture, Lists, Controls}
+use Rattle.desk_call.specs.declared.update.UpdateCall.{UpdateCall}
+use Rattle.desk_call.specs.declared.update.UpdateCall.TheVariants.{Begin, Draw, End}
+use Rattle.desk_call.specs.declared.window.WindowReply.TheVariants.{Done}
+use Rattle.window_mgr.specs.FullDesk.{FullState, layered_desk}
+use Rattle.window_mgr.specs.Telling.{update_of}
+use Rattle.window_update.specs.DeskStates.{DeskState}
+use Rattle.window_update.specs.UpdateSteps.{IsUpdateStep}
+use Rattle.window_update.specs.Waiting.{IsEmpty}
+
+-- these calls are made one after another, and each is done
+abbrev pub AreDone : List UpdateCall → DeskState → DeskState → Type 0
+AreDone [] before after = after ≡ before
+AreDone (call ∷ calls) before after = (next : DeskState) × IsUpdateStep call (Ok Done) before next × AreDone calls next after
+
+-- the call that draws these layers of the window
+abbrev pub drawing : ℕ → Layers → UpdateCall
+drawing s layers = Draw (record { window = s; layers = layers })
+
+-- the update of a window, begun, drawn layer by layer, and ended
+abbrev pub layer_by_layer : ℕ → List UpdateCall
+layer_by_layer s = Begin s ∷ drawing s Picture ∷ drawing s Lists ∷ drawing s Controls ∷ End s ∷ []
+
+-- no window's update region has a pixel
+abbrev pub AreAllServed : FullState → Type 0
+AreAllServed state = (s : ℕ) → IsEmpty (update_of s state)
+
+-- the whole screen shows what painting the desk from nothing gives
+abbrev pub IsAllRight : FullState → Type 0
+IsAllRight state = let desk = layered_desk state.desk in (p : Point) → on_screen desk p ≡ true → state.image p ≡ scratch desk p
