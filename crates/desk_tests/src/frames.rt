@@ -1,5 +1,6 @@
 //! The frame of a window: its title, its highlighting, and its go-away box while that is tracked.
 
+use bit_map::BitMap;
 use def_iface::{Size, Stock};
 use desk_toolbox::{
     Call, FrameCall, FrameReply, GoAwayPoint, HiliteWindow, NewTitle, NewWindow, Reply, Toolbox,
@@ -7,10 +8,11 @@ use desk_toolbox::{
 };
 use ground_tests::pixels::Pixels;
 use op_ref::BytesRef;
+use std::alloc::{AllocError, Global};
 use std::test::Fail;
 use std_wdef::{StdWindow, Variation};
 use strike_font::Font;
-use tb_geom::{Point, Refusal};
+use tb_geom::Refusal;
 
 /// A document window with a go-away box, whose content of 60 by 20 pixels begins at 1 19.
 fn opening() -> Call<'static> {
@@ -27,78 +29,90 @@ fn opening() -> Call<'static> {
     }))
 }
 
-/// A pixel of the screen within the go-away box, which is black only while the box is tracked with the mouse in it.
-const IN_BOX: Point = point!(14, 9);
-
-/// A pixel of a stripe of the title bar, just left of a title of one character in the middle.
-const ON_STRIPE: Point = point!(25, 4);
-
-/// What each of the calls answers, and whether the two pixels are black then.
-const ANSWERS: [(FrameReply, [u8; 2]); 8] = [
-    (FrameReply::Tracked(false), *b".#"),
-    (FrameReply::Tracked(true), *b"##"),
-    (FrameReply::Tracked(false), *b".#"),
-    (FrameReply::Tracked(true), *b"##"),
-    (FrameReply::Tracked(true), *b".#"),
-    (FrameReply::Done, *b".."),
-    (FrameReply::Done, *b".#"),
-    (FrameReply::Done, *b".."),
-];
-
-/// A press beside the box, one in it, the mouse away and back, and let go; a title, none, and no highlighting.
-fn calls() -> [FrameCall<'static>; 8] {
-    [
-        pressed(20),
-        pressed(19),
-        FrameCall::StepGoAway(point!(20, 3)),
-        FrameCall::StepGoAway(point!(9, 13)),
-        FrameCall::EndGoAway(IN_BOX),
-        titled(b"A"),
-        titled(b""),
-        FrameCall::Hilite(HiliteWindow {
-            window: 1,
-            highlighted: false,
-        }),
-    ]
-}
-
-/// The mouse button pressed in the first row of the box, in this column.
-fn pressed(column: i32) -> FrameCall<'static> {
-    FrameCall::TrackGoAway(GoAwayPoint {
+/// The mouse button pressed in the first row of the go-away box, in this column of the screen.
+fn pressed(column: i32) -> Call<'static> {
+    Call::Frame(FrameCall::TrackGoAway(GoAwayPoint {
         window: 1,
         point: point!(column, 3),
-    })
+    }))
 }
 
-/// Another title.
-fn titled(title: &'static [u8]) -> FrameCall<'static> {
-    FrameCall::SetTitle(NewTitle {
+/// The button pressed beside the box, and in it.
+fn presses(alloc: Global) -> Result<Vec<Call<'static>>, AllocError> {
+    let mut calls = Vec::new(alloc);
+    calls.push(pressed(20))?;
+    calls.push(pressed(19))?;
+    Ok(calls)
+}
+
+/// The mouse out of the box and back, the button released in it, and a title.
+fn moves(alloc: Global) -> Result<Vec<Call<'static>>, AllocError> {
+    let title = NewTitle {
         window: 1,
-        title: BytesRef::new(title),
-    })
+        title: BytesRef::new(b"A"),
+    };
+    let mut calls = Vec::new(alloc);
+    calls.push(Call::Frame(FrameCall::StepGoAway(point!(20, 3))))?;
+    calls.push(Call::Frame(FrameCall::StepGoAway(point!(9, 13))))?;
+    calls.push(Call::Frame(FrameCall::EndGoAway(point!(9, 3))))?;
+    calls.push(Call::Frame(FrameCall::SetTitle(title)))?;
+    Ok(calls)
+}
+
+/// The call that takes the highlighting away.
+fn dimming() -> Call<'static> {
+    Call::Frame(FrameCall::Hilite(HiliteWindow {
+        window: 1,
+        highlighted: false,
+    }))
+}
+
+/// These replies, of calls that were done.
+fn done(alloc: Global, replies: &[FrameReply]) -> Result<Vec<Result<Reply, Refusal>>, AllocError> {
+    let mut all = Vec::new(alloc);
+    for reply in replies {
+        all.push(Ok(Reply::Frame(*reply)))?;
+    }
+    Ok(all)
+}
+
+/// A pixel within the go-away box, which is black only while the box is tracked with the mouse in it; one of a stripe, just
+/// left of a title of one character in the middle; and one farther right of that stripe.
+fn shown(screen: &BitMap) -> [u8; 3] {
+    [
+        screen.byte(point!(14, 9)),
+        screen.byte(point!(25, 4)),
+        screen.byte(point!(42, 4)),
+    ]
 }
 
 #[test]
 fn a_frame_shows_what_its_window_is_told(rt: HostRuntime) -> Result<(), Fail> {
     let alloc = rt.alloc();
     let mut stock = Stock::new(alloc);
-    let Ok(()) = stock.add(
-        b"document",
-        Box::new(alloc, StdWindow::new(Variation::Document))?,
-    ) else {
+    let window = StdWindow::new(Variation::Document);
+    let Ok(()) = stock.add(b"document", Box::new(alloc, window)?) else {
         return Err(Fail::from(Refusal::NoMemory));
     };
     let Ok(mut desk) = Toolbox::new(alloc, 64, 48, 0, Font::built_in(alloc)?) else {
         return Err(Fail::from(Refusal::NoMemory));
     };
     assert!(rt; desk.call(&opening(), &mut stock).is_ok());
-    let mut at = 0;
-    for call in calls() {
-        let (reply, pixels) = ANSWERS[at];
-        assert!(rt; desk.call(&Call::Frame(call), &mut stock) == Ok(Reply::Frame(reply)));
-        assert!(rt; [desk.screen().byte(IN_BOX), desk.screen().byte(ON_STRIPE)] == pixels);
-        at += 1;
-    }
+    let pressed = desk.run(presses(alloc)?.as_slice(), &mut stock)?;
+    let wanted = [FrameReply::Tracked(false), FrameReply::Tracked(true)];
+    assert!(rt; pressed.as_slice() == done(alloc, &wanted)?.as_slice());
+    assert!(rt; shown(desk.screen()) == *b"###");
+    let moved = desk.run(moves(alloc)?.as_slice(), &mut stock)?;
+    let wanted = [
+        FrameReply::Tracked(false),
+        FrameReply::Tracked(true),
+        FrameReply::Tracked(true),
+        FrameReply::Done,
+    ];
+    assert!(rt; moved.as_slice() == done(alloc, &wanted)?.as_slice());
+    assert!(rt; shown(desk.screen()) == *b"..#");
+    assert!(rt; desk.call(&dimming(), &mut stock) == Ok(Reply::Frame(FrameReply::Done)));
+    assert!(rt; shown(desk.screen()) == *b"...");
     desk.close(&mut stock);
     Ok(())
 }
