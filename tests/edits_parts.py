@@ -98,6 +98,7 @@ def a_sum_is_of_all_that_a_check_reads(folder):
         repository = Repository(os.path.join(folder, name))
         repository.edit("low/wrong", "n + 1", "n + 2")
         repository.edit("high/wrong", "n + 2", "n + 3")
+        repository.build()
         alter(repository)
         return repository.sum("low/wrong"), repository.sum("high/wrong")
 
@@ -109,14 +110,27 @@ def a_sum_is_of_all_that_a_check_reads(folder):
     wants("elsewhere", lambda it: None, False, False)
     wants("edit", lambda it: it.edit("low/wrong", "n + 1", "n + 3"), True, False)
     wants("another edit", lambda it: it.edit("low/right", "n + 1", "1 + n"), False, False)
-    wants("code below", lambda it: it.change("low", "MOST: u32 = 7", "MOST: u32 = 6"), True, True)
-    wants("comment below", lambda it: it.change("low", "Numbers", "Some numbers"), True, True)
+    wants("code below", lambda it: it.change("low", "MOST: u32 = 7", "MOST: u32 = 6"), True, False)
+    wants("comment below", lambda it: it.change("low", "Numbers", "Some numbers"), True, False)
     wants("code above", lambda it: it.change("high", "n + 3", "3 + n"), False, True)
-    wants("spec", lambda it: it.write("crates/low/specs/Lib.antt", ""), True, True)
+    wants("spec", lambda it: it.write("crates/low/specs/Lib.antt", ""), True, False)
     wants("proof", lambda it: it.write("crates/high/proofs/Lib.antt", ""), False, True)
     wants("built", lambda it: it.write("crates/low/out/rlib/stamp", "1"), False, False)
+    wants("a built body", lambda it: it.build(files={"toolchain/mir.json": "1 + n"}), False, False)
+    wants("a built spec", lambda it: it.build(files={"lang/antt/specs/Shown.antt": "-- none\n"}), False, True)
     wants("listed", lambda it: it.write("crates.txt", "low: itoa\nhigh: low\n"), True, True)
     wants("listed above", lambda it: it.write("crates.txt", "low:\nhigh: low itoa\n"), False, True)
+
+
+def a_program_has_the_bodies_below_in_its_sums(folder):
+    repository = Repository(folder)
+    repository.write("crates/high/src/main.rt", "")
+    repository.edit("high/wrong", "n + 2", "n + 3")
+    repository.build()
+    first = repository.sum("high/wrong")
+    repository.build(files={"toolchain/mir.json": "1 + n"})
+    if repository.sum("high/wrong") == first:
+        raise Fault("a body below is not in the sum")
 
 
 def a_sum_is_of_the_name_the_program_and_the_kit(folder):
@@ -138,7 +152,7 @@ def a_sum_is_of_the_name_the_program_and_the_kit(folder):
         found.add(repository.sum("low/wrong"))
     finally:
         edits.HERE, edits.rt.KIT = here, kit
-    same("how many sums there are", len(found), 5)
+    same("how many sums there are", len(found), 3 + len(edits.OWN))
 
 
 def a_record_keeps_what_it_is_told(folder):
@@ -277,6 +291,7 @@ def a_call_that_fails_holds_up_no_other(_):
 
 TESTS = [
     a_sum_is_of_all_that_a_check_reads,
+    a_program_has_the_bodies_below_in_its_sums,
     a_sum_is_of_the_name_the_program_and_the_kit,
     a_record_keeps_what_it_is_told,
     an_edit_that_cannot_be_made_is_told,

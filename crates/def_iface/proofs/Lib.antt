@@ -3,3 +3,4 @@ pub mod Painting
 pub mod Owning
 pub mod Changing
 pub mod StockLemmas
+pub mod Hearing

@@ -11,6 +11,7 @@ use Rattle.def_iface.specs.declared.window_def.Hit.{Hit}
 use Rattle.def_iface.specs.declared.window_def.WindowChange.{WindowChange}
 use Rattle.def_iface.specs.declared.window_def.WindowChange.TheVariants.{Resized}
 use Rattle.def_iface.specs.Sizes.{is_size}
+use Rattle.def_iface.specs.News.{News, AllNews, no_news, told_all}
 
 -- A definition as a value: its stage, the size that it was told, its regions and their box as functions of the size
 -- alone, its picture in a font, which is the list of its bytes, and which part of the window a point of the structure lies
@@ -21,8 +22,8 @@ pub record Definition : Type 0 where
   pub structure : Size → PixelSet
   pub content : Size → PixelSet
   pub bounds : Size → Rect
-  pub picture : List ℕ → PixelSet
-  pub hit : Point → Hit
+  pub picture : News → List ℕ → PixelSet
+  pub hit : News → Point → Hit
 
 -- a definition that is out of its slot, and the number of that slot
 pub record Loan : Type 0 where
@@ -47,14 +48,25 @@ size_after _ old = old
 -- in every font, the pictures are equal outside the damage, as far as coordinates go
 abbrev pub IsDamage : Rect → Definition → Definition → Type 0
 IsDamage damage old new =
-    (font : List ℕ) (p : Point) → in_plane p ≡ true → rect_holds damage p ≡ false → new.picture font p ≡ old.picture font p
+    (font : List ℕ) (p : Point) → in_plane p ≡ true → rect_holds damage p ≡ false → new.picture no_news font p ≡ old.picture no_news font p
 
 -- the set lies within the other
 abbrev pub IsWithin : PixelSet → PixelSet → Type 0
 IsWithin s t = (p : Point) → s p ≡ true → t p ≡ true
 
--- what a fresh definition is once it was made live and told this size; its picture and its parts are its own affair
-pub record IsBegun (size : Size) (old new : Definition) : Type 0 where
+-- it was told something, which comes before all that it is told from here on: whatever that is, it shows and is hit as the
+-- old one that is told both
+pub record Hears (news : News → News) (old new : Definition) : Type 0 where
+  pub picture : (n : News) (font : List ℕ) (p : Point) → new.picture n font p ≡ old.picture (news n) font p
+  pub hit : (n : News) (p : Point) → new.hit n p ≡ old.hit (news n) p
+
+-- what a fresh definition is once it was made live and told all of this
+pub record IsBegun (all : AllNews) (old new : Definition) : Type 0 where
   pub live : new.stage ≡ Live
-  pub told : new.size ≡ size
+  pub told : new.size ≡ all.size
   pub regions : SameRegions old new
+  pub heard : Hears (told_all all) old new
+
+-- the definition goes by all of this: told it again, it shows and is hit as it does anyhow
+abbrev pub GoesBy : AllNews → Definition → Type 0
+GoesBy all d = Hears (told_all all) d d

@@ -1,6 +1,9 @@
 //! What the definitions of the desk say of each other.
-ghost use Rattle.std.specs.Prelude.{◌≡◌};
+ghost use Rattle.std.specs.Prelude.{◌≡◌, List, ℕ};
 ghost use Rattle.tb_geom.specs.declared.point.Point.{Point};
+ghost use Rattle.def_iface.specs.declared.window_def.WindowChange.{WindowChange};
+ghost use Rattle.def_iface.specs.News.{AllNews, no_news, told_all, told_change};
+ghost use Rattle.def_iface.specs.Meaning.{Definition, Hears};
 ghost use Rattle.def_iface.specs.Desk.{LayeredDesk, IsDesk};
 ghost use Rattle.def_iface.specs.Owner.{owner, own_bit};
 ghost use Rattle.def_iface.specs.Scratch.{scratch};
@@ -17,4 +20,13 @@ pub fn scratch_is_owners()
 pub fn sound_changes_stay_right()
     ensures { (c : Change) (before after : State) → IsRight before → IsSound c before after.desk
         → IsChanged c before after → IsRight after }
+{}
+
+/// What a definition shows once it is told all there is to tell, no earlier news change: it is a function of the six
+/// alone, for as long as the definition lives.
+#[tactic(auto, using(crate::proofs::Hearing::later_news_count))]
+pub fn all_news_leave_no_trace_of_earlier_ones()
+    ensures { (change : WindowChange) (old new : Definition) → Hears (told_change change) old new
+        → (all : AllNews) (font : List ℕ) (p : Point)
+        → new.picture (told_all all no_news) font p ≡ old.picture (told_all all no_news) font p }
 {}

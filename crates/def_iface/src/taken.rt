@@ -6,7 +6,8 @@ ghost use Rattle.tb_geom.specs.Pixels.{holds};
 ghost use Rattle.bit_blit.specs.Draws.{Draws};
 ghost use Rattle.draw_port.specs.Canvases.{canvas_holds, canvas_point, SameFrame};
 ghost use Rattle.def_iface.specs.Sizes.{is_size};
-ghost use Rattle.def_iface.specs.Meaning.{Loan, SameRegions, IsWithin, IsBegun, IsDamage, is_fitting, size_after};
+ghost use Rattle.def_iface.specs.Meaning.{Loan, SameRegions, IsWithin, IsBegun, Hears, IsDamage, is_fitting, size_after};
+ghost use Rattle.def_iface.specs.News.{no_news, told_change, new_window_news};
 
 use crate::{Hit, Size, Stage, WindowChange, WindowDef, WindowRegions};
 use draw_port::Canvas;
@@ -61,19 +62,36 @@ impl Taken {
         self.definition.regions_for(alloc, size)
     }
 
-    /// Makes a Fresh definition Live, and tells it what a new window is: its size, the bytes of its title, and whether it
-    /// has a go-away box.
-    pub fn begin(&mut self, size: Size, title: &[u8], go_away: bool)
+    /// Makes a Fresh definition Live, and tells it all there is to tell of a new window: its size, the bytes of its title,
+    /// whether it has a go-away box, whether it is highlighted, that it is not zoomed, and that its go-away box is not
+    /// tracked.
+    pub fn begin(&mut self, size: Size, title: &[u8], go_away: bool, highlighted: bool)
         requires fresh { (⟦<Taken as Defined>⟧.loan self.old).definition.stage ≡ Stage.Fresh }
         requires fits { is_fitting (⟦<Taken as Defined>⟧.loan self.old).definition size ≡ true }
-        ensures begun { IsBegun size (⟦<Taken as Defined>⟧.loan self.old).definition
+        ensures begun { IsBegun (new_window_news size title.now go_away highlighted)
+            (⟦<Taken as Defined>⟧.loan self.old).definition (⟦<Taken as Defined>⟧.loan self.new).definition }
+        ensures slot { (⟦<Taken as Defined>⟧.loan self.new).slot ≡ (⟦<Taken as Defined>⟧.loan self.old).slot }
+    {
+        self.wake();
+        let _damage = self.told(WindowChange::Resized(size));
+        let _damage = self.told(WindowChange::Titled(title));
+        let _damage = self.told(WindowChange::Closable(go_away));
+        let _damage = self.told(WindowChange::Highlighted(highlighted));
+        let _damage = self.told(WindowChange::Zoomed(false));
+        let _damage = self.told(WindowChange::Tracked(false));
+    }
+
+    /// Makes a Fresh definition Live.
+    fn wake(&mut self)
+        requires { (⟦<Taken as Defined>⟧.loan self.old).definition.stage ≡ Stage.Fresh }
+        ensures live { (⟦<Taken as Defined>⟧.loan self.new).definition.stage ≡ Stage.Live }
+        ensures regions { SameRegions (⟦<Taken as Defined>⟧.loan self.old).definition
+            (⟦<Taken as Defined>⟧.loan self.new).definition }
+        ensures look { Hears (λ n. n) (⟦<Taken as Defined>⟧.loan self.old).definition
             (⟦<Taken as Defined>⟧.loan self.new).definition }
         ensures slot { (⟦<Taken as Defined>⟧.loan self.new).slot ≡ (⟦<Taken as Defined>⟧.loan self.old).slot }
     {
         self.definition.begin();
-        let _damage = self.definition.told(WindowChange::Resized(size));
-        let _damage = self.definition.told(WindowChange::Titled(title));
-        let _damage = self.definition.told(WindowChange::Closable(go_away));
     }
 
     /// Tells a Live definition of a change. The answer is the damage: in every font the pictures before
@@ -87,6 +105,8 @@ impl Taken {
             ≡ size_after change.entry (⟦<Taken as Defined>⟧.loan self.old).definition.size }
         ensures regions { SameRegions (⟦<Taken as Defined>⟧.loan self.old).definition
             (⟦<Taken as Defined>⟧.loan self.new).definition }
+        ensures heard { Hears (told_change change.entry) (⟦<Taken as Defined>⟧.loan self.old).definition
+            (⟦<Taken as Defined>⟧.loan self.new).definition }
         ensures damage { IsDamage result (⟦<Taken as Defined>⟧.loan self.old).definition
             (⟦<Taken as Defined>⟧.loan self.new).definition }
         ensures slot { (⟦<Taken as Defined>⟧.loan self.new).slot ≡ (⟦<Taken as Defined>⟧.loan self.old).slot }
@@ -99,7 +119,7 @@ impl Taken {
         requires live { (⟦<Taken as Defined>⟧.loan self.now).definition.stage ≡ Stage.Live }
         requires told { is_fitting (⟦<Taken as Defined>⟧.loan self.now).definition
             (⟦<Taken as Defined>⟧.loan self.now).definition.size ≡ true }
-        ensures { result ≡ (⟦<Taken as Defined>⟧.loan self.now).definition.hit point }
+        ensures { result ≡ (⟦<Taken as Defined>⟧.loan self.now).definition.hit no_news point }
     {
         self.definition.hit(point)
     }
@@ -113,7 +133,7 @@ impl Taken {
         ensures same_map { canvas.new.map.ghost_name ≡ canvas.old.map.ghost_name }
         ensures same_frame { SameFrame canvas.old canvas.new }
         ensures drawn { Draws (canvas_holds canvas.old)
-            (λ p _. (⟦<Taken as Defined>⟧.loan self.now).definition.picture canvas.old.font.now (canvas_point canvas.old p))
+            (λ p _. (⟦<Taken as Defined>⟧.loan self.now).definition.picture no_news canvas.old.font.now (canvas_point canvas.old p))
             canvas.old.map.now canvas.new.map.now }
     {
         self.definition.draw(canvas);

@@ -7,7 +7,8 @@ ghost use Rattle.tb_geom.specs.Pixels.{holds};
 ghost use Rattle.bit_blit.specs.Draws.{Draws};
 ghost use Rattle.draw_port.specs.Canvases.{canvas_holds, canvas_point, SameFrame};
 ghost use Rattle.def_iface.specs.Sizes.{is_size};
-ghost use Rattle.def_iface.specs.Meaning.{Definition, SameRegions, IsDamage, IsWithin, is_fitting, size_after};
+ghost use Rattle.def_iface.specs.Meaning.{Definition, SameRegions, Hears, IsDamage, IsWithin, is_fitting, size_after};
+ghost use Rattle.def_iface.specs.News.{no_news, told_change};
 
 use crate::Size;
 use draw_port::Canvas;
@@ -85,7 +86,8 @@ pub trait WindowDef: Drop {
     fn begin(&mut self)
         requires { (meaning self.old).stage ≡ Stage.Fresh }
         ensures live { (meaning self.new).stage ≡ Stage.Live }
-        ensures regions { SameRegions (meaning self.old) (meaning self.new) };
+        ensures regions { SameRegions (meaning self.old) (meaning self.new) }
+        ensures look { Hears (λ n. n) (meaning self.old) (meaning self.new) };
 
     /// Tells a Live definition of a change. The answer is the damage: in every font the pictures before
     /// and after are equal outside it, within the range of coordinates.
@@ -95,6 +97,7 @@ pub trait WindowDef: Drop {
         ensures stays { (meaning self.new).stage ≡ Stage.Live }
         ensures size { (meaning self.new).size ≡ size_after change.entry (meaning self.old).size }
         ensures regions { SameRegions (meaning self.old) (meaning self.new) }
+        ensures heard { Hears (told_change change.entry) (meaning self.old) (meaning self.new) }
         ensures damage { IsDamage result (meaning self.old) (meaning self.new) };
 
     /// Structure and content of a window of this size.
@@ -120,7 +123,7 @@ pub trait WindowDef: Drop {
     fn hit(&self, point: Point) -> Hit
         requires live { (meaning self.now).stage ≡ Stage.Live }
         requires told { is_fitting (meaning self.now) (meaning self.now).size ≡ true }
-        ensures { result ≡ (meaning self.now).hit point };
+        ensures { result ≡ (meaning self.now).hit no_news point };
 
     /// Gives each pixel of the canvas the value that the picture has there in the canvas's font.
     fn draw(&self, canvas: &mut Canvas<'_>)
@@ -129,7 +132,7 @@ pub trait WindowDef: Drop {
         ensures same_map { canvas.new.map.ghost_name ≡ canvas.old.map.ghost_name }
         ensures same_frame { SameFrame canvas.old canvas.new }
         ensures drawn { Draws (canvas_holds canvas.old)
-            (λ p _. (meaning self.now).picture canvas.old.font.now (canvas_point canvas.old p))
+            (λ p _. (meaning self.now).picture no_news canvas.old.font.now (canvas_point canvas.old p))
             canvas.old.map.now canvas.new.map.now };
 
     /// Ends a Live definition's use.

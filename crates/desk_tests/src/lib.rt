@@ -1,13 +1,7 @@
-//! What no clause says of `def_iface`, `window_list`, `event_queue`, `desk_toolbox` and `scratch_paint`, by tests: that calls
-//! succeed where memory is not refused, and that the words of the contracts are the Toolbox's. Expected values are tables and
-//! pictures written by hand, or come from slow programs over single pixels, and never from the libraries.
-//!
-//! `stocks` tests `def_iface`, `windows` tests `window_list`, `queue` tests `event_queue`, `desks`, `updates` and `frames`
-//! test `desk_toolbox` with the managers below it, and `scratch` tests `scratch_paint`. `titled_window` is the one window
-//! definition of the tests: it is proved, and no part of the program.
+//! What no clause says of `desk_toolbox` with the managers below it and of `scratch_paint`, and no script shows, by a test:
+//! that calls succeed where memory is not refused, in a list too; a picture that is given whole; which pixels are right; and
+//! the desk painted from nothing. The pictures and the answers are written by hand, and never come from the libraries.
 #![tactic(auto)]
-
-pub mod titled_window;
 
 /// A rectangle, by its left side, its top, its right side and its bottom.
 #[cfg(test)]
@@ -32,15 +26,3 @@ macro_rules! point {
 
 #[cfg(test)]
 mod desks;
-#[cfg(test)]
-mod frames;
-#[cfg(test)]
-mod queue;
-#[cfg(test)]
-mod scratch;
-#[cfg(test)]
-mod stocks;
-#[cfg(test)]
-mod updates;
-#[cfg(test)]
-mod windows;

@@ -27,14 +27,13 @@ use Rattle.desk_call.specs.declared.call.Call.{Call}
 use Rattle.desk_call.specs.declared.call.Call.TheVariants.{Window, Update, Frame, Event}
 use Rattle.desk_call.specs.declared.call.Reply.{Reply}
 use Rattle.desk_call.specs.declared.call.Reply.TheVariants as reply
-use Rattle.desk_call.specs.Gates.{gate, standing_of}
+use Rattle.desk_call.specs.Gates.{gate, standing_of, window_standing}
 use Rattle.window_update.specs.DeskStates.{DeskState, IsDeskUnchanged, narrowed}
 use Rattle.window_update.specs.Served.{AreAllServed, IsAllRight}
 use Rattle.window_update.specs.UpdateSteps.{IsUpdateStep, IsToldOf}
-use Rattle.window_frame.specs.Followers.{followers}
 use Rattle.window_frame.specs.FrameSteps.{IsFrameStep}
-use Rattle.window_frame.proofs.FrameKeeps.{are_told_keep, frame_keeps}
-use Rattle.window_frame.proofs.FrameLaws.{are_told_stay_right, frame_stays_right}
+use Rattle.window_frame.proofs.FrameKeeps.{caught_up_keeps, frame_keeps}
+use Rattle.window_frame.proofs.FrameLaws.{caught_up_stays_right, frame_stays_right}
 use Rattle.desk_toolbox.specs.ToolboxStates.{ToolboxState}
 use Rattle.desk_toolbox.specs.Run.{IsWindowAnswer, IsWindowMade, IsEventAnswer, IsAdmitted, replied, IsGated, IsStep, IsRunOfCalls, number_made, made, AreCounted}
 use Rattle.window_update.proofs.ServedLaws.{all_served_is_right}
@@ -52,7 +51,7 @@ unchanged_desk_stays_right before after right same = unchanged_stays_right befor
 
 window_stays_right : (call : WindowCall) (answer : Result WindowReply Refusal) (before after : ToolboxState) → IsRightState before.desk.windows → IsWindowMade call answer before after → IsRightState after.desk.windows
 window_stays_right call (Ok answer) before after right ((middle, answered, (same, told)), events) =
-    are_told_stay_right (followers call before.desk.windows.desk.active middle.windows.desk.active) middle.windows after.desk.windows
+    caught_up_stays_right (window_standing call) middle.windows after.desk.windows
     (answer_stays_right (narrowed call before.desk.activity before.desk.begun) call (Ok answer) before.desk middle right answered) told
 window_stays_right call (Err e) before after right step = answer_stays_right (narrowed call before.desk.activity before.desk.begun) call (Err e) before.desk after.desk right step.0
 
@@ -83,7 +82,7 @@ answer_keeps_kinds (Some set) call answer before after step = same_kinds before.
 
 window_keeps_kinds : (call : WindowCall) (answer : Result WindowReply Refusal) (before after : ToolboxState) → IsWindowMade call answer before after → kinds_of after.desk.windows ≡ kinds_of before.desk.windows
 window_keeps_kinds call (Ok answer) before after ((middle, answered, (same, told)), events) =
-    are_told_keep (λ d. map (λ slot. slot.kind) d.stock) (λ d ws. refl) (followers call before.desk.windows.desk.active middle.windows.desk.active) middle.windows after.desk.windows told
+    caught_up_keeps (λ d. map (λ slot. slot.kind) d.stock) (λ d ws. refl) (window_standing call) middle.windows after.desk.windows told
     ∙ answer_keeps_kinds (narrowed call before.desk.activity before.desk.begun) call (Ok answer) before.desk middle answered
 window_keeps_kinds call (Err e) before after step = answer_keeps_kinds (narrowed call before.desk.activity before.desk.begun) call (Err e) before.desk after.desk step.0
 
@@ -239,7 +238,7 @@ next_counted before after numbers same h = subst (λ n. AreCounted n numbers) sa
 window_is_counted : (call : WindowCall) (answer : Result WindowReply Refusal) (before after : ToolboxState) (numbers : List ℕ) → IsWindowMade call answer before after → AreCounted after.desk.windows.desk.next numbers → AreCounted before.desk.windows.desk.next (made_by (replied reply.Window answer) ++ numbers)
 window_is_counted call (Ok answer) before after numbers ((middle, answered, (same, told)), events) h =
     answer_is_counted (narrowed call before.desk.activity before.desk.begun) call (Ok answer) before.desk middle numbers answered
-    (next_counted middle.windows after.desk.windows numbers (are_told_keep (λ d. d.next) (λ d ws. refl) (followers call before.desk.windows.desk.active middle.windows.desk.active) middle.windows after.desk.windows told) h)
+    (next_counted middle.windows after.desk.windows numbers (caught_up_keeps (λ d. d.next) (λ d ws. refl) (window_standing call) middle.windows after.desk.windows told) h)
 window_is_counted call (Err e) before after numbers step h = answer_is_counted (narrowed call before.desk.activity before.desk.begun) call (Err e) before.desk after.desk numbers step.0 h
 
 update_is_counted : (call : UpdateCall) (answer : Result WindowReply Refusal) (before after : DeskState) (numbers : List ℕ) → IsUpdateStep call answer before after → AreCounted after.windows.desk.next numbers → AreCounted before.windows.desk.next (made_by (replied reply.Window answer) ++ numbers)

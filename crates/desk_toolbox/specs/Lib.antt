@@ -1,5 +1,8 @@
--- What the contracts speak of: a whole Toolbox and its state, steps of any manager's calls, and runs of steps.
+-- What the contracts speak of: a whole Toolbox and its state, steps of any manager's calls, runs of steps, and what holds of
+-- each state that a run reaches.
 pub mod EventSteps
 pub mod ToolboxStates
 pub mod WholeToolbox
 pub mod Run
+pub mod Reached
+pub mod Activations

@@ -13,7 +13,7 @@ use Rattle.desk_call.specs.declared.frame.FrameReply.{FrameReply}
 use Rattle.desk_call.specs.declared.window.WindowCall.{WindowCall}
 use Rattle.desk_call.specs.declared.window.WindowReply.{WindowReply}
 use Rattle.desk_call.specs.declared.window.WindowReply.TheVariants.{Made}
-use Rattle.desk_call.specs.Gates.{gate, standing_of}
+use Rattle.desk_call.specs.Gates.{gate, standing_of, window_standing}
 use Rattle.window_list.specs.Lists.{number_after}
 use Rattle.window_mgr.specs.Refused.{IsFormRefusal}
 use Rattle.window_mgr.specs.Step as windows
@@ -21,7 +21,7 @@ use Rattle.window_update.specs.DeskStates.{DeskState, IsDeskUnchanged, SameActiv
 use Rattle.window_update.specs.UpdateRefusals.{IsUpdateForm}
 use Rattle.window_update.specs.UpdateSteps.{IsUpdateStep, IsToldOf}
 use Rattle.window_update.specs.Waiting.{IsFirstToUpdate}
-use Rattle.window_frame.specs.Followers.{AreTold, followers}
+use Rattle.window_frame.specs.Followers.{IsCaughtUpBy}
 use Rattle.window_frame.specs.FrameSteps.{IsFrameStep}
 use Rattle.desk_toolbox.specs.EventSteps.{event_step, events_left}
 use Rattle.desk_toolbox.specs.ToolboxStates.{ToolboxState, IsToolboxUnchanged}
@@ -43,14 +43,12 @@ IsEventAnswer call result before after = IsDeskUnchanged before.desk after.desk
     × ((update : Option ℕ) × IsFirstToUpdate before.desk update
     × ((result, after.events) ≡ event_step call before.desk.windows.desk.active update before.events))
 
--- the definitions of the windows that were active and are so now are told how these stand, once a call led to the middle state
-abbrev pub IsFollowed : WindowCall → DeskState → DeskState → DeskState → Type 0
-IsFollowed call before middle after = SameActivity middle after
-    × AreTold (followers call before.windows.desk.active middle.windows.desk.active) middle.windows after.windows
-
--- a call on windows that may come: one that was done has definitions told, and a window that is gone is forgotten
+-- a call on windows that may come: once it was done, definitions are told how their windows stand, and a window that is gone
+-- is forgotten
 abbrev pub IsWindowMade : WindowCall → Result WindowReply Refusal → ToolboxState → ToolboxState → Type 0
-IsWindowMade call (Ok answer) before after = ((middle : DeskState) × IsWindowAnswered call (Ok answer) before.desk middle × IsFollowed call before.desk middle after.desk)
+IsWindowMade call (Ok answer) before after =
+    ((middle : DeskState) × IsWindowAnswered call (Ok answer) before.desk middle
+    × (SameActivity middle after.desk × IsCaughtUpBy (window_standing call) middle.windows after.desk.windows))
     × (after.events ≡ events_left call before.events)
 IsWindowMade call (Err e) before after = IsWindowAnswered call (Err e) before.desk after.desk × (after.events ≡ before.events)
 

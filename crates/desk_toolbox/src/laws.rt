@@ -1,19 +1,25 @@
 //! What the definitions of a desk, of its steps and of runs say of each other.
-ghost use Rattle.std.specs.Prelude.{◌≡◌, Bool, List, map, Result};
+ghost use Rattle.std.specs.Prelude.{◌≡◌, ℕ, Bool, true, List, map, Result, All};
 ghost use Rattle.std.specs.List.{find};
 ghost use Rattle.std.specs.Option.{option_map};
 ghost use Rattle.tb_geom.specs.declared.point.Point.{Point};
 ghost use Rattle.tb_geom.specs.declared.refusal.Refusal.{Refusal};
 ghost use Rattle.def_iface.specs.Desk.{IsDesk};
+ghost use Rattle.def_iface.specs.Meaning.{GoesBy};
 ghost use Rattle.def_iface.specs.Owner.{owner, own_bit};
 ghost use Rattle.def_iface.specs.Scratch.{scratch};
 ghost use Rattle.vis_update.specs.Records.{WindowRecord};
 ghost use Rattle.window_mgr.specs.FullDesk.{FullDesk, IsRightState, layered_desk};
 ghost use Rattle.window_mgr.specs.Finding.{front_of};
 ghost use Rattle.window_mgr.specs.Refused.{first_refusal};
+ghost use Rattle.window_mgr.specs.Whole.{IsSoundDesk};
+ghost use Rattle.event_queue.specs.History.{told_of, Alternates, is_told_active};
 ghost use Rattle.desk_call.specs.declared.call.Call.{Call};
 ghost use Rattle.desk_call.specs.declared.call.Reply.{Reply};
 ghost use Rattle.window_update.specs.Served.{AreAllServed, IsAllRight};
+ghost use Rattle.window_frame.specs.Followers.{AreInformed};
+ghost use Rattle.desk_toolbox.specs.Activations.{activate_events_told, IsNeverDisposed};
+ghost use Rattle.desk_toolbox.specs.Reached.{IsConsistent, IsJustBegun, news_by_record};
 ghost use Rattle.desk_toolbox.specs.ToolboxStates.{ToolboxState};
 ghost use Rattle.desk_toolbox.specs.Run.{IsStep, IsRunOfCalls, made, AreCounted};
 
@@ -75,4 +81,52 @@ pub fn runs_that_leave_every_update_served_are_all_right()
     ensures { (first last : ToolboxState) (calls : List Call) (answers : List (Result Reply Refusal))
         → IsRightState first.desk.windows → IsRunOfCalls first calls answers last
         → AreAllServed last.desk.windows → IsAllRight last.desk.windows }
+{}
+
+/// A desk that just began is consistent.
+#[tactic(auto, using(crate::proofs::Consistent::just_begun_is_consistent))]
+pub fn a_desk_that_just_began_is_consistent()
+    ensures { (first : ToolboxState) → IsJustBegun first → IsConsistent first }
+{}
+
+/// A step keeps a desk consistent.
+#[tactic(auto, using(crate::proofs::Consistent::step_keeps_consistent))]
+pub fn steps_keep_a_desk_consistent()
+    ensures { (call : Call) (answer : Result Reply Refusal) (before after : ToolboxState)
+        → IsConsistent before → IsStep call answer before after → IsConsistent after }
+{}
+
+/// So does any run: each state that a desk reaches is consistent.
+#[tactic(auto, using(crate::proofs::Consistent::run_keeps_consistent))]
+pub fn runs_keep_a_desk_consistent()
+    ensures { (first last : ToolboxState) (calls : List Call) (answers : List (Result Reply Refusal))
+        → IsConsistent first → IsRunOfCalls first calls answers last → IsConsistent last }
+{}
+
+/// Where definitions know how their windows stand, each window of a sound desk is shown and hit by what its record says:
+/// told all of it again, its definition would answer as it does.
+#[tactic(auto, using(crate::proofs::Shown::desk_goes_by_records))]
+pub fn windows_are_shown_by_their_records()
+    ensures { (desk : FullDesk) → IsSoundDesk desk → AreInformed desk.windows
+        → All (λ w. GoesBy (news_by_record w) w.definition) desk.windows }
+{}
+
+/// Over any run of a desk that just began, the activate events that are told of one window are in turn an activation and a
+/// deactivation, and the first is an activation.
+#[tactic(auto, using(crate::proofs::Histories::told_events_of_runs_alternate))]
+pub fn told_activate_events_alternate()
+    ensures { (window : ℕ) (first last : ToolboxState) (calls : List Call) (answers : List (Result Reply Refusal))
+        → IsJustBegun first → IsRunOfCalls first calls answers last
+        → Alternates true (told_of window (activate_events_told calls answers)) }
+{}
+
+/// Over any such run, of the windows that were not disposed of at most one was told active, and not told since that it is so
+/// no more.
+#[tactic(auto, using(crate::proofs::Histories::at_most_one_told_in_runs))]
+pub fn at_most_one_window_is_told_active()
+    ensures { (v w : ℕ) (first last : ToolboxState) (calls : List Call) (answers : List (Result Reply Refusal))
+        → IsJustBegun first → IsRunOfCalls first calls answers last
+        → IsNeverDisposed v calls answers → IsNeverDisposed w calls answers
+        → is_told_active v (activate_events_told calls answers) ≡ true
+        → is_told_active w (activate_events_told calls answers) ≡ true → v ≡ w }
 {}

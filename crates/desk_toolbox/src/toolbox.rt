@@ -13,6 +13,7 @@ ghost use Rattle.window_update.specs.declared.updates.OpenActivity.TheVariants.{
 ghost use Rattle.window_update.specs.DeskStates.{DeskState};
 ghost use Rattle.window_update.specs.Rightness.{IsJudgement};
 ghost use Rattle.desk_toolbox.specs.EventSteps.{first_events};
+ghost use Rattle.desk_toolbox.specs.Reached.{IsJustBegun};
 ghost use Rattle.desk_toolbox.specs.Run.{IsAdmitted, IsEventAnswer, IsFormFault, IsRunOfCalls, IsStep, IsWindowAnswered, IsWindowMade};
 ghost use Rattle.desk_toolbox.specs.ToolboxStates.{IsToolboxUnchanged};
 ghost use Rattle.desk_toolbox.specs.WholeToolbox.{IsKeptToolbox, IsWholeToolbox, toolbox_state};
@@ -57,6 +58,8 @@ impl Toolbox {
         ensures events { IfOk result (λ t. t.events ≡ first_events) }
         ensures whole { IfOk result (λ t. (slots : List SlotView) → All IsFull slots
             → IsWholeToolbox ⟦<Taken as Defined>⟧.loan t slots) }
+        ensures just_begun { IfOk result (λ t. (slots : List SlotView) → All IsFull slots
+            → IsJustBegun (toolbox_state ⟦<Taken as Defined>⟧.loan t slots)) }
         ensures in_range { IfOk result (λ t. screens.is_screen width height bar ≡ true) }
         ensures refused { IfErr result (λ e. (e.font ≡ font)
             × (e.refusal ≡ (if screens.is_screen width height bar then Refusal.NoMemory else Refusal.OutOfRange))) }
@@ -177,8 +180,8 @@ impl Toolbox {
         }
     }
 
-    /// Makes a call on windows. Once it was done, the definitions of the windows that were and are active are told how these
-    /// stand, and a window that is gone is forgotten.
+    /// Makes a call on windows. Once it was done, definitions are told how their windows stand, and a window that is gone is
+    /// forgotten.
     fn make_window(
         &mut self,
         call: &WindowCall<'_>,
@@ -190,10 +193,9 @@ impl Toolbox {
             (toolbox_state ⟦<Taken as Defined>⟧.loan self.old (⟦<Stock as Stocked>⟧.slots stock.old))
             (toolbox_state ⟦<Taken as Defined>⟧.loan self.new (⟦<Stock as Stocked>⟧.slots stock.new)) }
     {
-        let former = self.windows.parts().windows.active();
         match self.answer_window(call, stock) {
             Ok(reply) => {
-                follow(&mut self.windows, call, former);
+                follow(&mut self.windows, call);
                 self.events.follow(call);
                 Ok(reply)
             }

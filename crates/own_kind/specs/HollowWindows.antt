@@ -2,6 +2,7 @@
 use Rattle.std.specs.Prelude.{ℕ, nat_abs, Bool, true, false, ◌&&◌, if◌then◌else◌, List, [], ◌∷◌, ◌++◌, take}
 use Rattle.std.specs.Prelude.{ℤ, pos, ◌+ℤ◌, ◌-ℤ◌}
 use Rattle.std.specs.Int.{int_div_euclid}
+use Rattle.std.specs.Option.{unwrap_or, option_map_or}
 use Rattle.tb_geom.specs.declared.point.Point.{Point}
 use Rattle.tb_geom.specs.declared.rect.Rect.{Rect}
 use Rattle.def_iface.specs.declared.size.Size.{Size}
@@ -12,6 +13,7 @@ use Rattle.def_iface.specs.declared.window_def.WindowChange.{WindowChange}
 use Rattle.def_iface.specs.declared.window_def.WindowChange.TheVariants.{Resized, Titled, Highlighted, Closable, Zoomed}
 use Rattle.def_iface.specs.declared.window_def.WindowChange.TheVariants.{Tracked}
 use Rattle.def_iface.specs.Sizes.{rect_of}
+use Rattle.def_iface.specs.News.{News}
 use Rattle.def_iface.specs.Meaning.{Definition, size_after}
 use Rattle.looks.specs.declared.area.Piece.{Piece}
 use Rattle.looks.specs.Areas.{added_rect, removed_rect, area_holds}
@@ -99,6 +101,21 @@ hollow_spots f s =
 abbrev pub hollow_hit : Flags → Size → Point → Hit
 hollow_hit f s p = if area_holds (hollow_content s) p then InContent else first_part (hollow_spots f s) InDrag p
 
+-- the flags, the title, of which 255 characters are kept, and the size, once it is told this
+abbrev pub flags_in : News → Flags → Flags
+flags_in n f = record {
+  highlighted = unwrap_or n.highlighted f.highlighted;
+  go_away = unwrap_or n.closable f.go_away;
+  zoomed = unwrap_or n.zoomed f.zoomed;
+  tracked = unwrap_or n.tracked f.tracked;
+}
+
+abbrev pub title_in : News → List ℕ → List ℕ
+title_in n title = option_map_or (λ t. take 255 t) n.title title
+
+abbrev pub size_in : News → Size → Size
+size_in n size = unwrap_or n.size size
+
 -- a hollow window's definition as a value
 abbrev pub hollow_window : Stage → Flags → List ℕ → Size → Definition
 hollow_window stage f title size = record {
@@ -107,8 +124,8 @@ hollow_window stage f title size = record {
   structure = λ s. area_holds (hollow_structure s);
   content = λ s. area_holds (hollow_content s);
   bounds = outline;
-  picture = λ font. look_bit (lettering font title) (hollow_look f size);
-  hit = hollow_hit f size;
+  picture = λ n font. look_bit (lettering font (title_in n title)) (hollow_look (flags_in n f) (size_in n size));
+  hit = λ n. hollow_hit (flags_in n f) (size_in n size);
 }
 
 -- what the window is

@@ -7,6 +7,7 @@ use Rattle.tb_geom.specs.Rects.{rect_holds}
 use Rattle.bit_map.specs.declared.pattern.TheConstants.Pattern.{BLACK, WHITE}
 use Rattle.bit_map.specs.Patterns.{pattern_bit}
 use Rattle.strike_font.specs.Text.{text_holds}
+use Rattle.std.specs.Option.{unwrap_or}
 use Rattle.def_iface.specs.declared.size.Size.{Size}
 use Rattle.def_iface.specs.declared.window_def.Hit.{Hit}
 use Rattle.def_iface.specs.declared.window_def.Hit.TheVariants.{NoHit, InContent, InDrag}
@@ -52,6 +53,6 @@ banner_window stage size = record {
   structure = λ s. rect_holds (box_of s);
   content = λ s. rect_holds (rect_of s);
   bounds = box_of;
-  picture = banner_picture size;
-  hit = banner_hit size;
+  picture = λ n. banner_picture (unwrap_or n.size size);
+  hit = λ n. banner_hit (unwrap_or n.size size);
 }

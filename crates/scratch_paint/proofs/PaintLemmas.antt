@@ -17,6 +17,7 @@ use Rattle.draw_port.specs.Ops.{picture_bit}
 use Rattle.desk_ground.specs.declared.ground.Ground.{Ground}
 use Rattle.desk_ground.specs.Screens.{is_screen, is_screen_side, is_bar, gray}
 use Rattle.desk_ground.specs.Grounds.{IsGround}
+use Rattle.def_iface.specs.News.{no_news}
 use Rattle.def_iface.specs.declared.taken.Taken.{Taken}
 use Rattle.def_iface.specs.declared.window_def.WindowRegions.{WindowRegions}
 use Rattle.def_iface.specs.Meaning.{Loan}
@@ -53,15 +54,15 @@ over true false true f x d within = absurd (false≢true (within refl))
 pub window_painted : (font : List ℕ) (w : WindowRecord) (region : Pixels) (r : WindowRegions) (old mid new : Bits)
     → w.shown ≡ true
     → IsRegionsAt w.place w.size w.definition r
-    → Draws (λ p. holds region p && holds r.structure p) (λ p _. w.definition.picture font (minus p w.place)) old mid
+    → Draws (λ p. holds region p && holds r.structure p) (λ p _. w.definition.picture no_news font (minus p w.place)) old mid
     → Draws (λ p. holds region p && holds r.content p) (λ p _. picture_bit font w.picture (minus (minus p w.place) w.origin)) mid new
     → Draws (holds region) (window_value font w) old new
 window_painted font w region r old mid new shown at framed filled =
     Draws-over _ _ (holds region) _ _ (window_value font w) old mid new (λ p d on. one p d) framed filled
   where
-    one : (p : Point) (d : Bool) → (if holds region p && holds r.content p then picture_bit font w.picture (minus (minus p w.place) w.origin) else (if holds region p && holds r.structure p then w.definition.picture font (minus p w.place) else d)) ≡ (if holds region p then window_value font w p d else d)
+    one : (p : Point) (d : Bool) → (if holds region p && holds r.content p then picture_bit font w.picture (minus (minus p w.place) w.origin) else (if holds region p && holds r.structure p then w.definition.picture no_news font (minus p w.place) else d)) ≡ (if holds region p then window_value font w p d else d)
     one p d =
-        let f = w.definition.picture font (minus p w.place) in
+        let f = w.definition.picture no_news font (minus p w.place) in
         let x = picture_bit font w.picture (minus (minus p w.place) w.origin) in
         let s = w.definition.structure w.size (minus p w.place) in
         let c = w.definition.content w.size (minus p w.place) in

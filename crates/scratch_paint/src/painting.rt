@@ -4,6 +4,7 @@ ghost use Rattle.tb_geom.specs.Points.{minus};
 ghost use Rattle.tb_geom.specs.Pixels.{holds};
 ghost use Rattle.bit_blit.specs.Draws.{Draws};
 ghost use Rattle.draw_port.specs.Ops.{picture_bit};
+ghost use Rattle.def_iface.specs.News.{no_news};
 ghost use Rattle.vis_update.specs.Records.{record_of};
 ghost use Rattle.window_mgr.specs.Kept.{IsKept};
 ghost use Rattle.window_mgr.specs.Records.{desk_of};
@@ -18,6 +19,7 @@ use draw_port::{Canvas, Cut};
 use scan_region::Region;
 use std::alloc::{AllocError, Global};
 use strike_font::Font;
+use tb_geom::Refusal;
 use vis_update::regions_of;
 use window_list::{Window, WindowList, picture_place};
 use window_mgr::Parts;
@@ -35,10 +37,11 @@ pub fn paint(alloc: Global, toolbox: &Toolbox) -> Result<BitMap, AllocError>
         font,
         windows,
     } = toolbox.windows().parts();
-    let Ok(ground) = empty_ground(alloc, width, height, bar) else {
-        return Err(AllocError);
+    let Ground { screen, gray, .. } = match empty_ground(alloc, width, height, bar) {
+        Ok(ground) => ground,
+        Err(Refusal::NoMemory) => return Err(AllocError),
+        Err(_) => unreachable!(),
     };
-    let Ground { screen, gray, .. } = ground;
     let mut image = screen;
     paint_windows(alloc, &mut image, &gray, windows, font)?;
     Ok(image)
@@ -95,7 +98,7 @@ fn paint_frame<'a>(
 )
     requires { IsSettled (record_of ⟦<Taken as Defined>⟧.loan window.now) }
     ensures { Draws (λ p. holds gray.now p && holds structure.now p)
-        (λ p _. (⟦<Taken as Defined>⟧.loan window.now.taken).definition.picture font.now (minus p window.now.place))
+        (λ p _. (⟦<Taken as Defined>⟧.loan window.now.taken).definition.picture no_news font.now (minus p window.now.place))
         image.old image.new }
 {
     let cut = Cut {

@@ -7,3 +7,4 @@ pub mod RawText
 pub mod Runs
 pub mod Session
 pub mod SessionViews
+pub mod ChosenRuns

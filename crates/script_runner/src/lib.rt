@@ -13,15 +13,21 @@
 //! (`Checks`): the laws say that none does. It holds for every stock: whose window definitions they are, and of
 //! which kinds, is the caller's.
 //!
-//! `options` reads the words of the command line.
+//! `options` reads the words of the command line, and `run_chosen` runs what they chose: it opens the files that they name
+//! through an `Opener`, and hands the font's bytes and the flags to `run` as they are (`ChosenRuns`). `SystemFiles` opens
+//! the files of the system.
 #![tactic(auto)]
 
 mod check_line;
+mod chosen_run;
 mod command_line;
+mod files;
 pub mod laws;
 mod runner;
 mod session;
 mod shown;
 
+pub use chosen_run::run_chosen;
 pub use command_line::{Choices, OptionsError, options};
+pub use files::{Opener, SystemFiles};
 pub use runner::run;

@@ -2,11 +2,13 @@
 //! pieces it is read and its answers are written, how a run ends whose reader or writer breaks at any moment, and what
 //! no script reaches. What a script can show is a row of `tests/rows`.
 //!
-//! `runs` tests `script_runner`, `lines`, `drawings`, `windows`, `updates` and `events` test `script_text`, `images` tests
+//! `runs` and `chosen` test `script_runner`, `lines`, `drawings`, `windows`, `updates` and `events` test `script_text`, `images` tests
 //! `screen_pbm`, and `reading` and `sending` test `watched_io`. `Script` and `Paper` are a reader and a writer that can be
 //! slow or break; they are proved, and no part of the program.
 #![tactic(auto)]
 
+#[cfg(test)]
+mod chosen;
 #[cfg(test)]
 mod drawings;
 #[cfg(test)]

@@ -1,3 +1,4 @@
 -- Lemmas on the areas of windows.
 pub mod AreaFacts
 pub mod NotchFacts
+pub mod Hearing

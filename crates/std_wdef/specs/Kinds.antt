@@ -1,5 +1,8 @@
 -- Which kinds of window have what.
 use Rattle.std.specs.Prelude.{ℕ, Bool, true, false, ◌&&◌, nat_lt, List, length, take}
+use Rattle.std.specs.Option.{unwrap_or, option_map_or}
+use Rattle.def_iface.specs.declared.size.Size.{Size}
+use Rattle.def_iface.specs.News.{News}
 use Rattle.def_iface.specs.declared.window_def.WindowChange.{WindowChange}
 use Rattle.def_iface.specs.declared.window_def.WindowChange.TheVariants.{Resized, Titled, Highlighted, Closable, Zoomed}
 use Rattle.def_iface.specs.declared.window_def.WindowChange.TheVariants.{Tracked}
@@ -64,3 +67,20 @@ keeps_title _ = true
 -- the title is not empty
 abbrev pub is_titled : List ℕ → Bool
 is_titled title = nat_lt 0 (length title)
+
+-- the flags once it is told this
+abbrev pub flags_in : News → Flags → Flags
+flags_in n f = record {
+  highlighted = unwrap_or n.highlighted f.highlighted;
+  go_away = unwrap_or n.closable f.go_away;
+  zoomed = unwrap_or n.zoomed f.zoomed;
+  tracked = unwrap_or n.tracked f.tracked;
+}
+
+-- its title then: at most 255 characters are kept
+abbrev pub title_in : News → List ℕ → List ℕ
+title_in n title = option_map_or (λ t. take 255 t) n.title title
+
+-- and its size
+abbrev pub size_in : News → Size → Size
+size_in n size = unwrap_or n.size size

@@ -16,6 +16,7 @@ use Rattle.looks.specs.declared.step.Step.{Step}
 use Rattle.looks.specs.Letters.{lettering}
 use Rattle.looks.specs.Marks.{box, neg, black_fill, look_bit}
 use Rattle.std_wdef.specs.declared.notched_window.NotchedWindow.{NotchedWindow}
+use Rattle.std_wdef.specs.Kinds.{size_in}
 use Rattle.std_wdef.specs.Looks.{ring}
 
 -- n: min(w, h) div 2
@@ -51,8 +52,8 @@ notched_window stage size = record {
   structure = λ s. area_holds (notched_structure s);
   content = λ s. area_holds (notched_content s);
   bounds = λ s. ring 1 s;
-  picture = λ font. look_bit (lettering font []) (notched_look size);
-  hit = notched_hit size;
+  picture = λ n font. look_bit (lettering font []) (notched_look (size_in n size));
+  hit = λ n. notched_hit (size_in n size);
 }
 
 -- what the window is

@@ -8,7 +8,7 @@ use Rattle.looks.specs.Letters.{lettering}
 use Rattle.looks.specs.Marks.{look_bit}
 use Rattle.std_wdef.specs.declared.kind.Variation.{Variation}
 use Rattle.std_wdef.specs.declared.kind.Flags.{Flags}
-use Rattle.std_wdef.specs.Kinds.{is_titled}
+use Rattle.std_wdef.specs.Kinds.{is_titled, flags_in, title_in, size_in}
 use Rattle.std_wdef.specs.Looks.{look_of}
 use Rattle.std_wdef.specs.Areas.{structure_of, content_of, structure_box}
 use Rattle.std_wdef.specs.Hits.{std_hit}
@@ -21,6 +21,6 @@ std_window v stage f title size = record {
   structure = λ s. area_holds (structure_of v s);
   content = λ s. area_holds (content_of v s);
   bounds = structure_box v;
-  picture = λ font. look_bit (lettering font title) (look_of v f (is_titled title) size);
-  hit = std_hit v f size;
+  picture = λ n font. look_bit (lettering font (title_in n title)) (look_of v (flags_in n f) (is_titled (title_in n title)) (size_in n size));
+  hit = λ n. std_hit v (flags_in n f) (size_in n size);
 }

@@ -7,8 +7,10 @@ use Rattle.draw_port.specs.Ops.{picture_bit}
 use Rattle.def_iface.specs.declared.size.Size.{Size}
 use Rattle.def_iface.specs.declared.taken.Taken.{Taken}
 use Rattle.def_iface.specs.Meaning.{Definition, Loan}
+use Rattle.def_iface.specs.News.{AllNews, no_news}
 use Rattle.def_iface.specs.Desk as layers
 use Rattle.def_iface.specs.Desk.Part.{Picture}
+use Rattle.window_list.specs.declared.window.Heard.{Heard}
 use Rattle.window_list.specs.declared.window.UserState.{UserState}
 use Rattle.window_list.specs.declared.window.Window.{Window}
 
@@ -23,6 +25,8 @@ pub record WindowRecord : Type 0 where
   pub highlighted : Bool
   pub title : List ℕ
   pub go_away : Bool
+  -- what its definition was told last of how it stands
+  pub heard : Heard
   -- the operations of its picture, the first drawn first
   pub picture : List Op
   -- where the picture's own 0 0 lies in the window
@@ -31,6 +35,17 @@ pub record WindowRecord : Type 0 where
   -- the slot of the stock that the definition came from
   pub slot : ℕ
 
+-- all that the window's definition was told last
+abbrev pub news_of : WindowRecord → AllNews
+news_of w = record {
+  size = w.size;
+  title = w.title;
+  highlighted = w.heard.highlighted;
+  closable = w.go_away;
+  zoomed = w.heard.zoomed;
+  tracked = w.heard.tracked;
+}
+
 -- a window as layers, in this font: its picture over its frame
 abbrev pub layered_window : List ℕ → WindowRecord → layers.LayeredWindow
 layered_window font w = record {
@@ -38,7 +53,7 @@ layered_window font w = record {
   place = w.place;
   shown = w.shown;
   structure = w.definition.structure w.size;
-  frame = w.definition.picture font;
+  frame = w.definition.picture no_news font;
   layers = record { part = Picture; extent = w.definition.content w.size; picture = λ p. picture_bit font w.picture (minus p w.origin) } ∷ [];
 }
 
@@ -54,6 +69,7 @@ module _ {V : Type 0} {H : V → Type 0} (loan : Taken V H → Loan) where
     highlighted = w.highlighted;
     title = w.title.items;
     go_away = w.go_away;
+    heard = w.heard;
     picture = w.picture;
     origin = w.origin;
     definition = (loan w.taken).definition;

@@ -1,17 +1,14 @@
 -- Steps of calls about frames, as the code makes them.
-use Rattle.std.proofs.Common.{◌≡◌, ◌⊎◌, inl, inr, ℕ, ◌<◌, Bool, true, false, ◌==◌, ◌&&◌, not, if◌then◌else◌, List, [], ◌∷◌, ◌++◌, length, map, Option, None, Some, Result, Ok, Err, refl, sym, ap, ◌∙◌, subst, nat_abs, pos}
+use Rattle.std.proofs.Common.{◌≡◌, inl, inr, ℕ, ◌<◌, Bool, true, false, not, if◌then◌else◌, List, [], ◌∷◌, length, map, None, Some, Result, Ok, Err, refl, sym, ap, ◌∙◌, subst}
 use Rattle.std.specs.Prelude.{is_none, nat_lt}
 use Rattle.tb_geom.specs.declared.point.Point.{Point}
 use Rattle.tb_geom.specs.declared.refusal.Refusal.{Refusal}
 use Rattle.tb_geom.specs.declared.refusal.Refusal.TheVariants.{NoSuchWindow, OutOfRange, NotBusy, TooLong}
 use Rattle.tb_geom.specs.Rects.{in_plane}
 use Rattle.def_iface.specs.declared.taken.Taken.{Taken}
+use Rattle.def_iface.specs.News.{News, told_title, told_highlighted, told_tracked}
 use Rattle.def_iface.specs.Meaning.{Loan}
 use Rattle.def_iface.specs.Stocked.{SlotView}
-use Rattle.desk_call.specs.declared.activity.Standing.{Standing}
-use Rattle.desk_call.specs.declared.activity.Standing.TheVariants as standings
-use Rattle.desk_call.specs.Gates.{window_standing}
-use Rattle.desk_call.specs.declared.window.WindowCall.{WindowCall}
 use Rattle.desk_call.specs.declared.frame.FrameCall.{FrameCall}
 use Rattle.desk_call.specs.declared.activity.Activity.TheVariants.{Tracking}
 use Rattle.desk_call.specs.declared.frame.FrameCall.TheVariants as asks
@@ -26,52 +23,24 @@ use Rattle.window_mgr.specs.declared.manager.WindowManager.{WindowManager}
 use Rattle.window_mgr.specs.Edits.{IsWindowAt, StandsAt}
 use Rattle.window_mgr.specs.Finding.{record_with}
 use Rattle.window_mgr.specs.FrameTelling.{IsFrameTold}
-use Rattle.window_mgr.specs.FullDesk.{FullDesk, FullState}
+use Rattle.window_mgr.specs.FullDesk.{FullState}
 use Rattle.window_mgr.specs.Kept.{IsKept}
 use Rattle.window_mgr.specs.Records.{desk_of, state_of}
 use Rattle.window_mgr.specs.Refused.{first_refusal, is_missing, longest_text}
 use Rattle.window_mgr.specs.Updating.{LeavesState}
 use Rattle.window_mgr.specs.Whole.{IsWholeManager}
 use Rattle.window_mgr.proofs.EditSeats.{same_at, there_is}
-use Rattle.window_mgr.proofs.FrameRight.{told_alike}
+use Rattle.window_mgr.proofs.FrameRight.{told_alike, told_of}
 use Rattle.window_mgr.proofs.TellLemmas as telling
 use Rattle.window_update.specs.declared.updates.OpenActivity.TheVariants.{Nothing, GoAway}
 use Rattle.window_update.specs.declared.updates.Updates.{Updates}
 use Rattle.window_update.specs.DeskStates.{IsDeskUnchanged, IsWholeUpdates, activity_of, desk_state}
 use Rattle.window_update.proofs.Sides.{SameSides, stays_sized}
 use Rattle.bit_map.specs.Bits.{Bits}
-use Rattle.window_frame.specs.Followers.{IsTold, AreTold, followers, followers_by, listed, moved_by}
+use Rattle.window_frame.specs.Followers.{Flag, Knows, IsInformed, told_flag, with_heard}
 use Rattle.window_frame.specs.FrameRefusals.{frame_refusals, is_tracking, tracking_refusals}
-use Rattle.window_frame.specs.FrameSteps.{IsFrameStepOverAnySlots, IsTrackedAt, in_go_away, with_flag, with_title}
-use Rattle.window_frame.proofs.FrameKeeps.{frame_told_keeps, told_keeps}
-
--- ---- several windows
-
--- windows that were told, and then others
-are_told_both : (ss others : List ℕ) (before middle after : FullState) → AreTold ss before middle → AreTold others middle after → AreTold (ss ++ others) before after
-are_told_both [] others before middle after same told = subst (λ m. AreTold others m after) same told
-are_told_both (s ∷ ss) others before middle after (first, one, rest) told = (first, one, are_told_both ss others first middle after rest told)
-
-followers_so : (standing : Standing) (former active moved : Option ℕ) → (standing ≡ standings.Asks → ⊥) → followers_by standing former active moved ≡ listed former ++ listed active ++ listed moved
-followers_so standings.Asks former active moved none = absurd (none refl)
-followers_so (standings.Updates s) former active moved none = refl
-followers_so standings.Tracks former active moved none = refl
-followers_so standings.Changes former active moved none = refl
-
--- definitions were told in two calls
-pub told_both : {V : Type 0} {H : V → Type 0} (loan : Taken V H → Loan) (t between new : WindowManager V H) (ss others : List ℕ) → LeavesState loan (AreTold ss) t between → LeavesState loan (AreTold others) between new → LeavesState loan (AreTold (ss ++ others)) t new
-told_both loan t between new ss others first second slots whole =
-    let one = first slots whole in
-    let other = second slots one.0 in
-    (other.0, are_told_both ss others (state_of loan t slots) (state_of loan between slots) (state_of loan new slots) one.1 other.1)
-
-pub followed : {V : Type 0} {H : V → Type 0} (loan : Taken V H → Loan) (t new : WindowManager V H) (call : WindowCall) (standing : Standing) (former active was moved : Option ℕ)
-    → standing ≡ window_standing call → (standing ≡ standings.Asks → ⊥) → active ≡ was → moved ≡ moved_by call
-    → LeavesState loan (AreTold (listed former ++ listed active ++ listed moved)) t new → LeavesState loan (AreTold (followers call former was)) t new
-followed loan t new call standing former active was moved is none same it told =
-    let named = ap (λ o. followers_by (window_standing call) former o (moved_by call)) (sym same) ∙ ap (λ o. followers_by (window_standing call) former active o) (sym it)
-    ∙ ap (λ k. followers_by k former active moved) (sym is) ∙ followers_so standing former active moved none in
-    subst (λ ss. LeavesState loan (AreTold ss) t new) (sym named) told
+use Rattle.window_frame.specs.FrameSteps.{IsFrameStepOverAnySlots, IsTrackedAt, IsTrackingTold, in_go_away, with_flag, with_title, with_tracked}
+use Rattle.window_frame.proofs.FrameKeeps.{frame_told_keeps, tracking_keeps}
 
 -- a window manager that was whole over some slots, and is so over the same
 pub still_kept : {V : Type 0} {H : V → Type 0} (loan : Taken V H → Loan) (t new : WindowManager V H) (after : FullState → FullState → Type 0) → IsKept loan t → LeavesState loan after t new → IsKept loan new
@@ -106,28 +75,47 @@ module _ {V : Type 0} {H : V → Type 0} (loan : Taken V H → Loan) (t : Window
     is_there slots = ap is_none found
 
     -- what is said of the window at its place is said of that of its number
-    pub by_number : (new : WindowManager V H) (f : WindowRecord → WindowRecord) → ((w : Window V H) → IsWindowAt t.windows.records.items at w → LeavesState loan (IsFrameTold w.serial f) t new)
-        → LeavesState loan (IsFrameTold s f) t new
-    by_number new f leaves = subst (λ n. LeavesState loan (IsFrameTold n f) t new) (stands.1 here.0 here.1) (leaves here.0 here.1)
+    pub by_number : (new : WindowManager V H) (news : WindowRecord → News → News) (f : WindowRecord → WindowRecord) → ((w : Window V H) → IsWindowAt t.windows.records.items at w → LeavesState loan (IsFrameTold w.serial news f) t new)
+        → LeavesState loan (IsFrameTold s news f) t new
+    by_number new news f leaves = subst (λ n. LeavesState loan (IsFrameTold n news f) t new) (stands.1 here.0 here.1) (leaves here.0 here.1)
 
-    -- so its definition was told something that its record does not keep
-    pub told_apart : (new : WindowManager V H) → ((w : Window V H) → IsWindowAt t.windows.records.items at w → LeavesState loan (IsFrameTold w.serial (λ x. x)) t new)
-        → LeavesState loan (IsTold s) t new
-    told_apart new leaves slots whole = let left = by_number new (λ x. x) leaves slots whole in (left.0, inr left.1)
+    -- so its definition was told whether its go-away box is tracked
+    pub told_apart : (new : WindowManager V H) (inside : Bool) → ((w : Window V H) → IsWindowAt t.windows.records.items at w → LeavesState loan (IsFrameTold w.serial (λ _. told_tracked inside) (with_tracked inside)) t new)
+        → LeavesState loan (IsTrackingTold inside s) t new
+    told_apart new inside leaves slots whole = let left = by_number new (λ _. told_tracked inside) (with_tracked inside) leaves slots whole in (left.0, inr left.1)
 
-    pub told_alone : (new : WindowManager V H) → ((w : Window V H) → IsWindowAt t.windows.records.items at w → LeavesState loan (IsFrameTold w.serial (λ x. x)) t new)
-        → LeavesState loan (AreTold (s ∷ [])) t new
-    told_alone new leaves slots whole = let left = told_apart new leaves slots whole in (left.0, (state_of loan new slots, left.1, refl))
+  -- ---- how a window stands
 
-    -- or what its record says already
-    pub told_again : (new : WindowManager V H) (x : Window V H) → IsWindowAt t.windows.records.items at x
-        → ((w : Window V H) → IsWindowAt t.windows.records.items at w → LeavesState loan (IsFrameTold w.serial (with_flag x.highlighted)) t new)
-        → LeavesState loan (AreTold (s ∷ [])) t new
-    told_again new x x_is leaves slots whole =
-        let left = by_number new (with_flag x.highlighted) leaves slots whole in
-        let same = same_at t.windows.records.items at here.0 x stands.0 here.1 x_is in
-        let told = told_alike s (with_flag x.highlighted) (λ w. w) (record_of loan here.0) (state_of loan t slots) (state_of loan new slots) found (ap (λ (y : Window V H). record (record_of loan here.0) { highlighted = y.highlighted }) (sym same)) left.1 in
-        (left.0, (state_of loan new slots, inr told, refl))
+  module _ (kept : IsKept loan t) (at : ℕ) (low : at < length t.windows.records.items) (x : Window V H) (x_is : IsWindowAt t.windows.records.items at x) where
+    stands_there : (w : Window V H) → IsWindowAt t.windows.records.items at w → StandsAt t.windows.records.items w.serial at
+    stands_there w w_is = (low, λ y y_is. ap (λ (z : Window V H). z.serial) (same_at t.windows.records.items at y w low y_is w_is))
+
+    found_here : (w : Window V H) → IsWindowAt t.windows.records.items at w → record_with w.serial (desk_of loan t []).windows ≡ Some (record_of loan x)
+    found_here w w_is =
+        found kept w.serial at (stands_there w w_is)
+        ∙ ap (λ (z : Window V H). Some (record_of loan z)) (same_at t.windows.records.items at (here kept w.serial at (stands_there w w_is)).0 x low (here kept w.serial at (stands_there w w_is)).1 x_is)
+
+    -- its definition knows
+    pub knew : (flag : Flag) → Knows flag (record_of loan x) → (w : Window V H) → IsWindowAt t.windows.records.items at w → LeavesState loan (IsInformed flag w.serial) t t
+    knew flag knows w w_is slots whole = (whole, inl ((λ r r_is. let same : record_of loan x ≡ r = sure (sym (found_here w w_is) ∙ r_is) in subst (Knows flag) same knows), refl))
+      where
+        sure : {r v : WindowRecord} → Some r ≡ Some v → r ≡ v
+        sure e = cc
+
+    -- or it heard otherwise, and was told
+    pub informed_so : (flag : Flag) (news : News → News) (kept_so : WindowRecord → WindowRecord) (new : WindowManager V H) → (Knows flag (record_of loan x) → ⊥)
+        → news ≡ told_flag flag (record_of loan x) → kept_so (record_of loan x) ≡ with_heard flag (record_of loan x)
+        → ((w : Window V H) → IsWindowAt t.windows.records.items at w → LeavesState loan (IsFrameTold w.serial (λ _. news) kept_so) t new)
+        → (w : Window V H) → IsWindowAt t.windows.records.items at w → LeavesState loan (IsInformed flag w.serial) t new
+    informed_so flag news kept_so new otherwise same_news same_record leaves w w_is slots whole =
+        let left = leaves w w_is slots whole in
+        let its = found_here w w_is in
+        let alike = told_alike w.serial kept_so (with_heard flag) (record_of loan x) (state_of loan t slots) (state_of loan new slots) its same_record left.1 in
+        let told = told_of w.serial news (told_flag flag) (with_heard flag) (record_of loan x) (state_of loan t slots) (state_of loan new slots) its same_news alike in
+        (left.0, inr (record { told = told; otherwise = λ knows. otherwise (subst (Knows flag) (sym (sure (sym its ∙ told.found))) knows) }))
+      where
+        sure : {r v : WindowRecord} → Some r ≡ Some v → r ≡ v
+        sure e = cc
 
   -- ---- titles and highlighting
 
@@ -140,25 +128,25 @@ module _ {V : Type 0} {H : V → Type 0} (loan : Taken V H → Loan) (t : Window
         (λ slots. λ i. first_refusal ((is_there kept n.window at stands slots i, NoSuchWindow) ∷ (is_long true e i, TooLong) ∷ []))
 
     pub titled : (u : Updates) (new : WindowManager V H) → nat_lt longest_text (length title) ≡ false
-        → ((w : Window V H) → IsWindowAt t.windows.records.items at w → LeavesState loan (IsFrameTold w.serial (with_title title)) t new)
+        → ((w : Window V H) → IsWindowAt t.windows.records.items at w → LeavesState loan (IsFrameTold w.serial (λ _. told_title title) (with_title title)) t new)
         → IsFrameStepOverAnySlots loan (asks.SetTitle n) (Ok Done) t u new u
     titled u new e leaves slots whole =
-        let left = by_number kept n.window at stands new (with_title title) leaves slots whole in (
+        let left = by_number kept n.window at stands new (λ _. told_title title) (with_title title) leaves slots whole in (
           left.0,
           (
             λ i. first_refusal ((is_there kept n.window at stands slots i, NoSuchWindow) ∷ (is_long false e i, TooLong) ∷ []),
             (
               record { activity = refl; begun = refl },
-              subst (λ (l : List ℕ). IsFrameTold n.window (with_title l) (state_of loan t slots) (state_of loan new slots)) same left.1,
+              subst (λ (l : List ℕ). IsFrameTold n.window (λ _. told_title l) (with_title l) (state_of loan t slots) (state_of loan new slots)) same left.1,
             ),
           ),
         )
 
   pub highlighted : (kept : IsKept loan t) (h : HiliteWindow) (at : ℕ) → StandsAt t.windows.records.items h.window at → (u : Updates) (new : WindowManager V H)
-      → ((w : Window V H) → IsWindowAt t.windows.records.items at w → LeavesState loan (IsFrameTold w.serial (with_flag h.highlighted)) t new)
+      → ((w : Window V H) → IsWindowAt t.windows.records.items at w → LeavesState loan (IsFrameTold w.serial (λ _. told_highlighted h.highlighted) (with_flag h.highlighted)) t new)
       → IsFrameStepOverAnySlots loan (asks.Hilite h) (Ok Done) t u new u
   highlighted kept h at stands u new leaves slots whole =
-      let left = by_number kept h.window at stands new (with_flag h.highlighted) leaves slots whole in
+      let left = by_number kept h.window at stands new (λ _. told_highlighted h.highlighted) (with_flag h.highlighted) leaves slots whole in
       (left.0, (λ i. first_refusal ((is_there kept h.window at stands slots i, NoSuchWindow) ∷ []), (record { activity = refl; begun = refl }, left.1)))
 
   -- ---- the tracking of a go-away box
@@ -172,25 +160,29 @@ module _ {V : Type 0} {H : V → Type 0} (loan : Taken V H → Loan) (t : Window
     no_point u e outside is = subst (λ f. IsFrameStepOverAnySlots loan (asks.TrackGoAway g) (Err f) t u t u) (sym is) (refused u (asks.TrackGoAway g) OutOfRange (λ slots. refused_or_not slots u false outside))
 
     pub begun : (u after : Updates) (new : WindowManager V H) → in_plane g.point ≡ true → true ≡ in_go_away g.window (desk_of loan t []) g.point → after.current ≡ GoAway g.window
-        → LeavesState loan (IsTold g.window) t new → IsFrameStepOverAnySlots loan (asks.TrackGoAway g) (Ok (Tracked true)) t u new after
+        → LeavesState loan (IsTrackingTold true g.window) t new → IsFrameStepOverAnySlots loan (asks.TrackGoAway g) (Ok (Tracked true)) t u new after
     begun u after new inside is opened leaves slots whole =
         let left = leaves slots whole in (left.0, (refused_or_not slots u true inside, (is, (ap activity_of opened, left.1))))
 
     pub not_begun : (u : Updates) → in_plane g.point ≡ true → false ≡ in_go_away g.window (desk_of loan t []) g.point → IsFrameStepOverAnySlots loan (asks.TrackGoAway g) (Ok (Tracked false)) t u t u
     not_begun u inside is slots whole = (whole, (refused_or_not slots u true inside, (is, unchanged u slots)))
 
-  module _ (u : Updates) (w : ℕ) (p : Point) (inside : Bool) (new : WindowManager V H) (open_is : Tracking w ≡ activity_of u.current) (planar : in_plane p ≡ true) (is : inside ≡ in_go_away w (desk_of loan t []) p) (leaves : LeavesState loan (IsTold w) t new) where
+  module _ (u : Updates) (w : ℕ) (p : Point) (inside shows : Bool) (new : WindowManager V H) (open_is : Tracking w ≡ activity_of u.current) (planar : in_plane p ≡ true) (is : inside ≡ in_go_away w (desk_of loan t []) p) (leaves : LeavesState loan (IsTrackingTold shows w) t new) where
     free : first_refusal (tracking_refusals (activity_of u.current) p) ≡ None
     free i = first_refusal ((not (is_tracking (sym open_is i)), NotBusy) ∷ (not (planar i), OutOfRange) ∷ [])
 
-    tracked_at : (after : Updates) (slots : List SlotView) (whole : IsWholeManager loan t slots) → IsTrackedAt p inside (desk_state loan t u slots) (desk_state loan new after slots)
+    tracked_at : (after : Updates) (slots : List SlotView) (whole : IsWholeManager loan t slots) → IsTrackedAt p inside shows (desk_state loan t u slots) (desk_state loan new after slots)
     tracked_at after slots whole = record { window = w; tracked = sym open_is; answer = is; told = (leaves slots whole).1 }
 
-    pub stepped : IsFrameStepOverAnySlots loan (asks.StepGoAway p) (Ok (Tracked inside)) t u new u
-    stepped slots whole = ((leaves slots whole).0, (free, (record { activity = refl; begun = refl }, tracked_at u slots whole)))
+  pub stepped : (u : Updates) (w : ℕ) (p : Point) (inside : Bool) (new : WindowManager V H) → Tracking w ≡ activity_of u.current → in_plane p ≡ true → inside ≡ in_go_away w (desk_of loan t []) p
+      → LeavesState loan (IsTrackingTold inside w) t new → IsFrameStepOverAnySlots loan (asks.StepGoAway p) (Ok (Tracked inside)) t u new u
+  stepped u w p inside new open_is planar is leaves slots whole =
+      ((leaves slots whole).0, (free u w p inside inside new open_is planar is leaves, (record { activity = refl; begun = refl }, tracked_at u w p inside inside new open_is planar is leaves u slots whole)))
 
-    pub ended : (after : Updates) → after.current ≡ Nothing → IsFrameStepOverAnySlots loan (asks.EndGoAway p) (Ok (Tracked inside)) t u new after
-    ended after idle slots whole = ((leaves slots whole).0, (free, (ap activity_of idle, tracked_at after slots whole)))
+  pub ended : (u : Updates) (w : ℕ) (p : Point) (inside : Bool) (new : WindowManager V H) → Tracking w ≡ activity_of u.current → in_plane p ≡ true → inside ≡ in_go_away w (desk_of loan t []) p
+      → LeavesState loan (IsTrackingTold false w) t new → (after : Updates) → after.current ≡ Nothing → IsFrameStepOverAnySlots loan (asks.EndGoAway p) (Ok (Tracked inside)) t u new after
+  ended u w p inside new open_is planar is leaves after idle slots whole =
+      ((leaves slots whole).0, (free u w p inside false new open_is planar is leaves, (ap activity_of idle, tracked_at u w p inside false new open_is planar is leaves after slots whole)))
 
   -- ---- the screen keeps its sides
 
@@ -198,16 +190,16 @@ module _ {V : Type 0} {H : V → Type 0} (loan : Taken V H → Loan) (t : Window
       → LeavesState loan done t new → IsWholeUpdates t u → IsWholeUpdates new u
   sides_stay kept new u done keeps leaves whole = stays_sized loan t new u kept.slots kept.slots whole (keeps _ _ (leaves kept.slots kept.whole).1)
 
-  pub told_stays_whole : (kept : IsKept loan t) (s : ℕ) (new : WindowManager V H) (u after : Updates) → after.buffer ≡ u.buffer → LeavesState loan (IsTold s) t new → IsWholeUpdates t u → IsWholeUpdates new after
-  told_stays_whole kept s new u after same leaves whole =
-      let stays = sides_stay kept new u (IsTold s) (λ before later told. record { width = told_keeps (λ d. d.width) (λ d ws. refl) s before later told; height = told_keeps (λ d. d.height) (λ d ws. refl) s before later told }) leaves whole in
+  pub told_stays_whole : (kept : IsKept loan t) (inside : Bool) (s : ℕ) (new : WindowManager V H) (u after : Updates) → after.buffer ≡ u.buffer → LeavesState loan (IsTrackingTold inside s) t new → IsWholeUpdates t u → IsWholeUpdates new after
+  told_stays_whole kept inside s new u after same leaves whole =
+      let stays = sides_stay kept new u (IsTrackingTold inside s) (λ before later told. record { width = tracking_keeps (λ d. d.width) (λ d ws. refl) inside s before later told; height = tracking_keeps (λ d. d.height) (λ d ws. refl) inside s before later told }) leaves whole in
       record { width = ap (λ (b : Bits). b.width) same ∙ stays.width; height = ap (λ (b : Bits). b.height) same ∙ stays.height }
 
-  pub frame_stays_whole : (kept : IsKept loan t) (s at : ℕ) → StandsAt t.windows.records.items s at → (f : WindowRecord → WindowRecord) (new : WindowManager V H) (u : Updates)
-      → ((w : Window V H) → IsWindowAt t.windows.records.items at w → LeavesState loan (IsFrameTold w.serial f) t new) → IsWholeUpdates t u → IsWholeUpdates new u
-  frame_stays_whole kept s at stands f new u leaves whole =
-      sides_stay kept new u (IsFrameTold s f) (λ before later told. record { width = frame_told_keeps (λ d. d.width) (λ d ws. refl) s f before later told; height = frame_told_keeps (λ d. d.height) (λ d ws. refl) s f before later told })
-      (by_number kept s at stands new f leaves) whole
+  pub frame_stays_whole : (kept : IsKept loan t) (s at : ℕ) → StandsAt t.windows.records.items s at → (news : WindowRecord → News → News) (f : WindowRecord → WindowRecord) (new : WindowManager V H) (u : Updates)
+      → ((w : Window V H) → IsWindowAt t.windows.records.items at w → LeavesState loan (IsFrameTold w.serial news f) t new) → IsWholeUpdates t u → IsWholeUpdates new u
+  frame_stays_whole kept s at stands news f new u leaves whole =
+      sides_stay kept new u (IsFrameTold s news f) (λ before later told. record { width = frame_told_keeps (λ d. d.width) (λ d ws. refl) s news f before later told; height = frame_told_keeps (λ d. d.height) (λ d ws. refl) s news f before later told })
+      (by_number kept s at stands new news f leaves) whole
 
 -- the step of a call is that of the call that it is
 pub of_call : {V : Type 0} {H : V → Type 0} (loan : Taken V H → Loan) (t new : WindowManager V H) (u after : Updates) (call other : FrameCall) (result : Result FrameReply Refusal) → call ≡ other

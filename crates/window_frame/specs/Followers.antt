@@ -1,37 +1,73 @@
 -- Whose definitions are told how their windows stand, once a call on windows was done.
-use Rattle.std.specs.Prelude.{◌≡◌, ◌⊎◌, ℕ, true, List, [], ◌∷◌, ◌++◌, Option, None, Some}
+use Rattle.std.specs.Prelude.{◌≡◌, ◌⊎◌, ℕ, Bool, List, [], ◌∷◌, Some, All}
+use Rattle.std.specs.Option.{is_some}
+use Rattle.def_iface.specs.News.{News, told_highlighted, told_zoomed}
 use Rattle.desk_call.specs.declared.activity.Standing.{Standing}
 use Rattle.desk_call.specs.declared.activity.Standing.TheVariants.{Asks}
-use Rattle.desk_call.specs.declared.window.WindowCall.{WindowCall}
-use Rattle.desk_call.specs.declared.window.WindowCall.TheVariants.{Move}
-use Rattle.desk_call.specs.Gates.{window_standing}
+use Rattle.vis_update.specs.Records.{WindowRecord}
+use Rattle.window_mgr.specs.Finding.{record_with}
 use Rattle.window_mgr.specs.FrameTelling.{IsFrameTold}
 use Rattle.window_mgr.specs.FullDesk.{FullState}
-use Rattle.window_mgr.specs.Refused.{is_missing}
 
--- the window of this serial, if there is one, had its definition told how it stands, and its frame drawn
-abbrev pub IsTold : ℕ → FullState → FullState → Type 0
-IsTold s before after = ((is_missing s before.desk.windows ≡ true) × (after ≡ before)) ⊎ IsFrameTold s (λ w. w) before after
+-- what a call on windows may change without telling the definition
+pub data Flag : Type 0 where
+  Highlighting : Flag
+  Zooming : Flag
 
--- so had these windows, one after another
-abbrev pub AreTold : List ℕ → FullState → FullState → Type 0
+-- how the window stands
+abbrev pub flag_of : Flag → WindowRecord → Bool
+flag_of Highlighting w = w.highlighted
+flag_of Zooming w = is_some w.user_state
+
+-- what its definition heard last
+abbrev pub heard_of : Flag → WindowRecord → Bool
+heard_of Highlighting w = w.heard.highlighted
+heard_of Zooming w = w.heard.zoomed
+
+-- its definition heard how the window stands
+abbrev pub Knows : Flag → WindowRecord → Type 0
+Knows flag w = heard_of flag w ≡ flag_of flag w
+
+-- it is told how the window stands
+abbrev pub told_flag : Flag → WindowRecord → News → News
+told_flag Highlighting w = told_highlighted w.highlighted
+told_flag Zooming w = told_zoomed (is_some w.user_state)
+
+-- and the record keeps that
+abbrev pub with_heard : Flag → WindowRecord → WindowRecord
+with_heard Highlighting w = record w { heard = record w.heard { highlighted = w.highlighted } }
+with_heard Zooming w = record w { heard = record w.heard { zoomed = is_some w.user_state } }
+
+-- a window, and what its definition is told of it
+pub record Telling : Type 0 where
+  pub window : ℕ
+  pub flag : Flag
+
+-- the window's definition, which had heard otherwise, was told how the window stands, and the frame was drawn
+pub record IsTold (t : Telling) (before after : FullState) : Type 0 where
+  pub told : IsFrameTold t.window (told_flag t.flag) (with_heard t.flag) before after
+  pub otherwise : Knows t.flag told.window → ⊥
+
+-- the window of this serial has a definition that knew how it stands, and nothing changed, or one that was told
+abbrev pub IsInformed : Flag → ℕ → FullState → FullState → Type 0
+IsInformed flag s before after =
+    (((w : WindowRecord) → record_with s before.desk.windows ≡ Some w → Knows flag w) × (after ≡ before))
+    ⊎ IsTold (record { window = s; flag = flag }) before after
+
+-- these were told, one after another
+abbrev pub AreTold : List Telling → FullState → FullState → Type 0
 AreTold [] before after = after ≡ before
-AreTold (s ∷ ss) before after = (middle : FullState) × IsTold s before middle × AreTold ss middle after
+AreTold (t ∷ ts) before after = (middle : FullState) × IsTold t before middle × AreTold ts middle after
 
-abbrev pub listed : Option ℕ → List ℕ
-listed None = []
-listed (Some s) = s ∷ []
+-- each window's definition knows how the window stands
+abbrev pub AreInformed : List WindowRecord → Type 0
+AreInformed windows = All (λ w. Knows Highlighting w × Knows Zooming w) windows
 
--- the window that a call moves, which is then not zoomed any more
-abbrev pub moved_by : WindowCall → Option ℕ
-moved_by (Move m) = Some m.window
-moved_by _ = None
+-- the definitions that had heard otherwise were told how their windows stand, and no other was told anything
+abbrev pub IsCaughtUp : FullState → FullState → Type 0
+IsCaughtUp before after = (tellings : List Telling) × AreTold tellings before after × AreInformed after.desk.windows
 
--- after a call of this standing that moves this window: the window that was active, the one that is, and that one, where the call
--- was none that asks
-abbrev pub followers_by : Standing → Option ℕ → Option ℕ → Option ℕ → List ℕ
-followers_by Asks former active moved = []
-followers_by _ former active moved = listed former ++ listed active ++ listed moved
-
-abbrev pub followers : WindowCall → Option ℕ → Option ℕ → List ℕ
-followers call former active = followers_by (window_standing call) former active (moved_by call)
+-- so it is after a call of this standing; after one that asks none was told anything
+abbrev pub IsCaughtUpBy : Standing → FullState → FullState → Type 0
+IsCaughtUpBy Asks before after = after ≡ before
+IsCaughtUpBy _ before after = IsCaughtUp before after

@@ -1,68 +1,65 @@
 //! Definitions that are told how their windows stand.
-ghost use Rattle.std.specs.Prelude.{◌≡◌};
+ghost use Rattle.std.specs.Prelude.{◌≡◌, ◌<◌, length};
+ghost use Rattle.window_mgr.specs.Edits.{IsWindowAt};
 ghost use Rattle.window_mgr.specs.Kept.{IsKept};
 ghost use Rattle.window_mgr.specs.Updating.{LeavesState};
-ghost use Rattle.window_frame.specs.Followers.{AreTold, followers, listed, moved_by};
+ghost use Rattle.desk_call.specs.Gates.{window_standing};
+ghost use Rattle.window_frame.specs.Followers.{IsCaughtUp, IsCaughtUpBy, IsInformed};
+ghost use Rattle.window_frame.specs.Followers.Flag.{Highlighting, Zooming};
 
 use def_iface::{Defined, Taken, WindowChange};
 use desk_call::{Standing, WindowCall};
 use window_mgr::WindowManager;
 
-/// Tells definitions how their windows stand, once a call on windows was done: whether they are highlighted, those of the window
-/// which was active before the call and of the one which is, and that it is not zoomed, that of a window which was moved. After
-/// a call that asks none is told. Takes no memory.
-pub fn follow(windows: &mut WindowManager, call: &WindowCall<'_>, former: Option<u64>)
+/// Tells definitions how their windows stand, once a call on windows was done: each that heard otherwise, and no other, is
+/// told whether its window is highlighted, and whether it is zoomed, and has the frame drawn where that shows. After a call
+/// that asks none is told anything. Takes no memory.
+pub fn follow(windows: &mut WindowManager, call: &WindowCall<'_>)
     requires { IsKept ⟦<Taken as Defined>⟧.loan windows.old }
-    ensures { LeavesState ⟦<Taken as Defined>⟧.loan (AreTold (followers call.now former windows.old.windows.active))
-        windows.old windows.new }
+    ensures { LeavesState ⟦<Taken as Defined>⟧.loan (IsCaughtUpBy (window_standing call.now)) windows.old windows.new }
 {
     match call.standing() {
         Standing::Asks => {}
-        _ => {
-            let active = windows.parts().windows.active();
-            tell_again(windows, former);
-            tell_again(windows, active);
-            tell_zoom(windows, moved_by(call));
-        }
+        _ => inform_all(windows),
     }
 }
 
-/// Tells the definition of this window, if there is one, whether the window is highlighted.
-fn tell_again(windows: &mut WindowManager, window: Option<u64>)
+/// Tells the definition of each window, from front to back.
+fn inform_all(windows: &mut WindowManager)
     requires { IsKept ⟦<Taken as Defined>⟧.loan windows.old }
-    ensures { LeavesState ⟦<Taken as Defined>⟧.loan (AreTold (listed window)) windows.old windows.new }
+    ensures { LeavesState ⟦<Taken as Defined>⟧.loan IsCaughtUp windows.old windows.new }
 {
-    let Some(window) = window else {
-        return;
-    };
-    let Some(at) = windows.find(window) else {
-        return;
-    };
-    let highlighted = windows.parts().windows.at(at).highlighted;
-    windows.tell_frame(at, WindowChange::Highlighted(highlighted));
-}
-
-/// The window that a call moves, if it moves one.
-fn moved_by(call: &WindowCall<'_>) -> Option<u64>
-    ensures { result ≡ moved_by call.now }
-{
-    match call {
-        WindowCall::Move(moved) => Some(moved.window),
-        _ => None,
+    let count = windows.parts().windows.len();
+    for at in 0..count {
+        tell_highlighting(windows, at);
+        tell_zooming(windows, at);
     }
 }
 
-/// Tells the definition of this window, if there is one, whether the window is zoomed.
-fn tell_zoom(windows: &mut WindowManager, window: Option<u64>)
-    requires { IsKept ⟦<Taken as Defined>⟧.loan windows.old }
-    ensures { LeavesState ⟦<Taken as Defined>⟧.loan (AreTold (listed window)) windows.old windows.new }
+/// Tells the definition of the window at this place whether the window is highlighted, where it heard otherwise.
+fn tell_highlighting(windows: &mut WindowManager, at: usize)
+    requires kept { IsKept ⟦<Taken as Defined>⟧.loan windows.old }
+    requires at { at < length windows.old.windows.records.items }
+    ensures { (w : _) → IsWindowAt windows.old.windows.records.items at w
+        → LeavesState ⟦<Taken as Defined>⟧.loan (IsInformed Highlighting w.serial) windows.old windows.new }
 {
-    let Some(window) = window else {
-        return;
-    };
-    let Some(at) = windows.find(window) else {
-        return;
-    };
-    let is_zoomed = windows.parts().windows.at(at).user_state.is_some();
-    windows.tell_frame(at, WindowChange::Zoomed(is_zoomed));
+    let window = windows.parts().windows.at(at);
+    let highlighted = window.highlighted;
+    if window.heard.highlighted != highlighted {
+        windows.tell_frame(at, WindowChange::Highlighted(highlighted));
+    }
+}
+
+/// Tells it whether the window is zoomed, where it heard otherwise.
+fn tell_zooming(windows: &mut WindowManager, at: usize)
+    requires kept { IsKept ⟦<Taken as Defined>⟧.loan windows.old }
+    requires at { at < length windows.old.windows.records.items }
+    ensures { (w : _) → IsWindowAt windows.old.windows.records.items at w
+        → LeavesState ⟦<Taken as Defined>⟧.loan (IsInformed Zooming w.serial) windows.old windows.new }
+{
+    let window = windows.parts().windows.at(at);
+    let is_zoomed = window.user_state.is_some();
+    if window.heard.zoomed != is_zoomed {
+        windows.tell_frame(at, WindowChange::Zoomed(is_zoomed));
+    }
 }

@@ -6,8 +6,7 @@ ghost use Rattle.window_mgr.specs.Kept.{IsKept};
 ghost use Rattle.window_mgr.specs.Records.{desk_of};
 ghost use Rattle.window_mgr.specs.Updating.{LeavesState};
 ghost use Rattle.window_update.specs.DeskStates.{IsWholeUpdates};
-ghost use Rattle.window_frame.specs.Followers.{IsTold};
-ghost use Rattle.window_frame.specs.FrameSteps.{IsFrameStepOverAnySlots, in_go_away, is_go_away};
+ghost use Rattle.window_frame.specs.FrameSteps.{IsFrameStepOverAnySlots, IsTrackingTold, in_go_away, is_go_away};
 
 use crate::{FrameReply, GoAwayPoint};
 use def_iface::{Defined, Taken, WindowChange};
@@ -107,7 +106,7 @@ fn is_go_away(part: WindowPart) -> bool
 /// Tells the definition of a window, if there is one, whether its go-away box is tracked with the mouse in it.
 fn tell_tracked(windows: &mut WindowManager, window: u64, inside: bool)
     requires { IsKept ⟦<Taken as Defined>⟧.loan windows.old }
-    ensures { LeavesState ⟦<Taken as Defined>⟧.loan (IsTold window) windows.old windows.new }
+    ensures { LeavesState ⟦<Taken as Defined>⟧.loan (IsTrackingTold inside window) windows.old windows.new }
 {
     if let Some(at) = windows.find(window) {
         windows.tell_frame(at, WindowChange::Tracked(inside));

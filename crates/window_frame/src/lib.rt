@@ -3,8 +3,8 @@
 //! A window's definition draws its frame, by what it was told. `make` makes the calls that are about a frame
 //! (`FrameCall`): a new title, another highlighting (*Inside Macintosh* I, "The Window Manager", SetWTitle and
 //! HiliteWindow), and the tracking of a go-away box (TrackGoAway), which is open between its begin and its end. After
-//! each other call that changed the windows, `follow` tells the definitions how their windows stand now: that of the window
-//! which was active, that of the one which is, and that of one which was moved.
+//! each other call that changed the windows, `follow` tells just those definitions how their windows stand that had heard
+//! otherwise.
 //!
 //! A definition is told one thing at a time, and answers which pixels of its picture change. What of the frame shows
 //! there is drawn anew. Nothing else changes (`IsFrameTold` of `window_mgr`): no region, no pixel of any content, no size.

@@ -1,5 +1,5 @@
 -- A window whose definition was told of a change.
-use Rattle.std.proofs.Common.{◌≡◌, ℕ, true, List, refl, ap, ◌∙◌, subst}
+use Rattle.std.proofs.Common.{◌≡◌, ℕ, Bool, true, List, refl, ap, ◌∙◌, subst}
 use Rattle.std.specs.Prelude.{slice_set}
 use Rattle.tb_geom.specs.declared.rect.Rect.{Rect}
 use Rattle.def_iface.specs.declared.size.Size.{Size}
@@ -7,7 +7,8 @@ use Rattle.def_iface.specs.declared.taken.Taken.{Taken}
 use Rattle.def_iface.specs.declared.window_def.Stage.TheVariants.{Live}
 use Rattle.def_iface.specs.declared.window_def.WindowChange.{WindowChange}
 use Rattle.def_iface.specs.declared.window_def.WindowChange.TheVariants.{Resized, Titled, Highlighted, Closable, Zoomed, Tracked}
-use Rattle.def_iface.specs.Meaning.{Loan, SameRegions, IsDamage, size_after}
+use Rattle.def_iface.specs.News.{told_change, told_placed}
+use Rattle.def_iface.specs.Meaning.{Definition, Loan, SameRegions, Hears, IsDamage, size_after}
 use Rattle.window_list.specs.declared.window.Window.{Window}
 use Rattle.window_list.specs.Changes.{keeps_size, with_change, IsToldAt}
 
@@ -19,6 +20,14 @@ same_size (Highlighted b) s e = refl
 same_size (Closable b) s e = refl
 same_size (Zoomed b) s e = refl
 same_size (Tracked b) s e = refl
+
+-- a definition was told a size, and then whether its window is zoomed
+pub heard_placed : (size : Size) (a b : Bool) → a ≡ b → {old middle new : Definition}
+    → Hears (told_change (Resized size)) old middle → Hears (told_change (Zoomed a)) middle new → Hears (told_placed size b) old new
+heard_placed size a b e {old} {middle} {new} one two = subst (λ (z : Bool). Hears (told_placed size z) old new) e (record {
+  picture = λ n font p. two.picture n font p ∙ one.picture (told_change (Zoomed a) n) font p;
+  hit = λ n p. two.hit n p ∙ one.hit (told_change (Zoomed a) n) p;
+})
 
 module _ {V : Type 0} {H : V → Type 0} where
   -- the definition stays the record's
@@ -37,10 +46,11 @@ module _ {V : Type 0} {H : V → Type 0} where
       → (loan taken).definition.stage ≡ Live
       → (loan taken).definition.size ≡ size_after change (loan kept.taken).definition.size
       → SameRegions (loan kept.taken).definition (loan taken).definition
+      → Hears (told_change change) (loan kept.taken).definition (loan taken).definition
       → (loan taken).slot ≡ (loan kept.taken).slot
       → IsDamage damage (loan kept.taken).definition (loan taken).definition
       → IsToldAt loan i change damage w old (slice_set old i (record kept { taken = taken }))
-  told_at loan i change damage w kept taken old keeps is live size regions slot damaged =
+  told_at loan i change damage w kept taken old keeps is live size regions heard slot damaged =
       let was : kept.taken ≡ w.taken = ap (λ (x : Window V H). x.taken) is ∙ same_taken change w in
       record {
         taken = taken;
@@ -48,6 +58,7 @@ module _ {V : Type 0} {H : V → Type 0} where
         live = live;
         size = size ∙ same_size change (loan kept.taken).definition.size keeps ∙ ap (λ x. (loan x).definition.size) was;
         regions = subst (λ x. SameRegions (loan x).definition (loan taken).definition) was regions;
+        heard = subst (λ x. Hears (told_change change) (loan x).definition (loan taken).definition) was heard;
         slot = slot ∙ ap (λ x. (loan x).slot) was;
         damaged = subst (λ x. IsDamage damage (loan x).definition (loan taken).definition) was damaged;
       }

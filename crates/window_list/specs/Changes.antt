@@ -4,8 +4,9 @@ use Rattle.tb_geom.specs.declared.rect.Rect.{Rect}
 use Rattle.def_iface.specs.declared.taken.Taken.{Taken}
 use Rattle.def_iface.specs.declared.window_def.Stage.TheVariants.{Live}
 use Rattle.def_iface.specs.declared.window_def.WindowChange.{WindowChange}
-use Rattle.def_iface.specs.declared.window_def.WindowChange.TheVariants.{Resized, Titled, Highlighted}
-use Rattle.def_iface.specs.Meaning.{Loan, SameRegions, IsDamage}
+use Rattle.def_iface.specs.declared.window_def.WindowChange.TheVariants.{Resized, Titled, Highlighted, Closable, Zoomed, Tracked}
+use Rattle.def_iface.specs.News.{told_change}
+use Rattle.def_iface.specs.Meaning.{Loan, SameRegions, Hears, IsDamage}
 use Rattle.window_list.specs.declared.window.Window.{Window}
 
 -- the change is none of the size
@@ -19,11 +20,15 @@ has_short_title (Titled t) = nat_lt (length t.now) 256
 has_short_title _ = true
 
 module _ {V : Type 0} {H : V → Type 0} where
-  -- the window's record after its definition was told so: it keeps the title and the highlighting
+  -- the window's record after its definition was told so: it keeps that, and the title, the highlighting and the go-away box
+  -- are the window's own too
   abbrev pub with_change : WindowChange → Window V H → Window V H
   with_change (Titled t) w = record w { title = record { items = t.now } }
-  with_change (Highlighted b) w = record w { highlighted = b }
-  with_change _ w = w
+  with_change (Highlighted b) w = record w { highlighted = b; heard = record w.heard { highlighted = b } }
+  with_change (Closable b) w = record w { go_away = b }
+  with_change (Zoomed b) w = record w { heard = record w.heard { zoomed = b } }
+  with_change (Tracked b) w = record w { heard = record w.heard { tracked = b } }
+  with_change (Resized s) w = w
 
   -- the definition of the i-th window, which is w, was told of the change and is live as before, and the record keeps what
   -- it keeps of that; outside the damage its pictures are as they were
@@ -33,5 +38,6 @@ module _ {V : Type 0} {H : V → Type 0} where
     pub live : (loan taken).definition.stage ≡ Live
     pub size : (loan taken).definition.size ≡ (loan w.taken).definition.size
     pub regions : SameRegions (loan w.taken).definition (loan taken).definition
+    pub heard : Hears (told_change change) (loan w.taken).definition (loan taken).definition
     pub slot : (loan taken).slot ≡ (loan w.taken).slot
     pub damaged : IsDamage damage (loan w.taken).definition (loan taken).definition

@@ -4,10 +4,12 @@ use Rattle.tb_geom.specs.declared.point.Point.{Point}
 use Rattle.draw_port.specs.declared.shapes.Op.{Op}
 use Rattle.def_iface.specs.declared.taken.Taken.{Taken}
 use Rattle.def_iface.specs.declared.window_def.Stage.TheVariants.{Live, Closed}
-use Rattle.def_iface.specs.Meaning.{Loan, SameRegions}
+use Rattle.def_iface.specs.Meaning.{Loan, SameRegions, Hears}
 use Rattle.window_list.specs.Ranks.{Ranked}
 use Rattle.window_list.specs.declared.window.Placement.{Placement}
 use Rattle.window_list.specs.declared.window.UserState.{UserState}
+use Rattle.std.specs.Option.{is_some}
+use Rattle.def_iface.specs.News.{told_placed}
 use Rattle.window_list.specs.declared.window.Window.{Window}
 
 -- the list with f of its i-th element in the place of that
@@ -65,6 +67,15 @@ module _ {V : Type 0} {H : V → Type 0} where
   abbrev pub with_operation : Op → Window V H → Window V H
   with_operation op w = record w { picture = w.picture ++ op ∷ [] }
 
+  -- the window with this place and size, and whether it is zoomed, which its definition was told
+  abbrev pub with_place_and_size : Placement → Window V H → Window V H
+  with_place_and_size to w = record w {
+    place = to.place;
+    size = to.size;
+    user_state = to.user_state;
+    heard = record w.heard { zoomed = is_some to.user_state };
+  }
+
   -- the definition of the i-th window, which is w, was disposed of
   pub record IsDisposedAt (loan : Taken V H → Loan) (i : ℕ) (w : Window V H) (old new : List (Window V H)) : Type 0 where
     pub taken : Taken V H
@@ -76,9 +87,10 @@ module _ {V : Type 0} {H : V → Type 0} where
   -- the i-th window, which is w, has this place and size, and its definition, which is live as before, was told the size
   pub record IsPlacedAt (loan : Taken V H → Loan) (i : ℕ) (to : Placement) (w : Window V H) (old new : List (Window V H)) : Type 0 where
     pub taken : Taken V H
-    pub items : new ≡ slice_set old i (record w { place = to.place; size = to.size; user_state = to.user_state; taken = taken })
+    pub items : new ≡ slice_set old i (record (with_place_and_size to w) { taken = taken })
     pub live : (loan taken).definition.stage ≡ Live
     pub told : (loan taken).definition.size ≡ to.size
+    pub heard : Hears (told_placed to.size (is_some to.user_state)) (loan w.taken).definition (loan taken).definition
     pub regions : SameRegions (loan w.taken).definition (loan taken).definition
     pub slot : (loan taken).slot ≡ (loan w.taken).slot
 

@@ -8,6 +8,9 @@
 //! the order is a list of their keys. A reader of its contracts sees neither: he sees the list of the values
 //! in their order, and how many fit without more memory. Only `reserve` takes memory.
 //!
+//! A window's definition is told by the list alone, and the record keeps what it was told last (`Heard`): that may be
+//! older than how the window stands, until the definition is told again.
+//!
 //! `WindowList` has the windows so, and with them the number of the active window and the number of the
 //! next. What makes a window active and what that does to the highlighting of two windows is said here once,
 //! and so is the order of the numbers. Each call that changes one window says which, by its place from the
@@ -24,4 +27,4 @@ mod window;
 pub use list::WindowList;
 pub use places::{local, picture_place};
 pub use ranks::Ranks;
-pub use window::{Placement, Title, UserState, Window};
+pub use window::{Heard, Placement, Title, UserState, Window};

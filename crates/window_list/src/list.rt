@@ -182,6 +182,7 @@ impl WindowList {
         window.place = placement.place;
         window.size = placement.size;
         window.user_state = placement.user_state;
+        window.heard.zoomed = is_zoomed;
     }
 
     /// Gives the window at this place another picture, whose 0 0 is to lie there in the window.
@@ -232,8 +233,7 @@ impl WindowList {
         self.active = active;
     }
 
-    /// Tells the definition of the window at this place of a change, whose title or highlighting the record keeps as
-    /// well. The answer is the damage, local to the window: in every font the definition's pictures before and after
+    /// Tells the definition of the window at this place of a change, which the record keeps. The answer is the damage, local to the window: in every font the definition's pictures before and after
     /// are equal outside it. A change of the size is `set_placement`'s, and a title has at most 255 bytes.
     pub fn tell(&mut self, at: usize, change: WindowChange<'_>) -> Rect
         requires within { at < length self.old.records.items }

@@ -31,6 +31,15 @@ pub struct Placement {
     pub user_state: Option<UserState>,
 }
 
+/// What a window's definition heard last of how the window stands, beside its size, its title and its go-away box.
+#[derive(Clone, Copy)]
+pub struct Heard {
+    pub highlighted: bool,
+    pub zoomed: bool,
+    /// Whether its go-away box is tracked, with the point inside.
+    pub tracked: bool,
+}
+
 /// A window's record. Whoever has it may read it; what lies in a list is changed by the list alone.
 #[derive(Drop)]
 pub struct Window {
@@ -44,6 +53,8 @@ pub struct Window {
     pub highlighted: bool,
     pub go_away: bool,
     pub title: Title,
+    /// What its definition, told by the list alone, goes by.
+    pub heard: Heard,
     pub picture: Picture,
     /// Where the picture's own 0 0 lies in the window.
     pub origin: Point,
@@ -70,15 +81,21 @@ impl Window {
         }
     }
 
-    /// Keeps the title or the highlighting that the window's definition is told.
+    /// Keeps what the window's definition is told, the title, the highlighting and the go-away box as the window's own too.
     pub(crate) fn keep(&mut self, change: WindowChange<'_>)
         requires { has_short_title change ≡ true }
         ensures { self.new ≡ with_change change.entry self.old }
     {
         match change {
             WindowChange::Titled(title) => self.title = title_of(title),
-            WindowChange::Highlighted(highlighted) => self.highlighted = highlighted,
-            _ => {}
+            WindowChange::Highlighted(highlighted) => {
+                self.highlighted = highlighted;
+                self.heard.highlighted = highlighted;
+            }
+            WindowChange::Closable(go_away) => self.go_away = go_away,
+            WindowChange::Zoomed(zoomed) => self.heard.zoomed = zoomed,
+            WindowChange::Tracked(tracked) => self.heard.tracked = tracked,
+            WindowChange::Resized(_) => {}
         }
     }
 }

@@ -7,6 +7,7 @@ use Rattle.tb_geom.specs.Points.{minus}
 use Rattle.tb_geom.specs.Pixels.{Pixels, holds}
 use Rattle.bit_map.specs.Bits.{Bits, on_map, bit}
 use Rattle.bit_map.specs.Patterns.{pattern_bit}
+use Rattle.def_iface.specs.News.{no_news}
 use Rattle.def_iface.specs.Desk as layers
 use Rattle.def_iface.specs.Desk.{LayeredDesk}
 use Rattle.def_iface.specs.Desk.Part.{Picture}
@@ -36,7 +37,7 @@ module _ (font : List ℕ) (t : Touch) (before : plain.State) (after : LayeredDe
   -- a part whose window has not the pixel changes nothing
   part_elsewhere : (w : WindowRecord) (part : Part) (value : Bool) → IsPart t before after w.serial part → is_other w.serial (owner after p) ≡ true → painted_part font w.definition w.place part p value ≡ value
   part_elsewhere w part value its other =
-      (λ i. if (its.redraw p ∙ ap (λ b. (layers.on_screen after p && b) && (draws_whole t w.serial || not (layers.on_screen before.desk p && same_owner (owner before.desk p) (Frame w.serial)))) (not_same_frame w.serial (owner after p) other)) i then w.definition.picture font (minus p w.place)
+      (λ i. if (its.redraw p ∙ ap (λ b. (layers.on_screen after p && b) && (draws_whole t w.serial || not (layers.on_screen before.desk p && same_owner (owner before.desk p) (Frame w.serial)))) (not_same_frame w.serial (owner after p) other)) i then w.definition.picture no_news font (minus p w.place)
       else (if (its.erase p ∙ ap (λ b. (layers.on_screen after p && b) && not (plain.had (change_of t) before.desk (owner after p) p)) (not_content w.serial (owner after p) other)) i then false else value))
       ∙ nowhere (layers.on_screen after p) _ _ _
     where
@@ -236,7 +237,7 @@ module _ (t : Touch) (before : FullState) (after : FullDesk) (desktop : Pixels) 
     frame_is_bit s e =
         painted
         ∙ one.tells
-        ∙ (λ i. if redraw i then one.window.definition.picture after.font (minus p one.window.place) else (if erase i then false else under))
+        ∙ (λ i. if redraw i then one.window.definition.picture no_news after.font (minus p one.window.place) else (if erase i then false else under))
         ∙ table (draws_whole t s) (same_owner (owner was p) (Frame s)) refl refl
         ∙ shown
       where
@@ -252,10 +253,10 @@ module _ (t : Touch) (before : FullState) (after : FullDesk) (desktop : Pixels) 
         erase : holds one.part.erase p ≡ false
         erase = one.its.erase p ∙ (λ i. (on_now i && is_content_of s (e i)) && not (plain.had (change_of t) was (e i) p))
 
-        shown : one.window.definition.picture after.font (minus p one.window.place) ≡ own_bit is (Frame s) p
+        shown : one.window.definition.picture no_news after.font (minus p one.window.place) ≡ own_bit is (Frame s) p
         shown = ap (λ (v : layers.LayeredWindow). v.frame (layers.local v p)) one.is ∙ ap (λ v. frame_bit v p) (sym there.1)
 
-        table : (w b : Bool) → draws_whole t s ≡ w → same_owner (owner was p) (Frame s) ≡ b → (if w || not b then one.window.definition.picture after.font (minus p one.window.place) else (if false then false else under)) ≡ one.window.definition.picture after.font (minus p one.window.place)
+        table : (w b : Bool) → draws_whole t s ≡ w → same_owner (owner was p) (Frame s) ≡ b → (if w || not b then one.window.definition.picture no_news after.font (minus p one.window.place) else (if false then false else under)) ≡ one.window.definition.picture no_news after.font (minus p one.window.place)
         table true b ew eb = refl
         table false true ew eb = under_plain (Frame s) e refl refl ∙ plain_was (Frame s) (same_owner-true (owner was p) (Frame s) eb) refl ∙ R.frames s p ew ∙ sym shown
         table false false ew eb = refl
@@ -265,7 +266,7 @@ module _ (t : Touch) (before : FullState) (after : FullDesk) (desktop : Pixels) 
     content_is_bit s e =
         painted
         ∙ one.tells
-        ∙ (λ i. if redraw i then one.window.definition.picture after.font (minus p one.window.place) else (if erase i then false else under))
+        ∙ (λ i. if redraw i then one.window.definition.picture no_news after.font (minus p one.window.place) else (if erase i then false else under))
         ∙ by_had (plain.had (change_of t) was (Content s Picture) p) refl
       where
         there : (v : layers.LayeredWindow) × (layers.window_of s is.windows ≡ Some v)
@@ -294,7 +295,7 @@ module _ (t : Touch) (before : FullState) (after : FullDesk) (desktop : Pixels) 
             by_way None c m = refl
             by_way (Some by) c m = by_test by (s == t.window) c m
 
-        by_had : (b : Bool) → plain.had (change_of t) was (Content s Picture) p ≡ b → (if false then one.window.definition.picture after.font (minus p one.window.place) else (if not b then false else under)) ≡ (if not b then false else before.image (moved_from t.window t.by (Content s Picture) p))
+        by_had : (b : Bool) → plain.had (change_of t) was (Content s Picture) p ≡ b → (if false then one.window.definition.picture no_news after.font (minus p one.window.place) else (if not b then false else under)) ≡ (if not b then false else before.image (moved_from t.window t.by (Content s Picture) p))
         by_had true f = ap (λ b. if b then pattern_bit gray p else moved_bit plan.copied t.by old p) uncovered ∙ from_source f ∙ sym (R.image (moved_from t.window t.by (Content s Picture) p))
         by_had false f = refl
 

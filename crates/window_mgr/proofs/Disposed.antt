@@ -19,9 +19,9 @@ use Rattle.window_mgr.specs.Arrange.{activated, activation_of, desk_activated, d
 use Rattle.window_mgr.specs.Closing.{IsShut, loan_of}
 use Rattle.window_mgr.specs.Effects.{IsWindowDisposed}
 use Rattle.window_mgr.specs.Finding.{front_of}
-use Rattle.window_mgr.specs.FullDesk.{FullDesk, FullState, IsRightState, AreNumbered, layered_desk, layered_state}
+use Rattle.window_mgr.specs.FullDesk.{FullDesk, FullState, IsRightState, AreNumbered, layered_desk, layered_state, IsGiven}
 use Rattle.window_mgr.specs.Whole.{IsSoundDesk, IsSettled, IsStocked}
-use Rattle.window_mgr.proofs.PutIn.{put_in, put_permutes, put_last, IsFree, found_put, distinct_out, below_out, All-out, is_put, IsTakenOut, out_of}
+use Rattle.window_mgr.proofs.PutIn.{put_in, put_permutes, put_last, IsFree, found_put, distinct_out, serials_out, All-out, is_put, IsTakenOut, out_of}
 use Rattle.window_mgr.proofs.Rearranged.{layers_lit, length_lit, numbered_lit, settled_all, stocked_lit, stocked_put}
 use Rattle.window_mgr.proofs.SlotLemmas.{map-set}
 use Rattle.window_mgr.proofs.ClosingLemmas.{shut_facts, stocked_front}
@@ -37,11 +37,8 @@ module _ (before : FullDesk) (s i : ℕ) (w : WindowRecord) (rest : List WindowR
   left = record (desk_activated rest a before) { stock = slots }
 
   pub numbered_left : AreNumbered before.next before.windows → AreNumbered left.next left.windows
-  numbered_left numbered = numbered_lit before.active before.next a rest (by_next before.next (subst (AreNumbered before.next) O.windows numbered))
-    where
-      by_next : (next : Option ℕ) → AreNumbered next (put_in i w rest) → AreNumbered next rest
-      by_next None h = tt
-      by_next (Some n) h = (below_out n i w rest h).1
+  numbered_left numbered = numbered_lit before.active before.next a rest
+      (let all = subst (AreNumbered before.next) O.windows numbered in (all.0, (serials_out (IsGiven before.next) i w rest all.1).1))
 
   pub settled_left : All IsSettled before.windows → All IsSettled left.windows
   settled_left all = settled_all before.active a rest (All-tail IsSettled w rest (All-out IsSettled i w rest (subst (All IsSettled) O.windows all)))

@@ -5,7 +5,7 @@ use Rattle.std.proofs.lemmas.List.Elements.{All-map, All-weaker}
 use Rattle.std.proofs.lemmas.List.Kept.{AllPairs-cons}
 use Rattle.def_iface.specs.Stocked.{SlotView, is_left}
 use Rattle.vis_update.specs.Records.{WindowRecord}
-use Rattle.window_mgr.specs.FullDesk.{AreBelow, AreNumbered}
+use Rattle.window_mgr.specs.FullDesk.{IsGiven, HaveSerials, AreNumbered}
 use Rattle.window_mgr.specs.Whole.{IsSettled, IsStocked}
 
 -- ---- pairs of a list
@@ -39,10 +39,9 @@ module _ (f : WindowRecord → WindowRecord) where
     ];
   }
 
-  pub below_map : ((w : WindowRecord) → (f w).serial ≡ w.serial) → (next : ℕ) (ws : List WindowRecord) → AreBelow next ws → AreBelow next (map f ws)
-  below_map same next [] h = tt
-  below_map same next (w ∷ ws) h = (subst (λ n. n < next) (sym (same w)) h.0, below_map same next ws h.1)
+  pub serials_map : ((w : WindowRecord) → (f w).serial ≡ w.serial) → (P : ℕ → Type 0) (ws : List WindowRecord) → HaveSerials P ws → HaveSerials P (map f ws)
+  serials_map same P [] h = tt
+  serials_map same P (w ∷ ws) h = (subst P (sym (same w)) h.0, serials_map same P ws h.1)
 
   pub numbered_map : ((w : WindowRecord) → (f w).serial ≡ w.serial) → (next : Option ℕ) (ws : List WindowRecord) → AreNumbered next ws → AreNumbered next (map f ws)
-  numbered_map same None ws h = tt
-  numbered_map same (Some next) ws h = below_map same next ws h
+  numbered_map same next ws h = (h.0, serials_map same (IsGiven next) ws h.1)

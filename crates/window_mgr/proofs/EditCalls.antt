@@ -6,14 +6,14 @@ use Rattle.std.proofs.lemmas.List.Elements.{All-head, All-tail}
 use Rattle.tb_geom.specs.declared.point.Point.{Point}
 use Rattle.tb_geom.specs.Rects.{rect_holds}
 use Rattle.def_iface.specs.declared.taken.Taken.{Taken}
-use Rattle.def_iface.specs.Meaning.{Loan, IsWithin}
+use Rattle.def_iface.specs.Meaning.{Loan, IsWithin, GoesBy}
 use Rattle.def_iface.specs.Stocked.{SlotView}
 use Rattle.def_iface.specs.Owner.{frame_bit}
 use Rattle.window_list.specs.declared.window.Window.{Window}
 use Rattle.window_list.specs.Lists.{relit, lit as lit_window, dimmed}
 use Rattle.vis_update.specs.declared.plan.Plan.{Plan}
 use Rattle.vis_update.specs.declared.plan.Touch.{Touch}
-use Rattle.vis_update.specs.Records.{WindowRecord, record_of}
+use Rattle.vis_update.specs.Records.{WindowRecord, news_of, record_of}
 use Rattle.vis_update.specs.Seats.{stand_of}
 use Rattle.vis_update.specs.Touches.{is_this, moving}
 use Rattle.def_iface.specs.Change.{IsChanged}
@@ -99,6 +99,7 @@ module _ {V : Type 0} {H : V → Type 0} (loan : Taken V H → Loan) where
           fits = its.fits;
           inside = its.moved;
           within = subst (λ s. IsWithin ((loan w.taken).definition.content s) (rect_holds ((loan w.taken).definition.bounds s))) (sym size_is) was.within;
+          goes_by = subst (λ s. GoesBy (record (news_of (record_of loan w)) { size = s }) (loan w.taken).definition) (sym size_is) was.goes_by;
         }
 
     pub settled_after : IsPlaceable loan e t.windows.records.items → e.size ≡ w.size → All IsSettled (desk_of loan t slots).windows

@@ -120,7 +120,7 @@ module _ {V : Type 0} {H : V → Type 0} (loan : Taken V H → Loan) (width heig
   sound = record {
     screen = B.screen;
     distinct = tt;
-    numbered = tt;
+    numbered = (omega arith, tt);
     few = omega arith;
     settled = All-nil _;
     stocked = record {

@@ -13,6 +13,7 @@ use Rattle.std.proofs.lemmas.List.Quantifiers.{position-Some}
 use Rattle.tb_geom.specs.declared.point.Point.{Point}
 use Rattle.tb_geom.specs.Points.{PixelSet, minus}
 use Rattle.tb_geom.specs.Pixels.{holds}
+use Rattle.def_iface.specs.News.{no_news}
 use Rattle.def_iface.specs.declared.taken.Taken.{Taken}
 use Rattle.def_iface.specs.Meaning.{Loan}
 use Rattle.def_iface.specs.Desk as layers
@@ -157,7 +158,7 @@ module _ {V : Type 0} {H : V → Type 0} (loan : Taken V H → Loan) (t : Window
 
   -- the window whose area has the point is what is found
   pub found_window_is : (i : ℕ) (x : Window V H) → layers.on_screen desk p ≡ true → position (area_has p) t.areas.items ≡ Some i → x ≡ get_or t.windows.records.items i x
-      → found_at (desk_of loan t []) p ≡ record { part = part_of_hit ((loan x.taken).definition.hit (minus p x.place)); window = Some x.serial }
+      → found_at (desk_of loan t []) p ≡ record { part = part_of_hit ((loan x.taken).definition.hit no_news (minus p x.place)); window = Some x.serial }
   found_window_is i x on e read = by_areas t.areas.items A.whole.areas e
     where
       low : i < length t.windows.records.items
@@ -166,7 +167,7 @@ module _ {V : Type 0} {H : V → Type 0} (loan : Taken V H → Loan) (t : Window
       there : slice_get windows i ≡ Some (record_of loan x)
       there = slice_get-map (record_of loan) t.windows.records.items i ∙ ap (option_map (record_of loan)) (slice_get-get_or t.windows.records.items i x low ∙ ap Some (sym read))
 
-      by_areas : (areas : List Area) → AreAreas desk (stale_in t.areas.items) windows areas → position (area_has p) areas ≡ Some i → found_at (desk_of loan t []) p ≡ record { part = part_of_hit ((loan x.taken).definition.hit (minus p x.place)); window = Some x.serial }
+      by_areas : (areas : List Area) → AreAreas desk (stale_in t.areas.items) windows areas → position (area_has p) areas ≡ Some i → found_at (desk_of loan t []) p ≡ record { part = part_of_hit ((loan x.taken).definition.hit no_news (minus p x.place)); window = Some x.serial }
       by_areas [] its e = absurd (cc)
       by_areas (a ∷ areas) its e =
           let first = position-Some (area_has p) (a ∷ areas) i a e in

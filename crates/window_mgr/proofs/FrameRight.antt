@@ -3,6 +3,8 @@ use Rattle.std.proofs.Common.{◌≡◌, ℕ, ◌==◌, Bool, true, false, if◌
 use Rattle.tb_geom.specs.declared.point.Point.{Point}
 use Rattle.tb_geom.specs.Points.{minus}
 use Rattle.draw_port.specs.Ops.{picture_bit}
+use Rattle.def_iface.specs.News.{News}
+use Rattle.def_iface.specs.Meaning.{Hears}
 use Rattle.def_iface.specs.declared.window_def.WindowChange.{WindowChange}
 use Rattle.def_iface.specs.Desk as layers
 use Rattle.def_iface.specs.Desk.Part.{Picture}
@@ -40,7 +42,7 @@ told_keeps_layers change = record {
 
 -- ---- a right state stays right
 
-module _ (s : ℕ) (kept : WindowRecord → WindowRecord) (before after : FullState) (keeps : KeepsLayers kept) (right : IsRightState before) (done : IsFrameTold s kept before after) where
+module _ (s : ℕ) (news : WindowRecord → News → News) (kept : WindowRecord → WindowRecord) (before after : FullState) (keeps : KeepsLayers kept) (right : IsRightState before) (done : IsFrameTold s news kept before after) where
   abbrev w : WindowRecord
   w = done.window
 
@@ -76,8 +78,8 @@ module _ (s : ℕ) (kept : WindowRecord → WindowRecord) (before after : FullSt
     numbered = subst (λ (x : FullDesk). AreNumbered x.next x.windows) (sym desk_is) (numbered_now before.desk w.serial out.place out.place w v out.rest edit Stays right.numbered);
   }
 
-pub frame_told_stays_right : (s : ℕ) (kept : WindowRecord → WindowRecord) (before after : FullState) → KeepsLayers kept → IsRightState before → IsFrameTold s kept before after → IsRightState after
-frame_told_stays_right s kept before after keeps right done = told_right s kept before after keeps right done
+pub frame_told_stays_right : (s : ℕ) (news : WindowRecord → News → News) (kept : WindowRecord → WindowRecord) (before after : FullState) → KeepsLayers kept → IsRightState before → IsFrameTold s news kept before after → IsRightState after
+frame_told_stays_right s news kept before after keeps right done = told_right s news kept before after keeps right done
 
 -- ---- what the record keeps
 
@@ -94,7 +96,7 @@ changed_alike s f g w (y ∷ ys) found same = by_test (λ e. changed_alike s f g
     by_test behind false e = ap (λ xs. y ∷ xs) (behind e)
 
 -- so what its record keeps is told by that record alone
-pub told_alike : (s : ℕ) (f g : WindowRecord → WindowRecord) (w : WindowRecord) (before after : FullState) → record_with s before.desk.windows ≡ Some w → f w ≡ g w → IsFrameTold s f before after → IsFrameTold s g before after
+pub told_alike : (s : ℕ) {news : WindowRecord → News → News} (f g : WindowRecord → WindowRecord) (w : WindowRecord) (before after : FullState) → record_with s before.desk.windows ≡ Some w → f w ≡ g w → IsFrameTold s news f before after → IsFrameTold s news g before after
 told_alike s f g w before after found same done = record {
   window = done.window;
   definition = done.definition;
@@ -105,3 +107,21 @@ told_alike s f g w before after found same done = record {
       (changed_alike s (λ x. record (f x) { definition = done.definition }) (λ x. record (g x) { definition = done.definition }) w before.desk.windows found (ap (λ (x : WindowRecord). record x { definition = done.definition }) same));
   pixels = done.pixels;
 }
+
+-- what its definition is told is told by the record alone
+pub told_of : (s : ℕ) (f : News → News) (g : WindowRecord → News → News) (kept : WindowRecord → WindowRecord) (w : WindowRecord) (before after : FullState) → record_with s before.desk.windows ≡ Some w → f ≡ g w → IsFrameTold s (λ _. f) kept before after → IsFrameTold s g kept before after
+told_of s f g kept w before after found same done =
+    let its : w ≡ done.window = cc in
+    record {
+      window = done.window;
+      definition = done.definition;
+      found = done.found;
+      told = record {
+        live = done.told.live;
+        told = done.told.told;
+        regions = done.told.regions;
+        heard = subst (λ (h : News → News). Hears h done.window.definition done.definition) (same ∙ ap g its) done.told.heard;
+      };
+      desk = done.desk;
+      pixels = done.pixels;
+    }

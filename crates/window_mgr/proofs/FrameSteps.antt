@@ -1,17 +1,20 @@
 -- A desk of which one window's definition was told something that leaves where the window stands.
-use Rattle.std.proofs.Common.{◌≡◌, ℕ, zero, suc, ◌==◌, Bool, false, if◌then◌else◌, List, [], ◌∷◌, map, Some, refl, sym, ap, ◌∙◌}
+use Rattle.std.proofs.Common.{◌≡◌, ℕ, zero, suc, ◌==◌, Bool, true, false, if◌then◌else◌, List, [], ◌∷◌, map, Some, refl, sym, ap, ◌∙◌}
 use Rattle.tb_geom.specs.declared.point.Point.{Point}
 use Rattle.tb_geom.specs.Points.{minus}
 use Rattle.draw_port.specs.Ops.{picture_bit}
+use Rattle.def_iface.specs.News.{no_news, told_change}
 use Rattle.def_iface.specs.declared.window_def.WindowChange.{WindowChange}
 use Rattle.def_iface.specs.declared.window_def.WindowChange.TheVariants.{Resized, Titled, Highlighted, Closable, Zoomed, Tracked}
-use Rattle.def_iface.specs.Meaning.{Definition, SameRegions}
+use Rattle.def_iface.specs.Meaning.{Definition, SameRegions, Hears, GoesBy}
 use Rattle.def_iface.specs.Desk as layers
 use Rattle.def_iface.specs.Desk.Part.{Picture}
 use Rattle.def_iface.specs.Owner.{owner, owner_among, owner_within, own_bit, frame_bit}
 use Rattle.def_iface.specs.Owner.Owner.{Bar, Frame}
+use Rattle.def_iface.proofs.Hearing.{goes_by_news}
 use Rattle.def_iface.proofs.Owning.{same_number}
-use Rattle.vis_update.specs.Records.{WindowRecord, layered_window}
+use Rattle.window_list.specs.Changes.{keeps_size}
+use Rattle.vis_update.specs.Records.{WindowRecord, layered_window, news_of}
 use Rattle.window_mgr.specs.declared.arrange.Activation.TheVariants.{Stays}
 use Rattle.window_mgr.specs.FrameTelling.{told_record}
 use Rattle.window_mgr.specs.FullDesk.{FullDesk, layered_desk}
@@ -21,9 +24,19 @@ use Rattle.window_mgr.proofs.Rearranged.{IsEdit, free, free_now, others_found}
 
 -- ---- the record of the window
 
--- nothing of a record becomes another but its title and its highlighting
+-- the record with the title, the highlighting, the go-away box and the news of that one, and with this definition
+abbrev pub noted : WindowRecord → Definition → WindowRecord → WindowRecord
+noted said d w = record w {
+  title = said.title;
+  highlighted = said.highlighted;
+  go_away = said.go_away;
+  heard = said.heard;
+  definition = d;
+}
+
+-- nothing of a record becomes another but its title, its highlighting, its go-away box and what its definition heard
 abbrev pub KeepsStand : (WindowRecord → WindowRecord) → Type 0
-KeepsStand kept = (w : WindowRecord) → kept w ≡ record w { title = (kept w).title; highlighted = (kept w).highlighted }
+KeepsStand kept = (w : WindowRecord) → kept w ≡ noted (kept w) w.definition w
 
 pub told_keeps : (change : WindowChange) → KeepsStand (told_record change)
 told_keeps (Resized s) w = refl
@@ -33,34 +46,40 @@ told_keeps (Closable b) w = refl
 told_keeps (Zoomed b) w = refl
 told_keeps (Tracked b) w = refl
 
--- the record with this title, this highlighting and this definition
-abbrev pub noted : List ℕ → Bool → Definition → WindowRecord → WindowRecord
-noted title highlighted d w = record w { title = title; highlighted = highlighted; definition = d }
+-- its definition, told of the change, goes by the record as that is now
+pub told_goes_by : (change : WindowChange) (w : WindowRecord) (d : Definition) → keeps_size change ≡ true
+    → GoesBy (news_of w) w.definition → Hears (told_change change) w.definition d → GoesBy (news_of (noted (told_record change w) d w)) d
+told_goes_by (Resized s) w d keeps goes heard = absurd (cc)
+told_goes_by (Titled t) w d keeps goes heard = goes_by_news (told_change (Titled t)) (news_of w) (news_of (noted (told_record (Titled t) w) d w)) w.definition d (λ n. refl) (λ n. refl) goes heard
+told_goes_by (Highlighted b) w d keeps goes heard = goes_by_news (told_change (Highlighted b)) (news_of w) (news_of (noted (told_record (Highlighted b) w) d w)) w.definition d (λ n. refl) (λ n. refl) goes heard
+told_goes_by (Closable b) w d keeps goes heard = goes_by_news (told_change (Closable b)) (news_of w) (news_of (noted (told_record (Closable b) w) d w)) w.definition d (λ n. refl) (λ n. refl) goes heard
+told_goes_by (Zoomed b) w d keeps goes heard = goes_by_news (told_change (Zoomed b)) (news_of w) (news_of (noted (told_record (Zoomed b) w) d w)) w.definition d (λ n. refl) (λ n. refl) goes heard
+told_goes_by (Tracked b) w d keeps goes heard = goes_by_news (told_change (Tracked b)) (news_of w) (news_of (noted (told_record (Tracked b) w) d w)) w.definition d (λ n. refl) (λ n. refl) goes heard
 
 -- ---- whose the pixels are
 
-module _ (font : List ℕ) (w : WindowRecord) (title : List ℕ) (highlighted : Bool) (d : Definition) (regions : SameRegions w.definition d) where
+module _ (font : List ℕ) (w : WindowRecord) (said : WindowRecord) (d : Definition) (regions : SameRegions w.definition d) where
   -- as layers the window has another frame alone
-  same_layers : layered_window font (noted title highlighted d w) ≡ record (layered_window font w) { frame = d.picture font }
+  same_layers : layered_window font (noted said d w) ≡ record (layered_window font w) { frame = d.picture no_news font }
   same_layers = λ k. record {
     serial = w.serial;
     place = w.place;
     shown = w.shown;
     structure = regions.structure k w.size;
-    frame = d.picture font;
+    frame = d.picture no_news font;
     layers = record { part = Picture; extent = regions.content k w.size; picture = λ p. picture_bit font w.picture (minus p w.origin) } ∷ [];
   }
 
-  among_same : (i : ℕ) (rest : List WindowRecord) (p : Point) → owner_among (map (layered_window font) (put_in i (noted title highlighted d w) rest)) p ≡ owner_among (map (layered_window font) (put_in i w rest)) p
+  among_same : (i : ℕ) (rest : List WindowRecord) (p : Point) → owner_among (map (layered_window font) (put_in i (noted said d w) rest)) p ≡ owner_among (map (layered_window font) (put_in i w rest)) p
   among_same zero rest p = ap (λ l. owner_among (l ∷ map (layered_window font) rest) p) same_layers
   among_same (suc i) [] p = ap (λ l. owner_among (l ∷ []) p) same_layers
   among_same (suc i) (y ∷ ys) p = ap (λ o. if layers.in_structure (layered_window font y) p then owner_within (layered_window font y) (layered_window font y).layers p else o) (among_same i ys p)
 
 -- ---- the desk
 
-module _ (before : FullDesk) (distinct : layers.IsDesk (layered_desk before)) (i : ℕ) (w : WindowRecord) (rest : List WindowRecord) (windows : before.windows ≡ put_in i w rest) (title : List ℕ) (highlighted : Bool) (d : Definition) (regions : SameRegions w.definition d) where
+module _ (before : FullDesk) (distinct : layers.IsDesk (layered_desk before)) (i : ℕ) (w : WindowRecord) (rest : List WindowRecord) (windows : before.windows ≡ put_in i w rest) (said : WindowRecord) (d : Definition) (regions : SameRegions w.definition d) where
   abbrev v : WindowRecord
-  v = noted title highlighted d w
+  v = noted said d w
 
   pub noted_edit : IsEdit before w.serial i i w v rest
   noted_edit = record { windows = windows; serial = refl; same_serial = refl }
@@ -73,14 +92,14 @@ module _ (before : FullDesk) (distinct : layers.IsDesk (layered_desk before)) (i
   pub owner_same : (p : Point) → owner (layered_desk desk_noted) p ≡ owner (layered_desk before) p
   owner_same p =
       ap (λ o. if layers.in_bar (layered_desk before) p then Bar else o)
-      (among_same before.font w title highlighted d regions i rest p ∙ ap (λ ws. owner_among (map (layered_window before.font) ws) p) (sym windows))
+      (among_same before.font w said d regions i rest p ∙ ap (λ ws. owner_among (map (layered_window before.font) ws) p) (sym windows))
 
   -- what the window's frame shows, and what it showed
-  pub frame_now : (p : Point) → own_bit (layered_desk desk_noted) (Frame w.serial) p ≡ d.picture before.font (minus p w.place)
+  pub frame_now : (p : Point) → own_bit (layered_desk desk_noted) (Frame w.serial) p ≡ d.picture no_news before.font (minus p w.place)
   frame_now p =
       ap (λ o. frame_bit o p) (found_put before.font w.serial i v rest (free_now before w.serial i i w v rest noted_edit Stays distinct) ∙ ap (λ b. if b then Some (layered_window before.font v) else layers.window_of w.serial (map (layered_window before.font) rest)) (same_number w.serial))
 
-  pub frame_was : (p : Point) → own_bit (layered_desk before) (Frame w.serial) p ≡ w.definition.picture before.font (minus p w.place)
+  pub frame_was : (p : Point) → own_bit (layered_desk before) (Frame w.serial) p ≡ w.definition.picture no_news before.font (minus p w.place)
   frame_was p =
       ap (λ o. frame_bit o p)
       (ap (λ ws. layers.window_of w.serial (map (layered_window before.font) ws)) windows ∙ found_put before.font w.serial i w rest (free before w.serial i i w v rest noted_edit Stays distinct) ∙ ap (λ b. if b then Some (layered_window before.font w) else layers.window_of w.serial (map (layered_window before.font) rest)) (same_number w.serial))

@@ -11,6 +11,7 @@ use Rattle.tb_geom.specs.Pixels.{holds}
 use Rattle.tb_geom.specs.Rects.{in_plane, is_in_range, moved_rect, rect_holds}
 use Rattle.bit_map.specs.Bits.{Bits, on_map, bit}
 use Rattle.bit_blit.specs.Draws.{Draws}
+use Rattle.def_iface.specs.News.{no_news, told_change}
 use Rattle.def_iface.specs.declared.size.Size.{Size}
 use Rattle.def_iface.specs.declared.taken.Taken.{Taken}
 use Rattle.def_iface.specs.declared.window_def.WindowChange.{WindowChange}
@@ -32,7 +33,7 @@ use Rattle.vis_update.specs.Areas.{IsArea, AreAreas, IsGray, IsDesktop, is_conte
 use Rattle.vis_update.specs.Records.{WindowRecord, layered_window, record_of}
 use Rattle.window_list.specs.declared.window.Window.{Window}
 use Rattle.window_list.specs.declared.list.WindowList.{WindowList}
-use Rattle.window_list.specs.Changes.{with_change, IsToldAt}
+use Rattle.window_list.specs.Changes.{keeps_size, with_change, IsToldAt}
 use Rattle.window_mgr.specs.declared.arrange.Activation.TheVariants.{Stays}
 use Rattle.window_mgr.specs.declared.manager.WindowManager.{WindowManager}
 use Rattle.window_mgr.specs.Arrange.{changed}
@@ -43,7 +44,7 @@ use Rattle.window_mgr.specs.Records.{desk_of, state_of}
 use Rattle.window_mgr.specs.Whole.{IsWholeManager, IsSoundDesk, IsSettled}
 use Rattle.window_mgr.proofs.Arranged.{between-is_below}
 use Rattle.window_mgr.proofs.FindLemmas.{not_among, record_at}
-use Rattle.window_mgr.proofs.FrameSteps.{noted, told_keeps, noted_edit, desk_noted, owner_same, frame_now, frame_was, others_same}
+use Rattle.window_mgr.proofs.FrameSteps.{noted, told_keeps, told_goes_by, noted_edit, desk_noted, owner_same, frame_now, frame_was, others_same}
 use Rattle.window_mgr.proofs.PaintLemmas.{settled_in}
 use Rattle.window_mgr.proofs.PutIn.{put_in, taken_out, map-put, is_put}
 use Rattle.window_mgr.proofs.Rearranged.{free, sound_now}
@@ -97,10 +98,10 @@ module _ {V : Type 0} {H : V → Type 0} (loan : Taken V H → Loan) where
       → record_of loan (record (with_change change x) { taken = taken }) ≡ record (told_record change (record_of loan x)) { definition = (loan taken).definition }
   record_told (Resized s) x taken slot = λ k. record (record_of loan x) { definition = (loan taken).definition; slot = slot k }
   record_told (Titled t) x taken slot = λ k. record (record_of loan x) { title = t.now; definition = (loan taken).definition; slot = slot k }
-  record_told (Highlighted b) x taken slot = λ k. record (record_of loan x) { highlighted = b; definition = (loan taken).definition; slot = slot k }
-  record_told (Closable b) x taken slot = λ k. record (record_of loan x) { definition = (loan taken).definition; slot = slot k }
-  record_told (Zoomed b) x taken slot = λ k. record (record_of loan x) { definition = (loan taken).definition; slot = slot k }
-  record_told (Tracked b) x taken slot = λ k. record (record_of loan x) { definition = (loan taken).definition; slot = slot k }
+  record_told (Highlighted b) x taken slot = λ k. record (record_of loan x) { highlighted = b; heard = record x.heard { highlighted = b }; definition = (loan taken).definition; slot = slot k }
+  record_told (Closable b) x taken slot = λ k. record (record_of loan x) { go_away = b; definition = (loan taken).definition; slot = slot k }
+  record_told (Zoomed b) x taken slot = λ k. record (record_of loan x) { heard = record x.heard { zoomed = b }; definition = (loan taken).definition; slot = slot k }
+  record_told (Tracked b) x taken slot = λ k. record (record_of loan x) { heard = record x.heard { tracked = b }; definition = (loan taken).definition; slot = slot k }
 
   -- the list is as long as it was
   pub still_low : {at : ℕ} {change : WindowChange} {damage : Rect} {x : Window V H} {old new : List (Window V H)} → at < length old → IsToldAt loan at change damage x old new → at < length new
@@ -108,7 +109,7 @@ module _ {V : Type 0} {H : V → Type 0} (loan : Taken V H → Loan) where
       let long : length new ≡ length old = ap length T.items ∙ length-set old at (record (with_change change x) { taken = T.taken }) in
       omega arith
 
-  module _ (t : WindowManager V H) (slots : List SlotView) (whole : IsWholeManager loan t slots) (at : ℕ) (low : at < length t.windows.records.items) (x : Window V H) (there : IsWindowAt t.windows.records.items at x) (change : WindowChange) (damage : Rect) (list : WindowList V H) (T : IsToldAt loan at change damage x t.windows.records.items list.records.items) where
+  module _ (t : WindowManager V H) (slots : List SlotView) (whole : IsWholeManager loan t slots) (at : ℕ) (low : at < length t.windows.records.items) (x : Window V H) (there : IsWindowAt t.windows.records.items at x) (change : WindowChange) (keeps : keeps_size change ≡ true) (damage : Rect) (list : WindowList V H) (T : IsToldAt loan at change damage x t.windows.records.items list.records.items) where
     abbrev before : FullDesk
     before = desk_of loan t slots
 
@@ -122,7 +123,7 @@ module _ {V : Type 0} {H : V → Type 0} (loan : Taken V H → Loan) where
     d = (loan T.taken).definition
 
     abbrev v : WindowRecord
-    v = noted (told_record change w).title (told_record change w).highlighted d w
+    v = noted (told_record change w) d w
 
     abbrev rest : List WindowRecord
     rest = map (record_of loan) (remove t.windows.records.items at)
@@ -152,6 +153,7 @@ module _ {V : Type 0} {H : V → Type 0} (loan : Taken V H → Loan) where
           fits = (λ k. is_size x.size && is_in_range (T.regions.bounds k x.size)) ∙ its.fits;
           inside = (λ k. is_in_range (moved_rect (T.regions.bounds k x.size) x.place.h x.place.v)) ∙ its.inside;
           within = subst (λ (y : (Size → PixelSet) × (Size → Rect)). IsWithin (y.0 x.size) (rect_holds (y.1 x.size))) (λ k. (sym T.regions.content k, sym T.regions.bounds k)) its.within;
+          goes_by = told_goes_by change w d keeps its.goes_by T.heard;
         }
 
     -- ---- the window that is drawn
@@ -180,42 +182,42 @@ module _ {V : Type 0} {H : V → Type 0} (loan : Taken V H → Loan) where
 
       -- ---- the screen
 
-      module _ (screen : Bits) (drawn : Draws (λ p. holds a.frame p && rect_holds damage (minus p x.place)) (λ p _. d.picture t.font (minus p x.place)) t.screen screen)
+      module _ (screen : Bits) (drawn : Draws (λ p. holds a.frame p && rect_holds damage (minus p x.place)) (λ p _. d.picture no_news t.font (minus p x.place)) t.screen screen)
           (near : (p : Point) → holds a.frame p ≡ true → in_plane (minus p x.place) ≡ true) (p : Point) (on : layers.on_screen was p ≡ true) where
         abbrev now : LayeredDesk
-        now = layered_desk (desk_noted before whole.sound.distinct at w rest windows_were (told_record change w).title (told_record change w).highlighted d T.regions)
+        now = layered_desk (desk_noted before whole.sound.distinct at w rest windows_were (told_record change w) d T.regions)
 
         on_map_is : layers.on_screen was p ≡ on_map t.screen p
         unfolding on_map
         on_map_is = λ i. between-is_below t.screen.width p.h i && between-is_below t.screen.height p.v i
 
-        bit_is : bit screen p ≡ (if same_owner (owner was p) (Frame x.serial) && rect_holds damage (minus p x.place) then d.picture t.font (minus p x.place) else bit t.screen p)
+        bit_is : bit screen p ≡ (if same_owner (owner was p) (Frame x.serial) && rect_holds damage (minus p x.place) then d.picture no_news t.font (minus p x.place) else bit t.screen p)
         bit_is =
             drawn.pixels p (sym on_map_is ∙ on)
-            ∙ ap (λ b. if b && rect_holds damage (minus p x.place) then d.picture t.font (minus p x.place) else bit t.screen p)
+            ∙ ap (λ b. if b && rect_holds damage (minus p x.place) then d.picture no_news t.font (minus p x.place) else bit t.screen p)
             (area_is.frame p ∙ ap (λ b. b && same_owner (owner was p) (Frame x.serial)) on)
 
         -- a pixel that is none of the frame is as it was
         still : same_owner (owner was p) (Frame x.serial) ≡ false → bit screen p ≡ bit t.screen p
-        still e = bit_is ∙ ap (λ b. if b && rect_holds damage (minus p x.place) then d.picture t.font (minus p x.place) else bit t.screen p) e
+        still e = bit_is ∙ ap (λ b. if b && rect_holds damage (minus p x.place) then d.picture no_news t.font (minus p x.place) else bit t.screen p) e
 
         -- one of the frame is as the frame is now: it was drawn, or it is no other than it was
         framed : owner was p ≡ Frame x.serial → bit screen p ≡ own_bit now (Frame x.serial) p
         framed e =
             bit_is
-            ∙ ap (λ b. if b && rect_holds damage (minus p x.place) then d.picture t.font (minus p x.place) else bit t.screen p) its
+            ∙ ap (λ b. if b && rect_holds damage (minus p x.place) then d.picture no_news t.font (minus p x.place) else bit t.screen p) its
             ∙ by_damage (rect_holds damage (minus p x.place)) refl
-            ∙ sym (frame_now before whole.sound.distinct at w rest windows_were (told_record change w).title (told_record change w).highlighted d T.regions p)
+            ∙ sym (frame_now before whole.sound.distinct at w rest windows_were (told_record change w) d T.regions p)
           where
             its : same_owner (owner was p) (Frame x.serial) ≡ true
             its = ap (λ o. same_owner o (Frame x.serial)) e ∙ same_number x.serial
 
-            by_damage : (b : Bool) → rect_holds damage (minus p x.place) ≡ b → (if b then d.picture t.font (minus p x.place) else bit t.screen p) ≡ d.picture t.font (minus p x.place)
+            by_damage : (b : Bool) → rect_holds damage (minus p x.place) ≡ b → (if b then d.picture no_news t.font (minus p x.place) else bit t.screen p) ≡ d.picture no_news t.font (minus p x.place)
             by_damage true f = refl
             by_damage false f =
                 whole.frames p on (ap is_content e)
                 ∙ ap (λ o. own_bit was o p) e
-                ∙ frame_was before whole.sound.distinct at w rest windows_were (told_record change w).title (told_record change w).highlighted d T.regions p
+                ∙ frame_was before whole.sound.distinct at w rest windows_were (told_record change w) d T.regions p
                 ∙ sym (T.damaged t.font (minus p x.place) (near p (area_is.frame p ∙ (λ i. on i && its i))) f)
 
         shown : (o : Owner) → owner was p ≡ o → is_content o ≡ false → bit screen p ≡ own_bit now o p
@@ -231,11 +233,11 @@ module _ {V : Type 0} {H : V → Type 0} (loan : Taken V H → Loan) where
                 still (ap (λ o. same_owner o (Frame x.serial)) e ∙ away)
                 ∙ whole.frames p on (ap is_content e)
                 ∙ ap (λ o. own_bit was o p) e
-                ∙ others_same before whole.sound.distinct at w rest windows_were (told_record change w).title (told_record change w).highlighted d T.regions n p away
+                ∙ others_same before whole.sound.distinct at w rest windows_were (told_record change w) d T.regions n p away
         shown (Content n part) e c = absurd (cc)
 
         same : owner now p ≡ owner was p
-        same = owner_same before whole.sound.distinct at w rest windows_were (told_record change w).title (told_record change w).highlighted d T.regions p
+        same = owner_same before whole.sound.distinct at w rest windows_were (told_record change w) d T.regions p
 
         frame_shown : is_content (owner now p) ≡ false → bit screen p ≡ own_bit now (owner now p) p
         frame_shown c = shown (owner was p) refl (ap is_content (sym same) ∙ c) ∙ ap (λ o. own_bit now o p) (sym same)
@@ -271,10 +273,10 @@ module _ {V : Type 0} {H : V → Type 0} (loan : Taken V H → Loan) where
       abbrev pub with_frame : Bits → WindowManager V H
       with_frame screen = record t { screen = screen; windows = list }
 
-      module _ (screen : Bits) (drawn : Draws (λ p. holds a.frame p && rect_holds damage (minus p x.place)) (λ p _. d.picture t.font (minus p x.place)) t.screen screen)
+      module _ (screen : Bits) (drawn : Draws (λ p. holds a.frame p && rect_holds damage (minus p x.place)) (λ p _. d.picture no_news t.font (minus p x.place)) t.screen screen)
           (near : (p : Point) → holds a.frame p ≡ true → in_plane (minus p x.place) ≡ true) (others : list ≡ record t.windows { records = list.records }) where
         abbrev after : FullDesk
-        after = desk_noted before whole.sound.distinct at w rest windows_were (told_record change w).title (told_record change w).highlighted d T.regions
+        after = desk_noted before whole.sound.distinct at w rest windows_were (told_record change w) d T.regions
 
         desk_is : desk_of loan (with_frame screen) slots ≡ after
         desk_is = λ i. record {
@@ -290,10 +292,10 @@ module _ {V : Type 0} {H : V → Type 0} (loan : Taken V H → Loan) where
 
         sound_after : IsSoundDesk after
         sound_after =
-            sound_now before x.serial at at w v rest (noted_edit before whole.sound.distinct at w rest windows_were (told_record change w).title (told_record change w).highlighted d T.regions) Stays whole.sound refl now_settled
+            sound_now before x.serial at at w v rest (noted_edit before whole.sound.distinct at w rest windows_were (told_record change w) d T.regions) Stays whole.sound refl now_settled
 
         same_owners : (p : Point) → owner (layered_desk after) p ≡ owner was p
-        same_owners p = owner_same before whole.sound.distinct at w rest windows_were (told_record change w).title (told_record change w).highlighted d T.regions p
+        same_owners p = owner_same before whole.sound.distinct at w rest windows_were (told_record change w) d T.regions p
 
         area_same : (n m : ℕ) (b : Area) → n ≡ m → IsArea was (stale_in t.areas.items) n b → IsArea (layered_desk after) (stale_in t.areas.items) m b
         area_same n m b same its = record {
@@ -332,18 +334,18 @@ module _ {V : Type 0} {H : V → Type 0} (loan : Taken V H → Loan) where
         changed_so : changed x.serial (λ y. record (told_record change y) { definition = d }) before.windows ≡ after.windows
         changed_so =
             ap (changed x.serial (λ y. record (told_record change y) { definition = d })) windows_were
-            ∙ (is_put t.font x.serial at w rest refl (free before x.serial at at w v rest (noted_edit before whole.sound.distinct at w rest windows_were (told_record change w).title (told_record change w).highlighted d T.regions) Stays whole.sound.distinct)).changed_is (λ y. record (told_record change y) { definition = d })
+            ∙ (is_put t.font x.serial at w rest refl (free before x.serial at at w v rest (noted_edit before whole.sound.distinct at w rest windows_were (told_record change w) d T.regions) Stays whole.sound.distinct)).changed_is (λ y. record (told_record change y) { definition = d })
             ∙ ap (λ y. put_in at y rest) told_is
 
         -- it is whole again, the definition was told, and the frame drawn
-        pub frame_told : IsWholeManager loan (with_frame screen) slots × IsFrameTold x.serial (told_record change) (state_of loan t slots) (state_of loan (with_frame screen) slots)
+        pub frame_told : IsWholeManager loan (with_frame screen) slots × IsFrameTold x.serial (λ _. told_change change) (told_record change) (state_of loan t slots) (state_of loan (with_frame screen) slots)
         frame_told = (
           is_whole,
           record {
             window = w;
             definition = d;
             found = record_at t.font before.windows at w whole.sound.distinct (remarked.record_there loan t slots whole at low x there a read);
-            told = record { live = T.live; told = T.size ∙ was_settled.told; regions = T.regions };
+            told = record { live = T.live; told = T.size ∙ was_settled.told; regions = T.regions; heard = T.heard };
             desk = desk_is ∙ ap (λ ws. record before { windows = ws }) (sym changed_so);
             pixels = record {
               stale = subst (λ (k : LayeredDesk). (p : Point) → layers.on_screen k p ≡ true → stale_in t.areas.items p ≡ plain.stale_by plain.no_change (layered_state (state_of loan t slots)) (owner k p) p) (sym (ap layered_desk desk_is))
@@ -367,11 +369,11 @@ module _ {V : Type 0} {H : V → Type 0} (loan : Taken V H → Loan) where
           ∙ (λ k. T.regions.structure k x.size (minus p x.place))
           ∙ frame_within a read p e
 
-      pub frame_told_by : (screen : Bits) → Draws (λ p. holds a.frame p && rect_holds damage (minus p z.place)) (λ p _. (loan z.taken).definition.picture t.font (minus p z.place)) t.screen screen
+      pub frame_told_by : (screen : Bits) → Draws (λ p. holds a.frame p && rect_holds damage (minus p z.place)) (λ p _. (loan z.taken).definition.picture no_news t.font (minus p z.place)) t.screen screen
           → ((p : Point) → holds a.frame p ≡ true → in_plane (minus p z.place) ≡ true) → list ≡ record t.windows { records = list.records }
-          → IsWholeManager loan (record t { screen = screen; windows = list }) slots × IsFrameTold x.serial (told_record change) (state_of loan t slots) (state_of loan (record t { screen = screen; windows = list }) slots)
+          → IsWholeManager loan (record t { screen = screen; windows = list }) slots × IsFrameTold x.serial (λ _. told_change change) (told_record change) (state_of loan t slots) (state_of loan (record t { screen = screen; windows = list }) slots)
       frame_told_by screen drawn near others =
           frame_told a read screen
-          (subst (λ (y : WindowRecord). Draws (λ p. holds a.frame p && rect_holds damage (minus p y.place)) (λ p _. y.definition.picture t.font (minus p y.place)) t.screen screen) as_drawn drawn)
+          (subst (λ (y : WindowRecord). Draws (λ p. holds a.frame p && rect_holds damage (minus p y.place)) (λ p _. y.definition.picture no_news t.font (minus p y.place)) t.screen screen) as_drawn drawn)
           (subst (λ (y : WindowRecord). (p : Point) → holds a.frame p ≡ true → in_plane (minus p y.place) ≡ true) as_drawn near)
           others

@@ -14,12 +14,14 @@ use Rattle.bit_map.specs.Bits.{Bits}
 use Rattle.def_iface.specs.declared.taken.Taken.{Taken}
 use Rattle.def_iface.specs.declared.size.Size.{Size}
 use Rattle.def_iface.specs.Sizes.{is_size}
+use Rattle.def_iface.specs.News.{AllNews, new_window_news}
 use Rattle.def_iface.specs.Meaning.{Definition, Loan, IsBegun, IsWithin, is_fitting}
 use Rattle.def_iface.specs.Stocked.{SlotView, IsTaken, IsPutBack}
 use Rattle.def_iface.specs.Desk as layers
 use Rattle.def_iface.specs.Owner.{own_bit}
 use Rattle.def_iface.specs.Owner.Owner.{Frame}
 use Rattle.def_iface.proofs.Owning.{own_bit-behind}
+use Rattle.def_iface.proofs.Hearing.{goes_by_all}
 use Rattle.def_iface.specs.Change as plain
 use Rattle.desk_call.specs.declared.window.NewWindow.{NewWindow}
 use Rattle.desk_call.specs.declared.window.WindowCall.TheVariants.{New}
@@ -29,13 +31,13 @@ use Rattle.vis_update.specs.declared.plan.Plan.{Plan}
 use Rattle.vis_update.specs.declared.plan.Touch.{Touch}
 use Rattle.window_list.specs.declared.window.Window.{Window}
 use Rattle.vis_update.specs.Records.{WindowRecord, layered_window}
-use Rattle.window_mgr.specs.FullDesk.{FullDesk, AreBelow, AreNumbered, layered_desk, layered_state}
+use Rattle.window_mgr.specs.FullDesk.{FullDesk, AreNumbered, layered_desk, layered_state}
 use Rattle.vis_update.specs.Records.{record_of}
 use Rattle.window_mgr.specs.Records.{desk_of, state_of}
 use Rattle.window_mgr.specs.Refused.{first_refusal, judged_refusals, is_full, longest_text, most_windows}
 use Rattle.vis_update.specs.Places.{is_placed}
 use Rattle.window_mgr.specs.Step.{IsWindowStep}
-use Rattle.window_mgr.specs.Effects.{IsNewWindow, new_record, desk_with}
+use Rattle.window_mgr.specs.Effects.{IsNewWindow, first_news, new_record, desk_with}
 use Rattle.window_mgr.specs.Arrange.{with_highlighting}
 use Rattle.window_mgr.specs.Planned.{IsPlanWith, IsAdded, IsUnplanned, SameDesk, new_touch}
 use Rattle.window_list.specs.Lists.{dimmed}
@@ -96,12 +98,17 @@ length_behind active true ws = length-map ws (with_highlighting false active)
 length_behind active false ws = refl
 
 -- the content still lies in the box once the definition has begun
-begun_within : (size : Size) (d begun : Definition) → IsBegun size d begun → IsWithin (d.content size) (rect_holds (d.bounds size)) → IsWithin (begun.content size) (rect_holds (begun.bounds size))
-begun_within size d begun live within =
+begun_within : (size : Size) {all : AllNews} (d begun : Definition) → IsBegun all d begun → IsWithin (d.content size) (rect_holds (d.bounds size)) → IsWithin (begun.content size) (rect_holds (begun.bounds size))
+begun_within size {all} d begun live within =
     subst (λ (x : (Size → PixelSet) × (Size → Rect)). IsWithin (x.0 size) (rect_holds (x.1 size))) (λ i. (sym live.regions.content i, sym live.regions.bounds i)) within
 
+-- a definition that was told an equal title
+pub begun_as : {size : Size} {t u : List ℕ} {go_away highlighted : Bool} {d begun : Definition} → t ≡ u
+    → IsBegun (new_window_news size t go_away highlighted) d begun → IsBegun (new_window_news size u go_away highlighted) d begun
+begun_as {size} {t} {u} {go_away} {highlighted} {d} {begun} e live = subst (λ x. IsBegun (new_window_news size x go_away highlighted) d begun) e live
+
 -- the record of a new window is settled
-pub settled_new : (w : NewWindow) (n slot : ℕ) (d begun : Definition) → IsBegun w.size d begun → is_placed (Some d) w.place w.size ≡ true → IsWithin (d.content w.size) (rect_holds (d.bounds w.size)) → IsSettled (new_record w n slot begun)
+pub settled_new : (w : NewWindow) (n slot : ℕ) (d begun : Definition) → IsBegun (first_news w) d begun → is_placed (Some d) w.place w.size ≡ true → IsWithin (d.content w.size) (rect_holds (d.bounds w.size)) → IsSettled (new_record w n slot begun)
 settled_new w n slot d begun live placed within =
     let its = placed_parts d w.place w.size placed in
     record {
@@ -112,10 +119,11 @@ settled_new w n slot d begun live placed within =
       fits = ap (λ (b : Size → Rect). is_size w.size && is_in_range (b w.size)) live.regions.bounds ∙ its.fits;
       inside = ap (λ (b : Size → Rect). is_in_range (moved_rect (b w.size) w.place.h w.place.v)) live.regions.bounds ∙ its.moved;
       within = begun_within w.size d begun live within;
+      goes_by = goes_by_all (first_news w) d begun live.heard;
     }
 
 -- so are all windows, with a new one in front
-pub settled_added : {V : Type 0} {H : V → Type 0} (loan : Taken V H → Loan) (w : NewWindow) (n slot : ℕ) (d begun : Definition) (added : Window V H) (active : Option ℕ) (ws items : List (Window V H)) → record_of loan added ≡ new_record w n slot begun → items ≡ added ∷ (if w.shown then map (dimmed active) ws else ws) → IsBegun w.size d begun → is_placed (Some d) w.place w.size ≡ true → IsWithin (d.content w.size) (rect_holds (d.bounds w.size)) → All IsSettled (map (record_of loan) ws) → All IsSettled (map (record_of loan) items)
+pub settled_added : {V : Type 0} {H : V → Type 0} (loan : Taken V H → Loan) (w : NewWindow) (n slot : ℕ) (d begun : Definition) (added : Window V H) (active : Option ℕ) (ws items : List (Window V H)) → record_of loan added ≡ new_record w n slot begun → items ≡ added ∷ (if w.shown then map (dimmed active) ws else ws) → IsBegun (first_news w) d begun → is_placed (Some d) w.place w.size ≡ true → IsWithin (d.content w.size) (rect_holds (d.bounds w.size)) → All IsSettled (map (record_of loan) ws) → All IsSettled (map (record_of loan) items)
 settled_added loan w n slot d begun added active ws items seen items_are live placed within settled =
     subst (All IsSettled) (λ i. sym (ap (map (record_of loan)) items_are ∙ (λ j. seen j ∷ records_behind loan active w.shown ws j)) i)
     (All-cons IsSettled _ _ (settled_new w n slot d begun live placed within) (settled_behind active w.shown (map (record_of loan) ws) settled))
@@ -144,11 +152,11 @@ module _ {V : Type 0} {H : V → Type 0} (loan : Taken V H → Loan) where
     next_is : t.windows.next ≡ Some n
     next_is = sym N.same.next ∙ N.number
 
-    below : AreBelow n before.windows
+    below : AreNumbered (Some n) before.windows
     below = subst (λ (k : Option ℕ). AreNumbered k before.windows) next_is N.whole.sound.numbered
 
     free : layers.window_of n (layered_desk before).windows ≡ None
-    free = next_is_free t.font n before.windows below
+    free = next_is_free t.font n before.windows below.1
 
     -- as layers, the desk after is the desk before with one more window
     layers_are : layered_desk after ≡ record (layered_desk before) { windows = layered_window t.font (new_record w n taken.slot N.added.begun) ∷ (layered_desk before).windows }
@@ -200,6 +208,7 @@ module _ {V : Type 0} {H : V → Type 0} (loan : Taken V H → Loan) where
       fits = ap (λ (b : Size → Rect). is_size w.size && is_in_range (b w.size)) N.added.live.regions.bounds ∙ unrefused_fits w _ _ _ N.unrefused_is;
       inside = ap (λ (b : Size → Rect). is_in_range (moved_rect (b w.size) w.place.h w.place.v)) N.added.live.regions.bounds ∙ unrefused_inside w _ _ _ N.unrefused_is;
       within = begun_within w.size taken.definition N.added.begun N.added.live N.within;
+      goes_by = goes_by_all (first_news w) taken.definition N.added.begun N.added.live.heard;
     }
 
     few_after : length after.windows ≤ most_windows

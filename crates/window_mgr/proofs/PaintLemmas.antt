@@ -18,6 +18,7 @@ use Rattle.bit_map.specs.Patterns.{pattern_bit, bit_of, eighth_of}
 use Rattle.bit_blit.specs.Draws.{Draws}
 use Rattle.bit_blit.proofs.DrawsLemmas.{Draws-on_map}
 use Rattle.draw_port.specs.Cuts.{cut_holds}
+use Rattle.def_iface.specs.News.{no_news}
 use Rattle.def_iface.specs.declared.taken.Taken.{Taken}
 use Rattle.def_iface.specs.Meaning.{Definition, Loan}
 use Rattle.vis_update.specs.declared.plan.Part.{Part}
@@ -65,7 +66,7 @@ pub IsPainted-by : (part : Part) (frame : Bor Pixels) (place : Point) (d : Defin
     → frame.now ≡ part.redraw
     → ((p : Point) → holds part.redraw p ≡ true → rect_holds clip p ≡ true)
     → Draws (holds part.erase) (λ p d. mode_bit Copy (pattern_bit white (minus p (record { h = pos 0; v = pos 0 }))) d) old mid
-    → Draws (λ p. rect_holds clip p && cut_holds (record { inside = Some frame ∷ None ∷ None ∷ []; outside = None }) p) (λ p _. d.picture font (minus p place)) mid new
+    → Draws (λ p. rect_holds clip p && cut_holds (record { inside = Some frame ∷ None ∷ None ∷ []; outside = None }) p) (λ p _. d.picture no_news font (minus p place)) mid new
     → IsPainted part place d font old end
 IsPainted-by part frame place d font clip old mid new end is_end is_frame within filled drawn = rw is_end (record {
   pixels = λ p on.
@@ -73,8 +74,8 @@ IsPainted-by part frame place d font clip old mid new end is_end is_frame within
       let held : (rect_holds clip p && cut_holds (record { inside = Some frame ∷ None ∷ None ∷ []; outside = None }) p) ≡ holds part.redraw p =
       ap (λ b. rect_holds clip p && b) (cut_holds-one frame p ∙ ap (λ s. holds s p) is_frame) ∙ clipped (rect_holds clip p) (holds part.redraw p) (within p) in
       drawn.pixels p there
-      ∙ (λ i. if held i then d.picture font (minus p place) else bit mid p)
-      ∙ ap (λ b. if holds part.redraw p then d.picture font (minus p place) else b) (filled.pixels p on ∙ ap (λ w. if holds part.erase p then w else bit old p) (pattern_bit-white (minus p (record { h = pos 0; v = pos 0 }))));
+      ∙ (λ i. if held i then d.picture no_news font (minus p place) else bit mid p)
+      ∙ ap (λ b. if holds part.redraw p then d.picture no_news font (minus p place) else b) (filled.pixels p on ∙ ap (λ w. if holds part.erase p then w else bit old p) (pattern_bit-white (minus p (record { h = pos 0; v = pos 0 }))));
   width = drawn.width ∙ filled.width;
   height = drawn.height ∙ filled.height;
 })

@@ -1,6 +1,7 @@
 -- What the calls that put a window elsewhere or give it another size leave, and their steps.
 use Rattle.std.proofs.Common.{◌≡◌, inr, ℕ, zero, suc, ◌<◌, ◌==◌, ◌||◌, ◌&&◌, not, Bool, true, false, if◌then◌else◌, List, [], ◌∷◌, length, get_or, map, Option, None, Some, Result, Ok, Err, pos, refl, sym, ap, ◌∙◌, subst, arith}
 use Rattle.std.specs.Prelude.{All, slice_set, slice_get, is_none}
+use Rattle.std.specs.Option.{is_some}
 use Rattle.std.specs.List.{remove}
 use Rattle.std.proofs.lemmas.List.{length-set}
 use Rattle.std.proofs.lemmas.List.Elements.{All-head, All-tail}
@@ -15,16 +16,18 @@ use Rattle.def_iface.specs.declared.size.Size.{Size}
 use Rattle.def_iface.specs.declared.taken.Taken.{Taken}
 use Rattle.def_iface.specs.Sizes.{is_size}
 use Rattle.def_iface.specs.Meaning.{Loan, IsWithin}
+use Rattle.def_iface.specs.News.{told_placed}
+use Rattle.def_iface.proofs.Hearing.{goes_by_news}
 use Rattle.def_iface.specs.Stocked.{SlotView}
 use Rattle.def_iface.specs.Owner.{frame_bit}
 use Rattle.def_iface.specs.Change.{IsChanged}
 use Rattle.window_list.specs.declared.window.Placement.{Placement}
 use Rattle.window_list.specs.declared.window.UserState.{UserState}
 use Rattle.window_list.specs.declared.window.Window.{Window}
-use Rattle.window_list.specs.Lists.{IsPlacedAt}
+use Rattle.window_list.specs.Lists.{IsPlacedAt, with_place_and_size}
 use Rattle.vis_update.specs.declared.plan.Plan.{Plan}
 use Rattle.vis_update.specs.declared.plan.Touch.{Touch}
-use Rattle.vis_update.specs.Records.{WindowRecord, record_of}
+use Rattle.vis_update.specs.Records.{WindowRecord, news_of, record_of}
 use Rattle.vis_update.specs.Places.{is_placed}
 use Rattle.vis_update.specs.Seats.{stand_of}
 use Rattle.vis_update.specs.Touches.{is_this, moving}
@@ -85,7 +88,7 @@ module _ {V : Type 0} {H : V → Type 0} (loan : Taken V H → Loan) where
 
     -- the window in the list
     abbrev laid_window : Window V H
-    laid_window = record w { place = to.place; size = to.size; user_state = to.user_state; taken = R.taken }
+    laid_window = record (with_place_and_size to w) { taken = R.taken }
 
     records_were : map (record_of loan) old ≡ put_in i (record_of loan w) rest
     records_were = ap (map (record_of loan)) (taken_out old i w low w_is) ∙ map-put (record_of loan) i w (remove old i)
@@ -124,6 +127,8 @@ module _ {V : Type 0} {H : V → Type 0} (loan : Taken V H → Loan) where
           fits = (λ k. is_size to.size && is_in_range (R.regions.bounds k to.size)) ∙ its.fits;
           inside = (λ k. is_in_range (moved_rect (R.regions.bounds k to.size) to.place.h to.place.v)) ∙ its.moved;
           within = subst (λ (x : (Size → PixelSet) × (Size → Rect)). IsWithin (x.0 to.size) (rect_holds (x.1 to.size))) (λ k. (sym R.regions.content k, sym R.regions.bounds k)) may.1;
+          goes_by = goes_by_news (told_placed to.size (is_some to.user_state)) (news_of (record_of loan w)) (news_of laid) (loan w.taken).definition (loan R.taken).definition
+              (λ n. refl) (λ n. refl) was.goes_by R.heard;
         }
 
     pub all_settled : MayHave loan to w → All IsSettled (map (record_of loan) old) → All IsSettled (map (record_of loan) new)
@@ -220,7 +225,7 @@ module _ {V : Type 0} {H : V → Type 0} (loan : Taken V H → Loan) where
       window = record_of loan w;
       definition = (loan R.taken).definition;
       found = steps.found loan t new slots N.whole i w.serial w N.low w_is refl;
-      told = record { live = R.live; told = R.told; regions = R.regions };
+      told = record { live = R.live; told = R.told; regions = R.regions; heard = R.heard };
       arranged = record {
         desk = placement_left.0 ∙ ap (λ ws. desk_activated ws Stays (desk_of loan t slots)) placed_so;
         pixels = placement_left.1;

@@ -10,7 +10,7 @@ use Rattle.std.proofs.lemmas.List.Kept.{AllPairs-cons}
 use Rattle.def_iface.specs.Desk as layers
 use Rattle.def_iface.proofs.Owning.{same_number, not_first}
 use Rattle.vis_update.specs.Records.{WindowRecord, layered_window}
-use Rattle.window_mgr.specs.FullDesk.{AreBelow}
+use Rattle.window_mgr.specs.FullDesk.{HaveSerials}
 use Rattle.window_mgr.specs.Finding.{record_with}
 use Rattle.window_mgr.specs.Arrange.{without, changed}
 use Rattle.window_mgr.proofs.EachChanged.{pairs_first, pairs_rest}
@@ -82,15 +82,15 @@ Contains-put f i j x y xs k same c =
 
 -- ---- windows
 
-pub below_put : (n : ℕ) (i : ℕ) (w : WindowRecord) (rest : List WindowRecord) → w.serial < n → AreBelow n rest → AreBelow n (put_in i w rest)
-below_put n zero w rest low below = (low, below)
-below_put n (suc i) w [] low below = (low, tt)
-below_put n (suc i) w (y ∷ ys) low below = (below.0, below_put n i w ys low below.1)
+pub serials_put : (P : ℕ → Type 0) (i : ℕ) (w : WindowRecord) (rest : List WindowRecord) → P w.serial → HaveSerials P rest → HaveSerials P (put_in i w rest)
+serials_put P zero w rest its others = (its, others)
+serials_put P (suc i) w [] its others = (its, tt)
+serials_put P (suc i) w (y ∷ ys) its others = (others.0, serials_put P i w ys its others.1)
 
-pub below_out : (n : ℕ) (i : ℕ) (w : WindowRecord) (rest : List WindowRecord) → AreBelow n (put_in i w rest) → (w.serial < n) × AreBelow n rest
-below_out n zero w rest below = (below.0, below.1)
-below_out n (suc i) w [] below = (below.0, tt)
-below_out n (suc i) w (y ∷ ys) below = let behind = below_out n i w ys below.1 in (behind.0, (below.0, behind.1))
+pub serials_out : (P : ℕ → Type 0) (i : ℕ) (w : WindowRecord) (rest : List WindowRecord) → HaveSerials P (put_in i w rest) → P w.serial × HaveSerials P rest
+serials_out P zero w rest all = (all.0, all.1)
+serials_out P (suc i) w [] all = (all.0, tt)
+serials_out P (suc i) w (y ∷ ys) all = let behind = serials_out P i w ys all.1 in (behind.0, (all.0, behind.1))
 
 module _ (font : List ℕ) where
   abbrev pub IsFree : ℕ → List WindowRecord → Type 0

@@ -17,10 +17,10 @@ use Rattle.vis_update.specs.Seats.{stand_of}
 use Rattle.vis_update.specs.Touches.{moved_from, moving}
 use Rattle.window_mgr.specs.declared.arrange.Activation.{Activation}
 use Rattle.window_mgr.specs.declared.arrange.Activation.TheVariants.{Stays, Becomes}
-use Rattle.window_mgr.specs.FullDesk.{FullDesk, AreNumbered, layered_desk}
+use Rattle.window_mgr.specs.FullDesk.{FullDesk, AreNumbered, layered_desk, IsGiven}
 use Rattle.window_mgr.specs.Arrange.{with_highlighting, activated, desk_activated}
 use Rattle.window_mgr.specs.Whole.{IsSoundDesk, IsSettled, IsStocked}
-use Rattle.window_mgr.proofs.PutIn.{put_in, IsFree, found_put, distinct_put, distinct_out, below_put, below_out, put_permutes, All-out, All-put, AllPairs-put, AllPairs-out, Contains-put}
+use Rattle.window_mgr.proofs.PutIn.{put_in, IsFree, found_put, distinct_put, distinct_out, serials_put, serials_out, put_permutes, All-out, All-put, AllPairs-put, AllPairs-out, Contains-put}
 use Rattle.window_mgr.proofs.EachChanged.{map-map, settled_map, stocked_map, numbered_map}
 use Rattle.window_mgr.proofs.DimLemmas.{either}
 
@@ -46,7 +46,7 @@ module _ (s former : Option ℕ) where
   same_serial w = relit_either (λ v. v.serial ≡ w.serial) w refl refl refl
 
   settled_lit : (w : WindowRecord) → IsSettled w → IsSettled (relit_record w)
-  settled_lit w its = relit_either IsSettled w its (record { origin = its.origin; placed = its.placed; live = its.live; told = its.told; fits = its.fits; inside = its.inside; within = its.within }) (record { origin = its.origin; placed = its.placed; live = its.live; told = its.told; fits = its.fits; inside = its.inside; within = its.within })
+  settled_lit w its = relit_either IsSettled w its (record { origin = its.origin; placed = its.placed; live = its.live; told = its.told; fits = its.fits; inside = its.inside; within = its.within; goes_by = its.goes_by }) (record { origin = its.origin; placed = its.placed; live = its.live; told = its.told; fits = its.fits; inside = its.inside; within = its.within; goes_by = its.goes_by })
 
 -- all windows, after an activation
 module _ (former : Option ℕ) where
@@ -169,11 +169,10 @@ module _ (before : FullDesk) (s i j : ℕ) (w v : WindowRecord) (rest : List Win
                 (λ k. content_bit (others_found n (turned away) k) part (still by away k))
 
   pub numbered_now : AreNumbered before.next before.windows → AreNumbered edited.next edited.windows
-  numbered_now numbered = numbered_lit before.active before.next b (put_in j v rest) (by_next before.next (subst (AreNumbered before.next) E.windows numbered))
-    where
-      by_next : (next : Option ℕ) → AreNumbered next (put_in i w rest) → AreNumbered next (put_in j v rest)
-      by_next None h = tt
-      by_next (Some n) h = let parts = below_out n i w rest h in below_put n j v rest (subst (λ k. k < n) (sym E.same_serial) parts.0) parts.1
+  numbered_now numbered = numbered_lit before.active before.next b (put_in j v rest)
+      (let all = subst (AreNumbered before.next) E.windows numbered in
+      let parts = serials_out (IsGiven before.next) i w rest all.1 in
+      (all.0, serials_put (IsGiven before.next) j v rest (subst (IsGiven before.next) (sym E.same_serial) parts.0) parts.1))
 
   -- the desk is sound as it was
   pub sound_now : IsSoundDesk before → v.slot ≡ w.slot → IsSettled v → IsSoundDesk edited

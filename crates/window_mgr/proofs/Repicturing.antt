@@ -114,7 +114,7 @@ module _ (font : List ℕ) (s : ℕ) (picture : WindowRecord → List Op) (origi
         let same : w ≡ x = cc in
         let its = subst (λ (y : Window V H). IsSettled (record_of loan y)) same (All-head IsSettled (record_of loan w) (map (record_of loan) ws) all) in
         All-cons IsSettled (record_of loan (put_anew x)) (map (record_of loan) ws)
-        (record { origin = placed; placed = its.placed; live = its.live; told = its.told; fits = its.fits; inside = its.inside; within = its.within })
+        (record { origin = placed; placed = its.placed; live = its.live; told = its.told; fits = its.fits; inside = its.inside; within = its.within; goes_by = its.goes_by })
         (All-tail IsSettled (record_of loan w) (map (record_of loan) ws) all)
     put_settled (w ∷ ws) (suc i) x there placed all =
         All-cons IsSettled (record_of loan w) (map (record_of loan) (set ws i (put_anew x)))

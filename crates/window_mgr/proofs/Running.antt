@@ -20,14 +20,14 @@ use Rattle.desk_call.specs.declared.window.NewWindow.{NewWindow}
 use Rattle.desk_call.specs.declared.window.ScrollPicture.{ScrollPicture}
 use Rattle.desk_call.specs.declared.window.WindowReply.{WindowReply}
 use Rattle.vis_update.specs.Records.{WindowRecord, layered_window}
-use Rattle.window_mgr.specs.FullDesk.{FullDesk, FullState, IsRightState, AreBelow, AreNumbered, layered_desk, layered_state}
+use Rattle.window_mgr.specs.FullDesk.{FullDesk, FullState, IsRightState, IsGiven, HaveSerials, AreNumbered, layered_desk, layered_state}
 use Rattle.window_mgr.specs.Step.{IsWindowStep}
 use Rattle.window_mgr.specs.Effects.{IsNewWindow, IsDrawn, IsPictureSet, IsScrolled, IsUnchanged, IsArrangement, Effect, IsEffect, effect_of, new_record, desk_with, with_drawn, with_new_picture, with_scrolled, draw_change, picture_change, scroll_change}
 use Rattle.window_mgr.specs.Effects.Effect.{Makes, Disposes, Draws, Pictures, Scrolls, Arranges, Places, Tells, Describes}
 use Rattle.window_mgr.specs.Arrange.{with_highlighting, Arrangement, activation_of, desk_activated, placed}
 use Rattle.window_mgr.specs.Finding.{front_of, record_with}
 use Rattle.vis_update.specs.Touches.{moving}
-use Rattle.window_mgr.proofs.EachChanged.{below_map, map-map, numbered_map}
+use Rattle.window_mgr.proofs.EachChanged.{serials_map, map-map, numbered_map}
 use Rattle.window_mgr.proofs.DimLemmas.{either}
 use Rattle.window_mgr.proofs.PictureChanges.{draw_is_sound, picture_is_sound, scroll_is_sound}
 use Rattle.window_mgr.proofs.Repictured.{repictured_serial}
@@ -49,15 +49,20 @@ layered_desk-with w serial slot d desk stock =
 same_serial : (active : Option ℕ) (w : WindowRecord) → (with_highlighting false active w).serial ≡ w.serial
 same_serial active w = either false active (λ v. v.serial ≡ w.serial) w refl refl
 
-numbered-more : (next : ℕ) (ws : List WindowRecord) → AreBelow next ws → AreBelow (next + 1) ws
-numbered-more next [] h = tt
-numbered-more next (w ∷ ws) h = let below = h.0 in (omega arith, numbered-more next ws h.1)
+given-more : (next : ℕ) (ws : List WindowRecord) → HaveSerials (IsGiven (Some next)) ws → HaveSerials (IsGiven (Some (next + 1))) ws
+given-more next [] h = tt
+given-more next (w ∷ ws) h = let one = h.0.0 in let below = h.0.1 in ((one, omega arith), given-more next ws h.1)
+
+-- so they were where no number is left
+given-all : (next : ℕ) (ws : List WindowRecord) → HaveSerials (IsGiven (Some next)) ws → HaveSerials (IsGiven None) ws
+given-all next [] h = tt
+given-all next (w ∷ ws) h = (h.0.0, given-all next ws h.1)
 
 -- the number of the next window is no window's
-pub next_is_free : (font : List ℕ) (next : ℕ) (ws : List WindowRecord) → AreBelow next ws → layers.window_of next (map (layered_window font) ws) ≡ None
+pub next_is_free : (font : List ℕ) (next : ℕ) (ws : List WindowRecord) → HaveSerials (IsGiven (Some next)) ws → layers.window_of next (map (layered_window font) ws) ≡ None
 next_is_free font next [] h = refl
 next_is_free font next (w ∷ ws) h =
-    let below = h.0 in
+    let below = h.0.1 in
     let other : (w.serial == next) ≡ false = grind (arith, nat_tests) in
     rw other (next_is_free font next ws h.1)
 
@@ -80,24 +85,24 @@ new_is_sound before w desk free parts = record {
 }
 
 -- the windows of a desk with a new window are numbered, it by the last number
-pub numbered_with : (w : NewWindow) (serial slot : ℕ) (d : Definition) (desk : FullDesk) → AreBelow serial desk.windows → AreNumbered (desk_with w serial slot d desk).next (desk_with w serial slot d desk).windows
-numbered_with w serial slot d desk below = after_number _ (nat_lt (serial + 1) (2 ^ 64)) (omega arith, by_shown w.shown)
+pub numbered_with : (w : NewWindow) (serial slot : ℕ) (d : Definition) (desk : FullDesk) → AreNumbered (Some serial) desk.windows → AreNumbered (desk_with w serial slot d desk).next (desk_with w serial slot d desk).windows
+numbered_with w serial slot d desk numbered = let first = numbered.0 in after_number (desk_with w serial slot d desk).windows (nat_lt (serial + 1) (2 ^ 64)) ((first, omega arith), by_shown w.shown)
   where
-    after_number : (ws : List WindowRecord) (b : Bool) → AreBelow (serial + 1) ws → AreNumbered (if b then Some (serial + 1) else None) ws
-    after_number ws true h = h
-    after_number ws false h = tt
+    after_number : (ws : List WindowRecord) (b : Bool) → HaveSerials (IsGiven (Some (serial + 1))) ws → AreNumbered (if b then Some (serial + 1) else None) ws
+    after_number ws true h = (omega arith, h)
+    after_number ws false h = (tt, given-all (serial + 1) ws h)
 
-    by_shown : (b : Bool) → AreBelow (serial + 1) (if b then map (with_highlighting false desk.active) desk.windows else desk.windows)
-    by_shown true = below_map (with_highlighting false desk.active) (same_serial desk.active) _ desk.windows (numbered-more serial desk.windows below)
-    by_shown false = numbered-more serial desk.windows below
+    by_shown : (b : Bool) → HaveSerials (IsGiven (Some (serial + 1))) (if b then map (with_highlighting false desk.active) desk.windows else desk.windows)
+    by_shown true = serials_map (with_highlighting false desk.active) (same_serial desk.active) _ desk.windows (given-more serial desk.windows numbered.1)
+    by_shown false = given-more serial desk.windows numbered.1
 
 new_stays_right : (w : NewWindow) (serial : ℕ) (before after : FullState) → IsRightState before → IsNewWindow w serial before after → IsRightState after
 new_stays_right w serial before after right new =
     let new_window = layered_window before.desk.font (new_record w serial new.loan.slot new.begun) in
-    let below : AreBelow serial before.desk.windows = subst (λ (n : Option ℕ). AreNumbered n before.desk.windows) new.numbered right.numbered in
+    let below : AreNumbered (Some serial) before.desk.windows = subst (λ (n : Option ℕ). AreNumbered n before.desk.windows) new.numbered right.numbered in
     let desk : layered_desk after.desk ≡ record (layered_desk before.desk) { windows = new_window ∷ map (layered_window before.desk.font) before.desk.windows } =
     ap layered_desk new.desk ∙ layered_desk-with w serial new.loan.slot new.begun before.desk after.desk.stock in
-    let sound = new_is_sound (layered_state before) new_window right.plain.desk (next_is_free before.desk.font serial before.desk.windows below) (refl, tt) in
+    let sound = new_is_sound (layered_state before) new_window right.plain.desk (next_is_free before.desk.font serial before.desk.windows below.1) (refl, tt) in
     record {
       plain = stays_right plain.no_change (layered_state before) (layered_state after) right.plain (subst (plain.IsSound plain.no_change (layered_state before)) (sym desk) sound) new.pixels;
       numbered = subst (λ (d : FullDesk). AreNumbered d.next d.windows) (sym new.desk) (numbered_with w serial new.loan.slot new.begun before.desk below);

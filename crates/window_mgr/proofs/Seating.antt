@@ -159,7 +159,7 @@ module _ {V : Type 0} {H : V → Type 0} (loan : Taken V H → Loan) where
     after = desk_with w n slot begun (desk_of loan t [])
 
     free : layers.window_of n before.desk.windows ≡ None
-    free = next_is_free t.font n (desk_of loan t []).windows (subst (λ (k : Option ℕ). AreNumbered k (desk_of loan t []).windows) next kept.whole.sound.numbered)
+    free = next_is_free t.font n (desk_of loan t []).windows (subst (λ (k : Option ℕ). AreNumbered k (desk_of loan t []).windows) next kept.whole.sound.numbered).1
 
     distinct : layers.IsDesk (layered_desk after)
     distinct = subst layers.IsDesk (sym (layered_desk-with w n slot begun (desk_of loan t []) [])) (free, ((refl, tt), kept.whole.sound.distinct))

@@ -1,5 +1,6 @@
 -- The order of windows, and which of them is active.
 use Rattle.std.specs.Prelude.{ℕ, Bool, true, false, if◌then◌else◌, ◌==◌, not, List, [], ◌∷◌, map, Option, None, Some}
+use Rattle.std.specs.Option.{is_some}
 use Rattle.tb_geom.specs.declared.point.Point.{Point}
 use Rattle.tb_geom.specs.Points.{minus}
 use Rattle.window_list.specs.declared.window.Placement.{Placement}
@@ -108,9 +109,15 @@ at_place place w = record w { place = place; user_state = None }
 abbrev pub with_shown : Bool → WindowRecord → WindowRecord
 with_shown shown w = record w { shown = shown }
 
--- the window, which lies so, and its definition, which was told its size
+-- the window, which lies so, and its definition, which was told its size and whether it is zoomed
 abbrev pub with_placement : Placement → Definition → WindowRecord → WindowRecord
-with_placement to d w = record w { place = to.place; size = to.size; user_state = to.user_state; definition = d }
+with_placement to d w = record w {
+  place = to.place;
+  size = to.size;
+  user_state = to.user_state;
+  heard = record w.heard { zoomed = is_some to.user_state };
+  definition = d;
+}
 
 abbrev pub is_visible : Option WindowRecord → Bool
 is_visible None = false

@@ -6,6 +6,7 @@ use Rattle.tb_geom.specs.Pixels.{Pixels, holds}
 use Rattle.bit_map.specs.Bits.{Bits, on_map, bit}
 use Rattle.bit_map.specs.Patterns.{pattern_bit}
 use Rattle.bit_blit.specs.Draws.{Draws}
+use Rattle.def_iface.specs.News.{no_news}
 use Rattle.def_iface.specs.Meaning.{Definition}
 use Rattle.vis_update.specs.declared.plan.Part.{Part}
 use Rattle.vis_update.specs.declared.plan.Plan.{Plan}
@@ -15,7 +16,7 @@ use Rattle.desk_ground.specs.Screens.{gray}
 -- what the part of a window makes of a bit: the frame's pixels are drawn, over white where content is new
 abbrev pub painted_part : List ℕ → Definition → Point → Part → Point → Bool → Bool
 painted_part font d place part p value =
-    if holds part.redraw p then d.picture font (minus p place) else (if holds part.erase p then false else value)
+    if holds part.redraw p then d.picture no_news font (minus p place) else (if holds part.erase p then false else value)
 
 -- what the parts of windows make of it, one after another
 abbrev pub painted_parts : List ℕ → List WindowRecord → List Part → Point → Bool → Bool

@@ -5,9 +5,11 @@ use Rattle.tb_geom.specs.Points.{PixelSet, plus, minus}
 use Rattle.draw_port.specs.declared.shapes.Op.{Op}
 use Rattle.draw_port.specs.Ops.{op_value}
 use Rattle.op_ref.specs.OpRefs.{IsMeant}
+use Rattle.std.specs.Option.{is_some}
+use Rattle.def_iface.specs.News.{News, AllNews, told_placed, new_window_news}
 use Rattle.def_iface.specs.declared.size.Size as sizes
 use Rattle.def_iface.specs.declared.window_def.Stage.TheVariants.{Live}
-use Rattle.def_iface.specs.Meaning.{Definition, Loan, SameRegions, IsBegun}
+use Rattle.def_iface.specs.Meaning.{Definition, Loan, SameRegions, Hears, IsBegun}
 use Rattle.def_iface.specs.Stocked.{IsTaken, is_left}
 use Rattle.def_iface.specs.Desk.{on_screen}
 use Rattle.def_iface.specs.Desk.Part.{Picture}
@@ -33,7 +35,11 @@ use Rattle.window_mgr.specs.Placings.{Placing, sized, zoomed}
 use Rattle.window_mgr.specs.Closing.{IsShut, loan_of}
 use Rattle.window_mgr.specs.Telling.{IsRegionTold, visible_of, update_of}
 
--- the record that a new window gets; a visible one is highlighted
+-- all that the definition of a new window is told; a visible window is highlighted
+abbrev pub first_news : NewWindow → AllNews
+first_news w = new_window_news w.size w.title w.go_away w.shown
+
+-- the record that a new window gets
 abbrev pub new_record : NewWindow → ℕ → ℕ → Definition → WindowRecord
 new_record w serial slot d = record {
   serial = serial;
@@ -44,6 +50,7 @@ new_record w serial slot d = record {
   highlighted = w.shown;
   title = w.title;
   go_away = w.go_away;
+  heard = record { highlighted = w.shown; zoomed = false; tracked = false };
   picture = [];
   origin = record { h = pos 0; v = pos 0 };
   definition = d;
@@ -65,7 +72,7 @@ pub record IsNewWindow (w : NewWindow) (serial : ℕ) (before after : FullState)
   pub begun : Definition
   pub numbered : before.desk.next ≡ Some serial
   pub taken : IsTaken w.kind loan before.desk.stock after.desk.stock
-  pub live : IsBegun w.size loan.definition begun
+  pub live : IsBegun (first_news w) loan.definition begun
   pub desk : after.desk ≡ record (desk_with w serial loan.slot begun before.desk) { stock = after.desk.stock }
   pub pixels : IsChanged no_change (layered_state before) (layered_state after)
 
@@ -131,18 +138,19 @@ pub record IsArrangement (a : Arrangement) (before after : FullState) : Type 0 w
   pub desk : after.desk ≡ desk_arranged a.windows a.activates a.window before.desk
   pub pixels : IsChanged (moving a.window a.by) (layered_state before) (layered_state after)
 
--- what a live definition is once it was told this size
-pub record IsToldSize (size : sizes.Size) (old new : Definition) : Type 0 where
+-- what a live definition is once it was told this, and has this size
+pub record IsToldSize (size : sizes.Size) (news : News → News) (old new : Definition) : Type 0 where
   pub live : new.stage ≡ Live
   pub told : new.size ≡ size
   pub regions : SameRegions old new
+  pub heard : Hears news old new
 
 -- the window lies so now, and its definition was told its size
 pub record IsWindowPlaced (p : Placing) (before after : FullState) : Type 0 where
   pub window : WindowRecord
   pub definition : Definition
   pub found : record_with p.window before.desk.windows ≡ Some window
-  pub told : IsToldSize p.to.size window.definition definition
+  pub told : IsToldSize p.to.size (told_placed p.to.size (is_some p.to.user_state)) window.definition definition
   pub arranged : IsArrangement (placed p definition before.desk.windows) before after
 
 -- the window of this serial is there no more, and its definition went back Closed into its slot, which was there and

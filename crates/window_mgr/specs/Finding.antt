@@ -2,6 +2,7 @@
 use Rattle.std.specs.Prelude.{ℕ, if◌then◌else◌, ◌==◌, List, [], ◌∷◌, Option, None, Some}
 use Rattle.tb_geom.specs.declared.point.Point.{Point}
 use Rattle.tb_geom.specs.Points.{minus}
+use Rattle.def_iface.specs.News.{no_news}
 use Rattle.def_iface.specs.declared.window_def.Hit.{Hit}
 use Rattle.def_iface.specs.declared.window_def.Hit.TheVariants as hit
 use Rattle.def_iface.specs.Desk.{on_screen}
@@ -33,7 +34,7 @@ record_with s (w ∷ ws) = if w.serial == s then Some w else record_with s ws
 -- the part of the window that the point lies in, by its definition
 abbrev pub part_at : Option WindowRecord → Point → WindowPart
 part_at None p = part.InDesk
-part_at (Some w) p = part_of_hit (w.definition.hit (minus p w.place))
+part_at (Some w) p = part_of_hit (w.definition.hit no_news (minus p w.place))
 
 -- no window, and this part
 abbrev pub found_none : WindowPart → Found

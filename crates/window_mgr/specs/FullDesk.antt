@@ -1,5 +1,5 @@
 -- The whole desk as plain data, and its layers.
-use Rattle.std.specs.Prelude.{ℕ, ◌<◌, List, ◌∷◌, [], Option, None, Some, map, ℤ, pos}
+use Rattle.std.specs.Prelude.{ℕ, ◌<◌, ◌≤◌, List, ◌∷◌, [], Option, None, Some, map, ℤ, pos}
 use Rattle.std.specs.Ordering.{int_eq}
 use Rattle.tb_geom.specs.Points.{PixelSet}
 use Rattle.bit_map.specs.Patterns.{pattern_bit}
@@ -49,15 +49,24 @@ layered_desk d = record {
 abbrev pub layered_state : FullState → plain.State
 layered_state s = record { desk = layered_desk s.desk; stale = s.stale; image = s.image }
 
--- each window's serial is below this one
-abbrev pub AreBelow : ℕ → List WindowRecord → Type 0
-AreBelow next [] = Unit {0}
-AreBelow next (w ∷ ws) = (w.serial < next) × AreBelow next ws
+-- a serial that was given before this one is, if there is one left to give: serials begin at 1
+abbrev pub IsGiven : Option ℕ → ℕ → Type 0
+IsGiven None n = 1 ≤ n
+IsGiven (Some next) n = (1 ≤ n) × (n < next)
 
--- each window's serial is below that of the next window, if there can be one
+-- each window's serial is such
+abbrev pub HaveSerials : (ℕ → Type 0) → List WindowRecord → Type 0
+HaveSerials P [] = Unit {0}
+HaveSerials P (w ∷ ws) = P w.serial × HaveSerials P ws
+
+-- this is the serial of the next window, if there can be one
+abbrev pub IsNext : Option ℕ → Type 0
+IsNext None = Unit {0}
+IsNext (Some next) = 1 ≤ next
+
+-- the windows have serials from 1 on, below that of the next window, if there can be one
 abbrev pub AreNumbered : Option ℕ → List WindowRecord → Type 0
-AreNumbered None ws = Unit {0}
-AreNumbered (Some next) ws = AreBelow next ws
+AreNumbered next ws = IsNext next × HaveSerials (IsGiven next) ws
 
 -- a state whose pixels in no update set have the value that painting from nothing gives, and whose windows were all
 -- counted

@@ -29,7 +29,7 @@ use Rattle.window_mgr.specs.FullDesk.{layered_desk, layered_state}
 use Rattle.window_mgr.specs.Records.{desk_of, state_of}
 use Rattle.window_mgr.specs.Refused.{first_refusal, judged_refusals, most_operations}
 use Rattle.window_mgr.specs.Commits.{IsPlanDrawn}
-use Rattle.window_mgr.specs.Effects.{new_record, desk_with}
+use Rattle.window_mgr.specs.Effects.{first_news, new_record, desk_with}
 
 -- why a window is not planned: a refusal by its place, its title or the count of windows, or want of memory
 abbrev pub IsUnplanned : NewWindow → Bool → ℕ → Option ℕ → Refusal → Type 0
@@ -127,7 +127,7 @@ module _ {V : Type 0} {H : V → Type 0} (loan : Taken V H → Loan) where
       (old new : WindowManager V H) : Type 0 where
     pub record_is : Window V H
     pub begun : Definition
-    pub live : IsBegun w.size taken.definition begun
+    pub live : IsBegun (first_news w) taken.definition begun
     pub seen : record_of loan record_is ≡ new_record w serial taken.slot begun
     pub windows : new.windows.records.items ≡ record_is
         ∷ (if w.shown then map (dimmed old.windows.active) old.windows.records.items else old.windows.records.items)

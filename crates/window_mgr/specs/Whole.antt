@@ -4,11 +4,11 @@ use Rattle.tb_geom.specs.declared.point.Point.{Point}
 use Rattle.tb_geom.specs.Rects.{in_plane, is_in_range, moved_rect, rect_holds}
 use Rattle.def_iface.specs.declared.taken.Taken.{Taken}
 use Rattle.def_iface.specs.declared.window_def.Stage.TheVariants.{Live}
-use Rattle.def_iface.specs.Meaning.{Loan, IsWithin, is_fitting}
+use Rattle.def_iface.specs.Meaning.{Loan, IsWithin, GoesBy, is_fitting}
 use Rattle.def_iface.specs.Stocked.{SlotView, IsFull, is_left}
 use Rattle.def_iface.specs.Desk.{IsDesk, on_screen}
 use Rattle.def_iface.specs.Owner.{owner, own_bit, is_content}
-use Rattle.vis_update.specs.Records.{WindowRecord}
+use Rattle.vis_update.specs.Records.{WindowRecord, news_of}
 use Rattle.vis_update.specs.Areas.{AreAreas, IsGray, IsDesktop, stale_in}
 use Rattle.window_mgr.specs.declared.manager.WindowManager.{WindowManager}
 use Rattle.window_mgr.specs.FullDesk.{FullDesk, FullState, AreNumbered, layered_desk}
@@ -17,7 +17,8 @@ use Rattle.window_mgr.specs.Refused.{most_windows}
 use Rattle.desk_ground.specs.Screens.{is_screen}
 
 -- the window's definition is live, and was told the window's size, which fits it; its place and its picture's origin
--- are points, its structure lies in the range of coordinates there, and its content in the box of its structure
+-- are points, its structure lies in the range of coordinates there, and its content in the box of its structure; the
+-- definition goes by what the record says that it was told
 pub record IsSettled (w : WindowRecord) : Type 0 where
   pub origin : in_plane w.origin ≡ true
   pub placed : in_plane w.place ≡ true
@@ -26,6 +27,7 @@ pub record IsSettled (w : WindowRecord) : Type 0 where
   pub fits : is_fitting w.definition w.size ≡ true
   pub inside : is_in_range (moved_rect (w.definition.bounds w.size) w.place.h w.place.v) ≡ true
   pub within : IsWithin (w.definition.content w.size) (rect_holds (w.definition.bounds w.size))
+  pub goes_by : GoesBy (news_of w) w.definition
 
 -- a slot has its definition back, or belongs to one of these windows and is empty
 abbrev pub IsSlot : List WindowRecord → List SlotView → ℕ → Type 0

@@ -3,6 +3,7 @@ ghost use Rattle.std.specs.Prelude.{◌≡◌, if◌then◌else◌, Ok, Err, Som
 ghost use Rattle.tb_geom.specs.declared.refusal.Refusal.TheVariants.{OutOfRange};
 ghost use Rattle.tb_geom.specs.Points.{minus};
 ghost use Rattle.tb_geom.specs.Rects.{in_plane};
+ghost use Rattle.def_iface.specs.News.{no_news};
 ghost use Rattle.window_mgr.specs.Kept.{IsKept};
 ghost use Rattle.vis_update.specs.Areas.{area_has};
 ghost use Rattle.window_mgr.specs.Finding.{found_at, found_none, part_of_hit};
@@ -61,7 +62,7 @@ fn found(window: &Window, point: Point) -> Found
     requires settled { IsSettled (record_of ⟦<Taken as Defined>⟧.loan window.now) }
     requires in_plane { in_plane point ≡ true }
     ensures { result ≡ record {
-      part = part_of_hit ((⟦<Taken as Defined>⟧.loan window.now.taken).definition.hit (minus point window.now.place));
+      part = part_of_hit ((⟦<Taken as Defined>⟧.loan window.now.taken).definition.hit no_news (minus point window.now.place));
       window = Some window.now.serial;
     } }
 {

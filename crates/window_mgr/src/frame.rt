@@ -5,6 +5,7 @@ ghost use Rattle.tb_geom.specs.Points.{minus};
 ghost use Rattle.tb_geom.specs.Pixels.{holds};
 ghost use Rattle.tb_geom.specs.Rects.{in_plane, is_in_range, moved_rect, rect_holds};
 ghost use Rattle.bit_blit.specs.Draws.{Draws};
+ghost use Rattle.def_iface.specs.News.{no_news, told_change};
 ghost use Rattle.window_list.specs.Changes.{keeps_size, has_short_title};
 ghost use Rattle.vis_update.specs.Records.{record_of};
 ghost use Rattle.window_mgr.specs.Edits.{IsWindowAt};
@@ -24,7 +25,7 @@ use window_list::Window;
 
 impl WindowManager {
     /// Tells the definition of the window at this place of a change, and draws the window's frame anew where it shows,
-    /// within the damage that the definition answers. The record keeps a title and a highlighting. A change of the size
+    /// within the damage that the definition answers. The record keeps what it is told. A change of the size
     /// is told by `WindowCall::Size`, and a title has at most 255 bytes. It takes no memory.
     pub fn tell_frame(&mut self, at: usize, change: WindowChange<'_>)
         requires kept { IsKept ⟦<Taken as Defined>⟧.loan self.old }
@@ -32,7 +33,7 @@ impl WindowManager {
         requires size { keeps_size change ≡ true }
         requires title { has_short_title change ≡ true }
         ensures { (w : _) → IsWindowAt self.old.windows.records.items at w
-            → LeavesState ⟦<Taken as Defined>⟧.loan (IsFrameTold w.serial (told_record change.entry)) self.old self.new }
+            → LeavesState ⟦<Taken as Defined>⟧.loan (IsFrameTold w.serial (λ _. told_change change.entry) (told_record change.entry)) self.old self.new }
     {
         let damage = self.windows.tell(at, change);
         draw_frame(
@@ -51,7 +52,7 @@ fn draw_frame(map: &mut BitMap, region: &Region, window: &Window, within: Rect, 
     requires inside { (p : Point) → holds region.now p ≡ true
         → (⟦<Taken as Defined>⟧.loan window.now.taken).definition.structure window.now.size (minus p window.now.place) ≡ true }
     ensures drawn { Draws (λ p. holds region.now p && rect_holds within (minus p window.now.place))
-        (λ p _. (⟦<Taken as Defined>⟧.loan window.now.taken).definition.picture font.now (minus p window.now.place))
+        (λ p _. (⟦<Taken as Defined>⟧.loan window.now.taken).definition.picture no_news font.now (minus p window.now.place))
         map.old map.new }
     ensures near { (p : Point) → holds region.now p ≡ true → in_plane (minus p window.now.place) ≡ true }
 {

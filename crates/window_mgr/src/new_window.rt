@@ -21,7 +21,7 @@ use draw_port::Picture;
 use std::alloc::{AllocError, Global};
 use tb_geom::{Point, Refusal};
 use vis_update::{Area, Plan, Seat, Touch, is_placed_alone, is_placed_with, plan_of};
-use window_list::{Title, Window};
+use window_list::{Heard, Title, Window};
 
 /// As many windows as there may be.
 const MOST_WINDOWS: usize = 64;
@@ -188,7 +188,12 @@ impl WindowManager {
         } = addition;
         let Ticket { serial, title } = ticket;
         let mut taken = taken;
-        taken.begin(window.size, window.title.as_slice(), window.go_away);
+        taken.begin(
+            window.size,
+            window.title.as_slice(),
+            window.go_away,
+            window.shown,
+        );
         let added = record_for(self.alloc, window, serial, title, taken);
         self.windows.add(added);
         self.commit(plan, touch.by);
@@ -234,6 +239,11 @@ fn record_for(
         highlighted: window.shown,
         go_away: window.go_away,
         title,
+        heard: Heard {
+            highlighted: window.shown,
+            zoomed: false,
+            tracked: false,
+        },
         picture: Picture::new(alloc),
         origin: Point { h: 0, v: 0 },
         taken,

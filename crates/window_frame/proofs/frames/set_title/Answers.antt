@@ -7,7 +7,7 @@ pub returns-then-is_too_long-clause-step : goal.returns-then-is_too_long-clause-
 returns-then-is_too_long-clause-step g c = λ u. too_long _ c.args.windows.now c.requires c.args.new.now c.in-Some.at c.in-Some.ensures c.as_slice-title.result.now c.as_slice-title.ensures u (sym c.is_too_long.ensures ∙ c.if-is_too_long.true)
 
 pub returns-clause-whole : goal.returns-clause-whole
-returns-clause-whole g c = λ u whole. frame_stays_whole _ c.args.windows.now c.requires c.args.new.now.window c.in-Some.at c.in-Some.ensures (with_title c.as_slice-title.result.now) c.tell_frame.new.self u c.tell_frame.ensures whole
+returns-clause-whole g c = λ u whole. frame_stays_whole _ c.args.windows.now c.requires c.args.new.now.window c.in-Some.at c.in-Some.ensures _ (with_title c.as_slice-title.result.now) c.tell_frame.new.self u c.tell_frame.ensures whole
 
 pub returns-clause-step : goal.returns-clause-step
 returns-clause-step g c = λ u. titled _ c.args.windows.now c.requires c.args.new.now c.in-Some.at c.in-Some.ensures c.as_slice-title.result.now c.as_slice-title.ensures u c.tell_frame.new.self (sym c.is_too_long.ensures ∙ c.if-is_too_long.false) c.tell_frame.ensures

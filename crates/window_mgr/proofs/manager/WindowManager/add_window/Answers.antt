@@ -2,7 +2,7 @@ use Rattle.std.proofs.Common.{◌≡◌, ◌+◌, ◌∷◌, Bool, true, false, 
 use Rattle.std.proofs.lemmas.List.{length-map}
 use Rattle.window_list.specs.Lists.{dimmed, number_after}
 use Rattle.window_mgr.specs.Effects.{new_record}
-use Rattle.window_mgr.proofs.NewWindowLemmas.{settled_added}
+use Rattle.window_mgr.proofs.NewWindowLemmas.{settled_added, begun_as}
 use Rattle.window_mgr.proofs.manager.WindowManager.add_window.Goals as goal
 
 -- a window more, of which the others may have changed
@@ -16,7 +16,7 @@ commit-requires-clause-settled g c =
     settled_added _ c.args.window.now c.args.addition.ticket.serial _ _ begun c.record_for-added.result c.args.self.now.windows.active c.args.self.now.windows.records.items _
     (c.record_for-added.ensures.seen ∙ ap (λ s. new_record c.args.window.now c.args.addition.ticket.serial s begun) c.begin.ensures.slot)
     (ap (λ l. l.records.items) c.add.ensures ∙ ap (λ b. c.record_for-added.result ∷ (if b then map (dimmed c.args.self.now.windows.active) c.args.self.now.windows.records.items else c.args.self.now.windows.records.items)) c.record_for-added.ensures.shown)
-    c.begin.ensures.begun c.requires.may_stand c.requires.planned.within c.requires.settled
+    (begun_as c.as_slice.ensures c.begin.ensures.begun) c.requires.may_stand c.requires.planned.within c.requires.settled
 
 pub commit-requires-clause-parts : goal.commit-requires-clause-parts
 commit-requires-clause-parts g c =
@@ -31,7 +31,7 @@ returns g c =
     record {
       record_is = c.record_for-added.result;
       begun = begun;
-      live = c.begin.ensures.begun;
+      live = begun_as c.as_slice.ensures c.begin.ensures.begun;
       seen = c.record_for-added.ensures.seen ∙ ap (λ s. new_record c.args.window.now c.args.addition.ticket.serial s begun) c.begin.ensures.slot;
       windows = ap (λ t. t.windows.records.items) c.commit.ensures.others ∙ ap (λ l. l.records.items) c.add.ensures ∙ ap (λ b. c.record_for-added.result ∷ (if b then map (dimmed c.args.self.now.windows.active) c.args.self.now.windows.records.items else c.args.self.now.windows.records.items)) c.record_for-added.ensures.shown;
       areas = c.commit.ensures.areas;

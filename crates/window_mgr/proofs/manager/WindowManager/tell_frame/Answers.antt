@@ -33,16 +33,16 @@ pub draw_frame-requires-clause-settled : goal.draw_frame-requires-clause-settled
 draw_frame-requires-clause-settled g c =
     let found = there_is c.args.self.now.windows.records.items c.args.at c.requires.at in
     let told = rw (read_at c.args.self.now.windows.records.items c.args.at found.0 c.requires.at found.1) at c.tell-damage.ensures.told in
-    telling.drawn_settled _ c.args.self.now c.requires.kept.slots c.requires.kept.whole c.args.at c.requires.at found.0 found.1 c.args.change c.tell-damage.result c.tell-damage.new.self told c.at.result.now c.at.ensures
+    telling.drawn_settled _ c.args.self.now c.requires.kept.slots c.requires.kept.whole c.args.at c.requires.at found.0 found.1 c.args.change c.requires.size c.tell-damage.result c.tell-damage.new.self told c.at.result.now c.at.ensures
 
 pub draw_frame-requires-clause-inside : goal.draw_frame-requires-clause-inside
 draw_frame-requires-clause-inside g c =
     let found = there_is c.args.self.now.windows.records.items c.args.at c.requires.at in
     let told = rw (read_at c.args.self.now.windows.records.items c.args.at found.0 c.requires.at found.1) at c.tell-damage.ensures.told in
-    telling.drawn_within _ c.args.self.now c.requires.kept.slots c.requires.kept.whole c.args.at c.requires.at found.0 found.1 c.args.change c.tell-damage.result c.tell-damage.new.self told c.at.result.now c.at.ensures c.index.result.now c.index.ensures
+    telling.drawn_within _ c.args.self.now c.requires.kept.slots c.requires.kept.whole c.args.at c.requires.at found.0 found.1 c.args.change c.requires.size c.tell-damage.result c.tell-damage.new.self told c.at.result.now c.at.ensures c.index.result.now c.index.ensures
 
 pub returns : goal.returns
 returns g c w there slots whole =
     let told = rw (read_at c.args.self.now.windows.records.items c.args.at w c.requires.at there) at c.tell-damage.ensures.told in
-    telling.frame_told_by _ c.args.self.now slots whole c.args.at c.requires.at w there c.args.change c.tell-damage.result c.tell-damage.new.self told c.at.result.now c.at.ensures c.index.result.now c.index.ensures
+    telling.frame_told_by _ c.args.self.now slots whole c.args.at c.requires.at w there c.args.change c.requires.size c.tell-damage.result c.tell-damage.new.self told c.at.result.now c.at.ensures c.index.result.now c.index.ensures
     c.draw_frame.new.map c.draw_frame.ensures.drawn c.draw_frame.ensures.near c.tell-damage.ensures.others

@@ -1,0 +1,75 @@
+-- How the stock of the program is filled, a slot at a time, and what a run over it is.
+use Rattle.std.proofs.Common.{◌≡◌, ℕ, zero, suc, ◌+◌, ◌<◌, ◌≤◌, List, [], ◌∷◌, ◌++◌, length, get_or, map, take, Some, Result, Ok, Err, refl, sym, ap, ◌∙◌, subst, inl, append_assoc, add-one, arith}
+use Rattle.std.specs.Prelude.{All}
+use Rattle.std.proofs.lemmas.Grind.{common_steps}
+use Rattle.std.proofs.lemmas.List.Elements.{All-from_recursion, All-nil, All-append}
+use Rattle.tb_geom.specs.declared.refusal.Refusal.{Refusal}
+use Rattle.def_iface.specs.declared.window_def.Stage.TheVariants.{Fresh}
+use Rattle.def_iface.specs.Meaning.{Definition}
+use Rattle.def_iface.specs.Stocked.{SlotView, IsFull, IsIdle}
+use Rattle.std_wdef.specs.Notched.{notched_meaning, fresh_notched}
+use Rattle.watched_io.specs.Reads.{Input}
+use Rattle.watched_io.specs.Writes.{Output}
+use Rattle.script_runner.specs.declared.command_line.Choices.{Choices}
+use Rattle.script_runner.specs.ChosenRuns.{ChosenEnds}
+use Rattle.desk.specs.StandardStock.{one_of_each, so_many_of_each, standard_slots, notched_slot}
+use Rattle.desk.specs.Program.{StandardEnds}
+
+-- ---- a slot of a kind, behind the others
+
+added_to : {X Y : Type 0} (slot : X → Y) (table : List X) (front slots new : List Y) (i : ℕ) (x : X) (s : Y) → i < length table → slots ≡ front ++ map slot (take i table) → new ≡ slots ++ s ∷ [] → s ≡ slot (get_or table i x) → new ≡ front ++ map slot (take (i + 1) table)
+added_to slot table front slots new i x s lt was added is = grind (arith, common_steps)
+
+-- the next slot of a table was added, with a definition in it that means what the table says
+pub kind_added : {X : Type 0} (name : X → List ℕ) (meaning : X → Definition) (table : List X) (front slots new : List SlotView) (i : ℕ) (x : X) (d : Definition)
+    → i < length table
+    → slots ≡ front ++ map (λ e. record { kind = name e; held = Some (meaning e) }) (take i table)
+    → new ≡ slots ++ record { kind = name (get_or table i x); held = Some d } ∷ []
+    → d ≡ meaning (get_or table i x)
+    → new ≡ front ++ map (λ e. record { kind = name e; held = Some (meaning e) }) (take (i + 1) table)
+kind_added name meaning table front slots new i x d lt was added is =
+    let same : ◌≡◌ {A = SlotView} (record { kind = name (get_or table i x); held = Some d }) (record { kind = name (get_or table i x); held = Some (meaning (get_or table i x)) }) =
+    λ k. record { kind = name (get_or table i x); held = Some (is k) } in
+    added_to (λ e. record { kind = name e; held = Some (meaning e) }) table front slots new i x _ lt was added same
+
+-- the slot for notched windows came behind those of the table, and that is one more of each
+pub round_done : {X : Type 0} (slot : X → SlotView) (table : List X) (n i : ℕ) (slots new : List SlotView) (d : Definition)
+    → slots ≡ so_many_of_each n ++ map slot (take i table)
+    → length table ≤ i
+    → new ≡ slots ++ record notched_slot { held = Some d } ∷ []
+    → d ≡ notched_meaning fresh_notched
+    → map slot table ++ notched_slot ∷ [] ≡ one_of_each
+    → new ≡ so_many_of_each (n + 1)
+unfolding so_many_of_each
+round_done slot table n i slots new d was all added is whole =
+    let cut : take i table ≡ table = grind (arith, common_steps) in
+    let more : so_many_of_each (n + 1) ≡ so_many_of_each n ++ one_of_each = ap so_many_of_each (add-one n) in
+    added
+    ∙ ap (λ s. s ++ record notched_slot { held = Some d } ∷ []) (was ∙ ap (λ t. so_many_of_each n ++ map slot t) cut)
+    ∙ append_assoc (so_many_of_each n) (map slot table) _
+    ∙ ap (λ e. so_many_of_each n ++ (map slot table ++ record notched_slot { held = Some e } ∷ [])) is
+    ∙ ap (λ r. so_many_of_each n ++ r) whole
+    ∙ sym more
+
+-- ---- each slot is full
+
+each_full : All IsFull one_of_each
+each_full =
+    let of_fresh : (d : Definition) → d.stage ≡ Fresh → (e : Definition) × (Some d ≡ Some e) × IsIdle e = λ d e. (d, refl, inl e) in
+    All-from_recursion IsFull one_of_each (of_fresh _ refl, (of_fresh _ refl, (of_fresh _ refl, (of_fresh _ refl, (of_fresh _ refl, (of_fresh _ refl, (of_fresh _ refl, tt)))))))
+
+pub so_many_full : (n : ℕ) → All IsFull (so_many_of_each n)
+unfolding so_many_of_each
+so_many_full zero = All-nil IsFull
+so_many_full (suc n) = All-append IsFull (so_many_of_each n) one_of_each (so_many_full n) each_full
+
+-- ---- the run
+
+module _ {File : Type 0} (opens : List ℕ → Result File Refusal → Type 0) (input : File → Input) (standard rest : Input) (old new : Output) (chosen : Choices) where
+  of_standard : (left : List SlotView) {X : Type 0} (r : Result X Refusal) → ChosenEnds opens input chosen standard_slots left standard rest old new r → StandardEnds opens input standard rest old new chosen r
+  of_standard left (Ok x) ends = record { left = left; ends = ends }
+  of_standard left (Err e) ends = inl (record { left = left; ends = ends })
+
+  -- a run over slots that are the standard ones
+  pub run_over_standard : (slots left : List SlotView) → slots ≡ standard_slots → {X : Type 0} (r : Result X Refusal) → ChosenEnds opens input chosen slots left standard rest old new r → StandardEnds opens input standard rest old new chosen r
+  run_over_standard slots left is r ends = of_standard left r (subst (λ s. ChosenEnds opens input chosen s left standard rest old new r) is ends)

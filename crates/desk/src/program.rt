@@ -1,0 +1,93 @@
+//! The program, but for what only the system can give: the words of its command line, its files, and where it reads and
+//! writes.
+ghost use Rattle.std.specs.Prelude.{◌≡◌, false, map};
+ghost use Rattle.watched_io.specs.Reads.{IsOpen};
+ghost use Rattle.desk.specs.Program.{ProgramEnds, StandardEnds};
+
+use def_iface::Stock;
+use script_runner::{Choices, Opener, OptionsError, options, run_chosen};
+use std::alloc::Global;
+use std::convert::AsStr;
+use std_wdef::{NotchedWindow, StdWindow, Variation};
+use tb_geom::Refusal;
+use watched_io::{Sink, Source};
+
+/// How many definitions of each kind of window the stock begins with.
+const DEFINITIONS: u8 = 16;
+
+/// The names of the standard kinds of windows, as a script has them.
+static STANDARD: [(&[u8], Variation); 6] = [
+    (b"document", Variation::Document),
+    (b"dialog", Variation::Dialog),
+    (b"plain", Variation::Plain),
+    (b"shadow", Variation::Shadow),
+    (b"nogrow", Variation::NoGrow),
+    (b"zoom", Variation::Zoom),
+];
+
+/// What stopped the program.
+#[derive(Drop)]
+pub enum Stopped {
+    /// The words of its command line, which are not taken.
+    Words(OptionsError),
+    /// What stopped its run.
+    Run(Refusal),
+}
+
+/// Runs what the words of the command line choose, of which the first is the program's name, over a stock of 16
+/// definitions of each kind. Where the words are not taken, nothing is read or written.
+pub fn run_words<F: Opener, R: Source, W: Sink, S: AsStr>(
+    alloc: Global,
+    words: &[S],
+    files: &F,
+    standard: &mut R,
+    sink: &mut W,
+) -> Result<(), Stopped>
+    requires unread { (R.input standard.old).reads ≡ 0 }
+    requires going { IsOpen (R.input standard.old) }
+    requires unfailed { (W.output sink.old).has_failed ≡ false }
+    ensures { ProgramEnds (F.opens files.now) F.Opened.input
+        (R.input standard.old) (R.input standard.new) (W.output sink.old) (W.output sink.new)
+        (map S.text words.now) result }
+{
+    let chosen = match options(alloc, words) {
+        Ok(chosen) => chosen,
+        Err(error) => return Err(Stopped::Words(error)),
+    };
+    match run_standard(alloc, files, standard, sink, &chosen) {
+        Ok(()) => Ok(()),
+        Err(refusal) => Err(Stopped::Run(refusal)),
+    }
+}
+
+/// Runs what was chosen over a stock of 16 definitions of each kind. NoMemory also where there is none for the stock,
+/// and then nothing is read or written.
+fn run_standard<F: Opener, R: Source, W: Sink>(
+    alloc: Global,
+    files: &F,
+    standard: &mut R,
+    sink: &mut W,
+    chosen: &Choices<'_>,
+) -> Result<(), Refusal>
+    requires unread { (R.input standard.old).reads ≡ 0 }
+    requires going { IsOpen (R.input standard.old) }
+    requires unfailed { (W.output sink.old).has_failed ≡ false }
+    ensures { StandardEnds (F.opens files.now) F.Opened.input
+        (R.input standard.old) (R.input standard.new) (W.output sink.old) (W.output sink.new)
+        chosen.now result }
+{
+    let mut stock = Stock::new(alloc);
+    for round in 0..DEFINITIONS {
+        for (kind, variation) in &STANDARD {
+            let window = Box::new(alloc, StdWindow::new(*variation))?;
+            let Ok(()) = stock.add(kind, window) else {
+                return Err(Refusal::NoMemory);
+            };
+        }
+        let notched = Box::new(alloc, NotchedWindow::new())?;
+        let Ok(()) = stock.add(b"notched", notched) else {
+            return Err(Refusal::NoMemory);
+        };
+    }
+    run_chosen(alloc, files, standard, sink, &mut stock, chosen)
+}

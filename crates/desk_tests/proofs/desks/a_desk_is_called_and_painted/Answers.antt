@@ -1,0 +1,14 @@
+use Rattle.window_mgr.proofs.KeptLemmas.{kept}
+use Rattle.desk_tests.proofs.desks.a_desk_is_called_and_painted.Goals as goal
+
+pub run-requires : goal.run-requires
+run-requires g c = c.in-Ok-new.ensures.whole _ c.loop.invariant
+
+pub paint-requires : goal.paint-requires
+paint-requires g c = kept _ _ _ c.run.ensures.whole.windows
+
+pub pixels_right-stale-requires : goal.pixels_right-stale-requires
+pixels_right-stale-requires g c = record { slots = _; whole = c.pixels_right-right.ensures.whole _ c.run.ensures.whole }
+
+pub close-requires : goal.close-requires
+close-requires g c = (c.pixels_right-stale.ensures.whole _ (c.pixels_right-right.ensures.whole _ c.run.ensures.whole)).windows

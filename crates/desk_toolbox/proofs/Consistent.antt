@@ -1,0 +1,61 @@
+-- Each state that a Toolbox reaches is consistent.
+use Rattle.std.proofs.Common.{◌≡◌, true, List, [], ◌∷◌, Option, None, Some, Result, Ok, Err, refl, sym, ap, subst}
+use Rattle.std.proofs.lemmas.List.Elements.{All-nil, All-same}
+use Rattle.tb_geom.specs.declared.refusal.Refusal.{Refusal}
+use Rattle.event_queue.specs.declared.event.Event.{Event}
+use Rattle.event_queue.specs.Events.{is_posted}
+use Rattle.desk_call.specs.declared.call.Call.{Call}
+use Rattle.desk_call.specs.declared.call.Call.TheVariants.{Window, Update, Frame, Event as AboutEvents}
+use Rattle.desk_call.specs.declared.call.Reply.{Reply}
+use Rattle.desk_call.specs.Gates.{gate, standing_of}
+use Rattle.vis_update.specs.Records.{WindowRecord}
+use Rattle.window_mgr.specs.FullDesk.{IsRightState}
+use Rattle.window_frame.specs.Followers.{Knows}
+use Rattle.window_frame.specs.Followers.Flag.{Highlighting, Zooming}
+use Rattle.desk_toolbox.specs.declared.events.Events.{Events}
+use Rattle.desk_toolbox.specs.Reached.{IsThere, IsTrackedIfHeard, IsConsistent, IsJustBegun, open_window}
+use Rattle.desk_toolbox.specs.Run.{IsAdmitted, IsGated, IsStep, IsRunOfCalls}
+use Rattle.desk_toolbox.specs.ToolboxStates.{ToolboxState}
+use Rattle.desk_toolbox.proofs.Runs.{step_stays_right}
+use Rattle.desk_toolbox.proofs.Stands.{Stands, stands, consistent, stands_still, event_stands, window_stands}
+use Rattle.desk_toolbox.proofs.StandsOpen.{update_stands, frame_stands}
+
+admitted_stands : (call : Call) (answer : Result Reply Refusal) (before after : ToolboxState) → gate before.desk.activity (standing_of call) ≡ None → Stands before → IsRightState after.desk.windows → IsAdmitted call answer before after → Stands after
+admitted_stands (Window call) answer before after may was right (own, is, step) = window_stands call own before after may was right step
+admitted_stands (Update call) answer before after may was right (own, is, step) = update_stands call own before after may was right step.0 step.1
+admitted_stands (Frame call) answer before after may was right (own, is, step) = frame_stands call own before after may was right step.0 step.1
+admitted_stands (AboutEvents call) answer before after may was right (own, is, step) = event_stands call own before after was right step
+
+gated_stands : (stopped : Option Refusal) (call : Call) (answer : Result Reply Refusal) (before after : ToolboxState) → gate before.desk.activity (standing_of call) ≡ stopped → Stands before → IsRightState after.desk.windows → IsGated stopped call answer before after → Stands after
+gated_stands None call answer before after may was right step = admitted_stands call answer before after may was right step
+gated_stands (Some e) call (Ok answer) before after may was right step = absurd step
+gated_stands (Some e) call (Err f) before after may was right (form, why, (is, same)) = stands_still before after same.desk.windows.desk same.desk.activity same.events was right
+
+step_stands : (call : Call) (answer : Result Reply Refusal) (before after : ToolboxState) → Stands before → IsStep call answer before after → Stands after
+step_stands call answer before after was step =
+    gated_stands (gate before.desk.activity (standing_of call)) call answer before after refl was (step_stays_right call answer before after was.right step) step
+
+pub step_keeps_consistent : (call : Call) (answer : Result Reply Refusal) (before after : ToolboxState) → IsConsistent before → IsStep call answer before after → IsConsistent after
+step_keeps_consistent call answer before after was step = consistent after (step_stands call answer before after (stands before was) step)
+
+pub run_keeps_consistent : (first last : ToolboxState) (calls : List Call) (answers : List (Result Reply Refusal)) → IsConsistent first → IsRunOfCalls first calls answers last → IsConsistent last
+run_keeps_consistent first last [] [] was run = subst IsConsistent (sym run) was
+run_keeps_consistent first last [] (answer ∷ answers) was run = absurd run
+run_keeps_consistent first last (call ∷ calls) [] was run = absurd run
+run_keeps_consistent first last (call ∷ calls) (answer ∷ answers) was run =
+    run_keeps_consistent run.0 last calls answers (step_keeps_consistent call answer first run.0 was run.1) run.2
+
+-- ---- at the beginning
+
+pub just_begun_is_consistent : (s : ToolboxState) → IsJustBegun s → IsConsistent s
+just_begun_is_consistent s begun =
+    let windows = s.desk.windows.desk.windows in
+    record {
+      right = begun.right;
+      active = subst (λ o. IsThere o windows) (sym begun.active) tt;
+      told = subst (λ (e : Events). IsThere e.told windows) (sym begun.events) tt;
+      opened = subst (λ a. IsThere (open_window a) windows) (sym begun.idle) tt;
+      queued = All-same (λ (e : Event). is_posted e.what ≡ true) s.events.queue.events [] (ap (λ (e : Events). e.queue.events) begun.events) (All-nil (λ (e : Event). is_posted e.what ≡ true));
+      informed = All-same (λ (w : WindowRecord). Knows Highlighting w × Knows Zooming w) windows [] begun.windows (All-nil (λ (w : WindowRecord). Knows Highlighting w × Knows Zooming w));
+      tracked = All-same (IsTrackedIfHeard s.desk.activity) windows [] begun.windows (All-nil (IsTrackedIfHeard s.desk.activity));
+    }

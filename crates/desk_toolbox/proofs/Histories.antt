@@ -1,0 +1,201 @@
+-- A run of the Toolbox as a row of steps of the queue's history: what it tells of the active window.
+use Rattle.std.proofs.Common.{◌≡◌, ◌≢◌, inl, ℕ, nat_abs, Bool, true, false, List, [], ◌∷◌, ◌++◌, Option, None, Some, Result, Ok, Err, refl, sym, ap, ◌∙◌, subst}
+use Rattle.tb_geom.specs.declared.refusal.Refusal.{Refusal}
+use Rattle.event_queue.specs.declared.event.Event.{Event}
+use Rattle.event_queue.specs.declared.event.EventKind.TheVariants.{Activate}
+use Rattle.event_queue.specs.Events.{selects}
+use Rattle.event_queue.specs.History.{Step, BecomesActive, IsDisposed, Tells, NeverActive, NeverDisposed, IsHistory, telling, told_of, Alternates, is_told_active}
+use Rattle.event_queue.proofs.HistoryLemmas.{told_events_alternate, at_most_one_told}
+use Rattle.desk_call.specs.declared.call.Call.{Call}
+use Rattle.desk_call.specs.declared.call.Call.TheVariants as asks
+use Rattle.desk_call.specs.declared.call.Reply.{Reply}
+use Rattle.desk_call.specs.declared.call.Reply.TheVariants as reply
+use Rattle.desk_call.specs.declared.event.EventCall.{EventCall}
+use Rattle.desk_call.specs.declared.event.EventCall.TheVariants.{Post, Next, Avail, Flush, SetMask}
+use Rattle.desk_call.specs.declared.event.EventReply.{EventReply}
+use Rattle.desk_call.specs.declared.window.WindowCall.{WindowCall}
+use Rattle.desk_call.specs.declared.window.WindowReply.{WindowReply}
+use Rattle.desk_call.specs.Gates.{gate, standing_of}
+use Rattle.window_mgr.specs.FullDesk.{FullDesk}
+use Rattle.window_update.specs.DeskStates.{narrowed}
+use Rattle.desk_toolbox.specs.declared.events.Events.{Events}
+use Rattle.desk_toolbox.specs.Activations.{activate_event_told, activate_events_told, to_dispose, disposed_by, IsNeverDisposed}
+use Rattle.desk_toolbox.specs.EventSteps.{EventStep}
+use Rattle.desk_toolbox.specs.Reached.{IsConsistent, IsJustBegun}
+use Rattle.desk_toolbox.specs.Run.{IsWindowMade, IsEventAnswer, IsAdmitted, replied, IsGated, IsStep, IsRunOfCalls}
+use Rattle.desk_toolbox.specs.ToolboxStates.{ToolboxState}
+use Rattle.desk_toolbox.proofs.UpdatedDesks.{update_keeps_desk}
+use Rattle.desk_toolbox.proofs.StepCounts.{Recount, HasSame, IsGone, same_desk, frame_counts, window_recounts, gone_stays, disposed_is_gone, present_is_not_gone}
+use Rattle.desk_toolbox.proofs.Stands.{Stands, stands, refused_keeps_desk}
+use Rattle.desk_toolbox.proofs.Telling.{forgotten_if, left_after, telling_on, event_tells, told_if}
+use Rattle.desk_toolbox.proofs.Consistent.{step_keeps_consistent, just_begun_is_consistent}
+
+-- a window is disposed of, if one is, and then others
+abbrev disposing : Option ℕ → List Step → List Step
+disposing None rest = rest
+disposing (Some w) rest = IsDisposed w ∷ rest
+
+-- the steps of the history that a call is, in front of others
+abbrev steps_of : Call → Result Reply Refusal → Option ℕ → List Step → List Step
+steps_of call answer active rest = BecomesActive active ∷ disposing (disposed_by call answer) (telling_on call answer rest)
+
+-- ---- what one step of a run is
+
+record IsOneStep (call : Call) (answer : Result Reply Refusal) (before after : ToolboxState) : Type 0 where
+  tells : (rest : List Step) → telling before.events.told before.desk.windows.desk.active (steps_of call answer after.desk.windows.desk.active rest)
+      ≡ activate_event_told call answer ++ telling after.events.told after.desk.windows.desk.active rest
+  recount : Recount (disposed_by call answer) before.desk.windows.desk after.desk.windows.desk
+
+-- nothing is told, and what is disposed of is forgotten
+quiet : (o told active new_active new : Option ℕ) (rest : List Step) → new ≡ forgotten_if o told → telling told active (BecomesActive new_active ∷ disposing o rest) ≡ telling new new_active rest
+quiet None told active new_active new rest is = ap (λ t. telling t new_active rest) (sym is)
+quiet (Some w) told active new_active new rest is = ap (λ t. telling t new_active rest) (sym is)
+
+window_step : (call : WindowCall) (answer : Result WindowReply Refusal) (before after : ToolboxState) → IsWindowMade call answer before after → IsOneStep (asks.Window call) (replied reply.Window answer) before after
+window_step call (Ok answer) before after ((middle, answered, (same, told)), events) = record {
+  tells = λ rest. quiet (to_dispose call) before.events.told before.desk.windows.desk.active after.desk.windows.desk.active after.events.told rest (ap (λ (e : Events). e.told) (events ∙ left_after call before.events));
+  recount = window_recounts call answer before.desk middle after.desk answered told;
+}
+window_step call (Err e) before after (answered, events) = record {
+  tells = λ rest. quiet None before.events.told before.desk.windows.desk.active after.desk.windows.desk.active after.events.told rest (ap (λ (e : Events). e.told) events);
+  recount = inl (same_desk before.desk.windows.desk after.desk.windows.desk (refused_keeps_desk (narrowed call before.desk.activity before.desk.begun) call e before.desk after.desk answered));
+}
+
+event_step_is : (call : EventCall) (answer : Result EventReply Refusal) (before after : ToolboxState) → Stands before → IsEventAnswer call answer before after → IsOneStep (asks.Event call) (replied reply.Event answer) before after
+event_step_is call answer before after was (same, (update, first, is)) = record {
+  tells = λ rest.
+      let active = before.desk.windows.desk.active in
+      let now : after.desk.windows.desk.active ≡ active = ap (λ (d : FullDesk). d.active) same.windows.desk in
+      subst (λ o. telling before.events.told o (telling_on (asks.Event call) (replied reply.Event answer) rest) ≡ activate_event_told (asks.Event call) (replied reply.Event answer) ++ telling after.events.told o rest) (sym now)
+      (subst (λ (x : EventStep). telling before.events.told active (telling_on (asks.Event call) (replied reply.Event x.0) rest) ≡ activate_event_told (asks.Event call) (replied reply.Event x.0) ++ telling x.1.told active rest) (sym is)
+      (event_tells call active update before.events rest was.queued));
+  recount = inl (same_desk before.desk.windows.desk after.desk.windows.desk same.windows.desk);
+}
+
+-- neither events nor windows come or go
+still_step : (call : Call) (answer : Result Reply Refusal) (before after : ToolboxState) → disposed_by call answer ≡ None → activate_event_told call answer ≡ [] → ((rest : List Step) → telling_on call answer rest ≡ rest) → after.events ≡ before.events → HasSame before.desk.windows.desk after.desk.windows.desk → IsOneStep call answer before after
+still_step call answer before after none silent quietly events same = record {
+  tells = λ rest.
+      let active = before.desk.windows.desk.active in
+      let now = after.desk.windows.desk.active in
+      ap (λ o. telling before.events.told active (BecomesActive now ∷ disposing o (telling_on call answer rest))) none
+      ∙ ap (λ (steps : List Step). telling before.events.told now steps) (quietly rest)
+      ∙ ap (λ (e : Events). telling e.told now rest) (sym events)
+      ∙ sym (ap (λ (es : List Event). es ++ telling after.events.told now rest) silent);
+  recount = subst (λ o. Recount o before.desk.windows.desk after.desk.windows.desk) (sym none) (inl same);
+}
+
+admitted_step : (call : Call) (answer : Result Reply Refusal) (before after : ToolboxState) → Stands before → IsAdmitted call answer before after → IsOneStep call answer before after
+admitted_step (asks.Window call) answer before after was (own, is, step) =
+    subst (λ r. IsOneStep (asks.Window call) r before after) (sym is) (window_step call own before after step)
+admitted_step (asks.Update call) answer before after was (own, is, step) =
+    still_step (asks.Update call) answer before after refl refl (λ rest. refl) step.1 (same_desk before.desk.windows.desk after.desk.windows.desk (update_keeps_desk call own before.desk after.desk step.0))
+admitted_step (asks.Frame call) answer before after was (own, is, step) =
+    still_step (asks.Frame call) answer before after refl refl (λ rest. refl) step.1 (frame_counts call own before.desk after.desk step.0)
+admitted_step (asks.Event call) answer before after was (own, is, step) =
+    subst (λ r. IsOneStep (asks.Event call) r before after) (sym is) (event_step_is call own before after was step)
+
+-- a refused call tells nothing, and disposes of nothing
+refused_step : (call : Call) (e : Refusal) (before after : ToolboxState) → after.events ≡ before.events → HasSame before.desk.windows.desk after.desk.windows.desk → IsOneStep call (Err e) before after
+refused_step (asks.Window call) e before after events same = still_step (asks.Window call) (Err e) before after refl refl (λ rest. refl) events same
+refused_step (asks.Update call) e before after events same = still_step (asks.Update call) (Err e) before after refl refl (λ rest. refl) events same
+refused_step (asks.Frame call) e before after events same = still_step (asks.Frame call) (Err e) before after refl refl (λ rest. refl) events same
+refused_step (asks.Event (Post p)) e before after events same = still_step (asks.Event (Post p)) (Err e) before after refl refl (λ rest. refl) events same
+refused_step (asks.Event (Next mask)) e before after events same = still_step (asks.Event (Next mask)) (Err e) before after refl refl (λ rest. refl) events same
+refused_step (asks.Event (Avail mask)) e before after events same = still_step (asks.Event (Avail mask)) (Err e) before after refl refl (λ rest. refl) events same
+refused_step (asks.Event (Flush f)) e before after events same = still_step (asks.Event (Flush f)) (Err e) before after refl refl (λ rest. refl) events same
+refused_step (asks.Event (SetMask mask)) e before after events same = still_step (asks.Event (SetMask mask)) (Err e) before after refl refl (λ rest. refl) events same
+
+gated_step : (stopped : Option Refusal) (call : Call) (answer : Result Reply Refusal) (before after : ToolboxState) → Stands before → IsGated stopped call answer before after → IsOneStep call answer before after
+gated_step None call answer before after was step = admitted_step call answer before after was step
+gated_step (Some e) call (Ok answer) before after was step = absurd step
+gated_step (Some e) call (Err f) before after was (form, why, (is, same)) =
+    refused_step call f before after same.events (same_desk before.desk.windows.desk after.desk.windows.desk same.desk.windows.desk)
+
+one_step : (call : Call) (answer : Result Reply Refusal) (before after : ToolboxState) → Stands before → IsStep call answer before after → IsOneStep call answer before after
+one_step call answer before after was step = gated_step (gate before.desk.activity (standing_of call)) call answer before after was step
+
+-- ---- runs
+
+-- the row of steps of a run from this state, in these calls and answers
+record IsHistoryOf (first : ToolboxState) (calls : List Call) (answers : List (Result Reply Refusal)) : Type 0 where
+  steps : List Step
+  history : IsHistory first.desk.windows.desk.active steps
+  tells : telling first.events.told first.desk.windows.desk.active steps ≡ activate_events_told calls answers
+  kept : (w : ℕ) → IsNeverDisposed w calls answers → NeverDisposed w steps
+  gone : (w : ℕ) → IsGone w first.desk.windows.desk → NeverActive w steps
+
+-- a step that tells changes nothing of these
+with_telling : (P : List Step → Type 0) (call : Call) (answer : Result Reply Refusal) (steps : List Step) → P steps → P (Tells ∷ steps) → P (telling_on call answer steps)
+with_telling P (asks.Event (Next mask)) (Ok answer) steps h more = by_selected (selects (nat_abs mask) Activate)
+  where
+    by_selected : (b : Bool) → P (told_if b steps)
+    by_selected true = more
+    by_selected false = h
+with_telling P _ _ steps h more = h
+
+-- a window that is disposed of is not active then or later
+history_on : (o active : Option ℕ) (call : Call) (answer : Result Reply Refusal) (steps : List Step) → IsHistory active steps → ((w : ℕ) → o ≡ Some w → (active ≢ Some w) × NeverActive w steps) → IsHistory active (disposing o (telling_on call answer steps))
+history_on None active call answer steps history gone = with_telling (IsHistory active) call answer steps history history
+history_on (Some w) active call answer steps history gone =
+    let never = gone w refl in
+    (never.0, with_telling (NeverActive w) call answer steps never.1 never.1, with_telling (IsHistory active) call answer steps history history)
+
+kept_on : (w : ℕ) (o : Option ℕ) (call : Call) (answer : Result Reply Refusal) (steps : List Step) → o ≢ Some w → NeverDisposed w steps → NeverDisposed w (disposing o (telling_on call answer steps))
+kept_on w None call answer steps other never = with_telling (NeverDisposed w) call answer steps never never
+kept_on w (Some x) call answer steps other never = ((λ e. other (ap Some e)), with_telling (NeverDisposed w) call answer steps never never)
+
+gone_on : (w : ℕ) (o : Option ℕ) (call : Call) (answer : Result Reply Refusal) (steps : List Step) → NeverActive w steps → NeverActive w (disposing o (telling_on call answer steps))
+gone_on w None call answer steps never = with_telling (NeverActive w) call answer steps never never
+gone_on w (Some x) call answer steps never = with_telling (NeverActive w) call answer steps never never
+
+history_of : (first last : ToolboxState) (calls : List Call) (answers : List (Result Reply Refusal)) → IsConsistent first → IsRunOfCalls first calls answers last → IsHistoryOf first calls answers
+history_of first last [] [] was run = record { steps = []; history = tt; tells = refl; kept = λ w h. tt; gone = λ w h. tt }
+history_of first last [] (answer ∷ answers) was run = absurd run
+history_of first last (call ∷ calls) [] was run = absurd run
+history_of first last (call ∷ calls) (answer ∷ answers) was run =
+    let middle = run.0 in
+    let desk = middle.desk.windows.desk in
+    let before = stands first was in
+    let next = step_keeps_consistent call answer first middle was run.1 in
+    let after = stands middle next in
+    let step = one_step call answer first middle before run.1 in
+    let rest = history_of middle last calls answers next run.2 in
+    let gone_now = λ (w : ℕ) (e : disposed_by call answer ≡ Some w).
+    disposed_is_gone w first.desk.windows middle.desk.windows before.right (subst (λ o. Recount o first.desk.windows.desk desk) e step.recount) in
+    record {
+      steps = steps_of call answer desk.active rest.steps;
+      history = history_on (disposed_by call answer) desk.active call answer rest.steps rest.history (λ w e.
+          (present_is_not_gone desk.active w desk (gone_now w e) after.active, rest.gone w (gone_now w e)));
+      tells = step.tells rest.steps ∙ ap (λ (es : List Event). activate_event_told call answer ++ es) rest.tells;
+      kept = λ w h. kept_on w (disposed_by call answer) call answer rest.steps h.0 (rest.kept w h.1);
+      gone = λ w g.
+          let still = gone_stays (disposed_by call answer) w first.desk.windows.desk desk step.recount g in
+          (present_is_not_gone desk.active w desk still after.active, gone_on w (disposed_by call answer) call answer rest.steps (rest.gone w still));
+    }
+
+-- from a desk that just began
+module _ (first last : ToolboxState) (calls : List Call) (answers : List (Result Reply Refusal)) (begun : IsJustBegun first) (run : IsRunOfCalls first calls answers last) where
+  whole : IsHistoryOf first calls answers
+  whole = history_of first last calls answers (just_begun_is_consistent first begun) run
+
+  none_told : first.events.told ≡ None
+  none_told = ap (λ (e : Events). e.told) begun.events
+
+  tells_all : telling None None whole.steps ≡ activate_events_told calls answers
+  tells_all = sym (λ i. telling (none_told i) (begun.active i) whole.steps) ∙ whole.tells
+
+  pub run_alternates : (window : ℕ) → Alternates true (told_of window (activate_events_told calls answers))
+  run_alternates window =
+      subst (λ (es : List Event). Alternates true (told_of window es)) tells_all
+      (told_events_alternate window whole.steps (subst (λ o. IsHistory o whole.steps) begun.active whole.history))
+
+  pub run_tells_one : (v w : ℕ) → IsNeverDisposed v calls answers → IsNeverDisposed w calls answers → is_told_active v (activate_events_told calls answers) ≡ true → is_told_active w (activate_events_told calls answers) ≡ true → v ≡ w
+  run_tells_one v w stays remains a b =
+      at_most_one_told v w whole.steps (whole.kept v stays) (whole.kept w remains) (ap (is_told_active v) tells_all ∙ a) (ap (is_told_active w) tells_all ∙ b)
+
+pub told_events_of_runs_alternate : (window : ℕ) (first last : ToolboxState) (calls : List Call) (answers : List (Result Reply Refusal)) → IsJustBegun first → IsRunOfCalls first calls answers last → Alternates true (told_of window (activate_events_told calls answers))
+told_events_of_runs_alternate window first last calls answers begun run = run_alternates first last calls answers begun run window
+
+pub at_most_one_told_in_runs : (v w : ℕ) (first last : ToolboxState) (calls : List Call) (answers : List (Result Reply Refusal)) → IsJustBegun first → IsRunOfCalls first calls answers last → IsNeverDisposed v calls answers → IsNeverDisposed w calls answers → is_told_active v (activate_events_told calls answers) ≡ true → is_told_active w (activate_events_told calls answers) ≡ true → v ≡ w
+at_most_one_told_in_runs v w first last calls answers begun run stays remains a b = run_tells_one first last calls answers begun run v w stays remains a b

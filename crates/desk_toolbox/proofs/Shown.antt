@@ -1,0 +1,22 @@
+-- What windows' definitions show, by what the records say.
+use Rattle.std.proofs.Common.{◌≡◌, get_or, subst}
+use Rattle.std.specs.Prelude.{All}
+use Rattle.def_iface.specs.Meaning.{GoesBy}
+use Rattle.def_iface.specs.News.{AllNews}
+use Rattle.vis_update.specs.Records.{WindowRecord, news_of}
+use Rattle.window_mgr.specs.FullDesk.{FullDesk}
+use Rattle.window_mgr.specs.Whole.{IsSoundDesk, IsSettled}
+use Rattle.window_frame.specs.Followers.{Knows, AreInformed}
+use Rattle.window_frame.specs.Followers.Flag.{Highlighting, Zooming}
+use Rattle.desk_toolbox.specs.Reached.{news_by_record}
+
+goes_by_record : (w : WindowRecord) → IsSettled w → Knows Highlighting w → Knows Zooming w → GoesBy (news_by_record w) w.definition
+goes_by_record w settled highlighting zooming =
+    let same : news_of w ≡ news_by_record w = λ i. record (news_of w) { highlighted = highlighting i; zoomed = zooming i } in
+    subst (λ (all : AllNews). GoesBy all w.definition) same settled.goes_by
+
+pub desk_goes_by_records : (desk : FullDesk) → IsSoundDesk desk → AreInformed desk.windows → All (λ w. GoesBy (news_by_record w) w.definition) desk.windows
+desk_goes_by_records desk sound informed = λ k d within.
+    let w = get_or desk.windows k d in
+    let knows = informed k d within in
+    goes_by_record w (sound.settled k d within) knows.0 knows.1

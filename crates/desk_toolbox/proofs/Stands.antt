@@ -1,0 +1,185 @@
+-- What holds of a reached state, with windows counted, after calls on windows and about events.
+use Rattle.std.proofs.Common.{◌≡◌, ℕ, List, Option, None, Some, Result, Ok, Err, refl, sym, ap, ◌∙◌, subst, arith}
+use Rattle.tb_geom.specs.declared.refusal.Refusal.{Refusal}
+use Rattle.tb_geom.specs.Points.{PixelSet}
+use Rattle.desk_call.specs.declared.activity.Activity.{Activity}
+use Rattle.desk_call.specs.declared.activity.Activity.TheVariants.{Idle, Updating, Tracking}
+use Rattle.desk_call.specs.declared.activity.Standing.{Standing}
+use Rattle.desk_call.specs.declared.activity.Standing.TheVariants.{Asks, Updates, Tracks, Changes}
+use Rattle.desk_call.specs.declared.event.EventCall.{EventCall}
+use Rattle.desk_call.specs.declared.event.EventReply.{EventReply}
+use Rattle.desk_call.specs.declared.window.WindowCall.{WindowCall}
+use Rattle.desk_call.specs.declared.window.WindowCall.TheVariants as asks
+use Rattle.desk_call.specs.declared.window.WindowReply.{WindowReply}
+use Rattle.desk_call.specs.Gates.{gate, window_standing}
+use Rattle.vis_update.specs.Records.{WindowRecord}
+use Rattle.vis_update.specs.Touches.{is_this}
+use Rattle.window_mgr.specs.Effects.{IsEffect, effect_of}
+use Rattle.window_mgr.specs.FullDesk.{FullDesk, FullState, IsRightState}
+use Rattle.window_update.specs.DeskStates.{DeskState, narrowed}
+use Rattle.window_frame.specs.Followers.{AreInformed, IsCaughtUpBy}
+use Rattle.window_frame.proofs.FrameKeeps.{caught_up_keeps}
+use Rattle.desk_toolbox.specs.declared.events.Events.{Events}
+use Rattle.desk_toolbox.specs.Activations.{to_dispose}
+use Rattle.desk_toolbox.specs.EventSteps.{event_step}
+use Rattle.desk_toolbox.specs.Reached.{IsThere, IsConsistent, open_window}
+use Rattle.desk_toolbox.specs.Run.{IsWindowAnswer, IsWindowMade, IsEventAnswer}
+use Rattle.desk_toolbox.specs.ToolboxStates.{ToolboxState}
+use Rattle.desk_toolbox.proofs.Totals.{total, Present, present_when, found_counts, counted_is_found}
+use Rattle.desk_toolbox.proofs.Recounts.{done_counts, done_keeps_active}
+use Rattle.desk_toolbox.proofs.StepCounts.{Apart, caught_up_counts, caught_up_total, window_recounts, stays_present}
+use Rattle.desk_toolbox.proofs.Told.{ArePosted, step_are_posted}
+use Rattle.desk_toolbox.proofs.Telling.{step_told_present, left_after, forgotten_present}
+use Rattle.desk_toolbox.proofs.Tracked.{misled, none_misled, all_heard_rightly, counted_none}
+
+pub record Stands (s : ToolboxState) : Type 0 where
+  pub right : IsRightState s.desk.windows
+  pub active : Present s.desk.windows.desk.active s.desk.windows.desk.windows
+  pub told : Present s.events.told s.desk.windows.desk.windows
+  pub opened : Present (open_window s.desk.activity) s.desk.windows.desk.windows
+  pub queued : ArePosted s.events.queue.events
+  pub informed : AreInformed s.desk.windows.desk.windows
+  pub tracked : total (misled s.desk.activity) s.desk.windows.desk.windows ≡ 0
+
+there_is_present : (o : Option ℕ) (ws : List WindowRecord) → IsThere o ws → Present o ws
+there_is_present None ws h = tt
+there_is_present (Some s) ws h = found_counts s ws h
+
+present_is_there : (o : Option ℕ) (ws : List WindowRecord) → Present o ws → IsThere o ws
+present_is_there None ws h = tt
+present_is_there (Some s) ws h = counted_is_found s ws h
+
+pub stands : (s : ToolboxState) → IsConsistent s → Stands s
+stands s h = record {
+  right = h.right;
+  active = there_is_present s.desk.windows.desk.active s.desk.windows.desk.windows h.active;
+  told = there_is_present s.events.told s.desk.windows.desk.windows h.told;
+  opened = there_is_present (open_window s.desk.activity) s.desk.windows.desk.windows h.opened;
+  queued = h.queued;
+  informed = h.informed;
+  tracked = none_misled s.desk.activity s.desk.windows.desk.windows h.tracked;
+}
+
+pub consistent : (s : ToolboxState) → Stands s → IsConsistent s
+consistent s h = record {
+  right = h.right;
+  active = present_is_there s.desk.windows.desk.active s.desk.windows.desk.windows h.active;
+  told = present_is_there s.events.told s.desk.windows.desk.windows h.told;
+  opened = present_is_there (open_window s.desk.activity) s.desk.windows.desk.windows h.opened;
+  queued = h.queued;
+  informed = h.informed;
+  tracked = all_heard_rightly s.desk.activity s.desk.windows.desk.windows h.tracked;
+}
+
+-- ---- where the desk and what is open did not change
+
+module _ (before after : ToolboxState) (desk : after.desk.windows.desk ≡ before.desk.windows.desk) (activity : after.desk.activity ≡ before.desk.activity) where
+  pub stands_on : Stands before → IsRightState after.desk.windows → Present after.events.told before.desk.windows.desk.windows → ArePosted after.events.queue.events → Stands after
+  stands_on was right told queued = record {
+    right = right;
+    active = subst (λ (d : FullDesk). Present d.active d.windows) (sym desk) was.active;
+    told = subst (λ (d : FullDesk). Present after.events.told d.windows) (sym desk) told;
+    opened = subst (λ (d : FullDesk). Present (open_window after.desk.activity) d.windows) (sym desk) (subst (λ a. Present (open_window a) before.desk.windows.desk.windows) (sym activity) was.opened);
+    queued = queued;
+    informed = subst (λ (d : FullDesk). AreInformed d.windows) (sym desk) was.informed;
+    tracked = ap (λ (d : FullDesk). total (misled after.desk.activity) d.windows) desk ∙ ap (λ a. total (misled a) before.desk.windows.desk.windows) activity ∙ was.tracked;
+  }
+
+  pub stands_still : after.events ≡ before.events → Stands before → IsRightState after.desk.windows → Stands after
+  stands_still events was right = stands_on was right
+      (subst (λ (e : Events). Present e.told before.desk.windows.desk.windows) (sym events) was.told)
+      (subst (λ (e : Events). ArePosted e.queue.events) (sym events) was.queued)
+
+-- ---- calls about events
+
+pub event_stands : (call : EventCall) (answer : Result EventReply Refusal) (before after : ToolboxState) → Stands before → IsRightState after.desk.windows → IsEventAnswer call answer before after → Stands after
+event_stands call answer before after was right (same, (update, first, is)) =
+    let active = before.desk.windows.desk.active in
+    let events : after.events ≡ (event_step call active update before.events).1 = ap (λ (x : Result EventReply Refusal × Events). x.1) is in
+    stands_on before after same.windows.desk same.activity was right
+    (subst (λ (e : Events). Present e.told before.desk.windows.desk.windows) (sym events) (step_told_present call active update before.events before.desk.windows.desk.windows was.told was.active))
+    (subst (λ (e : Events). ArePosted e.queue.events) (sym events) (step_are_posted call active update before.events was.queued))
+
+-- ---- calls on windows
+
+-- a call that changes anything comes while nothing is open
+pub idle_now : (activity : Activity) → gate activity Changes ≡ None → activity ≡ Idle
+idle_now Idle e = refl
+idle_now (Updating s) e = absurd (cc)
+idle_now (Tracking s) e = absurd (cc)
+
+-- no window is disposed of while something of it is open
+apart_open : (call : WindowCall) (activity : Activity) → gate activity (window_standing call) ≡ None → Apart (to_dispose call) (open_window activity)
+apart_open (asks.Dispose s) activity e = ap (λ a. is_this (open_window a) s) (idle_now activity e)
+apart_open _ activity e = tt
+
+answer_keeps_activity : (asked : Option PixelSet) (call : WindowCall) (answer : Result WindowReply Refusal) (before after : DeskState) → IsWindowAnswer asked call answer before after → after.activity ≡ before.activity
+answer_keeps_activity None call answer before after step = step.0.activity
+answer_keeps_activity (Some set) call answer before after step = step.1.activity
+
+answer_keeps_active : (asked : Option PixelSet) (call : WindowCall) (answer : WindowReply) (before after : DeskState) → IsWindowAnswer asked call (Ok answer) before after → Present before.windows.desk.active before.windows.desk.windows → Present after.windows.desk.active after.windows.desk.windows
+answer_keeps_active None call answer before after step was = done_keeps_active call answer before.windows after.windows step.1.1 was
+answer_keeps_active (Some set) call answer before after step was = subst (λ (d : FullDesk). Present d.active d.windows) (sym step.1.windows.desk) was
+
+answer_misleads_none : (asked : Option PixelSet) (call : WindowCall) (answer : WindowReply) (activity : Activity) (before after : DeskState) → IsWindowAnswer asked call (Ok answer) before after → total (misled activity) before.windows.desk.windows ≡ 0 → total (misled activity) after.windows.desk.windows ≡ 0
+answer_misleads_none None call answer activity before after step none =
+    counted_none (misled activity) (effect_of call before.windows.desk) before.windows.desk after.windows.desk (λ n. refl) (done_counts call answer before.windows after.windows step.1.1) none
+answer_misleads_none (Some set) call answer activity before after step none = ap (λ (d : FullDesk). total (misled activity) d.windows) step.1.windows.desk ∙ none
+
+-- a call that asks leaves the desk
+asking_keeps : (call : WindowCall) (answer : WindowReply) (before after : FullState) → IsEffect (effect_of call before.desk) answer before after → window_standing call ≡ Asks → after.desk ≡ before.desk
+asking_keeps (asks.Find p) answer before after done e = done.1.desk
+asking_keeps asks.Front answer before after done e = done.1.desk
+asking_keeps (asks.Info s) answer before after done e = done.1.desk
+asking_keeps (asks.VisibleRegion s) answer before after done e = done.1.desk
+asking_keeps (asks.UpdateRegion s) answer before after done e = done.1.desk
+asking_keeps _ answer before after done e = absurd (cc)
+
+answer_keeps_desk : (asked : Option PixelSet) (call : WindowCall) (answer : WindowReply) (before after : DeskState) → IsWindowAnswer asked call (Ok answer) before after → window_standing call ≡ Asks → after.windows.desk ≡ before.windows.desk
+answer_keeps_desk None call answer before after step e = asking_keeps call answer before.windows after.windows step.1.1 e
+answer_keeps_desk (Some set) call answer before after step e = step.1.windows.desk
+
+-- where definitions were told, they know, and else nothing changed
+caught_up_informs : (standing : Standing) (first before after : FullState) → IsCaughtUpBy standing before after → (standing ≡ Asks → before.desk ≡ first.desk) → AreInformed first.desk.windows → AreInformed after.desk.windows
+caught_up_informs Asks first before after same kept was = subst (λ (d : FullDesk). AreInformed d.windows) (sym (ap (λ (s : FullState). s.desk) same ∙ kept refl)) was
+caught_up_informs (Updates s) first before after (ts, told, informed) kept was = informed
+caught_up_informs Tracks first before after (ts, told, informed) kept was = informed
+caught_up_informs Changes first before after (ts, told, informed) kept was = informed
+
+done_stands : (call : WindowCall) (answer : WindowReply) (before after : ToolboxState) → gate before.desk.activity (window_standing call) ≡ None → Stands before → IsRightState after.desk.windows → IsWindowMade call (Ok answer) before after → Stands after
+done_stands call answer before after may was right ((middle, answered, (same, told)), events) =
+    let asked = narrowed call before.desk.activity before.desk.begun in
+    let was_desk = before.desk.windows.desk in
+    let desk = after.desk.windows.desk in
+    let recount = window_recounts call answer before.desk middle after.desk answered told in
+    let followed = caught_up_counts (window_standing call) middle.windows after.desk.windows told in
+    let activity : after.desk.activity ≡ before.desk.activity = same.activity ∙ answer_keeps_activity asked call (Ok answer) before.desk middle answered in
+    let left : after.events ≡ record before.events { told = _ } = events ∙ left_after call before.events in
+    record {
+      right = right;
+      active =
+          subst (λ o. Present o desk.windows) (sym (caught_up_keeps (λ d. d.active) (λ d ws. refl) (window_standing call) middle.windows after.desk.windows told))
+          (present_when middle.windows.desk.active middle.windows.desk.windows desk.windows (λ s. let count = followed.count s in omega arith) (answer_keeps_active asked call answer before.desk middle answered was.active));
+      told =
+          subst (λ (e : Events). Present e.told desk.windows) (sym left)
+          (forgotten_present (to_dispose call) before.events.told desk.windows (λ apart. stays_present (to_dispose call) before.events.told was_desk desk recount apart was.told));
+      opened =
+          subst (λ a. Present (open_window a) desk.windows) (sym activity)
+          (stays_present (to_dispose call) (open_window before.desk.activity) was_desk desk recount (apart_open call before.desk.activity may) was.opened);
+      queued = subst (λ (e : Events). ArePosted e.queue.events) (sym left) was.queued;
+      informed = caught_up_informs (window_standing call) before.desk.windows middle.windows after.desk.windows told (answer_keeps_desk asked call answer before.desk middle answered) was.informed;
+      tracked =
+          ap (λ a. total (misled a) desk.windows) activity
+          ∙ caught_up_total (misled before.desk.activity) (window_standing call) middle.windows after.desk.windows told
+          ∙ answer_misleads_none asked call answer before.desk.activity before.desk middle answered was.tracked;
+    }
+
+pub refused_keeps_desk : (asked : Option PixelSet) (call : WindowCall) (e : Refusal) (before after : DeskState) → IsWindowAnswer asked call (Err e) before after → after.windows.desk ≡ before.windows.desk
+refused_keeps_desk None call e before after step = step.1.1.desk
+refused_keeps_desk (Some set) call e before after step = step.1.windows.desk
+
+pub window_stands : (call : WindowCall) (answer : Result WindowReply Refusal) (before after : ToolboxState) → gate before.desk.activity (window_standing call) ≡ None → Stands before → IsRightState after.desk.windows → IsWindowMade call answer before after → Stands after
+window_stands call (Ok answer) before after may was right made = done_stands call answer before after may was right made
+window_stands call (Err e) before after may was right (answered, events) =
+    let asked = narrowed call before.desk.activity before.desk.begun in
+    stands_still before after (refused_keeps_desk asked call e before.desk after.desk answered) (answer_keeps_activity asked call (Err e) before.desk after.desk answered) events was right

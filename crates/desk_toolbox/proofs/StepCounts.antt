@@ -1,0 +1,214 @@
+-- What any call does to the count of windows, to the next number, and to the active window.
+use Rattle.std.proofs.Common.{◌≡◌, ◌⊎◌, inl, inr, ℕ, ◌+◌, ◌≤◌, ◌^◌, ◌==◌, nat_lt, Bool, true, false, if◌then◌else◌, List, [], ◌∷◌, Option, None, Some, Result, Ok, Err, refl, sym, ap, ◌∙◌, subst, arith}
+use Rattle.std.proofs.lemmas.Bool.Decides.{nat_tests}
+use Rattle.tb_geom.specs.declared.refusal.Refusal.{Refusal}
+use Rattle.tb_geom.specs.Points.{PixelSet}
+use Rattle.def_iface.specs.News.{News, told_title, told_highlighted, told_tracked}
+use Rattle.desk_call.specs.declared.activity.Activity.{Activity}
+use Rattle.desk_call.specs.declared.activity.Standing.{Standing}
+use Rattle.desk_call.specs.declared.activity.Standing.TheVariants.{Asks, Updates, Tracks, Changes}
+use Rattle.desk_call.specs.declared.frame.FrameCall.{FrameCall}
+use Rattle.desk_call.specs.declared.frame.FrameCall.TheVariants.{SetTitle, Hilite, TrackGoAway, StepGoAway, EndGoAway}
+use Rattle.desk_call.specs.declared.frame.FrameReply.{FrameReply}
+use Rattle.desk_call.specs.declared.frame.FrameReply.TheVariants.{Done, Tracked}
+use Rattle.desk_call.specs.declared.window.WindowCall.{WindowCall}
+use Rattle.desk_call.specs.declared.window.WindowCall.TheVariants as asks
+use Rattle.desk_call.specs.declared.window.WindowReply.{WindowReply}
+use Rattle.desk_call.specs.Gates.{window_standing}
+use Rattle.window_list.specs.Lists.{number_after}
+use Rattle.vis_update.specs.Records.{WindowRecord}
+use Rattle.vis_update.specs.Touches.{is_this}
+use Rattle.window_mgr.specs.Effects.{effect_of, places}
+use Rattle.window_mgr.specs.Finding.{record_with}
+use Rattle.window_mgr.specs.FrameTelling.{IsFrameTold}
+use Rattle.window_mgr.specs.FullDesk.{FullDesk, FullState, IsGiven, IsRightState}
+use Rattle.window_mgr.specs.Placings.{Placing, sized, zoomed}
+use Rattle.window_mgr.specs.Refused.{is_missing}
+use Rattle.window_update.specs.DeskStates.{DeskState, narrowed}
+use Rattle.window_frame.specs.Followers.{Flag, Telling, AreTold, IsCaughtUpBy, told_flag, with_heard}
+use Rattle.window_frame.specs.Followers.Flag.{Highlighting, Zooming}
+use Rattle.window_frame.proofs.FrameKeeps.{caught_up_keeps}
+use Rattle.window_frame.specs.FrameSteps.{IsFrameStep, IsFrameEffect, IsBegunAt, IsTrackingTold, with_flag, with_title, with_tracked}
+use Rattle.desk_toolbox.specs.Activations.{to_dispose}
+use Rattle.desk_toolbox.specs.Run.{IsWindowAnswer}
+use Rattle.desk_toolbox.proofs.Totals.{Weight, weight_of, total, counting, copies, Present, total_changed, present_when, found_counts, distinct_counts, serial_of_counted}
+use Rattle.desk_toolbox.proofs.Recounts.{IsKept, Counts, done_counts}
+
+-- there are the same windows, by their serials
+pub record HasSame (before after : FullDesk) : Type 0 where
+  pub next : after.next ≡ before.next
+  pub count : (s : ℕ) → copies s after.windows ≡ copies s before.windows
+
+-- there is one more, of the next number
+pub record HasMore (n : ℕ) (before after : FullDesk) : Type 0 where
+  pub numbered : before.next ≡ Some n
+  pub next : after.next ≡ number_after n
+  pub count : (s : ℕ) → copies s after.windows ≡ (if n == s then 1 else 0) + copies s before.windows
+
+-- there is one less, which was of this number
+pub record HasLess (d : ℕ) (before after : FullDesk) : Type 0 where
+  pub found : is_missing d before.windows ≡ false
+  pub next : after.next ≡ before.next
+  pub count : (s : ℕ) → copies s before.windows ≡ (if d == s then 1 else 0) + copies s after.windows
+
+-- this window is gone, if one is, and else there are the same or one more
+abbrev pub Recount : Option ℕ → FullDesk → FullDesk → Type 0
+Recount None before after = HasSame before after ⊎ ((n : ℕ) × HasMore n before after)
+Recount (Some d) before after = HasLess d before after
+
+pub same_desk : (before after : FullDesk) → after ≡ before → HasSame before after
+same_desk before after same = record { next = ap (λ (d : FullDesk). d.next) same; count = λ s. ap (λ (d : FullDesk). copies s d.windows) same }
+
+pub same_and_same : (a b c : FullDesk) → HasSame a b → HasSame b c → HasSame a c
+same_and_same a b c first rest = record { next = rest.next ∙ first.next; count = λ s. rest.count s ∙ first.count s }
+
+recount_and_same : (o : Option ℕ) (a b c : FullDesk) → Recount o a b → HasSame b c → Recount o a c
+recount_and_same None a b c (inl first) rest = inl (same_and_same a b c first rest)
+recount_and_same None a b c (inr (n, first)) rest = inr (n, record { numbered = first.numbered; next = rest.next ∙ first.next; count = λ s. rest.count s ∙ first.count s })
+recount_and_same (Some d) a b c first rest = record { found = first.found; next = rest.next ∙ first.next; count = λ s. let f = first.count s in let r = rest.count s in cc }
+
+-- ---- definitions that are told
+
+module _ (g : Weight) where
+  pub told_total : (s : ℕ) (news : WindowRecord → News → News) (kept : WindowRecord → WindowRecord) → ((w : WindowRecord) → w.serial ≡ s → weight_of g (kept w) ≡ weight_of g w) → (before after : FullState) → IsFrameTold s news kept before after → total g after.desk.windows ≡ total g before.desk.windows
+  told_total s news kept same before after told =
+      ap (λ (d : FullDesk). total g d.windows) told.desk ∙ total_changed g s (λ w. record (kept w) { definition = told.definition }) same before.desk.windows
+
+  heard_weight : (flag : Flag) (w : WindowRecord) → weight_of g (with_heard flag w) ≡ weight_of g w
+  heard_weight Highlighting w = refl
+  heard_weight Zooming w = refl
+
+  are_told_total : (ss : List Telling) (before after : FullState) → AreTold ss before after → total g after.desk.windows ≡ total g before.desk.windows
+  are_told_total [] before after same = ap (λ (s : FullState). total g s.desk.windows) same
+  are_told_total (s ∷ ss) before after (middle, one, rest) =
+      are_told_total ss middle after rest ∙ told_total s.window (told_flag s.flag) (with_heard s.flag) (λ w its. heard_weight s.flag w) before middle one.told
+
+  pub caught_up_total : (standing : Standing) (before after : FullState) → IsCaughtUpBy standing before after → total g after.desk.windows ≡ total g before.desk.windows
+  caught_up_total Asks before after same = ap (λ (s : FullState). total g s.desk.windows) same
+  caught_up_total (Updates s) before after (ss, told, informed) = are_told_total ss before after told
+  caught_up_total Tracks before after (ss, told, informed) = are_told_total ss before after told
+  caught_up_total Changes before after (ss, told, informed) = are_told_total ss before after told
+
+pub caught_up_counts : (standing : Standing) (before after : FullState) → IsCaughtUpBy standing before after → HasSame before.desk after.desk
+caught_up_counts standing before after told = record {
+  next = caught_up_keeps (λ d. d.next) (λ d ws. refl) standing before after told;
+  count = λ s. caught_up_total (counting s) standing before after told;
+}
+
+told_counts : (s : ℕ) (news : WindowRecord → News → News) (kept : WindowRecord → WindowRecord) → ((w : WindowRecord) → (kept w).serial ≡ w.serial) → (before after : FullState) → IsFrameTold s news kept before after → HasSame before.desk after.desk
+told_counts s news kept same before after told = record {
+  next = ap (λ (d : FullDesk). d.next) told.desk;
+  count = λ x. told_total (counting x) s news kept (λ w its. ap (λ n. if n == x then 1 else 0) (same w)) before after told;
+}
+
+-- ---- calls about frames
+
+tracking_counts : (inside : Bool) (s : ℕ) (before after : FullState) → IsTrackingTold inside s before after → HasSame before.desk after.desk
+tracking_counts inside s before after (inl (missing, same)) = same_desk before.desk after.desk (ap (λ (x : FullState). x.desk) same)
+tracking_counts inside s before after (inr told) = told_counts s (λ _. told_tracked inside) (with_tracked inside) (λ w. refl) before after told
+
+begun_counts : (s : ℕ) (inside : Bool) (before after : DeskState) → IsBegunAt s inside before after → HasSame before.windows.desk after.windows.desk
+begun_counts s true before after (tracked, told) = tracking_counts true s before.windows after.windows told
+begun_counts s false before after same = same_desk before.windows.desk after.windows.desk same.windows.desk
+
+effect_counts : (call : FrameCall) (answer : FrameReply) (before after : DeskState) → IsFrameEffect call answer before after → HasSame before.windows.desk after.windows.desk
+effect_counts (SetTitle n) Done before after (same, told) = told_counts n.window (λ _. told_title n.title) (with_title n.title) (λ w. refl) before.windows after.windows told
+effect_counts (Hilite h) Done before after (same, told) = told_counts h.window (λ _. told_highlighted h.highlighted) (with_flag h.highlighted) (λ w. refl) before.windows after.windows told
+effect_counts (TrackGoAway g) (Tracked inside) before after (is, begun) = begun_counts g.window inside before after begun
+effect_counts (StepGoAway p) (Tracked inside) before after (same, tracked) = tracking_counts inside tracked.window before.windows after.windows tracked.told
+effect_counts (EndGoAway p) (Tracked inside) before after (idle, tracked) = tracking_counts false tracked.window before.windows after.windows tracked.told
+effect_counts (SetTitle n) (Tracked inside) before after wrong = absurd wrong
+effect_counts (Hilite h) (Tracked inside) before after wrong = absurd wrong
+effect_counts (TrackGoAway g) Done before after wrong = absurd wrong
+effect_counts (StepGoAway p) Done before after wrong = absurd wrong
+effect_counts (EndGoAway p) Done before after wrong = absurd wrong
+
+pub frame_counts : (call : FrameCall) (answer : Result FrameReply Refusal) (before after : DeskState) → IsFrameStep call answer before after → HasSame before.windows.desk after.windows.desk
+frame_counts call (Ok answer) before after step = effect_counts call answer before after step.1
+frame_counts call (Err e) before after step = same_desk before.windows.desk after.windows.desk step.1.windows.desk
+
+-- ---- calls on windows
+
+kept_is_same : (before after : FullDesk) → IsKept before after → Recount None before after
+kept_is_same before after kept = inl (record { next = kept.next; count = λ s. kept.all (counting s) })
+
+placed_recounts : (o : Option Placing) (before after : FullDesk) → Counts (places o) before after → Recount None before after
+placed_recounts None before after kept = kept_is_same before after kept
+placed_recounts (Some p) before after kept = kept_is_same before after kept
+
+call_recounts : (call : WindowCall) (desk before after : FullDesk) → Counts (effect_of call desk) before after → Recount (to_dispose call) before after
+call_recounts (asks.New w) desk before after (n, added) = inr (n, record { numbered = added.numbered; next = added.next; count = λ s. added.all (counting s) })
+call_recounts (asks.Dispose s) desk before after removed = record { found = removed.found; next = removed.next; count = λ x. removed.all (counting x) }
+call_recounts (asks.Size z) desk before after kept = placed_recounts (sized z (record_with z.window desk.windows)) before after kept
+call_recounts (asks.Zoom z) desk before after kept = placed_recounts (zoomed z (record_with z.window desk.windows) desk) before after kept
+call_recounts _ desk before after kept = kept_is_same before after kept
+
+-- what is narrowed disposes of nothing
+pub narrowed_keeps : (call : WindowCall) (activity : Activity) (begun set : PixelSet) → narrowed call activity begun ≡ Some set → to_dispose call ≡ None
+narrowed_keeps (asks.Dispose s) activity begun set e = absurd (cc)
+narrowed_keeps _ activity begun set e = refl
+
+answer_recounts : (asked : Option PixelSet) (call : WindowCall) (answer : WindowReply) (before after : DeskState) → ((set : PixelSet) → asked ≡ Some set → to_dispose call ≡ None) → IsWindowAnswer asked call (Ok answer) before after → Recount (to_dispose call) before.windows.desk after.windows.desk
+answer_recounts None call answer before after none step =
+    call_recounts call before.windows.desk before.windows.desk after.windows.desk (done_counts call answer before.windows after.windows step.1.1)
+answer_recounts (Some set) call answer before after none step =
+    subst (λ o. Recount o before.windows.desk after.windows.desk) (sym (none set refl)) (inl (same_desk before.windows.desk after.windows.desk step.1.windows.desk))
+
+-- a call on windows that was done, and after which definitions were told how their windows stand
+pub window_recounts : (call : WindowCall) (answer : WindowReply) (before middle after : DeskState) → IsWindowAnswer (narrowed call before.activity before.begun) call (Ok answer) before middle → IsCaughtUpBy (window_standing call) middle.windows after.windows → Recount (to_dispose call) before.windows.desk after.windows.desk
+window_recounts call answer before middle after answered told =
+    recount_and_same (to_dispose call) before.windows.desk middle.windows.desk after.windows.desk
+    (answer_recounts (narrowed call before.activity before.begun) call answer before middle (narrowed_keeps call before.activity before.begun) answered)
+    (caught_up_counts (window_standing call) middle.windows after.windows told)
+
+-- ---- which windows stay, and which are gone
+
+-- none is gone, or another than this
+abbrev pub Apart : Option ℕ → Option ℕ → Type 0
+Apart None x = Unit {0}
+Apart (Some d) x = is_this x d ≡ false
+
+pub stays_present : (o x : Option ℕ) (before after : FullDesk) → Recount o before after → Apart o x → Present x before.windows → Present x after.windows
+stays_present None x before after (inl same) apart h = present_when x before.windows after.windows (λ s. let count = same.count s in omega arith) h
+stays_present None x before after (inr (n, more)) apart h = present_when x before.windows after.windows (λ s. let count = more.count s in omega arith) h
+stays_present (Some d) None before after less apart h = tt
+stays_present (Some d) (Some t) before after less apart h =
+    let all : copies t before.windows ≡ 0 + copies t after.windows = subst (λ (b : Bool). copies t before.windows ≡ (if b then 1 else 0) + copies t after.windows) apart (less.count t) in
+    omega arith
+
+-- no window has this number, nor will one have it
+pub record IsGone (w : ℕ) (desk : FullDesk) : Type 0 where
+  pub none : copies w desk.windows ≡ 0
+  pub given : IsGiven desk.next w
+
+given_after : (n w : ℕ) (b : Bool) → IsGiven (Some n) w → IsGiven (if b then Some (n + 1) else None) w
+given_after n w true given = let first = given.0 in let below = given.1 in (first, omega arith)
+given_after n w false given = given.0
+
+pub gone_stays : (o : Option ℕ) (w : ℕ) (before after : FullDesk) → Recount o before after → IsGone w before → IsGone w after
+gone_stays None w before after (inl same) gone = record { none = same.count w ∙ gone.none; given = subst (λ o. IsGiven o w) (sym same.next) gone.given }
+gone_stays None w before after (inr (n, more)) gone =
+    let given : IsGiven (Some n) w = subst (λ o. IsGiven o w) more.numbered gone.given in
+    record {
+      none = let below = given.1 in let was = gone.none in let count = more.count w in grind (arith, nat_tests);
+      given = subst (λ o. IsGiven o w) (sym more.next) (given_after n w (nat_lt (n + 1) (2 ^ 64)) given);
+    }
+gone_stays (Some d) w before after less gone = record {
+  none = let was = gone.none in let count = less.count w in omega arith;
+  given = subst (λ o. IsGiven o w) (sym less.next) gone.given;
+}
+
+pub disposed_is_gone : (d : ℕ) (before after : FullState) → IsRightState before → HasLess d before.desk after.desk → IsGone d after.desk
+disposed_is_gone d before after right less = record {
+  none =
+      let all : copies d before.desk.windows ≡ (if d == d then 1 else 0) + copies d after.desk.windows = less.count d in
+      let most : copies d before.desk.windows ≤ 1 = distinct_counts before.desk.font d before.desk.windows right.plain.desk in
+      let itself : (d == d) ≡ true = grind (arith, nat_tests) in
+      let is : copies d before.desk.windows ≡ 1 + copies d after.desk.windows = subst (λ (b : Bool). copies d before.desk.windows ≡ (if b then 1 else 0) + copies d after.desk.windows) itself all in
+      omega arith;
+  given = subst (λ o. IsGiven o d) (sym less.next) (serial_of_counted (IsGiven before.desk.next) d before.desk.windows right.numbered.1 (found_counts d before.desk.windows less.found));
+}
+
+-- a window that is present is not gone
+pub present_is_not_gone : (o : Option ℕ) (w : ℕ) (desk : FullDesk) → IsGone w desk → Present o desk.windows → o ≡ Some w → ⊥
+present_is_not_gone o w desk gone h e = let here : 1 ≤ copies w desk.windows = subst (λ x. Present x desk.windows) e h in let none = gone.none in absurd (omega arith)

@@ -1,0 +1,166 @@
+-- Windows counted by their serials, and by whether their definitions heard that the go-away box is tracked.
+use Rattle.std.proofs.Common.{◌≡◌, ℕ, ◌+◌, ◌≤◌, ◌==◌, Bool, true, false, if◌then◌else◌, List, [], ◌∷◌, map, Option, None, Some, refl, sym, ◌∙◌, subst, arith}
+use Rattle.std.proofs.lemmas.Bool.{eqb-true}
+use Rattle.std.proofs.lemmas.Bool.Decides.{nat_tests}
+use Rattle.std.specs.Prelude.{is_none}
+use Rattle.def_iface.specs.Desk as layers
+use Rattle.desk_call.specs.declared.window.SendBehind.{SendBehind}
+use Rattle.vis_update.specs.Records.{WindowRecord, layered_window}
+use Rattle.vis_update.specs.Touches.{is_this}
+use Rattle.window_mgr.specs.declared.arrange.Activation.{Activation}
+use Rattle.window_mgr.specs.declared.arrange.Activation.TheVariants.{Stays, Becomes}
+use Rattle.window_mgr.specs.Arrange.{with_highlighting, activated, without, put_behind, in_front, behind_this, brought, sent, changed}
+use Rattle.window_mgr.specs.Finding.{record_with, front_of}
+use Rattle.window_mgr.specs.FullDesk.{HaveSerials}
+use Rattle.window_mgr.specs.Refused.{is_missing}
+use Rattle.window_mgr.proofs.DimLemmas.{either}
+
+-- how much a window counts, of this serial, and whose definition heard this
+abbrev pub Weight : Type 0
+Weight = ℕ → Bool → ℕ
+
+abbrev pub weight_of : Weight → WindowRecord → ℕ
+weight_of g w = g w.serial w.heard.tracked
+
+abbrev pub total : Weight → List WindowRecord → ℕ
+total g [] = 0
+total g (w ∷ ws) = weight_of g w + total g ws
+
+-- ---- what leaves the total as it is
+
+module _ (g : Weight) where
+  pub total_map : (f : WindowRecord → WindowRecord) → ((w : WindowRecord) → weight_of g (f w) ≡ weight_of g w) → (ws : List WindowRecord) → total g (map f ws) ≡ total g ws
+  total_map f same [] = refl
+  total_map f same (w ∷ ws) = λ i. same w i + total_map f same ws i
+
+  pub total_changed : (s : ℕ) (f : WindowRecord → WindowRecord) → ((w : WindowRecord) → w.serial ≡ s → weight_of g (f w) ≡ weight_of g w) → (ws : List WindowRecord) → total g (changed s f ws) ≡ total g ws
+  total_changed s f same [] = refl
+  total_changed s f same (w ∷ ws) = by_this (w.serial == s) refl (total_changed s f same ws)
+    where
+      by_this : (b : Bool) → (w.serial == s) ≡ b → total g (changed s f ws) ≡ total g ws → total g (if b then f w ∷ ws else w ∷ changed s f ws) ≡ weight_of g w + total g ws
+      by_this true e rest = λ i. same w (eqb-true w.serial s e) i + total g ws
+      by_this false e rest = λ i. weight_of g w + rest i
+
+  pub total_without : (s : ℕ) (ws : List WindowRecord) → total g ws ≡ total g (in_front (record_with s ws) []) + total g (without s ws)
+  total_without s [] = refl
+  total_without s (w ∷ ws) = by_this (w.serial == s) (total_without s ws)
+    where
+      by_this : (b : Bool) → total g ws ≡ total g (in_front (record_with s ws) []) + total g (without s ws) → weight_of g w + total g ws ≡ total g (in_front (if b then Some w else record_with s ws) []) + total g (if b then ws else w ∷ without s ws)
+      by_this true rest = omega arith
+      by_this false rest = omega arith
+
+  total_in_front : (o : Option WindowRecord) (ws : List WindowRecord) → total g (in_front o ws) ≡ total g (in_front o []) + total g ws
+  total_in_front None ws = omega arith
+  total_in_front (Some w) ws = omega arith
+
+  pub total_brought : (s : ℕ) (ws : List WindowRecord) → total g (brought s ws) ≡ total g ws
+  total_brought s ws = total_in_front (record_with s ws) (without s ws) ∙ sym (total_without s ws)
+
+  total_put : (x : Option ℕ) (w : WindowRecord) (ws : List WindowRecord) → total g (put_behind x w ws) ≡ weight_of g w + total g ws
+  total_put x w [] = refl
+  total_put x w (v ∷ vs) = by_this (is_this x v.serial) (total_put x w vs)
+    where
+      by_this : (b : Bool) → total g (put_behind x w vs) ≡ weight_of g w + total g vs → total g (if b then v ∷ w ∷ vs else v ∷ put_behind x w vs) ≡ weight_of g w + (weight_of g v + total g vs)
+      by_this true rest = omega arith
+      by_this false rest = omega arith
+
+  total_behind : (x : Option ℕ) (o : Option WindowRecord) (ws : List WindowRecord) → total g (behind_this x o ws) ≡ total g (in_front o []) + total g ws
+  total_behind x None ws = omega arith
+  total_behind x (Some w) ws = total_put x w ws ∙ omega arith
+
+  pub total_sent : (b : SendBehind) (ws : List WindowRecord) → total g (sent b ws) ≡ total g ws
+  total_sent b ws = total_behind b.behind (record_with b.window ws) (without b.window ws) ∙ sym (total_without b.window ws)
+
+  pub total_lit : (on : Bool) (s : Option ℕ) (w : WindowRecord) → weight_of g (with_highlighting on s w) ≡ weight_of g w
+  total_lit on s w = either on s (λ v. weight_of g v ≡ weight_of g w) w refl refl
+
+  pub total_activated : (a : Activation) (former : Option ℕ) (ws : List WindowRecord) → total g (activated a former ws) ≡ total g ws
+  total_activated Stays former ws = refl
+  total_activated (Becomes s) former ws =
+      total_map (λ w. with_highlighting true s (with_highlighting false former w)) (λ w. total_lit true s (with_highlighting false former w) ∙ total_lit false former w) ws
+
+-- ---- how many windows have this serial
+
+abbrev pub counting : ℕ → Weight
+counting s n tracked = if n == s then 1 else 0
+
+abbrev pub copies : ℕ → List WindowRecord → ℕ
+copies s ws = total (counting s) ws
+
+pub found_counts : (s : ℕ) (ws : List WindowRecord) → is_missing s ws ≡ false → 1 ≤ copies s ws
+found_counts s [] h = absurd (cc)
+found_counts s (w ∷ ws) h = by_this (w.serial == s) h (found_counts s ws)
+  where
+    by_this : (b : Bool) → is_none (if b then Some w else record_with s ws) ≡ false → (is_missing s ws ≡ false → 1 ≤ copies s ws) → 1 ≤ (if b then 1 else 0) + copies s ws
+    by_this true h rest = omega arith
+    by_this false h rest = let more = rest h in omega arith
+
+pub missing_counts : (s : ℕ) (ws : List WindowRecord) → is_missing s ws ≡ true → copies s ws ≡ 0
+missing_counts s [] h = refl
+missing_counts s (w ∷ ws) h = by_this (w.serial == s) h (missing_counts s ws)
+  where
+    by_this : (b : Bool) → is_none (if b then Some w else record_with s ws) ≡ true → (is_missing s ws ≡ true → copies s ws ≡ 0) → (if b then 1 else 0) + copies s ws ≡ 0
+    by_this true h rest = absurd (cc)
+    by_this false h rest = let none = rest h in omega arith
+
+pub counted_is_found : (s : ℕ) (ws : List WindowRecord) → 1 ≤ copies s ws → is_missing s ws ≡ false
+counted_is_found s [] h = absurd (omega arith)
+counted_is_found s (w ∷ ws) h = by_this (w.serial == s) h (counted_is_found s ws)
+  where
+    by_this : (b : Bool) → 1 ≤ (if b then 1 else 0) + copies s ws → (1 ≤ copies s ws → is_missing s ws ≡ false) → is_none (if b then Some w else record_with s ws) ≡ false
+    by_this true h rest = refl
+    by_this false h rest = rest (omega arith)
+
+-- the window that is meant, if one is, is one of these
+abbrev pub Present : Option ℕ → List WindowRecord → Type 0
+Present None ws = Unit {0}
+Present (Some s) ws = 1 ≤ copies s ws
+
+-- there are as many of each serial
+pub present_when : (o : Option ℕ) (ws vs : List WindowRecord) → ((s : ℕ) → copies s ws ≤ copies s vs) → Present o ws → Present o vs
+present_when None ws vs more h = tt
+present_when (Some s) ws vs more h = let m = more s in omega arith
+
+pub front_is_present : (ws : List WindowRecord) → Present (front_of ws) ws
+front_is_present [] = tt
+front_is_present (w ∷ ws) = by_shown w.shown (front_is_present ws)
+  where
+    behind : (o : Option ℕ) → Present o ws → Present o (w ∷ ws)
+    behind None h = tt
+    behind (Some s) h = omega arith
+
+    itself : 1 ≤ copies w.serial (w ∷ ws)
+    itself = grind (arith, nat_tests)
+
+    by_shown : (b : Bool) → Present (front_of ws) ws → Present (if b then Some w.serial else front_of ws) (w ∷ ws)
+    by_shown true rest = itself
+    by_shown false rest = behind (front_of ws) rest
+
+-- a serial that no window has
+free_counts : (font : List ℕ) (s : ℕ) (ws : List WindowRecord) → layers.window_of s (map (layered_window font) ws) ≡ None → copies s ws ≡ 0
+free_counts font s [] h = refl
+free_counts font s (w ∷ ws) h = by_this (w.serial == s) h (free_counts font s ws)
+  where
+    by_this : (b : Bool) → (if b then Some (layered_window font w) else layers.window_of s (map (layered_window font) ws)) ≡ None → (layers.window_of s (map (layered_window font) ws) ≡ None → copies s ws ≡ 0) → (if b then 1 else 0) + copies s ws ≡ 0
+    by_this true h rest = absurd (cc)
+    by_this false h rest = let none = rest h in omega arith
+
+-- the windows of a desk have each another serial
+pub distinct_counts : (font : List ℕ) (s : ℕ) (ws : List WindowRecord) → layers.AreWindows (map (layered_window font) ws) → copies s ws ≤ 1
+distinct_counts font s [] h = omega arith
+distinct_counts font s (w ∷ ws) h = by_this (w.serial == s) refl (distinct_counts font s ws h.1.1)
+  where
+    by_this : (b : Bool) → (w.serial == s) ≡ b → copies s ws ≤ 1 → (if b then 1 else 0) + copies s ws ≤ 1
+    by_this true same rest =
+        let none : copies s ws ≡ 0 = subst (λ n. copies n ws ≡ 0) (eqb-true w.serial s same) (free_counts font w.serial ws h.0) in
+        omega arith
+    by_this false same rest = omega arith
+
+-- what holds of all serials
+pub serial_of_counted : (P : ℕ → Type 0) (s : ℕ) (ws : List WindowRecord) → HaveSerials P ws → 1 ≤ copies s ws → P s
+serial_of_counted P s [] h some = absurd (omega arith)
+serial_of_counted P s (w ∷ ws) h some = by_this (w.serial == s) refl some (serial_of_counted P s ws h.1)
+  where
+    by_this : (b : Bool) → (w.serial == s) ≡ b → 1 ≤ (if b then 1 else 0) + copies s ws → (1 ≤ copies s ws → P s) → P s
+    by_this true same some rest = subst P (eqb-true w.serial s same) h.0
+    by_this false same some rest = rest (omega arith)

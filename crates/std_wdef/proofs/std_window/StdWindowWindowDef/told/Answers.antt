@@ -1,0 +1,13 @@
+use Rattle.std.proofs.Common.{◌≡◌, true, sym, ap, ◌∙◌}
+use Rattle.looks.specs.Letters.{lettering}
+use Rattle.std_wdef.proofs.Hearing.{std_hears, kept_title}
+use Rattle.std_wdef.proofs.std_window.StdWindowWindowDef.told.Goals as goal
+
+pub returns-clause-heard : goal.returns-clause-heard
+returns-clause-heard c = rw c.after.ensures (rw c.title_after-title.ensures (rw c.size_after.ensures (std_hears c.args.change c.args.self.now)))
+
+pub returns-clause-damage : goal.returns-clause-damage
+returns-clause-damage c = λ font p plane out.
+    rw (sym c.is_titled-2.ensures) (rw (sym c.is_titled.ensures)
+    (c.told_damage-damage.ensures (lettering font c.args.self.now.title) (lettering font c.title_after-title.result)
+    (λ same. ap (lettering font) (c.title_after-title.ensures ∙ kept_title c.args.change c.args.self.now.title (sym c.keeps_title.ensures ∙ same))) p plane out))
