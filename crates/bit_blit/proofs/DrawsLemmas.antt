@@ -10,6 +10,10 @@ use Rattle.bit_blit.specs.Draws.{Draws}
 pub Draws-on_map : (holds : PixelSet) (f : Point → Bool → Bool) (a b : Bits) → Draws holds f a b → (p : Point) → on_map b p ≡ on_map a p
 Draws-on_map holds f a b drawn p = on_map-same a b p drawn.width drawn.height
 
+-- a drawing that says each bit, also off the map
+pub Draws-of : (holds : PixelSet) (f : Point → Bool → Bool) (a b : Bits) → ((x : Point) → bit b x ≡ cond (holds x) (f x (bit a x)) (bit a x)) → b.width ≡ a.width → b.height ≡ a.height → Draws holds f a b
+Draws-of holds f a b bits width height = record { pixels = λ x on. bits x; width = width; height = height }
+
 -- a second drawing over a first is one drawing
 pub Draws-over : (p q r : PixelSet) (f g e : Point → Bool → Bool) (a b c : Bits)
     → ((x : Point) (d : Bool) → on_map a x ≡ true → cond (q x) (g x (cond (p x) (f x d) d)) (cond (p x) (f x d) d) ≡ cond (r x) (e x d) d)

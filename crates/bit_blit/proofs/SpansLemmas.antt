@@ -1,15 +1,19 @@
--- Drawing the spans of a region, one after another.
-use Rattle.std.proofs.Common.{◌≡◌, zero, suc, inl, inr, Bool, true, false, ◌||◌, List, [], ◌∷◌, ◌++◌, length, append_assoc, length-append, refl, sym, ap, ◌∙◌, subst, arith}
+-- Drawing the spans of a set of pixels, one after another.
+use Rattle.std.proofs.Common.{◌≡◌, zero, suc, inl, inr, Bool, true, false, ◌&&◌, ◌||◌, Option, Some, None, List, [], ◌∷◌, ◌++◌, length, append_assoc, length-append, refl, sym, ap, ◌∙◌, subst, arith}
+use Rattle.std.specs.Borrow.{Bor}
 use Rattle.std.specs.List.{list_any, AllPairs}
 use Rattle.std.proofs.lemmas.Int.{ints}
 use Rattle.std.proofs.lemmas.List.Folds.{list_any-append}
 use Rattle.std.proofs.Math.Seq.{get_or-append_seam}
 use Rattle.tb_geom.specs.declared.point.Point.{Point}
+use Rattle.tb_geom.specs.declared.rect.Rect.{Rect}
 use Rattle.tb_geom.specs.Points.{PixelSet}
-use Rattle.tb_geom.specs.Pixels.{Pixels}
+use Rattle.tb_geom.specs.Pixels.{Pixels, holds}
+use Rattle.tb_geom.specs.Rects.{rect_holds, IsBoxOf}
 use Rattle.bit_map.specs.Bits.{Bits}
 use Rattle.scan_region.specs.declared.spans.Span.{Span}
-use Rattle.scan_region.specs.Scan.{IsScan, Precedes, span_holds}
+use Rattle.scan_region.specs.Cuts.{cut_holds}
+use Rattle.scan_region.specs.Scan.{IsScanOf, Precedes, span_holds}
 use Rattle.bit_blit.specs.Draws.{Draws}
 use Rattle.bit_blit.proofs.DrawsLemmas.{Draws-more}
 
@@ -42,8 +46,8 @@ or_swap true false = refl
 or_swap false true = refl
 or_swap false false = refl
 
--- one more span of a region
-pub spans_step : (f : Point → Bool → Bool) (a b c : Bits) (set : Pixels) (before : List Span) (span : Span) (rest after : List Span) → rest ≡ span ∷ after → IsScan (before ++ rest) set
+-- one more span of a set
+pub spans_step : (f : Point → Bool → Bool) (a b c : Bits) (set : PixelSet) (before : List Span) (span : Span) (rest after : List Span) → rest ≡ span ∷ after → IsScanOf (before ++ rest) set
     → Draws (spans_hold before) f a b → Draws (span_holds span) f b c → Draws (spans_hold (before ++ span ∷ [])) f a c
 spans_step f a b c set before span rest after e scan first second =
     Draws-more (spans_hold before) (span_holds span) (spans_hold (before ++ span ∷ [])) f a b c
@@ -51,7 +55,18 @@ spans_step f a b c set before span rest after e scan first second =
     (λ p. list_any-append (λ s. span_holds s p) before (span ∷ []) ∙ or_swap (span_holds span p) (spans_hold before p))
     first second
 
--- the spans drawn, the one that comes and those after it are the spans of the region still
-pub scan_step : (set : Pixels) (before : List Span) (span : Span) (rest after : List Span) → rest ≡ span ∷ after → IsScan (before ++ rest) set → IsScan ((before ++ span ∷ []) ++ after) set
+-- the spans drawn, the one that comes and those after it are the spans of the set still
+pub scan_step : (set : PixelSet) (before : List Span) (span : Span) (rest after : List Span) → rest ≡ span ∷ after → IsScanOf (before ++ rest) set → IsScanOf ((before ++ span ∷ []) ++ after) set
 scan_step set before span rest after e scan =
-    subst (λ spans. IsScan spans set) (ap (λ l. before ++ l) e ∙ sym (append_assoc before (span ∷ []) after)) scan
+    subst (λ spans. IsScanOf spans set) (ap (λ l. before ++ l) e ∙ sym (append_assoc before (span ∷ []) after)) scan
+
+-- a cut of one region alone leaves that region, and all of it lies in the box around it
+pub one-part : (r : Bor Pixels) (box : Rect) → IsBoxOf box (holds r.now) → (p : Point) → (rect_holds box p && cut_holds (record { inside = Some r ∷ None ∷ None ∷ []; outside = None }) p) ≡ holds r.now p
+unfolding cut_holds
+one-part r box around p = by_held (holds r.now p) (rect_holds box p) (around.holds p)
+  where
+    by_held : (held boxed : Bool) → (held ≡ true → boxed ≡ true) → (boxed && ((held && true) && true)) ≡ held
+    by_held true true f = refl
+    by_held true false f = absurd (cc (f refl))
+    by_held false true f = refl
+    by_held false false f = refl

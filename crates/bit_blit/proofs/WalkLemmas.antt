@@ -14,10 +14,6 @@ use Rattle.bit_blit.proofs.DrawsLemmas.{Draws-more}
 pub fits_next : (x limit : ℤ) → SFits w32 x → SFits w32 limit → x <ℤ limit → SFits w32 (x +ℤ pos 1)
 fits_next x limit p q l = search (arith, ints)
 
--- a point that has not been drawn yet is not in the row so far
-pub in_row-apart : (v left h : ℤ) (x : Point) → is_point (record { h = h; v = v }) x ≡ true → in_row v left h x ≡ false
-in_row-apart v left h x e = grind (arith, ints)
-
 -- one more pixel of a row
 pub in_row-more : (v left h : ℤ) (x : Point) → left ≤ℤ h → in_row v left (h +ℤ pos 1) x ≡ (is_point (record { h = h; v = v }) x || in_row v left h x)
 in_row-more v left h x l = grind (arith, ints)
@@ -29,11 +25,6 @@ in_row-end v left h right x a b c = grind (arith, ints)
 -- a pixel of a row
 pub in_row-at : (v left h right : ℤ) → left ≤ℤ h → h <ℤ right → in_row v left right (record { h = h; v = v }) ≡ true
 in_row-at v left h right a b = grind (arith, ints)
-
--- a row and one more pixel
-pub row_step : (f : Point → Bool → Bool) (a b c : Bits) (v left h : ℤ) → left ≤ℤ h → Draws (in_row v left h) f a b → Draws (is_point (record { h = h; v = v })) f b c → Draws (in_row v left (h +ℤ pos 1)) f a c
-row_step f a b c v left h low drawn point =
-    Draws-more (in_row v left h) (is_point (record { h = h; v = v })) (in_row v left (h +ℤ pos 1)) f a b c (in_row-apart v left h) (λ x. in_row-more v left h x low) drawn point
 
 -- the pixels of the rows from top down to bottom, each from left up to right
 abbrev pub in_rows : ℤ → ℤ → ℤ → ℤ → PixelSet

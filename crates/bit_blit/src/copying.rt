@@ -11,8 +11,8 @@ ghost use Rattle.bit_map.specs.Modes.{mode_bit};
 ghost use Rattle.bit_blit.specs.Draws.{Draws};
 ghost use Rattle.bit_blit.specs.Sources.{IsNearSource};
 
-use crate::walk::{Rule, draw_region};
-use bit_map::{BitImage, BitMap, Mode};
+use crate::walk::draw_region;
+use bit_map::{BitImage, BitMap, Mode, Rule};
 use scan_region::Region;
 use tb_geom::Point;
 

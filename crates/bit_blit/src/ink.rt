@@ -6,8 +6,8 @@ ghost use Rattle.bit_blit.specs.Draws.{Draws};
 ghost use Rattle.bit_map.specs.Modes.{mode_bit};
 ghost use Rattle.bit_map.specs.Patterns.{pattern_bit, eighth_of};
 
-use crate::walk::{Rule, draw_region};
-use bit_map::{BitMap, Mode, Pattern};
+use crate::walk::draw_region;
+use bit_map::{BitMap, Mode, Pattern, Rule};
 use scan_region::Region;
 use tb_geom::Point;
 
@@ -37,11 +37,25 @@ impl Rule for Ink {
     ghost value = { λ ink p old. mode_bit ink.mode (pattern_bit ink.pattern (minus p ink.offset)) old };
 
     fn value(&self, point: Point, old: bool) -> bool {
-        let from_origin = Point {
-            h: eighths_between(self.offset.h, point.h),
-            v: eighths_between(self.offset.v, point.v),
-        };
-        self.mode.apply(self.pattern.bit(from_origin), old)
+        let source = self.pattern.bit(near_origin(point, self.offset));
+        self.mode.apply(source, old)
+    }
+
+    fn apply(&self, start: Point, run: &mut [bool]) {
+        self.pattern
+            .put_down(self.mode, near_origin(start, self.offset), run);
+    }
+}
+
+/// A point that a pattern takes for the point as seen from the origin, of which it has the remainders
+/// by 8.
+fn near_origin(point: Point, origin: Point) -> Point
+    ensures across { eighth_of result.h ≡ eighth_of (point.h -ℤ origin.h) }
+    ensures down { eighth_of result.v ≡ eighth_of (point.v -ℤ origin.v) }
+{
+    Point {
+        h: eighths_between(origin.h, point.h),
+        v: eighths_between(origin.v, point.v),
     }
 }
 

@@ -3,8 +3,8 @@ ghost use Rattle.std.specs.Prelude.{not};
 ghost use Rattle.tb_geom.specs.Pixels.{holds};
 ghost use Rattle.bit_blit.specs.Draws.{Draws};
 
-use crate::walk::{Rule, draw_region};
-use bit_map::BitMap;
+use crate::walk::draw_region;
+use bit_map::{BitMap, Rule};
 use scan_region::Region;
 use tb_geom::Point;
 

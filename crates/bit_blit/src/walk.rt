@@ -1,23 +1,13 @@
-//! The walk over the pixels of a rectangle.
-ghost use Rattle.std.specs.Prelude.{◌≡◌, true, Bool};
-ghost use Rattle.tb_geom.specs.declared.point.Point.{Point};
+//! The walk over the pixels of a rectangle, of a region and of what a cut leaves.
+ghost use Rattle.std.specs.Prelude.{◌&&◌};
 ghost use Rattle.tb_geom.specs.Rects.{rect_holds};
 ghost use Rattle.tb_geom.specs.Pixels.{holds};
-ghost use Rattle.bit_map.specs.Bits.{on_map, is_point};
+ghost use Rattle.scan_region.specs.Cuts.{cut_holds};
 ghost use Rattle.bit_blit.specs.Draws.{Draws, in_row};
 
-use bit_map::BitMap;
-use scan_region::Region;
+use bit_map::{BitMap, Rule};
+use scan_region::{Cut, Region};
 use tb_geom::{Point, Rect};
-
-/// What becomes of each pixel of a drawing.
-pub trait Rule {
-    ghost value: { Self → Point → Bool → Bool };
-
-    /// The new bit of the pixel at `point`, in map coordinates, where the bit `old` stands.
-    fn value(&self, point: Point, old: bool) -> bool
-        ensures { result ≡ value self.now point old };
-}
 
 /// Gives each pixel of the rectangle that the map holds the value of the rule. The rectangle, in map
 /// coordinates, may be any.
@@ -26,7 +16,7 @@ pub fn draw_rect<R: Rule>(map: &mut BitMap, rect: Rect, rule: &R)
 {
     let shared = map.bounds().sect(rect);
     for v in shared.top..shared.bottom {
-        draw_row(map, v, shared.left, shared.right, rule);
+        map.draw_run(v, shared.left, shared.right, rule);
     }
 }
 
@@ -35,7 +25,26 @@ pub fn draw_rect<R: Rule>(map: &mut BitMap, rect: Rect, rule: &R)
 pub fn draw_region<R: Rule>(map: &mut BitMap, region: &Region, rule: &R)
     ensures { Draws (holds region.now) (R.value rule.now) map.old map.new }
 {
-    for span in region.spans() {
+    let cut = Cut {
+        inside: [Some(region), None, None],
+        outside: None,
+    };
+    draw_cut(map, &cut, region.bbox(), rule);
+}
+
+/// Gives each pixel of the area that the cut leaves and the map holds the value of the rule. The area,
+/// in map coordinates, may be any. It takes no memory.
+pub fn draw_cut<R: Rule>(map: &mut BitMap, cut: &Cut, area: Rect, rule: &R)
+    ensures { Draws (λ p. rect_holds area p && cut_holds cut.now p) (R.value rule.now) map.old map.new }
+{
+    draw_spans(map, cut, map.bounds().sect(area), rule);
+}
+
+/// The same, by going along every row of the area.
+fn draw_spans<R: Rule>(map: &mut BitMap, cut: &Cut, area: Rect, rule: &R)
+    ensures { Draws (λ p. rect_holds area p && cut_holds cut.now p) (R.value rule.now) map.old map.new }
+{
+    for span in cut.spans_within(area) {
         draw_span(map, span.v, span.left, span.right, rule);
     }
 }
@@ -47,25 +56,6 @@ fn draw_span<R: Rule>(map: &mut BitMap, v: i32, left: i32, right: i32, rule: &R)
 {
     let bounds = map.bounds();
     if bounds.top <= v && v < bounds.bottom {
-        draw_row(map, v, left.max(bounds.left), right.min(bounds.right), rule);
+        map.draw_run(v, left.max(bounds.left), right.min(bounds.right), rule);
     }
-}
-
-/// Draws the pixels of the row `v` from the column `left` up to the column `right`.
-fn draw_row<R: Rule>(map: &mut BitMap, v: i32, left: i32, right: i32, rule: &R)
-    requires { (p : Point) → in_row v left right p ≡ true → on_map map.old p ≡ true }
-    ensures { Draws (in_row v left right) (R.value rule.now) map.old map.new }
-{
-    for h in left..right {
-        draw_point(map, Point { h, v }, rule);
-    }
-}
-
-/// Draws one pixel.
-fn draw_point<R: Rule>(map: &mut BitMap, point: Point, rule: &R)
-    requires { on_map map.old point ≡ true }
-    ensures { Draws (is_point point) (R.value rule.now) map.old map.new }
-{
-    let old = map.get(point);
-    map.set(point, rule.value(point, old));
 }

@@ -103,7 +103,7 @@ same_number (pos m) (negsuc n) a b e = absurd (omega (arith, ints))
 same_number (negsuc m) y a b e = absurd (omega (arith, ints))
 
 -- two points of a map that have the same place are one
-same_place : (m : Bits) (q p : Point) → IsOn m q → IsOn m p → nat_abs p.v * m.width + nat_abs p.h ≡ nat_abs q.v * m.width + nat_abs q.h → is_point q p ≡ true
+pub same_place : (m : Bits) (q p : Point) → IsOn m q → IsOn m p → nat_abs p.v * m.width + nat_abs p.h ≡ nat_abs q.v * m.width + nat_abs q.h → is_point q p ≡ true
 same_place m q p on_q on_p e =
     let h : nat_abs p.h ≡ nat_abs q.h = sym (mod-mul-add (nat_abs p.v) m.width (nat_abs p.h) on_p.across) ∙ ap (λ n. n % m.width) e ∙ mod-mul-add (nat_abs q.v) m.width (nat_abs q.h) on_q.across in
     let v : nat_abs p.v ≡ nat_abs q.v = sym (div-mul-add (nat_abs p.v) m.width (nat_abs p.h) on_p.across) ∙ ap (λ n. n / m.width) e ∙ div-mul-add (nat_abs q.v) m.width (nat_abs q.h) on_q.across in

@@ -25,3 +25,8 @@ every_eight (negsuc (suc (suc (suc (suc (suc (suc (suc zero)))))))) = refl
 every_eight (negsuc (suc (suc (suc (suc (suc (suc (suc (suc n))))))))) =
     let e : suc (suc (suc (suc (suc (suc (suc (suc n))))))) ≡ n + 8 = omega arith in
     ap (λ k. eighth_of (negsuc k +ℤ pos 8)) e ∙ ap eighth_of (up n) ∙ far n ∙ sym (ap (λ k. eighth_of (negsuc k)) e)
+
+-- the remainder of a number further on
+pub eighth-after : (x : ℤ) (k : ℕ) → (eighth_of x + k % 8) % 8 ≡ eighth_of (x +ℤ pos k)
+eighth-after (pos n) k = omega arith
+eighth-after (negsuc n) k = grind (arith, ints)

@@ -4,6 +4,7 @@ use Rattle.std.specs.Ordering.{int_eq}
 use Rattle.tb_geom.specs.declared.point.Point.{Point}
 use Rattle.tb_geom.specs.declared.rect.Rect.{Rect}
 use Rattle.tb_geom.specs.Points.{PixelSet}
+use Rattle.tb_geom.specs.Rects.{between}
 
 -- the bits of a map row by row, the top row first; black is true
 pub record Bits : Type 0 where
@@ -33,6 +34,10 @@ bit m p = on_map m p && slice_index_or m.black (nat_abs p.v * m.width + nat_abs 
 -- whether p is the point q
 abbrev pub is_point : Point → PixelSet
 is_point q p = int_eq p.h q.h && int_eq p.v q.v
+
+-- the pixels of the row v from the column left up to the column right
+abbrev pub in_row : ℤ → ℤ → ℤ → PixelSet
+in_row v left right p = int_eq v p.v && between left p.h right
 
 -- the rectangle of the map's pixels
 abbrev pub bounds_of : Bits → Rect

@@ -2,8 +2,10 @@
 ghost use Rattle.std.specs.Prelude.{◌≡◌, ◌<◌, ◌≤◌, ◌≤ℤ◌, ◌+◌, ◌*◌, ◌&&◌, pos, true, false, nat_abs, length, IfOk, IfErr, if◌then◌else◌};
 ghost use Rattle.tb_geom.specs.declared.point.Point.{Point};
 ghost use Rattle.tb_geom.specs.Rects.{rect_holds};
-ghost use Rattle.bit_map.specs.Bits.{on_map, bit, is_point, bounds_of, is_side};
+ghost use Rattle.bit_map.specs.Bits.{on_map, bit, is_point, in_row, bounds_of, is_side};
+ghost use Rattle.bit_map.specs.Rules.{IsPartRuled, HasColumns};
 
+use crate::rule::Rule;
 use std::alloc::Global;
 use std::marker::Model;
 use tb_geom::{Point, Rect, Refusal};
@@ -39,6 +41,15 @@ fn natural(n: i32) -> usize
     ensures { pos result ≡ n }
 {
     n as usize
+}
+
+/// Gives each bit of a part of a list its new bit.
+fn rule_part<R: Rule>(bits: &mut [bool], place: usize, count: usize, start: Point, rule: &R)
+    requires within { place + count ≤ length bits.old }
+    requires columns { HasColumns start count }
+    ensures { IsPartRuled (R.value rule.now) start place count bits.old bits.new }
+{
+    rule.apply(start, &mut bits[place..place + count]);
 }
 
 impl BitMap {
@@ -94,6 +105,23 @@ impl BitMap {
     {
         let place = self.place(point);
         self.bits[place] = value;
+    }
+
+    /// Gives each pixel of the row `v` from the column `left` up to the column `right`, all in map
+    /// coordinates, the value of the rule. Every other bit stays.
+    pub fn draw_run<R: Rule>(&mut self, v: i32, left: i32, right: i32, rule: &R)
+        requires { (p : Point) → in_row v left right p ≡ true → on_map self.old p ≡ true }
+        ensures bits { (p : Point) → bit self.new p
+            ≡ (if in_row v left right p then R.value rule.now p (bit self.old p) else bit self.old p) }
+        ensures width { self.new.width ≡ self.old.width }
+        ensures height { self.new.height ≡ self.old.height }
+    {
+        if left < right {
+            let start = Point { h: left, v };
+            let place = self.place(start);
+            let count = natural(right - left);
+            rule_part(self.bits.as_mut_slice(), place, count, start, rule);
+        }
     }
 
     /// Where the bit at a point of the map stands in the list.

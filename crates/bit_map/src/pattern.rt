@@ -50,7 +50,7 @@ pub fn bit_of(byte: u8, place: u8) -> bool
 }
 
 /// The remainder by 8, 0..=7.
-fn eighth(x: i32) -> u8
+pub(crate) fn eighth(x: i32) -> u8
     ensures value { result ≡ eighth_of x }
     ensures below { result < 8 }
 {

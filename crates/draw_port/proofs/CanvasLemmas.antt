@@ -1,5 +1,5 @@
 -- One operation after another on a canvas.
-use Rattle.std.proofs.Common.{◌≡◌, ℕ, ◌+◌, ◌<◌, ◌≤◌, ℤ, pos, negsuc, ◌-ℤ◌, ◌≤ℤ◌, ◌+ℤ◌, nat_abs, Bool, true, false, not, ◌&&◌, cond, List, length, take, get_or, refl, sym, ap, subst, if◌then◌else◌, ◌∙◌, arith, w32}
+use Rattle.std.proofs.Common.{◌≡◌, ℕ, ◌+◌, ◌<◌, ◌≤◌, ℤ, pos, negsuc, ◌-ℤ◌, ◌≤ℤ◌, ◌+ℤ◌, nat_abs, Bool, true, false, not, ◌&&◌, cond, None, List, length, take, get_or, refl, sym, ap, subst, if◌then◌else◌, ◌∙◌, arith, w32}
 use Rattle.std.specs.Int.{saturate_signed}
 use Rattle.std.proofs.lemmas.Int.{ints, clamps}
 use Rattle.std.proofs.lemmas.List.Sums.{fold_more}
@@ -14,7 +14,7 @@ use Rattle.bit_blit.proofs.DrawsLemmas.{Draws-over, Draws-same, Draws-where}
 use Rattle.draw_port.proofs.PlacedLemmas.{image-around}
 use Rattle.draw_port.specs.Origins.{is_near_origin}
 use Rattle.draw_port.specs.Places.{stopped, is_far, Encloses}
-use Rattle.draw_port.specs.Cuts.{cut_holds}
+use Rattle.scan_region.specs.Cuts.{cut_holds}
 use Rattle.draw_port.specs.Ops.{clip_holds, run_holds, text_mode, shape_holds, shape_value, op_holds, op_value, picture_value}
 use Rattle.draw_port.specs.Canvases.{canvas_holds, canvas_point, clipped_holds, painted_by, painted_all, pictured, SameFrame}
 use Rattle.draw_port.specs.declared.canvas.Canvas.{Canvas}
@@ -54,17 +54,12 @@ stopped-near m p o w h near on =
 
 -- ---- a rule of the canvas
 
-cut_table : (area cut : Bool) (x y d : Bool) → x ≡ y → cond area (cond cut x d) d ≡ cond (area && cut) y d
-cut_table true true x y d e = e
-cut_table true false x y d e = refl
-cut_table false cut x y d e = refl
-
--- what a rule of the canvas draws in a rectangle of the map, where it leaves what the cut takes away
+-- what a rule of the canvas draws in a rectangle of the map where the cut leaves it
 pub seen_drawn : (c : Canvas) (area : Rect) (value : Point → Bool → Bool) (old new : Bits) → old.width ≤ 32767 → old.height ≤ 32767 → is_near_origin c.origin ≡ true
-    → Draws (rect_holds area) (λ p d. if cut_holds c.cut.now p then value (stopped p c.origin) d else d) old new
+    → Draws (λ p. rect_holds area p && cut_holds c.cut.now p) (λ p d. value (stopped p c.origin) d) old new
     → Draws (λ p. rect_holds area p && cut_holds c.cut.now p) (λ p d. value (canvas_point c p) d) old new
 seen_drawn c area value old new w h near drawn =
-    Draws-same _ _ _ _ old new (λ p d on. cut_table (rect_holds area p) (cut_holds c.cut.now p) (value (stopped p c.origin) d) (value (canvas_point c p) d) d (ap (λ q. value q d) (stopped-near old p c.origin w h near on))) drawn
+    Draws-same _ _ _ _ old new (λ p d on. ap (λ q. cond (rect_holds area p && cut_holds c.cut.now p) (value q d) d) (stopped-near old p c.origin w h near on)) drawn
 
 -- in the part of the clip that a rectangle has, this is a drawing of the rectangle's pixels of the canvas
 pub placed_drawn : (c : Canvas) (rect area : Rect) (value : Point → Bool → Bool) (old new : Bits)
@@ -184,3 +179,18 @@ pictured-over old mid ops a b c frame first second =
     (λ p d on. white_first (canvas_holds old p) (painted_all old ops p) d)
     first
     (Draws-same (canvas_holds mid) (canvas_holds old) (painted_all mid ops) (painted_all old ops) b c (λ p d on. frame_all old mid ops p d frame) second)
+
+-- ---- rectangles
+
+-- a shape without a clip makes of a bit what the shape makes of it
+pub unclipped : (op : Op) (s : Shape) → op.shape ≡ s → op.clip ≡ None → (font : List ℕ) (p : Point) (d : Bool) → op_value font op p d ≡ cond (shape_holds font s p) (shape_value s p d) d
+unfolding op_value op_holds
+unclipped op s is_shape is_none font p d = λ i. cond (clip_holds (is_none i) p && shape_holds font (is_shape i) p) (shape_value (is_shape i) p d) d
+
+-- an operation that has a rectangle is painted where a rule is drawn in it
+pub rect_painted : (c : Canvas) (op : Op) (rect : Rect) (value : Point → Bool → Bool) (old new : Bits) → op.clip ≡ None
+    → (op.clip ≡ None → (font : List ℕ) (p : Point) (d : Bool) → op_value font op p d ≡ cond (rect_holds rect p) (value p d) d)
+    → Draws (λ p. canvas_holds c p && rect_holds rect (canvas_point c p)) (λ p d. value (canvas_point c p) d) old new
+    → Draws (canvas_holds c) (painted_by c op) old new
+rect_painted c op rect value old new is_none ruled drawn =
+    Draws-same _ _ _ _ old new (λ p d on. in_table (canvas_holds c p) (rect_holds rect (canvas_point c p)) (value (canvas_point c p) d) d ∙ ap (λ x. cond (canvas_holds c p) x d) (sym (ruled is_none c.font.now (canvas_point c p) d))) drawn

@@ -13,7 +13,7 @@ use Rattle.bit_map.specs.Bits.{Bits}
 use Rattle.bit_blit.specs.Draws.{Draws}
 use Rattle.bit_blit.proofs.DrawsLemmas.{Draws-more, Draws-same}
 use Rattle.draw_port.specs.Canvases.{canvas_holds, canvas_point, painted_by, SameFrame}
-use Rattle.draw_port.specs.Cuts.{cut_holds}
+use Rattle.scan_region.specs.Cuts.{cut_holds}
 use Rattle.draw_port.specs.Ops.{is_end, frame_holds, clip_holds, op_holds, op_value, shape_value}
 use Rattle.draw_port.specs.declared.canvas.Canvas.{Canvas}
 use Rattle.draw_port.specs.declared.shapes.Op.{Op}

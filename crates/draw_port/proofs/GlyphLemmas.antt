@@ -15,7 +15,7 @@ use Rattle.strike_font.specs.Text.{glyph_of, glyph_pixel, glyphs_pixel, text_hol
 use Rattle.strike_font.proofs.TextLemmas.{glyph-to}
 use Rattle.draw_port.specs.declared.canvas.Canvas.{Canvas}
 use Rattle.draw_port.specs.Canvases.{canvas_holds, canvas_point, clipped_holds, SameFrame}
-use Rattle.draw_port.specs.Cuts.{cut_holds}
+use Rattle.scan_region.specs.Cuts.{cut_holds}
 use Rattle.draw_port.specs.Ops.{clip_holds}
 use Rattle.draw_port.specs.Places.{is_far, Encloses}
 use Rattle.draw_port.specs.Texts.{glyph_holds, new_holds}

@@ -5,3 +5,4 @@ pub mod PictureLemmas
 pub mod GlyphLemmas
 pub mod FrameLemmas
 pub mod OverLemmas
+pub mod SeenLemmas

@@ -13,7 +13,7 @@ use Rattle.bit_map.specs.Patterns.{pattern_bit, bit_of, eighth_of}
 use Rattle.bit_blit.specs.Draws.{Draws}
 use Rattle.bit_blit.proofs.DrawsLemmas.{Draws-over, Draws-where}
 use Rattle.strike_font.specs.Text.{text_holds}
-use Rattle.draw_port.specs.Cuts.{cut_holds}
+use Rattle.scan_region.specs.Cuts.{cut_holds}
 use Rattle.draw_port.specs.Canvases.{canvas_holds, canvas_point, SameFrame}
 use Rattle.draw_port.specs.declared.canvas.Canvas.{Canvas}
 

@@ -5,7 +5,7 @@ use Rattle.tb_geom.specs.Points.{PixelSet, minus}
 use Rattle.tb_geom.specs.Rects.{rect_holds}
 use Rattle.tb_geom.specs.Pixels.{Pixels}
 use Rattle.strike_font.specs.Text.{text_holds}
-use Rattle.draw_port.specs.Cuts.{cut_holds}
+use Rattle.scan_region.specs.Cuts.{cut_holds}
 use Rattle.draw_port.specs.Ops.{clip_holds, op_value, picture_bit, picture_value}
 use Rattle.draw_port.specs.declared.shapes.Op.{Op}
 use Rattle.draw_port.specs.declared.canvas.Canvas.{Canvas}

@@ -2,7 +2,6 @@
 pub mod Ops
 pub mod Origins
 pub mod Places
-pub mod Cuts
 pub mod Canvases
 pub mod Texts
 pub mod Frames

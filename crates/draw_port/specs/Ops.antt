@@ -1,5 +1,5 @@
 -- What drawing operations make of a pixel.
-use Rattle.std.specs.Prelude.{ℕ, ℤ, pos, ◌+ℤ◌, Bool, true, false, not, cond, ◌&&◌, ◌||◌, List, Option, Some, None}
+use Rattle.std.specs.Prelude.{◌≡◌, ℕ, ℤ, pos, ◌+ℤ◌, Bool, true, false, not, cond, ◌&&◌, ◌||◌, List, Option, Some, None}
 use Rattle.std.specs.List.{fold}
 use Rattle.std.specs.Ordering.{int_eq}
 use Rattle.tb_geom.specs.declared.point.Point.{Point}
@@ -93,6 +93,10 @@ op_holds font op p = clip_holds op.clip p && shape_holds font op.shape p
 -- what the operation makes of the bit d at a point
 unfoldable pub op_value : List ℕ → Op → Point → Bool → Bool
 op_value font op p d = cond (op_holds font op p) (shape_value op.shape p d) d
+
+-- without a clip the operation has the pixels of the rectangle alone, and gives them this value
+abbrev pub IsRuledRect : Op → Rect → (Point → Bool → Bool) → Type 0
+IsRuledRect op r value = op.clip ≡ None → (font : List ℕ) (p : Point) (d : Bool) → op_value font op p d ≡ cond (rect_holds r p) (value p d) d
 
 -- what operations make of the bit d, one after another
 abbrev pub picture_value : List ℕ → List Op → Point → Bool → Bool

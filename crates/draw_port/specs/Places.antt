@@ -1,10 +1,11 @@
 -- A point seen from another, in numbers of 32 bits.
-use Rattle.std.specs.Prelude.{◌≡◌, true, false, not, ◌&&◌, pos, negsuc, ◌-ℤ◌}
+use Rattle.std.specs.Prelude.{◌≡◌, ℕ, ◌<◌, true, false, not, ◌&&◌, pos, negsuc, ◌-ℤ◌}
 use Rattle.std.specs.Int.{saturate_signed, w32}
 use Rattle.tb_geom.specs.declared.point.Point.{Point}
 use Rattle.tb_geom.specs.declared.rect.Rect.{Rect}
 use Rattle.tb_geom.specs.Points.{PixelSet}
 use Rattle.tb_geom.specs.Rects.{between, rect_holds}
+use Rattle.bit_map.specs.Rules.{right_of, HasColumns}
 
 -- the point p as seen from o, where each number stops at the ends of 32 bits
 abbrev pub stopped : Point → Point → Point
@@ -17,3 +18,8 @@ is_far p = not (between (negsuc 2147483647) p.h (pos 2147483647) && between (neg
 -- the rectangle encloses the pixels of the set that are not far
 abbrev pub Encloses : Rect → PixelSet → Type 0
 Encloses r s = (p : Point) → is_far p ≡ false → s p ≡ true → rect_holds r p ≡ true
+
+-- seen from the origin a run begins at `seen`, and numbers of 32 bits go as far as it
+pub record IsSeenRun (origin start : Point) (count : ℕ) (seen : Point) : Type 0 where
+  pub columns : HasColumns seen count
+  pub each : (k : ℕ) → k < count → stopped (right_of start k) origin ≡ right_of seen k

@@ -2,8 +2,8 @@
 ghost use Rattle.std.specs.Prelude.{◌≡◌, true};
 ghost use Rattle.draw_port.specs.Origins.{is_near_origin};
 
-use crate::cut::Cut;
 use bit_map::BitMap;
+use scan_region::Cut;
 use strike_font::Font;
 use tb_geom::{Point, Rect};
 

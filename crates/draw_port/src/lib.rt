@@ -12,15 +12,15 @@
 //! A `Canvas` is a bitmap, a rectangle and a `Cut` that bound what may change on it, a font, and the
 //! place of the canvas's own 0 0 on the map. Each drawing on it says which pixels of the canvas got
 //! which value, by the one word `Draws`, and that all else stayed. All go through one function, which
-//! gives the pixels of a rectangle the value of a `Rule` in the canvas's own coordinates. An operation
-//! looks at the pixels of its box alone, a frame at those of its sides, a text at those of its glyphs.
+//! gives the pixels of a rectangle that the cut leaves the value of a `Rule` in the canvas's own
+//! coordinates, run by run. A rectangle without a clip is drawn by the rule of its shade; of any other
+//! operation each pixel of its box is asked, of a frame those of its sides, of a text those of its glyphs.
 #![tactic(auto)]
 
 mod bounds;
 mod bytes;
 mod canvas;
 mod copies;
-mod cut;
 mod frames;
 pub mod laws;
 mod painting;
@@ -33,7 +33,7 @@ mod values;
 
 pub use bytes::{Bytes, ShortText};
 pub use canvas::Canvas;
-pub use cut::Cut;
 pub use picture::Picture;
 pub use placed::placed_within;
+pub use scan_region::Cut;
 pub use shapes::{Line, Op, RowsOfBits, Shade, Shape, TextMode, TextRun};

@@ -7,7 +7,8 @@ ghost use Rattle.bit_map.specs.Modes.{mode_bit};
 ghost use Rattle.bit_map.specs.Patterns.{pattern_bit};
 ghost use Rattle.bit_blit.specs.Draws.{Draws};
 ghost use Rattle.strike_font.specs.Text.{text_holds};
-ghost use Rattle.draw_port.specs.Cuts.{cut_holds};
+ghost use Rattle.scan_region.specs.Cuts.{cut_holds};
+ghost use Rattle.draw_port.specs.Ops.{IsRuledRect};
 ghost use Rattle.draw_port.specs.Canvases.{canvas_holds, canvas_point, painted_by, painted_all, pictured, SameFrame};
 
 use crate::bounds::rect_from;
@@ -16,7 +17,7 @@ use crate::picture::Picture;
 use crate::placed::placed_within;
 use crate::rules::{Seen, White};
 use crate::shapes::{Op, Shade, Shape};
-use bit_blit::{Copied, Inverse, Rule, draw_rect};
+use bit_blit::{Copied, Inverse, Rule, draw_cut};
 use bit_map::{BitImage, Mode, Pattern};
 use tb_geom::{Point, Rect};
 
@@ -99,6 +100,9 @@ impl Canvas<'_> {
             Shape::Text(run) => {
                 self.clipped_text(&op.clip, run.text.as_slice(), run.pen, run.mode.mode());
             }
+            Shape::Erase(rect) => self.paint_rect(op, *rect, &White),
+            Shape::Invert(rect) => self.paint_rect(op, *rect, &Inverse),
+            Shape::Fill(rect, shade) => self.paint_rect(op, *rect, shade),
             Shape::Frame(rect, _) => self.paint_frame(op, *rect),
             _ => self.paint_box(op),
         }
@@ -123,6 +127,20 @@ impl Canvas<'_> {
     {
         self.draw_within(self.clip, &White);
         self.paint_all(picture);
+    }
+
+    /// Draws an operation that has the pixels of a rectangle which its clip leaves, and gives them the
+    /// value of the rule: by the rule alone where there is no clip.
+    fn paint_rect<R: Rule>(&mut self, op: &Op, rect: Rect, rule: &R)
+        requires { IsRuledRect op.now rect (R.value rule.now) }
+        ensures same_map { self.new.map.ghost_name ≡ self.old.map.ghost_name }
+        ensures same_frame { SameFrame self.old self.new }
+        ensures drawn { Draws (canvas_holds self.old) (painted_by self.old op.now) self.old.map.now self.new.map.now }
+    {
+        match &op.clip {
+            None => self.draw(rect, rule),
+            Some(_) => self.paint_box(op),
+        }
     }
 
     /// Draws an operation by asking it at each pixel of the box around it.
@@ -161,8 +179,7 @@ impl Canvas<'_> {
         let seen = Seen {
             rule,
             origin: self.origin,
-            cut: self.cut,
         };
-        draw_rect(self.map, area, &seen);
+        draw_cut(self.map, self.cut, area, &seen);
     }
 }

@@ -58,6 +58,10 @@ impl Rule for Shade {
     fn value(&self, point: Point, old: bool) -> bool {
         self.mode.apply(self.pattern.bit(point), old)
     }
+
+    fn apply(&self, start: Point, run: &mut [bool]) {
+        self.pattern.put_down(self.mode, start, run);
+    }
 }
 
 impl Shade {

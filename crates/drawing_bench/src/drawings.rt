@@ -16,6 +16,18 @@ const SCREEN: Rect = Rect {
     bottom: 342,
 };
 
+/// A rectangle of these sides.
+macro_rules! rect {
+    ($left:expr, $top:expr, $right:expr, $bottom:expr) => {
+        Rect {
+            left: $left,
+            top: $top,
+            right: $right,
+            bottom: $bottom,
+        }
+    };
+}
+
 /// A text of 40 characters.
 const TEXT: &[u8] = b"The quick brown fox jumps over lazy dogs";
 
@@ -47,23 +59,73 @@ pub fn shift_all(alloc: Global, rounds: u32) -> Result<u32, Refusal> {
     Ok(sum_of_pixels(&map))
 }
 
-/// Draws a text of 40 characters of the built-in font on a canvas that nothing cuts.
-pub fn draw_text(alloc: Global, rounds: u32) -> Result<u32, Refusal> {
+/// What is drawn, on a canvas.
+trait Drawing {
+    fn draw(&self, canvas: &mut Canvas<'_>);
+}
+
+/// Draws on a canvas that a cut bounds.
+fn draw_on<D: Drawing>(
+    alloc: Global,
+    cut: &Cut<'_>,
+    drawing: &D,
+    rounds: u32,
+) -> Result<u32, Refusal> {
     let mut map = BitMap::new(alloc, 512, 342)?;
     let font = Font::built_in(alloc)?;
-    let cut = Cut {
-        inside: [None; 3],
-        outside: None,
-    };
     let mut canvas = Canvas {
         map: &mut map,
         clip: SCREEN,
         origin: Point { h: 0, v: 0 },
-        cut: &cut,
+        cut,
         font: &font,
     };
     for _ in 0..rounds {
-        canvas.text(TEXT, Point { h: 10, v: 100 }, Mode::Xor);
+        drawing.draw(&mut canvas);
     }
     Ok(sum_of_pixels(&map))
+}
+
+/// A cut that takes nothing away.
+const WHOLE: Cut<'static> = Cut {
+    inside: [None; 3],
+    outside: None,
+};
+
+struct Letters;
+
+impl Drawing for Letters {
+    fn draw(&self, canvas: &mut Canvas<'_>) {
+        canvas.text(TEXT, Point { h: 10, v: 100 }, Mode::Xor);
+    }
+}
+
+struct GrayScreen;
+
+impl Drawing for GrayScreen {
+    fn draw(&self, canvas: &mut Canvas<'_>) {
+        canvas.fill(SCREEN, Pattern::GRAY, Mode::Xor);
+    }
+}
+
+/// Draws a text of 40 characters of the built-in font on a canvas that nothing cuts.
+pub fn draw_text(alloc: Global, rounds: u32) -> Result<u32, Refusal> {
+    draw_on(alloc, &WHOLE, &Letters, rounds)
+}
+
+/// Fills all pixels with gray.
+pub fn fill_all(alloc: Global, rounds: u32) -> Result<u32, Refusal> {
+    draw_on(alloc, &WHOLE, &GrayScreen, rounds)
+}
+
+/// Fills with gray what two rectangles share and a third leaves of that.
+pub fn fill_cut(alloc: Global, rounds: u32) -> Result<u32, Refusal> {
+    let first = Region::from_rect(alloc, rect!(20, 10, 300, 200))?;
+    let second = Region::from_rect(alloc, rect!(100, 50, 500, 340))?;
+    let hole = Region::from_rect(alloc, rect!(150, 80, 220, 160))?;
+    let cut = Cut {
+        inside: [Some(&first), Some(&second), None],
+        outside: Some(&hole),
+    };
+    draw_on(alloc, &cut, &GrayScreen, rounds)
 }

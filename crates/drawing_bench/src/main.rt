@@ -11,7 +11,8 @@ use anyhow::{Context, Result, bail};
 use std::alloc::Global;
 use std::env;
 
-const USAGE: &str = "drawing_bench ROUNDS WHAT.., where WHAT is union, write, read, shift or text";
+const USAGE: &str =
+    "drawing_bench ROUNDS WHAT.., where WHAT is union, write, read, shift, text, fill or cut";
 
 /// The checksum of what comes of these rounds.
 fn measured(alloc: Global, what: &str, rounds: u32) -> Result<u32> {
@@ -21,6 +22,8 @@ fn measured(alloc: Global, what: &str, rounds: u32) -> Result<u32> {
         "read" => regions::read(alloc, rounds)?,
         "shift" => drawings::shift_all(alloc, rounds)?,
         "text" => drawings::draw_text(alloc, rounds)?,
+        "fill" => drawings::fill_all(alloc, rounds)?,
+        "cut" => drawings::fill_cut(alloc, rounds)?,
         _ => bail!(USAGE),
     })
 }

@@ -1,9 +1,9 @@
 //! Drawings against a plain loop over all pixels.
 use crate::sheet::{MIXED, MODES, SHEET, Sheet, before, inked};
-use bit_blit::{Inverse, copy, draw_rect, fill, invert, shift};
+use bit_blit::{Inverse, copy, draw_cut, draw_rect, fill, invert, shift};
 use bit_map::{BitImage, BitMap, Mode};
 use ground_tests::pixels::{Pixels, are_alike, map_of, mark, picture};
-use scan_region::Region;
+use scan_region::{Cut, Region};
 use std::alloc::Global;
 use std::test::Fail;
 use tb_geom::{Point, Rect, Refusal};
@@ -109,6 +109,40 @@ fn inverts_a_region(rt: HostRuntime) -> Result<(), Fail> {
     let mut map = map_of(rt.alloc(), &Sheet, 13, 11)?;
     invert(&mut map, &region);
     assert!(rt; are_alike(&map, &InvertedIn(&region), SHEET));
+    Ok(())
+}
+
+/// The rectangles in each of which a pixel of the cut lies.
+const INSIDE: [Rect; 2] = [rect!(-3, 1, 10, 9), rect!(2, -4, 300, 8)];
+
+/// The rectangle in which none does.
+const OUTSIDE: Rect = rect!(4, 3, 7, 6);
+
+/// The sheet with the pixels of an area inverted that the cut leaves.
+#[derive(Drop)]
+struct InvertedWithin(Rect);
+
+impl Pixels for InvertedWithin {
+    fn byte(&self, point: Point) -> u8 {
+        let is_cut = OUTSIDE.contains(point) || !INSIDE.iter().all(|part| part.contains(point));
+        mark(before(point) != (self.0.contains(point) && !is_cut))
+    }
+}
+
+#[test]
+fn draws_within_a_cut(rt: HostRuntime) -> Result<(), Fail> {
+    let first = Region::from_rect(rt.alloc(), INSIDE[0])?;
+    let second = Region::from_rect(rt.alloc(), INSIDE[1])?;
+    let hole = Region::from_rect(rt.alloc(), OUTSIDE)?;
+    let cut = Cut {
+        inside: [Some(&first), None, Some(&second)],
+        outside: Some(&hole),
+    };
+    for area in RECTANGLES {
+        let mut map = map_of(rt.alloc(), &Sheet, 13, 11)?;
+        draw_cut(&mut map, &cut, area, &Inverse);
+        assert!(rt; are_alike(&map, &InvertedWithin(area), SHEET));
+    }
     Ok(())
 }
 

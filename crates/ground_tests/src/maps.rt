@@ -29,11 +29,24 @@ fn bits(mode: Mode) -> [bool; 4] {
     ]
 }
 
+/// The new bits of the effects of a mode, in the same order.
+fn effects(mode: Mode) -> [bool; 4] {
+    let on_white = mode.effect(false);
+    let on_black = mode.effect(true);
+    [
+        on_white.of(false),
+        on_white.of(true),
+        on_black.of(false),
+        on_black.of(true),
+    ]
+}
+
 #[test]
 fn modes_by_number_and_truth_table(rt: HostRuntime) {
     for (mode, source, pattern, table) in MODES {
         assert!(rt; mode.source_number() == source && mode.pattern_number() == pattern);
         assert!(rt; bits(mode) == table);
+        assert!(rt; effects(mode) == table);
     }
 }
 
@@ -78,6 +91,17 @@ fn patterns_by_value_and_over_the_plane(rt: HostRuntime) {
     for (point, black) in REPEATED {
         assert!(rt; pattern.bit(point) == black);
     }
+}
+
+#[test]
+fn puts_a_pattern_down_on_a_run(rt: HostRuntime) {
+    let pattern = Pattern {
+        rows: [0x80, 0xC1, 0, 0, 0, 0, 0, 0x40],
+    };
+    let mut run = [false, true, false, true, false, true, true];
+    // the columns 5, 6, 7, 0, 1, 2 and 3 of the second row
+    pattern.put_down(Mode::Xor, point!(-3, 9), &mut run);
+    assert!(rt; run == [false, true, true, false, true, true, true]);
 }
 
 /// The sides of a map, and the bounds that it has then.

@@ -11,7 +11,7 @@ use Rattle.bit_map.specs.Modes.{mode_bit}
 use Rattle.bit_map.specs.Patterns.{pattern_bit}
 use Rattle.bit_blit.proofs.DrawsLemmas.{Draws-over, Draws-same, Draws-value, Draws-none}
 use Rattle.draw_port.specs.declared.canvas.Canvas.{Canvas}
-use Rattle.draw_port.specs.Cuts.{cut_holds}
+use Rattle.scan_region.specs.Cuts.{cut_holds}
 use Rattle.draw_port.specs.Canvases.{canvas_holds, canvas_point, SameFrame}
 use Rattle.draw_port.specs.Ops.{frame_holds, shade_value, op_holds, op_value}
 use Rattle.draw_port.specs.declared.shapes.Shade.{Shade}

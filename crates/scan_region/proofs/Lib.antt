@@ -16,3 +16,8 @@ pub mod Around
 pub mod Inverted
 pub mod InvertedSets
 pub mod Restored
+pub mod LayerTurns
+pub mod WalkRuns
+pub mod CutLayers
+pub mod RowSteps
+pub mod WalkScan

@@ -87,7 +87,7 @@ any-all_runs (row ∷ rows) p all =
 -- ---- their order
 
 -- the span has a pixel, lies in the row w, and right of the column x
-abbrev IsRunAfter : ℤ → ℤ → Span → Type 0
+abbrev pub IsRunAfter : ℤ → ℤ → Span → Type 0
 IsRunAfter w x s = (s.left <ℤ s.right) × (s.v ≡ w) × (x <ℤ s.left)
 
 after-runs_of : (w x : ℤ) (es : List ℤ) → IsRising es → ((k : ℕ) → k < length es → x <ℤ get_or es k (pos 0)) → All (IsRunAfter w x) (runs_of w es)

@@ -8,3 +8,6 @@ pub mod Scan
 pub mod Moves
 pub mod Inverted
 pub mod Restored
+pub mod Cuts
+pub mod Layers
+pub mod Walks

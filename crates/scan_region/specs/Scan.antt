@@ -21,7 +21,11 @@ abbrev pub Precedes : Span → Span → Type 0
 Precedes a b = (a.v <ℤ b.v) ⊎ ((a.v ≡ b.v) × (a.right <ℤ b.left))
 
 -- the spans are the maximal runs of the set's pixels, by rising rows and columns, each once
-pub record IsScan (spans : List Span) (s : Pixels) : Type 0 where
-  pub pixels : (p : Point) → holds s p ≡ list_any (λ span. span_holds span p) spans
+pub record IsScanOf (spans : List Span) (s : PixelSet) : Type 0 where
+  pub pixels : (p : Point) → s p ≡ list_any (λ span. span_holds span p) spans
   pub runs : All IsRun spans
   pub order : AllPairs Precedes spans
+
+-- so they are of the pixels of a region
+abbrev pub IsScan : List Span → Pixels → Type 0
+IsScan spans s = IsScanOf spans (holds s)

@@ -1,18 +1,19 @@
-//! Whether rows have a pixel.
-ghost use Rattle.std.specs.Prelude.{◌≡◌, map};
+//! The row of a pixel, and whether it has it.
+ghost use Rattle.std.specs.Prelude.{◌≡◌, ℤ};
 ghost use Rattle.scan_region.specs.Edges.{inside, IsRising};
-ghost use Rattle.scan_region.specs.Rows.{has_in_rows, row_top};
+ghost use Rattle.scan_region.specs.Rows.{has_in_rows, AreRows};
 
 use crate::row::Row;
 
-/// Whether one of the rows, which rise, has the pixel at column `h` and row `v`.
-pub fn rows_contain(rows: &[Row], h: i32, v: i32) -> bool
-    requires { IsRising (map row_top rows.now) }
-    ensures { result ≡ has_in_rows rows.now h v }
+/// The edges of the row `v`, of which there are none where no row of that place is kept.
+pub fn edges_at(rows: &[Row], v: i32) -> &[i32]
+    requires { AreRows rows.now }
+    ensures pixels { (h : ℤ) → inside result.now h ≡ has_in_rows rows.now h v }
+    ensures rising { IsRising result.now }
 {
     match rows.binary_search_by_key(&v, |row| row.v()) {
-        Ok(at) => is_inside(rows[at].edges(), h),
-        Err(_) => false,
+        Ok(at) => rows[at].edges(),
+        Err(_) => &[],
     }
 }
 

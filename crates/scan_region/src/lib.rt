@@ -14,10 +14,15 @@
 //!
 //! `empty`, `from_rect` and `copy` begin a region, and `offset` moves it. `contains`, `is_empty`,
 //! `equals`, `meets_rect` and `bbox` answer from the rows and take no memory: `contains` finds the row
-//! of a point by halving, since drawing asks it at each pixel, `meets_rect` looks at pixels, not at
-//! bounds, and `bbox` is the rectangle around them. A set of pixels is kept in one list of rows alone
+//! of a point by halving, `meets_rect` looks at pixels, not at bounds, and `bbox` is the rectangle around
+//! them. A set of pixels is kept in one list of rows alone
 //! (`laws::one_list_of_rows`), so that `equals`, which compares the lists, compares the sets. Its list
 //! of spans is one too, whatever form it is kept in (`laws::one_list_of_spans`).
+//!
+//! A `Cut` is what lies in each of some regions and not in another, and `spans_within` walks what it
+//! leaves of a rectangle, run by run and without memory. In each row the edges of each region are found
+//! once, as a `Layer`, which says for each column whether the region lets it through; from there a row is
+//! gone along from turn to turn of the layers (`row_spans`), and the rows one after another (`cut_spans`).
 //!
 //! `to_bytes` goes over the rows once and writes the columns at which each differs from the one above
 //! it, into a `RegionWriter` of `region_bytes`, which counts them all and keeps their bytes while memory
@@ -29,9 +34,12 @@
 mod bounds;
 mod contains;
 mod copy;
+mod cut;
+mod cut_spans;
 mod inversion;
 mod kernel;
 pub mod laws;
+mod layers;
 mod meets;
 mod merge;
 mod offset;
@@ -39,10 +47,13 @@ mod rect;
 mod region;
 mod restore;
 mod row;
+mod row_spans;
 mod same;
 mod spans;
 mod spans_up;
 
+pub use cut::Cut;
+pub use cut_spans::CutSpans;
 pub use region::Region;
 pub use spans::{Span, Spans};
 pub use spans_up::SpansUp;

@@ -1,13 +1,13 @@
 //! The public calls: each wraps a function of the rows.
-ghost use Rattle.std.specs.Prelude.{◌≡◌, true, false, ◌&&◌, ◌||◌, not, ◌↔◌, IsTrue, IfOk, IfErr, OnOk, OnErr, MatchResult, reverse};
+ghost use Rattle.std.specs.Prelude.{◌≡◌, true, false, ◌&&◌, ◌||◌, not, ◌↔◌, ℤ, IsTrue, IfOk, IfErr, OnOk, OnErr, MatchResult, reverse};
 ghost use Rattle.tb_geom.specs.declared.point.Point.{Point};
 ghost use Rattle.tb_geom.specs.Points.{minus};
 ghost use Rattle.tb_geom.specs.Rects.{rect_holds, is_in_range, IsBoxOf, empty_rect};
-ghost use Rattle.tb_geom.specs.Pixels.{holds};
-ghost use Rattle.scan_region.specs.Edges.{applied, differ};
+ghost use Rattle.tb_geom.specs.Pixels.{has, holds};
+ghost use Rattle.scan_region.specs.Edges.{applied, differ, inside, IsRising};
 
 use crate::bounds::rows_bounds;
-use crate::contains::rows_contain;
+use crate::contains::{edges_at, is_inside};
 use crate::copy::copy_rows;
 use crate::inversion::write_rows;
 use crate::kernel::Operator;
@@ -156,7 +156,7 @@ impl Region {
     pub fn contains(&self, point: Point) -> bool
         ensures { result ≡ holds self.now point }
     {
-        rows_contain(self.rows.as_slice(), point.h, point.v)
+        is_inside(self.row_edges(point.v), point.h)
     }
 
     /// Whether the region has no pixel (*Inside Macintosh* I, "QuickDraw": `EmptyRgn`).
@@ -191,6 +191,14 @@ impl Region {
         ensures none { ((p : Point) → holds self.now p ≡ false) → result ≡ empty_rect }
     {
         rows_bounds(self.rows.as_slice())
+    }
+
+    /// The edges of the row `v`.
+    pub(crate) fn row_edges(&self, v: i32) -> &[i32]
+        ensures pixels { (h : ℤ) → inside result.now h ≡ has self.now h v }
+        ensures rising { IsRising result.now }
+    {
+        edges_at(self.rows.as_slice(), v)
     }
 
     /// The spans of the region, by rising rows and columns: its maximal runs of pixels in a row.

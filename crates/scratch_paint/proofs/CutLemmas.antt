@@ -9,8 +9,8 @@ use Rattle.tb_geom.specs.Pixels.{Pixels, holds}
 use Rattle.bit_map.specs.Bits.{Bits}
 use Rattle.bit_blit.specs.Draws.{Draws}
 use Rattle.bit_blit.proofs.DrawsLemmas.{Draws-same}
-use Rattle.draw_port.specs.declared.cut.Cut.{Cut}
-use Rattle.draw_port.specs.Cuts.{cut_holds}
+use Rattle.scan_region.specs.declared.cut.Cut.{Cut}
+use Rattle.scan_region.specs.Cuts.{cut_holds}
 
 -- a cut of two regions
 abbrev pub both : Bor Pixels → Bor Pixels → Cut

@@ -17,7 +17,7 @@ use Rattle.bit_map.specs.Bits.{Bits}
 use Rattle.bit_blit.specs.Draws.{Draws}
 use Rattle.bit_blit.proofs.DrawsLemmas.{Draws-same}
 use Rattle.draw_port.specs.declared.shapes.Op.{Op}
-use Rattle.draw_port.specs.Cuts.{cut_holds}
+use Rattle.scan_region.specs.Cuts.{cut_holds}
 use Rattle.draw_port.specs.Ops.{op_value}
 use Rattle.draw_port.specs.Origins.{is_near_origin}
 use Rattle.op_ref.specs.OpRefs.{IsMeant}

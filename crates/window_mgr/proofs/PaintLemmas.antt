@@ -17,7 +17,7 @@ use Rattle.bit_map.specs.Modes.{mode_bit}
 use Rattle.bit_map.specs.Patterns.{pattern_bit, bit_of, eighth_of}
 use Rattle.bit_blit.specs.Draws.{Draws}
 use Rattle.bit_blit.proofs.DrawsLemmas.{Draws-on_map}
-use Rattle.draw_port.specs.Cuts.{cut_holds}
+use Rattle.scan_region.specs.Cuts.{cut_holds}
 use Rattle.def_iface.specs.News.{no_news}
 use Rattle.def_iface.specs.declared.taken.Taken.{Taken}
 use Rattle.def_iface.specs.Meaning.{Definition, Loan}

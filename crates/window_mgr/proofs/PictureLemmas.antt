@@ -9,7 +9,7 @@ use Rattle.tb_geom.specs.Pixels.{Pixels, holds}
 use Rattle.bit_map.specs.Bits.{Bits}
 use Rattle.bit_blit.specs.Draws.{Draws}
 use Rattle.bit_blit.proofs.DrawsLemmas.{Draws-same}
-use Rattle.draw_port.specs.Cuts.{cut_holds}
+use Rattle.scan_region.specs.Cuts.{cut_holds}
 use Rattle.window_mgr.proofs.PaintLemmas.{cut_holds-one}
 
 -- a clip around a set takes nothing away

@@ -1,6 +1,7 @@
 use Rattle.std.proofs.Common.{◌∙◌, refl, rules, arith, ℤ, pos, ◌+ℤ◌, ◌≤ℤ◌, ◌<ℤ◌, SFits, w32, to_z}
 use Rattle.std.proofs.lemmas.Int.{ints, to_z-of_z}
-use Rattle.bit_blit.proofs.DrawsLemmas.{Draws-none, Draws-where, Draws-on_map}
+use Rattle.bit_blit.specs.Draws.{Draws, in_row}
+use Rattle.bit_blit.proofs.DrawsLemmas.{Draws-of, Draws-none, Draws-where, Draws-on_map}
 use Rattle.bit_blit.proofs.WalkLemmas.{fits_next, rows_step, in_rows-none, in_rows-end, row-in_rect, shared-on_map, shared-where}
 use Rattle.bit_blit.proofs.walk.draw_rect.Goals as goal
 
@@ -15,8 +16,8 @@ loop-v-init g c =
       drawn = Draws-none _ _ _ (λ x on. in_rows-none shared.left shared.right shared.top x);
     })
 
-pub draw_row-requires : goal.draw_row-requires
-draw_row-requires g c =
+pub draw_run-requires : goal.draw_run-requires
+draw_run-requires g c =
     let shared = c.sect-shared.result in
     let fits_l : SFits w32 shared.left = search rules in
     let fits_r : SFits w32 shared.right = search rules in
@@ -40,7 +41,7 @@ loop-v-preserved g c =
     let low = c.loop-v.invariant.low in
     let below : v <ℤ shared.bottom = search (rules, ints) in
     let fits : SFits w32 (v +ℤ pos 1) = fits_next _ _ fits_v fits_b below in
-    let row = simp to_z-of_z at c.draw_row.ensures in
+    let row : Draws (in_row v shared.left shared.right) (g.R.Rule.value c.args.rule.now) c.loop-v.map c.draw_run.new.self = Draws-of _ _ _ _ (simp to_z-of_z at c.draw_run.ensures.bits) c.draw_run.ensures.width c.draw_run.ensures.height in
     simp to_z-of_z (record {
       low = omega (arith, ints);
       high = λ e. omega (arith, ints);

@@ -1,16 +1,7 @@
-use Rattle.std.proofs.Common.{rules, SFits, w32}
-use Rattle.std.proofs.lemmas.Int.{to_z-of_z}
-use Rattle.bit_blit.proofs.SpansLemmas.{spans_step, scan_step}
+use Rattle.std.proofs.Common.{rules}
+use Rattle.bit_blit.proofs.DrawsLemmas.{Draws-where}
+use Rattle.bit_blit.proofs.SpansLemmas.{one-part}
 use Rattle.bit_blit.proofs.walk.draw_region.Goals as goal
 
-pub loop-span-preserved : goal.loop-span-preserved
-loop-span-preserved g c =
-    let span = c.in-Some.span in
-    let fits_s : SFits w32 span.v = search rules in
-    let fits_l : SFits w32 span.left = search rules in
-    let fits_r : SFits w32 span.right = search rules in
-    let drawn = simp to_z-of_z at c.draw_span.ensures in
-    record {
-      scan = scan_step _ _ _ _ _ c.in-Some.ensures.steps c.loop-span.invariant.scan;
-      drawn = spans_step _ _ _ _ c.args.region.now c.loop-span.yielded span _ c.next.new.self c.in-Some.ensures.steps c.loop-span.invariant.scan c.loop-span.invariant.drawn drawn;
-    }
+pub returns : goal.returns
+returns g c = Draws-where _ _ _ _ _ (λ x on. one-part c.args.region c.bbox.result c.bbox.ensures.exact x) c.draw_cut.ensures

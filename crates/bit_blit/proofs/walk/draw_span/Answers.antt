@@ -1,11 +1,11 @@
 use Rattle.std.proofs.Common.{◌∙◌, sym, rules, SFits, w32}
 use Rattle.std.proofs.lemmas.Int.{ints, to_z-of_z}
-use Rattle.bit_blit.proofs.DrawsLemmas.{Draws-where}
+use Rattle.bit_blit.proofs.DrawsLemmas.{Draws-of, Draws-where}
 use Rattle.bit_blit.proofs.WalkLemmas.{IsCut, cut_row-in_rect, cut_row-where}
 use Rattle.bit_blit.proofs.walk.draw_span.Goals as goal
 
-pub draw_row-requires : goal.draw_row-requires
-draw_row-requires g c =
+pub draw_run-requires : goal.draw_run-requires
+draw_run-requires g c =
     let bounds = c.bounds-bounds.result in
     let fits_v = c.ranges.v in
     let fits_l = c.ranges.left in
@@ -42,5 +42,5 @@ returns-then-v-bounds g c =
       first_is = simp to_z-of_z at c.max.ensures.value;
       last_is = simp to_z-of_z at c.min.ensures.value;
     } in
-    let drawn = simp to_z-of_z at c.draw_row.ensures in
+    let drawn = Draws-of _ _ _ _ (simp to_z-of_z at c.draw_run.ensures.bits) c.draw_run.ensures.width c.draw_run.ensures.height in
     Draws-where _ _ _ _ _ (λ x on. cut_row-where _ _ _ _ _ _ cut x (c.bounds-bounds.ensures.pixels x ∙ on)) drawn

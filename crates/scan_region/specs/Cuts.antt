@@ -4,7 +4,7 @@ use Rattle.std.specs.List.{list_all}
 use Rattle.std.specs.Borrow.{Bor}
 use Rattle.tb_geom.specs.Points.{PixelSet}
 use Rattle.tb_geom.specs.Pixels.{Pixels, holds}
-use Rattle.draw_port.specs.declared.cut.Cut.{Cut}
+use Rattle.scan_region.specs.declared.cut.Cut.{Cut}
 
 -- whether a region holds the pixel; without a region every pixel counts
 abbrev pub in_part : Option (Bor Pixels) → PixelSet

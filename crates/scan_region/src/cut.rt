@@ -1,8 +1,8 @@
 //! The pixels that several regions leave.
 ghost use Rattle.std.specs.Prelude.{◌≡◌};
-ghost use Rattle.draw_port.specs.Cuts.{cut_holds, in_part, in_hole};
+ghost use Rattle.scan_region.specs.Cuts.{cut_holds, in_part, in_hole};
 
-use scan_region::Region;
+use crate::region::Region;
 use tb_geom::Point;
 
 /// The pixels that lie in each of up to three regions, and not in a fourth. A region that is not
