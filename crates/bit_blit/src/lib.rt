@@ -5,8 +5,8 @@
 //! that the drawing has got its value and that every other bit of the map, and the map's size, stayed.
 //! Drawing goes from run to run, and a `Rule` makes the values of a run in one go: `draw_rect` takes the
 //! rows of a rectangle, and `draw_cut` the spans that a cut leaves of one, of which `draw_region` is the
-//! case of one region. `fill` puts a pattern down so, `copy` the bits of a `Source`, which is another map or a bit
-//! image, and `invert` turns each pixel.
+//! case of one region. `fill` puts a pattern down so, `copy` the bits of a `Source`, which is another map
+//! or a bit image, and `invert` turns each pixel.
 //!
 //! `shift` moves pixels within one map. It takes them in the order of a screen's scan, or against it
 //! where they move onward in it, so that the source of a pixel always has its old bit still.
