@@ -1,4 +1,6 @@
--- What the contracts speak of: the codes of the parts of the screen, and which calls may come while something is open.
+-- What the contracts speak of: the codes of the parts of the screen, which calls may come while something is open, and what
+-- a step is.
 pub mod Parts
 pub mod Lent
 pub mod Gates
+pub mod Steps

@@ -5,35 +5,34 @@ use Rattle.tb_geom.specs.declared.refusal.Refusal.{Refusal}
 use Rattle.event_queue.specs.declared.event.Event.{Event}
 use Rattle.event_queue.specs.Events.{is_posted}
 use Rattle.desk_call.specs.declared.call.Call.{Call}
-use Rattle.desk_call.specs.declared.call.Call.TheVariants.{Window, Update, Frame, Event as AboutEvents}
 use Rattle.desk_call.specs.declared.call.Reply.{Reply}
-use Rattle.desk_call.specs.Gates.{gate, standing_of}
 use Rattle.vis_update.specs.Records.{WindowRecord}
 use Rattle.window_mgr.specs.FullDesk.{IsRightState}
 use Rattle.window_frame.specs.Followers.{Knows}
 use Rattle.window_frame.specs.Followers.Flag.{Highlighting, Zooming}
 use Rattle.desk_toolbox.specs.declared.events.Events.{Events}
 use Rattle.desk_toolbox.specs.Reached.{IsThere, IsTrackedIfHeard, IsConsistent, IsJustBegun, open_window}
-use Rattle.desk_toolbox.specs.Run.{IsAdmitted, IsGated, IsStep, IsRunOfCalls}
+use Rattle.desk_toolbox.specs.Run.{IsStep, IsRunOfCalls}
 use Rattle.desk_toolbox.specs.ToolboxStates.{ToolboxState}
+use Rattle.desk_toolbox.proofs.EachManager.{HoldsOfEach, of_step}
 use Rattle.desk_toolbox.proofs.Runs.{step_stays_right}
 use Rattle.desk_toolbox.proofs.Stands.{Stands, stands, consistent, stands_still, event_stands, window_stands}
 use Rattle.desk_toolbox.proofs.StandsOpen.{update_stands, frame_stands}
 
-admitted_stands : (call : Call) (answer : Result Reply Refusal) (before after : ToolboxState) → gate before.desk.activity (standing_of call) ≡ None → Stands before → IsRightState after.desk.windows → IsAdmitted call answer before after → Stands after
-admitted_stands (Window call) answer before after may was right (own, is, step) = window_stands call own before after may was right step
-admitted_stands (Update call) answer before after may was right (own, is, step) = update_stands call own before after may was right step.0 step.1
-admitted_stands (Frame call) answer before after may was right (own, is, step) = frame_stands call own before after may was right step.0 step.1
-admitted_stands (AboutEvents call) answer before after may was right (own, is, step) = event_stands call own before after was right step
+abbrev GoesOnStanding : Call → Result Reply Refusal → ToolboxState → ToolboxState → Type 0
+GoesOnStanding call answer before after = Stands before → IsRightState after.desk.windows → Stands after
 
-gated_stands : (stopped : Option Refusal) (call : Call) (answer : Result Reply Refusal) (before after : ToolboxState) → gate before.desk.activity (standing_of call) ≡ stopped → Stands before → IsRightState after.desk.windows → IsGated stopped call answer before after → Stands after
-gated_stands None call answer before after may was right step = admitted_stands call answer before after may was right step
-gated_stands (Some e) call (Ok answer) before after may was right step = absurd step
-gated_stands (Some e) call (Err f) before after may was right (form, why, (is, same)) = stands_still before after same.desk.windows.desk same.desk.activity same.events was right
+each_stands : HoldsOfEach GoesOnStanding
+each_stands = record {
+  unchanged = λ call e before after same was right. stands_still before after same.desk.windows.desk same.desk.activity same.events was right;
+  window = λ call answer before after may step was right. window_stands call answer before after may was right step;
+  update = λ call answer before after may step events was right. update_stands call answer before after may was right step events;
+  frame = λ call answer before after may step events was right. frame_stands call answer before after may was right step events;
+  event = λ call answer before after step was right. event_stands call answer before after was right step;
+}
 
 step_stands : (call : Call) (answer : Result Reply Refusal) (before after : ToolboxState) → Stands before → IsStep call answer before after → Stands after
-step_stands call answer before after was step =
-    gated_stands (gate before.desk.activity (standing_of call)) call answer before after refl was (step_stays_right call answer before after was.right step) step
+step_stands call answer before after was step = of_step GoesOnStanding each_stands call answer before after step was (step_stays_right call answer before after was.right step)
 
 pub step_keeps_consistent : (call : Call) (answer : Result Reply Refusal) (before after : ToolboxState) → IsConsistent before → IsStep call answer before after → IsConsistent after
 step_keeps_consistent call answer before after was step = consistent after (step_stands call answer before after (stands before was) step)

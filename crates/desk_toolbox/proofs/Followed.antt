@@ -10,7 +10,7 @@ use Rattle.window_mgr.specs.Records.{state_of}
 use Rattle.window_mgr.specs.Updating.{LeavesState}
 use Rattle.window_mgr.specs.Whole.{IsWholeManager}
 use Rattle.window_update.specs.declared.updates.Updates.{Updates}
-use Rattle.window_update.specs.DeskStates.{IsWholeUpdates}
+use Rattle.window_update.specs.WholeUpdates.{IsWholeUpdates}
 use Rattle.window_update.proofs.Sides.{stays_sized}
 use Rattle.window_frame.specs.Followers.{IsCaughtUpBy}
 use Rattle.window_frame.proofs.FrameKeeps.{caught_up_keeps}

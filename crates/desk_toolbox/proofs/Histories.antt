@@ -15,15 +15,15 @@ use Rattle.desk_call.specs.declared.event.EventCall.TheVariants.{Post, Next, Ava
 use Rattle.desk_call.specs.declared.event.EventReply.{EventReply}
 use Rattle.desk_call.specs.declared.window.WindowCall.{WindowCall}
 use Rattle.desk_call.specs.declared.window.WindowReply.{WindowReply}
-use Rattle.desk_call.specs.Gates.{gate, standing_of}
 use Rattle.window_mgr.specs.FullDesk.{FullDesk}
-use Rattle.window_update.specs.DeskStates.{narrowed}
+use Rattle.window_mgr.specs.DeskStates.{narrowed}
 use Rattle.desk_toolbox.specs.declared.events.Events.{Events}
 use Rattle.desk_toolbox.specs.Activations.{activate_event_told, activate_events_told, to_dispose, disposed_by, IsNeverDisposed}
 use Rattle.desk_toolbox.specs.EventSteps.{EventStep}
 use Rattle.desk_toolbox.specs.Reached.{IsConsistent, IsJustBegun}
-use Rattle.desk_toolbox.specs.Run.{IsWindowMade, IsEventAnswer, IsAdmitted, replied, IsGated, IsStep, IsRunOfCalls}
+use Rattle.desk_toolbox.specs.Run.{IsWindowMade, IsEventAnswer, replied, IsStep, IsRunOfCalls}
 use Rattle.desk_toolbox.specs.ToolboxStates.{ToolboxState}
+use Rattle.desk_toolbox.proofs.EachManager.{HoldsOfEach, of_step}
 use Rattle.desk_toolbox.proofs.UpdatedDesks.{update_keeps_desk}
 use Rattle.desk_toolbox.proofs.StepCounts.{Recount, HasSame, IsGone, same_desk, frame_counts, window_recounts, gone_stays, disposed_is_gone, present_is_not_gone}
 use Rattle.desk_toolbox.proofs.Stands.{Stands, stands, refused_keeps_desk}
@@ -85,16 +85,6 @@ still_step call answer before after none silent quietly events same = record {
   recount = subst (λ o. Recount o before.desk.windows.desk after.desk.windows.desk) (sym none) (inl same);
 }
 
-admitted_step : (call : Call) (answer : Result Reply Refusal) (before after : ToolboxState) → Stands before → IsAdmitted call answer before after → IsOneStep call answer before after
-admitted_step (asks.Window call) answer before after was (own, is, step) =
-    subst (λ r. IsOneStep (asks.Window call) r before after) (sym is) (window_step call own before after step)
-admitted_step (asks.Update call) answer before after was (own, is, step) =
-    still_step (asks.Update call) answer before after refl refl (λ rest. refl) step.1 (same_desk before.desk.windows.desk after.desk.windows.desk (update_keeps_desk call own before.desk after.desk step.0))
-admitted_step (asks.Frame call) answer before after was (own, is, step) =
-    still_step (asks.Frame call) answer before after refl refl (λ rest. refl) step.1 (frame_counts call own before.desk after.desk step.0)
-admitted_step (asks.Event call) answer before after was (own, is, step) =
-    subst (λ r. IsOneStep (asks.Event call) r before after) (sym is) (event_step_is call own before after was step)
-
 -- a refused call tells nothing, and disposes of nothing
 refused_step : (call : Call) (e : Refusal) (before after : ToolboxState) → after.events ≡ before.events → HasSame before.desk.windows.desk after.desk.windows.desk → IsOneStep call (Err e) before after
 refused_step (asks.Window call) e before after events same = still_step (asks.Window call) (Err e) before after refl refl (λ rest. refl) events same
@@ -106,14 +96,20 @@ refused_step (asks.Event (Avail mask)) e before after events same = still_step (
 refused_step (asks.Event (Flush f)) e before after events same = still_step (asks.Event (Flush f)) (Err e) before after refl refl (λ rest. refl) events same
 refused_step (asks.Event (SetMask mask)) e before after events same = still_step (asks.Event (SetMask mask)) (Err e) before after refl refl (λ rest. refl) events same
 
-gated_step : (stopped : Option Refusal) (call : Call) (answer : Result Reply Refusal) (before after : ToolboxState) → Stands before → IsGated stopped call answer before after → IsOneStep call answer before after
-gated_step None call answer before after was step = admitted_step call answer before after was step
-gated_step (Some e) call (Ok answer) before after was step = absurd step
-gated_step (Some e) call (Err f) before after was (form, why, (is, same)) =
-    refused_step call f before after same.events (same_desk before.desk.windows.desk after.desk.windows.desk same.desk.windows.desk)
+abbrev GoesOnByOne : Call → Result Reply Refusal → ToolboxState → ToolboxState → Type 0
+GoesOnByOne call answer before after = Stands before → IsOneStep call answer before after
+
+each_goes_on : HoldsOfEach GoesOnByOne
+each_goes_on = record {
+  unchanged = λ call e before after same was. refused_step call e before after same.events (same_desk before.desk.windows.desk after.desk.windows.desk same.desk.windows.desk);
+  window = λ call answer before after may step was. window_step call answer before after step;
+  update = λ call answer before after may step events was. still_step (asks.Update call) (replied reply.Window answer) before after refl refl (λ rest. refl) events (same_desk before.desk.windows.desk after.desk.windows.desk (update_keeps_desk call answer before.desk after.desk step));
+  frame = λ call answer before after may step events was. still_step (asks.Frame call) (replied reply.Frame answer) before after refl refl (λ rest. refl) events (frame_counts call answer before.desk after.desk step);
+  event = λ call answer before after step was. event_step_is call answer before after was step;
+}
 
 one_step : (call : Call) (answer : Result Reply Refusal) (before after : ToolboxState) → Stands before → IsStep call answer before after → IsOneStep call answer before after
-one_step call answer before after was step = gated_step (gate before.desk.activity (standing_of call)) call answer before after was step
+one_step call answer before after was step = of_step GoesOnByOne each_goes_on call answer before after step was
 
 -- ---- runs
 

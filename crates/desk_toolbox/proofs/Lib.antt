@@ -1,7 +1,9 @@
 -- Lemmas on runs.
 pub mod Sayings
+pub mod Ordering
 pub mod UpdatedDesks
 pub mod Sides
+pub mod EachManager
 pub mod Runs
 pub mod Followed
 pub mod Totals

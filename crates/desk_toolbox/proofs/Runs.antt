@@ -28,7 +28,7 @@ use Rattle.desk_call.specs.declared.call.Call.TheVariants.{Window, Update, Frame
 use Rattle.desk_call.specs.declared.call.Reply.{Reply}
 use Rattle.desk_call.specs.declared.call.Reply.TheVariants as reply
 use Rattle.desk_call.specs.Gates.{gate, standing_of, window_standing}
-use Rattle.window_update.specs.DeskStates.{DeskState, IsDeskUnchanged, narrowed}
+use Rattle.window_mgr.specs.DeskStates.{DeskState, IsDeskUnchanged, narrowed}
 use Rattle.window_update.specs.Served.{AreAllServed, IsAllRight}
 use Rattle.window_update.specs.UpdateSteps.{IsUpdateStep, IsToldOf}
 use Rattle.window_frame.specs.FrameSteps.{IsFrameStep}
@@ -38,6 +38,7 @@ use Rattle.desk_toolbox.specs.ToolboxStates.{ToolboxState}
 use Rattle.desk_toolbox.specs.Run.{IsWindowAnswer, IsWindowMade, IsEventAnswer, IsAdmitted, replied, IsGated, IsStep, IsRunOfCalls, number_made, made, AreCounted}
 use Rattle.window_update.proofs.ServedLaws.{all_served_is_right}
 use Rattle.window_update.proofs.UpdateLaws.{update_stays_right}
+use Rattle.desk_toolbox.proofs.EachManager.{HoldsOfEach, of_admitted, of_step}
 use Rattle.desk_toolbox.proofs.UpdatedDesks.{update_keeps_desk}
 
 -- ---- what is right stays so
@@ -58,19 +59,23 @@ window_stays_right call (Err e) before after right step = answer_stays_right (na
 event_stays_right : (call : EventCall) (answer : Result EventReply Refusal) (before after : ToolboxState) → IsRightState before.desk.windows → IsEventAnswer call answer before after → IsRightState after.desk.windows
 event_stays_right call answer before after right step = unchanged_desk_stays_right before after right step.0
 
-pub admitted_stays_right : (call : Call) (answer : Result Reply Refusal) (before after : ToolboxState) → IsRightState before.desk.windows → IsAdmitted call answer before after → IsRightState after.desk.windows
-admitted_stays_right (Window call) answer before after right (own, is, step) = window_stays_right call own before after right step
-admitted_stays_right (Update call) answer before after right (own, is, step) = update_stays_right call own before.desk after.desk right step.0
-admitted_stays_right (Frame call) answer before after right (own, is, step) = frame_stays_right call own before.desk after.desk right step.0
-admitted_stays_right (Event call) answer before after right (own, is, step) = event_stays_right call own before after right step
+abbrev StaysRight : Call → Result Reply Refusal → ToolboxState → ToolboxState → Type 0
+StaysRight call answer before after = IsRightState before.desk.windows → IsRightState after.desk.windows
 
-gated_stays_right : (stopped : Option Refusal) (call : Call) (answer : Result Reply Refusal) (before after : ToolboxState) → IsRightState before.desk.windows → IsGated stopped call answer before after → IsRightState after.desk.windows
-gated_stays_right None call answer before after right step = admitted_stays_right call answer before after right step
-gated_stays_right (Some e) call (Ok answer) before after right step = absurd step
-gated_stays_right (Some e) call (Err f) before after right (form, why, (is, same)) = unchanged_desk_stays_right before after right same.desk
+each_stays_right : HoldsOfEach StaysRight
+each_stays_right = record {
+  unchanged = λ call e before after same right. unchanged_desk_stays_right before after right same.desk;
+  window = λ call answer before after may step right. window_stays_right call answer before after right step;
+  update = λ call answer before after may step events right. update_stays_right call answer before.desk after.desk right step;
+  frame = λ call answer before after may step events right. frame_stays_right call answer before.desk after.desk right step;
+  event = λ call answer before after step right. event_stays_right call answer before after right step;
+}
+
+pub admitted_stays_right : (call : Call) (answer : Result Reply Refusal) (before after : ToolboxState) → gate before.desk.activity (standing_of call) ≡ None → IsRightState before.desk.windows → IsAdmitted call answer before after → IsRightState after.desk.windows
+admitted_stays_right call answer before after may right step = of_admitted StaysRight each_stays_right call answer before after may step right
 
 pub step_stays_right : (call : Call) (answer : Result Reply Refusal) (before after : ToolboxState) → IsRightState before.desk.windows → IsStep call answer before after → IsRightState after.desk.windows
-step_stays_right call answer before after right step = gated_stays_right (gate before.desk.activity (standing_of call)) call answer before after right step
+step_stays_right call answer before after right step = of_step StaysRight each_stays_right call answer before after step right
 
 -- and the stock keeps its kinds
 same_kinds : (before after : FullState) → after.desk ≡ before.desk → kinds_of after ≡ kinds_of before
@@ -86,19 +91,20 @@ window_keeps_kinds call (Ok answer) before after ((middle, answered, (same, told
     ∙ answer_keeps_kinds (narrowed call before.desk.activity before.desk.begun) call (Ok answer) before.desk middle answered
 window_keeps_kinds call (Err e) before after step = answer_keeps_kinds (narrowed call before.desk.activity before.desk.begun) call (Err e) before.desk after.desk step.0
 
-admitted_keeps_kinds : (call : Call) (answer : Result Reply Refusal) (before after : ToolboxState) → IsAdmitted call answer before after → kinds_of after.desk.windows ≡ kinds_of before.desk.windows
-admitted_keeps_kinds (Window call) answer before after (own, is, step) = window_keeps_kinds call own before after step
-admitted_keeps_kinds (Update call) answer before after (own, is, step) = same_kinds before.desk.windows after.desk.windows (update_keeps_desk call own before.desk after.desk step.0)
-admitted_keeps_kinds (Frame call) answer before after (own, is, step) = frame_keeps (λ d. map (λ slot. slot.kind) d.stock) (λ d ws. refl) call own before.desk after.desk step.0
-admitted_keeps_kinds (Event call) answer before after (own, is, step) = same_kinds before.desk.windows after.desk.windows step.0.windows.desk
+abbrev KeepsKinds : Call → Result Reply Refusal → ToolboxState → ToolboxState → Type 0
+KeepsKinds call answer before after = kinds_of after.desk.windows ≡ kinds_of before.desk.windows
 
-gated_keeps_kinds : (stopped : Option Refusal) (call : Call) (answer : Result Reply Refusal) (before after : ToolboxState) → IsGated stopped call answer before after → kinds_of after.desk.windows ≡ kinds_of before.desk.windows
-gated_keeps_kinds None call answer before after step = admitted_keeps_kinds call answer before after step
-gated_keeps_kinds (Some e) call (Ok answer) before after step = absurd step
-gated_keeps_kinds (Some e) call (Err f) before after (form, why, (is, same)) = same_kinds before.desk.windows after.desk.windows same.desk.windows.desk
+each_keeps_kinds : HoldsOfEach KeepsKinds
+each_keeps_kinds = record {
+  unchanged = λ call e before after same. same_kinds before.desk.windows after.desk.windows same.desk.windows.desk;
+  window = λ call answer before after may step. window_keeps_kinds call answer before after step;
+  update = λ call answer before after may step events. same_kinds before.desk.windows after.desk.windows (update_keeps_desk call answer before.desk after.desk step);
+  frame = λ call answer before after may step events. frame_keeps (λ d. map (λ slot. slot.kind) d.stock) (λ d ws. refl) call answer before.desk after.desk step;
+  event = λ call answer before after step. same_kinds before.desk.windows after.desk.windows step.0.windows.desk;
+}
 
 pub step_keeps_kinds : (call : Call) (answer : Result Reply Refusal) (before after : ToolboxState) → IsStep call answer before after → kinds_of after.desk.windows ≡ kinds_of before.desk.windows
-step_keeps_kinds call answer before after step = gated_keeps_kinds (gate before.desk.activity (standing_of call)) call answer before after step
+step_keeps_kinds = of_step KeepsKinds each_keeps_kinds
 
 pub run_stays_right : (first last : ToolboxState) (calls : List Call) (answers : List (Result Reply Refusal)) → IsRightState first.desk.windows → IsRunOfCalls first calls answers last → IsRightState last.desk.windows
 run_stays_right first last [] [] right run = subst (λ (s : ToolboxState). IsRightState s.desk.windows) (sym run) right
@@ -255,19 +261,17 @@ event_is_counted call (Ok answer) before after numbers step h = counted_on befor
 event_is_counted call (Err e) before after numbers step h = counted_on before.desk.windows after.desk.windows numbers step.0.windows h
 
 -- the numbers of what this was answered follow, in front of others
-abbrev Counted : FullState → List ℕ → Result Reply Refusal → Type 0
-Counted before numbers r = AreCounted before.desk.next (made_by r ++ numbers)
+abbrev GoesOnCounting : Call → Result Reply Refusal → ToolboxState → ToolboxState → Type 0
+GoesOnCounting call answer before after = (numbers : List ℕ) → AreCounted after.desk.windows.desk.next numbers → AreCounted before.desk.windows.desk.next (made_by answer ++ numbers)
 
-admitted_is_counted : (call : Call) (answer : Result Reply Refusal) (before after : ToolboxState) (numbers : List ℕ) → IsAdmitted call answer before after → AreCounted after.desk.windows.desk.next numbers → AreCounted before.desk.windows.desk.next (made_by answer ++ numbers)
-admitted_is_counted (Window call) answer before after numbers (own, is, step) h = subst (Counted before.desk.windows numbers) (sym is) (window_is_counted call own before after numbers step h)
-admitted_is_counted (Update call) answer before after numbers (own, is, step) h = subst (Counted before.desk.windows numbers) (sym is) (update_is_counted call own before.desk after.desk numbers step.0 h)
-admitted_is_counted (Frame call) answer before after numbers (own, is, step) h = subst (Counted before.desk.windows numbers) (sym is) (frame_is_counted call own before.desk after.desk numbers step.0 h)
-admitted_is_counted (Event call) answer before after numbers (own, is, step) h = subst (Counted before.desk.windows numbers) (sym is) (event_is_counted call own before after numbers step h)
-
-gated_is_counted : (stopped : Option Refusal) (call : Call) (answer : Result Reply Refusal) (before after : ToolboxState) (numbers : List ℕ) → IsGated stopped call answer before after → AreCounted after.desk.windows.desk.next numbers → AreCounted before.desk.windows.desk.next (made_by answer ++ numbers)
-gated_is_counted None call answer before after numbers step h = admitted_is_counted call answer before after numbers step h
-gated_is_counted (Some e) call (Ok answer) before after numbers step h = absurd step
-gated_is_counted (Some e) call (Err f) before after numbers (form, why, (is, same)) h = counted_on before.desk.windows after.desk.windows numbers same.desk.windows h
+each_is_counted : HoldsOfEach GoesOnCounting
+each_is_counted = record {
+  unchanged = λ call e before after same numbers h. counted_on before.desk.windows after.desk.windows numbers same.desk.windows h;
+  window = λ call answer before after may step numbers h. window_is_counted call answer before after numbers step h;
+  update = λ call answer before after may step events numbers h. update_is_counted call answer before.desk after.desk numbers step h;
+  frame = λ call answer before after may step events numbers h. frame_is_counted call answer before.desk after.desk numbers step h;
+  event = λ call answer before after step numbers h. event_is_counted call answer before after numbers step h;
+}
 
 made_first : (answer : Result Reply Refusal) (answers : List (Result Reply Refusal)) → made_by answer ++ made answers ≡ made (answer ∷ answers)
 made_first (Ok (reply.Window answer)) answers = refl
@@ -281,4 +285,4 @@ made_are_counted first last [] (answer ∷ answers) run = absurd run
 made_are_counted first last (call ∷ calls) [] run = absurd run
 made_are_counted first last (call ∷ calls) (answer ∷ answers) run =
     subst (λ (ns : List ℕ). AreCounted first.desk.windows.desk.next ns) (made_first answer answers)
-    (gated_is_counted (gate first.desk.activity (standing_of call)) call answer first run.0 (made answers) run.1 (made_are_counted run.0 last calls answers run.2))
+    (of_step GoesOnCounting each_is_counted call answer first run.0 run.1 (made answers) (made_are_counted run.0 last calls answers run.2))

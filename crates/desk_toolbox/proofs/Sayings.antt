@@ -11,7 +11,7 @@ use Rattle.def_iface.proofs.Painting.{scratch_is_owners}
 use Rattle.vis_update.specs.Records.{WindowRecord}
 use Rattle.window_mgr.specs.FullDesk.{FullDesk, layered_desk}
 use Rattle.window_mgr.specs.Finding.{front_of}
-use Rattle.window_mgr.specs.Refused.{first_refusal}
+use Rattle.tb_geom.specs.Refusals.{first_refusal}
 
 pub scratch_is_owners_on : (desk : FullDesk) (p : Point) → IsDesk (layered_desk desk) → scratch (layered_desk desk) p ≡ own_bit (layered_desk desk) (owner (layered_desk desk) p) p
 scratch_is_owners_on desk p distinct = scratch_is_owners (layered_desk desk) p distinct

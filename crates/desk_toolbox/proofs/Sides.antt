@@ -10,8 +10,8 @@ use Rattle.window_mgr.specs.declared.manager.WindowManager.{WindowManager}
 use Rattle.window_mgr.specs.Begin.{IsEmptyDesk}
 use Rattle.window_mgr.specs.Records.{desk_of}
 use Rattle.window_update.specs.declared.updates.Updates.{Updates}
-use Rattle.window_update.proofs.Sides.{SameSides, equal_sides}
-use Rattle.window_update.specs.DeskStates.{IsWholeUpdates}
+use Rattle.window_mgr.proofs.ScreenSides.{SameSides, equal_sides}
+use Rattle.window_update.specs.WholeUpdates.{IsWholeUpdates}
 use Rattle.window_mgr.specs.FullDesk.{FullDesk, FullState}
 use Rattle.window_mgr.specs.Step.{IsWindowStep}
 use Rattle.window_mgr.specs.Effects.{Effect, IsEffect, effect_of}
@@ -40,3 +40,7 @@ begins_sized loan width height bar font t u slots wide high empty = record {
   width = ap nat_abs (wide ∙ sym (ap (λ (d : FullDesk). d.width) empty.desk));
   height = ap nat_abs (high ∙ sym (ap (λ (d : FullDesk). d.height) empty.desk));
 }
+
+-- they are so beside any other windows on a screen of the same sides
+pub still_sized : {V : Type 0} {H : V → Type 0} {t new : WindowManager V H} {u : Updates} → IsWholeUpdates t u → new.screen.width ≡ t.screen.width → new.screen.height ≡ t.screen.height → IsWholeUpdates new u
+still_sized whole wide high = record { width = whole.width ∙ sym wide; height = whole.height ∙ sym high }

@@ -16,7 +16,7 @@ use Rattle.vis_update.specs.Records.{WindowRecord}
 use Rattle.vis_update.specs.Touches.{is_this}
 use Rattle.window_mgr.specs.Effects.{IsEffect, effect_of}
 use Rattle.window_mgr.specs.FullDesk.{FullDesk, FullState, IsRightState}
-use Rattle.window_update.specs.DeskStates.{DeskState, narrowed}
+use Rattle.window_mgr.specs.DeskStates.{DeskState, narrowed}
 use Rattle.window_frame.specs.Followers.{AreInformed, IsCaughtUpBy}
 use Rattle.window_frame.proofs.FrameKeeps.{caught_up_keeps}
 use Rattle.desk_toolbox.specs.declared.events.Events.{Events}

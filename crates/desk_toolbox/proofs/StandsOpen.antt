@@ -21,8 +21,9 @@ use Rattle.vis_update.specs.Records.{WindowRecord}
 use Rattle.window_mgr.specs.Arrange.{changed}
 use Rattle.window_mgr.specs.FrameTelling.{IsFrameTold}
 use Rattle.window_mgr.specs.FullDesk.{FullDesk, FullState, IsRightState}
-use Rattle.window_mgr.specs.Refused.{first_refusal, is_missing}
-use Rattle.window_update.specs.DeskStates.{DeskState}
+use Rattle.tb_geom.specs.Refusals.{first_refusal}
+use Rattle.window_mgr.specs.Refused.{is_missing}
+use Rattle.window_mgr.specs.DeskStates.{DeskState}
 use Rattle.window_update.specs.UpdateRefusals.{IsUpdateRefusal}
 use Rattle.window_update.specs.UpdateSteps.{IsUpdateStep, IsUpdateEffect}
 use Rattle.window_frame.specs.Followers.{Knows, AreInformed}
@@ -133,7 +134,7 @@ begun_opens : (s : ℕ) (inside : Bool) (before after : DeskState) → 1 ≤ cop
 begun_opens s true before after here (tracked, told) was = subst (λ a. Present (open_window a) before.windows.desk.windows) (sym tracked) here
 begun_opens s false before after here same was = subst (λ a. Present (open_window a) before.windows.desk.windows) (sym same.activity) was
 
-frame_opens : (call : FrameCall) (answer : FrameReply) (before after : DeskState) → first_refusal (frame_refusals call before.activity before.windows.desk) ≡ None → IsFrameEffect call answer before after → Present (open_window before.activity) before.windows.desk.windows → Present (open_window after.activity) before.windows.desk.windows
+frame_opens : (call : FrameCall) (answer : FrameReply) (before after : DeskState) → first_refusal (frame_refusals call before.windows.desk) ≡ None → IsFrameEffect call answer before after → Present (open_window before.activity) before.windows.desk.windows → Present (open_window after.activity) before.windows.desk.windows
 frame_opens (SetTitle n) Done before after may (same, told) was = subst (λ a. Present (open_window a) before.windows.desk.windows) (sym same.activity) was
 frame_opens (Hilite h) Done before after may (same, told) was = subst (λ a. Present (open_window a) before.windows.desk.windows) (sym same.activity) was
 frame_opens (TrackGoAway g) (Tracked inside) before after may (is, begun) was =

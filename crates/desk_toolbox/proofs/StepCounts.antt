@@ -24,7 +24,7 @@ use Rattle.window_mgr.specs.FrameTelling.{IsFrameTold}
 use Rattle.window_mgr.specs.FullDesk.{FullDesk, FullState, IsGiven, IsRightState}
 use Rattle.window_mgr.specs.Placings.{Placing, sized, zoomed}
 use Rattle.window_mgr.specs.Refused.{is_missing}
-use Rattle.window_update.specs.DeskStates.{DeskState, narrowed}
+use Rattle.window_mgr.specs.DeskStates.{DeskState, narrowed}
 use Rattle.window_frame.specs.Followers.{Flag, Telling, AreTold, IsCaughtUpBy, told_flag, with_heard}
 use Rattle.window_frame.specs.Followers.Flag.{Highlighting, Zooming}
 use Rattle.window_frame.proofs.FrameKeeps.{caught_up_keeps}

@@ -7,7 +7,7 @@ use Rattle.desk_call.specs.declared.update.UpdateCall.{UpdateCall}
 use Rattle.desk_call.specs.declared.update.UpdateCall.TheVariants.{Invalidate, Validate, Begin, Draw, End, Serve}
 use Rattle.desk_call.specs.declared.window.WindowReply.{WindowReply}
 use Rattle.window_mgr.specs.FullDesk.{FullState}
-use Rattle.window_update.specs.DeskStates.{DeskState}
+use Rattle.window_mgr.specs.DeskStates.{DeskState}
 use Rattle.window_update.specs.UpdateSteps.{AreDrawn, IsUpdateEffect, IsUpdateStep}
 
 drawn_keeps_desk : (layers : Layers) (s : _) (before after : FullState) → AreDrawn layers s before after → after.desk ≡ before.desk

@@ -1,8 +1,9 @@
 -- What the contracts speak of: a whole Toolbox and its state, steps of any manager's calls, runs of steps, and what holds of
--- each state that a run reaches.
+-- each state that a run reaches, and that reasons to refuse stand in the written order.
 pub mod EventSteps
 pub mod ToolboxStates
 pub mod WholeToolbox
 pub mod Run
 pub mod Reached
 pub mod Activations
+pub mod Ordered

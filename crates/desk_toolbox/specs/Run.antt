@@ -17,7 +17,7 @@ use Rattle.desk_call.specs.Gates.{gate, standing_of, window_standing}
 use Rattle.window_list.specs.Lists.{number_after}
 use Rattle.window_mgr.specs.Refused.{IsFormRefusal}
 use Rattle.window_mgr.specs.Step as windows
-use Rattle.window_update.specs.DeskStates.{DeskState, IsDeskUnchanged, SameActivity, narrowed}
+use Rattle.window_mgr.specs.DeskStates.{DeskState, IsDeskUnchanged, SameActivity, narrowed}
 use Rattle.window_update.specs.UpdateRefusals.{IsUpdateForm}
 use Rattle.window_update.specs.UpdateSteps.{IsUpdateStep, IsToldOf}
 use Rattle.window_update.specs.Waiting.{IsFirstToUpdate}

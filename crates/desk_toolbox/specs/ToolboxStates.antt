@@ -1,6 +1,6 @@
 -- The state of a Toolbox.
 use Rattle.std.specs.Prelude.{◌≡◌}
-use Rattle.window_update.specs.DeskStates.{DeskState, IsDeskUnchanged}
+use Rattle.window_mgr.specs.DeskStates.{DeskState, IsDeskUnchanged}
 use Rattle.desk_toolbox.specs.declared.events.Events.{Events}
 
 -- its desk, and what it keeps of events

@@ -4,7 +4,8 @@ use Rattle.def_iface.specs.declared.taken.Taken.{Taken}
 use Rattle.def_iface.specs.Meaning.{Loan}
 use Rattle.def_iface.specs.Stocked.{SlotView}
 use Rattle.window_mgr.specs.Whole.{IsWholeManager}
-use Rattle.window_update.specs.DeskStates.{IsWholeUpdates, desk_state}
+use Rattle.window_mgr.specs.DeskStates.{desk_state}
+use Rattle.window_update.specs.WholeUpdates.{IsWholeUpdates, opened}
 use Rattle.desk_toolbox.specs.declared.toolbox.Toolbox.{Toolbox}
 use Rattle.desk_toolbox.specs.ToolboxStates.{ToolboxState}
 
@@ -21,4 +22,4 @@ module _ {V : Type 0} {H : V → Type 0} (loan : Taken V H → Loan) where
     pub whole : IsWholeToolbox t slots
 
   abbrev pub toolbox_state : Toolbox V H → List SlotView → ToolboxState
-  toolbox_state t slots = record { desk = desk_state loan t.windows t.updates slots; events = t.events }
+  toolbox_state t slots = record { desk = desk_state loan t.windows (opened t.activity t.updates) slots; events = t.events }

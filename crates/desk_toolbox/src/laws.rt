@@ -1,5 +1,5 @@
 //! What the definitions of a desk, of its steps and of runs say of each other.
-ghost use Rattle.std.specs.Prelude.{◌≡◌, ℕ, Bool, true, List, map, Result, All};
+ghost use Rattle.std.specs.Prelude.{◌≡◌, ℕ, Bool, true, List, [], ◌∷◌, ◌++◌, map, Option, Some, Result, All};
 ghost use Rattle.std.specs.List.{find};
 ghost use Rattle.std.specs.Option.{option_map};
 ghost use Rattle.tb_geom.specs.declared.point.Point.{Point};
@@ -11,7 +11,20 @@ ghost use Rattle.def_iface.specs.Scratch.{scratch};
 ghost use Rattle.vis_update.specs.Records.{WindowRecord};
 ghost use Rattle.window_mgr.specs.FullDesk.{FullDesk, IsRightState, layered_desk};
 ghost use Rattle.window_mgr.specs.Finding.{front_of};
-ghost use Rattle.window_mgr.specs.Refused.{first_refusal};
+ghost use Rattle.tb_geom.specs.declared.refusal.Refusal.TheVariants.{Busy, NoSuchWindow, StalePixels, TooLong};
+ghost use Rattle.tb_geom.specs.Refusals.{first_refusal, is_before};
+ghost use Rattle.desk_call.specs.declared.frame.FrameCall.{FrameCall};
+ghost use Rattle.desk_call.specs.declared.window.MoveWindow.{MoveWindow};
+ghost use Rattle.desk_call.specs.declared.window.NewPicture.{NewPicture};
+ghost use Rattle.desk_call.specs.declared.window.NewWindow.{NewWindow};
+ghost use Rattle.desk_call.specs.declared.window.ScrollPicture.{ScrollPicture};
+ghost use Rattle.desk_call.specs.declared.window.SendBehind.{SendBehind};
+ghost use Rattle.desk_call.specs.declared.window.SizeWindow.{SizeWindow};
+ghost use Rattle.desk_call.specs.declared.window.ZoomWindow.{ZoomWindow};
+ghost use Rattle.window_mgr.specs.Refused.{new_window_refusals, kind_refusals, form_refusals, draw_refusals, picture_refusals, scroll_refusals, behind_refusals, move_refusals, size_refusals, zoom_refusals};
+ghost use Rattle.window_update.specs.UpdateRefusals.{area_refusals};
+ghost use Rattle.window_frame.specs.FrameRefusals.{frame_refusals};
+ghost use Rattle.desk_toolbox.specs.Ordered.{AreInOrder};
 ghost use Rattle.window_mgr.specs.Whole.{IsSoundDesk};
 ghost use Rattle.event_queue.specs.History.{told_of, Alternates, is_told_active};
 ghost use Rattle.desk_call.specs.declared.call.Call.{Call};
@@ -42,6 +55,33 @@ pub fn front_is_the_first_visible()
 pub fn a_refusal_is_the_first_that_holds()
     ensures { (refusals : List (Bool × Refusal))
         → first_refusal refusals ≡ option_map (λ r. r.1) (find (λ r. r.0) refusals) }
+{}
+
+/// The reasons to refuse each call stand in the written order.
+#[tactic(auto, using(crate::proofs::Ordering::frame_reasons_in_order))]
+pub fn reasons_stand_in_the_written_order()
+    ensures new_window { (w : NewWindow) (desk : FullDesk) → AreInOrder (new_window_refusals w desk) }
+    ensures draw { (judged : Option Refusal) (window : Option WindowRecord) → AreInOrder (draw_refusals judged window) }
+    ensures set_picture { (n : NewPicture) (desk : FullDesk) → AreInOrder (picture_refusals n desk) }
+    ensures scroll { (m : ScrollPicture) (desk : FullDesk) → AreInOrder (scroll_refusals m desk) }
+    ensures send_behind { (b : SendBehind) (desk : FullDesk) → AreInOrder (behind_refusals b desk) }
+    ensures move_window { (m : MoveWindow) (desk : FullDesk) → AreInOrder (move_refusals m desk) }
+    ensures size_window { (z : SizeWindow) (desk : FullDesk) → AreInOrder (size_refusals z desk) }
+    ensures zoom_window { (z : ZoomWindow) (desk : FullDesk) → AreInOrder (zoom_refusals z desk) }
+    ensures region { (missing long : Bool) → AreInOrder ((missing, NoSuchWindow) ∷ (long, TooLong) ∷ []) }
+    ensures area { (judged : Option Refusal) (missing wrong : Bool)
+        → AreInOrder (area_refusals judged missing ++ (wrong, StalePixels) ∷ []) }
+    ensures frame { (call : FrameCall) (desk : FullDesk) → AreInOrder (frame_refusals call desk) }
+    ensures form { (judged : Option Refusal) (w : NewWindow) (desk : FullDesk) (busy missing : Bool)
+        → AreInOrder (form_refusals judged ++ (busy, Busy) ∷ (missing, NoSuchWindow) ∷ [])
+        × AreInOrder (kind_refusals w desk ++ (busy, Busy) ∷ (missing, NoSuchWindow) ∷ []) }
+{}
+
+/// So what is told comes, of all reasons that hold, first in that order.
+#[tactic(auto, using(crate::proofs::Ordering::told_comes_first))]
+pub fn what_is_told_comes_first_in_the_order()
+    ensures { (reasons : List (Bool × Refusal)) (e : Refusal) → AreInOrder reasons → first_refusal reasons ≡ Some e
+        → All (λ r. r.0 ≡ true → is_before e r.1 ≡ true) reasons }
 {}
 
 /// Whatever a call does, the stock has the same slots, for the same kinds.

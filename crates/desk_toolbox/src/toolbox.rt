@@ -9,8 +9,9 @@ ghost use Rattle.window_mgr.specs.FullDesk.{IsRightState};
 ghost use Rattle.window_mgr.specs.Records.{desk_of, state_of};
 ghost use Rattle.window_mgr.specs.Refused.{is_missing};
 ghost use Rattle.window_mgr.specs.Whole.{IsWholeManager};
-ghost use Rattle.window_update.specs.declared.updates.OpenActivity.TheVariants.{Nothing};
-ghost use Rattle.window_update.specs.DeskStates.{DeskState};
+ghost use Rattle.desk_call.specs.Gates.{gate, standing_of};
+ghost use Rattle.desk_call.specs.declared.activity.Activity.TheVariants.{Idle};
+ghost use Rattle.window_mgr.specs.DeskStates.{DeskState};
 ghost use Rattle.window_update.specs.Rightness.{IsJudgement};
 ghost use Rattle.desk_toolbox.specs.EventSteps.{first_events};
 ghost use Rattle.desk_toolbox.specs.Reached.{IsJustBegun};
@@ -19,7 +20,7 @@ ghost use Rattle.desk_toolbox.specs.ToolboxStates.{IsToolboxUnchanged};
 ghost use Rattle.desk_toolbox.specs.WholeToolbox.{IsKeptToolbox, IsWholeToolbox, toolbox_state};
 
 use crate::events::Events;
-use crate::{Call, EventCall, EventReply, Reply, WindowCall, WindowReply};
+use crate::{Activity, Call, EventCall, EventReply, Reply, WindowCall, WindowReply};
 use bit_map::BitMap;
 use def_iface::{Defined, Stock, Stocked, Taken};
 use desk_ground::is_screen;
@@ -29,13 +30,15 @@ use tb_geom::{Rect, Refusal};
 use window_frame::follow;
 use window_list::{Ranks, WindowList};
 use window_mgr::{NotBegun, WindowManager, form_refusal};
-use window_update::{Updates, update_form_refusal};
+use window_update::{Updates, first_to_update, update_form_refusal};
 
-/// A desk: its screen, its windows, what of them has to be drawn, which update is open, and the events that are to be told.
+/// A desk: its screen, its windows, what of them has to be drawn, what is open, and the events that are to be told.
 #[derive(Drop)]
 pub struct Toolbox {
     pub(crate) alloc: Global,
     pub(crate) windows: WindowManager,
+    /// What is open between its begin and its end.
+    pub(crate) activity: Activity,
     pub(crate) updates: Updates,
     pub(crate) events: Events,
 }
@@ -54,7 +57,7 @@ impl Toolbox {
     ) -> Result<Toolbox, NotBegun>
         ensures begun { IfOk result (λ t. (slots : List SlotView) → All IsFull slots
             → IsEmptyDesk ⟦<Taken as Defined>⟧.loan width height bar font t.windows slots) }
-        ensures idle { IfOk result (λ t. t.updates.current ≡ Nothing) }
+        ensures idle { IfOk result (λ t. t.activity ≡ Idle) }
         ensures events { IfOk result (λ t. t.events ≡ first_events) }
         ensures whole { IfOk result (λ t. (slots : List SlotView) → All IsFull slots
             → IsWholeToolbox ⟦<Taken as Defined>⟧.loan t slots) }
@@ -95,7 +98,7 @@ impl Toolbox {
         requires height { pos updates.buffer.height ≡ height }
         ensures begun { IfOk result (λ t. (slots : List SlotView) → All IsFull slots
             → IsEmptyDesk ⟦<Taken as Defined>⟧.loan width height bar font t.windows slots) }
-        ensures idle { IfOk result (λ t. t.updates.current ≡ updates.current) }
+        ensures idle { IfOk result (λ t. t.activity ≡ Idle) }
         ensures events { IfOk result (λ t. t.events ≡ events) }
         ensures whole { IfOk result (λ t. (slots : List SlotView) → All IsFull slots
             → IsWholeToolbox ⟦<Taken as Defined>⟧.loan t slots) }
@@ -108,6 +111,7 @@ impl Toolbox {
             Ok(windows) => Ok(Toolbox {
                 alloc,
                 windows,
+                activity: Activity::Idle,
                 updates,
                 events,
             }),
@@ -141,7 +145,7 @@ impl Toolbox {
         ensures right { IsRightState (state_of ⟦<Taken as Defined>⟧.loan self.old.windows (⟦<Stock as Stocked>⟧.slots stock.old))
             → IsRightState (state_of ⟦<Taken as Defined>⟧.loan self.new.windows (⟦<Stock as Stocked>⟧.slots stock.new)) }
     {
-        match self.updates.activity().admit(call.standing()) {
+        match self.activity.admit(call.standing()) {
             Ok(()) => self.make(call, stock),
             Err(refusal) => match form_refusal_of(call, stock) {
                 Some(form) => Err(form),
@@ -152,7 +156,8 @@ impl Toolbox {
 
     /// Makes one call that may come.
     fn make(&mut self, call: &Call<'_>, stock: &mut Stock) -> Result<Reply, Refusal>
-        requires { IsWholeToolbox ⟦<Taken as Defined>⟧.loan self.old (⟦<Stock as Stocked>⟧.slots stock.old) }
+        requires whole { IsWholeToolbox ⟦<Taken as Defined>⟧.loan self.old (⟦<Stock as Stocked>⟧.slots stock.old) }
+        requires admitted { gate self.old.activity (standing_of call.now) ≡ None }
         ensures whole { IsWholeToolbox ⟦<Taken as Defined>⟧.loan self.new (⟦<Stock as Stocked>⟧.slots stock.new) }
         ensures step { IsAdmitted call.now result
             (toolbox_state ⟦<Taken as Defined>⟧.loan self.old (⟦<Stock as Stocked>⟧.slots stock.old))
@@ -163,12 +168,17 @@ impl Toolbox {
                 Ok(reply) => Ok(Reply::Window(reply)),
                 Err(refusal) => Err(refusal),
             },
-            Call::Update(call) => match self.updates.make(&mut self.windows, call) {
-                Ok(reply) => Ok(Reply::Window(reply)),
-                Err(refusal) => Err(refusal),
-            },
+            Call::Update(call) => {
+                match self
+                    .updates
+                    .make(&mut self.windows, &mut self.activity, call)
+                {
+                    Ok(reply) => Ok(Reply::Window(reply)),
+                    Err(refusal) => Err(refusal),
+                }
+            }
             Call::Frame(call) => {
-                match window_frame::make(&mut self.windows, &mut self.updates, call) {
+                match window_frame::make(&mut self.windows, &mut self.activity, call) {
                     Ok(reply) => Ok(Reply::Frame(reply)),
                     Err(refusal) => Err(refusal),
                 }
@@ -216,7 +226,7 @@ impl Toolbox {
             (toolbox_state ⟦<Taken as Defined>⟧.loan self.new (⟦<Stock as Stocked>⟧.slots stock.new)).desk }
         ensures events { self.new.events ≡ self.old.events }
     {
-        match self.updates.tell(call) {
+        match self.updates.tell(self.activity, call) {
             Some(answer) => answer,
             None => self.windows.make(call, stock),
         }
@@ -231,7 +241,7 @@ impl Toolbox {
             (toolbox_state ⟦<Taken as Defined>⟧.loan self.old slots) (toolbox_state ⟦<Taken as Defined>⟧.loan self.new slots) }
     {
         let active = self.windows.parts().windows.active();
-        let update = self.updates.first_to_update(&self.windows);
+        let update = first_to_update(&self.windows, self.activity);
         self.events.make(call, active, update)
     }
 

@@ -13,6 +13,9 @@ enum Operator {
     Union,
     Diff,
     Xor,
+    CutTo,
+    Joined,
+    Less,
 }
 
 const OPERATORS: [Operator; 4] = [
@@ -22,6 +25,9 @@ const OPERATORS: [Operator; 4] = [
     Operator::Xor,
 ];
 
+/// Those that use up the first region, or both.
+const USING_UP: [Operator; 3] = [Operator::CutTo, Operator::Joined, Operator::Less];
+
 impl Operator {
     fn region(self, alloc: Global, a: &Region, b: &Region) -> Result<Region, AllocError> {
         match self {
@@ -29,15 +35,18 @@ impl Operator {
             Operator::Union => a.union(alloc, b),
             Operator::Diff => a.diff(alloc, b),
             Operator::Xor => a.xor(alloc, b),
+            Operator::CutTo => a.copy(alloc)?.cut_to(alloc, b),
+            Operator::Joined => a.copy(alloc)?.joined(alloc, b.copy(alloc)?),
+            Operator::Less => a.copy(alloc)?.less(alloc, b),
         }
     }
 
     /// The bits that the operator keeps of two sets of bits.
     fn mask(self, a: usize, b: usize) -> usize {
         match self {
-            Operator::Sect => a & b,
-            Operator::Union => a | b,
-            Operator::Diff => a & !b,
+            Operator::Sect | Operator::CutTo => a & b,
+            Operator::Union | Operator::Joined => a | b,
+            Operator::Diff | Operator::Less => a & !b,
             Operator::Xor => a ^ b,
         }
     }
@@ -90,7 +99,7 @@ fn operators_agree_with_single_pixels(rt: HostRuntime) -> Result<(), Fail> {
         for b in &SHAPES {
             let first = region_of(alloc, a, AROUND_SHAPES)?;
             let second = region_of(alloc, b, AROUND_SHAPES)?;
-            for operator in OPERATORS {
+            for operator in OPERATORS.into_iter().chain(USING_UP) {
                 let made = operator.region(alloc, &first, &second)?;
                 let pixels = Made { operator, a, b };
                 assert!(rt; is_region_of(alloc, &made, &pixels, AROUND_SHAPES)?);

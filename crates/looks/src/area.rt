@@ -93,10 +93,8 @@ fn changed(alloc: Global, region: Region, rect: Rect, adds: bool) -> Result<Regi
     ensures { IfOk result (λ r. (p : Point) → holds r p ≡ (if rect_holds rect p then adds else holds region p)) }
 {
     let other = Region::from_rect_in_range(alloc, rect)?;
-    let both = if adds {
-        region.union(alloc, &other)?
-    } else {
-        region.diff(alloc, &other)?
-    };
-    Ok(both)
+    if !adds {
+        return region.less(alloc, &other);
+    }
+    region.joined(alloc, other)
 }

@@ -72,6 +72,23 @@ applied-right Difference false = refl
 applied-right SymmetricDifference true = refl
 applied-right SymmetricDifference false = refl
 
+-- where none of the second side alone is kept, what is kept lies in the first
+pub applied-cut : (o : Operator) (x y : Bool) → applied o false true ≡ false → applied o x y ≡ (x && applied o true y)
+applied-cut o true y cuts = refl
+applied-cut o false true cuts = cuts
+applied-cut o false false cuts = applied-none o
+
+-- beside itself a side is kept whole or left out
+pub applied-same : (o : Operator) (x : Bool) → applied o x x ≡ (x && applied o true true)
+applied-same Union true = refl
+applied-same Union false = refl
+applied-same Intersection true = refl
+applied-same Intersection false = refl
+applied-same Difference true = refl
+applied-same Difference false = refl
+applied-same SymmetricDifference true = refl
+applied-same SymmetricDifference false = refl
+
 -- ---- equal rows
 
 -- lists that pass the test for equal ones are equal

@@ -15,6 +15,7 @@ pub mod Shared
 pub mod Around
 pub mod Inverted
 pub mod InvertedSets
+pub mod Remaining
 pub mod Restored
 pub mod LayerTurns
 pub mod WalkRuns

@@ -124,8 +124,8 @@ fn row_if(alloc: Global, keep: bool, edges: &[i32]) -> Result<Vec<i32>, AllocErr
     }
 }
 
-/// The row of the pixels that the operator keeps of two rows. A row beside an empty one is copied
-/// or left out whole.
+/// The row of the pixels that the operator keeps of two rows. A row beside an empty one or beside
+/// itself is copied or left out whole.
 pub fn combine_rows(
     alloc: Global,
     a: &[i32],
@@ -142,6 +142,8 @@ pub fn combine_rows(
         row_if(alloc, operator.holds(true, false), a)
     } else if a.is_empty() {
         row_if(alloc, operator.holds(false, true), b)
+    } else if a == b {
+        row_if(alloc, operator.holds(true, true), a)
     } else {
         sweep_rows(alloc, a, b, operator)
     }

@@ -9,8 +9,10 @@
 //!
 //! One kernel, `combine_rows`, combines two rows under an `Operator`, by one sweep over the edges of
 //! both; one merge of the rows does so for regions; `union`, `sect`, `diff` and `xor` differ in the
-//! operator alone. Contracts see a `Region` as a finite set of pixels and say, for each point, whether
-//! it is in. A region has no coordinate space of its own: it is that of the call.
+//! operator alone. Of a region that is not needed any more `cut_to`, `less` and `joined` make the same,
+//! and hand on the rows that stay as they are (`remain`). Contracts see a `Region` as a finite set of
+//! pixels and say, for each point, whether it is in. A region has no coordinate space of its own: it is
+//! that of the call.
 //!
 //! `empty`, `from_rect` and `copy` begin a region, and `offset` moves it. `contains`, `is_empty`,
 //! `equals`, `meets_rect` and `bbox` answer from the rows and take no memory: `contains` finds the row
@@ -45,6 +47,7 @@ mod merge;
 mod offset;
 mod rect;
 mod region;
+mod remain;
 mod restore;
 mod row;
 mod row_spans;

@@ -11,9 +11,9 @@ use std::alloc::{AllocError, Global};
 
 /// The edges of a row, none where the region has no such row, and the place of the row after it.
 #[derive(Clone, Copy)]
-struct RowRead<'a> {
-    edges: &'a [i32],
-    next: usize,
+pub struct RowRead<'a> {
+    pub edges: &'a [i32],
+    pub next: usize,
 }
 
 /// Reads the row `v` of rows that are read up to `next`.
@@ -83,7 +83,7 @@ pub fn merge_rows(
         ≡ applied operator (has_in_rows a.now h v) (has_in_rows b.now h v)) }
     ensures rows { IfOk result (λ rows. AreRows rows.items) }
 {
-    let mut rows = Vec::new(alloc);
+    let mut rows = Vec::with_capacity(alloc, a.len().max(b.len()))?;
     let mut i = 0;
     let mut j = 0;
     while let Some(v) = next_row(a, i, b, j) {

@@ -14,10 +14,10 @@ pub fn rect_rows(alloc: Global, rect: Rect) -> Result<Vec<Row>, AllocError>
         ≡ (between rect.left h rect.right && between rect.top v rect.bottom)) }
     ensures rows { IfOk result (λ rows. AreRows rows.items) }
 {
-    let mut rows = Vec::new(alloc);
     if rect.is_empty() {
-        return Ok(rows);
+        return Ok(Vec::new(alloc));
     }
+    let mut rows = Vec::with_capacity(alloc, rect.bottom.abs_diff(rect.top) as usize)?;
     for v in rect.top..rect.bottom {
         rows.push(Row::one_run(alloc, v, rect.left, rect.right)?)?;
     }

@@ -15,6 +15,7 @@ use crate::meets::rows_meet;
 use crate::merge::merge_rows;
 use crate::offset::{move_rows, rows_stay};
 use crate::rect::rect_rows;
+use crate::remain::rows_remaining;
 use crate::restore::form_rows;
 use crate::row::Row;
 use crate::same::same_rows;
@@ -133,6 +134,43 @@ impl Region {
             → holds region p ≡ differ (holds self.now p) (holds other.now p)) }
     {
         self.combined(alloc, other, Operator::SymmetricDifference)
+    }
+
+    /// The pixels of both regions, as `sect` answers them, where this one is not needed any more: a row
+    /// that stays as it is takes no memory.
+    pub fn cut_to(self, alloc: Global, other: &Region) -> Result<Region, AllocError>
+        ensures { IfOk result (λ region. (p : Point)
+            → holds region p ≡ (holds self p && holds other.now p)) }
+    {
+        let kept = Operator::Intersection;
+        let rows = rows_remaining(alloc, self.rows, other.rows.as_slice(), kept)?;
+        Ok(Region { rows })
+    }
+
+    /// The pixels of this region that the other lacks, as `diff` answers them, where this one is not
+    /// needed any more: a row that stays as it is takes no memory.
+    pub fn less(self, alloc: Global, other: &Region) -> Result<Region, AllocError>
+        ensures { IfOk result (λ region. (p : Point)
+            → holds region p ≡ (holds self p && not (holds other.now p))) }
+    {
+        let kept = Operator::Difference;
+        let rows = rows_remaining(alloc, self.rows, other.rows.as_slice(), kept)?;
+        Ok(Region { rows })
+    }
+
+    /// The pixels of either region, as `union` answers them, where neither is needed any more: beside
+    /// a region of no pixel the other one is the answer, and takes no memory.
+    pub fn joined(self, alloc: Global, other: Region) -> Result<Region, AllocError>
+        ensures { IfOk result (λ region. (p : Point)
+            → holds region p ≡ (holds self p || holds other p)) }
+    {
+        if self.is_empty() {
+            Ok(other)
+        } else if other.is_empty() {
+            Ok(self)
+        } else {
+            self.union(alloc, &other)
+        }
     }
 
     /// Moves the region `dh` columns to the right and `dv` rows down, taking no memory. OutOfRange,

@@ -94,6 +94,14 @@ impl Row {
         self.edges.as_slice()
     }
 
+    /// Its place and its edges.
+    pub fn into_parts(self) -> (i32, Vec<i32>)
+        ensures place { result.0 ≡ self.0 }
+        ensures edges { result.1.items ≡ self.1 }
+    {
+        (self.v, self.edges)
+    }
+
     /// Moves the row `dh` columns to the right and `dv` rows down.
     pub fn offset(&mut self, dh: i32, dv: i32)
         requires { IsGoodRow (moved_row self.old (record { h = dh; v = dv })) }

@@ -8,8 +8,7 @@ use Rattle.def_iface.specs.Meaning.{Loan}
 use Rattle.def_iface.specs.Stocked.{SlotView}
 use Rattle.desk_toolbox.specs.declared.toolbox.Toolbox.{Toolbox}
 use Rattle.window_mgr.specs.Begin.{IsEmptyDesk}
-use Rattle.window_update.specs.declared.updates.OpenActivity.TheVariants.{Nothing}
-use Rattle.window_update.specs.DeskStates.{activity_of}
+use Rattle.desk_call.specs.declared.activity.Activity.TheVariants.{Idle}
 use Rattle.desk_toolbox.specs.EventSteps.{first_events}
 use Rattle.desk_toolbox.specs.ToolboxStates.{ToolboxState}
 use Rattle.desk_toolbox.specs.WholeToolbox.{toolbox_state}
@@ -22,9 +21,9 @@ use Rattle.watched_io.specs.Writes.{Output, Sends}
 
 -- the desk that the Toolbox made
 pub new_desk : {V : Type 0} {H : V → Type 0} (loan : Taken V H → Loan) (t : Toolbox V H) (font : List ℕ) (slots : List SlotView) (size wanted : DeskSize) → size ≡ wanted
-    → IsEmptyDesk loan size.width size.height size.bar font t.windows slots → t.updates.current ≡ Nothing → t.events ≡ first_events → IsNewDesk wanted font slots (toolbox_state loan t slots)
+    → IsEmptyDesk loan size.width size.height size.bar font t.windows slots → t.activity ≡ Idle → t.events ≡ first_events → IsNewDesk wanted font slots (toolbox_state loan t slots)
 new_desk loan t font slots size wanted same empty idle events =
-    subst (λ s. IsNewDesk s font slots (toolbox_state loan t slots)) same (record { desk = empty.desk; idle = ap activity_of idle; drawn = empty.drawn; right = empty.right; events = events })
+    subst (λ s. IsNewDesk s font slots (toolbox_state loan t slots)) same (record { desk = empty.desk; idle = idle; drawn = empty.drawn; right = empty.right; events = events })
 
 -- the desk was made, and the command answered on it
 pub opened : {X : Type 0} (raw : Bool) (font : List ℕ) (slots : List SlotView) (command : Command) (first after : ToolboxState) (old new : Output) (r : Result X Refusal)

@@ -25,18 +25,19 @@ module _ {V : Type 0} {H : V → Type 0} (loan : Taken V H → Loan) (t : Touch)
       → ((p : Point) → holds had p ≡ (holds visible p && holds s.area.now.visible (came_from by p)))
       → ((p : Point) → holds old p ≡ (holds visible p && holds s.area.now.update (came_from by p)))
       → ((p : Point) → holds erase p ≡ (holds visible p && not (holds had p)))
-      → ((p : Point) → holds update p ≡ (holds erase p || holds old p))
-      → ((p : Point) → holds around p ≡ (holds r.structure p && not (holds r.content p)))
-      → ((p : Point) → holds frame p ≡ (holds around p && holds rest p))
+      → ((p : Point) → holds update p ≡ (holds old p || holds erase p))
+      → ((p : Point) → holds around p ≡ (holds r.structure p && holds rest p))
+      → ((p : Point) → holds frame p ≡ (holds around p && not (holds r.content p)))
       → ((p : Point) → holds redraw p ≡ (holds frame p && (whole || not (holds s.area.now.frame p))))
       → ((p : Point) → holds left p ≡ (holds rest p && not (holds r.structure p)))
       → IsSwept loan t (holds rest) s (record { visible = visible; update = update; frame = frame }) (record { erase = erase; redraw = redraw }) (holds left)
   swept_by rest s r visible had old erase update around frame redraw left by whole shown regions by_is whole_is visible_is had_is old_is erase_is update_is around_is frame_is redraw_is left_is = record {
     visible = λ p. visible_is p ∙ (λ i. regions.content p i && (sym shown i && holds rest p));
-    update = λ p. update_is p ∙ (λ i. (erase_is p ∙ ap (λ h. holds visible p && not h) (had_is p)) i || old_is p i)
+    update = λ p. update_is p ∙ (λ i. old_is p i || (erase_is p ∙ ap (λ h. holds visible p && not h) (had_is p)) i)
         ∙ drawn_again (holds visible p) (holds s.area.now.visible (came_from by p)) (holds s.area.now.update (came_from by p))
         ∙ ap (λ w. holds visible p && not (holds s.area.now.visible (came_from w p) && not (holds s.area.now.update (came_from w p)))) by_is;
-    frame = λ p. frame_is p ∙ (λ i. (around_is p ∙ (λ j. regions.structure p j && not (regions.content p j))) i && (sym shown i && holds rest p));
+    frame = λ p. frame_is p ∙ (λ i. around_is p i && not (holds r.content p)) ∙ frame_first (holds r.structure p) (holds rest p) (holds r.content p)
+        ∙ (λ i. (regions.structure p i && not (regions.content p i)) && (sym shown i && holds rest p));
     erase = λ p. erase_is p ∙ ap (λ h. holds visible p && not h) (had_is p) ∙ once (holds visible p) (holds s.area.now.visible (came_from by p))
         ∙ ap (λ w. holds visible p && not (holds s.area.now.visible (came_from w p))) by_is;
     redraw = λ p. redraw_is p ∙ ap (λ w. holds frame p && (w || not (holds s.area.now.frame p))) whole_is;
@@ -44,12 +45,19 @@ module _ {V : Type 0} {H : V → Type 0} (loan : Taken V H → Loan) (t : Touch)
     within = λ e. regions.within;
   }
     where
-      drawn_again : (v h u : Bool) → ((v && not (v && h)) || (v && u)) ≡ (v && not (h && not u))
+      drawn_again : (v h u : Bool) → ((v && u) || (v && not (v && h))) ≡ (v && not (h && not u))
       drawn_again true true true = refl
       drawn_again true true false = refl
       drawn_again true false true = refl
       drawn_again true false false = refl
       drawn_again false h u = refl
+
+      frame_first : (s r c : Bool) → ((s && r) && not c) ≡ ((s && not c) && r)
+      frame_first true true true = refl
+      frame_first true true false = refl
+      frame_first true false true = refl
+      frame_first true false false = refl
+      frame_first false r c = refl
 
       once : (v h : Bool) → (v && not (v && h)) ≡ (v && not h)
       once true h = refl

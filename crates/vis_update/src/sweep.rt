@@ -53,7 +53,7 @@ pub fn plan_of(
     let mut rest = gray.copy(alloc)?;
     let mut copied = Region::empty(alloc);
     for seat in seats {
-        let Swept { area, part, left } = seat.sweep(alloc, &rest, touch)?;
+        let Swept { area, part, left } = seat.sweep(alloc, rest, touch)?;
         copied = with_copied(alloc, copied, &area, &part, touch.way_of(seat.serial))?;
         areas.push(area).unwrap();
         parts.push(part).unwrap();
@@ -81,7 +81,7 @@ fn with_copied(
         ≡ (holds copied p || (is_some by && (holds area.now.visible p && not (holds part.now.erase p))))) }
 {
     match by {
-        Some(_) => copied.union(alloc, &area.visible.diff(alloc, &part.erase)?),
+        Some(_) => copied.joined(alloc, area.visible.diff(alloc, &part.erase)?),
         None => Ok(copied),
     }
 }
@@ -118,7 +118,7 @@ fn carried_by(
 {
     let mut moved = region.copy(alloc)?;
     match moved.offset(by.h, by.v) {
-        Ok(()) => within.sect(alloc, &moved),
+        Ok(()) => moved.cut_to(alloc, within),
         Err(_) => Ok(Region::empty(alloc)),
     }
 }
@@ -142,37 +142,37 @@ fn redraw_of(
 
 impl Seat<'_> {
     /// What the window takes of the rest of the screen, and what it leaves.
-    fn sweep(&self, alloc: Global, rest: &Region, touch: Touch) -> Result<Swept, AllocError>
+    fn sweep(&self, alloc: Global, rest: Region, touch: Touch) -> Result<Swept, AllocError>
         requires placed { IsPlacedSeat ⟦<Taken as Defined>⟧.loan self.now }
         requires near { IsNearSeat self.now }
-        requires near_rest { IsNear rest.now }
-        ensures { IfOk result (λ s. IsSwept ⟦<Taken as Defined>⟧.loan touch (holds rest.now) self.now
+        requires near_rest { IsNear rest }
+        ensures { IfOk result (λ s. IsSwept ⟦<Taken as Defined>⟧.loan touch (holds rest) self.now
             s.area s.part (holds s.left)) }
     {
         if !self.shown {
             return Ok(Swept {
                 area: Area::empty(alloc),
                 part: Part::empty(alloc),
-                left: rest.copy(alloc)?,
+                left: rest,
             });
         }
         let WindowRegions { structure, content } = regions_of(
             alloc, self.place, self.size, self.taken,
         )?;
-        let visible = content.sect(alloc, rest)?;
+        let frame = structure.sect(alloc, &rest)?.less(alloc, &content)?;
+        let visible = content.cut_to(alloc, &rest)?;
         let by = touch.way_of(self.serial);
         let had = carried(alloc, &self.area.visible, by, &visible)?;
         let old = carried(alloc, &self.area.update, by, &visible)?;
         let erase = visible.diff(alloc, &had)?;
-        let update = erase.union(alloc, &old)?;
-        let frame = structure.diff(alloc, &content)?.sect(alloc, rest)?;
+        let update = old.joined(alloc, erase.copy(alloc)?)?;
         let redraw = redraw_of(
             alloc,
             &frame,
             &self.area.frame,
             touch.draws_whole(self.serial),
         )?;
-        let left = rest.diff(alloc, &structure)?;
+        let left = rest.less(alloc, &structure)?;
         Ok(Swept {
             area: Area {
                 visible,

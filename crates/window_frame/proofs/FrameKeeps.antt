@@ -11,7 +11,7 @@ use Rattle.desk_call.specs.declared.frame.FrameReply.TheVariants.{Done, Tracked}
 use Rattle.vis_update.specs.Records.{WindowRecord}
 use Rattle.window_mgr.specs.FrameTelling.{IsFrameTold}
 use Rattle.window_mgr.specs.FullDesk.{FullDesk, FullState}
-use Rattle.window_update.specs.DeskStates.{DeskState}
+use Rattle.window_mgr.specs.DeskStates.{DeskState}
 use Rattle.window_frame.specs.Followers.{Telling, AreTold, IsCaughtUpBy, told_flag, with_heard}
 use Rattle.window_frame.specs.FrameSteps.{IsFrameStep, IsFrameEffect, IsBegunAt, IsTrackingTold, with_flag, with_title, with_tracked}
 

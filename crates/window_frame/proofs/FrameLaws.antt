@@ -11,7 +11,7 @@ use Rattle.desk_call.specs.declared.frame.FrameReply.TheVariants.{Done, Tracked}
 use Rattle.window_mgr.specs.FullDesk.{FullState, IsRightState}
 use Rattle.window_mgr.proofs.FrameRight.{KeepsLayers, frame_told_stays_right}
 use Rattle.window_mgr.proofs.Running.{unchanged_stays_right}
-use Rattle.window_update.specs.DeskStates.{DeskState}
+use Rattle.window_mgr.specs.DeskStates.{DeskState}
 use Rattle.window_frame.specs.Followers.{Flag, Telling, AreTold, IsCaughtUpBy, told_flag, with_heard}
 use Rattle.window_frame.specs.Followers.Flag.{Highlighting, Zooming}
 use Rattle.window_frame.specs.FrameSteps.{IsFrameStep, IsFrameEffect, IsBegunAt, IsTrackingTold, with_flag, with_title, with_tracked}

@@ -1,16 +1,16 @@
 -- Steps of calls about frames, as the code makes them.
 use Rattle.std.proofs.Common.{◌≡◌, inl, inr, ℕ, ◌<◌, Bool, true, false, not, if◌then◌else◌, List, [], ◌∷◌, length, map, None, Some, Result, Ok, Err, refl, sym, ap, ◌∙◌, subst}
-use Rattle.std.specs.Prelude.{is_none, nat_lt}
+use Rattle.std.specs.Prelude.{is_none, nat_abs, nat_lt}
 use Rattle.tb_geom.specs.declared.point.Point.{Point}
 use Rattle.tb_geom.specs.declared.refusal.Refusal.{Refusal}
-use Rattle.tb_geom.specs.declared.refusal.Refusal.TheVariants.{NoSuchWindow, OutOfRange, NotBusy, TooLong}
+use Rattle.tb_geom.specs.declared.refusal.Refusal.TheVariants.{NoSuchWindow, OutOfRange, TooLong}
 use Rattle.tb_geom.specs.Rects.{in_plane}
 use Rattle.def_iface.specs.declared.taken.Taken.{Taken}
 use Rattle.def_iface.specs.News.{News, told_title, told_highlighted, told_tracked}
 use Rattle.def_iface.specs.Meaning.{Loan}
 use Rattle.def_iface.specs.Stocked.{SlotView}
 use Rattle.desk_call.specs.declared.frame.FrameCall.{FrameCall}
-use Rattle.desk_call.specs.declared.activity.Activity.TheVariants.{Tracking}
+use Rattle.desk_call.specs.declared.activity.Activity.TheVariants.{Idle, Tracking}
 use Rattle.desk_call.specs.declared.frame.FrameCall.TheVariants as asks
 use Rattle.desk_call.specs.declared.frame.FrameReply.{FrameReply}
 use Rattle.desk_call.specs.declared.frame.FrameReply.TheVariants.{Done, Tracked}
@@ -26,19 +26,17 @@ use Rattle.window_mgr.specs.FrameTelling.{IsFrameTold}
 use Rattle.window_mgr.specs.FullDesk.{FullState}
 use Rattle.window_mgr.specs.Kept.{IsKept}
 use Rattle.window_mgr.specs.Records.{desk_of, state_of}
-use Rattle.window_mgr.specs.Refused.{first_refusal, is_missing, longest_text}
+use Rattle.tb_geom.specs.Refusals.{first_refusal}
+use Rattle.window_mgr.specs.Refused.{is_missing, longest_text}
 use Rattle.window_mgr.specs.Updating.{LeavesState}
 use Rattle.window_mgr.specs.Whole.{IsWholeManager}
 use Rattle.window_mgr.proofs.EditSeats.{same_at, there_is}
 use Rattle.window_mgr.proofs.FrameRight.{told_alike, told_of}
 use Rattle.window_mgr.proofs.TellLemmas as telling
-use Rattle.window_update.specs.declared.updates.OpenActivity.TheVariants.{Nothing, GoAway}
-use Rattle.window_update.specs.declared.updates.Updates.{Updates}
-use Rattle.window_update.specs.DeskStates.{IsDeskUnchanged, IsWholeUpdates, activity_of, desk_state}
-use Rattle.window_update.proofs.Sides.{SameSides, stays_sized}
-use Rattle.bit_map.specs.Bits.{Bits}
+use Rattle.window_mgr.specs.DeskStates.{Opened, IsDeskUnchanged, desk_state}
+use Rattle.window_mgr.proofs.ScreenSides.{SameSides}
 use Rattle.window_frame.specs.Followers.{Flag, Knows, IsInformed, told_flag, with_heard}
-use Rattle.window_frame.specs.FrameRefusals.{frame_refusals, is_tracking, tracking_refusals}
+use Rattle.window_frame.specs.FrameRefusals.{frame_refusals, tracking_refusals}
 use Rattle.window_frame.specs.FrameSteps.{IsFrameStepOverAnySlots, IsTrackedAt, IsTrackingTold, in_go_away, with_flag, with_title, with_tracked}
 use Rattle.window_frame.proofs.FrameKeeps.{frame_told_keeps, tracking_keeps}
 
@@ -51,12 +49,12 @@ still_kept loan t new after kept leaves = record { slots = kept.slots; whole = (
 module _ {V : Type 0} {H : V → Type 0} (loan : Taken V H → Loan) (t : WindowManager V H) where
   -- ---- nothing changes
 
-  pub unchanged : (u : Updates) (slots : List SlotView) → IsDeskUnchanged (desk_state loan t u slots) (desk_state loan t u slots)
+  pub unchanged : (u : Opened) (slots : List SlotView) → IsDeskUnchanged (desk_state loan t u slots) (desk_state loan t u slots)
   unchanged u slots = record { windows = record { desk = refl; stale = λ p on. refl; image = λ p on. refl }; activity = refl; begun = refl }
 
-  pub refused : (u : Updates) (call : FrameCall) (e : Refusal) → ((slots : List SlotView) → first_refusal (frame_refusals call (activity_of u.current) (desk_of loan t slots)) ≡ Some e)
+  pub refused : (u : Opened) (call : FrameCall) (e : Refusal) → ((slots : List SlotView) → first_refusal (frame_refusals call (desk_of loan t slots)) ≡ Some e)
       → IsFrameStepOverAnySlots loan call (Err e) t u t u
-  refused u call e why slots whole = (whole, (why slots, unchanged u slots))
+  refused u call e why slots whole = (whole, (inl (why slots), unchanged u slots))
 
   -- a window that is not there is missing
   pub missing : (s : ℕ) (slots : List SlotView) → record_with s (map (record_of loan) t.windows.records.items) ≡ None → is_missing s (desk_of loan t slots).windows ≡ true
@@ -123,11 +121,11 @@ module _ {V : Type 0} {H : V → Type 0} (loan : Taken V H → Loan) (t : Window
     is_long : (b : Bool) → nat_lt longest_text (length title) ≡ b → nat_lt longest_text (length n.title) ≡ b
     is_long b e = subst (λ (l : List ℕ). nat_lt longest_text (length l) ≡ b) same e
 
-    pub too_long : (u : Updates) → nat_lt longest_text (length title) ≡ true → IsFrameStepOverAnySlots loan (asks.SetTitle n) (Err TooLong) t u t u
+    pub too_long : (u : Opened) → nat_lt longest_text (length title) ≡ true → IsFrameStepOverAnySlots loan (asks.SetTitle n) (Err TooLong) t u t u
     too_long u e = refused u (asks.SetTitle n) TooLong
         (λ slots. λ i. first_refusal ((is_there kept n.window at stands slots i, NoSuchWindow) ∷ (is_long true e i, TooLong) ∷ []))
 
-    pub titled : (u : Updates) (new : WindowManager V H) → nat_lt longest_text (length title) ≡ false
+    pub titled : (u : Opened) (new : WindowManager V H) → nat_lt longest_text (length title) ≡ false
         → ((w : Window V H) → IsWindowAt t.windows.records.items at w → LeavesState loan (IsFrameTold w.serial (λ _. told_title title) (with_title title)) t new)
         → IsFrameStepOverAnySlots loan (asks.SetTitle n) (Ok Done) t u new u
     titled u new e leaves slots whole =
@@ -142,7 +140,7 @@ module _ {V : Type 0} {H : V → Type 0} (loan : Taken V H → Loan) (t : Window
           ),
         )
 
-  pub highlighted : (kept : IsKept loan t) (h : HiliteWindow) (at : ℕ) → StandsAt t.windows.records.items h.window at → (u : Updates) (new : WindowManager V H)
+  pub highlighted : (kept : IsKept loan t) (h : HiliteWindow) (at : ℕ) → StandsAt t.windows.records.items h.window at → (u : Opened) (new : WindowManager V H)
       → ((w : Window V H) → IsWindowAt t.windows.records.items at w → LeavesState loan (IsFrameTold w.serial (λ _. told_highlighted h.highlighted) (with_flag h.highlighted)) t new)
       → IsFrameStepOverAnySlots loan (asks.Hilite h) (Ok Done) t u new u
   highlighted kept h at stands u new leaves slots whole =
@@ -152,56 +150,61 @@ module _ {V : Type 0} {H : V → Type 0} (loan : Taken V H → Loan) (t : Window
   -- ---- the tracking of a go-away box
 
   module _ (kept : IsKept loan t) (g : GoAwayPoint) (at : ℕ) (stands : StandsAt t.windows.records.items g.window at) where
-    refused_or_not : (slots : List SlotView) (u : Updates) (b : Bool) → in_plane g.point ≡ b → first_refusal (frame_refusals (asks.TrackGoAway g) (activity_of u.current) (desk_of loan t slots)) ≡ (if b then None else Some OutOfRange)
-    refused_or_not slots u true e = λ i. first_refusal ((is_there kept g.window at stands slots i, NoSuchWindow) ∷ (not (e i), OutOfRange) ∷ [])
-    refused_or_not slots u false e = λ i. first_refusal ((is_there kept g.window at stands slots i, NoSuchWindow) ∷ (not (e i), OutOfRange) ∷ [])
+    refused_or_not : (slots : List SlotView) (b : Bool) → in_plane g.point ≡ b → first_refusal (frame_refusals (asks.TrackGoAway g) (desk_of loan t slots)) ≡ (if b then None else Some OutOfRange)
+    refused_or_not slots true e = λ i. first_refusal ((is_there kept g.window at stands slots i, NoSuchWindow) ∷ (not (e i), OutOfRange) ∷ [])
+    refused_or_not slots false e = λ i. first_refusal ((is_there kept g.window at stands slots i, NoSuchWindow) ∷ (not (e i), OutOfRange) ∷ [])
 
-    pub no_point : (u : Updates) (e : Refusal) → in_plane g.point ≡ false → e ≡ OutOfRange → IsFrameStepOverAnySlots loan (asks.TrackGoAway g) (Err e) t u t u
-    no_point u e outside is = subst (λ f. IsFrameStepOverAnySlots loan (asks.TrackGoAway g) (Err f) t u t u) (sym is) (refused u (asks.TrackGoAway g) OutOfRange (λ slots. refused_or_not slots u false outside))
+    pub no_point : (u : Opened) (e : Refusal) → in_plane g.point ≡ false → e ≡ OutOfRange → IsFrameStepOverAnySlots loan (asks.TrackGoAway g) (Err e) t u t u
+    no_point u e outside is = subst (λ f. IsFrameStepOverAnySlots loan (asks.TrackGoAway g) (Err f) t u t u) (sym is) (refused u (asks.TrackGoAway g) OutOfRange (λ slots. refused_or_not slots false outside))
 
-    pub begun : (u after : Updates) (new : WindowManager V H) → in_plane g.point ≡ true → true ≡ in_go_away g.window (desk_of loan t []) g.point → after.current ≡ GoAway g.window
+    pub begun : (u after : Opened) (new : WindowManager V H) → in_plane g.point ≡ true → true ≡ in_go_away g.window (desk_of loan t []) g.point → after.activity ≡ Tracking g.window
         → LeavesState loan (IsTrackingTold true g.window) t new → IsFrameStepOverAnySlots loan (asks.TrackGoAway g) (Ok (Tracked true)) t u new after
     begun u after new inside is opened leaves slots whole =
-        let left = leaves slots whole in (left.0, (refused_or_not slots u true inside, (is, (ap activity_of opened, left.1))))
+        let left = leaves slots whole in (left.0, (refused_or_not slots true inside, (is, (opened, left.1))))
 
-    pub not_begun : (u : Updates) → in_plane g.point ≡ true → false ≡ in_go_away g.window (desk_of loan t []) g.point → IsFrameStepOverAnySlots loan (asks.TrackGoAway g) (Ok (Tracked false)) t u t u
-    not_begun u inside is slots whole = (whole, (refused_or_not slots u true inside, (is, unchanged u slots)))
+    pub not_begun : (u : Opened) → in_plane g.point ≡ true → false ≡ in_go_away g.window (desk_of loan t []) g.point → IsFrameStepOverAnySlots loan (asks.TrackGoAway g) (Ok (Tracked false)) t u t u
+    not_begun u inside is slots whole = (whole, (refused_or_not slots true inside, (is, unchanged u slots)))
 
-  module _ (u : Updates) (w : ℕ) (p : Point) (inside shows : Bool) (new : WindowManager V H) (open_is : Tracking w ≡ activity_of u.current) (planar : in_plane p ≡ true) (is : inside ≡ in_go_away w (desk_of loan t []) p) (leaves : LeavesState loan (IsTrackingTold shows w) t new) where
-    free : first_refusal (tracking_refusals (activity_of u.current) p) ≡ None
-    free i = first_refusal ((not (is_tracking (sym open_is i)), NotBusy) ∷ (not (planar i), OutOfRange) ∷ [])
+  module _ (u : Opened) (w : ℕ) (p : Point) (inside shows : Bool) (new : WindowManager V H) (open_is : Tracking w ≡ u.activity) (planar : in_plane p ≡ true) (is : inside ≡ in_go_away w (desk_of loan t []) p) (leaves : LeavesState loan (IsTrackingTold shows w) t new) where
+    free : first_refusal (tracking_refusals p) ≡ None
+    free i = first_refusal ((not (planar i), OutOfRange) ∷ [])
 
-    tracked_at : (after : Updates) (slots : List SlotView) (whole : IsWholeManager loan t slots) → IsTrackedAt p inside shows (desk_state loan t u slots) (desk_state loan new after slots)
+    tracked_at : (after : Opened) (slots : List SlotView) (whole : IsWholeManager loan t slots) → IsTrackedAt p inside shows (desk_state loan t u slots) (desk_state loan new after slots)
     tracked_at after slots whole = record { window = w; tracked = sym open_is; answer = is; told = (leaves slots whole).1 }
 
-  pub stepped : (u : Updates) (w : ℕ) (p : Point) (inside : Bool) (new : WindowManager V H) → Tracking w ≡ activity_of u.current → in_plane p ≡ true → inside ≡ in_go_away w (desk_of loan t []) p
+  pub stepped : (u : Opened) (w : ℕ) (p : Point) (inside : Bool) (new : WindowManager V H) → Tracking w ≡ u.activity → in_plane p ≡ true → inside ≡ in_go_away w (desk_of loan t []) p
       → LeavesState loan (IsTrackingTold inside w) t new → IsFrameStepOverAnySlots loan (asks.StepGoAway p) (Ok (Tracked inside)) t u new u
   stepped u w p inside new open_is planar is leaves slots whole =
       ((leaves slots whole).0, (free u w p inside inside new open_is planar is leaves, (record { activity = refl; begun = refl }, tracked_at u w p inside inside new open_is planar is leaves u slots whole)))
 
-  pub ended : (u : Updates) (w : ℕ) (p : Point) (inside : Bool) (new : WindowManager V H) → Tracking w ≡ activity_of u.current → in_plane p ≡ true → inside ≡ in_go_away w (desk_of loan t []) p
-      → LeavesState loan (IsTrackingTold false w) t new → (after : Updates) → after.current ≡ Nothing → IsFrameStepOverAnySlots loan (asks.EndGoAway p) (Ok (Tracked inside)) t u new after
+  pub ended : (u : Opened) (w : ℕ) (p : Point) (inside : Bool) (new : WindowManager V H) → Tracking w ≡ u.activity → in_plane p ≡ true → inside ≡ in_go_away w (desk_of loan t []) p
+      → LeavesState loan (IsTrackingTold false w) t new → (after : Opened) → after.activity ≡ Idle → IsFrameStepOverAnySlots loan (asks.EndGoAway p) (Ok (Tracked inside)) t u new after
   ended u w p inside new open_is planar is leaves after idle slots whole =
-      ((leaves slots whole).0, (free u w p inside false new open_is planar is leaves, (ap activity_of idle, tracked_at u w p inside false new open_is planar is leaves after slots whole)))
+      ((leaves slots whole).0, (free u w p inside false new open_is planar is leaves, (idle, tracked_at u w p inside false new open_is planar is leaves after slots whole)))
 
   -- ---- the screen keeps its sides
 
-  sides_stay : (kept : IsKept loan t) (new : WindowManager V H) (u : Updates) (done : FullState → FullState → Type 0) → ((before after : FullState) → done before after → SameSides before.desk after.desk)
-      → LeavesState loan done t new → IsWholeUpdates t u → IsWholeUpdates new u
-  sides_stay kept new u done keeps leaves whole = stays_sized loan t new u kept.slots kept.slots whole (keeps _ _ (leaves kept.slots kept.whole).1)
+  pub record SameScreen (new : WindowManager V H) : Type 0 where
+    pub width : new.screen.width ≡ t.screen.width
+    pub height : new.screen.height ≡ t.screen.height
 
-  pub told_stays_whole : (kept : IsKept loan t) (inside : Bool) (s : ℕ) (new : WindowManager V H) (u after : Updates) → after.buffer ≡ u.buffer → LeavesState loan (IsTrackingTold inside s) t new → IsWholeUpdates t u → IsWholeUpdates new after
-  told_stays_whole kept inside s new u after same leaves whole =
-      let stays = sides_stay kept new u (IsTrackingTold inside s) (λ before later told. record { width = tracking_keeps (λ d. d.width) (λ d ws. refl) inside s before later told; height = tracking_keeps (λ d. d.height) (λ d ws. refl) inside s before later told }) leaves whole in
-      record { width = ap (λ (b : Bits). b.width) same ∙ stays.width; height = ap (λ (b : Bits). b.height) same ∙ stays.height }
+  sides_stay : (kept : IsKept loan t) (new : WindowManager V H) (done : FullState → FullState → Type 0) → ((before after : FullState) → done before after → SameSides before.desk after.desk)
+      → LeavesState loan done t new → SameScreen new
+  sides_stay kept new done keeps leaves =
+      let same = keeps _ _ (leaves kept.slots kept.whole).1 in
+      record { width = ap nat_abs same.width; height = ap nat_abs same.height }
 
-  pub frame_stays_whole : (kept : IsKept loan t) (s at : ℕ) → StandsAt t.windows.records.items s at → (news : WindowRecord → News → News) (f : WindowRecord → WindowRecord) (new : WindowManager V H) (u : Updates)
-      → ((w : Window V H) → IsWindowAt t.windows.records.items at w → LeavesState loan (IsFrameTold w.serial news f) t new) → IsWholeUpdates t u → IsWholeUpdates new u
-  frame_stays_whole kept s at stands news f new u leaves whole =
-      sides_stay kept new u (IsFrameTold s news f) (λ before later told. record { width = frame_told_keeps (λ d. d.width) (λ d ws. refl) s news f before later told; height = frame_told_keeps (λ d. d.height) (λ d ws. refl) s news f before later told })
-      (by_number kept s at stands new news f leaves) whole
+  pub told_stays_sized : (kept : IsKept loan t) (inside : Bool) (s : ℕ) (new : WindowManager V H) → LeavesState loan (IsTrackingTold inside s) t new → SameScreen new
+  told_stays_sized kept inside s new leaves =
+      sides_stay kept new (IsTrackingTold inside s) (λ before later told. record { width = tracking_keeps (λ d. d.width) (λ d ws. refl) inside s before later told; height = tracking_keeps (λ d. d.height) (λ d ws. refl) inside s before later told }) leaves
+
+  pub frame_stays_sized : (kept : IsKept loan t) (s at : ℕ) → StandsAt t.windows.records.items s at → (news : WindowRecord → News → News) (f : WindowRecord → WindowRecord) (new : WindowManager V H)
+      → ((w : Window V H) → IsWindowAt t.windows.records.items at w → LeavesState loan (IsFrameTold w.serial news f) t new) → SameScreen new
+  frame_stays_sized kept s at stands news f new leaves =
+      sides_stay kept new (IsFrameTold s news f) (λ before later told. record { width = frame_told_keeps (λ d. d.width) (λ d ws. refl) s news f before later told; height = frame_told_keeps (λ d. d.height) (λ d ws. refl) s news f before later told })
+      (by_number kept s at stands new news f leaves)
 
 -- the step of a call is that of the call that it is
-pub of_call : {V : Type 0} {H : V → Type 0} (loan : Taken V H → Loan) (t new : WindowManager V H) (u after : Updates) (call other : FrameCall) (result : Result FrameReply Refusal) → call ≡ other
+pub of_call : {V : Type 0} {H : V → Type 0} (loan : Taken V H → Loan) (t new : WindowManager V H) (u after : Opened) (call other : FrameCall) (result : Result FrameReply Refusal) → call ≡ other
     → IsFrameStepOverAnySlots loan other result t u new after → IsFrameStepOverAnySlots loan call result t u new after
 of_call loan t new u after call other result is step = subst (λ k. IsFrameStepOverAnySlots loan k result t u new after) (sym is) step

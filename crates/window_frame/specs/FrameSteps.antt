@@ -5,12 +5,12 @@ use Rattle.tb_geom.specs.declared.refusal.Refusal.{Refusal}
 use Rattle.def_iface.specs.News.{told_title, told_highlighted, told_tracked}
 use Rattle.def_iface.specs.declared.taken.Taken.{Taken}
 use Rattle.def_iface.specs.Meaning.{Loan}
-use Rattle.def_iface.specs.Stocked.{SlotView}
 use Rattle.desk_call.specs.declared.activity.Activity.TheVariants.{Idle, Tracking}
 use Rattle.desk_call.specs.declared.frame.FrameCall.{FrameCall}
 use Rattle.desk_call.specs.declared.frame.FrameCall.TheVariants.{SetTitle, Hilite, TrackGoAway, StepGoAway, EndGoAway}
 use Rattle.desk_call.specs.declared.frame.FrameReply.{FrameReply}
 use Rattle.desk_call.specs.declared.frame.FrameReply.TheVariants.{Done, Tracked}
+use Rattle.desk_call.specs.Steps.{IsStepOf}
 use Rattle.desk_call.specs.declared.window.WindowPart.{WindowPart}
 use Rattle.desk_call.specs.declared.window.WindowPart.TheVariants.{InGoAway}
 use Rattle.vis_update.specs.Records.{WindowRecord}
@@ -19,10 +19,9 @@ use Rattle.window_mgr.specs.declared.manager.WindowManager.{WindowManager}
 use Rattle.window_mgr.specs.Finding.{found_at}
 use Rattle.window_mgr.specs.FrameTelling.{IsFrameTold}
 use Rattle.window_mgr.specs.FullDesk.{FullDesk, FullState}
-use Rattle.window_mgr.specs.Refused.{first_refusal, is_missing}
-use Rattle.window_mgr.specs.Whole.{IsWholeManager}
-use Rattle.window_update.specs.declared.updates.Updates.{Updates}
-use Rattle.window_update.specs.DeskStates.{DeskState, IsDeskUnchanged, SameActivity, desk_state}
+use Rattle.tb_geom.specs.Refusals.{first_refusal}
+use Rattle.window_mgr.specs.Refused.{is_missing}
+use Rattle.window_mgr.specs.DeskStates.{Opened, DeskState, IsDeskUnchanged, SameActivity, LeavesDesk}
 use Rattle.window_frame.specs.FrameRefusals.{frame_refusals}
 
 abbrev pub with_title : List ℕ → WindowRecord → WindowRecord
@@ -70,16 +69,13 @@ IsFrameEffect (StepGoAway p) (Tracked inside) before after = SameActivity before
 IsFrameEffect (EndGoAway p) (Tracked inside) before after = (after.activity ≡ Idle) × IsTrackedAt p inside false before after
 IsFrameEffect _ _ before after = ⊥
 
--- one step: a call that nothing refuses has its effect, and a refused one changes nothing; none takes memory
+-- one step of a call about a frame; none takes memory
 abbrev pub IsFrameStep : FrameCall → Result FrameReply Refusal → DeskState → DeskState → Type 0
-IsFrameStep call (Ok answer) before after =
-    (first_refusal (frame_refusals call before.activity before.windows.desk) ≡ None) × IsFrameEffect call answer before after
-IsFrameStep call (Err e) before after =
-    (first_refusal (frame_refusals call before.activity before.windows.desk) ≡ Some e) × IsDeskUnchanged before after
+IsFrameStep call = IsStepOf (λ before why. first_refusal (frame_refusals call before.windows.desk) ≡ why) false
+    (IsFrameEffect call) IsDeskUnchanged
 
 -- `loan` says what a definition that was taken means
 module _ {V : Type 0} {H : V → Type 0} (loan : Taken V H → Loan) where
   -- over any slots over which the window manager is whole, it is whole after the call, which is one step
-  abbrev pub IsFrameStepOverAnySlots : FrameCall → Result FrameReply Refusal → WindowManager V H → Updates → WindowManager V H → Updates → Type 0
-  IsFrameStepOverAnySlots call result old old_updates new new_updates = (slots : List SlotView) → IsWholeManager loan old slots
-      → IsWholeManager loan new slots × IsFrameStep call result (desk_state loan old old_updates slots) (desk_state loan new new_updates slots)
+  abbrev pub IsFrameStepOverAnySlots : FrameCall → Result FrameReply Refusal → WindowManager V H → Opened → WindowManager V H → Opened → Type 0
+  IsFrameStepOverAnySlots call result = LeavesDesk loan (IsFrameStep call result)

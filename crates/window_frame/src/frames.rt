@@ -1,50 +1,58 @@
 //! The calls about a frame.
-ghost use Rattle.std.specs.Prelude.{◌≡◌, length, nat_lt};
+ghost use Rattle.std.specs.Prelude.{◌≡◌, None, length, nat_lt};
+ghost use Rattle.tb_geom.specs.Points.{PixelSet};
 ghost use Rattle.desk_call.specs.declared.frame.FrameCall.TheVariants as asks;
+ghost use Rattle.desk_call.specs.Gates.{gate, frame_standing};
+ghost use Rattle.window_mgr.specs.DeskStates.{Opened};
 ghost use Rattle.window_mgr.specs.Kept.{IsKept};
 ghost use Rattle.window_mgr.specs.Refused.{longest_text};
-ghost use Rattle.window_update.specs.declared.updates.Updates.{Updates};
-ghost use Rattle.window_update.specs.DeskStates.{IsWholeUpdates};
 ghost use Rattle.window_frame.specs.FrameSteps.{IsFrameStepOverAnySlots};
 
 use crate::goaway::{end_go_away, step_go_away, track_go_away};
 use crate::{FrameCall, FrameReply, HiliteWindow, NewTitle};
 use def_iface::{Defined, Taken, WindowChange};
+use desk_call::Activity;
 use tb_geom::Refusal;
 use window_mgr::WindowManager;
-use window_update::Updates;
 
 /// The longest title, in bytes.
 const LONGEST_TITLE: usize = 255;
 
-/// Makes one call on these windows, and gives its answer. A refused call changes nothing: NotBusy where a step or an end
-/// comes while no go-away box is tracked, else NoSuchWindow, OutOfRange and TooLong, in this order. It does not ask whether
-/// something else is open. Takes no memory.
+/// Makes one call on these windows, which may come while this is open, and gives its answer. A refused call changes nothing:
+/// NoSuchWindow, OutOfRange and TooLong come in this order. Takes no memory.
 pub fn make(
     windows: &mut WindowManager,
-    updates: &mut Updates,
+    activity: &mut Activity,
     call: &FrameCall<'_>,
 ) -> Result<FrameReply, Refusal>
     requires kept { IsKept ⟦<Taken as Defined>⟧.loan windows.old }
-    requires whole { IsWholeUpdates windows.old updates.old }
-    ensures whole { IsWholeUpdates windows.new updates.new }
-    ensures step { IsFrameStepOverAnySlots ⟦<Taken as Defined>⟧.loan call.now result windows.old updates.old windows.new updates.new }
+    requires admitted { gate activity.old (frame_standing call.now) ≡ None }
+    ensures width { windows.new.screen.width ≡ windows.old.screen.width }
+    ensures height { windows.new.screen.height ≡ windows.old.screen.height }
+    ensures step { (begun : PixelSet) → IsFrameStepOverAnySlots ⟦<Taken as Defined>⟧.loan call.now result
+        windows.old (record { activity = activity.old; begun = begun }) windows.new (record { activity = activity.new; begun = begun }) }
 {
-    match call {
-        FrameCall::SetTitle(new) => set_title(windows, new),
-        FrameCall::Hilite(change) => hilite(windows, *change),
-        FrameCall::TrackGoAway(pressed) => track_go_away(windows, updates, *pressed),
-        FrameCall::StepGoAway(point) => step_go_away(windows, updates, *point),
-        FrameCall::EndGoAway(point) => end_go_away(windows, updates, *point),
+    match (call, *activity) {
+        (FrameCall::SetTitle(new), _) => set_title(windows, new),
+        (FrameCall::Hilite(change), _) => hilite(windows, *change),
+        (FrameCall::TrackGoAway(pressed), _) => track_go_away(windows, activity, *pressed),
+        (FrameCall::StepGoAway(point), Activity::Tracking(window)) => {
+            step_go_away(windows, window, *point)
+        }
+        (FrameCall::EndGoAway(point), Activity::Tracking(window)) => {
+            end_go_away(windows, activity, window, *point)
+        }
+        _ => unreachable!(),
     }
 }
 
 /// Gives a window another title.
 fn set_title(windows: &mut WindowManager, new: &NewTitle<'_>) -> Result<FrameReply, Refusal>
     requires { IsKept ⟦<Taken as Defined>⟧.loan windows.old }
-    ensures whole { (updates : Updates) → IsWholeUpdates windows.old updates → IsWholeUpdates windows.new updates }
-    ensures step { (updates : Updates) → IsFrameStepOverAnySlots ⟦<Taken as Defined>⟧.loan (asks.SetTitle new.now) result
-        windows.old updates windows.new updates }
+    ensures width { windows.new.screen.width ≡ windows.old.screen.width }
+    ensures height { windows.new.screen.height ≡ windows.old.screen.height }
+    ensures step { (o : Opened) → IsFrameStepOverAnySlots ⟦<Taken as Defined>⟧.loan (asks.SetTitle new.now) result
+        windows.old o windows.new o }
 {
     let Some(at) = windows.find(new.window) else {
         return Err(Refusal::NoSuchWindow);
@@ -67,9 +75,10 @@ fn is_too_long(title: &[u8]) -> bool
 /// Highlights a window, or not.
 fn hilite(windows: &mut WindowManager, change: HiliteWindow) -> Result<FrameReply, Refusal>
     requires { IsKept ⟦<Taken as Defined>⟧.loan windows.old }
-    ensures whole { (updates : Updates) → IsWholeUpdates windows.old updates → IsWholeUpdates windows.new updates }
-    ensures step { (updates : Updates) → IsFrameStepOverAnySlots ⟦<Taken as Defined>⟧.loan (asks.Hilite change) result
-        windows.old updates windows.new updates }
+    ensures width { windows.new.screen.width ≡ windows.old.screen.width }
+    ensures height { windows.new.screen.height ≡ windows.old.screen.height }
+    ensures step { (o : Opened) → IsFrameStepOverAnySlots ⟦<Taken as Defined>⟧.loan (asks.Hilite change) result
+        windows.old o windows.new o }
 {
     let Some(at) = windows.find(change.window) else {
         return Err(Refusal::NoSuchWindow);

@@ -1,11 +1,12 @@
 //! The tracking of a go-away box.
 ghost use Rattle.std.specs.Prelude.{◌≡◌, MatchResult, true, false, []};
+ghost use Rattle.tb_geom.specs.Points.{PixelSet};
 ghost use Rattle.tb_geom.specs.Rects.{in_plane};
+ghost use Rattle.desk_call.specs.declared.activity.Activity.TheVariants.{Tracking};
 ghost use Rattle.desk_call.specs.declared.frame.FrameCall.TheVariants as asks;
 ghost use Rattle.window_mgr.specs.Kept.{IsKept};
 ghost use Rattle.window_mgr.specs.Records.{desk_of};
 ghost use Rattle.window_mgr.specs.Updating.{LeavesState};
-ghost use Rattle.window_update.specs.DeskStates.{IsWholeUpdates};
 ghost use Rattle.window_frame.specs.FrameSteps.{IsFrameStepOverAnySlots, IsTrackingTold, in_go_away, is_go_away};
 
 use crate::{FrameReply, GoAwayPoint};
@@ -13,26 +14,25 @@ use def_iface::{Defined, Taken, WindowChange};
 use desk_call::{Activity, WindowPart};
 use tb_geom::{Point, Refusal};
 use window_mgr::WindowManager;
-use window_update::Updates;
 
 /// Begins to track the go-away box of a window, where the mouse button was pressed in it.
 pub(crate) fn track_go_away(
     windows: &mut WindowManager,
-    updates: &mut Updates,
+    activity: &mut Activity,
     pressed: GoAwayPoint,
 ) -> Result<FrameReply, Refusal>
     requires kept { IsKept ⟦<Taken as Defined>⟧.loan windows.old }
-    requires whole { IsWholeUpdates windows.old updates.old }
-    ensures whole { IsWholeUpdates windows.new updates.new }
-    ensures step { IsFrameStepOverAnySlots ⟦<Taken as Defined>⟧.loan (asks.TrackGoAway pressed) result
-        windows.old updates.old windows.new updates.new }
+    ensures width { windows.new.screen.width ≡ windows.old.screen.width }
+    ensures height { windows.new.screen.height ≡ windows.old.screen.height }
+    ensures step { (begun : PixelSet) → IsFrameStepOverAnySlots ⟦<Taken as Defined>⟧.loan (asks.TrackGoAway pressed) result
+        windows.old (record { activity = activity.old; begun = begun }) windows.new (record { activity = activity.new; begun = begun }) }
 {
     let Some(at) = windows.find(pressed.window) else {
         return Err(Refusal::NoSuchWindow);
     };
     match is_inside(windows, pressed.window, pressed.point) {
         Ok(true) => {
-            updates.begin_tracking(pressed.window);
+            *activity = Activity::Tracking(pressed.window);
             windows.tell_frame(at, WindowChange::Tracked(true));
             Ok(FrameReply::Tracked(true))
         }
@@ -41,44 +41,40 @@ pub(crate) fn track_go_away(
     }
 }
 
-/// Goes on to track, with the mouse at this point.
+/// Goes on to track the go-away box of this window, with the mouse at this point.
 pub(crate) fn step_go_away(
     windows: &mut WindowManager,
-    updates: &Updates,
+    window: u64,
     point: Point,
 ) -> Result<FrameReply, Refusal>
     requires kept { IsKept ⟦<Taken as Defined>⟧.loan windows.old }
-    requires whole { IsWholeUpdates windows.old updates.now }
-    ensures whole { IsWholeUpdates windows.new updates.now }
-    ensures step { IsFrameStepOverAnySlots ⟦<Taken as Defined>⟧.loan (asks.StepGoAway point) result
-        windows.old updates.now windows.new updates.now }
+    ensures width { windows.new.screen.width ≡ windows.old.screen.width }
+    ensures height { windows.new.screen.height ≡ windows.old.screen.height }
+    ensures step { (begun : PixelSet) → IsFrameStepOverAnySlots ⟦<Taken as Defined>⟧.loan (asks.StepGoAway point) result
+        windows.old (record { activity = Tracking window; begun = begun }) windows.new (record { activity = Tracking window; begun = begun }) }
 {
-    let Activity::Tracking(window) = updates.activity() else {
-        return Err(Refusal::NotBusy);
-    };
     let inside = is_inside(windows, window, point)?;
     tell_tracked(windows, window, inside);
     Ok(FrameReply::Tracked(inside))
 }
 
-/// Ends the tracking, with the mouse button released at this point.
+/// Ends the tracking of the go-away box of this window, with the mouse button released at this point.
 pub(crate) fn end_go_away(
     windows: &mut WindowManager,
-    updates: &mut Updates,
+    activity: &mut Activity,
+    window: u64,
     point: Point,
 ) -> Result<FrameReply, Refusal>
     requires kept { IsKept ⟦<Taken as Defined>⟧.loan windows.old }
-    requires whole { IsWholeUpdates windows.old updates.old }
-    ensures whole { IsWholeUpdates windows.new updates.new }
-    ensures step { IsFrameStepOverAnySlots ⟦<Taken as Defined>⟧.loan (asks.EndGoAway point) result
-        windows.old updates.old windows.new updates.new }
+    requires tracked { activity.old ≡ Tracking window }
+    ensures width { windows.new.screen.width ≡ windows.old.screen.width }
+    ensures height { windows.new.screen.height ≡ windows.old.screen.height }
+    ensures step { (begun : PixelSet) → IsFrameStepOverAnySlots ⟦<Taken as Defined>⟧.loan (asks.EndGoAway point) result
+        windows.old (record { activity = activity.old; begun = begun }) windows.new (record { activity = activity.new; begun = begun }) }
 {
-    let Activity::Tracking(window) = updates.activity() else {
-        return Err(Refusal::NotBusy);
-    };
     let inside = is_inside(windows, window, point)?;
     tell_tracked(windows, window, false);
-    updates.end_tracking();
+    *activity = Activity::Idle;
     Ok(FrameReply::Tracked(inside))
 }
 

@@ -4,7 +4,7 @@ ghost use Rattle.tb_geom.specs.declared.refusal.Refusal.{Refusal};
 ghost use Rattle.desk_call.specs.declared.frame.FrameCall.{FrameCall};
 ghost use Rattle.desk_call.specs.declared.frame.FrameReply.{FrameReply};
 ghost use Rattle.window_mgr.specs.FullDesk.{IsRightState};
-ghost use Rattle.window_update.specs.DeskStates.{DeskState};
+ghost use Rattle.window_mgr.specs.DeskStates.{DeskState};
 ghost use Rattle.window_frame.specs.FrameSteps.{IsFrameStep};
 
 /// A step of a call about a frame keeps a right state right.

@@ -46,3 +46,4 @@ pub mod FrameLemmas
 pub mod FrameSteps
 pub mod FrameTold
 pub mod FrameRight
+pub mod ScreenSides

@@ -34,7 +34,8 @@ use Rattle.vis_update.specs.Records.{WindowRecord, layered_window}
 use Rattle.window_mgr.specs.FullDesk.{FullDesk, AreNumbered, layered_desk, layered_state}
 use Rattle.vis_update.specs.Records.{record_of}
 use Rattle.window_mgr.specs.Records.{desk_of, state_of}
-use Rattle.window_mgr.specs.Refused.{first_refusal, judged_refusals, is_full, longest_text, most_windows}
+use Rattle.tb_geom.specs.Refusals.{first_refusal}
+use Rattle.window_mgr.specs.Refused.{judged_refusals, is_full, longest_text, most_windows}
 use Rattle.vis_update.specs.Places.{is_placed}
 use Rattle.window_mgr.specs.Step.{IsWindowStep}
 use Rattle.window_mgr.specs.Effects.{IsNewWindow, first_news, new_record, desk_with}

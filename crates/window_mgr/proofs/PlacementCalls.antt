@@ -55,7 +55,8 @@ use Rattle.window_mgr.specs.Edits.{IsWindowAt, StandsAt, put_record, stays_put, 
 use Rattle.window_mgr.specs.Finding.{record_with}
 use Rattle.window_mgr.specs.Kept.{IsKept}
 use Rattle.window_mgr.specs.Records.{desk_of, state_of}
-use Rattle.window_mgr.specs.Refused.{IsRefusal, may_grow, may_lie, first_refusal, size_refusals, zoom_refusals}
+use Rattle.tb_geom.specs.Refusals.{first_refusal}
+use Rattle.window_mgr.specs.Refused.{IsRefusal, may_grow, may_lie, size_refusals, zoom_refusals}
 use Rattle.window_mgr.specs.Laying.{MayHave, IsPlaceableAt, IsPlacementCommitted, IsLaid, IsLaidOverAnySlots}
 use Rattle.window_mgr.specs.Step.{IsWindowStep}
 use Rattle.window_mgr.specs.Whole.{IsWholeManager, IsSettled}

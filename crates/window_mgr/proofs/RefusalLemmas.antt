@@ -15,7 +15,8 @@ use Rattle.window_mgr.specs.declared.manager.WindowManager.{WindowManager}
 use Rattle.window_mgr.specs.FullDesk.{FullDesk}
 use Rattle.vis_update.specs.Records.{record_of}
 use Rattle.window_mgr.specs.Records.{desk_of, state_of}
-use Rattle.window_mgr.specs.Refused.{first_refusal, judged_refusals, new_window_refusals}
+use Rattle.tb_geom.specs.Refusals.{first_refusal}
+use Rattle.window_mgr.specs.Refused.{judged_refusals, new_window_refusals}
 use Rattle.vis_update.specs.Places.{is_placed}
 use Rattle.window_mgr.specs.Step.{IsCallRefused}
 use Rattle.window_mgr.specs.Planned.{IsUnplanned}

@@ -23,7 +23,8 @@ use Rattle.window_mgr.specs.Edits.{StandsAt, IsPlaceBehind}
 use Rattle.window_mgr.specs.Finding.{record_with}
 use Rattle.window_mgr.specs.Kept.{IsKept}
 use Rattle.window_mgr.specs.Records.{desk_of}
-use Rattle.window_mgr.specs.Refused.{first_refusal, behind_refusals, is_named_missing}
+use Rattle.tb_geom.specs.Refusals.{first_refusal}
+use Rattle.window_mgr.specs.Refused.{behind_refusals, is_named_missing}
 use Rattle.window_mgr.proofs.Arrangements.{place_after, put_behind_is}
 use Rattle.window_mgr.proofs.DrawRefusals.{record_there}
 use Rattle.window_mgr.proofs.EditSeats.{there_is, map-remove, length-put}

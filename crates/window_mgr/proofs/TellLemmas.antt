@@ -45,7 +45,8 @@ use Rattle.window_mgr.specs.FullDesk.{FullDesk, layered_desk}
 use Rattle.window_mgr.specs.Records.{desk_of, state_of}
 use Rattle.window_mgr.specs.Finding.{record_with}
 use Rattle.window_mgr.specs.Telling.{IsRegionOf, IsMeasured, AreRegionBytes, IsNotTold, seen_from, visible_of, update_of, told_of, kept_region, asking, IsRegionTold}
-use Rattle.window_mgr.specs.Refused.{IsRefusal, IsUntold, first_refusal, is_missing}
+use Rattle.tb_geom.specs.Refusals.{first_refusal}
+use Rattle.window_mgr.specs.Refused.{IsRefusal, IsUntold, is_missing}
 use Rattle.window_mgr.specs.Step.{IsCallRefused}
 use Rattle.window_mgr.specs.AnySlots.{IsStepOverAnySlots}
 use Rattle.window_mgr.specs.Kept.{IsKept}

@@ -17,6 +17,7 @@ pub mod Planned
 pub mod Edits
 pub mod AnySlots
 pub mod Updating
+pub mod DeskStates
 pub mod Laying
 pub mod FrameTelling
 pub mod Without

@@ -27,7 +27,8 @@ use Rattle.window_mgr.specs.declared.new_window.Ticket.{Ticket}
 use Rattle.window_mgr.specs.Arrange.{also_of, if_active}
 use Rattle.window_mgr.specs.FullDesk.{layered_desk, layered_state}
 use Rattle.window_mgr.specs.Records.{desk_of, state_of}
-use Rattle.window_mgr.specs.Refused.{first_refusal, judged_refusals, most_operations}
+use Rattle.tb_geom.specs.Refusals.{first_refusal}
+use Rattle.window_mgr.specs.Refused.{judged_refusals, most_operations}
 use Rattle.window_mgr.specs.Commits.{IsPlanDrawn}
 use Rattle.window_mgr.specs.Effects.{first_news, new_record, desk_with}
 

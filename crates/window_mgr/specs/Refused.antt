@@ -4,7 +4,7 @@ use Rattle.tb_geom.specs.declared.point.Point.{Point}
 use Rattle.tb_geom.specs.declared.refusal.Refusal.{Refusal}
 use Rattle.tb_geom.specs.Points.{PixelSet, plus}
 use Rattle.tb_geom.specs.declared.refusal.Refusal.TheVariants.{NoSuchName, NoSuchWindow, OutOfRange, TooLong, TooMany, NoDefinition, BadRegion, BadSyntax}
-use Rattle.tb_geom.specs.Refusals.{number_of}
+use Rattle.tb_geom.specs.Refusals.{first_refusal, number_of}
 use Rattle.tb_geom.specs.Rects.{in_plane}
 use Rattle.draw_port.specs.declared.shapes.Op.{Op}
 use Rattle.op_ref.specs.declared.op_ref.OpRef.{OpRef}
@@ -27,10 +27,6 @@ use Rattle.window_mgr.specs.Finding.{record_with}
 use Rattle.window_mgr.specs.FullDesk.{FullDesk, FullState}
 use Rattle.window_mgr.specs.Placings.{Placing, sized, zoomed}
 use Rattle.window_mgr.specs.Telling.{IsMeasured, visible_of, update_of}
-
-abbrev pub first_refusal : List (Bool × Refusal) → Option Refusal
-first_refusal [] = None
-first_refusal (c ∷ cs) = if c.0 then Some c.1 else first_refusal cs
 
 -- as many windows as there may be
 abbrev pub most_windows : ℕ

@@ -6,7 +6,8 @@ ghost use Rattle.window_mgr.specs.AnySlots.{IsStepOverAnySlots};
 ghost use Rattle.window_mgr.specs.Edits.{StandsAt, IsPlaceBehind};
 ghost use Rattle.window_mgr.specs.Kept.{IsKept};
 ghost use Rattle.window_mgr.specs.Records.{desk_of};
-ghost use Rattle.window_mgr.specs.Refused.{first_refusal, behind_refusals};
+ghost use Rattle.tb_geom.specs.Refusals.{first_refusal};
+ghost use Rattle.window_mgr.specs.Refused.{behind_refusals};
 
 use crate::arrange::{Activates, Edit};
 use crate::{MoveWindow, SendBehind, ShowHide, WindowManager, WindowReply};

@@ -7,7 +7,8 @@ use Rattle.tb_geom.specs.Rects.{is_in_range}
 use Rattle.region_bytes.specs.Bytes.{IsRegionBytes}
 use Rattle.desk_call.specs.declared.update.AreaRef.{AreaRef}
 use Rattle.desk_call.specs.declared.update.AreaRef.TheVariants.{Rect, Region}
-use Rattle.window_mgr.specs.Refused.{first_refusal, is_found}
+use Rattle.tb_geom.specs.Refusals.{first_refusal}
+use Rattle.window_mgr.specs.Refused.{is_found}
 use Rattle.window_update.specs.Sets.{IsAreaOf, IsAreaJudged}
 use Rattle.window_update.specs.UpdateRefusals.{area_form, area_refusals}
 

@@ -11,6 +11,8 @@ use Rattle.def_iface.proofs.Owning.{same_number}
 use Rattle.def_iface.specs.declared.taken.Taken.{Taken}
 use Rattle.def_iface.specs.Meaning.{Loan}
 use Rattle.def_iface.specs.Stocked.{SlotView}
+use Rattle.desk_call.specs.declared.activity.Activity.{Activity}
+use Rattle.desk_call.specs.declared.activity.Activity.TheVariants.{Idle, Updating}
 use Rattle.desk_call.specs.declared.update.LayerDraw.{LayerDraw}
 use Rattle.desk_call.specs.declared.update.Layers.{Layers}
 use Rattle.desk_call.specs.declared.update.Layers.TheVariants.{Picture, Lists, Controls}
@@ -29,16 +31,13 @@ use Rattle.window_mgr.specs.Finding.{record_with}
 use Rattle.window_mgr.specs.FullDesk.{FullDesk}
 use Rattle.window_mgr.specs.Kept.{IsKept}
 use Rattle.window_mgr.specs.Records.{desk_of, state_of}
-use Rattle.window_mgr.specs.Refused.{first_refusal, window_refusals}
+use Rattle.tb_geom.specs.Refusals.{first_refusal}
+use Rattle.window_mgr.specs.Refused.{window_refusals}
 use Rattle.window_mgr.specs.Telling.{IsNotTold}
 use Rattle.window_mgr.specs.Updating.{LeavesState, IsRefreshed}
 use Rattle.window_mgr.proofs.EditSeats.{there_is}
 use Rattle.window_mgr.proofs.TellLemmas as telling
-use Rattle.window_update.specs.declared.updates.OpenActivity.{OpenActivity}
-use Rattle.window_update.specs.declared.updates.OpenActivity.TheVariants.{Nothing, Update}
-use Rattle.window_update.specs.declared.updates.OpenUpdate.{OpenUpdate}
-use Rattle.window_update.specs.declared.updates.Updates.{Updates}
-use Rattle.window_update.specs.DeskStates.{narrowed, activity_of, begun_of, desk_state}
+use Rattle.window_mgr.specs.DeskStates.{Opened, narrowed, desk_state}
 use Rattle.window_update.specs.UpdateSteps.{AreDrawn, IsUpdateStep, IsUpdateStepOverAnySlots}
 
 -- a region that is not written is not told
@@ -47,18 +46,16 @@ not_told region e (inl (is, long)) set same = inl (is, (region, same, long))
 not_told region e (inr (is, written)) set same = inr (is, (region, same, written))
 
 -- what a call is told of the window whose update is open
-pub narrowed_visible : (call : WindowCall) (update : OpenActivity) (o : OpenUpdate) (w : ℕ) → update ≡ Update o → w ≡ o.window → call ≡ VisibleRegion w → narrowed call (activity_of update) (begun_of update) ≡ Some (begun_of (Update o))
-narrowed_visible call update o w is same asks =
-    (λ i. narrowed (asks i) (activity_of (is i)) (begun_of (is i)))
-    ∙ ap (λ b. if b then Some (begun_of (Update o)) else None) (ap (λ n. o.window == n) same ∙ same_number o.window)
+pub narrowed_visible : (call : WindowCall) (activity : Activity) (begun : PixelSet) (o w : ℕ) → activity ≡ Updating o → w ≡ o → call ≡ VisibleRegion w → narrowed call activity begun ≡ Some begun
+narrowed_visible call activity begun o w is same asks =
+    (λ i. narrowed (asks i) (is i) begun) ∙ ap (λ b. if b then Some begun else None) (ap (λ n. o == n) same ∙ same_number o)
 
-pub narrowed_update : (call : WindowCall) (update : OpenActivity) (o : OpenUpdate) (w : ℕ) → update ≡ Update o → w ≡ o.window → call ≡ UpdateRegion w → narrowed call (activity_of update) (begun_of update) ≡ Some (λ p. false)
-narrowed_update call update o w is same asks =
-    (λ i. narrowed (asks i) (activity_of (is i)) (begun_of (is i)))
-    ∙ ap (λ b. if b then Some (λ p. false) else None) (ap (λ n. o.window == n) same ∙ same_number o.window)
+pub narrowed_update : (call : WindowCall) (activity : Activity) (begun : PixelSet) (o w : ℕ) → activity ≡ Updating o → w ≡ o → call ≡ UpdateRegion w → narrowed call activity begun ≡ Some (λ p. false)
+narrowed_update call activity begun o w is same asks =
+    (λ i. narrowed (asks i) (is i) begun) ∙ ap (λ b. if b then Some (λ p. false) else None) (ap (λ n. o == n) same ∙ same_number o)
 
 -- the step of a call is that of the call that it is
-pub of_call : {V : Type 0} {H : V → Type 0} (loan : Taken V H → Loan) (t new : WindowManager V H) (u after : Updates) (call other : UpdateCall) (result : Result WindowReply Refusal) → call ≡ other
+pub of_call : {V : Type 0} {H : V → Type 0} (loan : Taken V H → Loan) (t new : WindowManager V H) (u after : Opened) (call other : UpdateCall) (result : Result WindowReply Refusal) → call ≡ other
     → IsUpdateStepOverAnySlots loan other result t u new after → IsUpdateStepOverAnySlots loan call result t u new after
 of_call loan t new u after call other result is step = subst (λ k. IsUpdateStepOverAnySlots loan k result t u new after) (sym is) step
 
@@ -85,14 +82,14 @@ module _ {V : Type 0} {H : V → Type 0} (loan : Taken V H → Loan) (t : Window
     free slots = ap (λ (o : Option WindowRecord). first_refusal ((is_none o, NoSuchWindow) ∷ [])) found
 
     -- but want of memory
-    pub no_memory : (u : Updates) → IsUpdateStepOverAnySlots loan (asks.Begin s) (Err NoMemory) t u t u
+    pub no_memory : (u : Opened) → IsUpdateStepOverAnySlots loan (asks.Begin s) (Err NoMemory) t u t u
     no_memory u slots whole = (whole, (inr (free slots, (refl, refl)), record { windows = record { desk = refl; stale = λ p on. refl; image = λ p on. refl }; activity = refl; begun = refl }))
 
     -- its update is begun by its update region, as the window sees it
-    pub is_begun : (u new : Updates) (region : Pixels) (w : Window V H) (a : Area) → IsWindowAt t.windows.records.items at w → a ≡ slice_index_or t.areas.items at a
-        → ((p : Point) → holds region p ≡ holds a.update (plus p w.place)) → new.current ≡ Update (record { window = s; begun = region })
+    pub is_begun : (u new : Opened) (region : Pixels) (w : Window V H) (a : Area) → IsWindowAt t.windows.records.items at w → a ≡ slice_index_or t.areas.items at a
+        → ((p : Point) → holds region p ≡ holds a.update (plus p w.place)) → new ≡ record { activity = Updating s; begun = λ p. holds region p }
         → IsUpdateStepOverAnySlots loan (asks.Begin s) (Ok Done) t u t new
-    is_begun u new region w a w_is a_is seen opened slots whole = (
+    is_begun u new region w a w_is a_is seen is_open slots whole = (
       whole,
       (
         free slots,
@@ -100,8 +97,8 @@ module _ {V : Type 0} {H : V → Type 0} (loan : Taken V H → Loan) (t : Window
           refl,
           record {
             windows = record { desk = refl; stale = λ p on. refl; image = λ p on. refl };
-            opened = ap activity_of opened;
-            begun = λ p. ap (λ (o : OpenActivity). begun_of o p) opened ∙ seen p ∙ telling.update_seen loan t kept s at w stands.0 w_is (stands.1 w w_is) a a_is p;
+            opened = ap (λ (o : Opened). o.activity) is_open;
+            begun = λ p. ap (λ (o : Opened). o.begun p) is_open ∙ seen p ∙ telling.update_seen loan t kept s at w stands.0 w_is (stands.1 w w_is) a a_is p;
           },
         ),
       ),
@@ -125,13 +122,13 @@ module _ {V : Type 0} {H : V → Type 0} (loan : Taken V H → Loan) (t : Window
       same_height = ap (λ (d : FullDesk). nat_abs d.height) (refreshed kept.slots kept.whole).1.desk
 
       -- so the window is served, once no update is open
-      pub served : (u after : Updates) (result : Result WindowReply Refusal) → after.current ≡ Nothing → result ≡ Ok Done → IsUpdateStepOverAnySlots loan (asks.Serve s) result t u new after
+      pub served : (u after : Opened) (result : Result WindowReply Refusal) → after.activity ≡ Idle → result ≡ Ok Done → IsUpdateStepOverAnySlots loan (asks.Serve s) result t u new after
       served u after result idle done slots whole =
           let left = refreshed slots whole in
-          (left.0, subst (λ r. IsUpdateStep (asks.Serve s) r (desk_state loan t u slots) (desk_state loan new after slots)) (sym done) (free slots, (refl, (ap activity_of idle, left.1))))
+          (left.0, subst (λ r. IsUpdateStep (asks.Serve s) r (desk_state loan t u slots) (desk_state loan new after slots)) (sym done) (free slots, (refl, (idle, left.1))))
 
   -- layers were drawn
-  pub are_drawn : (kept : IsKept loan t) (d : LayerDraw) (at : ℕ) → StandsAt t.windows.records.items d.window at → (u : Updates) (new : WindowManager V H)
+  pub are_drawn : (kept : IsKept loan t) (d : LayerDraw) (at : ℕ) → StandsAt t.windows.records.items d.window at → (u : Opened) (new : WindowManager V H)
       → LeavesState loan (AreDrawn d.layers d.window) t new → IsUpdateStepOverAnySlots loan (asks.Draw d) (Ok Done) t u new u
   are_drawn kept d at stands u new leaves slots whole =
       let left = leaves slots whole in

@@ -22,7 +22,7 @@ use Rattle.window_mgr.specs.Telling.{seen_from, update_of}
 use Rattle.window_mgr.specs.Updating.{IsRefreshed, refresh_change}
 use Rattle.window_mgr.proofs.Repicturing.{content_is_picture}
 use Rattle.window_mgr.proofs.TellLemmas.{again_there}
-use Rattle.window_update.specs.DeskStates.{DeskState}
+use Rattle.window_mgr.specs.DeskStates.{DeskState}
 use Rattle.window_update.specs.Served.{AreDone, AreAllServed, IsAllRight, layer_by_layer}
 use Rattle.window_update.specs.UpdateSteps.{IsUpdateStep}
 use Rattle.window_update.specs.Waiting.{IsEmpty}

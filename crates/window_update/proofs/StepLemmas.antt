@@ -13,6 +13,7 @@ use Rattle.def_iface.specs.Stocked.{SlotView}
 use Rattle.def_iface.specs.Desk as layers
 use Rattle.def_iface.specs.Owner.{Owner, owner}
 use Rattle.def_iface.specs.Change.{Change, IsChanged}
+use Rattle.desk_call.specs.declared.activity.Activity.{Activity}
 use Rattle.desk_call.specs.declared.update.UpdateCall.{UpdateCall}
 use Rattle.desk_call.specs.declared.update.UpdateCall.TheVariants as asks
 use Rattle.desk_call.specs.declared.update.WindowArea.{WindowArea}
@@ -35,22 +36,23 @@ use Rattle.window_mgr.proofs.UpdateSteps.{added_is_changed, taken_is_changed}
 use Rattle.window_update.specs.declared.marking.Verdict.{Verdict}
 use Rattle.window_update.specs.declared.marking.Verdict.TheVariants.{Stale, Right}
 use Rattle.window_update.specs.declared.updates.Updates.{Updates}
-use Rattle.window_update.specs.DeskStates.{DeskState, desk_state, activity_of, begun_of}
+use Rattle.window_mgr.specs.DeskStates.{Opened, DeskState, desk_state}
 use Rattle.window_update.specs.Marks.{marked_by, IsMarkedBy}
 use Rattle.window_update.specs.Rightness.{IsJudgement}
 use Rattle.window_update.specs.Sets.{IsAreaOf, marked_in, on_place}
+use Rattle.window_update.specs.WholeUpdates.{opened}
 use Rattle.window_update.specs.UpdateRefusals.{IsAreaRefusal, IsUpdateRefusal, may_update_grow}
 use Rattle.window_update.specs.UpdateSteps.{adding, taking, IsAreaMarked, IsUpdateEffect, IsUpdateRefused, IsUpdateStep, IsUpdateStepOverAnySlots}
 use Rattle.window_update.proofs.MarkLemmas.{its_area}
 
 -- a call that is refused and leaves all as it was
-pub is_refused : {V : Type 0} {H : V → Type 0} (loan : Taken V H → Loan) (t : WindowManager V H) (u : Updates) (call : UpdateCall) (e : Refusal)
+pub is_refused : {V : Type 0} {H : V → Type 0} (loan : Taken V H → Loan) (t : WindowManager V H) (u : Opened) (call : UpdateCall) (e : Refusal)
     → ((slots : List SlotView) → IsUpdateRefused call e (state_of loan t slots)) → IsUpdateStepOverAnySlots loan call (Err e) t u t u
 is_refused loan t u call e refused slots whole =
     (whole, (refused slots, record { windows = record { desk = refl; stale = λ p on. refl; image = λ p on. refl }; activity = refl; begun = refl }))
 
 -- so does one for which there is no memory
-pub short_of_memory : {V : Type 0} {H : V → Type 0} (loan : Taken V H → Loan) (t new : WindowManager V H) (u : Updates) (call : UpdateCall) (e : Refusal) → new ≡ t
+pub short_of_memory : {V : Type 0} {H : V → Type 0} (loan : Taken V H → Loan) (t new : WindowManager V H) (u : Opened) (call : UpdateCall) (e : Refusal) → new ≡ t
     → ((slots : List SlotView) → IsUpdateRefusal call (state_of loan t slots) None × ((may_update_grow call ≡ true) × (e ≡ NoMemory))) → IsUpdateStepOverAnySlots loan call (Err e) t u new u
 short_of_memory loan t new u call e same free =
     subst (λ n. IsUpdateStepOverAnySlots loan call (Err e) t u n u) (sym same) (is_refused loan t u call e (λ slots. inr (free slots)))
@@ -141,7 +143,7 @@ module _ {V : Type 0} {H : V → Type 0} (loan : Taken V H → Loan) (t : Window
   of_area Stale before after marked = marked
   of_area Right before after marked = marked
 
-  module _ (new : WindowManager V H) (u : Updates) where
+  module _ (new : WindowManager V H) (u : Opened) where
     -- the area was marked, or there was no memory for it
     pub is_marked : (verdict : Verdict) → ((slots : List SlotView) → IsUpdateRefusal (marking verdict m) (state_of loan t slots) None) → at < length t.areas.items → (result : Result WindowReply Refusal) → IsMarkedBy loan verdict at m.area result t new
         → IsUpdateStepOverAnySlots loan (marking verdict m) result t u new u
@@ -160,8 +162,7 @@ module _ {V : Type 0} {H : V → Type 0} (loan : Taken V H → Loan) (t : Window
     sides_stay verdict (Err e) (memory, same) = (ap (λ (n : WindowManager V H). n.screen.width) same, ap (λ (n : WindowManager V H). n.screen.height) same)
 
 -- another map for comparing changes no state
-pub other_map : {V : Type 0} {H : V → Type 0} (loan : Taken V H → Loan) (t new : WindowManager V H) (u other : Updates) (call : UpdateCall) (result : Result WindowReply Refusal) → other.current ≡ u.current
-    → IsUpdateStepOverAnySlots loan call result t u new u → IsUpdateStepOverAnySlots loan call result t u new other
-other_map loan t new u other call result same step slots whole =
-    let done = step slots whole in
-    (done.0, subst (λ o. IsUpdateStep call result (desk_state loan t u slots) (record { windows = state_of loan new slots; activity = activity_of o; begun = begun_of o })) (sym same) done.1)
+pub other_map : {V : Type 0} {H : V → Type 0} (loan : Taken V H → Loan) (t new : WindowManager V H) (activity : Activity) (u other : Updates) (call : UpdateCall) (result : Result WindowReply Refusal) → other.begun ≡ u.begun
+    → IsUpdateStepOverAnySlots loan call result t (opened activity u) new (opened activity u) → IsUpdateStepOverAnySlots loan call result t (opened activity u) new (opened activity other)
+other_map loan t new activity u other call result same step =
+    subst (λ (b : Pixels). IsUpdateStepOverAnySlots loan call result t (opened activity u) new (record { activity = activity; begun = λ p. holds b p })) (sym same) step

@@ -25,7 +25,7 @@ use Rattle.window_mgr.proofs.Running.{unchanged_stays_right}
 use Rattle.window_mgr.proofs.UpdateSteps.{added_stays_right, taken_stays_right, refreshed_stays_right}
 use Rattle.window_update.specs.Sets.{IsAreaOf, marked_in, on_place}
 use Rattle.window_update.specs.Rightness.{IsJudgement}
-use Rattle.window_update.specs.DeskStates.{DeskState}
+use Rattle.window_mgr.specs.DeskStates.{DeskState}
 use Rattle.window_update.specs.UpdateRefusals.{IsStaleRefusal}
 use Rattle.window_update.specs.UpdateSteps.{IsUpdateStep, AreDrawn}
 

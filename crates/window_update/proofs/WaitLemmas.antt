@@ -18,18 +18,17 @@ use Rattle.window_mgr.specs.Kept.{IsKept}
 use Rattle.window_mgr.specs.Records.{state_of}
 use Rattle.window_mgr.specs.Telling.{update_of}
 use Rattle.window_mgr.proofs.TellLemmas as telling
-use Rattle.window_update.specs.declared.updates.Updates.{Updates}
-use Rattle.window_update.specs.DeskStates.{activity_of, desk_state, is_updating}
+use Rattle.window_mgr.specs.DeskStates.{Opened, desk_state, is_updating}
 use Rattle.window_update.specs.Waiting.{IsEmpty, IsWaiting, IsFirstWaiting, update_told}
 
-module _ {V : Type 0} {H : V → Type 0} (loan : Taken V H → Loan) (t : WindowManager V H) (u : Updates) where
+module _ {V : Type 0} {H : V → Type 0} (loan : Taken V H → Loan) (t : WindowManager V H) (u : Opened) where
   -- a window whose update is open is not to be updated
-  pub open_waits_not : (s : ℕ) (slots : List SlotView) → is_updating s (activity_of u.current) ≡ true → IsWaiting s (desk_state loan t u slots) false
+  pub open_waits_not : (s : ℕ) (slots : List SlotView) → is_updating s (u.activity) ≡ true → IsWaiting s (desk_state loan t u slots) false
   open_waits_not s slots opened p = ap (λ b. if b then false else update_of s (state_of loan t slots) p) opened
 
   -- any other one is where the update region that is kept for it has a pixel
   module _ (kept : IsKept loan t) (at : ℕ) (low : at < length t.windows.records.items) (w : Window V H) (w_is : IsWindowAt t.windows.records.items at w)
-      (a : Area) (a_is : a ≡ slice_index_or t.areas.items at a) (slots : List SlotView) (closed : is_updating w.serial (activity_of u.current) ≡ false) where
+      (a : Area) (a_is : a ≡ slice_index_or t.areas.items at a) (slots : List SlotView) (closed : is_updating w.serial (u.activity) ≡ false) where
     kept_told : (p : Point) → update_told w.serial (desk_state loan t u slots) p ≡ holds a.update (plus p w.place)
     kept_told p = ap (λ b. if b then false else update_of w.serial (state_of loan t slots) p) closed ∙ sym (telling.update_seen loan t kept w.serial at w low w_is refl a a_is p)
 

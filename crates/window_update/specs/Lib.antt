@@ -3,7 +3,7 @@
 -- were served.
 pub mod Sets
 pub mod Rightness
-pub mod DeskStates
+pub mod WholeUpdates
 pub mod UpdateRefusals
 pub mod UpdateSteps
 pub mod Marks

@@ -10,7 +10,7 @@ use Rattle.desk_call.specs.declared.update.UpdateCall.TheVariants.{Begin, Draw, 
 use Rattle.desk_call.specs.declared.window.WindowReply.TheVariants.{Done}
 use Rattle.window_mgr.specs.FullDesk.{FullState, layered_desk}
 use Rattle.window_mgr.specs.Telling.{update_of}
-use Rattle.window_update.specs.DeskStates.{DeskState}
+use Rattle.window_mgr.specs.DeskStates.{DeskState}
 use Rattle.window_update.specs.UpdateSteps.{IsUpdateStep}
 use Rattle.window_update.specs.Waiting.{IsEmpty}
 

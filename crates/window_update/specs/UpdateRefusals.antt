@@ -7,7 +7,8 @@ use Rattle.desk_call.specs.declared.update.UpdateCall.{UpdateCall}
 use Rattle.desk_call.specs.declared.update.UpdateCall.TheVariants.{Invalidate, Validate, Begin, Draw, End, Serve}
 use Rattle.desk_call.specs.declared.update.WindowArea.{WindowArea}
 use Rattle.window_mgr.specs.FullDesk.{FullState}
-use Rattle.window_mgr.specs.Refused.{first_refusal, is_found, is_missing, window_refusals}
+use Rattle.tb_geom.specs.Refusals.{first_refusal}
+use Rattle.window_mgr.specs.Refused.{is_found, is_missing, window_refusals}
 use Rattle.window_update.specs.Sets.{IsAreaOf, IsAreaJudged}
 use Rattle.window_update.specs.Rightness.{IsJudgement}
 
@@ -53,4 +54,5 @@ IsUpdateForm _ why = None ≡ why
 abbrev pub may_update_grow : UpdateCall → Bool
 may_update_grow (Draw d) = false
 may_update_grow (End s) = false
+may_update_grow (Serve s) = false
 may_update_grow _ = true

@@ -1,11 +1,10 @@
 -- One step of a call about updates: what it leaves, and what it answers.
-use Rattle.std.specs.Prelude.{◌≡◌, ℕ, List, None, Result, Ok, Err}
+use Rattle.std.specs.Prelude.{◌≡◌, ℕ, Result, Ok, Err}
 use Rattle.tb_geom.specs.declared.point.Point.{Point}
 use Rattle.tb_geom.specs.declared.refusal.Refusal.{Refusal}
 use Rattle.tb_geom.specs.Points.{PixelSet}
 use Rattle.def_iface.specs.declared.taken.Taken.{Taken}
 use Rattle.def_iface.specs.Meaning.{Loan}
-use Rattle.def_iface.specs.Stocked.{SlotView}
 use Rattle.def_iface.specs.Change.{Change, no_change, IsChanged}
 use Rattle.desk_call.specs.declared.activity.Activity.TheVariants.{Idle, Updating}
 use Rattle.desk_call.specs.declared.update.Layers.{Layers}
@@ -18,13 +17,11 @@ use Rattle.desk_call.specs.declared.window.WindowReply.TheVariants.{Done}
 use Rattle.window_mgr.specs.declared.manager.WindowManager.{WindowManager}
 use Rattle.window_mgr.specs.FullDesk.{FullState, layered_state}
 use Rattle.window_mgr.specs.Effects.{IsUnchanged}
-use Rattle.window_mgr.specs.Step.{IsRefusedFor}
+use Rattle.desk_call.specs.Steps.{IsRefusedFor, IsStepOf}
 use Rattle.window_mgr.specs.Telling.{IsRegionTold, IsNotTold, update_of}
 use Rattle.window_mgr.specs.Updating.{IsRefreshed}
-use Rattle.window_mgr.specs.Whole.{IsWholeManager}
-use Rattle.window_update.specs.declared.updates.Updates.{Updates}
 use Rattle.window_update.specs.Sets.{IsAreaOf, marked_in}
-use Rattle.window_update.specs.DeskStates.{DeskState, IsDeskUnchanged, SameActivity, desk_state}
+use Rattle.window_mgr.specs.DeskStates.{Opened, DeskState, IsDeskUnchanged, SameActivity, LeavesDesk}
 use Rattle.window_update.specs.UpdateRefusals.{IsUpdateRefusal, may_update_grow}
 
 -- the change of a call that puts pixels of a window into the update set
@@ -71,11 +68,10 @@ IsUpdateEffect (Serve s) before after = (after.activity ≡ Idle) × IsRefreshed
 abbrev pub IsUpdateRefused : UpdateCall → Refusal → FullState → Type 0
 IsUpdateRefused call e state = IsRefusedFor (IsUpdateRefusal call state) (may_update_grow call) e
 
--- one step: a call that nothing refuses has its effect, and a refused one changes nothing
+-- one step of a call about updates
 abbrev pub IsUpdateStep : UpdateCall → Result WindowReply Refusal → DeskState → DeskState → Type 0
-IsUpdateStep call (Ok answer) before after =
-    IsUpdateRefusal call before.windows None × ((answer ≡ Done) × IsUpdateEffect call before after)
-IsUpdateStep call (Err e) before after = IsUpdateRefused call e before.windows × IsDeskUnchanged before after
+IsUpdateStep call = IsStepOf (λ before. IsUpdateRefusal call before.windows) (may_update_grow call)
+    (λ answer before after. (answer ≡ Done) × IsUpdateEffect call before after) IsDeskUnchanged
 
 -- the answer tells the region of these pixels, or why it does not
 abbrev pub IsToldOf : PixelSet → Result WindowReply Refusal → Type 0
@@ -86,7 +82,5 @@ IsToldOf set (Err e) = IsNotTold set e
 module _ {V : Type 0} {H : V → Type 0} (loan : Taken V H → Loan) where
   -- over any slots over which the window manager is whole, it is whole after the call, which is one step
   abbrev pub IsUpdateStepOverAnySlots : UpdateCall → Result WindowReply Refusal
-      → WindowManager V H → Updates → WindowManager V H → Updates → Type 0
-  IsUpdateStepOverAnySlots call result old old_updates new new_updates = (slots : List SlotView) → IsWholeManager loan old slots
-      → IsWholeManager loan new slots
-      × IsUpdateStep call result (desk_state loan old old_updates slots) (desk_state loan new new_updates slots)
+      → WindowManager V H → Opened → WindowManager V H → Opened → Type 0
+  IsUpdateStepOverAnySlots call result = LeavesDesk loan (IsUpdateStep call result)

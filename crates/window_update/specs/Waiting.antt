@@ -4,7 +4,7 @@ use Rattle.tb_geom.specs.declared.point.Point.{Point}
 use Rattle.tb_geom.specs.Points.{PixelSet}
 use Rattle.vis_update.specs.Records.{WindowRecord}
 use Rattle.window_mgr.specs.Telling.{update_of}
-use Rattle.window_update.specs.DeskStates.{DeskState, is_updating}
+use Rattle.window_mgr.specs.DeskStates.{DeskState, is_updating}
 
 -- the update region of the window of this serial, as it is told: while the window's update is open it is empty
 abbrev pub update_told : ℕ → DeskState → PixelSet

@@ -8,7 +8,7 @@ ghost use Rattle.desk_call.specs.declared.window.WindowReply.{WindowReply};
 ghost use Rattle.desk_call.specs.declared.window.WindowReply.TheVariants.{Done};
 ghost use Rattle.window_mgr.specs.FullDesk.{FullState, IsRightState};
 ghost use Rattle.window_mgr.specs.Telling.{update_of};
-ghost use Rattle.window_update.specs.DeskStates.{DeskState};
+ghost use Rattle.window_mgr.specs.DeskStates.{DeskState};
 ghost use Rattle.window_update.specs.Served.{AreDone, layer_by_layer, AreAllServed, IsAllRight};
 ghost use Rattle.window_update.specs.UpdateSteps.{IsUpdateStep};
 ghost use Rattle.window_update.specs.Waiting.{IsEmpty};

@@ -2,8 +2,8 @@
 //!
 //! A program says that pixels are to be redrawn (`Invalidate`) or are right as they are (`Validate`), and serves what is
 //! to be redrawn between `Begin` and `End`, layer by layer (*Inside Macintosh* I, "The Window Manager", "Update Region
-//! Maintenance"). `Updates` makes these calls on the windows of a `WindowManager`. It keeps which update is open, with
-//! what was to be redrawn when it began, which is the window's visible region until its end.
+//! Maintenance"). `Updates` makes these calls on the windows of a `WindowManager`, and says what is open then. It keeps what
+//! was to be redrawn when the open update began, which is the window's visible region until its end.
 //!
 //! What is right, `Rightness` says: a pixel of the content that shows and has the value that painting the desk from
 //! nothing gives. `Validate` is refused where a pixel is not; to know, the window's picture is drawn into a map that
@@ -24,4 +24,5 @@ mod waiting;
 
 pub use areas::update_form_refusal;
 pub use desk_call::{AreaRef, LayerDraw, Layers, UpdateCall, WindowArea};
-pub use updates::{OpenActivity, OpenUpdate, Updates};
+pub use updates::Updates;
+pub use waiting::first_to_update;

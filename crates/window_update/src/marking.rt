@@ -6,10 +6,11 @@ ghost use Rattle.tb_geom.specs.Pixels.{holds};
 ghost use Rattle.tb_geom.specs.Rects.{in_plane};
 ghost use Rattle.scan_region.specs.Moves.{is_pixel_in_range};
 ghost use Rattle.desk_call.specs.declared.update.UpdateCall.TheVariants as asks;
+ghost use Rattle.window_mgr.specs.DeskStates.{Opened};
 ghost use Rattle.window_mgr.specs.Edits.{IsWindowAt, StandsAt};
 ghost use Rattle.window_mgr.specs.Kept.{IsKept};
 ghost use Rattle.window_mgr.specs.Records.{state_of};
-ghost use Rattle.window_update.specs.DeskStates.{IsWholeUpdates};
+ghost use Rattle.window_update.specs.WholeUpdates.{IsWholeUpdates};
 ghost use Rattle.window_update.specs.Marks.{IsMarkedBy, IsUpdateAfter, marked_by};
 ghost use Rattle.window_update.specs.Rightness.{IsJudgement};
 ghost use Rattle.window_update.specs.Sets.{IsAreaOf, judged_set};
@@ -36,8 +37,8 @@ impl Updates {
         marking: &WindowArea<'_>,
     ) -> Result<WindowReply, Refusal>
         requires kept { IsKept ⟦<Taken as Defined>⟧.loan windows.old }
-        ensures step { IsUpdateStepOverAnySlots ⟦<Taken as Defined>⟧.loan (asks.Invalidate marking.now) result
-            windows.old self.now windows.new self.now }
+        ensures step { (o : Opened) → IsUpdateStepOverAnySlots ⟦<Taken as Defined>⟧.loan (asks.Invalidate marking.now) result
+            windows.old o windows.new o }
         ensures width { windows.new.screen.width ≡ windows.old.screen.width }
         ensures height { windows.new.screen.height ≡ windows.old.screen.height }
     {
@@ -56,8 +57,9 @@ impl Updates {
     ) -> Result<WindowReply, Refusal>
         requires kept { IsKept ⟦<Taken as Defined>⟧.loan windows.old }
         requires whole { IsWholeUpdates windows.old self.old }
-        ensures step { IsUpdateStepOverAnySlots ⟦<Taken as Defined>⟧.loan (asks.Validate marking.now) result
-            windows.old self.old windows.new self.new }
+        ensures step { (o : Opened) → IsUpdateStepOverAnySlots ⟦<Taken as Defined>⟧.loan (asks.Validate marking.now) result
+            windows.old o windows.new o }
+        ensures same { self.new.begun ≡ self.old.begun }
         ensures whole { IsWholeUpdates windows.new self.new }
     {
         let place = match place_of(windows, marking) {
@@ -81,7 +83,7 @@ impl Updates {
         requires whole { IsWholeUpdates windows.now self.old }
         requires at { at < length windows.now.windows.records.items }
         ensures whole { IsWholeUpdates windows.now self.new }
-        ensures same { self.new.current ≡ self.old.current }
+        ensures same { self.new.begun ≡ self.old.begun }
         ensures right { (w : _) → IsWindowAt windows.now.windows.records.items at w
             → IsJudgement w.serial (judged_set area.now) (state_of ⟦<Taken as Defined>⟧.loan windows.now []) result }
     {

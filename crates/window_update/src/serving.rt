@@ -1,19 +1,21 @@
 //! An update: begun, drawn and ended.
 ghost use Rattle.std.specs.Prelude.{◌≡◌, true, IfOk, Ok};
+ghost use Rattle.desk_call.specs.declared.activity.Activity.TheVariants.{Idle};
 ghost use Rattle.desk_call.specs.declared.window.WindowReply.TheVariants.{Done};
 ghost use Rattle.tb_geom.specs.declared.point.Point.{Point};
-ghost use Rattle.tb_geom.specs.Points.{plus};
+ghost use Rattle.tb_geom.specs.Points.{PixelSet, plus};
 ghost use Rattle.tb_geom.specs.Pixels.{holds};
 ghost use Rattle.tb_geom.specs.Rects.{in_plane};
 ghost use Rattle.scan_region.specs.Moves.{is_pixel_in_range};
 ghost use Rattle.desk_call.specs.declared.update.UpdateCall.TheVariants as asks;
 ghost use Rattle.window_mgr.specs.Kept.{IsKept};
-ghost use Rattle.window_update.specs.declared.updates.OpenActivity.TheVariants.{Nothing};
+ghost use Rattle.window_mgr.specs.DeskStates.{Opened};
+ghost use Rattle.window_update.specs.WholeUpdates.{opened};
 ghost use Rattle.window_update.specs.UpdateSteps.{IsUpdateStepOverAnySlots};
 
-use crate::{LayerDraw, Layers, OpenActivity, OpenUpdate, Updates};
+use crate::{LayerDraw, Layers, Updates};
 use def_iface::{Defined, Taken};
-use desk_call::WindowReply;
+use desk_call::{Activity, WindowReply};
 use scan_region::Region;
 use std::alloc::{AllocError, Global};
 use tb_geom::{Point, Refusal};
@@ -21,15 +23,16 @@ use window_list::local;
 use window_mgr::{WindowManager, move_by};
 
 impl Updates {
-    /// Begins the update of a window.
+    /// Begins the update of a window, which is open then.
     pub(crate) fn begin(
         &mut self,
         windows: &WindowManager,
+        activity: &mut Activity,
         window: u64,
     ) -> Result<WindowReply, Refusal>
         requires kept { IsKept ⟦<Taken as Defined>⟧.loan windows.now }
         ensures step { IsUpdateStepOverAnySlots ⟦<Taken as Defined>⟧.loan (asks.Begin window) result
-            windows.now self.old windows.now self.new }
+            windows.now (opened activity.old self.old) windows.now (opened activity.new self.new) }
         ensures buffer { self.new.buffer ≡ self.old.buffer }
     {
         let Some(at) = windows.find(window) else {
@@ -39,69 +42,64 @@ impl Updates {
         let Ok(begun) = seen_from(self.alloc, &windows.area(at).update, place) else {
             return Err(Refusal::NoMemory);
         };
-        self.current = OpenActivity::Update(OpenUpdate { window, begun });
+        self.begun = begun;
+        *activity = Activity::Updating(window);
         Ok(WindowReply::Done)
-    }
-
-    /// Draws what is to be redrawn of a window's picture, of its lists or of its controls. Lists and controls there are
-    /// none yet.
-    pub(crate) fn draw(
-        &self,
-        windows: &mut WindowManager,
-        draw: LayerDraw,
-    ) -> Result<WindowReply, Refusal>
-        requires kept { IsKept ⟦<Taken as Defined>⟧.loan windows.old }
-        ensures step { IsUpdateStepOverAnySlots ⟦<Taken as Defined>⟧.loan (asks.Draw draw) result
-            windows.old self.now windows.new self.now }
-        ensures width { windows.new.screen.width ≡ windows.old.screen.width }
-        ensures height { windows.new.screen.height ≡ windows.old.screen.height }
-    {
-        let Some(at) = windows.find(draw.window) else {
-            return Err(Refusal::NoSuchWindow);
-        };
-        match draw.layers {
-            Layers::Picture => {
-                windows.refresh(at);
-                Ok(WindowReply::Done)
-            }
-            Layers::Lists => Ok(WindowReply::Done),
-            Layers::Controls => Ok(WindowReply::Done),
-        }
     }
 
     /// Ends the update that is open.
-    pub(crate) fn end(&mut self) -> Result<WindowReply, Refusal>
-        ensures idle { self.new.current ≡ Nothing }
+    pub(crate) fn end(&mut self, activity: &mut Activity) -> Result<WindowReply, Refusal>
+        ensures idle { activity.new ≡ Idle }
         ensures buffer { self.new.buffer ≡ self.old.buffer }
         ensures done { result ≡ Ok Done }
     {
-        self.current = OpenActivity::Nothing;
+        self.begun = Region::empty(self.alloc);
+        *activity = Activity::Idle;
         Ok(WindowReply::Done)
     }
+}
 
-    /// Begins the update of a window, draws its layers, and ends it. Of the layers only the picture has pixels, since
-    /// there are no lists and no controls yet.
-    pub(crate) fn serve(
-        &mut self,
-        windows: &mut WindowManager,
-        window: u64,
-    ) -> Result<WindowReply, Refusal>
-        requires kept { IsKept ⟦<Taken as Defined>⟧.loan windows.old }
-        ensures step { IsUpdateStepOverAnySlots ⟦<Taken as Defined>⟧.loan (asks.Serve window) result
-            windows.old self.old windows.new self.new }
-        ensures buffer { self.new.buffer ≡ self.old.buffer }
-        ensures width { windows.new.screen.width ≡ windows.old.screen.width }
-        ensures height { windows.new.screen.height ≡ windows.old.screen.height }
-    {
-        let Some(at) = windows.find(window) else {
-            return Err(Refusal::NoSuchWindow);
-        };
-        if let Err(refusal) = self.begin(windows, window) {
-            return Err(refusal);
+/// Draws what is to be redrawn of a window's picture, of its lists or of its controls. Lists and controls there are none
+/// yet.
+pub(crate) fn draw(windows: &mut WindowManager, draw: LayerDraw) -> Result<WindowReply, Refusal>
+    requires kept { IsKept ⟦<Taken as Defined>⟧.loan windows.old }
+    ensures step { (o : Opened) → IsUpdateStepOverAnySlots ⟦<Taken as Defined>⟧.loan (asks.Draw draw) result
+        windows.old o windows.new o }
+    ensures width { windows.new.screen.width ≡ windows.old.screen.width }
+    ensures height { windows.new.screen.height ≡ windows.old.screen.height }
+{
+    let Some(at) = windows.find(draw.window) else {
+        return Err(Refusal::NoSuchWindow);
+    };
+    match draw.layers {
+        Layers::Picture => {
+            windows.refresh(at);
+            Ok(WindowReply::Done)
         }
-        windows.refresh(at);
-        self.end()
+        Layers::Lists => Ok(WindowReply::Done),
+        Layers::Controls => Ok(WindowReply::Done),
     }
+}
+
+/// Begins the update of a window, draws its layers, and ends it. Of the layers only the picture has pixels, since there
+/// are no lists and no controls yet; and nothing comes between, so that what was to be redrawn is not kept.
+pub(crate) fn serve(
+    windows: &mut WindowManager,
+    activity: &mut Activity,
+    window: u64,
+) -> Result<WindowReply, Refusal>
+    requires kept { IsKept ⟦<Taken as Defined>⟧.loan windows.old }
+    ensures step { (begun : PixelSet) → IsUpdateStepOverAnySlots ⟦<Taken as Defined>⟧.loan (asks.Serve window) result
+        windows.old (record { activity = activity.old; begun = begun }) windows.new (record { activity = activity.new; begun = begun }) }
+    ensures width { windows.new.screen.width ≡ windows.old.screen.width }
+    ensures height { windows.new.screen.height ≡ windows.old.screen.height }
+{
+    let Some(at) = windows.find(window) else {
+        return Err(Refusal::NoSuchWindow);
+    };
+    windows.refresh(at);
+    *activity = Activity::Idle;
+    Ok(WindowReply::Done)
 }
 
 /// A region of the screen, as a window at this place sees it.

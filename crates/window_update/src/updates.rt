@@ -1,4 +1,4 @@
-//! What is open of an update, and the calls about updates.
+//! What is kept for updates, and the calls about them.
 ghost use Rattle.std.specs.Prelude.{◌≡◌, IfOk, None, Some, MatchOption, MatchResult, pos, [], true, false};
 ghost use Rattle.tb_geom.specs.declared.point.Point.{Point};
 ghost use Rattle.tb_geom.specs.Points.{PixelSet};
@@ -8,13 +8,14 @@ ghost use Rattle.desk_ground.specs.Screens as screens;
 ghost use Rattle.window_mgr.specs.Kept.{IsKept};
 ghost use Rattle.window_mgr.specs.Records.{state_of};
 ghost use Rattle.window_mgr.specs.Refused.{is_missing};
-ghost use Rattle.window_update.specs.declared.updates.OpenActivity.TheVariants.{Nothing};
-ghost use Rattle.window_update.specs.DeskStates.{IsWholeUpdates, activity_of, begun_of, narrowed};
+ghost use Rattle.window_mgr.specs.DeskStates.{narrowed};
+ghost use Rattle.window_update.specs.WholeUpdates.{IsWholeUpdates, opened};
 ghost use Rattle.window_update.specs.Rightness.{IsJudgement};
 ghost use Rattle.window_update.specs.UpdateSteps.{IsUpdateStepOverAnySlots, IsToldOf};
 
 use crate::UpdateCall;
 use crate::areas::JudgedArea;
+use crate::serving::{draw, serve};
 use bit_map::BitMap;
 use def_iface::{Defined, Taken};
 use desk_call::{Activity, WindowCall, WindowReply};
@@ -23,113 +24,75 @@ use std::alloc::{AllocError, Global};
 use tb_geom::{Rect, Refusal};
 use window_mgr::WindowManager;
 
-/// An update between its begin and its end.
-#[derive(Drop)]
-pub struct OpenUpdate {
-    pub(crate) window: u64,
-    /// What was to be redrawn when it began, in the window's own coordinates.
-    pub(crate) begun: Region,
-}
-
-/// What is open between its begin and its end.
-#[derive(Drop)]
-pub enum OpenActivity {
-    Nothing,
-    /// An update.
-    Update(OpenUpdate),
-    /// The tracking of the go-away box of the window of this number.
-    GoAway(u64),
-}
-
-/// What is open, and a map to compare the screen with.
+/// What calls about updates keep from one to the next.
 #[derive(Drop)]
 pub struct Updates {
     pub(crate) alloc: Global,
-    pub(crate) current: OpenActivity,
-    /// As wide and high as the screen.
+    /// While an update is open, what was to be redrawn when it began, in the window's own coordinates.
+    pub(crate) begun: Region,
+    /// A map to compare the screen with, as wide and high as the screen.
     pub(crate) buffer: BitMap,
 }
 
 impl Updates {
-    /// Nothing is open, for a desk on a screen of `width` by `height` pixels, of which each is 8 to 1024.
+    /// For a desk on a screen of `width` by `height` pixels, of which each is 8 to 1024.
     pub fn new(alloc: Global, width: i32, height: i32) -> Result<Updates, AllocError>
         requires width { screens.is_screen_side width ≡ true }
         requires height { screens.is_screen_side height ≡ true }
         ensures sides { IfOk result (λ u. (pos u.buffer.width ≡ width) × (pos u.buffer.height ≡ height)) }
-        ensures idle { IfOk result (λ u. u.current ≡ Nothing) }
     {
         match BitMap::new(alloc, width, height) {
             Ok(buffer) => Ok(Updates {
                 alloc,
-                current: OpenActivity::Nothing,
+                begun: Region::empty(alloc),
                 buffer,
             }),
             Err(_) => Err(AllocError),
         }
     }
 
-    /// What is open.
-    pub fn activity(&self) -> Activity
-        ensures { result ≡ activity_of self.now.current }
-    {
-        match &self.current {
-            OpenActivity::Nothing => Activity::Idle,
-            OpenActivity::Update(update) => Activity::Updating(update.window),
-            OpenActivity::GoAway(window) => Activity::Tracking(*window),
-        }
-    }
-
-    /// The tracking of this window's go-away box begins, and is open.
-    pub fn begin_tracking(&mut self, window: u64)
-        ensures { self.new ≡ record self.old { current = OpenActivity.GoAway window } }
-    {
-        self.current = OpenActivity::GoAway(window);
-    }
-
-    /// Nothing is open any more.
-    pub fn end_tracking(&mut self)
-        ensures { self.new ≡ record self.old { current = Nothing } }
-    {
-        self.current = OpenActivity::Nothing;
-    }
-
-    /// Makes one call on these windows, and gives its answer. A refused call changes nothing; which refusal comes first
-    /// where several would do stands with the call. It does not ask what is open.
+    /// Makes one call on these windows, while this is open, and gives its answer. A refused call changes nothing; which
+    /// refusal comes first where several would do stands with the call. It does not ask what is open.
     pub fn make(
         &mut self,
         windows: &mut WindowManager,
+        activity: &mut Activity,
         call: &UpdateCall<'_>,
     ) -> Result<WindowReply, Refusal>
         requires kept { IsKept ⟦<Taken as Defined>⟧.loan windows.old }
         requires whole { IsWholeUpdates windows.old self.old }
         ensures whole { IsWholeUpdates windows.new self.new }
         ensures step { IsUpdateStepOverAnySlots ⟦<Taken as Defined>⟧.loan call.now result
-            windows.old self.old windows.new self.new }
+            windows.old (opened activity.old self.old) windows.new (opened activity.new self.new) }
     {
         match call {
             UpdateCall::Invalidate(marking) => self.invalidate(windows, marking),
             UpdateCall::Validate(marking) => self.validate(windows, marking),
-            UpdateCall::Begin(window) => self.begin(windows, *window),
-            UpdateCall::Draw(draw) => self.draw(windows, *draw),
-            UpdateCall::End(_) => self.end(),
-            UpdateCall::Serve(window) => self.serve(windows, *window),
+            UpdateCall::Begin(window) => self.begin(windows, activity, *window),
+            UpdateCall::Draw(layers) => draw(windows, *layers),
+            UpdateCall::End(_) => self.end(activity),
+            UpdateCall::Serve(window) => serve(windows, activity, *window),
         }
     }
 
-    /// The answer to a call that asks for a region of the window whose update is open: its visible region is what was to be
-    /// redrawn when the update began, and its update region is empty.
-    pub fn tell(&self, call: &WindowCall<'_>) -> Option<Result<WindowReply, Refusal>>
-        ensures { let asked = narrowed call.now (activity_of self.now.current) (begun_of self.now.current) in
+    /// The answer to a call that asks, while this is open, for a region of the window whose update it is: its visible region
+    /// is what was to be redrawn when the update began, and its update region is empty.
+    pub fn tell(
+        &self,
+        activity: Activity,
+        call: &WindowCall<'_>,
+    ) -> Option<Result<WindowReply, Refusal>>
+        ensures { let asked = narrowed call.now activity (opened activity self.now).begun in
             MatchOption result (asked ≡ None) (λ answer. (set : PixelSet) × (asked ≡ Some set) × IsToldOf set answer) }
     {
-        let OpenActivity::Update(update) = &self.current else {
+        let Activity::Updating(open) = activity else {
             return None;
         };
         match call {
-            WindowCall::VisibleRegion(window) if *window == update.window => {
-                Some(told(self.alloc, &update.begun))
+            WindowCall::VisibleRegion(window) if *window == open => {
+                Some(told(self.alloc, &self.begun))
             }
-            WindowCall::UpdateRegion(window) if *window == update.window => {
+            WindowCall::UpdateRegion(window) if *window == open => {
                 Some(told(self.alloc, &Region::empty(self.alloc)))
             }
             _ => None,
@@ -147,7 +110,7 @@ impl Updates {
         requires kept { IsKept ⟦<Taken as Defined>⟧.loan windows.now }
         requires whole { IsWholeUpdates windows.now self.old }
         ensures whole { IsWholeUpdates windows.now self.new }
-        ensures same { self.new.current ≡ self.old.current }
+        ensures same { self.new.begun ≡ self.old.begun }
         ensures right { let state = state_of ⟦<Taken as Defined>⟧.loan windows.now [] in MatchResult result
             (λ right. (is_missing window state.desk.windows ≡ false) × IsJudgement window (rect_holds rect) state right)
             (λ e. (is_missing window state.desk.windows ≡ true) × (e ≡ Refusal.NoSuchWindow)) }

@@ -1,52 +1,51 @@
 //! Which window is to be updated first.
 ghost use Rattle.std.specs.Prelude.{◌≡◌, ◌<◌, length, List};
+ghost use Rattle.tb_geom.specs.Points.{PixelSet};
 ghost use Rattle.def_iface.specs.Stocked.{SlotView};
+ghost use Rattle.window_mgr.specs.DeskStates.{desk_state, is_updating};
 ghost use Rattle.window_mgr.specs.Edits.{IsWindowAt};
 ghost use Rattle.window_mgr.specs.Kept.{IsKept};
-ghost use Rattle.window_update.specs.DeskStates.{activity_of, desk_state, is_updating};
 ghost use Rattle.window_update.specs.Waiting.{IsWaiting, IsFirstToUpdate};
 
-use crate::{OpenActivity, Updates};
 use def_iface::{Defined, Taken};
+use desk_call::Activity;
 use window_mgr::WindowManager;
 
-impl Updates {
-    /// The number of the first window, from the front, whose update region is not empty (*Inside Macintosh* I, "The Window
-    /// Manager", CheckUpdate). That of a window whose update is open is empty. Takes no memory.
-    pub fn first_to_update(&self, windows: &WindowManager) -> Option<u64>
-        requires { IsKept ⟦<Taken as Defined>⟧.loan windows.now }
-        ensures { (slots : List SlotView)
-            → IsFirstToUpdate (desk_state ⟦<Taken as Defined>⟧.loan windows.now self.now slots) result }
-    {
-        let list = windows.parts().windows;
-        for at in 0..list.len() {
-            if self.is_waiting(windows, at) {
-                return Some(list.at(at).serial);
-            }
+/// The number of the first window, from the front, whose update region is not empty (*Inside Macintosh* I, "The Window
+/// Manager", CheckUpdate). That of a window whose update is open is empty. Takes no memory.
+pub fn first_to_update(windows: &WindowManager, activity: Activity) -> Option<u64>
+    requires { IsKept ⟦<Taken as Defined>⟧.loan windows.now }
+    ensures { (begun : PixelSet) (slots : List SlotView) → IsFirstToUpdate
+        (desk_state ⟦<Taken as Defined>⟧.loan windows.now (record { activity = activity; begun = begun }) slots) result }
+{
+    let list = windows.parts().windows;
+    for at in 0..list.len() {
+        if is_waiting(windows, activity, at) {
+            return Some(list.at(at).serial);
         }
-        None
     }
+    None
+}
 
-    /// Whether the window at this place is to be updated.
-    fn is_waiting(&self, windows: &WindowManager, at: usize) -> bool
-        requires kept { IsKept ⟦<Taken as Defined>⟧.loan windows.now }
-        requires at { at < length windows.now.windows.records.items }
-        ensures { (w : _) → IsWindowAt windows.now.windows.records.items at w → (slots : List SlotView)
-            → IsWaiting w.serial (desk_state ⟦<Taken as Defined>⟧.loan windows.now self.now slots) result }
-    {
-        if self.is_open(windows.parts().windows.at(at).serial) {
-            return false;
-        }
-        !windows.area(at).update.is_empty()
+/// Whether the window at this place is to be updated.
+fn is_waiting(windows: &WindowManager, activity: Activity, at: usize) -> bool
+    requires kept { IsKept ⟦<Taken as Defined>⟧.loan windows.now }
+    requires at { at < length windows.now.windows.records.items }
+    ensures { (w : _) → IsWindowAt windows.now.windows.records.items at w → (begun : PixelSet) (slots : List SlotView) → IsWaiting w.serial
+        (desk_state ⟦<Taken as Defined>⟧.loan windows.now (record { activity = activity; begun = begun }) slots) result }
+{
+    if is_updating(activity, windows.parts().windows.at(at).serial) {
+        return false;
     }
+    !windows.area(at).update.is_empty()
+}
 
-    /// Whether the update of this window is open.
-    fn is_open(&self, window: u64) -> bool
-        ensures { result ≡ is_updating window (activity_of self.now.current) }
-    {
-        match &self.current {
-            OpenActivity::Update(update) => update.window == window,
-            _ => false,
-        }
+/// Whether the update of this window is open.
+fn is_updating(activity: Activity, window: u64) -> bool
+    ensures { result ≡ is_updating window activity }
+{
+    match activity {
+        Activity::Updating(open) => open == window,
+        _ => false,
     }
 }

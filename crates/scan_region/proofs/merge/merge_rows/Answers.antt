@@ -4,7 +4,7 @@ use Rattle.scan_region.proofs.Merged.{Reads, Merged-none, Merged-with_row}
 use Rattle.scan_region.proofs.merge.merge_rows.Goals as goal
 
 pub loop-v-init : goal.loop-v-init
-loop-v-init c = rw c.new-rows.ensures.items (Merged-none _ _ _)
+loop-v-init c = rw c.in_ok-rows.ensures.items (Merged-none _ _ _)
 
 pub loop-v-preserved : goal.loop-v-preserved
 loop-v-preserved c =

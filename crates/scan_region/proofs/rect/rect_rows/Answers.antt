@@ -7,17 +7,17 @@ use Rattle.scan_region.proofs.RectRows.{RunsUpTo-none, RunsUpTo-more, sides_in_r
 use Rattle.scan_region.proofs.rect.rect_rows.Goals as goal
 
 pub returns-then-is_empty-clause-pixels : goal.returns-then-is_empty-clause-pixels
-returns-then-is_empty-clause-pixels c = λ h v. rw c.new-rows.ensures.items (has_in_rows-nil h v ∙ sym (holds_none c.args.rect (sym c.is_empty.ensures.sides ∙ c.if-is_empty.true) (record { h = h; v = v })))
+returns-then-is_empty-clause-pixels c = λ h v. rw c.new.ensures.items (has_in_rows-nil h v ∙ sym (holds_none c.args.rect (sym c.is_empty.ensures.sides ∙ c.if-is_empty.true) (record { h = h; v = v })))
 
 pub returns-then-is_empty-clause-rows : goal.returns-then-is_empty-clause-rows
-returns-then-is_empty-clause-rows c = rw c.new-rows.ensures.items AreRows-nil
+returns-then-is_empty-clause-rows c = rw c.new.ensures.items AreRows-nil
 
 pub loop-v-init : goal.loop-v-init
 loop-v-init c =
     let fits : SFits w32 c.args.rect.top = search rules in
     let some = sides_rise c.args.rect (sym c.is_empty.ensures.sides ∙ c.if-is_empty.false) in
     let down = some.down in
-    simp to_z-of_z (record { low = omega (arith, ints); high = omega (arith, ints); runs = rw c.new-rows.ensures.items (RunsUpTo-none _) })
+    simp to_z-of_z (record { low = omega (arith, ints); high = omega (arith, ints); runs = rw c.in_ok-rows.ensures.items (RunsUpTo-none _) })
 
 pub one_run-requires-clause-row_in : goal.one_run-requires-clause-row_in
 one_run-requires-clause-row_in c =

@@ -3,8 +3,8 @@ use Rattle.std.proofs.lemmas.Int.{to_z-of_z}
 use Rattle.vis_update.proofs.PlaceLemmas.{none_arrive}
 use Rattle.vis_update.proofs.sweep.carried_by.Goals as goal
 
-pub returns : goal.returns
-returns c =
+pub returns-in-Err : goal.returns-in-Err
+returns-in-Err c =
     let fits_h : SFits w32 c.args.by.h = search rules in
     let fits_v : SFits w32 c.args.by.v = search rules in
     let refused = simp to_z-of_z at c.in-Err.ensures.refused in

@@ -12,4 +12,4 @@ returns-in-Ok-Ok-clause-begun g c =
 
 pub returns-in-Ok-Ok-clause-just_begun : goal.returns-in-Ok-Ok-clause-just_begun
 returns-in-Ok-Ok-clause-just_begun g c =
-    begins _ _ _ _ _ _ _ c.with_parts.result c.with_parts.ensures.begun c.with_parts.ensures.idle c.with_parts.ensures.events c.in-Ok-Ok.ensures.idle c.in-Ok-Ok.ensures'
+    begins _ _ _ _ _ _ c.with_parts.result c.with_parts.ensures.begun c.with_parts.ensures.idle c.with_parts.ensures.events c.in-Ok-Ok.ensures'

@@ -1,7 +1,7 @@
 use Rattle.std.proofs.Common.{refl, ap, ◌∙◌}
 use Rattle.std.specs.Prelude.{slice_index_or}
 use Rattle.window_list.specs.declared.list.WindowList.{WindowList}
-use Rattle.window_update.specs.declared.updates.OpenActivity.TheVariants.{Update}
+use Rattle.window_update.specs.WholeUpdates.{opened}
 use Rattle.window_update.proofs.MarkLemmas.{settled, seen_in, stale_shows, area_low}
 use Rattle.window_update.proofs.ServeLemmas.{no_memory, is_begun}
 use Rattle.window_update.proofs.updates.Updates.begin.Goals as goal
@@ -16,7 +16,7 @@ pub seen_from-requires-clause-there : goal.seen_from-requires-clause-there
 seen_from-requires-clause-there g c = λ p e. seen_in _ c.args.windows.now c.requires.kept c.in-Some.at c.in-Some.ensures.0 c.at.result.now c.area.result.now (c.at.ensures ∙ ap (λ (l : WindowList _ _). slice_index_or l.records.items c.in-Some.at c.at.result.now) c.parts.ensures.windows) c.area.ensures p (stale_shows _ c.args.windows.now c.requires.kept c.in-Some.at c.in-Some.ensures.0 c.at.result.now c.area.result.now (c.at.ensures ∙ ap (λ (l : WindowList _ _). slice_index_or l.records.items c.in-Some.at c.at.result.now) c.parts.ensures.windows) c.area.ensures _ e)
 
 pub returns-in_default-seen_from-clause-step : goal.returns-in_default-seen_from-clause-step
-returns-in_default-seen_from-clause-step g c = no_memory _ c.args.windows.now c.requires.kept c.args.window c.in-Some.at c.in-Some.ensures c.args.self.now
+returns-in_default-seen_from-clause-step g c = no_memory _ c.args.windows.now c.requires.kept c.args.window c.in-Some.at c.in-Some.ensures (opened c.args.activity.now c.args.self.now)
 
 pub returns-clause-step : goal.returns-clause-step
-returns-clause-step g c = is_begun _ c.args.windows.now c.requires.kept c.args.window c.in-Some.at c.in-Some.ensures c.args.self.now (record c.args.self.now { current = Update (record { window = c.args.window; begun = c.in-Ok.begun }) }) c.in-Ok.begun c.at.result.now c.area.result.now (c.at.ensures ∙ ap (λ (l : WindowList _ _). slice_index_or l.records.items c.in-Some.at c.at.result.now) c.parts.ensures.windows) c.area.ensures c.in-Ok.ensures refl
+returns-clause-step g c = is_begun _ c.args.windows.now c.requires.kept c.args.window c.in-Some.at c.in-Some.ensures (opened c.args.activity.now c.args.self.now) _ c.in-Ok.begun c.at.result.now c.area.result.now (c.at.ensures ∙ ap (λ (l : WindowList _ _). slice_index_or l.records.items c.in-Some.at c.at.result.now) c.parts.ensures.windows) c.area.ensures c.in-Ok.ensures refl

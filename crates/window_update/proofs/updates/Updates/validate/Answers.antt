@@ -1,34 +1,34 @@
-use Rattle.std.proofs.Common.{inl, refl, Some, Err, sym, ◌∙◌}
+use Rattle.std.proofs.Common.{inl, refl, Some, sym, ◌∙◌}
 use Rattle.desk_call.specs.declared.update.UpdateCall.TheVariants.{Validate}
 use Rattle.tb_geom.specs.declared.refusal.Refusal.TheVariants.{StalePixels}
 use Rattle.window_update.specs.Sets.{judged_set}
 use Rattle.window_update.specs.declared.marking.Verdict.TheVariants.{Right}
+use Rattle.desk_call.specs.declared.activity.Activity.TheVariants.{Idle}
+use Rattle.window_update.specs.WholeUpdates.{opened}
 use Rattle.window_update.proofs.MarkLemmas.{area_low}
-use Rattle.window_update.proofs.StepLemmas.{is_refused, other_map, wrong_pixels, right_pixels, is_marked, sides_stay}
+use Rattle.window_update.proofs.StepLemmas.{is_refused, wrong_pixels, right_pixels, is_marked, sides_stay}
 use Rattle.window_update.proofs.updates.Updates.validate.Goals as goal
 
 pub is_right-requires-clause-at : goal.is_right-requires-clause-at
 is_right-requires-clause-at g c = c.in-Ok.ensures.0.0
 
 pub returns-in-Err-clause-step : goal.returns-in-Err-clause-step
-returns-in-Err-clause-step g c = is_refused _ c.args.windows.now c.args.self.now (Validate c.args.marking.now) c.in-Err.refusal (λ slots. inl (Some c.in-Err.refusal, c.in-Err.ensures, refl))
+returns-in-Err-clause-step g c = λ o. is_refused _ c.args.windows.now o (Validate c.args.marking.now) c.in-Err.refusal (λ slots. inl (Some c.in-Err.refusal, c.in-Err.ensures, refl))
 
 pub returns-then-not-is_right-clause-step : goal.returns-then-not-is_right-clause-step
-returns-then-not-is_right-clause-step g c =
+returns-then-not-is_right-clause-step g c = λ o.
     let found = c.in-Ok.ensures in
-    other_map _ c.args.windows.now c.args.windows.now c.args.self.now c.is_right.new.self (Validate c.args.marking.now) (Err StalePixels) c.is_right.ensures.same
-    (is_refused _ c.args.windows.now c.args.self.now (Validate c.args.marking.now) StalePixels
-    (λ slots. inl (wrong_pixels _ c.args.windows.now c.requires.kept c.args.marking.now c.in-Ok.place.at found.0 (judged_set c.in-Ok.place.area) found.1 slots found.2 c.is_right.result c.is_right.ensures.right c.if-not-is_right.true)))
+    is_refused _ c.args.windows.now o (Validate c.args.marking.now) StalePixels
+    (λ slots. inl (wrong_pixels _ c.args.windows.now c.requires.kept c.args.marking.now c.in-Ok.place.at found.0 (judged_set c.in-Ok.place.area) found.1 slots found.2 c.is_right.result c.is_right.ensures.right c.if-not-is_right.true))
 
 pub returns-clause-step : goal.returns-clause-step
-returns-clause-step g c =
+returns-clause-step g c = λ o.
     let found = c.in-Ok.ensures in
-    other_map _ c.args.windows.now c.mark.new.windows c.args.self.now c.is_right.new.self (Validate c.args.marking.now) c.mark.result c.is_right.ensures.same
-    (is_marked _ c.args.windows.now c.requires.kept c.args.marking.now c.in-Ok.place.at found.0 c.mark.new.windows c.args.self.now Right
+    is_marked _ c.args.windows.now c.requires.kept c.args.marking.now c.in-Ok.place.at found.0 c.mark.new.windows o Right
     (λ slots. right_pixels _ c.args.windows.now c.requires.kept c.args.marking.now c.in-Ok.place.at found.0 (judged_set c.in-Ok.place.area) found.1 slots found.2 c.is_right.result c.is_right.ensures.right c.if-not-is_right.false)
-    (area_low _ c.args.windows.now c.requires.kept c.in-Ok.place.at found.0.0) c.mark.result c.mark.ensures)
+    (area_low _ c.args.windows.now c.requires.kept c.in-Ok.place.at found.0.0) c.mark.result c.mark.ensures
 
 pub returns-clause-whole : goal.returns-clause-whole
 returns-clause-whole g c =
-    let sides = sides_stay _ c.args.windows.now c.requires.kept c.args.marking.now c.in-Ok.place.at c.in-Ok.ensures.0 c.mark.new.windows c.args.self.now Right c.mark.result c.mark.ensures in
+    let sides = sides_stay _ c.args.windows.now c.requires.kept c.args.marking.now c.in-Ok.place.at c.in-Ok.ensures.0 c.mark.new.windows (opened Idle c.args.self.now) Right c.mark.result c.mark.ensures in
     record { width = c.is_right.ensures.whole.width ∙ sym sides.0; height = c.is_right.ensures.whole.height ∙ sym sides.1 }

@@ -1,23 +1,25 @@
--- A desk of which one window may be in an update, or its go-away box tracked.
+-- A desk at which something may be open between its begin and its end.
 use Rattle.std.specs.Prelude.{◌≡◌, ℕ, ◌==◌, Bool, false, if◌then◌else◌, Option, None, Some, List}
 use Rattle.tb_geom.specs.Points.{PixelSet}
-use Rattle.tb_geom.specs.Pixels.{holds}
 use Rattle.def_iface.specs.declared.taken.Taken.{Taken}
 use Rattle.def_iface.specs.Meaning.{Loan}
 use Rattle.def_iface.specs.Stocked.{SlotView}
 use Rattle.desk_call.specs.declared.activity.Activity.{Activity}
-use Rattle.desk_call.specs.declared.activity.Activity.TheVariants.{Idle, Updating, Tracking}
+use Rattle.desk_call.specs.declared.activity.Activity.TheVariants.{Updating}
 use Rattle.desk_call.specs.declared.window.WindowCall.{WindowCall}
 use Rattle.desk_call.specs.declared.window.WindowCall.TheVariants.{VisibleRegion, UpdateRegion}
 use Rattle.window_mgr.specs.declared.manager.WindowManager.{WindowManager}
 use Rattle.window_mgr.specs.FullDesk.{FullState}
 use Rattle.window_mgr.specs.Effects as windows
 use Rattle.window_mgr.specs.Records.{state_of}
-use Rattle.window_update.specs.declared.updates.OpenActivity.{OpenActivity}
-use Rattle.window_update.specs.declared.updates.OpenActivity.TheVariants.{Nothing, Update, GoAway}
-use Rattle.window_update.specs.declared.updates.Updates.{Updates}
+use Rattle.window_mgr.specs.Updating.{LeavesState}
 
--- the windows, what is open, and, while that is an update, what was to be redrawn when it began, as its window sees it
+-- what is open, and, while that is an update, what was to be redrawn when it began, as its window sees it
+pub record Opened : Type 0 where
+  pub activity : Activity
+  pub begun : PixelSet
+
+-- the windows, what is open, and what was to be redrawn when it began
 pub record DeskState : Type 0 where
   pub windows : FullState
   pub activity : Activity
@@ -46,27 +48,16 @@ narrowed (VisibleRegion s) activity begun = if is_updating s activity then Some 
 narrowed (UpdateRegion s) activity begun = if is_updating s activity then Some (λ p. false) else None
 narrowed _ activity begun = None
 
--- ---- what is kept of it
-
-abbrev pub activity_of : OpenActivity → Activity
-activity_of Nothing = Idle
-activity_of (Update o) = Updating o.window
-activity_of (GoAway w) = Tracking w
-
-abbrev pub begun_of : OpenActivity → PixelSet
-begun_of (Update o) p = holds o.begun p
-begun_of _ p = false
-
--- the map for comparing is as wide and high as the screen
-pub record IsWholeUpdates {V : Type 0} {H : V → Type 0} (t : WindowManager V H) (u : Updates) : Type 0 where
-  pub width : u.buffer.width ≡ t.screen.width
-  pub height : u.buffer.height ≡ t.screen.height
+-- windows at which this is open
+abbrev pub desk_with : Opened → FullState → DeskState
+desk_with o windows = record { windows = windows; activity = o.activity; begun = o.begun }
 
 -- `loan` says what a definition that was taken means
 module _ {V : Type 0} {H : V → Type 0} (loan : Taken V H → Loan) where
-  abbrev pub desk_state : WindowManager V H → Updates → List SlotView → DeskState
-  desk_state t u slots = record {
-    windows = state_of loan t slots;
-    activity = activity_of u.current;
-    begun = begun_of u.current;
-  }
+  abbrev pub desk_state : WindowManager V H → Opened → List SlotView → DeskState
+  desk_state t o slots = desk_with o (state_of loan t slots)
+
+  -- over any slots over which the window manager is whole it is whole afterwards, and what it is with what is open is such
+  -- a step of the desk
+  abbrev pub LeavesDesk : (DeskState → DeskState → Type 0) → WindowManager V H → Opened → WindowManager V H → Opened → Type 0
+  LeavesDesk step old before new after = LeavesState loan (λ s u. step (desk_with before s) (desk_with after u)) old new

@@ -1,8 +1,11 @@
+use Rattle.std.proofs.Common.{Ok, refl}
+use Rattle.desk_call.specs.declared.activity.Activity.TheVariants.{Idle}
+use Rattle.desk_call.specs.declared.window.WindowReply.TheVariants.{Done}
 use Rattle.window_update.proofs.ServeLemmas.{served, same_width, same_height}
-use Rattle.window_update.proofs.updates.Updates.serve.Goals as goal
+use Rattle.window_update.proofs.serving.serve.Goals as goal
 
 pub returns-clause-step : goal.returns-clause-step
-returns-clause-step g c = served _ c.args.windows.now c.requires.kept c.args.window c.in-Some.at c.in-Some.ensures c.refresh.new.self c.refresh.ensures c.args.self.now c.end.new.self c.end.result c.end.ensures.idle c.end.ensures.done
+returns-clause-step g c = λ begun. served _ c.args.windows.now c.requires.kept c.args.window c.in-Some.at c.in-Some.ensures c.refresh.new.self c.refresh.ensures (record { activity = c.args.activity.now; begun = begun }) (record { activity = Idle; begun = begun }) (Ok Done) refl refl
 
 pub returns-clause-width : goal.returns-clause-width
 returns-clause-width g c = same_width _ c.args.windows.now c.requires.kept c.args.window c.in-Some.at c.in-Some.ensures c.refresh.new.self c.refresh.ensures

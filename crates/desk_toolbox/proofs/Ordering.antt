@@ -1,0 +1,54 @@
+-- The reasons to refuse, and the written order.
+use Rattle.std.proofs.Common.{◌≡◌, ◌&&◌, ℕ, ◌≤◌, Bool, true, false, if◌then◌else◌, List, [], ◌∷◌, map, None, Some, refl, subst, arith}
+use Rattle.std.specs.Prelude.{All, nat_le}
+use Rattle.std.proofs.lemmas.Bool.{and_parts, le-leb, leb-true}
+use Rattle.std.proofs.lemmas.List.Elements.{All-nil, All-cons}
+use Rattle.tb_geom.specs.declared.refusal.Refusal.{Refusal}
+use Rattle.tb_geom.specs.Refusals.{first_refusal, in_order, is_before, place_in, refusal_order}
+use Rattle.desk_call.specs.declared.frame.FrameCall.{FrameCall}
+use Rattle.desk_call.specs.declared.frame.FrameCall.TheVariants.{SetTitle, Hilite, TrackGoAway, StepGoAway, EndGoAway}
+use Rattle.window_mgr.specs.FullDesk.{FullDesk}
+use Rattle.window_frame.specs.FrameRefusals.{frame_refusals}
+use Rattle.desk_toolbox.specs.Ordered.{AreInOrder}
+
+pub frame_reasons_in_order : (call : FrameCall) (desk : FullDesk) → AreInOrder (frame_refusals call desk)
+frame_reasons_in_order (SetTitle n) desk = refl
+frame_reasons_in_order (Hilite h) desk = refl
+frame_reasons_in_order (TrackGoAway g) desk = refl
+frame_reasons_in_order (StepGoAway p) desk = refl
+frame_reasons_in_order (EndGoAway p) desk = refl
+
+-- ---- what is told comes first
+
+before_itself : (e : Refusal) → is_before e e ≡ true
+before_itself e = le-leb (place_in refusal_order e) (place_in refusal_order e) (omega arith)
+
+before_both : (e f g : Refusal) → is_before e f ≡ true → is_before f g ≡ true → is_before e g ≡ true
+before_both e f g first next =
+    let low = leb-true (place_in refusal_order e) (place_in refusal_order f) first in
+    let high = leb-true (place_in refusal_order f) (place_in refusal_order g) next in
+    le-leb (place_in refusal_order e) (place_in refusal_order g) (omega arith)
+
+-- those after the first are in order too
+rest_in_order : (r : Bool × Refusal) (rs : List (Bool × Refusal)) → AreInOrder (r ∷ rs) → AreInOrder rs
+rest_in_order r [] ok = refl
+rest_in_order r (s ∷ rs) ok = (and_parts (is_before r.1 s.1) (in_order (s.1 ∷ map (λ x. x.1) rs)) ok).1
+
+-- what comes before the first of them comes before each
+before_each : (e : Refusal) (r : Bool × Refusal) (rs : List (Bool × Refusal)) → is_before e r.1 ≡ true → AreInOrder (r ∷ rs) → All (λ s. s.0 ≡ true → is_before e s.1 ≡ true) (r ∷ rs)
+before_each e r [] first ok = All-cons (λ s. s.0 ≡ true → is_before e s.1 ≡ true) r [] (λ holds. first) (All-nil (λ s. s.0 ≡ true → is_before e s.1 ≡ true))
+before_each e r (s ∷ rs) first ok =
+    let parts = and_parts (is_before r.1 s.1) (in_order (s.1 ∷ map (λ x. x.1) rs)) ok in
+    All-cons (λ s. s.0 ≡ true → is_before e s.1 ≡ true) r (s ∷ rs) (λ holds. first)
+    (before_each e s rs (before_both e r.1 s.1 first parts.0) parts.1)
+
+pub told_comes_first : (reasons : List (Bool × Refusal)) (e : Refusal) → AreInOrder reasons → first_refusal reasons ≡ Some e → All (λ r. r.0 ≡ true → is_before e r.1 ≡ true) reasons
+told_comes_first [] e ok is = All-nil (λ r. r.0 ≡ true → is_before e r.1 ≡ true)
+told_comes_first (r ∷ rs) e ok is = by_test r.0 refl is (told_comes_first rs e (rest_in_order r rs ok))
+  where
+    by_test : (b : Bool) → r.0 ≡ b → (if b then Some r.1 else first_refusal rs) ≡ Some e → (first_refusal rs ≡ Some e → All (λ r. r.0 ≡ true → is_before e r.1 ≡ true) rs) → All (λ r. r.0 ≡ true → is_before e r.1 ≡ true) (r ∷ rs)
+    by_test true holds told rest =
+        let same : r.1 ≡ e = cc in
+        before_each e r rs (subst (λ f. is_before f r.1 ≡ true) same (before_itself r.1)) ok
+    by_test false not_so told rest =
+        All-cons (λ r. r.0 ≡ true → is_before e r.1 ≡ true) r rs (λ holds. absurd (cc)) (rest told)
