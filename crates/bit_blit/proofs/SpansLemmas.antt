@@ -12,7 +12,7 @@ use Rattle.tb_geom.specs.Pixels.{Pixels, holds}
 use Rattle.tb_geom.specs.Rects.{rect_holds, IsBoxOf}
 use Rattle.bit_map.specs.Bits.{Bits}
 use Rattle.scan_region.specs.declared.spans.Span.{Span}
-use Rattle.scan_region.specs.Cuts.{cut_holds}
+use Rattle.scan_region.specs.Cuts.{cut_inside, cut_holds}
 use Rattle.scan_region.specs.Scan.{IsScanOf, Precedes, span_holds}
 use Rattle.bit_blit.specs.Draws.{Draws}
 use Rattle.bit_blit.proofs.DrawsLemmas.{Draws-more}
@@ -61,7 +61,7 @@ scan_step set before span rest after e scan =
     subst (λ spans. IsScanOf spans set) (ap (λ l. before ++ l) e ∙ sym (append_assoc before (span ∷ []) after)) scan
 
 -- a cut of one region alone leaves that region, and all of it lies in the box around it
-pub one-part : (r : Bor Pixels) (box : Rect) → IsBoxOf box (holds r.now) → (p : Point) → (rect_holds box p && cut_holds (record { inside = Some r ∷ None ∷ None ∷ []; outside = None }) p) ≡ holds r.now p
+pub one-part : (r : Bor Pixels) (box : Rect) → IsBoxOf box (holds r.now) → (p : Point) → (rect_holds box p && cut_holds (cut_inside r) p) ≡ holds r.now p
 unfolding cut_holds
 one-part r box around p = by_held (holds r.now p) (rect_holds box p) (around.holds p)
   where

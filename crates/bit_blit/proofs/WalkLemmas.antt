@@ -1,5 +1,5 @@
 -- The walk over a rectangle: rows of pixels, and rows after rows.
-use Rattle.std.proofs.Common.{◌≡◌, ℤ, pos, ◌+ℤ◌, ◌≤ℤ◌, ◌<ℤ◌, Bool, true, false, ◌&&◌, ◌||◌, refl, sym, ap, ◌∙◌, arith, SFits, w32}
+use Rattle.std.proofs.Common.{◌≡◌, ℤ, pos, ◌+ℤ◌, ◌≤ℤ◌, ◌<ℤ◌, Bool, true, false, ◌&&◌, ◌||◌, refl, sym, ap, ◌∙◌, arith}
 use Rattle.std.specs.Int.{int_min, int_max}
 use Rattle.std.proofs.lemmas.Int.{ints, clamps}
 use Rattle.tb_geom.specs.declared.point.Point.{Point}
@@ -9,10 +9,6 @@ use Rattle.tb_geom.specs.Rects.{between, rect_holds}
 use Rattle.bit_map.specs.Bits.{Bits, on_map, is_point}
 use Rattle.bit_blit.specs.Draws.{Draws, in_row}
 use Rattle.bit_blit.proofs.DrawsLemmas.{Draws-more}
-
--- a number below one that fits has a next one
-pub fits_next : (x limit : ℤ) → SFits w32 x → SFits w32 limit → x <ℤ limit → SFits w32 (x +ℤ pos 1)
-fits_next x limit p q l = search (arith, ints)
 
 -- one more pixel of a row
 pub in_row-more : (v left h : ℤ) (x : Point) → left ≤ℤ h → in_row v left (h +ℤ pos 1) x ≡ (is_point (record { h = h; v = v }) x || in_row v left h x)

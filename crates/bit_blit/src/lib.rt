@@ -5,7 +5,7 @@
 //! that the drawing has got its value and that every other bit of the map, and the map's size, stayed.
 //! Drawing goes from run to run, and a `Rule` makes the values of a run in one go: `draw_rect` takes the
 //! rows of a rectangle, and `draw_cut` the spans that a cut leaves of one, of which `draw_region` is the
-//! case of one region. `fill` puts a pattern down so, `copy` the bits of a `Source`, which is another map
+//! case of one region (`cut_inside`). `fill` puts a pattern down so, `copy` the bits of a `Source`, which is another map
 //! or a bit image, and `invert` turns each pixel.
 //!
 //! `shift` moves pixels within one map. It takes them in the order of a screen's scan, or against it
@@ -23,4 +23,4 @@ pub use copying::{Copied, Source, copy};
 pub use ink::{Ink, fill};
 pub use inverting::{Inverse, invert};
 pub use shifting::shift;
-pub use walk::{draw_cut, draw_rect, draw_region};
+pub use walk::{cut_inside, draw_cut, draw_rect, draw_region};

@@ -1,8 +1,8 @@
 //! The walk over the pixels of a rectangle, of a region and of what a cut leaves.
-ghost use Rattle.std.specs.Prelude.{◌&&◌};
+ghost use Rattle.std.specs.Prelude.{◌≡◌, ◌&&◌};
 ghost use Rattle.tb_geom.specs.Rects.{rect_holds};
 ghost use Rattle.tb_geom.specs.Pixels.{holds};
-ghost use Rattle.scan_region.specs.Cuts.{cut_holds};
+ghost use Rattle.scan_region.specs.Cuts.{cut_inside, cut_holds};
 ghost use Rattle.bit_blit.specs.Draws.{Draws, in_row};
 
 use bit_map::{BitMap, Rule};
@@ -20,15 +20,22 @@ pub fn draw_rect<R: Rule>(map: &mut BitMap, rect: Rect, rule: &R)
     }
 }
 
+/// The cut that leaves the pixels of one region.
+pub fn cut_inside<'a>(region: &'a Region) -> Cut<'a>
+    ensures { result ≡ cut_inside region.entry }
+{
+    Cut {
+        inside: [Some(region), None, None],
+        outside: None,
+    }
+}
+
 /// Gives each pixel of the region that the map holds the value of the rule. The region, in map
 /// coordinates, may be any. It takes no memory.
 pub fn draw_region<R: Rule>(map: &mut BitMap, region: &Region, rule: &R)
     ensures { Draws (holds region.now) (R.value rule.now) map.old map.new }
 {
-    let cut = Cut {
-        inside: [Some(region), None, None],
-        outside: None,
-    };
+    let cut = cut_inside(region);
     draw_cut(map, &cut, region.bbox(), rule);
 }
 

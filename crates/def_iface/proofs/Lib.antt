@@ -4,3 +4,4 @@ pub mod Owning
 pub mod Changing
 pub mod StockLemmas
 pub mod Hearing
+pub mod KeptLemmas

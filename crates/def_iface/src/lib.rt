@@ -38,16 +38,18 @@
 //! so soundly, keeps a right screen right, where right means that each pixel which waits for no update
 //! has the very value that painting from nothing would give it.
 //!
-//! Modules: `size` has the sizes of windows, `window_def` the trait, `stock` the slots, `taken` the
-//! definition out of its slot, and `laws` the two laws.
+//! Modules: `size` has the sizes of windows, `window_def` the trait, `keeping` what most definitions keep of what
+//! they are told, `stock` the slots, `taken` the definition out of its slot, and `laws` the two laws.
 #![tactic(auto)]
 
+mod keeping;
 pub mod laws;
 mod size;
 mod stock;
 mod taken;
 mod window_def;
 
+pub use keeping::Flags;
 pub use size::Size;
 pub use stock::{Returned, Stock, Stocked};
 pub use taken::{Defined, Taken};

@@ -3,7 +3,7 @@
 use crate::{EventCall, EventReply, FrameCall, FrameReply, UpdateCall, WindowCall, WindowReply};
 
 /// A call of the Toolbox, by what it is about. Titles, and the bytes of operations and regions, are borrowed, so that
-/// the value of a call owns no memory; making the call may take some.
+/// the value of a call owns no memory; performing the call may take some.
 #[derive(Drop)]
 pub enum Call<'a> {
     /// About windows: which there are, how they stand, and their pictures.

@@ -4,7 +4,7 @@ use op_ref::BytesRef;
 use tb_geom::Point;
 
 /// A call about the frame of a window: its title, its highlighting and its go-away box (*Inside Macintosh* I, "The Window
-/// Manager"). A window is named by its number, as in a `WindowCall`. None takes memory.
+/// Manager"). A window is named by its serial, as in a `WindowCall`. None takes memory.
 #[derive(Drop)]
 pub enum FrameCall<'a> {
     /// Gives a window another title (SetWTitle). TooLong where that has more than 255 bytes.

@@ -4,7 +4,7 @@ use op_ref::BytesRef;
 use tb_geom::Rect;
 
 /// A call about update regions (*Inside Macintosh* I, "The Window Manager", "Update Region Maintenance"). A window is named
-/// by its number, as in a `WindowCall`.
+/// by its serial, as in a `WindowCall`.
 #[derive(Drop)]
 pub enum UpdateCall<'a> {
     /// Puts what lies in an area of a window's visible content into its update region (InvalRect,

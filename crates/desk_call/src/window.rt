@@ -7,7 +7,7 @@ use std::alloc::{AllocError, Global};
 use std::marker::Model;
 use tb_geom::Point;
 
-/// A call of the Window Manager. A window is named by its number; no window has the number 0, and
+/// A call of the Window Manager. A window is named by its serial: no window has the serial 0, none is used again, and
 /// one that is not there is NoSuchWindow. Texts and the bytes of operations are borrowed, so that a call
 /// takes no memory.
 #[derive(Drop)]
@@ -152,7 +152,7 @@ pub struct NewWindow<'a> {
 /// What is to be drawn in a window.
 #[derive(Drop)]
 pub struct Drawing<'a> {
-    /// The number of the window. No window has the number 0.
+    /// The window's serial. No window has the serial 0.
     pub window: u64,
     /// In the coordinates of the window's picture.
     pub operation: OpRef<'a>,
@@ -161,7 +161,7 @@ pub struct Drawing<'a> {
 /// A picture that a window is to have.
 #[derive(Drop)]
 pub struct NewPicture<'a> {
-    /// The number of the window.
+    /// The window's serial.
     pub window: u64,
     pub picture: PictureRef<'a>,
     /// Where the picture's 0 0 is to lie in the window.
@@ -221,7 +221,7 @@ impl<'a> PictureRef<'a> {
 /// A picture that is to be moved in its window.
 #[derive(Clone, Copy, PartialEq, Eq)]
 pub struct ScrollPicture {
-    /// The number of the window.
+    /// The window's serial.
     pub window: u64,
     /// How far the picture's origin moves.
     pub by: Point,
@@ -281,11 +281,11 @@ pub struct WindowInfo {
 pub enum WindowReply {
     /// Nothing more than that it was done.
     Done,
-    /// The number of a new window, from 1.
+    /// The serial of a new window, from 1.
     Made(u64),
     /// Whose a point is.
     Found(Found),
-    /// The number of the first visible window, if there is one.
+    /// The serial of the first visible window, if there is one.
     Front(Option<u64>),
     /// Where a window stands, and how.
     Info(WindowInfo),

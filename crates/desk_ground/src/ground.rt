@@ -9,6 +9,12 @@ use scan_region::Region;
 use std::alloc::Global;
 use tb_geom::{Point, Rect, Refusal};
 
+/// The fewest columns that a screen may have, and the fewest rows.
+const SHORTEST_SIDE: i32 = 8;
+
+/// The most columns that a screen may have, and the most rows.
+const LONGEST_SIDE: i32 = 1024;
+
 /// A screen without windows.
 #[derive(Drop)]
 pub struct Ground {
@@ -59,7 +65,7 @@ pub fn is_screen(width: i32, height: i32, bar: i32) -> bool
 fn is_screen_side(side: i32) -> bool
     ensures { result ≡ screens.is_screen_side side }
 {
-    8 <= side && side <= 1024
+    SHORTEST_SIDE <= side && side <= LONGEST_SIDE
 }
 
 /// Whether a menu bar may have so many rows.

@@ -9,7 +9,7 @@ use desk_toolbox::{
     WindowPart, WindowReply,
 };
 use draw_port::{Op, Picture, Shade, Shape};
-use ground_tests::pixels::picture;
+use geometry_tests::pixels::picture;
 use op_ref::BytesRef;
 use scratch_paint::paint;
 use std::alloc::Global;

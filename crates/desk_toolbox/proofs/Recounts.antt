@@ -8,7 +8,7 @@ use Rattle.desk_call.specs.declared.window.NewWindow.{NewWindow}
 use Rattle.desk_call.specs.declared.window.WindowCall.{WindowCall}
 use Rattle.desk_call.specs.declared.window.WindowCall.TheVariants as asks
 use Rattle.desk_call.specs.declared.window.WindowReply.{WindowReply}
-use Rattle.window_list.specs.Lists.{number_after}
+use Rattle.window_list.specs.Lists.{serial_after}
 use Rattle.vis_update.specs.Records.{WindowRecord}
 use Rattle.vis_update.specs.Touches.{is_this}
 use Rattle.window_mgr.specs.declared.arrange.Activates.{Activates}
@@ -29,8 +29,8 @@ pub record IsKept (before after : FullDesk) : Type 0 where
 
 -- there is one window more, of the next number
 pub record IsAdded (number : ℕ) (before after : FullDesk) : Type 0 where
-  pub numbered : before.next ≡ Some number
-  pub next : after.next ≡ number_after number
+  pub serials : before.next ≡ Some number
+  pub next : after.next ≡ serial_after number
   pub all : (g : Weight) → total g after.windows ≡ g number false + total g before.windows
 
 -- the window of this serial was there, and is not any more
@@ -70,7 +70,7 @@ serial_found s w (v ∷ vs) found = by_this (v.serial == s) refl found (serial_f
 
 made_counts : (w : NewWindow) (n : ℕ) (before after : FullState) → IsNewWindow w n before after → IsAdded n before.desk after.desk
 made_counts w n before after new = record {
-  numbered = new.numbered;
+  serials = new.serials;
   next = ap (λ (d : FullDesk). d.next) new.desk;
   all = λ g. ap (λ (d : FullDesk). total g d.windows) new.desk ∙ ap (λ k. g n false + k) (by_shown g w.shown);
 }

@@ -35,7 +35,7 @@ use Rattle.window_frame.specs.FrameSteps.{IsFrameStep}
 use Rattle.window_frame.proofs.FrameKeeps.{caught_up_keeps, frame_keeps}
 use Rattle.window_frame.proofs.FrameLaws.{caught_up_stays_right, frame_stays_right}
 use Rattle.desk_toolbox.specs.ToolboxStates.{ToolboxState}
-use Rattle.desk_toolbox.specs.Run.{IsWindowAnswer, IsWindowMade, IsEventAnswer, IsAdmitted, replied, IsGated, IsStep, IsRunOfCalls, number_made, made, AreCounted}
+use Rattle.desk_toolbox.specs.Run.{IsWindowAnswer, IsWindowMade, IsEventAnswer, IsAdmitted, replied, IsGated, IsStep, IsRunOfCalls, serial_made, made, AreCounted}
 use Rattle.window_update.proofs.ServedLaws.{all_served_is_right}
 use Rattle.window_update.proofs.UpdateLaws.{update_stays_right}
 use Rattle.desk_toolbox.proofs.EachManager.{HoldsOfEach, of_admitted, of_step}
@@ -146,7 +146,7 @@ IsNumberless (Scrolls m) = Unit {0}
 IsNumberless (Arranges a) = Unit {0}
 IsNumberless (Disposes s) = Unit {0}
 IsNumberless (Places p) = Unit {0}
-IsNumberless (Tells r) = number_made r ≡ []
+IsNumberless (Tells r) = serial_made r ≡ []
 IsNumberless (Describes region) = Unit {0}
 
 -- nor what a call answers that puts a window nowhere
@@ -175,12 +175,12 @@ numberless (asks.Find p) desk = refl
 numberless asks.Front desk = refl
 numberless (asks.Info s) desk = by_window (record_with s desk.windows)
   where
-    by_window : (o : Option WindowRecord) → number_made (info_of o) ≡ []
+    by_window : (o : Option WindowRecord) → serial_made (info_of o) ≡ []
     by_window None = refl
     by_window (Some w) = refl
 
 -- nor is a region
-region_is_numberless : (set : PixelSet) (answer : WindowReply) → IsRegionTold set answer → number_made answer ≡ []
+region_is_numberless : (set : PixelSet) (answer : WindowReply) → IsRegionTold set answer → serial_made answer ≡ []
 region_is_numberless set (Region bytes) told = refl
 region_is_numberless set (Made n) told = absurd told
 region_is_numberless set Done told = refl
@@ -189,25 +189,25 @@ region_is_numberless set (Front front) told = refl
 region_is_numberless set (Info info) told = refl
 
 -- the numbers that follow an effect, with its own in front if it gave one
-effect_is_counted : (effect : Effect) (answer : WindowReply) (before after : FullState) (numbers : List ℕ) → IsNumberless effect → IsEffect effect answer before after → AreCounted after.desk.next numbers → AreCounted before.desk.next (number_made answer ++ numbers)
+effect_is_counted : (effect : Effect) (answer : WindowReply) (before after : FullState) (numbers : List ℕ) → IsNumberless effect → IsEffect effect answer before after → AreCounted after.desk.next numbers → AreCounted before.desk.next (serial_made answer ++ numbers)
 effect_is_counted (Makes w) answer before after numbers none (n, is, new) h =
-    subst (λ (a : WindowReply). AreCounted before.desk.next (number_made a ++ numbers)) (sym is) (new.numbered, subst (λ (d : FullDesk). AreCounted d.next numbers) new.desk h)
+    subst (λ (a : WindowReply). AreCounted before.desk.next (serial_made a ++ numbers)) (sym is) (new.serials, subst (λ (d : FullDesk). AreCounted d.next numbers) new.desk h)
 effect_is_counted (Draws d) answer before after numbers none (is, drawn) h =
-    subst (λ (a : WindowReply). AreCounted before.desk.next (number_made a ++ numbers)) (sym is) (subst (λ (d : FullDesk). AreCounted d.next numbers) drawn.desk h)
+    subst (λ (a : WindowReply). AreCounted before.desk.next (serial_made a ++ numbers)) (sym is) (subst (λ (d : FullDesk). AreCounted d.next numbers) drawn.desk h)
 effect_is_counted (Pictures n) answer before after numbers none (is, placed) h =
-    subst (λ (a : WindowReply). AreCounted before.desk.next (number_made a ++ numbers)) (sym is) (subst (λ (d : FullDesk). AreCounted d.next numbers) placed.desk h)
+    subst (λ (a : WindowReply). AreCounted before.desk.next (serial_made a ++ numbers)) (sym is) (subst (λ (d : FullDesk). AreCounted d.next numbers) placed.desk h)
 effect_is_counted (Scrolls m) answer before after numbers none (is, scrolled) h =
-    subst (λ (a : WindowReply). AreCounted before.desk.next (number_made a ++ numbers)) (sym is) (subst (λ (d : FullDesk). AreCounted d.next numbers) scrolled.desk h)
+    subst (λ (a : WindowReply). AreCounted before.desk.next (serial_made a ++ numbers)) (sym is) (subst (λ (d : FullDesk). AreCounted d.next numbers) scrolled.desk h)
 effect_is_counted (Arranges a) answer before after numbers none (is, arranged) h =
-    subst (λ (a : WindowReply). AreCounted before.desk.next (number_made a ++ numbers)) (sym is) (subst (λ (d : FullDesk). AreCounted d.next numbers) arranged.desk h)
+    subst (λ (a : WindowReply). AreCounted before.desk.next (serial_made a ++ numbers)) (sym is) (subst (λ (d : FullDesk). AreCounted d.next numbers) arranged.desk h)
 effect_is_counted (Disposes s) answer before after numbers none (is, closed) h =
-    subst (λ (a : WindowReply). AreCounted before.desk.next (number_made a ++ numbers)) (sym is) (subst (λ (d : FullDesk). AreCounted d.next numbers) closed.desk h)
+    subst (λ (a : WindowReply). AreCounted before.desk.next (serial_made a ++ numbers)) (sym is) (subst (λ (d : FullDesk). AreCounted d.next numbers) closed.desk h)
 effect_is_counted (Places p) answer before after numbers none (is, change) h =
-    subst (λ (a : WindowReply). AreCounted before.desk.next (number_made a ++ numbers)) (sym is) (subst (λ (d : FullDesk). AreCounted d.next numbers) change.arranged.desk h)
+    subst (λ (a : WindowReply). AreCounted before.desk.next (serial_made a ++ numbers)) (sym is) (subst (λ (d : FullDesk). AreCounted d.next numbers) change.arranged.desk h)
 effect_is_counted (Describes region) answer before after numbers none (told, same) h =
     subst (λ (ns : List ℕ). AreCounted before.desk.next (ns ++ numbers)) (sym (region_is_numberless (region before) answer told)) (counted_on before after numbers same h)
 effect_is_counted (Tells r) answer before after numbers none (is, same) h =
-    subst (λ (ns : List ℕ). AreCounted before.desk.next (ns ++ numbers)) (sym (ap number_made is ∙ none)) (counted_on before after numbers same h)
+    subst (λ (ns : List ℕ). AreCounted before.desk.next (ns ++ numbers)) (sym (ap serial_made is ∙ none)) (counted_on before after numbers same h)
 
 -- what follows a desk that did not change
 same_counted : (before after : FullState) (numbers more : List ℕ) → more ≡ [] → after.desk ≡ before.desk → AreCounted after.desk.next numbers → AreCounted before.desk.next (more ++ numbers)
@@ -216,7 +216,7 @@ same_counted before after numbers more none same h =
 
 -- the numbers of the windows that a call made
 abbrev numbers_of : Result WindowReply Refusal → List ℕ
-numbers_of (Ok answer) = number_made answer
+numbers_of (Ok answer) = serial_made answer
 numbers_of (Err e) = []
 
 told_is_numberless : (set : PixelSet) (answer : Result WindowReply Refusal) → IsToldOf set answer → numbers_of answer ≡ []
@@ -232,7 +232,7 @@ answer_is_counted (Some set) call answer before after numbers step h =
 
 -- the numbers of the windows that any call made
 abbrev made_by : Result Reply Refusal → List ℕ
-made_by (Ok (reply.Window answer)) = number_made answer
+made_by (Ok (reply.Window answer)) = serial_made answer
 made_by (Ok (reply.Frame answer)) = []
 made_by (Ok (reply.Event answer)) = []
 made_by (Err e) = []
@@ -249,7 +249,7 @@ window_is_counted call (Err e) before after numbers step h = answer_is_counted (
 
 update_is_counted : (call : UpdateCall) (answer : Result WindowReply Refusal) (before after : DeskState) (numbers : List ℕ) → IsUpdateStep call answer before after → AreCounted after.windows.desk.next numbers → AreCounted before.windows.desk.next (made_by (replied reply.Window answer) ++ numbers)
 update_is_counted call (Ok answer) before after numbers step h =
-    same_counted before.windows after.windows numbers (number_made answer) (ap number_made step.1.0) (update_keeps_desk call (Ok answer) before after step) h
+    same_counted before.windows after.windows numbers (serial_made answer) (ap serial_made step.1.0) (update_keeps_desk call (Ok answer) before after step) h
 update_is_counted call (Err e) before after numbers step h = counted_on before.windows after.windows numbers step.1.windows h
 
 frame_is_counted : (call : FrameCall) (answer : Result FrameReply Refusal) (before after : DeskState) (numbers : List ℕ) → IsFrameStep call answer before after → AreCounted after.windows.desk.next numbers → AreCounted before.windows.desk.next (made_by (replied reply.Frame answer) ++ numbers)

@@ -19,7 +19,7 @@ use Rattle.desk_call.specs.declared.window.WindowReply.{WindowReply}
 use Rattle.desk_call.specs.Gates.{gate, update_standing, frame_standing}
 use Rattle.vis_update.specs.Records.{WindowRecord}
 use Rattle.window_mgr.specs.Arrange.{changed}
-use Rattle.window_mgr.specs.FrameTelling.{IsFrameTold}
+use Rattle.window_mgr.specs.FrameNotices.{IsFrameNotified}
 use Rattle.window_mgr.specs.FullDesk.{FullDesk, FullState, IsRightState}
 use Rattle.tb_geom.specs.Refusals.{first_refusal}
 use Rattle.window_mgr.specs.Refused.{is_missing}
@@ -29,7 +29,7 @@ use Rattle.window_update.specs.UpdateSteps.{IsUpdateStep, IsUpdateEffect}
 use Rattle.window_frame.specs.Followers.{Knows, AreInformed}
 use Rattle.window_frame.specs.Followers.Flag.{Highlighting, Zooming}
 use Rattle.window_frame.specs.FrameRefusals.{frame_refusals}
-use Rattle.window_frame.specs.FrameSteps.{IsFrameStep, IsFrameEffect, IsBegunAt, IsTrackingTold, with_flag, with_title, with_tracked}
+use Rattle.window_frame.specs.FrameSteps.{IsFrameStep, IsFrameEffect, IsBegunAt, IsTrackingNotified, with_flag, with_title, with_tracked}
 use Rattle.window_frame.proofs.FrameKeeps.{frame_keeps}
 use Rattle.desk_toolbox.specs.declared.events.Events.{Events}
 use Rattle.desk_toolbox.specs.Reached.{open_window}
@@ -105,12 +105,12 @@ all_changed P s f keeps (w ∷ ws) h = by_this (w.serial == s) (all_changed P s 
 abbrev IsInformedOf : WindowRecord → Type 0
 IsInformedOf w = Knows Highlighting w × Knows Zooming w
 
-told_informs : (s : ℕ) (news : WindowRecord → News → News) (kept : WindowRecord → WindowRecord) → ((w : WindowRecord) → IsInformedOf w → IsInformedOf (kept w)) → (before after : FullState) → IsFrameTold s news kept before after → AreInformed before.desk.windows → AreInformed after.desk.windows
+told_informs : (s : ℕ) (news : WindowRecord → News → News) (kept : WindowRecord → WindowRecord) → ((w : WindowRecord) → IsInformedOf w → IsInformedOf (kept w)) → (before after : FullState) → IsFrameNotified s news kept before after → AreInformed before.desk.windows → AreInformed after.desk.windows
 told_informs s news kept keeps before after told was =
     subst (λ (d : FullDesk). AreInformed d.windows) (sym told.desk)
     (all_changed IsInformedOf s (λ w. record (kept w) { definition = told.definition }) keeps before.desk.windows was)
 
-tracking_informs : (inside : Bool) (s : ℕ) (before after : FullState) → IsTrackingTold inside s before after → AreInformed before.desk.windows → AreInformed after.desk.windows
+tracking_informs : (inside : Bool) (s : ℕ) (before after : FullState) → IsTrackingNotified inside s before after → AreInformed before.desk.windows → AreInformed after.desk.windows
 tracking_informs inside s before after (inl (missing, same)) was = subst (λ (x : FullState). AreInformed x.desk.windows) (sym same) was
 tracking_informs inside s before after (inr told) was = told_informs s (λ _. told_tracked inside) (with_tracked inside) (λ w h. h) before after told was
 

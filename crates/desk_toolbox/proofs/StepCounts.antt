@@ -15,20 +15,20 @@ use Rattle.desk_call.specs.declared.window.WindowCall.{WindowCall}
 use Rattle.desk_call.specs.declared.window.WindowCall.TheVariants as asks
 use Rattle.desk_call.specs.declared.window.WindowReply.{WindowReply}
 use Rattle.desk_call.specs.Gates.{window_standing}
-use Rattle.window_list.specs.Lists.{number_after}
+use Rattle.window_list.specs.Lists.{serial_after}
 use Rattle.vis_update.specs.Records.{WindowRecord}
 use Rattle.vis_update.specs.Touches.{is_this}
 use Rattle.window_mgr.specs.Effects.{effect_of, places}
 use Rattle.window_mgr.specs.Finding.{record_with}
-use Rattle.window_mgr.specs.FrameTelling.{IsFrameTold}
+use Rattle.window_mgr.specs.FrameNotices.{IsFrameNotified}
 use Rattle.window_mgr.specs.FullDesk.{FullDesk, FullState, IsGiven, IsRightState}
 use Rattle.window_mgr.specs.Placings.{Placing, sized, zoomed}
 use Rattle.window_mgr.specs.Refused.{is_missing}
 use Rattle.window_mgr.specs.DeskStates.{DeskState, narrowed}
-use Rattle.window_frame.specs.Followers.{Flag, Telling, AreTold, IsCaughtUpBy, told_flag, with_heard}
+use Rattle.window_frame.specs.Followers.{Flag, Telling, AreNotified, IsCaughtUpBy, told_flag, with_heard}
 use Rattle.window_frame.specs.Followers.Flag.{Highlighting, Zooming}
 use Rattle.window_frame.proofs.FrameKeeps.{caught_up_keeps}
-use Rattle.window_frame.specs.FrameSteps.{IsFrameStep, IsFrameEffect, IsBegunAt, IsTrackingTold, with_flag, with_title, with_tracked}
+use Rattle.window_frame.specs.FrameSteps.{IsFrameStep, IsFrameEffect, IsBegunAt, IsTrackingNotified, with_flag, with_title, with_tracked}
 use Rattle.desk_toolbox.specs.Activations.{to_dispose}
 use Rattle.desk_toolbox.specs.Run.{IsWindowAnswer}
 use Rattle.desk_toolbox.proofs.Totals.{Weight, weight_of, total, counting, copies, Present, total_changed, present_when, found_counts, distinct_counts, serial_of_counted}
@@ -41,8 +41,8 @@ pub record HasSame (before after : FullDesk) : Type 0 where
 
 -- there is one more, of the next number
 pub record HasMore (n : ℕ) (before after : FullDesk) : Type 0 where
-  pub numbered : before.next ≡ Some n
-  pub next : after.next ≡ number_after n
+  pub serials : before.next ≡ Some n
+  pub next : after.next ≡ serial_after n
   pub count : (s : ℕ) → copies s after.windows ≡ (if n == s then 1 else 0) + copies s before.windows
 
 -- there is one less, which was of this number
@@ -64,13 +64,13 @@ same_and_same a b c first rest = record { next = rest.next ∙ first.next; count
 
 recount_and_same : (o : Option ℕ) (a b c : FullDesk) → Recount o a b → HasSame b c → Recount o a c
 recount_and_same None a b c (inl first) rest = inl (same_and_same a b c first rest)
-recount_and_same None a b c (inr (n, first)) rest = inr (n, record { numbered = first.numbered; next = rest.next ∙ first.next; count = λ s. rest.count s ∙ first.count s })
+recount_and_same None a b c (inr (n, first)) rest = inr (n, record { serials = first.serials; next = rest.next ∙ first.next; count = λ s. rest.count s ∙ first.count s })
 recount_and_same (Some d) a b c first rest = record { found = first.found; next = rest.next ∙ first.next; count = λ s. let f = first.count s in let r = rest.count s in cc }
 
 -- ---- definitions that are told
 
 module _ (g : Weight) where
-  pub told_total : (s : ℕ) (news : WindowRecord → News → News) (kept : WindowRecord → WindowRecord) → ((w : WindowRecord) → w.serial ≡ s → weight_of g (kept w) ≡ weight_of g w) → (before after : FullState) → IsFrameTold s news kept before after → total g after.desk.windows ≡ total g before.desk.windows
+  pub told_total : (s : ℕ) (news : WindowRecord → News → News) (kept : WindowRecord → WindowRecord) → ((w : WindowRecord) → w.serial ≡ s → weight_of g (kept w) ≡ weight_of g w) → (before after : FullState) → IsFrameNotified s news kept before after → total g after.desk.windows ≡ total g before.desk.windows
   told_total s news kept same before after told =
       ap (λ (d : FullDesk). total g d.windows) told.desk ∙ total_changed g s (λ w. record (kept w) { definition = told.definition }) same before.desk.windows
 
@@ -78,7 +78,7 @@ module _ (g : Weight) where
   heard_weight Highlighting w = refl
   heard_weight Zooming w = refl
 
-  are_told_total : (ss : List Telling) (before after : FullState) → AreTold ss before after → total g after.desk.windows ≡ total g before.desk.windows
+  are_told_total : (ss : List Telling) (before after : FullState) → AreNotified ss before after → total g after.desk.windows ≡ total g before.desk.windows
   are_told_total [] before after same = ap (λ (s : FullState). total g s.desk.windows) same
   are_told_total (s ∷ ss) before after (middle, one, rest) =
       are_told_total ss middle after rest ∙ told_total s.window (told_flag s.flag) (with_heard s.flag) (λ w its. heard_weight s.flag w) before middle one.told
@@ -95,7 +95,7 @@ caught_up_counts standing before after told = record {
   count = λ s. caught_up_total (counting s) standing before after told;
 }
 
-told_counts : (s : ℕ) (news : WindowRecord → News → News) (kept : WindowRecord → WindowRecord) → ((w : WindowRecord) → (kept w).serial ≡ w.serial) → (before after : FullState) → IsFrameTold s news kept before after → HasSame before.desk after.desk
+told_counts : (s : ℕ) (news : WindowRecord → News → News) (kept : WindowRecord → WindowRecord) → ((w : WindowRecord) → (kept w).serial ≡ w.serial) → (before after : FullState) → IsFrameNotified s news kept before after → HasSame before.desk after.desk
 told_counts s news kept same before after told = record {
   next = ap (λ (d : FullDesk). d.next) told.desk;
   count = λ x. told_total (counting x) s news kept (λ w its. ap (λ n. if n == x then 1 else 0) (same w)) before after told;
@@ -103,7 +103,7 @@ told_counts s news kept same before after told = record {
 
 -- ---- calls about frames
 
-tracking_counts : (inside : Bool) (s : ℕ) (before after : FullState) → IsTrackingTold inside s before after → HasSame before.desk after.desk
+tracking_counts : (inside : Bool) (s : ℕ) (before after : FullState) → IsTrackingNotified inside s before after → HasSame before.desk after.desk
 tracking_counts inside s before after (inl (missing, same)) = same_desk before.desk after.desk (ap (λ (x : FullState). x.desk) same)
 tracking_counts inside s before after (inr told) = told_counts s (λ _. told_tracked inside) (with_tracked inside) (λ w. refl) before after told
 
@@ -137,7 +137,7 @@ placed_recounts None before after kept = kept_is_same before after kept
 placed_recounts (Some p) before after kept = kept_is_same before after kept
 
 call_recounts : (call : WindowCall) (desk before after : FullDesk) → Counts (effect_of call desk) before after → Recount (to_dispose call) before after
-call_recounts (asks.New w) desk before after (n, added) = inr (n, record { numbered = added.numbered; next = added.next; count = λ s. added.all (counting s) })
+call_recounts (asks.New w) desk before after (n, added) = inr (n, record { serials = added.serials; next = added.next; count = λ s. added.all (counting s) })
 call_recounts (asks.Dispose s) desk before after removed = record { found = removed.found; next = removed.next; count = λ x. removed.all (counting x) }
 call_recounts (asks.Size z) desk before after kept = placed_recounts (sized z (record_with z.window desk.windows)) before after kept
 call_recounts (asks.Zoom z) desk before after kept = placed_recounts (zoomed z (record_with z.window desk.windows) desk) before after kept
@@ -188,7 +188,7 @@ given_after n w false given = given.0
 pub gone_stays : (o : Option ℕ) (w : ℕ) (before after : FullDesk) → Recount o before after → IsGone w before → IsGone w after
 gone_stays None w before after (inl same) gone = record { none = same.count w ∙ gone.none; given = subst (λ o. IsGiven o w) (sym same.next) gone.given }
 gone_stays None w before after (inr (n, more)) gone =
-    let given : IsGiven (Some n) w = subst (λ o. IsGiven o w) more.numbered gone.given in
+    let given : IsGiven (Some n) w = subst (λ o. IsGiven o w) more.serials gone.given in
     record {
       none = let below = given.1 in let was = gone.none in let count = more.count w in grind (arith, nat_tests);
       given = subst (λ o. IsGiven o w) (sym more.next) (given_after n w (nat_lt (n + 1) (2 ^ 64)) given);
@@ -206,7 +206,7 @@ disposed_is_gone d before after right less = record {
       let itself : (d == d) ≡ true = grind (arith, nat_tests) in
       let is : copies d before.desk.windows ≡ 1 + copies d after.desk.windows = subst (λ (b : Bool). copies d before.desk.windows ≡ (if b then 1 else 0) + copies d after.desk.windows) itself all in
       omega arith;
-  given = subst (λ o. IsGiven o d) (sym less.next) (serial_of_counted (IsGiven before.desk.next) d before.desk.windows right.numbered.1 (found_counts d before.desk.windows less.found));
+  given = subst (λ o. IsGiven o d) (sym less.next) (serial_of_counted (IsGiven before.desk.next) d before.desk.windows right.serials.1 (found_counts d before.desk.windows less.found));
 }
 
 -- a window that is present is not gone

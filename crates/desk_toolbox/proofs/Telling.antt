@@ -8,8 +8,8 @@ use Rattle.tb_geom.specs.declared.refusal.Refusal.TheVariants.{OutOfRange}
 use Rattle.event_queue.specs.declared.event.Event.{Event}
 use Rattle.event_queue.specs.declared.event.EventKind.{EventKind}
 use Rattle.event_queue.specs.declared.event.EventKind.TheVariants as kind
-use Rattle.event_queue.specs.Events.{is_posted, selects, selected, activation, deactivation, update_event}
-use Rattle.event_queue.specs.History.{Step, Tells, listed, telling}
+use Rattle.event_queue.specs.Events.{is_posted, selects, is_selected, activation, deactivation, update_event}
+use Rattle.event_queue.specs.History.{Step, Tells, event_list, telling}
 use Rattle.event_queue.specs.Queues.{posted, update_events, event_or_null, next_event, told_after}
 use Rattle.event_queue.specs.Telling.{activate_events, first_event, told_from, forgotten}
 use Rattle.desk_call.specs.declared.call.Call.{Call}
@@ -54,7 +54,7 @@ after_telling_present mask (Some t) (Some a) ws was is = by_same (nat_eq t a)
     by_selected true = tt
     by_selected false = was
 
-    by_same : (b : Bool) → Present (told_from (Some t) (find (selected mask) (if b then [] else deactivation t ∷ activation a ∷ []))) ws
+    by_same : (b : Bool) → Present (told_from (Some t) (find (is_selected mask) (if b then [] else deactivation t ∷ activation a ∷ []))) ws
     by_same true = was
     by_same false = by_selected (selects mask kind.Activate)
 
@@ -63,7 +63,7 @@ by_word_told (Ok m) before step ws h each = each m
 by_word_told (Err e) before step ws h each = h
 
 abbrev posting_if : Bool → Event → Events → EventStep
-posting_if b e before = if b then (Ok (Posted (selected before.queue.system_mask e)), with_queued (posted before.queue.system_mask before.queue.events e) before) else (Err OutOfRange, before)
+posting_if b e before = if b then (Ok (Posted (is_selected before.queue.system_mask e)), with_queued (posted before.queue.system_mask before.queue.events e) before) else (Err OutOfRange, before)
 
 posting_told : (o : Option Event) (before : Events) → (posting o before).1.told ≡ before.told
 posting_told None before = refl
@@ -130,33 +130,33 @@ queued_is_no_activate test update (e ∷ events) h = by_test (test e) (queued_is
 
 -- what is told from a window told active and an active one, where these wait
 abbrev by_waiting : ℕ → ℕ → List Step → List Event → Bool → List Event
-by_waiting t a rest es b = if b then listed (first_event es) ++ telling (told_from (Some t) (first_event es)) (Some a) rest else telling (Some t) (Some a) rest
+by_waiting t a rest es b = if b then event_list (first_event es) ++ telling (told_from (Some t) (first_event es)) (Some a) rest else telling (Some t) (Some a) rest
 
 -- a step of the queue's history, where the mask selects activate events
 abbrev pub told_if : Bool → List Step → List Step
 told_if b rest = if b then Tells ∷ rest else rest
 
 module _ (mask : ℕ) (update : Option ℕ) (events : List Event) (posted : ArePosted events) (rest : List Step) where
-  none_told : if_activate (event_or_null (find (selected mask) (events ++ update_events update))) ≡ []
-  none_told = queued_is_no_activate (selected mask) update events posted
+  none_told : if_activate (event_or_null (find (is_selected mask) (events ++ update_events update))) ≡ []
+  none_told = queued_is_no_activate (is_selected mask) update events posted
 
-  then_rest : (told active : Option ℕ) → telling told active rest ≡ if_activate (event_or_null (find (selected mask) (events ++ update_events update))) ++ telling told active rest
+  then_rest : (told active : Option ℕ) → telling told active rest ≡ if_activate (event_or_null (find (is_selected mask) (events ++ update_events update))) ++ telling told active rest
   then_rest told active = sym (ap (λ (es : List Event). es ++ telling told active rest) none_told)
 
   pub next_tells : (told active : Option ℕ) → telling told active (told_if (selects mask kind.Activate) rest) ≡ if_activate (next_event mask told active events update) ++ telling (told_after mask told active) active rest
   next_tells None None = by_selected (selects mask kind.Activate)
     where
-      by_selected : (b : Bool) → telling None None (told_if b rest) ≡ if_activate (event_or_null (find (selected mask) (events ++ update_events update))) ++ telling None None rest
+      by_selected : (b : Bool) → telling None None (told_if b rest) ≡ if_activate (event_or_null (find (is_selected mask) (events ++ update_events update))) ++ telling None None rest
       by_selected true = then_rest None None
       by_selected false = then_rest None None
   next_tells None (Some a) = by_selected (selects mask kind.Activate)
     where
-      by_selected : (b : Bool) → telling None (Some a) (told_if b rest) ≡ if_activate (event_or_null (if b then Some (activation a) else find (selected mask) (events ++ update_events update))) ++ telling (told_from None (if b then Some (activation a) else None)) (Some a) rest
+      by_selected : (b : Bool) → telling None (Some a) (told_if b rest) ≡ if_activate (event_or_null (if b then Some (activation a) else find (is_selected mask) (events ++ update_events update))) ++ telling (told_from None (if b then Some (activation a) else None)) (Some a) rest
       by_selected true = refl
       by_selected false = then_rest None (Some a)
   next_tells (Some t) None = by_selected (selects mask kind.Activate)
     where
-      by_selected : (b : Bool) → telling (Some t) None (told_if b rest) ≡ if_activate (event_or_null (if b then Some (deactivation t) else find (selected mask) (events ++ update_events update))) ++ telling (told_from (Some t) (if b then Some (deactivation t) else None)) None rest
+      by_selected : (b : Bool) → telling (Some t) None (told_if b rest) ≡ if_activate (event_or_null (if b then Some (deactivation t) else find (is_selected mask) (events ++ update_events update))) ++ telling (told_from (Some t) (if b then Some (deactivation t) else None)) None rest
       by_selected true = refl
       by_selected false = then_rest (Some t) None
   next_tells (Some t) (Some a) = first_step (selects mask kind.Activate) ∙ by_same (nat_eq t a)
@@ -165,15 +165,15 @@ module _ (mask : ℕ) (update : Option ℕ) (events : List Event) (posted : AreP
       first_step true = refl
       first_step false = refl
 
-      by_selected : (b : Bool) → by_waiting t a rest (deactivation t ∷ activation a ∷ []) b ≡ if_activate (event_or_null (if b then Some (deactivation t) else if b then Some (activation a) else find (selected mask) (events ++ update_events update))) ++ telling (told_from (Some t) (if b then Some (deactivation t) else if b then Some (activation a) else None)) (Some a) rest
+      by_selected : (b : Bool) → by_waiting t a rest (deactivation t ∷ activation a ∷ []) b ≡ if_activate (event_or_null (if b then Some (deactivation t) else if b then Some (activation a) else find (is_selected mask) (events ++ update_events update))) ++ telling (told_from (Some t) (if b then Some (deactivation t) else if b then Some (activation a) else None)) (Some a) rest
       by_selected true = refl
       by_selected false = then_rest (Some t) (Some a)
 
-      none_waits : (b : Bool) → by_waiting t a rest [] b ≡ if_activate (event_or_null (find (selected mask) (events ++ update_events update))) ++ telling (Some t) (Some a) rest
+      none_waits : (b : Bool) → by_waiting t a rest [] b ≡ if_activate (event_or_null (find (is_selected mask) (events ++ update_events update))) ++ telling (Some t) (Some a) rest
       none_waits true = then_rest (Some t) (Some a)
       none_waits false = then_rest (Some t) (Some a)
 
-      by_same : (c : Bool) → by_waiting t a rest (if c then [] else deactivation t ∷ activation a ∷ []) (selects mask kind.Activate) ≡ if_activate (event_or_null (find (selected mask) ((if c then [] else deactivation t ∷ activation a ∷ []) ++ (events ++ update_events update)))) ++ telling (told_from (Some t) (find (selected mask) (if c then [] else deactivation t ∷ activation a ∷ []))) (Some a) rest
+      by_same : (c : Bool) → by_waiting t a rest (if c then [] else deactivation t ∷ activation a ∷ []) (selects mask kind.Activate) ≡ if_activate (event_or_null (find (is_selected mask) ((if c then [] else deactivation t ∷ activation a ∷ []) ++ (events ++ update_events update)))) ++ telling (told_from (Some t) (find (is_selected mask) (if c then [] else deactivation t ∷ activation a ∷ []))) (Some a) rest
       by_same true = none_waits (selects mask kind.Activate)
       by_same false = by_selected (selects mask kind.Activate)
 

@@ -6,7 +6,7 @@ use Rattle.std.specs.Prelude.{All}
 use Rattle.tb_geom.specs.declared.refusal.Refusal.{Refusal}
 use Rattle.tb_geom.specs.declared.refusal.Refusal.TheVariants.{OutOfRange}
 use Rattle.event_queue.specs.declared.event.Event.{Event}
-use Rattle.event_queue.specs.Events.{is_posted, selected}
+use Rattle.event_queue.specs.Events.{is_posted, is_selected}
 use Rattle.event_queue.specs.Queues.{added, posted, without_first, flushed, events_from}
 use Rattle.event_queue.specs.Telling.{activate_events}
 use Rattle.desk_call.specs.declared.event.EventCall.{EventCall}
@@ -50,7 +50,7 @@ flushed_are_posted test stop (e ∷ events) h = by_stop (stop e) (test e) (flush
     by_stop false false rest = All-cons IsPosted e (flushed test stop events) (All-head IsPosted e events h) rest
 
 left_are_posted : (mask : ℕ) (events : List Event) (o : Option Event) → ArePosted events → ArePosted (events_from mask events o)
-left_are_posted mask events None h = without_are_posted (selected mask) events h
+left_are_posted mask events None h = without_are_posted (is_selected mask) events h
 left_are_posted mask events (Some e) h = h
 
 -- the queue that a step leaves
@@ -69,13 +69,13 @@ posting_posted (Some e) before h = by_posted (is_posted e.what) refl
     by_selected true is = added_are_posted before.queue.events e is h
     by_selected false is = h
 
-    by_posted : (b : Bool) → is_posted e.what ≡ b → QueueOf (if b then (Ok (Posted (selected before.queue.system_mask e)), with_queued (posted before.queue.system_mask before.queue.events e) before) else (Err OutOfRange, before))
-    by_posted true is = by_selected (selected before.queue.system_mask e) is
+    by_posted : (b : Bool) → is_posted e.what ≡ b → QueueOf (if b then (Ok (Posted (is_selected before.queue.system_mask e)), with_queued (posted before.queue.system_mask before.queue.events e) before) else (Err OutOfRange, before))
+    by_posted true is = by_selected (is_selected before.queue.system_mask e) is
     by_posted false is = h
 
 pub step_are_posted : (call : EventCall) (active update : Option ℕ) (before : Events) → ArePosted before.queue.events → ArePosted (event_step call active update before).1.queue.events
 step_are_posted (Post p) active update before h = posting_posted (asked_event p) before h
-step_are_posted (Next mask) active update before h = by_word_posted (word_of mask) before (λ m. (Ok (told_next m active update before), after_telling m active before)) h (λ m. left_are_posted m before.queue.events (find (selected m) (activate_events before.told active)) h)
+step_are_posted (Next mask) active update before h = by_word_posted (word_of mask) before (λ m. (Ok (told_next m active update before), after_telling m active before)) h (λ m. left_are_posted m before.queue.events (find (is_selected m) (activate_events before.told active)) h)
 step_are_posted (Avail mask) active update before h = by_word_posted (word_of mask) before (λ m. (Ok (told_next m active update before), before)) h (λ m. h)
-step_are_posted (Flush f) active update before h = by_word_posted (word_of f.mask) before _ h (λ m. by_word_posted (word_of f.stop) before _ h (λ stop. flushed_are_posted (selected m) (selected stop) before.queue.events h))
+step_are_posted (Flush f) active update before h = by_word_posted (word_of f.mask) before _ h (λ m. by_word_posted (word_of f.stop) before _ h (λ stop. flushed_are_posted (is_selected m) (is_selected stop) before.queue.events h))
 step_are_posted (SetMask mask) active update before h = by_word_posted (word_of mask) before _ h (λ m. h)

@@ -12,7 +12,7 @@ use Rattle.window_mgr.specs.Arrange.{changed}
 use Rattle.window_mgr.specs.Effects.{Effect}
 use Rattle.window_mgr.specs.Effects.Effect.{Makes, Disposes, Draws, Pictures, Scrolls, Arranges, Places, Tells, Describes}
 use Rattle.window_mgr.specs.FullDesk.{FullDesk, FullState, IsRightState}
-use Rattle.window_frame.specs.FrameSteps.{IsTrackingTold, with_tracked}
+use Rattle.window_frame.specs.FrameSteps.{IsTrackingNotified, with_tracked}
 use Rattle.desk_toolbox.specs.Reached.{IsTrackedIfHeard}
 use Rattle.desk_toolbox.proofs.Totals.{Weight, total, counting, copies, missing_counts, distinct_counts}
 use Rattle.desk_toolbox.proofs.Recounts.{Counts}
@@ -104,12 +104,12 @@ tracked_is_right s n now was its = always now ∙ sym (always was)
     always true = ap (λ (b : Bool). if b then 0 else 1) same
     always false = refl
 
-pub tracking_told : (inside : Bool) (s : ℕ) (before after : FullState) → IsTrackingTold inside s before after → total (misled (Tracking s)) after.desk.windows ≡ total (misled (Tracking s)) before.desk.windows
+pub tracking_told : (inside : Bool) (s : ℕ) (before after : FullState) → IsTrackingNotified inside s before after → total (misled (Tracking s)) after.desk.windows ≡ total (misled (Tracking s)) before.desk.windows
 tracking_told inside s before after (inl (missing, same)) = ap (λ (x : FullState). total (misled (Tracking s)) x.desk.windows) same
 tracking_told inside s before after (inr told) =
     told_total (misled (Tracking s)) s (λ _. told_tracked inside) (with_tracked inside) (λ w its. tracked_is_right s w.serial inside w.heard.tracked its) before after told
 
-pub tracking_begins : (inside : Bool) (s : ℕ) (before after : FullState) → IsTrackingTold inside s before after → total (misled Idle) before.desk.windows ≡ 0 → total (misled (Tracking s)) after.desk.windows ≡ 0
+pub tracking_begins : (inside : Bool) (s : ℕ) (before after : FullState) → IsTrackingNotified inside s before after → total (misled Idle) before.desk.windows ≡ 0 → total (misled (Tracking s)) after.desk.windows ≡ 0
 tracking_begins inside s before after told none =
     let same = tracking_told inside s before after told in
     let less = misled_by_less (Tracking s) before.desk.windows in
@@ -143,7 +143,7 @@ one_is_told s f off (w ∷ ws) most none = by_this (w.serial == s) refl most (on
         let others = rest (omega arith) (omega arith) in
         omega arith
 
-pub tracking_ends : (s : ℕ) (before after : FullState) → IsRightState before → IsTrackingTold false s before after → total (misled (Tracking s)) before.desk.windows ≡ 0 → total (misled Idle) after.desk.windows ≡ 0
+pub tracking_ends : (s : ℕ) (before after : FullState) → IsRightState before → IsTrackingNotified false s before after → total (misled (Tracking s)) before.desk.windows ≡ 0 → total (misled Idle) after.desk.windows ≡ 0
 tracking_ends s before after right (inl (missing, same)) none =
     let gone = missing_counts s before.desk.windows missing in
     let others = misled_or_this s before.desk.windows in

@@ -1,14 +1,12 @@
 -- What a call about events answers, and what it leaves.
-use Rattle.std.specs.Prelude.{ℕ, ℤ, pos, nat_abs, nat_eq, int_le, Bool, ◌&&◌, if◌then◌else◌, List, [], ◌∷◌, Option, None, Some, Result, Ok, Err}
-use Rattle.std.specs.List.{find}
+use Rattle.std.specs.Prelude.{ℕ, ℤ, pos, nat_abs, int_le, Bool, ◌&&◌, if◌then◌else◌, List, [], Option, None, Some, Result, Ok, Err}
 use Rattle.std.specs.Option.{option_map}
 use Rattle.tb_geom.specs.declared.refusal.Refusal.{Refusal}
 use Rattle.tb_geom.specs.declared.refusal.Refusal.TheVariants.{OutOfRange}
 use Rattle.tb_geom.specs.Rects.{in_plane}
 use Rattle.event_queue.specs.declared.event.Event.{Event}
 use Rattle.event_queue.specs.declared.event.EventKind.{EventKind}
-use Rattle.event_queue.specs.declared.event.EventKind.TheVariants as kind
-use Rattle.event_queue.specs.Events.{number_of, is_posted, selected}
+use Rattle.event_queue.specs.Events.{kind_of, is_posted, is_selected}
 use Rattle.event_queue.specs.Queues.{posted, flushed, next_event, told_after, events_after}
 use Rattle.event_queue.specs.Telling.{forgotten}
 use Rattle.desk_call.specs.declared.event.EventCall.{EventCall}
@@ -29,13 +27,6 @@ is_word z = int_le (pos 0) z && int_le z (pos 65535)
 -- a time, in ticks
 abbrev pub is_time : ℤ → Bool
 is_time z = int_le (pos 0) z && int_le z (pos 999999999)
-
-abbrev pub kinds : List EventKind
-kinds = kind.Null ∷ kind.MouseDown ∷ kind.MouseUp ∷ kind.KeyDown ∷ kind.KeyUp ∷ kind.Update ∷ kind.Activate ∷ []
-
--- the kind with this event code
-abbrev pub kind_of : ℕ → Option EventKind
-kind_of code = find (λ k. nat_eq (number_of k) code) kinds
 
 abbrev pub is_in_ranges : PostEvent → Bool
 is_in_ranges p = is_word p.kind && (is_word p.message && (is_word p.modifiers && (is_time p.when && in_plane p.place)))
@@ -85,7 +76,7 @@ abbrev pub posting : Option Event → Events → EventStep
 posting None before = refused before
 posting (Some e) before =
     if is_posted e.what
-    then (Ok (Posted (selected before.queue.system_mask e)), with_queued (posted before.queue.system_mask before.queue.events e) before)
+    then (Ok (Posted (is_selected before.queue.system_mask e)), with_queued (posted before.queue.system_mask before.queue.events e) before)
     else refused before
 
 -- the event that is told next, where this window is active, and this one is to be updated first
@@ -103,7 +94,7 @@ event_step (Next mask) active update before = by_word mask before (λ m. (Ok (to
 event_step (Avail mask) active update before = by_word mask before (λ m. (Ok (told_next m active update before), before))
 event_step (Flush f) active update before =
     by_word f.mask before (λ m. by_word f.stop before (λ stop.
-    (Ok Done, with_queued (flushed (selected m) (selected stop) before.queue.events) before)))
+    (Ok Done, with_queued (flushed (is_selected m) (is_selected stop) before.queue.events) before)))
 event_step (SetMask mask) active update before = by_word mask before (λ m. (Ok Done, record before { queue = record before.queue { system_mask = m } }))
 
 -- ---- the events of the desk, apart from these calls

@@ -14,7 +14,7 @@ use Rattle.desk_call.specs.declared.window.WindowCall.{WindowCall}
 use Rattle.desk_call.specs.declared.window.WindowReply.{WindowReply}
 use Rattle.desk_call.specs.declared.window.WindowReply.TheVariants.{Made}
 use Rattle.desk_call.specs.Gates.{gate, standing_of, window_standing}
-use Rattle.window_list.specs.Lists.{number_after}
+use Rattle.window_list.specs.Lists.{serial_after}
 use Rattle.window_mgr.specs.Refused.{IsFormRefusal}
 use Rattle.window_mgr.specs.Step as windows
 use Rattle.window_mgr.specs.DeskStates.{DeskState, IsDeskUnchanged, SameActivity, narrowed}
@@ -99,20 +99,20 @@ IsRunOfCalls first (call ∷ calls) (answer ∷ answers) last = (middle : Toolbo
 IsRunOfCalls first [] (answer ∷ answers) last = ⊥
 IsRunOfCalls first (call ∷ calls) [] last = ⊥
 
--- the number of the window that was made, if one was
-abbrev pub number_made : WindowReply → List ℕ
-number_made (Made n) = n ∷ []
-number_made _ = []
+-- the serial of the window that was made, if one was
+abbrev pub serial_made : WindowReply → List ℕ
+serial_made (Made n) = n ∷ []
+serial_made _ = []
 
--- the numbers of the windows that were made
+-- the serials of the windows that were made
 abbrev pub made : List (Result Reply Refusal) → List ℕ
 made [] = []
-made (Ok (reply.Window answer) ∷ answers) = number_made answer ++ made answers
+made (Ok (reply.Window answer) ∷ answers) = serial_made answer ++ made answers
 made (Ok (reply.Frame answer) ∷ answers) = made answers
 made (Ok (reply.Event answer) ∷ answers) = made answers
 made (Err e ∷ answers) = made answers
 
--- the numbers follow each other, and the first is the next one
+-- the serials follow each other, and the first is the next one
 abbrev pub AreCounted : Option ℕ → List ℕ → Type 0
 AreCounted next [] = Unit {0}
-AreCounted next (n ∷ ns) = (next ≡ Some n) × AreCounted (number_after n) ns
+AreCounted next (n ∷ ns) = (next ≡ Some n) × AreCounted (serial_after n) ns

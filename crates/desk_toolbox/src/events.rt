@@ -1,38 +1,17 @@
 //! The calls about events: the queue of what was posted, and what is told of the active window.
 ghost use Rattle.std.specs.Prelude.{◌≡◌, nat_abs, true, IfOk};
-ghost use Rattle.desk_toolbox.specs.EventSteps.{asked_event, event_of, event_step, events_left, first_events, is_in_ranges, is_time, is_word, kind_of, posting, word_of};
+ghost use Rattle.desk_toolbox.specs.EventSteps.{asked_event, event_of, event_step, events_left, first_events, is_in_ranges, is_time, is_word, posting, word_of};
 
 use desk_call::{EventCall, EventReply, FlushEvents, PostEvent, WindowCall};
 use event_queue::{Event, EventError, EventKind, EventQueue, forget};
 use std::alloc::{AllocError, Global};
 use tb_geom::Refusal;
 
-/// What a desk keeps of events: the queue, and the number of the window last told active, if it was not disposed of since.
+/// What a desk keeps of events: the queue, and the serial of the window last told active, if it was not disposed of since.
 #[derive(Drop)]
 pub struct Events {
     pub(crate) queue: EventQueue,
     pub(crate) told: Option<u64>,
-}
-
-/// Each kind of events.
-static KINDS: [EventKind; 7] = [
-    EventKind::Null,
-    EventKind::MouseDown,
-    EventKind::MouseUp,
-    EventKind::KeyDown,
-    EventKind::KeyUp,
-    EventKind::Update,
-    EventKind::Activate,
-];
-
-/// The kind with this event code.
-fn kind_of(code: u16) -> Option<EventKind>
-    ensures { result ≡ kind_of code }
-{
-    KINDS
-        .iter()
-        .copied()
-        .find(|kind| u16::from(kind.number()) == code)
 }
 
 /// Whether a number is one of 16 bits, as event codes, event masks, messages and modifiers are.
@@ -88,7 +67,7 @@ fn asked_event(post: PostEvent) -> Option<Event>
     if !is_in_ranges(post) {
         return None;
     }
-    match kind_of(bits_of(post.kind)) {
+    match EventKind::of_code(bits_of(post.kind)) {
         None => None,
         Some(kind) => Some(event_of(post, kind)),
     }
@@ -116,9 +95,9 @@ impl Events {
         })
     }
 
-    /// Makes a call, where `active` is the number of the active window, and `update` that of the window that is to be
+    /// Performs a call, where `active` is the serial of the active window, and `update` that of the window that is to be
     /// updated first. OutOfRange is the only refusal. Takes no memory.
-    pub(crate) fn make(
+    pub(crate) fn perform(
         &mut self,
         call: EventCall,
         active: Option<u64>,

@@ -99,7 +99,7 @@ pub fn steps_stay_right()
         → IsRightState before.desk.windows → IsStep call answer before after → IsRightState after.desk.windows }
 {}
 
-/// The windows that a run makes have numbers that follow each other: none is used again.
+/// The windows that a run makes have serials that follow each other: none is used again.
 #[tactic(auto, using(crate::proofs::Runs::made_are_counted))]
 pub fn windows_are_counted()
     ensures { (first last : ToolboxState) (calls : List Call) (answers : List (Result Reply Refusal))

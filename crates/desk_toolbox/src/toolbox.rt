@@ -133,7 +133,7 @@ impl Toolbox {
         &self.windows
     }
 
-    /// Makes one call, and gives its answer. A refused call changes nothing; which refusal comes
+    /// Performs one call, and gives its answer. A refused call changes nothing; which refusal comes
     /// first where several would do stands with the call. While something is open, a call that may not
     /// come then is refused for that, but first for a name that no table has, or bytes without their form.
     pub fn call(&mut self, call: &Call<'_>, stock: &mut Stock) -> Result<Reply, Refusal>
@@ -146,7 +146,7 @@ impl Toolbox {
             → IsRightState (state_of ⟦<Taken as Defined>⟧.loan self.new.windows (⟦<Stock as Stocked>⟧.slots stock.new)) }
     {
         match self.activity.admit(call.standing()) {
-            Ok(()) => self.make(call, stock),
+            Ok(()) => self.perform(call, stock),
             Err(refusal) => match form_refusal_of(call, stock) {
                 Some(form) => Err(form),
                 None => Err(refusal),
@@ -154,8 +154,8 @@ impl Toolbox {
         }
     }
 
-    /// Makes one call that may come.
-    fn make(&mut self, call: &Call<'_>, stock: &mut Stock) -> Result<Reply, Refusal>
+    /// Performs one call that may come.
+    fn perform(&mut self, call: &Call<'_>, stock: &mut Stock) -> Result<Reply, Refusal>
         requires whole { IsWholeToolbox ⟦<Taken as Defined>⟧.loan self.old (⟦<Stock as Stocked>⟧.slots stock.old) }
         requires admitted { gate self.old.activity (standing_of call.now) ≡ None }
         ensures whole { IsWholeToolbox ⟦<Taken as Defined>⟧.loan self.new (⟦<Stock as Stocked>⟧.slots stock.new) }
@@ -164,21 +164,21 @@ impl Toolbox {
             (toolbox_state ⟦<Taken as Defined>⟧.loan self.new (⟦<Stock as Stocked>⟧.slots stock.new)) }
     {
         match call {
-            Call::Window(call) => match self.make_window(call, stock) {
+            Call::Window(call) => match self.perform_window(call, stock) {
                 Ok(reply) => Ok(Reply::Window(reply)),
                 Err(refusal) => Err(refusal),
             },
             Call::Update(call) => {
                 match self
                     .updates
-                    .make(&mut self.windows, &mut self.activity, call)
+                    .perform(&mut self.windows, &mut self.activity, call)
                 {
                     Ok(reply) => Ok(Reply::Window(reply)),
                     Err(refusal) => Err(refusal),
                 }
             }
             Call::Frame(call) => {
-                match window_frame::make(&mut self.windows, &mut self.activity, call) {
+                match window_frame::perform(&mut self.windows, &mut self.activity, call) {
                     Ok(reply) => Ok(Reply::Frame(reply)),
                     Err(refusal) => Err(refusal),
                 }
@@ -190,9 +190,9 @@ impl Toolbox {
         }
     }
 
-    /// Makes a call on windows. Once it was done, definitions are told how their windows stand, and a window that is gone is
+    /// Performs a call on windows. Once it was done, definitions are notified how their windows stand, and a window that is gone is
     /// forgotten.
-    fn make_window(
+    fn perform_window(
         &mut self,
         call: &WindowCall<'_>,
         stock: &mut Stock,
@@ -213,7 +213,7 @@ impl Toolbox {
         }
     }
 
-    /// Answers a call on windows: what is open may narrow what it asks for, and else the windows make it.
+    /// Answers a call on windows: what is open may narrow what it asks for, and else the windows perform it.
     fn answer_window(
         &mut self,
         call: &WindowCall<'_>,
@@ -228,7 +228,7 @@ impl Toolbox {
     {
         match self.updates.tell(self.activity, call) {
             Some(answer) => answer,
-            None => self.windows.make(call, stock),
+            None => self.windows.perform(call, stock),
         }
     }
 
@@ -240,13 +240,13 @@ impl Toolbox {
         ensures step { (slots : List SlotView) → IsEventAnswer call result
             (toolbox_state ⟦<Taken as Defined>⟧.loan self.old slots) (toolbox_state ⟦<Taken as Defined>⟧.loan self.new slots) }
     {
-        let active = self.windows.parts().windows.active();
+        let active = self.windows.list().active();
         let update = first_to_update(&self.windows, self.activity);
-        self.events.make(call, active, update)
+        self.events.perform(call, active, update)
     }
 
-    /// Makes the calls one after another, and gives their answers in the same order. Memory for the
-    /// answers is taken first: where there is none, no call was made.
+    /// Performs the calls one after another, and gives their answers in the same order. Memory for the
+    /// answers is taken first: where there is none, no call was performed.
     pub fn run(
         &mut self,
         calls: &[Call<'_>],

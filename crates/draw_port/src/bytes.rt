@@ -1,5 +1,5 @@
 //! The bytes that operations own.
-ghost use Rattle.std.specs.Prelude.{◌≡◌, ◌<◌, ◌≤◌, length, IfOk, MatchResult};
+ghost use Rattle.std.specs.Prelude.{◌≡◌, ◌<◌, ◌≤◌, length, take, IfOk, MatchResult};
 
 use arrayvec::ArrayVec;
 use std::alloc::{AllocError, Global};
@@ -37,11 +37,14 @@ impl Bytes {
     }
 }
 
+/// The most characters that a text or a title may have.
+pub const LONGEST_TEXT: usize = 255;
+
 /// A text of at most 255 characters, each of one byte. It lies in place and takes no memory. Contracts
 /// see the list of the bytes.
 #[derive(Drop)]
 pub struct ShortText {
-    characters: ArrayVec<u8, 255>,
+    characters: ArrayVec<u8, LONGEST_TEXT>,
 }
 
 impl Model for ShortText {
@@ -63,6 +66,13 @@ impl ShortText {
             Ok(characters) => Ok(ShortText { characters }),
             Err(_) => Err(Refusal::TooLong),
         }
+    }
+
+    /// The text of the first 255 of these characters, or of all where there are no more.
+    pub fn shortened(characters: &[u8]) -> ShortText
+        ensures { result ≡ take 255 characters.now }
+    {
+        ShortText::new(&characters[..LONGEST_TEXT.min(characters.len())]).unwrap()
     }
 
     /// The same text once more.

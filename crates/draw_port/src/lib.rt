@@ -31,9 +31,9 @@ mod shapes;
 mod texts;
 mod values;
 
-pub use bytes::{Bytes, ShortText};
+pub use bytes::{Bytes, LONGEST_TEXT, ShortText};
 pub use canvas::Canvas;
-pub use picture::Picture;
+pub use picture::{MOST_OPERATIONS, Picture};
 pub use placed::placed_within;
 pub use scan_region::Cut;
 pub use shapes::{Line, Op, RowsOfBits, Shade, Shape, TextMode, TextRun};

@@ -8,6 +8,9 @@ use std::marker::Model;
 use strike_font::Font;
 use tb_geom::{Point, Refusal};
 
+/// The most operations that a picture may have.
+pub const MOST_OPERATIONS: usize = 1024;
+
 /// At most 1024 operations, drawn one after another from white (*Imaging With QuickDraw*,
 /// "Pictures"), each in the picture's coordinates. Contracts see the list of the operations.
 #[derive(Drop)]
@@ -59,7 +62,7 @@ impl Picture {
         ensures refused { IfErr result (λ e.
             e ≡ (if nat_lt (length self.old) 1024 then Refusal.NoMemory else Refusal.TooMany)) }
     {
-        if self.ops.len() >= 1024 {
+        if self.ops.len() >= MOST_OPERATIONS {
             return Err(Refusal::TooMany);
         }
         self.ops.push(op)?;

@@ -2,7 +2,7 @@
 use crate::sheet::{MIXED, MODES, SHEET, Sheet, before, inked};
 use bit_blit::{Inverse, copy, draw_cut, draw_rect, fill, invert, shift};
 use bit_map::{BitImage, BitMap, Mode};
-use ground_tests::pixels::{Pixels, are_alike, map_of, mark, picture};
+use geometry_tests::pixels::{Pixels, are_alike, map_of, mark, picture};
 use scan_region::{Cut, Region};
 use std::alloc::Global;
 use std::test::Fail;

@@ -6,7 +6,7 @@ use crate::sheet::{MIXED, SHEET, Sheet, inked};
 use bit_map::{BitMap, Mode};
 use draw_port::{Canvas, Cut};
 use font_tests::small::SMALL;
-use ground_tests::pixels::{Pixels, are_alike, map_of, mark};
+use geometry_tests::pixels::{Pixels, are_alike, map_of, mark};
 use scan_region::Region;
 use std::alloc::Global;
 use std::test::Fail;

@@ -4,7 +4,7 @@ use Rattle.std.proofs.lemmas.Bool.{false≢true, eqb-true}
 use Rattle.event_queue.specs.declared.event.Event.{Event}
 use Rattle.event_queue.specs.Events.{activation, deactivation}
 use Rattle.event_queue.specs.Telling.{activate_events, first_event, told_from, is_window, forgotten}
-use Rattle.event_queue.specs.History.{Step, BecomesActive, IsDisposed, Tells, NeverActive, NeverDisposed, IsHistory, listed, telling, told_of, Alternates, last_told, is_told_active}
+use Rattle.event_queue.specs.History.{Step, BecomesActive, IsDisposed, Tells, NeverActive, NeverDisposed, IsHistory, event_list, telling, told_of, Alternates, last_told, is_told_active}
 
 -- the first activate event: none, an activation where none is told active, or a deactivation of the one that is
 by_first : (P : Option Event → Type 0) (told active : Option ℕ) → P None
@@ -42,7 +42,7 @@ silent w told active [] t a never = refl
 silent w told active (BecomesActive b ∷ steps) t a never = silent w told b steps t (not_of w b never.0) never.1
 silent w told active (IsDisposed x ∷ steps) t a never = silent w (forgotten x told) active steps (forgotten_is_not w x told t) a never
 silent w told active (Tells ∷ steps) t a never =
-    by_first (λ o. told_of w (listed o ++ telling (told_from told o) active steps) ≡ []) told active
+    by_first (λ o. told_of w (event_list o ++ telling (told_from told o) active steps) ≡ []) told active
     (silent w told active steps t a never)
     (λ n none is.
     let other : nat_eq n w ≡ false = sym (ap (is_window w) is) ∙ a in
@@ -78,7 +78,7 @@ alternating w (Some t) active (IsDisposed x ∷ steps) h = by_same (nat_eq t x) 
     by_same true same gone kept = by_window (nat_eq t w) refl same gone
     by_same false same gone kept = kept
 alternating w told active (Tells ∷ steps) h =
-    by_first (λ o. Alternates (not (is_window w told)) (told_of w (listed o ++ telling (told_from told o) active steps))) told active
+    by_first (λ o. Alternates (not (is_window w told)) (told_of w (event_list o ++ telling (told_from told o) active steps))) told active
     (alternating w told active steps h)
     (λ a none is. subst (λ o. Alternates (not (is_window w o)) (if nat_eq a w then true ∷ told_of w (telling (Some a) active steps) else told_of w (telling (Some a) active steps))) (sym none)
     (alternates_on (nat_eq a w) (told_of w (telling (Some a) active steps)) (alternating w (Some a) active steps h)))
@@ -123,7 +123,7 @@ last_is_told w told active (BecomesActive a ∷ steps) never = last_is_told w to
 last_is_told w told active (IsDisposed x ∷ steps) never =
     ap (λ b. last_told b (told_of w (telling (forgotten x told) active steps))) (sym (forgets_no_other w x told never.0)) ∙ last_is_told w (forgotten x told) active steps never.1
 last_is_told w told active (Tells ∷ steps) never =
-    by_first (λ o. last_told (is_window w told) (told_of w (listed o ++ telling (told_from told o) active steps)) ≡ is_window w (told_at_end (told_from told o) active steps)) told active
+    by_first (λ o. last_told (is_window w told) (told_of w (event_list o ++ telling (told_from told o) active steps)) ≡ is_window w (told_at_end (told_from told o) active steps)) told active
     (last_is_told w told active steps never)
     (λ a none is. ap (λ o. last_told (is_window w o) (if nat_eq a w then true ∷ told_of w (telling (Some a) active steps) else told_of w (telling (Some a) active steps))) none
     ∙ last_on (nat_eq a w) (told_of w (telling (Some a) active steps)) ∙ last_is_told w (Some a) active steps never)

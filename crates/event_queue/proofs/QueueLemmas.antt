@@ -8,7 +8,7 @@ use Rattle.std.proofs.lemmas.Bool.{false≢true, lt-ltb}
 use Rattle.circular_buffer.specs.Buffer.{Buffer, buffer, keep_last}
 use Rattle.event_queue.specs.declared.event.Event.{Event}
 use Rattle.event_queue.specs.declared.event.EventKind.TheVariants.{Activate}
-use Rattle.event_queue.specs.Events.{null_event, activation, deactivation, selects, selected}
+use Rattle.event_queue.specs.Events.{null_event, activation, deactivation, selects, is_selected}
 use Rattle.event_queue.specs.Telling.{activate_events, first_event}
 use Rattle.event_queue.specs.Queues.{Queue, added, without_first, flushed, event_or_null, update_events, next_event}
 
@@ -164,33 +164,33 @@ flushed_on test stop all now next stopped i e low bound h front next_is =
     or_false false = refl
 
 -- of activate events the first is answered, or none
-pub first_selected : (mask : ℕ) (told active : Option ℕ) → find (selected mask) (activate_events told active) ≡ (if selects mask Activate then first_event (activate_events told active) else None)
+pub first_selected : (mask : ℕ) (told active : Option ℕ) → find (is_selected mask) (activate_events told active) ≡ (if selects mask Activate then first_event (activate_events told active) else None)
 first_selected mask None None = by_test (selects mask Activate)
   where
-    by_test : (b : Bool) → find (selected mask) [] ≡ (if b then None else None)
+    by_test : (b : Bool) → find (is_selected mask) [] ≡ (if b then None else None)
     by_test true = refl
     by_test false = refl
 first_selected mask None (Some a) = refl
 first_selected mask (Some t) None = refl
 first_selected mask (Some t) (Some a) = by_tests (nat_eq t a) (selects mask Activate) refl
   where
-    by_tests : (same b : Bool) → selects mask Activate ≡ b → find (selected mask) (if same then [] else deactivation t ∷ activation a ∷ []) ≡ (if b then first_event (if same then [] else deactivation t ∷ activation a ∷ []) else None)
+    by_tests : (same b : Bool) → selects mask Activate ≡ b → find (is_selected mask) (if same then [] else deactivation t ∷ activation a ∷ []) ≡ (if b then first_event (if same then [] else deactivation t ∷ activation a ∷ []) else None)
     by_tests true true h = refl
     by_tests true false h = refl
     by_tests false true h = ap (λ b. if b then Some (deactivation t) else if b then Some (activation a) else None) h
     by_tests false false h = ap (λ b. if b then Some (deactivation t) else if b then Some (activation a) else None) h
 
 -- what waits is searched in three parts
-pub next_in_parts : (mask : ℕ) (told active : Option ℕ) (events : List Event) (update : Option ℕ) → next_event mask told active events update ≡ event_or_null (option_or (find (selected mask) (activate_events told active)) (option_or (find (selected mask) events) (find (selected mask) (update_events update))))
+pub next_in_parts : (mask : ℕ) (told active : Option ℕ) (events : List Event) (update : Option ℕ) → next_event mask told active events update ≡ event_or_null (option_or (find (is_selected mask) (activate_events told active)) (option_or (find (is_selected mask) events) (find (is_selected mask) (update_events update))))
 next_in_parts mask told active events update =
-    ap event_or_null (find-append (selected mask) (activate_events told active) (events ++ update_events update) ∙ ap (option_or (find (selected mask) (activate_events told active))) (find-append (selected mask) events (update_events update)))
+    ap event_or_null (find-append (is_selected mask) (activate_events told active) (events ++ update_events update) ∙ ap (option_or (find (is_selected mask) (activate_events told active))) (find-append (is_selected mask) events (update_events update)))
 
 -- no activate event is answered, and a queued one is
-pub next_is_queued : (mask : ℕ) (told active : Option ℕ) (events : List Event) (update : Option ℕ) (e : Event) → find (selected mask) (activate_events told active) ≡ None → find (selected mask) events ≡ Some e → e ≡ next_event mask told active events update
+pub next_is_queued : (mask : ℕ) (told active : Option ℕ) (events : List Event) (update : Option ℕ) (e : Event) → find (is_selected mask) (activate_events told active) ≡ None → find (is_selected mask) events ≡ Some e → e ≡ next_event mask told active events update
 next_is_queued mask told active events update e none some =
-    sym (next_in_parts mask told active events update ∙ ap (λ o. event_or_null (option_or o (option_or (find (selected mask) events) (find (selected mask) (update_events update))))) none ∙ ap (λ o. event_or_null (option_or o (find (selected mask) (update_events update)))) some)
+    sym (next_in_parts mask told active events update ∙ ap (λ o. event_or_null (option_or o (option_or (find (is_selected mask) events) (find (is_selected mask) (update_events update))))) none ∙ ap (λ o. event_or_null (option_or o (find (is_selected mask) (update_events update)))) some)
 
 -- neither an activate event nor a queued one is answered
-pub next_is_last : (mask : ℕ) (told active : Option ℕ) (events : List Event) (update : Option ℕ) (e : Event) → find (selected mask) (activate_events told active) ≡ None → find (selected mask) events ≡ None → e ≡ event_or_null (find (selected mask) (update_events update)) → e ≡ next_event mask told active events update
+pub next_is_last : (mask : ℕ) (told active : Option ℕ) (events : List Event) (update : Option ℕ) (e : Event) → find (is_selected mask) (activate_events told active) ≡ None → find (is_selected mask) events ≡ None → e ≡ event_or_null (find (is_selected mask) (update_events update)) → e ≡ next_event mask told active events update
 next_is_last mask told active events update e none empty is =
-    is ∙ sym (next_in_parts mask told active events update ∙ ap (λ o. event_or_null (option_or o (option_or (find (selected mask) events) (find (selected mask) (update_events update))))) none ∙ ap (λ o. event_or_null (option_or o (find (selected mask) (update_events update)))) empty)
+    is ∙ sym (next_in_parts mask told active events update ∙ ap (λ o. event_or_null (option_or o (option_or (find (is_selected mask) events) (find (is_selected mask) (update_events update))))) none ∙ ap (λ o. event_or_null (option_or o (find (is_selected mask) (update_events update)))) empty)

@@ -1,5 +1,6 @@
 -- Events, and which of them a mask selects.
-use Rattle.std.specs.Prelude.{ℕ, ◌/◌, ◌%◌, ◌^◌, pos, Bool, true, false, nat_eq}
+use Rattle.std.specs.Prelude.{ℕ, ◌/◌, ◌%◌, ◌^◌, pos, Bool, true, false, nat_eq, List, [], ◌∷◌, Option}
+use Rattle.std.specs.List.{find}
 use Rattle.event_queue.specs.declared.event.Event.{Event}
 use Rattle.event_queue.specs.declared.event.EventKind.{EventKind}
 use Rattle.event_queue.specs.declared.event.EventKind.TheVariants.{Null, MouseDown, MouseUp, KeyDown, KeyUp, Update, Activate}
@@ -13,6 +14,13 @@ number_of KeyDown = 3
 number_of KeyUp = 4
 number_of Update = 6
 number_of Activate = 8
+
+abbrev pub kinds : List EventKind
+kinds = Null ∷ MouseDown ∷ MouseUp ∷ KeyDown ∷ KeyUp ∷ Update ∷ Activate ∷ []
+
+-- the kind with this event code
+abbrev pub kind_of : ℕ → Option EventKind
+kind_of code = find (λ k. nat_eq (number_of k) code) kinds
 
 -- the kinds that are posted: those with the codes 1 .. 4
 abbrev pub is_posted : EventKind → Bool
@@ -29,8 +37,8 @@ unfoldable pub selects : ℕ → EventKind → Bool
 selects mask kind = nat_eq (mask / 2 ^ number_of kind % 2) 1
 
 -- whether a mask selects an event
-abbrev pub selected : ℕ → Event → Bool
-selected mask e = selects mask e.what
+abbrev pub is_selected : ℕ → Event → Bool
+is_selected mask e = selects mask e.what
 
 -- the event that says that there is none: 0 throughout
 abbrev pub null_event : Event

@@ -32,9 +32,9 @@ IsHistory active (IsDisposed w ∷ steps) = (active ≢ Some w) × NeverActive w
 IsHistory active (Tells ∷ steps) = IsHistory active steps
 
 -- an event, or none
-abbrev pub listed : Option Event → List Event
-listed None = []
-listed (Some e) = e ∷ []
+abbrev pub event_list : Option Event → List Event
+event_list None = []
+event_list (Some e) = e ∷ []
 
 -- the events that the steps tell, in their order, from this window told and this one active
 abbrev pub telling : Option ℕ → Option ℕ → List Step → List Event
@@ -42,7 +42,7 @@ telling told active [] = []
 telling told active (BecomesActive a ∷ steps) = telling told a steps
 telling told active (IsDisposed w ∷ steps) = telling (forgotten w told) active steps
 telling told active (Tells ∷ steps) =
-    listed (first_event (activate_events told active)) ++ telling (told_from told (first_event (activate_events told active))) active steps
+    event_list (first_event (activate_events told active)) ++ telling (told_from told (first_event (activate_events told active))) active steps
 
 -- what events say of a window, in their order: that it became active, or that it is active no more
 abbrev pub told_of : ℕ → List Event → List Bool

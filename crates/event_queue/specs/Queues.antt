@@ -2,7 +2,7 @@
 use Rattle.std.specs.Prelude.{ℕ, ◌≡◌, ◌≤◌, Bool, if◌then◌else◌, nat_lt, List, [], ◌∷◌, ◌++◌, length, drop, Option, None, Some}
 use Rattle.std.specs.List.{find}
 use Rattle.event_queue.specs.declared.event.Event.{Event}
-use Rattle.event_queue.specs.Events.{selected, null_event, update_event}
+use Rattle.event_queue.specs.Events.{is_selected, null_event, update_event}
 use Rattle.event_queue.specs.Telling.{activate_events, told_from}
 
 -- the events in the order in which they were posted, and the system event mask, which says what is queued
@@ -21,7 +21,7 @@ added events e = if nat_lt (length events) 20 then events ++ e ∷ [] else drop 
 
 -- an event that the system mask does not select is not queued
 abbrev pub posted : ℕ → List Event → Event → List Event
-posted system_mask events e = if selected system_mask e then added events e else events
+posted system_mask events e = if is_selected system_mask e then added events e else events
 
 -- without the first event of a mask
 abbrev pub without_first : (Event → Bool) → List Event → List Event
@@ -49,17 +49,17 @@ event_or_null (Some e) = e
 
 -- the event that is answered: of those that wait the first that the mask selects; the null event where there is none
 abbrev pub next_event : ℕ → Option ℕ → Option ℕ → List Event → Option ℕ → Event
-next_event mask told active events update = event_or_null (find (selected mask) (waiting told active events update))
+next_event mask told active events update = event_or_null (find (is_selected mask) (waiting told active events update))
 
 -- the window last told active, once the event was answered
 abbrev pub told_after : ℕ → Option ℕ → Option ℕ → Option ℕ
-told_after mask told active = told_from told (find (selected mask) (activate_events told active))
+told_after mask told active = told_from told (find (is_selected mask) (activate_events told active))
 
 -- a queued event that is answered is taken out: the first one of the mask, where no activate event goes before it
 abbrev pub events_from : ℕ → List Event → Option Event → List Event
-events_from mask events None = without_first (selected mask) events
+events_from mask events None = without_first (is_selected mask) events
 events_from mask events (Some activate) = events
 
 -- the queued events, once the event was answered
 abbrev pub events_after : ℕ → Option ℕ → Option ℕ → List Event → List Event
-events_after mask told active events = events_from mask events (find (selected mask) (activate_events told active))
+events_after mask told active events = events_from mask events (find (is_selected mask) (activate_events told active))

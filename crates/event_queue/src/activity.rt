@@ -1,8 +1,8 @@
 //! Which activate events are to be told (*Inside Macintosh* I, "The Window Manager", "Making a Window Active: Activate
-//! Events"). A window is named by its number. `told` is the window last told active, and `active` the active one.
+//! Events"). A window is named by its serial. `told` is the window last told active, and `active` the active one.
 ghost use Rattle.std.specs.Prelude.{◌≡◌, Option};
 ghost use Rattle.std.specs.List.{find};
-ghost use Rattle.event_queue.specs.Events.{selected};
+ghost use Rattle.event_queue.specs.Events.{is_selected};
 ghost use Rattle.event_queue.specs.Telling.{activate_events, first_event, told_by, forgotten};
 
 use crate::event::{Event, EventKind};
@@ -33,7 +33,7 @@ pub(crate) fn selected_activate_event(
     told: Option<u64>,
     active: Option<u64>,
 ) -> Option<Event>
-    ensures { result ≡ find (selected mask) (activate_events told active) }
+    ensures { result ≡ find (is_selected mask) (activate_events told active) }
 {
     let event = activate_event(told, active);
     if selects(mask, EventKind::Activate) {
@@ -54,7 +54,7 @@ pub(crate) fn told_by(event: Event) -> Option<u64>
     }
 }
 
-/// The window last told active, by its number, once the window of number `window` was disposed of: where that is the one
+/// The window last told active, by its serial, once the window of serial `window` was disposed of: where that is the one
 /// last told active there is none, so its deactivation is never told.
 pub fn forget(told: Option<u64>, window: u64) -> Option<u64>
     ensures { result ≡ forgotten window told }

@@ -1,6 +1,6 @@
 //! Events.
 ghost use Rattle.std.specs.Prelude.{◌≡◌, ◌<◌};
-ghost use Rattle.event_queue.specs.Events.{number_of, is_posted, null_event, update_event, activation, deactivation, is_activation};
+ghost use Rattle.event_queue.specs.Events.{number_of, kind_of, is_posted, null_event, update_event, activation, deactivation, is_activation};
 
 /// What happened: the kinds of events that there are here (*Inside Macintosh* I, "The Toolbox Event Manager", "Event
 /// Types"), each with its event code. A code is also the number of the kind's bit in an event mask.
@@ -22,7 +22,28 @@ pub enum EventKind {
     Activate = 8,
 }
 
+/// Each kind of events.
+static KINDS: [EventKind; 7] = [
+    EventKind::Null,
+    EventKind::MouseDown,
+    EventKind::MouseUp,
+    EventKind::KeyDown,
+    EventKind::KeyUp,
+    EventKind::Update,
+    EventKind::Activate,
+];
+
 impl EventKind {
+    /// The kind with this event code, if there is one.
+    pub fn of_code(code: u16) -> Option<EventKind>
+        ensures { result ≡ kind_of code }
+    {
+        KINDS
+            .iter()
+            .copied()
+            .find(|kind| u16::from(kind.number()) == code)
+    }
+
     /// The event code of the kind, below 16.
     pub fn number(self) -> u8
         ensures value { result ≡ number_of self }
@@ -51,7 +72,7 @@ const ACTIVE_FLAG: u16 = 1;
 #[derive(Clone, Copy, Debug, PartialEq, Eq)]
 pub struct Event {
     pub what: EventKind,
-    /// The number of the window in an update or activate event; else what the poster said, as a key's code.
+    /// The serial of the window in an update or activate event; else what the poster said, as a key's code.
     pub message: u64,
     /// When the event was posted, in ticks, which are sixtieths of a second; 0 in a null, update or activate event.
     pub when: u32,
@@ -79,7 +100,7 @@ impl Event {
         }
     }
 
-    /// The update event of the window of this number.
+    /// The update event of the window of this serial.
     pub fn update(window: u64) -> Event
         ensures { result ≡ update_event window }
     {
@@ -90,7 +111,7 @@ impl Event {
         }
     }
 
-    /// The activate event that says that the window of this number became active.
+    /// The activate event that says that the window of this serial became active.
     pub fn activation(window: u64) -> Event
         ensures { result ≡ activation window }
     {
@@ -100,7 +121,7 @@ impl Event {
         }
     }
 
-    /// The activate event that says that the window of this number is active no more.
+    /// The activate event that says that the window of this serial is active no more.
     pub fn deactivation(window: u64) -> Event
         ensures { result ≡ deactivation window }
     {

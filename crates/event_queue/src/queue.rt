@@ -2,7 +2,7 @@
 ghost use Rattle.std.specs.Prelude.{◌≡◌, ◌<◌, ◌||◌, not, [], length, if◌then◌else◌, IfOk, Result, Option};
 ghost use Rattle.std.specs.Option.{is_some};
 ghost use Rattle.std.specs.List.{find};
-ghost use Rattle.event_queue.specs.Events.{is_posted, selects, selected};
+ghost use Rattle.event_queue.specs.Events.{is_posted, selects, is_selected};
 ghost use Rattle.event_queue.specs.Queues.{added, posted, without_first, flushed, next_event, told_after, events_after, event_or_null, update_events};
 ghost use Rattle.event_queue.specs.declared.queue.EventError.TheVariants.{OutOfRange};
 
@@ -49,21 +49,21 @@ impl Model for EventQueue {
 /// Whether a search for the first event that the mask selects leaves this one in the queue, where `found` is what it found
 /// before.
 fn stays(found: Option<Event>, mask: u16, event: Event) -> bool
-    ensures { result ≡ (is_some found || not (selected mask event)) }
+    ensures { result ≡ (is_some found || not (is_selected mask event)) }
 {
     found.is_some() || !selects(mask, event.what)
 }
 
 /// Whether a flush leaves this event in the queue, where `stopped` says whether it has stopped.
 fn survives(stopped: bool, mask: u16, event: Event) -> bool
-    ensures { result ≡ (stopped || not (selected mask event)) }
+    ensures { result ≡ (stopped || not (is_selected mask event)) }
 {
     stopped || !selects(mask, event.what)
 }
 
 /// Whether a flush has stopped at this event or, as `stopped` says, before it.
 fn stops(stopped: bool, stop: u16, event: Event) -> bool
-    ensures { result ≡ (stopped || selected stop event) }
+    ensures { result ≡ (stopped || is_selected stop event) }
 {
     stopped || selects(stop, event.what)
 }
@@ -92,7 +92,7 @@ impl EventQueue {
     /// posted.
     pub fn post(&mut self, event: Event) -> Result<bool, EventError>
         ensures answer { result ≡ (if is_posted event.what
-            then Result.Ok (selected self.old.system_mask event) else Result.Err OutOfRange) }
+            then Result.Ok (is_selected self.old.system_mask event) else Result.Err OutOfRange) }
         ensures queue { self.new ≡ (if is_posted event.what
             then record self.old { events = posted self.old.system_mask self.old.events event } else self.old) }
     {
@@ -136,7 +136,7 @@ impl EventQueue {
     /// order of posting, then the update event (*Inside Macintosh* I, "The Toolbox Event Manager", "Priority of Events"); the
     /// null event where there is none. A queued event is taken out.
     ///
-    /// Windows are named by their numbers. `told` is the window last told active, and `active` the active one. Where they
+    /// Windows are named by their serials. `told` is the window last told active, and `active` the active one. Where they
     /// differ, a deactivation of the first is to be told, and then an activation of the second; `told` follows what is told.
     /// `update` is the frontmost window whose update region has a pixel; its update event comes again until it has none.
     pub fn next(
@@ -162,7 +162,7 @@ impl EventQueue {
 
     /// The first queued event that the mask selects.
     fn first(&self, mask: u16) -> Option<Event>
-        ensures { result ≡ find (selected mask) self.now.events }
+        ensures { result ≡ find (is_selected mask) self.now.events }
     {
         self.events
             .iter()
@@ -172,8 +172,8 @@ impl EventQueue {
 
     /// Takes out the first queued event that the mask selects.
     fn take_first(&mut self, mask: u16) -> Option<Event>
-        ensures value { result ≡ find (selected mask) self.old.events }
-        ensures queue { self.new ≡ record self.old { events = without_first (selected mask) self.old.events } }
+        ensures value { result ≡ find (is_selected mask) self.old.events }
+        ensures queue { self.new ≡ record self.old { events = without_first (is_selected mask) self.old.events } }
     {
         let mut found = None;
         for _ in 0..self.events.len() {
@@ -192,7 +192,7 @@ impl EventQueue {
     /// `stop` 0 selects none.
     pub fn flush(&mut self, mask: u16, stop: u16)
         ensures { self.new ≡ record self.old {
-          events = flushed (selected mask) (selected stop) self.old.events;
+          events = flushed (is_selected mask) (is_selected stop) self.old.events;
         } }
     {
         let mut stopped = false;
@@ -209,7 +209,7 @@ impl EventQueue {
 
 /// The update event of the window to be updated first, if there is one and the mask selects it; else the null event.
 fn update_or_null(mask: u16, update: Option<u64>) -> Event
-    ensures { result ≡ event_or_null (find (selected mask) (update_events update)) }
+    ensures { result ≡ event_or_null (find (is_selected mask) (update_events update)) }
 {
     match update {
         None => Event::null(),

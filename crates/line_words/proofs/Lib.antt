@@ -1,4 +1,7 @@
 mod HexLaws
 mod HexLemmas
+pub mod Mapped
 mod NumberLaws
+pub mod Spelled
+pub mod TableLemmas
 pub mod WordLemmas

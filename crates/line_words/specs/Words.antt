@@ -1,7 +1,10 @@
 -- How the words of a line are read from left to right. What is left of a line is None at its end.
-use Rattle.std.specs.Prelude.{ℕ, ◌+◌, ◌-◌, ◌*◌, ℤ, pos, neg_ℤ, Bool, true, false, ◌&&◌, List, [], ◌∷◌, length, fold, Option, Some, None, option_map, Result, Ok, Err, nat_le, ◌==◌, if◌then◌else◌}
+use Rattle.std.specs.Prelude.{ℕ, ◌+◌, ◌-◌, ◌*◌, ℤ, pos, neg_ℤ, nat_abs, Bool, true, false, ◌&&◌, List, [], ◌∷◌, length, fold, Option, Some, None, option_map, Result, Ok, Err, nat_le, ◌==◌, if◌then◌else◌}
 use Rattle.std.specs.Char.{is_ascii_alphabetic, is_ascii_alphanumeric}
+use Rattle.std.specs.Int.{int_max}
 use Rattle.std.specs.List.{list_all}
+use Rattle.tb_geom.specs.declared.point.Point.{Point}
+use Rattle.tb_geom.specs.declared.rect.Rect.{Rect}
 use Rattle.tb_geom.specs.declared.refusal.Refusal.{Refusal}
 use Rattle.tb_geom.specs.declared.refusal.Refusal.TheVariants.{BadSyntax}
 use Rattle.line_words.specs.Hex.{hex_of}
@@ -66,6 +69,24 @@ number_said (b ∷ bs) = if b == 45 then option_map neg_ℤ (digits_of bs) else 
 unfoldable pub number_at : Option (List ℕ) → Field ℤ
 number_at rest = word_at rest >>= λ word. with_rest (number_said word.0) word.1
 
+-- the number by which something is asked for, as a window; a number below 1 is nothing's, as 0 is
+abbrev pub serial_of : ℤ → ℕ
+serial_of number = nat_abs (int_max number (pos 0))
+
+-- a word that is the number of something
+abbrev pub serial_at : Option (List ℕ) → Field ℕ
+serial_at rest = number_at rest >>= λ number. Ok (serial_of number.0, number.1)
+
+-- a point: its column and its row
+abbrev pub point_at : Option (List ℕ) → Field Point
+point_at rest = number_at rest >>= λ h. number_at h.1 >>= λ v. Ok (record { h = h.0; v = v.0 }, v.1)
+
+-- a rectangle: its left, top, right and bottom side
+abbrev pub rect_at : Option (List ℕ) → Field Rect
+rect_at rest =
+    number_at rest >>= λ left. number_at left.1 >>= λ top. number_at top.1 >>= λ right. number_at right.1 >>= λ bottom.
+    Ok (record { left = left.0; top = top.0; right = right.0; bottom = bottom.0 }, bottom.1)
+
 -- `0` is false, and `1` is true
 abbrev pub flag_of : List ℕ → Option Bool
 flag_of [] = None
@@ -117,3 +138,7 @@ text_at (Some (b ∷ xs)) = if b == 34 then quoted_at xs else Err BadSyntax
 abbrev pub end_at : Option (List ℕ) → Result (Unit {0}) Refusal
 end_at None = Ok tt
 end_at (Some rest) = Err BadSyntax
+
+-- what is read at the end of a line: nothing is left after it
+abbrev pub last : {A : Type 0} → Field A → Result A Refusal
+last field = field >>= λ x. end_at x.1 >>= λ _. Ok x.0

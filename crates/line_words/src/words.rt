@@ -2,18 +2,18 @@
 //!
 //! One space parts a word from the next. So `Words` keeps what follows the space that ended the last word; where
 //! the line ended with the word, nothing is left, which is another thing than an empty rest: after a space a word
-//! has to come. Each method takes what is left, and gives the word's value with what is left after it. A word of
-//! another form is BadSyntax.
+//! has to come. Each method takes what is left, and gives the word's value with what is left after it; those whose names
+//! begin with `last` want nothing to be left. A word of another form is BadSyntax.
 ghost use Rattle.std.specs.Prelude.{◌≡◌};
 ghost use Rattle.std.specs.Char.{is_ascii_alphanumeric};
 ghost use Rattle.std.specs.List.{list_all};
-ghost use Rattle.line_words.specs.Words.{word_at, number_at, number_said, flag_at, name_at, is_name, hex_at, text_at, quoted_at, after_quote, is_plain, digits_of, end_at};
+ghost use Rattle.line_words.specs.Words.{word_at, number_at, number_said, serial_at, point_at, rect_at, last, flag_at, name_at, is_name, hex_at, text_at, quoted_at, after_quote, is_plain, digits_of, end_at};
 
 use crate::hex::hex_bytes;
 use crate::piece::Piece;
 use op_ref::BytesRef;
 use std::marker::Model;
-use tb_geom::Refusal;
+use tb_geom::{Point, Rect, Refusal};
 
 /// What is left of a line, as words. Contracts see its bytes, or None at the end of the line.
 #[derive(Drop)]
@@ -76,6 +76,40 @@ impl<'a> Words<'a> {
         Ok((n, rest))
     }
 
+    /// The number of something, as a window: 0, which nothing has, where it is below 1.
+    pub fn serial(self) -> Result<(u64, Words<'a>), Refusal>
+        ensures { result ≡ serial_at self.entry }
+    {
+        let (number, rest) = self.number()?;
+        Ok((number.max(0) as u64, rest))
+    }
+
+    /// A point: its column and its row.
+    pub fn point(self) -> Result<(Point, Words<'a>), Refusal>
+        ensures { result ≡ point_at self.entry }
+    {
+        let (h, rest) = self.number()?;
+        let (v, rest) = rest.number()?;
+        Ok((Point { h, v }, rest))
+    }
+
+    /// A rectangle: its left, top, right and bottom side.
+    pub fn rect(self) -> Result<(Rect, Words<'a>), Refusal>
+        ensures { result ≡ rect_at self.entry }
+    {
+        let (left, rest) = self.number()?;
+        let (top, rest) = rest.number()?;
+        let (right, rest) = rest.number()?;
+        let (bottom, rest) = rest.number()?;
+        let rect = Rect {
+            left,
+            top,
+            right,
+            bottom,
+        };
+        Ok((rect, rest))
+    }
+
     /// A flag: `0` or `1`.
     #[tactic(auto, unfolding(crate::specs::Words::flag_at))]
     pub fn flag(self) -> Result<(bool, Words<'a>), Refusal>
@@ -124,6 +158,60 @@ impl<'a> Words<'a> {
                 _ => Err(Refusal::BadSyntax),
             },
         }
+    }
+
+    /// A number, and nothing after it.
+    pub fn last_number(self) -> Result<i32, Refusal>
+        ensures { result ≡ last (number_at self.entry) }
+    {
+        let (number, rest) = self.number()?;
+        rest.end()?;
+        Ok(number)
+    }
+
+    /// The number of something, and nothing after it.
+    pub fn last_serial(self) -> Result<u64, Refusal>
+        ensures { result ≡ last (serial_at self.entry) }
+    {
+        let (serial, rest) = self.serial()?;
+        rest.end()?;
+        Ok(serial)
+    }
+
+    /// A point, and nothing after it.
+    pub fn last_point(self) -> Result<Point, Refusal>
+        ensures { result ≡ last (point_at self.entry) }
+    {
+        let (point, rest) = self.point()?;
+        rest.end()?;
+        Ok(point)
+    }
+
+    /// A rectangle, and nothing after it.
+    pub fn last_rect(self) -> Result<Rect, Refusal>
+        ensures { result ≡ last (rect_at self.entry) }
+    {
+        let (rect, rest) = self.rect()?;
+        rest.end()?;
+        Ok(rect)
+    }
+
+    /// A flag, and nothing after it.
+    pub fn last_flag(self) -> Result<bool, Refusal>
+        ensures { result ≡ last (flag_at self.entry) }
+    {
+        let (flag, rest) = self.flag()?;
+        rest.end()?;
+        Ok(flag)
+    }
+
+    /// A text, and nothing after it.
+    pub fn last_text(self) -> Result<BytesRef<'a>, Refusal>
+        ensures { result ≡ last (text_at self.entry) }
+    {
+        let (text, rest) = self.text()?;
+        rest.end()?;
+        Ok(text)
     }
 }
 

@@ -5,8 +5,9 @@ ghost use Rattle.tb_geom.specs.Rects.{rect_holds};
 ghost use Rattle.looks.specs.Letters.{Lettering};
 ghost use Rattle.looks.specs.Marks.{look_bit, step_value, step_holds};
 
+use crate::rects::sides;
 use crate::same::{is_same, keeps_text};
-use crate::step::{Mark, Step, sides};
+use crate::step::{Mark, Step};
 use tb_geom::{Point, Rect};
 
 /// A rectangle outside which two looks of as many steps are equal: the box of what the steps that differ

@@ -12,6 +12,7 @@
 //! point, and `area_region` makes the region. Parts are a list of spots: `first_part` gives the part of
 //! the first one that has the point.
 //!
+//! `sides` and what stands beside it write the rectangles of tables: by four sides, and so far from the right side.
 //! All rectangles are in the coordinates of what the look is for, as a window's own.
 #![tactic(auto)]
 
@@ -21,6 +22,7 @@ mod draw;
 mod look;
 mod paint;
 mod pen;
+mod rects;
 mod same;
 mod spot;
 mod step;
@@ -30,5 +32,6 @@ pub use damage::damage_between;
 pub use draw::draw_look;
 pub use look::Look;
 pub use pen::{Pen, Place, Plate};
+pub use rects::{columns, from_right, less, more, sides};
 pub use spot::{Spot, first_part};
-pub use step::{Mark, Step, sides};
+pub use step::{Mark, Step};

@@ -3,7 +3,7 @@ ghost use Rattle.std.specs.Prelude.{◌≡◌, ◌≤◌, true, pos, ◌+ℤ◌,
 ghost use Rattle.std.specs.Int.{int_div_euclid};
 ghost use Rattle.looks.specs.Letters.{pen_column, plate_rect, pen_point, is_pen_column};
 
-use crate::step::sides;
+use crate::rects::sides;
 use tb_geom::{Point, Rect};
 
 /// Where a text begins.

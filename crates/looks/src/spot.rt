@@ -1,6 +1,6 @@
 //! Parts of a window or a control.
 ghost use Rattle.std.specs.Prelude.{◌≡◌};
-ghost use Rattle.looks.specs.Spots.{first_part};
+ghost use Rattle.looks.specs.Spots.{first_part, spot};
 
 use tb_geom::{Point, Rect};
 
@@ -12,6 +12,20 @@ pub struct Spot<T> {
     pub cut: Rect,
     pub rect: Rect,
     pub part: T,
+}
+
+impl<T: Copy> Spot<T> {
+    /// The part that a rectangle is, cut to another, where `on` says so.
+    pub fn new(on: bool, cut: Rect, rect: Rect, part: T) -> Spot<T>
+        ensures { result ≡ spot on cut rect part }
+    {
+        Spot {
+            on,
+            cut,
+            rect,
+            part,
+        }
+    }
 }
 
 /// The part of the first spot that is on and holds the point, and `rest` where none does.

@@ -1,8 +1,9 @@
 //! The steps of a look.
 ghost use Rattle.std.specs.Prelude.{◌≡◌, false};
-ghost use Rattle.looks.specs.Marks.{black_fill, white_fill, black_frame, white_plate, black_text, when, cut_to, box};
+ghost use Rattle.looks.specs.Marks.{black_fill, white_fill, black_frame, white_plate, black_text, when, cut_to};
 
 use crate::pen::{Pen, Place, Plate};
+use crate::rects::sides;
 use bit_map::{Mode, Pattern};
 use draw_port::Shade;
 use tb_geom::Rect;
@@ -126,17 +127,5 @@ impl Default for Step {
             cut: rect,
             mark: Mark::Fill(rect, WHITE),
         }
-    }
-}
-
-/// A rectangle by its sides.
-pub fn sides(left: i32, top: i32, right: i32, bottom: i32) -> Rect
-    ensures { result ≡ box left top right bottom }
-{
-    Rect {
-        left,
-        top,
-        right,
-        bottom,
     }
 }

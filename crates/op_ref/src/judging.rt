@@ -3,8 +3,15 @@ ghost use Rattle.std.specs.Prelude.{◌≡◌, Some, MatchResult};
 ghost use Rattle.op_ref.specs.OpRefs.{are_rows, has_rows, is_line, is_shape_in_range, is_long, region_of, HasForm, HasSome, Stands, IsGood, IsRefused};
 
 use crate::op_ref::{BitsRef, BytesRef, LineRef, OpRef, ShapeRef};
+use draw_port::LONGEST_TEXT;
 use region_bytes::RegionBytes;
 use tb_geom::Refusal;
+
+/// The most pixels that a line may have.
+const LONGEST_LINE: i32 = 1024;
+
+/// The most columns that an image may have, and the most rows.
+const LONGEST_SIDE: i32 = 256;
 
 impl OpRef<'_> {
     /// Judges the operation without memory. The refusal is the first of these that applies: BadSyntax
@@ -98,7 +105,7 @@ impl ShapeRef<'_> {
         ensures { result ≡ is_long self.now }
     {
         match self {
-            ShapeRef::Text(run) => run.text.as_slice().len() > 255,
+            ShapeRef::Text(run) => run.text.as_slice().len() > LONGEST_TEXT,
             _ => false,
         }
     }
@@ -109,7 +116,7 @@ impl LineRef {
     fn is_near(&self) -> bool
         ensures { result ≡ is_line self.now }
     {
-        self.start.is_in_range() && (0 <= self.count && self.count <= 1024)
+        self.start.is_in_range() && (0 <= self.count && self.count <= LONGEST_LINE)
     }
 }
 
@@ -118,7 +125,7 @@ impl BitsRef<'_> {
     fn is_near(&self) -> bool
         ensures { result ≡ is_shape_in_range (ShapeRef.Bits self.now) }
     {
-        self.place.is_in_range() && (self.width <= 256 && self.height <= 256)
+        self.place.is_in_range() && (self.width <= LONGEST_SIDE && self.height <= LONGEST_SIDE)
     }
 
     /// Whether the image has rows and columns, and just the bytes of its rows.

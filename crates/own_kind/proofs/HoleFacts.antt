@@ -12,7 +12,7 @@ use Rattle.def_iface.specs.Sizes.{is_size, is_extent, rect_of}
 use Rattle.def_iface.specs.Meaning.{IsWithin}
 use Rattle.looks.specs.declared.area.Piece.{Piece}
 use Rattle.looks.specs.Areas.{area_holds, piece_fits, added_rect, removed_rect}
-use Rattle.looks.proofs.AreaLemmas.{box-by-corners}
+use Rattle.looks.proofs.AreaLemmas.{box-by-corners, coordinate, coordinate_high, two_fit, without, with_all}
 use Rattle.own_kind.specs.HollowWindows.{outline, third, hole, hollow_structure, hollow_content}
 
 pub and_true : (a b : Bool) → (a && b) ≡ true → (a ≡ true) × (b ≡ true)
@@ -47,12 +47,6 @@ third_is s e =
     let n = size_some s e in
     third_of s.width (omega (arith, ints))
 
-coordinate : (x : ℤ) → negsuc 16383 ≤ℤ x → x ≤ℤ pos 16383 → is_coordinate x ≡ true
-coordinate x a b = grind (arith, ints)
-
-coordinate_high : (x : ℤ) → is_coordinate x ≡ true → x ≤ℤ pos 16383
-coordinate_high x e = grind (arith, ints)
-
 -- a window of this size is in range
 record IsLow (s : Size) : Type 0 where
   pub across : s.width ≤ℤ pos 16382
@@ -64,12 +58,6 @@ low_of s e =
     let w = coordinate_high (s.width +ℤ pos 1) both.0 in
     let h = coordinate_high (s.height +ℤ pos 1) both.1 in
     record { across = omega (arith, ints); down = omega (arith, ints) }
-
--- two pieces that fit
-two : (a b : Piece) → piece_fits a ≡ true → piece_fits b ≡ true → All (λ piece. piece_fits piece ≡ true) (a ∷ b ∷ [])
-two a b x y zero d l = x
-two a b x y (suc zero) d l = y
-two a b x y (suc (suc k)) d l = absurd (omega arith)
 
 module _ (s : Size) (e : is_size s ≡ true) where
   hole_fits : IsLow s → is_in_range (hole s) ≡ true
@@ -89,19 +77,10 @@ module _ (s : Size) (e : is_size s ≡ true) where
       λ i. true && (true && (right i && bottom i))
 
   pub structure_fits : is_in_range (outline s) ≡ true → All (λ piece. piece_fits piece ≡ true) (hollow_structure s)
-  structure_fits r = two (added_rect (outline s)) (removed_rect (hole s)) r (hole_fits (low_of s r))
+  structure_fits r = two_fit (added_rect (outline s)) (removed_rect (hole s)) r (hole_fits (low_of s r))
 
   pub content_fits : is_in_range (outline s) ≡ true → All (λ piece. piece_fits piece ≡ true) (hollow_content s)
-  content_fits r = two (added_rect (rect_of s)) (removed_rect (hole s)) (size_fits (low_of s r)) (hole_fits (low_of s r))
-
--- what a rectangle without another holds
-without : (x y : Bool) → (if x then false else (if y then true else false)) ≡ true → (x ≡ false) × (y ≡ true)
-without true y e = absurd (cc)
-without false true e = (refl, refl)
-without false false e = absurd (cc)
-
-with_all : (x y : Bool) → x ≡ false → y ≡ true → (if x then false else (if y then true else false)) ≡ true
-with_all x y a b = (λ i. if a i then false else (if b i then true else false))
+  content_fits r = two_fit (added_rect (rect_of s)) (removed_rect (hole s)) (size_fits (low_of s r)) (hole_fits (low_of s r))
 
 not-above : (r : Rect) (p : Point) → p.v <ℤ r.top → rect_holds r p ≡ false
 not-above r p a = by_test (rect_holds r p) refl

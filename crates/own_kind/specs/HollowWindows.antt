@@ -1,20 +1,18 @@
 -- The hollow window as plain data. Rectangles are box left top right bottom, local to the window, whose size is w by h.
-use Rattle.std.specs.Prelude.{ℕ, nat_abs, Bool, true, false, ◌&&◌, if◌then◌else◌, List, [], ◌∷◌, ◌++◌, take}
+use Rattle.std.specs.Prelude.{ℕ, nat_abs, Bool, true, false, ◌&&◌, if◌then◌else◌, List, [], ◌∷◌, ◌++◌}
 use Rattle.std.specs.Prelude.{ℤ, pos, ◌+ℤ◌, ◌-ℤ◌}
 use Rattle.std.specs.Int.{int_div_euclid}
-use Rattle.std.specs.Option.{unwrap_or, option_map_or}
 use Rattle.tb_geom.specs.declared.point.Point.{Point}
 use Rattle.tb_geom.specs.declared.rect.Rect.{Rect}
+use Rattle.def_iface.specs.declared.keeping.Flags.{Flags}
 use Rattle.def_iface.specs.declared.size.Size.{Size}
 use Rattle.def_iface.specs.declared.window_def.Stage.{Stage}
 use Rattle.def_iface.specs.declared.window_def.Hit.{Hit}
 use Rattle.def_iface.specs.declared.window_def.Hit.TheVariants.{InContent, InDrag, InGrow, InGoAway, InZoomIn, InZoomOut}
 use Rattle.def_iface.specs.declared.window_def.WindowChange.{WindowChange}
-use Rattle.def_iface.specs.declared.window_def.WindowChange.TheVariants.{Resized, Titled, Highlighted, Closable, Zoomed}
-use Rattle.def_iface.specs.declared.window_def.WindowChange.TheVariants.{Tracked}
 use Rattle.def_iface.specs.Sizes.{rect_of}
-use Rattle.def_iface.specs.News.{News}
 use Rattle.def_iface.specs.Meaning.{Definition, size_after}
+use Rattle.def_iface.specs.Keeping.{flags_after, title_after, flags_in, title_in, size_in}
 use Rattle.looks.specs.declared.area.Piece.{Piece}
 use Rattle.looks.specs.Areas.{added_rect, removed_rect, area_holds}
 use Rattle.looks.specs.declared.spot.Spot.{Spot}
@@ -22,7 +20,6 @@ use Rattle.looks.specs.Spots.{first_part, spot}
 use Rattle.looks.specs.declared.step.Step.{Step}
 use Rattle.looks.specs.Letters.{lettering}
 use Rattle.looks.specs.Marks.{box, neg, black_fill, white_fill, black_frame, black_text, when, cut_to, look_bit}
-use Rattle.own_kind.specs.declared.tables.Flags.{Flags}
 use Rattle.own_kind.specs.declared.hollow_window.HollowWindow.{HollowWindow}
 
 -- all of the window, its hole too
@@ -101,21 +98,6 @@ hollow_spots f s =
 abbrev pub hollow_hit : Flags → Size → Point → Hit
 hollow_hit f s p = if area_holds (hollow_content s) p then InContent else first_part (hollow_spots f s) InDrag p
 
--- the flags, the title, of which 255 characters are kept, and the size, once it is told this
-abbrev pub flags_in : News → Flags → Flags
-flags_in n f = record {
-  highlighted = unwrap_or n.highlighted f.highlighted;
-  go_away = unwrap_or n.closable f.go_away;
-  zoomed = unwrap_or n.zoomed f.zoomed;
-  tracked = unwrap_or n.tracked f.tracked;
-}
-
-abbrev pub title_in : News → List ℕ → List ℕ
-title_in n title = option_map_or (λ t. take 255 t) n.title title
-
-abbrev pub size_in : News → Size → Size
-size_in n size = unwrap_or n.size size
-
 -- a hollow window's definition as a value
 abbrev pub hollow_window : Stage → Flags → List ℕ → Size → Definition
 hollow_window stage f title size = record {
@@ -131,25 +113,6 @@ hollow_window stage f title size = record {
 -- what the window is
 abbrev pub window_meaning : HollowWindow → Definition
 window_meaning w = hollow_window w.stage w.flags w.title w.size
-
--- the flags after a change
-abbrev pub flags_after : WindowChange → Flags → Flags
-flags_after (Highlighted b) f = record f { highlighted = b }
-flags_after (Closable b) f = record f { go_away = b }
-flags_after (Zoomed b) f = record f { zoomed = b }
-flags_after (Tracked b) f = record f { tracked = b }
-flags_after (Resized s) f = f
-flags_after (Titled t) f = f
-
--- the title after a change: at most 255 characters are kept
-abbrev pub title_after : WindowChange → List ℕ → List ℕ
-title_after (Titled t) title = take 255 t.now
-title_after _ title = title
-
--- the change brings no title
-abbrev pub keeps_title : WindowChange → Bool
-keeps_title (Titled t) = false
-keeps_title _ = true
 
 -- the window after a change
 abbrev pub told_window : WindowChange → HollowWindow → HollowWindow

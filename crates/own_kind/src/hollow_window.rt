@@ -1,6 +1,6 @@
 //! The hollow kind of window: a bar on top, and below it a content in two parts, with a hole between them in which
 //! whatever is behind the window shows and is hit.
-ghost use Rattle.std.specs.Prelude.{◌≡◌, true, false, take};
+ghost use Rattle.std.specs.Prelude.{◌≡◌, true, false};
 ghost use Rattle.tb_geom.specs.declared.point.Point.{Point};
 ghost use Rattle.tb_geom.specs.Rects.{in_plane, rect_holds};
 ghost use Rattle.def_iface.specs.News.{told_change};
@@ -9,12 +9,11 @@ ghost use Rattle.def_iface.specs.Meaning.{SameRegions, Hears, IsDamage, is_fitti
 ghost use Rattle.looks.specs.Letters.{Lettering};
 ghost use Rattle.looks.specs.Marks.{look_bit};
 ghost use Rattle.own_kind.specs.HollowWindows.{hollow_look, window_meaning, told_window, window_at};
-ghost use Rattle.own_kind.specs.HollowWindows.{flags_after, title_after, keeps_title};
 
-use crate::tables::{Flags, content_of, hollow_hit, hollow_look, outline, structure_of};
-use def_iface::{Hit, Size, Stage, WindowChange, WindowDef, WindowRegions};
+use crate::tables::{content_of, hollow_hit, hollow_look, outline, structure_of};
+use def_iface::{Flags, Hit, Size, Stage, WindowChange, WindowDef, WindowRegions};
 use draw_port::{Canvas, ShortText};
-use looks::{area_region, damage_between, draw_look, sides};
+use looks::{area_region, damage_between, draw_look};
 use std::alloc::{AllocError, Global};
 use tb_geom::{Point, Rect};
 
@@ -34,12 +33,7 @@ impl HollowWindow {
     {
         HollowWindow {
             stage: Stage::Fresh,
-            flags: Flags {
-                highlighted: false,
-                go_away: false,
-                zoomed: false,
-                tracked: false,
-            },
+            flags: Flags::new(),
             title: ShortText::new(b"").unwrap(),
             size: Size {
                 width: 0,
@@ -47,75 +41,6 @@ impl HollowWindow {
             },
         }
     }
-}
-
-/// What a window was told, with the change.
-fn flags_after(flags: Flags, change: &WindowChange<'_>) -> Flags
-    ensures { result ≡ flags_after change.now flags }
-{
-    match change {
-        WindowChange::Highlighted(on) => Flags {
-            highlighted: *on,
-            ..flags
-        },
-        WindowChange::Closable(on) => Flags {
-            go_away: *on,
-            ..flags
-        },
-        WindowChange::Zoomed(on) => Flags {
-            zoomed: *on,
-            ..flags
-        },
-        WindowChange::Tracked(on) => Flags {
-            tracked: *on,
-            ..flags
-        },
-        WindowChange::Resized(_) | WindowChange::Titled(_) => flags,
-    }
-}
-
-/// The size after a change.
-fn size_after(size: Size, change: &WindowChange<'_>) -> Size
-    ensures { result ≡ size_after change.now size }
-{
-    match change {
-        WindowChange::Resized(new) => *new,
-        _ => size,
-    }
-}
-
-/// The first 255 of these characters.
-fn shortened(characters: &[u8]) -> ShortText
-    ensures { result ≡ take 255 characters.now }
-{
-    ShortText::new(&characters[..255_usize.min(characters.len())]).unwrap()
-}
-
-/// The title after a change.
-fn title_after(title: &ShortText, change: &WindowChange<'_>) -> ShortText
-    ensures { result ≡ title_after change.now title.now }
-{
-    match change {
-        WindowChange::Titled(characters) => shortened(characters),
-        _ => title.copy(),
-    }
-}
-
-/// Whether the change brings no title.
-fn keeps_title(change: &WindowChange<'_>) -> bool
-    ensures { result ≡ keeps_title change.now }
-{
-    match change {
-        WindowChange::Titled(_) => false,
-        _ => true,
-    }
-}
-
-/// All pixels that coordinates reach.
-fn plane() -> Rect
-    ensures { (p : Point) → in_plane p ≡ true → rect_holds result p ≡ true }
-{
-    sides(-16384, -16384, 16384, 16384)
 }
 
 /// What a window's look is made of, beside its title.
@@ -140,7 +65,7 @@ fn told_damage(old: Shown, new: Shown, same_title: bool) -> Rect
             same_title,
         )
     } else {
-        plane()
+        Rect::plane()
     }
 }
 
@@ -177,11 +102,11 @@ impl WindowDef for HollowWindow {
             size: self.size,
         };
         let new = Shown {
-            flags: flags_after(self.flags, &change),
-            size: size_after(self.size, &change),
+            flags: change.flags_after(self.flags),
+            size: change.size_after(self.size),
         };
-        let title = title_after(&self.title, &change);
-        let damage = told_damage(old, new, keeps_title(&change));
+        let title = change.title_after(&self.title);
+        let damage = told_damage(old, new, change.keeps_title());
         self.flags = new.flags;
         self.title = title;
         self.size = new.size;

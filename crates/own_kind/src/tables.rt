@@ -1,43 +1,14 @@
 //! What a hollow window looks like, which pixels it has, and which part of it a point lies in, as tables.
-ghost use Rattle.std.specs.Prelude.{◌≡◌, true, length, nat_abs, pos, ◌≤ℤ◌, ◌+ℤ◌, ◌-ℤ◌};
+ghost use Rattle.std.specs.Prelude.{◌≡◌, true, length, pos, ◌≤ℤ◌, ◌-ℤ◌};
 ghost use Rattle.tb_geom.specs.Rects.{is_coordinate};
 ghost use Rattle.def_iface.specs.Sizes.{is_size};
-ghost use Rattle.looks.specs.Marks.{box};
-ghost use Rattle.looks.specs.Spots.{spot};
 ghost use Rattle.own_kind.specs.HollowWindows.{outline, bar, lower_edge, go_away_box, zoom_box, third, hole};
 ghost use Rattle.own_kind.specs.HollowWindows.{hollow_structure, hollow_content, bar_line, go_away_line, zoom_line};
 ghost use Rattle.own_kind.specs.HollowWindows.{hollow_look, zoom_hit, hollow_spots, hollow_hit};
 
-use def_iface::{Hit, Size};
-use looks::{Look, Piece, Spot, Step, area_has, first_part, sides};
+use def_iface::{Flags, Hit, Size};
+use looks::{Look, Piece, Spot, Step, area_has, columns, first_part, from_right, more, sides};
 use tb_geom::{Point, Rect};
-
-/// What a window was told beside its size and its title.
-#[derive(Clone, Copy)]
-pub(crate) struct Flags {
-    pub highlighted: bool,
-    /// It has a go-away box.
-    pub go_away: bool,
-    pub zoomed: bool,
-    /// Its go-away box is tracked, with the point inside.
-    pub tracked: bool,
-}
-
-/// The number `d` below `x`.
-fn less(x: i32, d: u8) -> i32
-    requires { is_coordinate x ≡ true }
-    ensures { result ≡ x -ℤ pos d }
-{
-    x - i32::from(d)
-}
-
-/// The number `d` above `x`.
-fn more(x: i32, d: u8) -> i32
-    requires { is_coordinate x ≡ true }
-    ensures { result ≡ x +ℤ pos d }
-{
-    x + i32::from(d)
-}
 
 /// All of the window, its hole too.
 pub(crate) fn outline(size: Size) -> Rect
@@ -69,20 +40,12 @@ fn go_away_box() -> Rect
     sides(8, -16, 19, -5)
 }
 
-/// The rectangle of the bar whose left and right side lie so far left of the content's right side.
-fn from_right(size: Size, left: u8, top: i32, right: u8, bottom: i32) -> Rect
-    requires { is_size size ≡ true }
-    ensures { result ≡ box (size.width -ℤ pos left) top (size.width -ℤ pos right) bottom }
-{
-    sides(less(size.width, left), top, less(size.width, right), bottom)
-}
-
 /// The zoom box.
 fn zoom_box(size: Size) -> Rect
     requires { is_size size ≡ true }
     ensures { result ≡ zoom_box size }
 {
-    from_right(size, 19, -16, 8, -5)
+    from_right(size.width, 19, -16, 8, -5)
 }
 
 /// The columns of the hole, and as many to the right of it.
@@ -137,14 +100,6 @@ pub(crate) fn content_of(size: Size) -> [Piece; 2]
     [Piece::added(size.rect()), Piece::removed(hole(size))]
 }
 
-/// How many columns the window has between its left and its right edge.
-fn columns(size: Size) -> u16
-    requires { is_size size ≡ true }
-    ensures { result ≡ nat_abs size.width }
-{
-    size.width as u16
-}
-
 /// Black, the bar with its frame, and the title.
 fn bar_line(flags: Flags, size: Size) -> [Step; 4]
     requires { is_size size ≡ true }
@@ -154,7 +109,7 @@ fn bar_line(flags: Flags, size: Size) -> [Step; 4]
         Step::black_fill(outline(size)),
         Step::white_fill(bar(size)),
         Step::black_frame(bar(size)).when(flags.highlighted),
-        Step::black_text(bar(size), columns(size), -6),
+        Step::black_text(bar(size), columns(size.width), -6),
     ]
 }
 
@@ -178,7 +133,7 @@ fn zoom_line(flags: Flags, size: Size) -> [Step; 3]
     ensures { result ≡ zoom_line flags size }
 {
     let bar = bar(size);
-    let mark = Step::black_fill(from_right(size, 16, -13, 11, -8));
+    let mark = Step::black_fill(from_right(size.width, 16, -13, 11, -8));
     [
         Step::white_fill(zoom_box(size)).cut_to(bar),
         Step::black_frame(zoom_box(size)).cut_to(bar),
@@ -210,17 +165,6 @@ fn zoom_hit(flags: Flags) -> Hit
     }
 }
 
-fn spot(on: bool, cut: Rect, rect: Rect, part: Hit) -> Spot<Hit>
-    ensures { result ≡ spot on cut rect part }
-{
-    Spot {
-        on,
-        cut,
-        rect,
-        part,
-    }
-}
-
 /// The parts that a highlighted window has beside the one by which it is dragged.
 fn spots_of(flags: Flags, size: Size) -> [Spot<Hit>; 3]
     requires { is_size size ≡ true }
@@ -229,14 +173,14 @@ fn spots_of(flags: Flags, size: Size) -> [Spot<Hit>; 3]
     let closes = flags.highlighted && flags.go_away;
     let edge = lower_edge(size);
     [
-        spot(closes, bar(size), go_away_box(), Hit::InGoAway),
-        spot(
+        Spot::new(closes, bar(size), go_away_box(), Hit::InGoAway),
+        Spot::new(
             flags.highlighted,
             bar(size),
             zoom_box(size),
             zoom_hit(flags),
         ),
-        spot(flags.highlighted, edge, edge, Hit::InGrow),
+        Spot::new(flags.highlighted, edge, edge, Hit::InGrow),
     ]
 }
 

@@ -1,49 +1,46 @@
--- The banner window as plain data: its box, its picture, and what a click on it hits.
-use Rattle.std.specs.Prelude.{ℕ, pos, negsuc, ◌+ℤ◌, true, codes, if◌then◌else◌, List}
+-- The banner window as plain data: its box, its look, and what a click on it hits.
+use Rattle.std.specs.Prelude.{ℕ, pos, ◌+ℤ◌, true, codes, List, [], ◌∷◌}
 use Rattle.tb_geom.specs.declared.point.Point.{Point}
 use Rattle.tb_geom.specs.declared.rect.Rect.{Rect}
-use Rattle.tb_geom.specs.Points.{PixelSet}
 use Rattle.tb_geom.specs.Rects.{rect_holds}
-use Rattle.bit_map.specs.declared.pattern.TheConstants.Pattern.{BLACK, WHITE}
-use Rattle.bit_map.specs.Patterns.{pattern_bit}
-use Rattle.strike_font.specs.Text.{text_holds}
-use Rattle.std.specs.Option.{unwrap_or}
 use Rattle.def_iface.specs.declared.size.Size.{Size}
 use Rattle.def_iface.specs.declared.window_def.Hit.{Hit}
 use Rattle.def_iface.specs.declared.window_def.Hit.TheVariants.{NoHit, InContent, InDrag}
 use Rattle.def_iface.specs.declared.window_def.Stage.{Stage}
 use Rattle.def_iface.specs.Sizes.{rect_of}
 use Rattle.def_iface.specs.Meaning.{Definition}
+use Rattle.def_iface.specs.Keeping.{size_in}
+use Rattle.looks.specs.declared.pen.Pen.TheVariants.{At}
+use Rattle.looks.specs.declared.step.Mark.TheVariants.{Text}
+use Rattle.looks.specs.declared.step.Step.{Step}
+use Rattle.looks.specs.Letters.{lettering}
+use Rattle.looks.specs.Marks.{box, neg, black_fill, white_fill, look_bit}
+use Rattle.looks.specs.Spots.{spot, first_part}
 
 -- nine rows above the content, with one row of the frame between the two
 abbrev pub banner_of : Size → Rect
-banner_of s = record { left = pos 0; top = negsuc 9; right = s.width; bottom = negsuc 0 }
+banner_of s = box (pos 0) (neg 10) s.width (neg 1)
 
 -- content and banner with a frame of one pixel around both
 abbrev pub box_of : Size → Rect
-box_of s = record { left = negsuc 0; top = negsuc 10; right = s.width +ℤ pos 1; bottom = s.height +ℤ pos 1 }
-
--- a white banner, and black around it
-abbrev pub frame_picture : Size → PixelSet
-frame_picture s p = if rect_holds (banner_of s) p then pattern_bit WHITE p else pattern_bit BLACK p
+box_of s = box (neg 1) (neg 11) (s.width +ℤ pos 1) (s.height +ℤ pos 1)
 
 -- the word that stands on the banner
 abbrev pub word : List ℕ
 word = codes "Hello"
 
--- the same with the word in black, from 1 -2 on
-abbrev pub worded_picture : Size → List ℕ → PixelSet
-worded_picture s font p = if text_holds font word (record { h = pos 1; v = negsuc 1 }) p then true else frame_picture s p
-
--- all of this in a font, and in it a white content
-abbrev pub banner_picture : Size → List ℕ → PixelSet
-banner_picture s font p = if rect_holds (rect_of s) p then pattern_bit WHITE p else worded_picture s font p
+-- black all over, a white banner, the word in black from 1 -2 on, and a white content
+abbrev pub banner_look : Size → List Step
+banner_look s =
+    black_fill (box_of s)
+    ∷ white_fill (banner_of s)
+    ∷ record { on = true; cut = box_of s; mark = Text (record { pen = At (pos 1); baseline = neg 2 }) }
+    ∷ white_fill (rect_of s)
+    ∷ []
 
 -- the banner drags the window
 abbrev pub banner_hit : Size → Point → Hit
-banner_hit s p =
-    if rect_holds (rect_of s) p then InContent
-    else (if rect_holds (banner_of s) p then InDrag else NoHit)
+banner_hit s p = first_part (spot true (rect_of s) (rect_of s) InContent ∷ spot true (banner_of s) (banner_of s) InDrag ∷ []) NoHit p
 
 -- a banner window's definition as a value
 abbrev pub banner_window : Stage → Size → Definition
@@ -53,6 +50,6 @@ banner_window stage size = record {
   structure = λ s. rect_holds (box_of s);
   content = λ s. rect_holds (rect_of s);
   bounds = box_of;
-  picture = λ n. banner_picture (unwrap_or n.size size);
-  hit = λ n. banner_hit (unwrap_or n.size size);
+  picture = λ n font. look_bit (lettering font word) (banner_look (size_in n size));
+  hit = λ n. banner_hit (size_in n size);
 }

@@ -1,28 +1,21 @@
 //! A kind of window of our own: a white banner with a word on it above the content, and a black frame around both.
-ghost use Rattle.std.specs.Prelude.{◌≡◌, true};
+ghost use Rattle.std.specs.Prelude.{◌≡◌, true, false, List, ℕ};
+ghost use Rattle.tb_geom.specs.declared.point.Point.{Point};
+ghost use Rattle.tb_geom.specs.Rects.{in_plane, rect_holds};
 ghost use Rattle.def_iface.specs.Sizes.{is_size};
-ghost use Rattle.own_window.specs.Banners.{banner_of, box_of, banner_window};
+ghost use Rattle.looks.specs.Letters.{lettering};
+ghost use Rattle.looks.specs.Marks.{look_bit};
+ghost use Rattle.own_window.specs.Banners.{banner_of, box_of, banner_look, banner_hit, banner_window, word};
 
-use bit_map::{Mode, Pattern};
 use def_iface::{Hit, Size, Stage, WindowChange, WindowDef, WindowRegions};
 use draw_port::Canvas;
+use looks::{Mark, Pen, Place, Spot, Step, damage_between, draw_look, first_part, more, sides};
 use scan_region::Region;
 use std::alloc::{AllocError, Global};
 use tb_geom::{Point, Rect};
 
-/// Every pixel that there is.
-const EVERYWHERE: Rect = Rect {
-    left: -16384,
-    top: -16384,
-    right: 16384,
-    bottom: 16384,
-};
-
 /// What stands on the banner.
 const WORD: &[u8] = b"Hello";
-
-/// Where its baseline begins.
-const PEN: Point = Point { h: 1, v: -2 };
 
 /// The definition of one banner window: where it stands in its life, and the size that it was told.
 #[derive(Drop)]
@@ -50,12 +43,7 @@ impl Banner {
 fn banner_of(size: Size) -> Rect
     ensures { result ≡ banner_of size }
 {
-    Rect {
-        left: 0,
-        top: -10,
-        right: size.width,
-        bottom: -1,
-    }
+    sides(0, -10, size.width, -1)
 }
 
 /// The box of the whole window: content and banner, and the frame around both.
@@ -63,11 +51,54 @@ fn box_of(size: Size) -> Rect
     requires { is_size size ≡ true }
     ensures { result ≡ box_of size }
 {
-    Rect {
-        left: -1,
-        top: -11,
-        right: size.width + 1,
-        bottom: size.height + 1,
+    sides(-1, -11, more(size.width, 1), more(size.height, 1))
+}
+
+/// What the window looks like: each step is drawn over those before it.
+fn look_of(size: Size) -> [Step; 4]
+    requires { is_size size ≡ true }
+    ensures { result ≡ banner_look size }
+{
+    let place = Place {
+        pen: Pen::At(1),
+        baseline: -2,
+    };
+    [
+        Step::black_fill(box_of(size)),
+        Step::white_fill(banner_of(size)),
+        Step {
+            on: true,
+            cut: box_of(size),
+            mark: Mark::Text(place),
+        },
+        Step::white_fill(size.rect()),
+    ]
+}
+
+/// The part of the window that the point lies in: the banner drags it.
+fn hit_of(size: Size, point: Point) -> Hit
+    ensures { result ≡ banner_hit size point }
+{
+    let content = size.rect();
+    let banner = banner_of(size);
+    let spots = [
+        Spot::new(true, content, content, Hit::InContent),
+        Spot::new(true, banner, banner, Hit::InDrag),
+    ];
+    first_part(&spots, Hit::NoHit, point)
+}
+
+/// A rectangle outside which a window that is told another size looks the same. Before it was told the first one, the
+/// old one is no size, and all may change.
+fn damage_of(old: Size, new: Size) -> Rect
+    requires { is_size new ≡ true }
+    ensures { (font : List ℕ) (p : Point) → in_plane p ≡ true → rect_holds result p ≡ false
+        → look_bit (lettering font word) (banner_look new) p ≡ look_bit (lettering font word) (banner_look old) p }
+{
+    if old.is_in_range() {
+        damage_between(&look_of(old), &look_of(new), true)
+    } else {
+        Rect::plane()
     }
 }
 
@@ -84,12 +115,12 @@ impl WindowDef for Banner {
         self.stage = Stage::Live;
     }
 
-    // The answer is the damage, outside which the picture is as it was. It may be greater than it has to be.
+    // The answer is the damage, outside which the picture is as it was.
     fn told(&mut self, change: WindowChange<'_>) -> Rect {
-        if let WindowChange::Resized(size) = change {
-            self.size = size;
-        }
-        EVERYWHERE
+        let size = change.size_after(self.size);
+        let damage = damage_of(self.size, size);
+        self.size = size;
+        damage
     }
 
     fn regions_for(&self, alloc: Global, size: Size) -> Result<WindowRegions, AllocError> {
@@ -103,20 +134,11 @@ impl WindowDef for Banner {
     }
 
     fn hit(&self, point: Point) -> Hit {
-        if self.size.rect().contains(point) {
-            Hit::InContent
-        } else if banner_of(self.size).contains(point) {
-            Hit::InDrag
-        } else {
-            Hit::NoHit
-        }
+        hit_of(self.size, point)
     }
 
     fn draw(&self, canvas: &mut Canvas<'_>) {
-        canvas.fill_all(Pattern::BLACK, Mode::Copy);
-        canvas.fill(banner_of(self.size), Pattern::WHITE, Mode::Copy);
-        canvas.text(WORD, PEN, Mode::Or);
-        canvas.fill(self.size.rect(), Pattern::WHITE, Mode::Copy);
+        draw_look(canvas, &look_of(self.size), WORD);
     }
 
     fn dispose(&mut self) {

@@ -10,7 +10,7 @@ use Rattle.tb_geom.proofs.PixelsLemmas.{same_holds}
 use Rattle.region_bytes.specs.Edges.{IsCoordinate}
 use Rattle.region_bytes.specs.Points.{PointRow, IsInRange, inverted, points_of}
 use Rattle.region_bytes.specs.Words.{data_words, words_in, words_of, bytes_of, box_of, box_words}
-use Rattle.region_bytes.specs.Bytes.{IsTold, IsWord, IsForm, IsRegionBytes, IsTooLong, IsBad}
+use Rattle.region_bytes.specs.Bytes.{IsWithoutEnd, IsWord, IsForm, IsRegionBytes, IsTooLong, IsBad}
 use Rattle.region_bytes.specs.Text.{IsText}
 use Rattle.region_bytes.proofs.Written.{data_words-cons, bytes_of-words, length-bytes_of}
 use Rattle.region_bytes.proofs.Rows.{same_canonical}
@@ -33,14 +33,14 @@ same_columns (x ∷ xs) (y ∷ ys) p q a b e =
     ((λ i. t.0 i ∷ r.0 i), r.1)
 
 -- rows of the same words are the same
-pub same_data : (a b : List PointRow) → All IsTold a → All IsTold b → data_words a ≡ data_words b → a ≡ b
+pub same_data : (a b : List PointRow) → All IsWithoutEnd a → All IsWithoutEnd b → data_words a ≡ data_words b → a ≡ b
 same_data [] [] g h e = refl
-same_data [] (s ∷ b) g h e = absurd ((All-head IsTold s b h).0 (sym (head_same _ _ _ _ (e ∙ data_words-cons s b)).0))
-same_data (r ∷ a) [] g h e = absurd ((All-head IsTold r a g).0 (head_same _ _ _ _ (sym (data_words-cons r a) ∙ e)).0)
+same_data [] (s ∷ b) g h e = absurd ((All-head IsWithoutEnd s b h).0 (sym (head_same _ _ _ _ (e ∙ data_words-cons s b)).0))
+same_data (r ∷ a) [] g h e = absurd ((All-head IsWithoutEnd r a g).0 (head_same _ _ _ _ (sym (data_words-cons r a) ∙ e)).0)
 same_data (r ∷ a) (s ∷ b) g h e =
     let t = head_same _ _ _ _ (sym (data_words-cons r a) ∙ e ∙ data_words-cons s b) in
-    let c = same_columns r.1 s.1 _ _ (All-head IsTold r a g).1 (All-head IsTold s b h).1 t.1 in
-    let rest = same_data a b (All-tail IsTold r a g) (All-tail IsTold s b h) c.1 in
+    let c = same_columns r.1 s.1 _ _ (All-head IsWithoutEnd r a g).1 (All-head IsWithoutEnd s b h).1 t.1 in
+    let rest = same_data a b (All-tail IsWithoutEnd r a g) (All-tail IsWithoutEnd s b h) c.1 in
     λ i. (t.0 i, c.0 i) ∷ rest i
 
 -- 32767 is no coordinate
@@ -51,8 +51,8 @@ pub columns_told : (xs : List ℤ) → All IsCoordinate xs → All (λ x. x ≢ 
 columns_told xs all = All-weaker IsCoordinate (λ x. x ≢ pos 32767) not_end xs all
 
 -- so rows in range are told
-pub told_in_range : (rows : List PointRow) → All IsInRange rows → All IsTold rows
-told_in_range rows all = All-weaker IsInRange IsTold (λ row in_range. (not_end row.0 in_range.0, columns_told row.1 in_range.1)) rows all
+pub told_in_range : (rows : List PointRow) → All IsInRange rows → All IsWithoutEnd rows
+told_in_range rows all = All-weaker IsInRange IsWithoutEnd (λ row in_range. (not_end row.0 in_range.0, columns_told row.1 in_range.1)) rows all
 
 -- ---- bytes
 

@@ -13,7 +13,7 @@ use Rattle.region_bytes.specs.Points.{PointRow, in_rows, inverted, points_of}
 use Rattle.region_bytes.proofs.Edges.{int_le-true, int_le-false}
 use Rattle.region_bytes.proofs.Tests.{int_eq-same, int_eq-apart}
 use Rattle.region_bytes.specs.Words.{data_words}
-use Rattle.region_bytes.specs.Bytes.{IsWord, IsTold}
+use Rattle.region_bytes.specs.Bytes.{IsWord, IsWithoutEnd}
 use Rattle.region_bytes.specs.Scan.{columns_in, odd_at}
 use Rattle.region_bytes.proofs.Rows.{inverted-points_of}
 use Rattle.region_bytes.proofs.Found.{regroup, IsFormRow}
@@ -123,21 +123,21 @@ within_row (x ∷ xs) rest n =
     (λ i. cond (not (e i)) (x ∷ columns_in (not (e i)) (xs ++ (pos 32767 ∷ rest))) (columns_in (not (e i)) (xs ++ (pos 32767 ∷ rest))))
     ∙ ap (λ l. x ∷ l) (within_row xs rest (All-tail (λ x. x ≡ pos 32767 → ⊥) x xs n))
 
-pub columns_in-data : (rows : List PointRow) → All IsTold rows → columns_in false (data_words rows) ≡ columns_of rows
+pub columns_in-data : (rows : List PointRow) → All IsWithoutEnd rows → columns_in false (data_words rows) ≡ columns_of rows
 unfolding columns_in columns_of
 columns_in-data [] t = refl
 columns_in-data (row ∷ rows) t =
     ap (columns_in false) (regroup row rows)
-    ∙ within_row row.1 (data_words rows) (All-head IsTold row rows t).1
-    ∙ ap (λ l. row.1 ++ l) (columns_in-data rows (All-tail IsTold row rows t))
+    ∙ within_row row.1 (data_words rows) (All-head IsWithoutEnd row rows t).1
+    ∙ ap (λ l. row.1 ++ l) (columns_in-data rows (All-tail IsWithoutEnd row rows t))
 
 -- the test of the flags is the test of the form
-pub closed_from : (rows : List PointRow) → All IsFormRow rows → All IsTold rows → ((n : ℕ) → n < 65536 → odd_at (cast_signed w16 n) (columns_in false (data_words rows)) ≡ false) → (p : Point) → All (λ (row : PointRow). row.0 ≤ℤ p.v) rows → inverted (points_of rows) p ≡ false
+pub closed_from : (rows : List PointRow) → All IsFormRow rows → All IsWithoutEnd rows → ((n : ℕ) → n < 65536 → odd_at (cast_signed w16 n) (columns_in false (data_words rows)) ≡ false) → (p : Point) → All (λ (row : PointRow). row.0 ≤ℤ p.v) rows → inverted (points_of rows) p ≡ false
 closed_from rows f t odd p l =
     inverted-points_of rows p ∙ inside-all rows p.h p.v l
     ∙ nowhere (columns_of rows) p.h (all_words rows f) (every (columns_of rows) (all_words rows f) (λ n m. ap (odd_at (cast_signed w16 n)) (sym (columns_in-data rows t)) ∙ odd n m))
 
-pub closed_to : (rows : List PointRow) → All IsFormRow rows → All IsTold rows → ((p : Point) → All (λ (row : PointRow). row.0 ≤ℤ p.v) rows → inverted (points_of rows) p ≡ false) → (n : ℕ) → n < 65536 → odd_at (cast_signed w16 n) (columns_in false (data_words rows)) ≡ false
+pub closed_to : (rows : List PointRow) → All IsFormRow rows → All IsWithoutEnd rows → ((p : Point) → All (λ (row : PointRow). row.0 ≤ℤ p.v) rows → inverted (points_of rows) p ≡ false) → (n : ℕ) → n < 65536 → odd_at (cast_signed w16 n) (columns_in false (data_words rows)) ≡ false
 closed_to rows f t closed n m =
     let x : ℤ = cast_signed w16 n in
     let all = all_above rows f in

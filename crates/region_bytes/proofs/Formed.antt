@@ -8,7 +8,7 @@ use Rattle.tb_geom.specs.Pixels.{Pixels}
 use Rattle.region_bytes.specs.Edges.{IsCoordinate}
 use Rattle.region_bytes.specs.Points.{PointRow, IsInRange}
 use Rattle.region_bytes.specs.Words.{words_in}
-use Rattle.region_bytes.specs.Bytes.{IsRegionBytes, IsForm, IsWord, IsOfWords, IsTold}
+use Rattle.region_bytes.specs.Bytes.{IsRegionBytes, IsForm, IsWord, IsOfWords, IsWithoutEnd}
 use Rattle.region_bytes.specs.Text.{IsParted, text_pixels}
 use Rattle.region_bytes.specs.Forms.{IsRectOf, IsRowsOf}
 use Rattle.region_bytes.proofs.Long.{text_short, text_parts}
@@ -21,8 +21,8 @@ word_of z c = let l = c.0 in let h = c.1 in (omega (arith, ints), omega (arith, 
 not_end : (z : ℤ) → IsCoordinate z → z ≡ pos 32767 → ⊥
 not_end z c e = let h = c.1 in omega (arith, ints)
 
-pub told_in_range : (rows : List PointRow) → All IsInRange rows → All IsTold rows
-told_in_range rows a = All-weaker IsInRange IsTold (λ row i. (not_end row.0 i.0, All-weaker IsCoordinate (λ x. x ≡ pos 32767 → ⊥) not_end row.1 i.1)) rows a
+pub told_in_range : (rows : List PointRow) → All IsInRange rows → All IsWithoutEnd rows
+told_in_range rows a = All-weaker IsInRange IsWithoutEnd (λ row i. (not_end row.0 i.0, All-weaker IsCoordinate (λ x. x ≡ pos 32767 → ⊥) not_end row.1 i.1)) rows a
 
 -- rows in range have the form of any
 pub region_form : (bytes : List ℕ) (s : Pixels) (r : IsRegionBytes bytes s) → IsForm bytes r.rows

@@ -11,7 +11,7 @@ use Rattle.region_bytes.specs.Edges.{differ, is_odd, IsRising}
 use Rattle.region_bytes.specs.Points.{PointRow, top_of, IsPointRow}
 use Rattle.region_bytes.proofs.Tests.{int_eq-same, int_eq-apart}
 use Rattle.region_bytes.specs.Words.{row_words, data_words}
-use Rattle.region_bytes.specs.Bytes.{IsWord, IsOfWords, IsTold}
+use Rattle.region_bytes.specs.Bytes.{IsWord, IsOfWords, IsWithoutEnd}
 use Rattle.region_bytes.specs.Scan.{is_nil, are_rows}
 
 -- a row of words in canonical form
@@ -68,7 +68,7 @@ pub record IsBelow (v : ℤ) (ws : List ℤ) : Type 0 where
   pub same : data_words rows ≡ ws
   pub rising : IsRising (v ∷ map top_of rows)
   pub each : All IsFormRow rows
-  pub told : All IsTold rows
+  pub told : All IsWithoutEnd rows
 
 -- the words are the last columns of a row, right of h, and then data of rows below v
 pub record IsOpen (v h : ℤ) (odd : Bool) (ws : List ℤ) : Type 0 where
@@ -119,7 +119,7 @@ unfolding is_odd
 odd_zero = refl
 
 data_none : (v w : ℤ) (ws : List ℤ) → w ≡ pos 32767 → [] ≡ ws → IsBelow v (w ∷ ws)
-data_none v w ws e f = record { rows = []; same = (λ i. sym e i ∷ f i); rising = rising_one v; each = All-nil IsFormRow; told = All-nil IsTold }
+data_none v w ws e f = record { rows = []; same = (λ i. sym e i ∷ f i); rising = rising_one v; each = All-nil IsFormRow; told = All-nil IsWithoutEnd }
 
 data_row : (v w : ℤ) (ws : List ℤ) → IsWord w → v <ℤ w → (w ≡ pos 32767 → ⊥) → IsOpen w (negsuc 32768) false ws → IsBelow v (w ∷ ws)
 data_row v w ws f l n o =
@@ -134,7 +134,7 @@ data_row v w ws f l n o =
         even = o.parity;
         some = elim o.some [ inl s ↦ s | inr s ↦ absurd (omega (arith, ints)) ];
       }) o.below.each;
-      told = All-cons IsTold (w, o.xs) o.below.rows (n, o.told) o.below.told;
+      told = All-cons IsWithoutEnd (w, o.xs) o.below.rows (n, o.told) o.below.told;
     }
 
 open_none : (v h w : ℤ) (odd : Bool) (ws : List ℤ) → w ≡ pos 32767 → odd ≡ false → negsuc 32768 <ℤ h → IsBelow v ws → IsOpen v h odd (w ∷ ws)
@@ -217,14 +217,14 @@ pub from_words : (xs : List ℤ) → IsRising xs → All IsWord xs → IsRising 
 from_words [] r f = rising_one (negsuc 32768)
 from_words (x ∷ xs) r f = rising_cons (negsuc 32768) x xs r (let w = All-head IsWord x xs f in omega (arith, ints, w.0))
 
-pub all_rows : (v h : ℤ) (odd : Bool) (rows : List PointRow) → IsRising (v ∷ map top_of rows) → All IsFormRow rows → All IsTold rows → are_rows v h false odd (data_words rows) ≡ true
+pub all_rows : (v h : ℤ) (odd : Bool) (rows : List PointRow) → IsRising (v ∷ map top_of rows) → All IsFormRow rows → All IsWithoutEnd rows → are_rows v h false odd (data_words rows) ≡ true
 unfolding are_rows
 all_rows v h odd [] r f t = (λ i. cond (int_eq-same (pos 32767) i) true (int_lt v (pos 32767) && are_rows (pos 32767) (negsuc 32768) true false []))
 all_rows v h odd (row ∷ rows) r f t =
     let good = All-head IsFormRow row rows f in
-    let told = All-head IsTold row rows t in
+    let told = All-head IsWithoutEnd row rows t in
     let up : v <ℤ row.0 = r.rises zero (suc zero) (omega arith) (omega arith) in
-    let below = all_rows row.0 (negsuc 32768) false rows (rising_tail v (row.0 ∷ map top_of rows) r) (All-tail IsFormRow row rows f) (All-tail IsTold row rows t) in
+    let below = all_rows row.0 (negsuc 32768) false rows (rising_tail v (row.0 ∷ map top_of rows) r) (All-tail IsFormRow row rows f) (All-tail IsWithoutEnd row rows t) in
     let columns = all_columns row.0 (negsuc 32768) false row.1 (data_words rows) (from_words row.1 good.rising good.columns) (omega (arith, ints)) told.1 good.even (inl good.some) below in
     ap (are_rows v h false odd) (regroup row rows)
     ∙ (λ i. cond (int_eq-apart row.0 (pos 32767) told.0 i) (is_nil (row.1 ++ (pos 32767 ∷ data_words rows))) (int_lt-true v row.0 up i && columns i))

@@ -21,7 +21,6 @@ pub mod Formed
 -- On what is written, and that it says one set.
 pub mod Written
 pub mod Decoded
--- On points, rows and the box that the bytes answer.
-pub mod Walked
+-- On points and the box that the bytes answer.
 pub mod Pointed
 pub mod Boxed

@@ -8,7 +8,7 @@ use Rattle.std.proofs.lemmas.List.Elements.{All-head, All-tail}
 use Rattle.region_bytes.specs.Words.{words_in}
 use Rattle.region_bytes.specs.Points.{PointRow, points_of, row_points}
 use Rattle.region_bytes.specs.Scan.{points_in}
-use Rattle.region_bytes.specs.Bytes.{IsTold}
+use Rattle.region_bytes.specs.Bytes.{IsWithoutEnd}
 use Rattle.region_bytes.specs.Words.{data_words}
 use Rattle.region_bytes.proofs.Found.{regroup}
 use Rattle.region_bytes.proofs.Tests.{int_eq-same, int_eq-apart}
@@ -56,10 +56,10 @@ within_row v (x ∷ xs) rest n =
     ∙ ap (λ l. (record { h = x; v = v }) ∷ l) (within_row v xs rest (All-tail (λ x. x ≡ pos 32767 → ⊥) x xs n))
 
 -- the points of data are those of its rows
-pub points_in-data : (v : ℤ) (rows : List PointRow) → All IsTold rows → points_in false v (data_words rows) ≡ points_of rows
+pub points_in-data : (v : ℤ) (rows : List PointRow) → All IsWithoutEnd rows → points_in false v (data_words rows) ≡ points_of rows
 unfolding points_in points_of
 points_in-data v [] t = refl
 points_in-data v (row ∷ rows) t =
     ap (points_in false v) (regroup row rows)
-    ∙ within_row row.0 row.1 (data_words rows) (All-head IsTold row rows t).1
-    ∙ ap (λ l. row_points row ++ l) (points_in-data row.0 rows (All-tail IsTold row rows t))
+    ∙ within_row row.0 row.1 (data_words rows) (All-head IsWithoutEnd row rows t).1
+    ∙ ap (λ l. row_points row ++ l) (points_in-data row.0 rows (All-tail IsWithoutEnd row rows t))

@@ -6,15 +6,13 @@ use Rattle.std.proofs.lemmas.List.Elements.{All-tail, All-nil, All-cons, All-app
 use Rattle.std.proofs.lemmas.List.Kept.{AllPairs-cons}
 use Rattle.tb_geom.specs.declared.point.Point.{Point}
 use Rattle.tb_geom.specs.declared.rect.Rect.{Rect}
-use Rattle.tb_geom.specs.Points.{PixelSet}
 use Rattle.tb_geom.specs.Rects.{rect_holds, empty_rect, is_empty_rect}
 use Rattle.tb_geom.specs.Pixels.{Pixels, holds}
 use Rattle.region_bytes.specs.Edges.{differ}
-use Rattle.region_bytes.specs.Points.{PointRow, top_of, inverted, row_points, points_of, IsPointRow, ArePointRows}
+use Rattle.region_bytes.specs.Points.{PointRow, top_of, corners, IsDown, inverted, row_points, points_of, IsPointRow, ArePointRows}
 use Rattle.region_bytes.specs.Words.{words_in}
 use Rattle.region_bytes.specs.Scan.{points_in}
 use Rattle.region_bytes.specs.Forms.{IsRectOf, IsRowsOf}
-use Rattle.region_bytes.specs.Walk.{corners, IsDown, IsAhead, pixel_at}
 use Rattle.region_bytes.proofs.Edges.{rising_tail, rising_head}
 use Rattle.region_bytes.proofs.PointLemmas.{points_in-data}
 use Rattle.region_bytes.proofs.Short.{rect_rows, rect_pixels}
@@ -99,14 +97,7 @@ points_down (row ∷ rows) r =
 pub rows_down : (s : Pixels) (bytes : List ℕ) → IsRowsOf s bytes → IsDown (points_in false (pos 0) (words_in bytes))
 rows_down s bytes r = subst IsDown (sym (data_points s bytes r)) (points_down r.rows r.canonical.are_rows)
 
--- ---- columns
-
--- with no column set, all points are ahead
-pub ahead_all : (s : PixelSet) (left v : ℤ) (columns : List Bool) (points : List Point) → ((k : ℕ) → k < length columns → get_or columns k false ≡ false) → ((p : Point) → inverted points p ≡ s p) → IsDown points → IsAhead s left v columns points
-ahead_all s left v columns points clear same d = record {
-  rows = λ k w m n. ap (λ b. differ b (inverted points (pixel_at left w k))) (clear k m) ∙ same (pixel_at left w k);
-  down = d;
-}
+-- ---- a pixel
 
 -- one more point
 pub inside_more : (p q : Point) (rest after : List Point) (inside total : Bool) → rest ≡ p ∷ after → differ inside (inverted rest q) ≡ total

@@ -33,14 +33,14 @@ abbrev pub IsOfWords : PointRow → Type 0
 IsOfWords row = IsWord row.0 × All IsWord row.1
 
 -- neither is 32767, which ends rows and data
-abbrev pub IsTold : PointRow → Type 0
-IsTold row = (row.0 ≢ pos 32767) × All (λ x. x ≢ pos 32767) row.1
+abbrev pub IsWithoutEnd : PointRow → Type 0
+IsWithoutEnd row = (row.0 ≢ pos 32767) × All (λ x. x ≢ pos 32767) row.1
 
 -- the bytes have the form of a region's, and say these rows, which may lie outside -16384..16383
 pub record IsForm (bytes : List ℕ) (rows : List PointRow) : Type 0 where
   pub canonical : IsCanonical rows
   pub words : All IsOfWords rows
-  pub told : is_short rows ≡ false → All IsTold rows
+  pub told : is_short rows ≡ false → All IsWithoutEnd rows
   pub written : bytes ≡ bytes_of rows
   pub fits : length bytes ≤ 32766
 

@@ -1,4 +1,4 @@
--- What the contracts speak of: rows of edges, inversion points, their words, the bytes of a set of pixels, how they are walked, and how far they are written.
+-- What the contracts speak of: rows of edges, inversion points, their words, the bytes of a set of pixels, and how far they are written.
 pub mod Edges
 pub mod Points
 pub mod Words
@@ -7,4 +7,3 @@ pub mod Scan
 pub mod Text
 pub mod Forms
 pub mod Writing
-pub mod Walk

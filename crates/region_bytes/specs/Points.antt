@@ -1,6 +1,8 @@
 -- Inversion points: the set of pixels that a list of them stands for, and the one list of a set.
 use Rattle.std.specs.Prelude.{◌≡◌, ◌<◌, Bool, false, ◌&&◌, List, [], ◌∷◌, ◌++◌, map, length, ℤ, ◌≤ℤ◌, int_le, All}
+use Rattle.std.specs.List.{AllPairs}
 use Rattle.tb_geom.specs.declared.point.Point.{Point}
+use Rattle.tb_geom.specs.declared.rect.Rect.{Rect}
 use Rattle.tb_geom.specs.Points.{PixelSet}
 use Rattle.region_bytes.specs.Edges.{differ, inside, is_odd, IsRising, IsCoordinate}
 
@@ -8,6 +10,14 @@ use Rattle.region_bytes.specs.Edges.{differ, inside, is_odd, IsRising, IsCoordin
 unfoldable pub inverted : List Point → PixelSet
 inverted [] p = false
 inverted (x ∷ points) p = differ (int_le x.h p.h && int_le x.v p.v) (inverted points p)
+
+-- the inversion points of a rectangle, the upper two first
+abbrev pub corners : Rect → List Point
+corners r = (record { h = r.left; v = r.top }) ∷ (record { h = r.right; v = r.top }) ∷ (record { h = r.left; v = r.bottom }) ∷ (record { h = r.right; v = r.bottom }) ∷ []
+
+-- the points come row by row, from the top down
+abbrev pub IsDown : List Point → Type 0
+IsDown points = AllPairs (λ (a b : Point). a.v ≤ℤ b.v) points
 
 -- a row of inversion points, as its v and their columns
 abbrev pub PointRow : Type 0

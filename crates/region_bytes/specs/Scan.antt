@@ -5,7 +5,7 @@ use Rattle.tb_geom.specs.declared.point.Point.{Point}
 use Rattle.region_bytes.specs.Edges.{differ}
 use Rattle.region_bytes.specs.Points.{PointRow, IsCanonical}
 use Rattle.region_bytes.specs.Words.{data_words}
-use Rattle.region_bytes.specs.Bytes.{IsOfWords, IsTold}
+use Rattle.region_bytes.specs.Bytes.{IsOfWords, IsWithoutEnd}
 use Rattle.region_bytes.specs.declared.judge.Place.{Place}
 use Rattle.region_bytes.specs.declared.judge.Step.{Step}
 use Rattle.region_bytes.specs.declared.judge.Step.TheVariants.{Go, Stop}
@@ -15,7 +15,7 @@ pub record IsData (ws : List ℤ) : Type 0 where
   pub rows : List PointRow
   pub canonical : IsCanonical rows
   pub words : All IsOfWords rows
-  pub told : All IsTold rows
+  pub told : All IsWithoutEnd rows
   pub same : data_words rows ≡ ws
 
 -- whether there is no word

@@ -6,14 +6,14 @@ use Rattle.tb_geom.specs.Rects.{rect_holds}
 use Rattle.tb_geom.specs.Pixels.{Pixels, pixels_where}
 use Rattle.region_bytes.specs.Points.{PointRow, inverted, IsCanonical}
 use Rattle.region_bytes.specs.Words.{words_in, words_of, is_short}
-use Rattle.region_bytes.specs.Bytes.{IsWord, IsOfWords, IsTold}
+use Rattle.region_bytes.specs.Bytes.{IsWord, IsOfWords, IsWithoutEnd}
 use Rattle.region_bytes.specs.Scan.{points_in}
 
 -- the box and the words of data after it are those of the rows, which may lie outside -16384..16383
 pub record IsText (box : Rect) (ws : List ℤ) (rows : List PointRow) : Type 0 where
   pub canonical : IsCanonical rows
   pub words : All IsOfWords rows
-  pub told : is_short rows ≡ false → All IsTold rows
+  pub told : is_short rows ≡ false → All IsWithoutEnd rows
   pub written : words_of rows ≡ box.top ∷ box.left ∷ box.bottom ∷ box.right ∷ ws
 
 -- the pixels of a box and the words of data after it: without data those of the box, else those that the points invert

@@ -6,6 +6,7 @@ ghost use Rattle.region_bytes.specs.Words.{words_in};
 ghost use Rattle.region_bytes.specs.Scan.{columns_in, odd_at};
 
 use crate::judge::are_rows_of;
+use crate::writing::END;
 
 /// Whether no flag is set.
 fn none_set(flags: &[bool]) -> bool
@@ -24,7 +25,7 @@ pub fn is_closed(bytes: &[u8]) -> bool
     let mut rest = bytes;
     while let [high, low, next @ ..] = rest {
         let word = u16::from_be_bytes([*high, *low]);
-        let end = word == 32767;
+        let end = word == END as u16;
         let column = usize::from(word);
         flags[column] = flags[column] ^ (within & !end);
         within = !(within & end);

@@ -4,6 +4,7 @@ ghost use Rattle.std.specs.Iterator.{YieldsFirst, item_count};
 ghost use Rattle.region_bytes.specs.Words.{words_in};
 ghost use Rattle.region_bytes.specs.Scan.{points_in};
 
+use crate::writing::END;
 use std::marker::Model;
 use tb_geom::Point;
 
@@ -40,17 +41,6 @@ impl<'a> DataPoints<'a> {
             rest: bytes,
         }
     }
-
-    /// The same points again.
-    pub fn again(&self) -> Self
-        ensures { result ≡ self.now }
-    {
-        DataPoints {
-            within: self.within,
-            v: self.v,
-            rest: self.rest,
-        }
-    }
 }
 
 impl<'a> Iterator for DataPoints<'a> {
@@ -72,7 +62,7 @@ impl<'a> Iterator for DataPoints<'a> {
                 self.within = true;
                 continue;
             }
-            if word == 32767 {
+            if word == END {
                 self.within = false;
                 continue;
             }

@@ -3,6 +3,8 @@ ghost use Rattle.std.specs.Prelude.{◌≡◌, ◌∷◌, List, ℤ, negsuc, fal
 ghost use Rattle.region_bytes.specs.Words.{words_in};
 ghost use Rattle.region_bytes.specs.Scan.{is_nil, are_rows, from_place, outcome};
 
+use crate::writing::END;
+
 /// How far rows are read: the last row and column, -32769 before the first, and whether a row is
 /// open and has an odd number of columns.
 #[derive(Clone, Copy)]
@@ -25,7 +27,7 @@ fn read_word(at: Place, word: i32, last: bool) -> Step
     ensures { (ws : List ℤ) → last ≡ is_nil ws → outcome result ws ≡ from_place at (word ∷ ws) }
 {
     if !at.within {
-        if word == 32767 {
+        if word == END {
             return Step::Stop(last);
         }
         if word <= at.v {
@@ -38,7 +40,7 @@ fn read_word(at: Place, word: i32, last: bool) -> Step
             odd: false,
         });
     }
-    if word == 32767 {
+    if word == END {
         if at.odd || at.h <= -32769 {
             return Step::Stop(false);
         }

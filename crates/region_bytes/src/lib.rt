@@ -8,9 +8,8 @@
 //! list of points (`laws::one_list_of_points`), and so equal sets have equal bytes.
 //!
 //! `RegionBytes::read` judges bytes that somebody else keeps. It reads them a few times from end to
-//! end, and takes no memory; nor does what they answer from then on: `contains` for a pixel, `row_at`
-//! for those of a row, and the points that it leaves for the rows below, so that a walk down all rows
-//! reads the bytes once. A `RegionWriter` is handed the points of a set and gives its bytes; it counts
+//! end, and takes no memory; nor does what they answer from then on: `contains` for a pixel, and the
+//! `points`, row by row. A `RegionWriter` is handed the points of a set and gives its bytes; it counts
 //! words before it looks for memory, so that a set that is too long is known as that.
 #![tactic(auto)]
 
@@ -23,7 +22,6 @@ mod parting;
 mod points;
 mod region;
 mod texts;
-mod walk;
 mod writing;
 
 pub use parting::first_word;

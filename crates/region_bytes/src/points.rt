@@ -3,7 +3,7 @@ ghost use Rattle.std.specs.Prelude.{◌≡◌, ◌∷◌, [], false, pos};
 ghost use Rattle.std.specs.Iterator.{YieldsFirst, item_count};
 ghost use Rattle.region_bytes.specs.Words.{words_in};
 ghost use Rattle.region_bytes.specs.Scan.{points_in};
-ghost use Rattle.region_bytes.specs.Walk.{corners};
+ghost use Rattle.region_bytes.specs.Points.{corners};
 
 use crate::data_points::DataPoints;
 use std::marker::Model;
@@ -50,17 +50,6 @@ impl<'a> Points<'a> {
             corners: [Point { h: 0, v: 0 }; 4],
             given: 4,
             rest: DataPoints::new(bytes),
-        }
-    }
-
-    /// The same points again.
-    pub(crate) fn again(&self) -> Self
-        ensures { result ≡ self.now }
-    {
-        Points {
-            corners: self.corners,
-            given: self.given,
-            rest: self.rest.again(),
         }
     }
 }

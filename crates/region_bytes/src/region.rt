@@ -1,16 +1,15 @@
 //! Region bytes in place.
-ghost use Rattle.std.specs.Prelude.{◌≡◌, ◌&&◌, ℕ, ◌<◌, true, false, length, slice_index_or, int_le, MatchResult};
+ghost use Rattle.std.specs.Prelude.{◌≡◌, ◌&&◌, true, int_le, MatchResult};
 ghost use Rattle.tb_geom.specs.declared.point.Point.{Point};
 ghost use Rattle.tb_geom.specs.Rects.{IsBoxOf, is_empty_rect, empty_rect};
 ghost use Rattle.tb_geom.specs.Pixels.{holds};
-ghost use Rattle.region_bytes.specs.Points.{inverted};
-ghost use Rattle.region_bytes.specs.Walk.{IsDown, IsWalkAt, pixel_at};
+ghost use Rattle.region_bytes.specs.Edges.{differ};
+ghost use Rattle.region_bytes.specs.Points.{inverted, IsDown};
 ghost use Rattle.region_bytes.specs.Bytes.{IsRegionBytes, IsBad};
 
 use crate::parting::parted;
 use crate::points::Points;
 use crate::texts::is_text;
-use crate::walk::differ;
 use std::marker::Model;
 use tb_geom::{Point, Rect, Refusal};
 
@@ -110,20 +109,6 @@ impl<'a> RegionBytes<'a> {
             None => unreachable!(),
         }
     }
-
-    /// Makes of `columns[k]` whether the set has the pixel at the column `left + k` of the row `v`.
-    /// The points that it gives are those below the row: their `go_to` makes the rows below, and
-    /// reads the bytes no second time.
-    pub fn row_at(&self, left: i32, v: i32, columns: &mut [bool]) -> Points<'a>
-        ensures row { (k : ℕ) → k < length columns.old
-            → slice_index_or columns.new k false ≡ holds self.now (pixel_at left v k) }
-        ensures walk { IsWalkAt (holds self.now) left v columns.new result }
-    {
-        clear(columns);
-        let mut points = self.points();
-        points.turn_to(left, v, columns);
-        points
-    }
 }
 
 /// Whether a pixel lies at a point, below it, right of it or both.
@@ -133,9 +118,9 @@ fn leads_to(p: Point, pixel: Point) -> bool
     p.h <= pixel.h && p.v <= pixel.v
 }
 
-/// Makes no column set.
-fn clear(columns: &mut [bool])
-    ensures { (k : ℕ) → slice_index_or columns.new k false ≡ false }
+/// One of the two, and not both.
+fn differ(a: bool, b: bool) -> bool
+    ensures { result ≡ differ a b }
 {
-    columns.fill(false);
+    a != b
 }

@@ -1,5 +1,5 @@
 -- The rows of a rectangle, and what one more changes.
-use Rattle.std.proofs.Common.{◌≡◌, ◌&&◌, ◌||◌, Bool, true, false, ℕ, zero, suc, ◌<◌, List, [], ◌∷◌, ◌++◌, length, get_or, map, ℤ, pos, ◌+ℤ◌, ◌-ℤ◌, ◌<ℤ◌, ◌≤ℤ◌, SFits, w32, refl, ◌∙◌, arith}
+use Rattle.std.proofs.Common.{◌≡◌, ◌&&◌, ◌||◌, Bool, true, false, ℕ, zero, suc, ◌<◌, List, [], ◌∷◌, ◌++◌, length, get_or, map, ℤ, pos, ◌+ℤ◌, ◌-ℤ◌, ◌<ℤ◌, ◌≤ℤ◌, refl, ◌∙◌, arith}
 use Rattle.std.specs.Ordering.{int_eq}
 use Rattle.std.proofs.lemmas.Int.{ints}
 use Rattle.std.proofs.lemmas.Bool.{and_parts}
@@ -86,7 +86,3 @@ RunsUpTo-more rows r v row s t e run good =
         each = All-push IsGoodRow rows row s.rows_ok.each good;
       };
     }
-
--- a counter of 32 bits below a bound has a next value
-pub fits_next : (v b : ℤ) → SFits w32 v → SFits w32 b → v <ℤ b → SFits w32 (v +ℤ pos 1)
-fits_next v b p q l = search (arith, ints)

@@ -1,5 +1,5 @@
 -- The runs of a set, column by column.
-use Rattle.std.proofs.Common.{◌≡◌, ℕ, zero, suc, ◌+◌, ◌<◌, Bool, true, false, cond, [], ◌∷◌, ◌++◌, Option, Some, None, ℤ, pos, negsuc, ◌+ℤ◌, ◌-ℤ◌, ◌≤ℤ◌, ◌<ℤ◌, refl, sym, ap, ◌∙◌, arith, SFits, w32}
+use Rattle.std.proofs.Common.{◌≡◌, ℕ, zero, suc, ◌+◌, ◌<◌, Bool, true, false, cond, [], ◌∷◌, ◌++◌, Option, Some, None, ℤ, pos, negsuc, ◌+ℤ◌, ◌-ℤ◌, ◌≤ℤ◌, ◌<ℤ◌, refl, sym, ap, ◌∙◌, arith}
 use Rattle.std.proofs.lemmas.Int.{ints}
 use Rattle.tb_geom.specs.Points.{PixelSet}
 use Rattle.scan_region.specs.Walks.{natural, count_to, runs_on, row_runs, rows_runs}
@@ -146,7 +146,3 @@ rows-less v bottom l =
     let a = count-is v bottom (omega (arith, ints)) in
     let b = count-is (v +ℤ pos 1) bottom (omega (arith, ints)) in
     omega (arith, ints)
-
--- a number below one of 32 bits has a next one
-pub fits_next : (x limit : ℤ) → SFits w32 x → SFits w32 limit → x <ℤ limit → SFits w32 (x +ℤ pos 1)
-fits_next x limit p q l = search (arith, ints)

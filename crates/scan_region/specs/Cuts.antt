@@ -1,10 +1,18 @@
 -- The pixels that a cut leaves.
-use Rattle.std.specs.Prelude.{true, false, not, ◌&&◌, Option, Some, None}
+use Rattle.std.specs.Prelude.{true, false, not, ◌&&◌, [], ◌∷◌, Option, Some, None}
 use Rattle.std.specs.List.{list_all}
 use Rattle.std.specs.Borrow.{Bor}
 use Rattle.tb_geom.specs.Points.{PixelSet}
 use Rattle.tb_geom.specs.Pixels.{Pixels, holds}
 use Rattle.scan_region.specs.declared.cut.Cut.{Cut}
+
+-- what leaves the pixels of one region
+abbrev pub cut_inside : Bor Pixels → Cut
+cut_inside r = record { inside = Some r ∷ None ∷ None ∷ []; outside = None }
+
+-- what leaves the pixels that two regions share
+abbrev pub cut_meeting : Bor Pixels → Bor Pixels → Cut
+cut_meeting r s = record { inside = Some r ∷ Some s ∷ None ∷ []; outside = None }
 
 -- whether a region holds the pixel; without a region every pixel counts
 abbrev pub in_part : Option (Bor Pixels) → PixelSet

@@ -6,13 +6,14 @@ ghost use Rattle.scan_region.specs.Rows.{IsGoodRow, AreRows, has_in_rows};
 ghost use Rattle.scan_region.specs.Moves.{is_pixel_in_range, moved_row, moved_rows};
 
 use crate::row::Row;
+use tb_geom::{FIRST_SIDE, LAST_SIDE};
 
 /// Whether a pixel's column or row `x`, moved by `d`, lies in -16384..=16382.
 fn stays(x: i32, d: i32) -> bool
     ensures { result ≡ between (negsuc 16383) (x +ℤ d) (pos 16383) }
 {
     let moved = x.saturating_add(d);
-    -16384 <= moved && moved < 16383
+    FIRST_SIDE <= moved && moved < LAST_SIDE
 }
 
 /// Whether the pixel at column `h` and row `v`, moved `dh` columns and `dv` rows, is in range.

@@ -2,6 +2,7 @@
 ghost use Rattle.std.specs.Prelude.{◌≡◌, ◌&&◌, [], map, All, IfOk, OnOk};
 ghost use Rattle.tb_geom.specs.Points.{minus};
 ghost use Rattle.tb_geom.specs.Pixels.{holds};
+ghost use Rattle.scan_region.specs.Cuts.{cut_meeting};
 ghost use Rattle.bit_blit.specs.Draws.{Draws};
 ghost use Rattle.draw_port.specs.Ops.{picture_bit};
 ghost use Rattle.def_iface.specs.News.{no_news};
@@ -101,10 +102,7 @@ fn paint_frame<'a>(
         (λ p _. (⟦<Taken as Defined>⟧.loan window.now.taken).definition.picture no_news font.now (minus p window.now.place))
         image.old image.new }
 {
-    let cut = Cut {
-        inside: [Some(gray), Some(structure), None],
-        outside: None,
-    };
+    let cut = meeting(gray, structure);
     let clip = structure.bbox();
     let mut canvas = Canvas {
         map: image,
@@ -129,10 +127,7 @@ fn paint_content<'a>(
         (λ p _. picture_bit font.now window.now.picture (minus (minus p window.now.place) window.now.origin))
         image.old image.new }
 {
-    let cut = Cut {
-        inside: [Some(gray), Some(content), None],
-        outside: None,
-    };
+    let cut = meeting(gray, content);
     let clip = content.bbox();
     let mut canvas = Canvas {
         map: image,
@@ -142,4 +137,14 @@ fn paint_content<'a>(
         font,
     };
     canvas.paint_picture(&window.picture);
+}
+
+/// The cut that leaves the pixels of both regions.
+fn meeting<'a>(gray: &'a Region, part: &'a Region) -> Cut<'a>
+    ensures { result ≡ cut_meeting gray.entry part.entry }
+{
+    Cut {
+        inside: [Some(gray), Some(part), None],
+        outside: None,
+    }
 }

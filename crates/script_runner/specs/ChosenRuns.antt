@@ -1,6 +1,7 @@
 -- How a run of what the command line chose ends: which files it reads, in which font, and with which flags.
-use Rattle.std.specs.Prelude.{◌≡◌, ◌⊎◌, ℕ, false, List, Option, None, Some, Result, Ok, Err, option_map}
+use Rattle.std.specs.Prelude.{◌≡◌, ◌⊎◌, ℕ, false, List, take, Option, None, Some, Result, Ok, Err, option_map}
 use Rattle.tb_geom.specs.declared.refusal.Refusal.{Refusal}
+use Rattle.strike_font.specs.Record.{longest_record}
 use Rattle.def_iface.specs.Stocked.{SlotView}
 use Rattle.watched_io.specs.Reads.{Input, IsEntire, IsNotHad}
 use Rattle.watched_io.specs.Writes.{Output}
@@ -24,10 +25,11 @@ module _ {File : Type 0} (opens : List ℕ → Result File Refusal → Type 0) (
     pub opened : opens path (Ok first)
     pub why : IsNotHad (input last) e
 
-  -- the bytes of the font that is asked for: those of the file at this path, or none where no path is named
+  -- the bytes of the font that is asked for: the first of the file at this path, as many as a record may have, or none where
+  -- no path is named
   abbrev pub AreFontBytes : Option (List ℕ) → Option (List ℕ) → Type 0
   AreFontBytes None asked = asked ≡ None
-  AreFontBytes (Some path) asked = (bytes : List ℕ) × IsRead path bytes × (asked ≡ Some bytes)
+  AreFontBytes (Some path) asked = (bytes : List ℕ) × IsRead path bytes × (asked ≡ Some (take longest_record bytes))
 
   -- why the bytes of the font's file are not had
   abbrev pub IsFontLost : Option (List ℕ) → Refusal → Type 0

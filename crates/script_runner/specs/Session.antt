@@ -21,7 +21,8 @@ use Rattle.script_text.specs.declared.command.DeskSize.{DeskSize}
 use Rattle.script_text.specs.declared.command.Command.TheVariants.{Desk, Image, Call}
 use Rattle.script_text.specs.Lines.{said}
 use Rattle.screen_pbm.specs.Pbm.{p1, p4}
-use Rattle.script_text.specs.Replies.{done_text, refused_text, reply_text}
+use Rattle.reply_lines.specs.Texts.{done_text}
+use Rattle.script_text.specs.Replies.{refused_text, reply_text}
 
 -- the desk of a script: none so far, with this font and over these slots of the stock, or one in this state
 pub data SessionState : Type 0 where

@@ -9,12 +9,13 @@ use crate::files::Opener;
 use crate::runner::run;
 use def_iface::{Stock, Stocked};
 use std::alloc::Global;
+use strike_font::LONGEST_RECORD;
 use tb_geom::Refusal;
-use watched_io::{Sink, Source, read_all};
+use watched_io::{Sink, Source, read_to_end};
 
 /// Runs what was chosen: `run` over the script at the path that is named, or over standard input where none is, with the
 /// bytes of the font's file, where one is named, and with both flags as they are. The font's file is read to its end
-/// first, then the script's is opened, and then the font is judged.
+/// first, of which `LONGEST_RECORD` bytes are kept, then the script's is opened, and then the font is judged.
 ///
 /// Beside what stops `run`, ReadFault where a file cannot be opened, or the font's not be read to its end in 1,000,000
 /// reads, and NoMemory where there is none to hold the font's bytes. Then nothing is read of standard input or written,
@@ -50,7 +51,7 @@ pub fn run_chosen<F: Opener, R: Source, W: Sink>(
     }
 }
 
-/// The bytes of the font's file, where one is named. ReadFault where it cannot be opened or read to its
+/// The bytes of the font's file that may be a record's, where one is named. ReadFault where it cannot be opened or read to its
 /// end, and NoMemory where there is none to hold them.
 fn font_bytes<F: Opener>(
     alloc: Global,
@@ -65,6 +66,6 @@ fn font_bytes<F: Opener>(
         return Ok(None);
     };
     let mut file = files.open(path)?;
-    let bytes = read_all(alloc, &mut file)?;
+    let bytes = read_to_end(alloc, &mut file, LONGEST_RECORD)?;
     Ok(Some(bytes))
 }

@@ -1,6 +1,6 @@
-//! Lines that ask something about events.
-use crate::lines::said;
-use desk_call::{Call, EventCall, FlushEvents, PostEvent};
+//! Lines that ask something about events, and what is answered.
+use crate::lines::{line_of, said};
+use desk_call::{Call, EventCall, EventReply, FlushEvents, PostEvent, Reply};
 use script_text::Command;
 use tb_geom::Point;
 
@@ -35,4 +35,12 @@ fn numbers_of_events_are_judged_by_nobody(rt: HostRuntime) {
     for (line, call) in lines {
         assert!(rt; asked(line) == Some(call));
     }
+}
+
+#[test]
+fn an_event_that_was_not_queued_is_answered_by_1(rt: HostRuntime) {
+    let queued = line_of(&rt, &Ok(Reply::Event(EventReply::Posted(true))));
+    assert!(rt; queued.as_slice() == b"ok 0\n".as_slice());
+    let refused = line_of(&rt, &Ok(Reply::Event(EventReply::Posted(false))));
+    assert!(rt; refused.as_slice() == b"ok 1\n".as_slice());
 }

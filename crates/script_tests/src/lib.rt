@@ -2,9 +2,10 @@
 //! pieces it is read and its answers are written, how a run ends whose reader or writer breaks at any moment, and what
 //! no script reaches. What a script can show is a row of `tests/rows`.
 //!
-//! `runs` and `chosen` test `script_runner`, `lines`, `drawings`, `windows`, `updates` and `events` test `script_text`, `images` tests
-//! `screen_pbm`, and `reading` and `sending` test `watched_io`. `Script` and `Paper` are a reader and a writer that can be
-//! slow or break; they are proved, and no part of the program.
+//! `runs` and `chosen` test `script_runner`, and `lines` tests `script_text`; with it `drawings`, `windows`, `updates` and
+//! `frames` test `window_words`, and `events` tests `event_words`. `images` tests `screen_pbm`, and `reading` and `sending`
+//! test `watched_io`. `Script` and `Paper` are a reader and a writer that can be slow or break; they are proved, and no
+//! part of the program.
 #![tactic(auto)]
 
 #[cfg(test)]
@@ -13,6 +14,8 @@ mod chosen;
 mod drawings;
 #[cfg(test)]
 mod events;
+#[cfg(test)]
+mod frames;
 #[cfg(test)]
 mod images;
 #[cfg(test)]

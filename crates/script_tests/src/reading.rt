@@ -1,4 +1,4 @@
-//! What no clause says of `read_all`: that a reader which gives its bytes in any pieces is read whole, in how many reads,
+//! What no clause says of `read_to_end`: that a reader which gives its bytes in any pieces is read whole, in how many reads,
 //! and where it stops.
 ghost use Rattle.std.specs.Prelude.{◌<◌};
 
@@ -6,7 +6,7 @@ use crate::script::Script;
 use std::alloc::Global;
 use std::test::Fail;
 use tb_geom::Refusal;
-use watched_io::{WatchedReader, read_all};
+use watched_io::{WatchedReader, read_to_end};
 
 /// So many bytes, of which no 251 that follow each other begin alike.
 fn bytes_of(alloc: Global, length: usize) -> Result<Vec<u8>, Fail> {
@@ -22,7 +22,7 @@ fn read(alloc: Global, bytes: &[u8], piece: usize, reads: u32) -> (Result<Vec<u8
     requires { 0 < piece }
 {
     let mut script = Script::new(bytes, piece, reads);
-    let outcome = read_all(alloc, &mut WatchedReader::new(&mut script));
+    let outcome = read_to_end(alloc, &mut WatchedReader::new(&mut script), usize::MAX);
     (outcome, script.reads_left)
 }
 

@@ -1,47 +1,23 @@
 -- What the definitions of verbs and lines say, in the words of their subject.
-use Rattle.std.proofs.Common.{◌≡◌, ℕ, zero, suc, ◌&&◌, ◌↔◌, Bool, true, false, cond, eqb, if◌then◌else◌, List, [], ◌∷◌, ◌++◌, length, map, Option, Some, None, is_none, Contains, bytes_eq, refl, sym, ap, ◌∙◌, subst, arith}
+use Rattle.std.proofs.Common.{◌≡◌, ℕ, ◌↔◌, true, false, cond, eqb, List, [], ◌∷◌, ◌++◌, length, map, Some, Contains, refl, sym, ap, ◌∙◌, arith}
 use Rattle.std.specs.List.{slice_split, onto_first}
 use Rattle.std.specs.Str.Lines.{lines, lines_of_parts, strip_carriage_return}
-use Rattle.std.proofs.lemmas.Bool.{ne_eqb, and_parts}
-use Rattle.std.proofs.lemmas.Slice.Eq.{bytes_eq-Decides}
+use Rattle.std.proofs.lemmas.Bool.{ne_eqb}
+use Rattle.line_words.specs.Tables.{named, tagged}
+use Rattle.line_words.proofs.TableLemmas.{found_is_in, in_is_found, are_distinct}
+use Rattle.window_words.specs.WindowWords.{window_verbs}
+use Rattle.window_words.specs.UpdateWords.{update_verbs}
+use Rattle.window_words.specs.FrameWords.{frame_verbs}
+use Rattle.event_words.specs.EventWords.{event_verbs}
 use Rattle.script_text.specs.declared.verb.Verb.{Verb}
-use Rattle.script_text.specs.Names.{named}
 use Rattle.script_text.specs.Commands.{verbs}
 use Rattle.script_text.specs.Lines.{add_front, cut, whole_lines, last_part, if_any, lines_of}
 
 -- ---- verbs
 
-found_is_in : {A : Type 0} (word : List ℕ) (x : A) (entries : List (List ℕ × A)) → named word entries ≡ Some x → Contains entries (word, x)
-found_is_in {A} word x [] h = let bad : ◌≡◌ {A = Option A} None (Some x) = h in cc
-found_is_in {A} word x (entry ∷ entries) h = by_test (bytes_eq entry.0 word) (bytes_eq-Decides entry.0 word).0 (found_is_in word x entries) h
-  where
-    by_test : (b : Bool) → (b ≡ true → entry.0 ≡ word) → (named word entries ≡ Some x → Contains entries (word, x))
-        → (if b then Some entry.1 else named word entries) ≡ Some x → Contains (entry ∷ entries) (word, x)
-    by_test true same later e =
-        let here : entry.1 ≡ x = cc in
-        (0, omega arith, ap (λ w. (w, entry.1)) (same refl) ∙ ap (λ v. (word, v)) here)
-    by_test false same later e = let found = later e in (suc found.0, omega (arith, found.1), found.2)
-
 -- no word stands twice in the table
-abbrev are_distinct : {A : Type 0} → List (List ℕ × A) → Bool
-are_distinct [] = true
-are_distinct (entry ∷ entries) = is_none (named entry.0 entries) && are_distinct entries
-
-in_is_found : {A : Type 0} (word : List ℕ) (x : A) (entries : List (List ℕ × A)) → are_distinct entries ≡ true → Contains entries (word, x) → named word entries ≡ Some x
-in_is_found word x [] distinct (k, less, e) = absurd (omega (arith, less))
-in_is_found {A} word x (entry ∷ entries) distinct (zero, less, e) =
-    subst (λ (p : List ℕ × A). (if bytes_eq entry.0 p.0 then Some entry.1 else named p.0 entries) ≡ Some p.1) e (rw ((bytes_eq-Decides entry.0 entry.0).1 refl) refl)
-in_is_found {A} word x (entry ∷ entries) distinct (suc k, less, e) =
-    by_test (bytes_eq entry.0 word) (bytes_eq-Decides entry.0 word).0 (and_parts (is_none (named entry.0 entries)) (are_distinct entries) distinct).0
-    (in_is_found word x entries (and_parts (is_none (named entry.0 entries)) (are_distinct entries) distinct).1 (k, omega (arith, less), e))
-  where
-    by_test : (b : Bool) → (b ≡ true → entry.0 ≡ word) → is_none (named entry.0 entries) ≡ true → named word entries ≡ Some x → (if b then Some entry.1 else named word entries) ≡ Some x
-    by_test true same none later =
-        let bad : false ≡ true = sym (ap is_none later) ∙ ap (λ w. is_none (named w entries)) (sym (same refl)) ∙ none in
-        cc
-    by_test false same none later = later
-
 verbs_are_distinct : are_distinct verbs ≡ true
+unfolding tagged window_verbs update_verbs frame_verbs event_verbs
 verbs_are_distinct = refl
 
 pub verb_is_of_the_table : (word : List ℕ) (verb : Verb) → named word verbs ≡ Some verb ↔ Contains verbs (word, verb)

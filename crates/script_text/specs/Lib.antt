@@ -1,12 +1,5 @@
 pub mod Commands
-pub mod Drawings
-pub mod EventWords
-pub mod FrameWords
-pub mod Grammar
 pub mod Held
 pub mod Lines
-pub mod Names
 pub mod Replies
 pub mod Spelling
-pub mod Updates
-pub mod Windows

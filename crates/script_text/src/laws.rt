@@ -1,16 +1,16 @@
 //! What the definitions of commands and lines say, in the words of their subject.
-ghost use Rattle.std.specs.Prelude.{◌≡◌, ◌↔◌, ℕ, List, Some, Contains, Result, Ok, Err, IfErr};
+ghost use Rattle.std.specs.Prelude.{◌≡◌, ◌↔◌, ℕ, List, Some, Contains, Result, IfErr};
 ghost use Rattle.std.specs.Str.Lines.{lines};
 ghost use Rattle.tb_geom.specs.declared.refusal.Refusal.{Refusal};
 ghost use Rattle.tb_geom.specs.declared.refusal.Refusal.TheVariants.{NoSuchName};
-ghost use Rattle.bit_map.specs.declared.mode.Mode.{Mode};
-ghost use Rattle.bit_map.specs.Modes.{pattern_name, source_name};
+ghost use Rattle.line_words.specs.Tables.{named};
 ghost use Rattle.script_text.specs.declared.command.Command.{Command};
 ghost use Rattle.script_text.specs.declared.verb.Verb.{Verb};
 ghost use Rattle.script_text.specs.Spelling.{IsLine};
-ghost use Rattle.script_text.specs.Names.{named, known, pattern_modes, source_modes};
 ghost use Rattle.script_text.specs.Commands.{verbs};
 ghost use Rattle.script_text.specs.Lines.{lines_of};
+
+pub use window_words::laws::modes_are_read_by_their_names;
 
 /// A first word stands for a verb exactly where the table has the two.
 pub fn a_verb_is_one_of_the_table()
@@ -21,15 +21,6 @@ pub fn a_verb_is_one_of_the_table()
 /// not BadSyntax.
 pub fn a_line_says_a_command_or_an_unknown_name()
     ensures { (line : List ℕ) (said : Result Command Refusal) → IsLine line said → IfErr said (λ e. e ≡ NoSuchName) }
-{}
-
-/// Each mode is read by its name for a pattern where a pattern is put down, by its name for an image where
-/// an image is, and by no name of the other kind.
-pub fn modes_are_read_by_their_names()
-    ensures pattern { (mode : Mode) → known (pattern_name mode) pattern_modes ≡ Ok mode }
-    ensures source { (mode : Mode) → known (source_name mode) source_modes ≡ Ok mode }
-    ensures no_pattern { (mode : Mode) → known (source_name mode) pattern_modes ≡ Err NoSuchName }
-    ensures no_source { (mode : Mode) → known (pattern_name mode) source_modes ≡ Err NoSuchName }
 {}
 
 /// The lines of a script are those of `str::lines`.

@@ -5,29 +5,24 @@
 //! write the line of a reply to a `Sink`. None of them takes memory: a line has at most 1024 bytes, and a
 //! command borrows its words from the line.
 //!
+//! What the words of windows and events are, and their replies, `window_words` and `event_words` say; here they are put
+//! together, with the commands that are about the whole desk.
+//!
 //! What a line says is stated apart from how it is read: `specs/Lines.antt` cuts a script into lines,
 //! `specs/Spelling.antt` says which line says which command (`IsLine`), and `specs/Commands.antt` how it is
-//! read. `specs/Replies.antt` has the one line of each reply. `laws` says what numbers, verbs and lines are in
-//! the words of their subject.
+//! read. `specs/Replies.antt` has the one line of each reply. `laws` says what verbs and lines are in the words of their
+//! subject.
 #![tactic(auto)]
 
 mod command;
-mod drawing;
-mod events;
-mod frames;
 pub mod laws;
 mod lines;
-mod names;
-mod operation;
 mod parser;
-mod region_line;
 mod reply_line;
-mod table;
-mod updates;
 mod verb;
-mod windows;
 
 pub use command::{Command, DeskSize};
 pub use lines::LineBuffer;
 pub use parser::parse;
-pub use reply_line::{write_done, write_reply};
+pub use reply_line::write_reply;
+pub use reply_lines::write_done;

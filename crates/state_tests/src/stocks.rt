@@ -5,7 +5,7 @@ ghost use Rattle.def_iface.specs.Meaning.{is_fitting};
 use crate::titled_window::Titled;
 use def_iface::{Defined, Hit, Size, Stage, Stock, Taken, WindowDef, WindowRegions};
 use draw_port::{Canvas, Cut};
-use ground_tests::pixels::{Pixels, map_of, mark, picture};
+use geometry_tests::pixels::{Pixels, map_of, mark, picture};
 use scan_region::Region;
 use std::alloc::Global;
 use std::test::Fail;

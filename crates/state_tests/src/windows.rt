@@ -41,7 +41,7 @@ const WIDE: Size = Size {
     height: 4,
 };
 
-/// A window of this number, highlighted where it is visible, with a white picture.
+/// A window of this serial, highlighted where it is visible, with a white picture.
 fn window(alloc: Global, serial: u64, shown: bool, taken: Taken) -> Window
     ensures { result.taken ≡ taken }
 {
@@ -65,7 +65,7 @@ fn window(alloc: Global, serial: u64, shown: bool, taken: Taken) -> Window
     }
 }
 
-/// Whether the windows, from front to back, have these numbers, and are highlighted or not.
+/// Whether the windows, from front to back, have these serials, and are highlighted or not.
 fn are(windows: &WindowList, wanted: &[(u64, bool)]) -> bool {
     if windows.len() != wanted.len() {
         return false;
@@ -79,7 +79,7 @@ fn are(windows: &WindowList, wanted: &[(u64, bool)]) -> bool {
     true
 }
 
-/// NoSuchWindow where no window is at this place.
+/// NoSuchWindow where no window is at this index.
 fn there(windows: &WindowList, at: usize) -> Result<(), Refusal>
     ensures { OnOk result (at < length windows.now.records.items) }
 {
@@ -90,7 +90,7 @@ fn there(windows: &WindowList, at: usize) -> Result<(), Refusal>
     }
 }
 
-/// Changes all of the window at this place that can be changed by itself.
+/// Changes all of the window at this index that can be changed by itself.
 fn change(windows: &mut WindowList, at: usize) -> Result<(), Refusal> {
     there(windows, at)?;
     windows.set_stand(at, point!(7, -8), true, None);
@@ -102,7 +102,7 @@ fn change(windows: &mut WindowList, at: usize) -> Result<(), Refusal> {
     windows.push_operation(at, operation)
 }
 
-/// Whether all of the window at this place was changed so.
+/// Whether all of the window at this index was changed so.
 fn is_changed(windows: &WindowList, at: usize) -> bool {
     if windows.len() <= at {
         return false;
@@ -112,7 +112,7 @@ fn is_changed(windows: &WindowList, at: usize) -> bool {
     moved && window.shown && window.picture.ops().len() == 1
 }
 
-/// Moves the window at a place to the front, and takes the last of so many out.
+/// Moves the window at an index to the front, and takes the last of so many out.
 fn reorder(windows: &mut WindowList, from: usize, last: usize) -> Result<Window, Refusal> {
     there(windows, from)?;
     windows.move_to(from, 0);
@@ -165,7 +165,7 @@ fn windows_lie_from_front_to_back(rt: HostRuntime) -> Result<(), Fail> {
 }
 
 #[test]
-fn a_window_is_disposed_of_and_its_box_comes_out(rt: HostRuntime) -> Result<(), Fail> {
+fn a_windows_box_comes_out(rt: HostRuntime) -> Result<(), Fail> {
     let alloc = rt.alloc();
     let mut stock = Stock::new(alloc);
     let Ok(()) = stock.add(b"titled", Box::new(alloc, Titled::new())?) else {
@@ -175,7 +175,6 @@ fn a_window_is_disposed_of_and_its_box_comes_out(rt: HostRuntime) -> Result<(), 
     let taken = begun(&mut stock)?;
     windows.reserve()?;
     windows.add(window(alloc, 1, true, taken));
-    windows.dispose(0);
     assert!(rt; windows.len() == 1 && windows.next_box().is_some());
     assert!(rt; windows.len() == 0 && windows.next_box().is_none());
     Ok(())
@@ -216,7 +215,7 @@ fn a_window_is_told_its_title_where_it_lies(rt: HostRuntime) -> Result<(), Fail>
     let taken = begun(&mut stock)?;
     windows.reserve()?;
     windows.add(window(alloc, 1, false, taken));
-    let damage = windows.tell(0, WindowChange::Titled(b"new"));
+    let damage = windows.notify(0, WindowChange::Titled(b"new"));
     assert!(rt; damage == SIZE.rect());
     assert!(rt; windows.len() == 1 && windows.at(0).title.as_slice() == b"new".as_slice());
     Ok(())
@@ -233,7 +232,7 @@ fn a_window_is_told_its_highlighting_where_it_lies(rt: HostRuntime) -> Result<()
     let taken = begun(&mut stock)?;
     windows.reserve()?;
     windows.add(window(alloc, 1, false, taken));
-    let damage = windows.tell(0, WindowChange::Highlighted(true));
+    let damage = windows.notify(0, WindowChange::Highlighted(true));
     assert!(rt; damage == SIZE.rect());
     assert!(rt; windows.len() == 1 && windows.at(0).highlighted);
     Ok(())

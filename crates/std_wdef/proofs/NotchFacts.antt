@@ -13,7 +13,7 @@ use Rattle.def_iface.specs.Meaning.{IsWithin}
 use Rattle.looks.specs.declared.area.Piece.{Piece}
 use Rattle.looks.specs.Areas.{area_holds, piece_fits, added_rect, removed_rect}
 use Rattle.looks.specs.Marks.{box, neg}
-use Rattle.looks.proofs.AreaLemmas.{box-by-corners}
+use Rattle.looks.proofs.AreaLemmas.{box-by-corners, coordinate, coordinate_high, two_fit, without, with_all}
 use Rattle.std_wdef.specs.Looks.{ring}
 use Rattle.std_wdef.specs.Notched.{notch, notched_structure, notched_content}
 use Rattle.std_wdef.proofs.AreaFacts.{IsSome, size_some, one-is, first_of, last_of, and_true}
@@ -39,12 +39,6 @@ notch_is s e =
     let h = half (int_min s.width s.height) (omega (arith, ints, clamps)) in
     record { low = h.low; across = omega (arith, ints, clamps); down = omega (arith, ints, clamps) }
 
-coordinate : (x : ℤ) → negsuc 16383 ≤ℤ x → x ≤ℤ pos 16383 → is_coordinate x ≡ true
-coordinate x a b = grind (arith, ints)
-
-coordinate_high : (x : ℤ) → is_coordinate x ≡ true → x ≤ℤ pos 16383
-coordinate_high x e = grind (arith, ints)
-
 -- the outer notch and the inner
 abbrev pub outer : Size → Rect
 outer s = box (s.width -ℤ notch s +ℤ pos 1) (neg 1) (s.width +ℤ pos 1) (notch s -ℤ pos 1)
@@ -61,12 +55,6 @@ low_of s e =
     let w = coordinate_high (s.width +ℤ pos 1) (and_true (is_coordinate (s.width +ℤ pos 1)) (is_coordinate (s.height +ℤ pos 1)) e).0 in
     let h = coordinate_high (s.height +ℤ pos 1) (and_true (is_coordinate (s.width +ℤ pos 1)) (is_coordinate (s.height +ℤ pos 1)) e).1 in
     record { across = omega (arith, ints); down = omega (arith, ints) }
-
--- two pieces that fit
-two : (a b : Piece) → piece_fits a ≡ true → piece_fits b ≡ true → All (λ piece. piece_fits piece ≡ true) (a ∷ b ∷ [])
-two a b x y zero d l = x
-two a b x y (suc zero) d l = y
-two a b x y (suc (suc k)) d l = absurd (omega arith)
 
 module _ (s : Size) (e : is_size s ≡ true) where
   outer_fits : IsLow s → is_in_range (outer s) ≡ true
@@ -85,19 +73,10 @@ module _ (s : Size) (e : is_size s ≡ true) where
       λ i. true && (true && (coordinate s.width (omega (arith, ints)) (omega (arith, ints)) i && coordinate s.height (omega (arith, ints)) (omega (arith, ints)) i))
 
   pub structure_fits : is_in_range (ring 1 s) ≡ true → All (λ piece. piece_fits piece ≡ true) (notched_structure s)
-  structure_fits r = two (added_rect (ring 1 s)) (removed_rect (outer s)) r (outer_fits (low_of s r))
+  structure_fits r = two_fit (added_rect (ring 1 s)) (removed_rect (outer s)) r (outer_fits (low_of s r))
 
   pub content_fits : is_in_range (ring 1 s) ≡ true → All (λ piece. piece_fits piece ≡ true) (notched_content s)
-  content_fits r = two (added_rect (rect_of s)) (removed_rect (inner s)) (size_fits (low_of s r)) (inner_fits (low_of s r))
-
--- what a rectangle without another holds
-without : (x y : Bool) → (if x then false else (if y then true else false)) ≡ true → (x ≡ false) × (y ≡ true)
-without true y e = absurd (cc)
-without false true e = (refl, refl)
-without false false e = absurd (cc)
-
-with_all : (x y : Bool) → x ≡ false → y ≡ true → (if x then false else (if y then true else false)) ≡ true
-with_all x y a b = (λ i. if a i then false else (if b i then true else false))
+  content_fits r = two_fit (added_rect (rect_of s)) (removed_rect (inner s)) (size_fits (low_of s r)) (inner_fits (low_of s r))
 
 not-between-low : (r : Rect) (p : Point) → p.h <ℤ r.left → rect_holds r p ≡ false
 not-between-low r p a = by_test (rect_holds r p) refl

@@ -10,7 +10,7 @@ use Rattle.looks.specs.Spots.{first_part, spot}
 use Rattle.looks.specs.Areas.{area_holds}
 use Rattle.looks.specs.Marks.{box, neg}
 use Rattle.std_wdef.specs.declared.kind.Variation.{Variation}
-use Rattle.std_wdef.specs.declared.kind.Flags.{Flags}
+use Rattle.def_iface.specs.declared.keeping.Flags.{Flags}
 use Rattle.std_wdef.specs.Kinds.{is_document, closes, zooms, grows}
 use Rattle.std_wdef.specs.Looks.{size_box, title_bar}
 use Rattle.std_wdef.specs.Areas.{content_of}

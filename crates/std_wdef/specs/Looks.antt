@@ -8,7 +8,7 @@ use Rattle.looks.specs.declared.step.Step.{Step}
 use Rattle.looks.specs.Marks.{black_fill, white_fill, black_frame, white_plate, black_text, when, cut_to, box, neg}
 use Rattle.std_wdef.specs.declared.kind.Variation.{Variation}
 use Rattle.std_wdef.specs.declared.kind.Variation.TheVariants.{Document, Dialog, Plain, Shadow, NoGrow, Zoom}
-use Rattle.std_wdef.specs.declared.kind.Flags.{Flags}
+use Rattle.def_iface.specs.declared.keeping.Flags.{Flags}
 use Rattle.std_wdef.specs.Kinds.{has_size_box, closes, tracks, zooms, grows}
 
 -- the pixels up to a distance from the content

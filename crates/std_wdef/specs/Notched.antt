@@ -16,7 +16,7 @@ use Rattle.looks.specs.declared.step.Step.{Step}
 use Rattle.looks.specs.Letters.{lettering}
 use Rattle.looks.specs.Marks.{box, neg, black_fill, look_bit}
 use Rattle.std_wdef.specs.declared.notched_window.NotchedWindow.{NotchedWindow}
-use Rattle.std_wdef.specs.Kinds.{size_in}
+use Rattle.def_iface.specs.Keeping.{size_in}
 use Rattle.std_wdef.specs.Looks.{ring}
 
 -- n: min(w, h) div 2

@@ -1,12 +1,12 @@
 -- A standard window, and what it keeps of what it is told.
-use Rattle.std.specs.Prelude.{false, [], pos}
+use Rattle.std.specs.Prelude.{[], pos}
 use Rattle.def_iface.specs.declared.window_def.Stage.{Stage}
 use Rattle.def_iface.specs.declared.window_def.Stage.TheVariants.{Fresh}
 use Rattle.def_iface.specs.declared.window_def.WindowChange.{WindowChange}
 use Rattle.def_iface.specs.Meaning.{Definition, size_after}
 use Rattle.std_wdef.specs.declared.std_window.StdWindow.{StdWindow}
 use Rattle.std_wdef.specs.declared.kind.Variation.{Variation}
-use Rattle.std_wdef.specs.Kinds.{flags_after, title_after}
+use Rattle.def_iface.specs.Keeping.{no_flags, flags_after, title_after}
 use Rattle.std_wdef.specs.Windows.{std_window}
 
 -- what the window is
@@ -18,7 +18,7 @@ abbrev pub fresh_window : Variation → StdWindow
 fresh_window v = record {
   variation = v;
   stage = Fresh;
-  flags = record { highlighted = false; go_away = false; zoomed = false; tracked = false };
+  flags = no_flags;
   title = [];
   size = record { width = pos 0; height = pos 0 };
 }

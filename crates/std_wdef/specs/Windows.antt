@@ -7,8 +7,9 @@ use Rattle.looks.specs.Areas.{area_holds}
 use Rattle.looks.specs.Letters.{lettering}
 use Rattle.looks.specs.Marks.{look_bit}
 use Rattle.std_wdef.specs.declared.kind.Variation.{Variation}
-use Rattle.std_wdef.specs.declared.kind.Flags.{Flags}
-use Rattle.std_wdef.specs.Kinds.{is_titled, flags_in, title_in, size_in}
+use Rattle.def_iface.specs.declared.keeping.Flags.{Flags}
+use Rattle.def_iface.specs.Keeping.{flags_in, title_in, size_in}
+use Rattle.std_wdef.specs.Kinds.{is_titled}
 use Rattle.std_wdef.specs.Looks.{look_of}
 use Rattle.std_wdef.specs.Areas.{structure_of, content_of, structure_box}
 use Rattle.std_wdef.specs.Hits.{std_hit}

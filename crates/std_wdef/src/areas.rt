@@ -4,9 +4,9 @@ ghost use Rattle.def_iface.specs.Sizes.{is_size};
 ghost use Rattle.std_wdef.specs.Areas.{first_box, structure_of, content_of, structure_box};
 
 use crate::kind::Variation;
-use crate::rects::{document_box, more, ring, shadow_box, size_box};
+use crate::rects::{document_box, ring, shadow_box, size_box};
 use def_iface::Size;
-use looks::{Piece, sides};
+use looks::{Piece, more, sides};
 use tb_geom::Rect;
 
 /// The first rectangle of the structure.

@@ -1,15 +1,14 @@
 //! The parts of the standard windows.
 ghost use Rattle.std.specs.Prelude.{◌≡◌, true};
 ghost use Rattle.def_iface.specs.Sizes.{is_size};
-ghost use Rattle.looks.specs.Spots.{spot};
 ghost use Rattle.std_wdef.specs.Hits.{zoom_hit, spots_of, frame_hit, std_hit};
 
 use crate::areas::content_of;
-use crate::kind::{Flags, Variation};
-use crate::rects::{from_right, size_box, title_bar};
-use def_iface::{Hit, Size};
-use looks::{Spot, area_has, first_part, sides};
-use tb_geom::{Point, Rect};
+use crate::kind::Variation;
+use crate::rects::{size_box, title_bar};
+use def_iface::{Flags, Hit, Size};
+use looks::{Spot, area_has, first_part, from_right, sides};
+use tb_geom::Point;
 
 /// The parts of the frame, the first of which counts.
 fn spots_of(variation: Variation, flags: Flags, size: Size) -> [Spot<Hit>; 3]
@@ -21,26 +20,15 @@ fn spots_of(variation: Variation, flags: Flags, size: Size) -> [Spot<Hit>; 3]
     let zooms = variation.zooms(flags);
     let grows = variation.grows(flags);
     [
-        spot(closes, bar, sides(8, -16, 19, -5), Hit::InGoAway),
-        spot(
+        Spot::new(closes, bar, sides(8, -16, 19, -5), Hit::InGoAway),
+        Spot::new(
             zooms,
             bar,
-            from_right(size, 19, -16, 8, -5),
+            from_right(size.width, 19, -16, 8, -5),
             zoom_hit(flags),
         ),
-        spot(grows, size.rect(), size_box(size), Hit::InGrow),
+        Spot::new(grows, size.rect(), size_box(size), Hit::InGrow),
     ]
-}
-
-fn spot(on: bool, cut: Rect, rect: Rect, part: Hit) -> Spot<Hit>
-    ensures { result ≡ spot on cut rect part }
-{
-    Spot {
-        on,
-        cut,
-        rect,
-        part,
-    }
 }
 
 /// What the zoom box does.

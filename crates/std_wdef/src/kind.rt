@@ -1,9 +1,10 @@
 //! The kinds of standard windows, and what a window of a kind has.
 ghost use Rattle.std.specs.Prelude.{◌≡◌};
 ghost use Rattle.std_wdef.specs.Kinds.{is_document, has_size_box, has_zoom_box, is_shadow};
-ghost use Rattle.std_wdef.specs.Kinds.{closes, tracks, zooms, grows, flags_after};
+ghost use Rattle.std_wdef.specs.Kinds.{closes, tracks, zooms, grows, is_titled};
 
-use def_iface::{Size, WindowChange};
+use def_iface::{Flags, Size};
+use draw_port::ShortText;
 
 /// The variations of the standard window definition, with the numbers of their procedures (*Inside
 /// Macintosh* I, "The Window Manager", "Window Types"; zoomDocProc: volume IV).
@@ -21,17 +22,6 @@ pub enum Variation {
     NoGrow = 4,
     /// zoomDocProc
     Zoom = 8,
-}
-
-/// What a window was told beside its size and its title.
-#[derive(Clone, Copy, Debug, PartialEq, Eq)]
-pub struct Flags {
-    pub highlighted: bool,
-    /// It has a go-away box.
-    pub go_away: bool,
-    pub zoomed: bool,
-    /// Its go-away box is tracked, with the point inside.
-    pub tracked: bool,
 }
 
 /// What a window of a kind shows, beside the characters of its title.
@@ -111,29 +101,9 @@ impl Variation {
     }
 }
 
-impl Flags {
-    /// The flags after a change.
-    pub(crate) fn after(self, change: &WindowChange<'_>) -> Flags
-        ensures { result ≡ flags_after change.now self }
-    {
-        match change {
-            WindowChange::Highlighted(on) => Flags {
-                highlighted: *on,
-                ..self
-            },
-            WindowChange::Closable(on) => Flags {
-                go_away: *on,
-                ..self
-            },
-            WindowChange::Zoomed(on) => Flags {
-                zoomed: *on,
-                ..self
-            },
-            WindowChange::Tracked(on) => Flags {
-                tracked: *on,
-                ..self
-            },
-            WindowChange::Resized(_) | WindowChange::Titled(_) => self,
-        }
-    }
+/// Whether a title is not empty.
+pub(crate) fn is_titled(title: &ShortText) -> bool
+    ensures { result ≡ is_titled title.now }
+{
+    0 < title.as_slice().len()
 }

@@ -7,7 +7,7 @@
 //! corner is cut out.
 //!
 //! What a window of a kind looks like, which pixels it has, and which part of it a point lies in, are
-//! tables of its size, its title and what else it was told (`Flags`). Each table stands twice, in
+//! tables of its size, its title and what else it was told (`def_iface::Flags`). Each table stands twice, in
 //! `specs/` and in the code, and the check finds the two equal; the loops over them are those of
 //! `looks`. All rectangles are in the window's own coordinates, where its content begins at 0 0.
 #![tactic(auto)]
@@ -20,8 +20,7 @@ mod rects;
 mod shown;
 mod std_window;
 mod tables;
-mod title;
 
-pub use kind::{Flags, Variation};
+pub use kind::Variation;
 pub use notched_window::NotchedWindow;
 pub use std_window::StdWindow;

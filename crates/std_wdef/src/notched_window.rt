@@ -10,10 +10,10 @@ ghost use Rattle.looks.specs.Marks.{box, neg, look_bit};
 ghost use Rattle.std_wdef.specs.Notched.{notch, notched_structure, notched_content, notched_look, notched_meaning};
 ghost use Rattle.std_wdef.specs.Notched.{fresh_notched, told_notched, notched_at};
 
-use crate::rects::{less, more, plane, ring, size_after};
+use crate::rects::ring;
 use def_iface::{Hit, Size, Stage, WindowChange, WindowDef, WindowRegions};
 use draw_port::Canvas;
-use looks::{Piece, Step, area_has, area_region, damage_between, draw_look, sides};
+use looks::{Piece, Step, area_has, area_region, damage_between, draw_look, less, more, sides};
 use std::alloc::{AllocError, Global};
 use tb_geom::{Point, Rect};
 
@@ -118,7 +118,7 @@ fn notched_damage(old: Size, new: Size) -> Rect
     if old.is_in_range() {
         damage_between(&notched_look(old), &notched_look(new), true)
     } else {
-        plane()
+        Rect::plane()
     }
 }
 
@@ -150,7 +150,7 @@ impl WindowDef for NotchedWindow {
         ensures damage { IsDamage result (notched_meaning self.old) (notched_meaning self.new) }
         ensures kept { self.new ≡ told_notched change.entry self.old }
     {
-        let size = size_after(&change, self.size);
+        let size = change.size_after(self.size);
         let damage = notched_damage(self.size, size);
         self.size = size;
         damage

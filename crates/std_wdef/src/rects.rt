@@ -1,31 +1,12 @@
-//! Sizes, and the rectangles of the tables, in the window's coordinates.
-ghost use Rattle.std.specs.Prelude.{◌≡◌, true, nat_abs, pos, ◌-ℤ◌, ◌+ℤ◌};
-ghost use Rattle.tb_geom.specs.declared.point.Point.{Point};
-ghost use Rattle.tb_geom.specs.Rects.{in_plane, is_coordinate, rect_holds};
+//! The rectangles of the tables, in the window's coordinates.
+ghost use Rattle.std.specs.Prelude.{◌≡◌, true, pos, ◌-ℤ◌, ◌+ℤ◌};
 ghost use Rattle.def_iface.specs.Sizes.{is_size};
-ghost use Rattle.def_iface.specs.Meaning.{size_after};
 ghost use Rattle.looks.specs.Marks.{box, neg};
 ghost use Rattle.std_wdef.specs.Looks.{ring, document_box, shadow_box, size_box, title_bar};
 
-use def_iface::{Size, WindowChange};
-use looks::sides;
-use tb_geom::{Point, Rect};
-
-/// The number `d` below `x`.
-pub(crate) fn less(x: i32, d: u8) -> i32
-    requires { is_coordinate x ≡ true }
-    ensures { result ≡ x -ℤ pos d }
-{
-    x - i32::from(d)
-}
-
-/// The number `d` above `x`.
-pub(crate) fn more(x: i32, d: u8) -> i32
-    requires { is_coordinate x ≡ true }
-    ensures { result ≡ x +ℤ pos d }
-{
-    x + i32::from(d)
-}
+use def_iface::Size;
+use looks::{less, more, sides};
+use tb_geom::Rect;
 
 /// The pixels up to a distance from the content.
 pub(crate) fn ring(k: u8, size: Size) -> Rect
@@ -68,14 +49,6 @@ pub(crate) fn from_corner(size: Size, left: u8, top: u8, right: u8, bottom: u8) 
         less(size.width, right),
         less(size.height, bottom),
     )
-}
-
-/// The rectangle whose left and right side lie so far left of the content's right side.
-pub(crate) fn from_right(size: Size, left: u8, top: i32, right: u8, bottom: i32) -> Rect
-    requires { is_size size ≡ true }
-    ensures { result ≡ box (size.width -ℤ pos left) top (size.width -ℤ pos right) bottom }
-{
-    sides(less(size.width, left), top, less(size.width, right), bottom)
 }
 
 /// The size box.
@@ -130,29 +103,4 @@ pub(crate) fn title_bar(size: Size) -> Rect
     ensures { result ≡ title_bar size }
 {
     sides(0, -18, size.width, -1)
-}
-
-/// How many columns the content has.
-pub(crate) fn columns(size: Size) -> u16
-    requires { is_size size ≡ true }
-    ensures { result ≡ nat_abs size.width }
-{
-    size.width as u16
-}
-
-/// All pixels that coordinates reach.
-pub(crate) fn plane() -> Rect
-    ensures { (p : Point) → in_plane p ≡ true → rect_holds result p ≡ true }
-{
-    sides(-16384, -16384, 16384, 16384)
-}
-
-/// The size after a change.
-pub(crate) fn size_after(change: &WindowChange<'_>, size: Size) -> Size
-    ensures { result ≡ size_after change.now size }
-{
-    match change {
-        WindowChange::Resized(new) => *new,
-        _ => size,
-    }
 }

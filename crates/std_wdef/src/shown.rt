@@ -10,7 +10,6 @@ ghost use Rattle.looks.specs.Marks.{look_bit};
 ghost use Rattle.std_wdef.specs.Looks.{look_of, document_look};
 
 use crate::kind::{Shown, Variation};
-use crate::rects::plane;
 use crate::tables::{dialog_look, document_look, plain_look, shadow_look};
 use draw_port::Canvas;
 use looks::{damage_between, draw_look};
@@ -89,6 +88,6 @@ pub(crate) fn told_damage(variation: Variation, old: Shown, new: Shown, same_tit
     if old.size.is_in_range() {
         window_damage(variation, old, new, same_title)
     } else {
-        plane()
+        Rect::plane()
     }
 }

@@ -6,11 +6,9 @@ ghost use Rattle.std_wdef.specs.Told.{window_meaning, fresh_window, told_window,
 
 use crate::areas::{content_of, structure_box, structure_of};
 use crate::hits::std_hit;
-use crate::kind::{Flags, Shown, Variation};
-use crate::rects::size_after;
+use crate::kind::{Shown, Variation, is_titled};
 use crate::shown::{draw_window, told_damage};
-use crate::title::{is_titled, keeps_title, title_after};
-use def_iface::{Hit, Size, Stage, WindowChange, WindowDef, WindowRegions};
+use def_iface::{Flags, Hit, Size, Stage, WindowChange, WindowDef, WindowRegions};
 use draw_port::{Canvas, ShortText};
 use looks::area_region;
 use std::alloc::{AllocError, Global};
@@ -36,12 +34,7 @@ impl StdWindow {
         StdWindow {
             variation,
             stage: Stage::Fresh,
-            flags: Flags {
-                highlighted: false,
-                go_away: false,
-                zoomed: false,
-                tracked: false,
-            },
+            flags: Flags::new(),
             title: ShortText::new(b"").unwrap(),
             size: Size {
                 width: 0,
@@ -84,13 +77,13 @@ impl WindowDef for StdWindow {
             titled: is_titled(&self.title),
             size: self.size,
         };
-        let title = title_after(&change, &self.title);
+        let title = change.title_after(&self.title);
         let new = Shown {
-            flags: self.flags.after(&change),
+            flags: change.flags_after(self.flags),
             titled: is_titled(&title),
-            size: size_after(&change, self.size),
+            size: change.size_after(self.size),
         };
-        let damage = told_damage(self.variation, old, new, keeps_title(&change));
+        let damage = told_damage(self.variation, old, new, change.keeps_title());
         self.flags = new.flags;
         self.title = title;
         self.size = new.size;

@@ -5,13 +5,13 @@ ghost use Rattle.def_iface.specs.Sizes.{is_size};
 ghost use Rattle.std_wdef.specs.Looks.{plain_look, shadow_look, dialog_look, bar_lines, go_away_line, zoom_line, title_line};
 ghost use Rattle.std_wdef.specs.Looks.{size_line, document_look, in_title_bar, in_content, stripe};
 
-use crate::kind::{Flags, Shown, Variation};
+use crate::kind::{Shown, Variation};
 use crate::rects::{
-    columns, document_box, from_corner, from_right, less, more, ring, shadow_box, size_box,
-    size_box_left, size_box_top, title_bar, under_bar,
+    document_box, from_corner, ring, shadow_box, size_box, size_box_left, size_box_top, title_bar,
+    under_bar,
 };
-use def_iface::Size;
-use looks::{Look, Plate, Step, sides};
+use def_iface::{Flags, Size};
+use looks::{Look, Plate, Step, columns, from_right, less, more, sides};
 
 /// A plain window: its frame.
 pub(crate) fn plain_look(size: Size) -> [Step; 2]
@@ -110,15 +110,15 @@ fn zoom_line(variation: Variation, flags: Flags, size: Size) -> [Step; 3]
     [
         in_title_bar(
             size,
-            Step::white_fill(from_right(size, 20, -16, 7, -4)).when(on),
+            Step::white_fill(from_right(size.width, 20, -16, 7, -4)).when(on),
         ),
         in_title_bar(
             size,
-            Step::black_frame(from_right(size, 19, -16, 8, -5)).when(on),
+            Step::black_frame(from_right(size.width, 19, -16, 8, -5)).when(on),
         ),
         in_title_bar(
             size,
-            Step::black_frame(from_right(size, 19, -16, 12, -9)).when(on),
+            Step::black_frame(from_right(size.width, 19, -16, 12, -9)).when(on),
         ),
     ]
 }
@@ -129,7 +129,7 @@ fn title_line(titled: bool, size: Size) -> [Step; 2]
     ensures { result ≡ title_line titled size }
 {
     let bar = title_bar(size);
-    let width = columns(size);
+    let width = columns(size.width);
     let plate = Plate {
         width,
         margin: 4,

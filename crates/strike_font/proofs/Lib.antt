@@ -1,5 +1,6 @@
 -- Lemmas on FONT records.
 pub mod RecordLemmas
+pub mod LongestRecord
 pub mod TextLemmas
 pub mod PartLemmas
 pub mod BuiltInLemmas

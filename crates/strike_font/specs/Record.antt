@@ -97,7 +97,11 @@ has_tables bs =
     nat_le (2 * (strike_words bs + (last_symbol bs + 2))) (length bs)
     && nat_le (2 * (8 + word bs 8 + (last_symbol bs + 2))) (length bs)
 
--- the same as a fact
+-- so many bytes hold all parts of any record: the head, an image of 127 rows of 2047 words, and 33026 locations
+abbrev pub longest_record : ℕ
+longest_record = 2 * (13 + 2047 * 127 + 33026)
+
+-- the tables as a fact
 pub record HasTables (bs : List ℕ) : Type 0 where
   pub locations_in : 2 * (strike_words bs + (last_symbol bs + 2)) ≤ length bs
   pub entries_in : 2 * (8 + word bs 8 + (last_symbol bs + 2)) ≤ length bs

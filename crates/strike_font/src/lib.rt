@@ -28,3 +28,4 @@ mod text;
 
 pub use font::Font;
 pub use glyph::Glyph;
+pub use record::LONGEST_RECORD;

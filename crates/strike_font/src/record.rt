@@ -6,13 +6,17 @@ ghost use Rattle.std.specs.Prelude.{◌≡◌, ◌+◌, ◌*◌, ◌^◌, ◌<�
 ghost use Rattle.tb_geom.specs.Rects.{between};
 ghost use Rattle.strike_font.specs.Record.{word, signed, gap, first_char, last_char, strike_words, last_symbol, location, entry, has_head, is_font_type, is_within, good_chars, good_fields, good_head, has_tables, HasTables, rising, good_tables, is_font, IsFont};
 
-/// The word at this place of the bytes, unsigned.
+/// So many bytes hold all parts of any FONT record: the 13 words of its head, an image of 127 rows of 2047 words, and a
+/// location for each of the characters from -32768 to 255, the missing symbol and the end.
+pub const LONGEST_RECORD: usize = 2 * (13 + 2047 * 127 + 33026);
+
+/// The word at this index of the bytes, unsigned.
 #[tactic(auto, unfolding(crate::specs::Record::word))]
-pub fn word(bytes: &[u8], place: usize) -> u16
-    requires { 2 * place + 1 < length bytes.now }
-    ensures { result ≡ word bytes.now place }
+pub fn word(bytes: &[u8], index: usize) -> u16
+    requires { 2 * index + 1 < length bytes.now }
+    ensures { result ≡ word bytes.now index }
 {
-    u16::from(bytes[2 * place]) * 256 + u16::from(bytes[2 * place + 1])
+    u16::from(bytes[2 * index]) * 256 + u16::from(bytes[2 * index + 1])
 }
 
 /// The word as a signed number.

@@ -1,2 +1,3 @@
 pub mod RectLemmas
 pub mod PixelsLemmas
+pub mod Steps

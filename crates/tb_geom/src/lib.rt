@@ -14,5 +14,5 @@ mod rect;
 mod refusal;
 
 pub use point::Point;
-pub use rect::Rect;
+pub use rect::{FIRST_SIDE, LAST_SIDE, Rect};
 pub use refusal::Refusal;

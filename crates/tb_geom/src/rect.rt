@@ -3,7 +3,7 @@ ghost use Rattle.std.specs.Prelude.{◌≡◌, ◌↔◌, false, true, ◌&&◌,
 ghost use Rattle.tb_geom.specs.Points.{minus};
 ghost use Rattle.tb_geom.specs.declared.point.Point.{Point};
 ghost use Rattle.tb_geom.specs.declared.rect.Rect.{Rect};
-ghost use Rattle.tb_geom.specs.Rects.{IsBoxOf, between, rect_holds, is_in_range, is_coordinate, moved_rect, is_empty_rect, empty_rect, shared_rect, rect_around};
+ghost use Rattle.tb_geom.specs.Rects.{IsBoxOf, between, rect_holds, in_plane, is_in_range, is_coordinate, moved_rect, is_empty_rect, empty_rect, shared_rect, rect_around};
 
 use crate::{Point, Refusal};
 
@@ -24,11 +24,17 @@ fn is_between(low: i32, x: i32, high: i32) -> bool
     low <= x && x < high
 }
 
+/// The least coordinate of a side that is kept.
+pub const FIRST_SIDE: i32 = -16384;
+
+/// The greatest coordinate of a side that is kept.
+pub const LAST_SIDE: i32 = 16383;
+
 /// Whether `x` lies in -16384..=16383.
 pub(crate) fn is_coordinate(x: i32) -> bool
     ensures { result ≡ is_coordinate x }
 {
-    -16384 <= x && x <= 16383
+    FIRST_SIDE <= x && x <= LAST_SIDE
 }
 
 /// Whether the coordinate `x`, moved by `d`, lies in -16384..=16383.
@@ -39,6 +45,18 @@ fn stays_in_range(x: i32, d: i32) -> bool
 }
 
 impl Rect {
+    /// All pixels whose coordinates lie in -16384..=16383.
+    pub fn plane() -> Rect
+        ensures { (p : Point) → rect_holds result p ≡ in_plane p }
+    {
+        Rect {
+            left: FIRST_SIDE,
+            top: FIRST_SIDE,
+            right: LAST_SIDE + 1,
+            bottom: LAST_SIDE + 1,
+        }
+    }
+
     /// The rectangle moved `dh` columns to the right and `dv` rows down. OutOfRange exactly where
     /// a side of the moved rectangle leaves -16384..=16383.
     pub fn offset(self, dh: i32, dv: i32) -> Result<Rect, Refusal>

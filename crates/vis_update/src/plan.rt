@@ -44,14 +44,14 @@ pub struct Touch {
 }
 
 impl Touch {
-    /// How far the content of the window of this number moves.
+    /// How far the content of the window of this serial moves.
     pub(crate) fn way_of(self, serial: u64) -> Option<Point>
         ensures { result ≡ way_of self serial }
     {
         if serial == self.window { self.by } else { None }
     }
 
-    /// Whether the frame of the window of this number is drawn whole.
+    /// Whether the frame of the window of this serial is drawn whole.
     pub(crate) fn draws_whole(self, serial: u64) -> bool
         ensures { result ≡ draws_whole self serial }
     {

@@ -48,6 +48,10 @@ pub record IsEntire (input rest : Input) (bytes : List ℕ) : Type 0 where
   pub whole : IfSome input.remaining (λ all. all ≡ bytes)
   pub ended : rest.has_ended ≡ true
 
+-- of bytes of which this is said, the first so many are kept
+abbrev pub IsKeptOf : ℕ → (List ℕ → Type 0) → List ℕ → Type 0
+IsKeptOf most said kept = (all : List ℕ) × said all × (kept ≡ take most all)
+
 -- a read failed, or there were as many as there may be and none came to the end
 abbrev pub IsCutOff : Input → Type 0
 IsCutOff rest = (rest.has_failed ≡ true) ⊎ ((rest.reads ≡ most_reads) × (rest.has_ended ≡ false))

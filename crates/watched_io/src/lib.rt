@@ -10,7 +10,7 @@
 //! tries again.
 //!
 //! `send` and `send_all` write a text to its end (`Sends`): at `Ok` all of it went out, at `Err` a front of
-//! it, and the sink tells that it failed. `read_all` reads a source to its end. `WatchedReader` and
+//! it, and the sink tells that it failed. `read_to_end` reads a source to its end, and keeps as many bytes as are wanted. `WatchedReader` and
 //! `WatchedWriter` make a source and a sink of any reader and writer.
 #![tactic(auto)]
 
@@ -20,4 +20,4 @@ mod whole;
 
 pub use sink::{Sink, WatchedWriter, send, send_all};
 pub use source::{MOST_READS, Source, WatchedReader};
-pub use whole::read_all;
+pub use whole::read_to_end;

@@ -9,21 +9,21 @@ use Rattle.desk_call.specs.declared.frame.FrameCall.TheVariants.{SetTitle, Hilit
 use Rattle.desk_call.specs.declared.frame.FrameReply.{FrameReply}
 use Rattle.desk_call.specs.declared.frame.FrameReply.TheVariants.{Done, Tracked}
 use Rattle.vis_update.specs.Records.{WindowRecord}
-use Rattle.window_mgr.specs.FrameTelling.{IsFrameTold}
+use Rattle.window_mgr.specs.FrameNotices.{IsFrameNotified}
 use Rattle.window_mgr.specs.FullDesk.{FullDesk, FullState}
 use Rattle.window_mgr.specs.DeskStates.{DeskState}
-use Rattle.window_frame.specs.Followers.{Telling, AreTold, IsCaughtUpBy, told_flag, with_heard}
-use Rattle.window_frame.specs.FrameSteps.{IsFrameStep, IsFrameEffect, IsBegunAt, IsTrackingTold, with_flag, with_title, with_tracked}
+use Rattle.window_frame.specs.Followers.{Telling, AreNotified, IsCaughtUpBy, told_flag, with_heard}
+use Rattle.window_frame.specs.FrameSteps.{IsFrameStep, IsFrameEffect, IsBegunAt, IsTrackingNotified, with_flag, with_title, with_tracked}
 
 module _ {A : Type 0} (f : FullDesk → A) (apart : (d : FullDesk) (ws : List WindowRecord) → f (record d { windows = ws }) ≡ f d) where
-  pub frame_told_keeps : (s : ℕ) (news : WindowRecord → News → News) (kept : WindowRecord → WindowRecord) (before after : FullState) → IsFrameTold s news kept before after → f after.desk ≡ f before.desk
+  pub frame_told_keeps : (s : ℕ) (news : WindowRecord → News → News) (kept : WindowRecord → WindowRecord) (before after : FullState) → IsFrameNotified s news kept before after → f after.desk ≡ f before.desk
   frame_told_keeps s news kept before after told = ap f told.desk ∙ apart before.desk _
 
-  pub tracking_keeps : (inside : Bool) (s : ℕ) (before after : FullState) → IsTrackingTold inside s before after → f after.desk ≡ f before.desk
+  pub tracking_keeps : (inside : Bool) (s : ℕ) (before after : FullState) → IsTrackingNotified inside s before after → f after.desk ≡ f before.desk
   tracking_keeps inside s before after (inl (missing, same)) = ap (λ (state : FullState). f state.desk) same
   tracking_keeps inside s before after (inr told) = frame_told_keeps s (λ _. told_tracked inside) (with_tracked inside) before after told
 
-  pub are_told_keep : (ss : List Telling) (before after : FullState) → AreTold ss before after → f after.desk ≡ f before.desk
+  pub are_told_keep : (ss : List Telling) (before after : FullState) → AreNotified ss before after → f after.desk ≡ f before.desk
   are_told_keep [] before after same = ap (λ (state : FullState). f state.desk) same
   are_told_keep (s ∷ ss) before after (middle, one, rest) = are_told_keep ss middle after rest ∙ frame_told_keeps s.window (told_flag s.flag) (with_heard s.flag) before middle one.told
 

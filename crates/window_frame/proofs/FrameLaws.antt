@@ -12,9 +12,9 @@ use Rattle.window_mgr.specs.FullDesk.{FullState, IsRightState}
 use Rattle.window_mgr.proofs.FrameRight.{KeepsLayers, frame_told_stays_right}
 use Rattle.window_mgr.proofs.Running.{unchanged_stays_right}
 use Rattle.window_mgr.specs.DeskStates.{DeskState}
-use Rattle.window_frame.specs.Followers.{Flag, Telling, AreTold, IsCaughtUpBy, told_flag, with_heard}
+use Rattle.window_frame.specs.Followers.{Flag, Telling, AreNotified, IsCaughtUpBy, told_flag, with_heard}
 use Rattle.window_frame.specs.Followers.Flag.{Highlighting, Zooming}
-use Rattle.window_frame.specs.FrameSteps.{IsFrameStep, IsFrameEffect, IsBegunAt, IsTrackingTold, with_flag, with_title, with_tracked}
+use Rattle.window_frame.specs.FrameSteps.{IsFrameStep, IsFrameEffect, IsBegunAt, IsTrackingNotified, with_flag, with_title, with_tracked}
 
 -- ---- what is right stays so
 
@@ -31,11 +31,11 @@ keeps_heard : (flag : Flag) → KeepsLayers (with_heard flag)
 keeps_heard Highlighting = record { serial = λ w. refl; place = λ w. refl; size = λ w. refl; shown = λ w. refl; picture = λ w. refl; origin = λ w. refl }
 keeps_heard Zooming = record { serial = λ w. refl; place = λ w. refl; size = λ w. refl; shown = λ w. refl; picture = λ w. refl; origin = λ w. refl }
 
-tracking_stays_right : (inside : Bool) (s : ℕ) (before after : FullState) → IsRightState before → IsTrackingTold inside s before after → IsRightState after
+tracking_stays_right : (inside : Bool) (s : ℕ) (before after : FullState) → IsRightState before → IsTrackingNotified inside s before after → IsRightState after
 tracking_stays_right inside s before after right (inl (missing, same)) = subst IsRightState (sym same) right
 tracking_stays_right inside s before after right (inr told) = frame_told_stays_right s (λ _. told_tracked inside) (with_tracked inside) before after (keeps_tracked inside) right told
 
-are_told_stay_right : (ss : List Telling) (before after : FullState) → IsRightState before → AreTold ss before after → IsRightState after
+are_told_stay_right : (ss : List Telling) (before after : FullState) → IsRightState before → AreNotified ss before after → IsRightState after
 are_told_stay_right [] before after right same = subst IsRightState (sym same) right
 are_told_stay_right (s ∷ ss) before after right (middle, one, rest) =
     are_told_stay_right ss middle after (frame_told_stays_right s.window (told_flag s.flag) (with_heard s.flag) before middle (keeps_heard s.flag) right one.told) rest

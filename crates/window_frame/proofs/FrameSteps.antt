@@ -22,7 +22,7 @@ use Rattle.window_list.specs.declared.window.Window.{Window}
 use Rattle.window_mgr.specs.declared.manager.WindowManager.{WindowManager}
 use Rattle.window_mgr.specs.Edits.{IsWindowAt, StandsAt}
 use Rattle.window_mgr.specs.Finding.{record_with}
-use Rattle.window_mgr.specs.FrameTelling.{IsFrameTold}
+use Rattle.window_mgr.specs.FrameNotices.{IsFrameNotified}
 use Rattle.window_mgr.specs.FullDesk.{FullState}
 use Rattle.window_mgr.specs.Kept.{IsKept}
 use Rattle.window_mgr.specs.Records.{desk_of, state_of}
@@ -31,13 +31,13 @@ use Rattle.window_mgr.specs.Refused.{is_missing, longest_text}
 use Rattle.window_mgr.specs.Updating.{LeavesState}
 use Rattle.window_mgr.specs.Whole.{IsWholeManager}
 use Rattle.window_mgr.proofs.EditSeats.{same_at, there_is}
-use Rattle.window_mgr.proofs.FrameRight.{told_alike, told_of}
+use Rattle.window_mgr.proofs.FrameRight.{told_alike, told_likewise}
 use Rattle.window_mgr.proofs.TellLemmas as telling
 use Rattle.window_mgr.specs.DeskStates.{Opened, IsDeskUnchanged, desk_state}
 use Rattle.window_mgr.proofs.ScreenSides.{SameSides}
 use Rattle.window_frame.specs.Followers.{Flag, Knows, IsInformed, told_flag, with_heard}
 use Rattle.window_frame.specs.FrameRefusals.{frame_refusals, tracking_refusals}
-use Rattle.window_frame.specs.FrameSteps.{IsFrameStepOverAnySlots, IsTrackedAt, IsTrackingTold, in_go_away, with_flag, with_title, with_tracked}
+use Rattle.window_frame.specs.FrameSteps.{IsFrameStepOverAnySlots, IsTrackedAt, IsTrackingNotified, in_go_away, with_flag, with_title, with_tracked}
 use Rattle.window_frame.proofs.FrameKeeps.{frame_told_keeps, tracking_keeps}
 
 -- a window manager that was whole over some slots, and is so over the same
@@ -73,13 +73,13 @@ module _ {V : Type 0} {H : V → Type 0} (loan : Taken V H → Loan) (t : Window
     is_there slots = ap is_none found
 
     -- what is said of the window at its place is said of that of its number
-    pub by_number : (new : WindowManager V H) (news : WindowRecord → News → News) (f : WindowRecord → WindowRecord) → ((w : Window V H) → IsWindowAt t.windows.records.items at w → LeavesState loan (IsFrameTold w.serial news f) t new)
-        → LeavesState loan (IsFrameTold s news f) t new
-    by_number new news f leaves = subst (λ n. LeavesState loan (IsFrameTold n news f) t new) (stands.1 here.0 here.1) (leaves here.0 here.1)
+    pub by_number : (new : WindowManager V H) (news : WindowRecord → News → News) (f : WindowRecord → WindowRecord) → ((w : Window V H) → IsWindowAt t.windows.records.items at w → LeavesState loan (IsFrameNotified w.serial news f) t new)
+        → LeavesState loan (IsFrameNotified s news f) t new
+    by_number new news f leaves = subst (λ n. LeavesState loan (IsFrameNotified n news f) t new) (stands.1 here.0 here.1) (leaves here.0 here.1)
 
     -- so its definition was told whether its go-away box is tracked
-    pub told_apart : (new : WindowManager V H) (inside : Bool) → ((w : Window V H) → IsWindowAt t.windows.records.items at w → LeavesState loan (IsFrameTold w.serial (λ _. told_tracked inside) (with_tracked inside)) t new)
-        → LeavesState loan (IsTrackingTold inside s) t new
+    pub told_apart : (new : WindowManager V H) (inside : Bool) → ((w : Window V H) → IsWindowAt t.windows.records.items at w → LeavesState loan (IsFrameNotified w.serial (λ _. told_tracked inside) (with_tracked inside)) t new)
+        → LeavesState loan (IsTrackingNotified inside s) t new
     told_apart new inside leaves slots whole = let left = by_number new (λ _. told_tracked inside) (with_tracked inside) leaves slots whole in (left.0, inr left.1)
 
   -- ---- how a window stands
@@ -103,13 +103,13 @@ module _ {V : Type 0} {H : V → Type 0} (loan : Taken V H → Loan) (t : Window
     -- or it heard otherwise, and was told
     pub informed_so : (flag : Flag) (news : News → News) (kept_so : WindowRecord → WindowRecord) (new : WindowManager V H) → (Knows flag (record_of loan x) → ⊥)
         → news ≡ told_flag flag (record_of loan x) → kept_so (record_of loan x) ≡ with_heard flag (record_of loan x)
-        → ((w : Window V H) → IsWindowAt t.windows.records.items at w → LeavesState loan (IsFrameTold w.serial (λ _. news) kept_so) t new)
+        → ((w : Window V H) → IsWindowAt t.windows.records.items at w → LeavesState loan (IsFrameNotified w.serial (λ _. news) kept_so) t new)
         → (w : Window V H) → IsWindowAt t.windows.records.items at w → LeavesState loan (IsInformed flag w.serial) t new
     informed_so flag news kept_so new otherwise same_news same_record leaves w w_is slots whole =
         let left = leaves w w_is slots whole in
         let its = found_here w w_is in
         let alike = told_alike w.serial kept_so (with_heard flag) (record_of loan x) (state_of loan t slots) (state_of loan new slots) its same_record left.1 in
-        let told = told_of w.serial news (told_flag flag) (with_heard flag) (record_of loan x) (state_of loan t slots) (state_of loan new slots) its same_news alike in
+        let told = told_likewise w.serial news (told_flag flag) (with_heard flag) (record_of loan x) (state_of loan t slots) (state_of loan new slots) its same_news alike in
         (left.0, inr (record { told = told; otherwise = λ knows. otherwise (subst (Knows flag) (sym (sure (sym its ∙ told.found))) knows) }))
       where
         sure : {r v : WindowRecord} → Some r ≡ Some v → r ≡ v
@@ -126,7 +126,7 @@ module _ {V : Type 0} {H : V → Type 0} (loan : Taken V H → Loan) (t : Window
         (λ slots. λ i. first_refusal ((is_there kept n.window at stands slots i, NoSuchWindow) ∷ (is_long true e i, TooLong) ∷ []))
 
     pub titled : (u : Opened) (new : WindowManager V H) → nat_lt longest_text (length title) ≡ false
-        → ((w : Window V H) → IsWindowAt t.windows.records.items at w → LeavesState loan (IsFrameTold w.serial (λ _. told_title title) (with_title title)) t new)
+        → ((w : Window V H) → IsWindowAt t.windows.records.items at w → LeavesState loan (IsFrameNotified w.serial (λ _. told_title title) (with_title title)) t new)
         → IsFrameStepOverAnySlots loan (asks.SetTitle n) (Ok Done) t u new u
     titled u new e leaves slots whole =
         let left = by_number kept n.window at stands new (λ _. told_title title) (with_title title) leaves slots whole in (
@@ -135,13 +135,13 @@ module _ {V : Type 0} {H : V → Type 0} (loan : Taken V H → Loan) (t : Window
             λ i. first_refusal ((is_there kept n.window at stands slots i, NoSuchWindow) ∷ (is_long false e i, TooLong) ∷ []),
             (
               record { activity = refl; begun = refl },
-              subst (λ (l : List ℕ). IsFrameTold n.window (λ _. told_title l) (with_title l) (state_of loan t slots) (state_of loan new slots)) same left.1,
+              subst (λ (l : List ℕ). IsFrameNotified n.window (λ _. told_title l) (with_title l) (state_of loan t slots) (state_of loan new slots)) same left.1,
             ),
           ),
         )
 
   pub highlighted : (kept : IsKept loan t) (h : HiliteWindow) (at : ℕ) → StandsAt t.windows.records.items h.window at → (u : Opened) (new : WindowManager V H)
-      → ((w : Window V H) → IsWindowAt t.windows.records.items at w → LeavesState loan (IsFrameTold w.serial (λ _. told_highlighted h.highlighted) (with_flag h.highlighted)) t new)
+      → ((w : Window V H) → IsWindowAt t.windows.records.items at w → LeavesState loan (IsFrameNotified w.serial (λ _. told_highlighted h.highlighted) (with_flag h.highlighted)) t new)
       → IsFrameStepOverAnySlots loan (asks.Hilite h) (Ok Done) t u new u
   highlighted kept h at stands u new leaves slots whole =
       let left = by_number kept h.window at stands new (λ _. told_highlighted h.highlighted) (with_flag h.highlighted) leaves slots whole in
@@ -158,14 +158,14 @@ module _ {V : Type 0} {H : V → Type 0} (loan : Taken V H → Loan) (t : Window
     no_point u e outside is = subst (λ f. IsFrameStepOverAnySlots loan (asks.TrackGoAway g) (Err f) t u t u) (sym is) (refused u (asks.TrackGoAway g) OutOfRange (λ slots. refused_or_not slots false outside))
 
     pub begun : (u after : Opened) (new : WindowManager V H) → in_plane g.point ≡ true → true ≡ in_go_away g.window (desk_of loan t []) g.point → after.activity ≡ Tracking g.window
-        → LeavesState loan (IsTrackingTold true g.window) t new → IsFrameStepOverAnySlots loan (asks.TrackGoAway g) (Ok (Tracked true)) t u new after
+        → LeavesState loan (IsTrackingNotified true g.window) t new → IsFrameStepOverAnySlots loan (asks.TrackGoAway g) (Ok (Tracked true)) t u new after
     begun u after new inside is opened leaves slots whole =
         let left = leaves slots whole in (left.0, (refused_or_not slots true inside, (is, (opened, left.1))))
 
     pub not_begun : (u : Opened) → in_plane g.point ≡ true → false ≡ in_go_away g.window (desk_of loan t []) g.point → IsFrameStepOverAnySlots loan (asks.TrackGoAway g) (Ok (Tracked false)) t u t u
     not_begun u inside is slots whole = (whole, (refused_or_not slots true inside, (is, unchanged u slots)))
 
-  module _ (u : Opened) (w : ℕ) (p : Point) (inside shows : Bool) (new : WindowManager V H) (open_is : Tracking w ≡ u.activity) (planar : in_plane p ≡ true) (is : inside ≡ in_go_away w (desk_of loan t []) p) (leaves : LeavesState loan (IsTrackingTold shows w) t new) where
+  module _ (u : Opened) (w : ℕ) (p : Point) (inside shows : Bool) (new : WindowManager V H) (open_is : Tracking w ≡ u.activity) (planar : in_plane p ≡ true) (is : inside ≡ in_go_away w (desk_of loan t []) p) (leaves : LeavesState loan (IsTrackingNotified shows w) t new) where
     free : first_refusal (tracking_refusals p) ≡ None
     free i = first_refusal ((not (planar i), OutOfRange) ∷ [])
 
@@ -173,12 +173,12 @@ module _ {V : Type 0} {H : V → Type 0} (loan : Taken V H → Loan) (t : Window
     tracked_at after slots whole = record { window = w; tracked = sym open_is; answer = is; told = (leaves slots whole).1 }
 
   pub stepped : (u : Opened) (w : ℕ) (p : Point) (inside : Bool) (new : WindowManager V H) → Tracking w ≡ u.activity → in_plane p ≡ true → inside ≡ in_go_away w (desk_of loan t []) p
-      → LeavesState loan (IsTrackingTold inside w) t new → IsFrameStepOverAnySlots loan (asks.StepGoAway p) (Ok (Tracked inside)) t u new u
+      → LeavesState loan (IsTrackingNotified inside w) t new → IsFrameStepOverAnySlots loan (asks.StepGoAway p) (Ok (Tracked inside)) t u new u
   stepped u w p inside new open_is planar is leaves slots whole =
       ((leaves slots whole).0, (free u w p inside inside new open_is planar is leaves, (record { activity = refl; begun = refl }, tracked_at u w p inside inside new open_is planar is leaves u slots whole)))
 
   pub ended : (u : Opened) (w : ℕ) (p : Point) (inside : Bool) (new : WindowManager V H) → Tracking w ≡ u.activity → in_plane p ≡ true → inside ≡ in_go_away w (desk_of loan t []) p
-      → LeavesState loan (IsTrackingTold false w) t new → (after : Opened) → after.activity ≡ Idle → IsFrameStepOverAnySlots loan (asks.EndGoAway p) (Ok (Tracked inside)) t u new after
+      → LeavesState loan (IsTrackingNotified false w) t new → (after : Opened) → after.activity ≡ Idle → IsFrameStepOverAnySlots loan (asks.EndGoAway p) (Ok (Tracked inside)) t u new after
   ended u w p inside new open_is planar is leaves after idle slots whole =
       ((leaves slots whole).0, (free u w p inside false new open_is planar is leaves, (idle, tracked_at u w p inside false new open_is planar is leaves after slots whole)))
 
@@ -194,14 +194,14 @@ module _ {V : Type 0} {H : V → Type 0} (loan : Taken V H → Loan) (t : Window
       let same = keeps _ _ (leaves kept.slots kept.whole).1 in
       record { width = ap nat_abs same.width; height = ap nat_abs same.height }
 
-  pub told_stays_sized : (kept : IsKept loan t) (inside : Bool) (s : ℕ) (new : WindowManager V H) → LeavesState loan (IsTrackingTold inside s) t new → SameScreen new
+  pub told_stays_sized : (kept : IsKept loan t) (inside : Bool) (s : ℕ) (new : WindowManager V H) → LeavesState loan (IsTrackingNotified inside s) t new → SameScreen new
   told_stays_sized kept inside s new leaves =
-      sides_stay kept new (IsTrackingTold inside s) (λ before later told. record { width = tracking_keeps (λ d. d.width) (λ d ws. refl) inside s before later told; height = tracking_keeps (λ d. d.height) (λ d ws. refl) inside s before later told }) leaves
+      sides_stay kept new (IsTrackingNotified inside s) (λ before later told. record { width = tracking_keeps (λ d. d.width) (λ d ws. refl) inside s before later told; height = tracking_keeps (λ d. d.height) (λ d ws. refl) inside s before later told }) leaves
 
   pub frame_stays_sized : (kept : IsKept loan t) (s at : ℕ) → StandsAt t.windows.records.items s at → (news : WindowRecord → News → News) (f : WindowRecord → WindowRecord) (new : WindowManager V H)
-      → ((w : Window V H) → IsWindowAt t.windows.records.items at w → LeavesState loan (IsFrameTold w.serial news f) t new) → SameScreen new
+      → ((w : Window V H) → IsWindowAt t.windows.records.items at w → LeavesState loan (IsFrameNotified w.serial news f) t new) → SameScreen new
   frame_stays_sized kept s at stands news f new leaves =
-      sides_stay kept new (IsFrameTold s news f) (λ before later told. record { width = frame_told_keeps (λ d. d.width) (λ d ws. refl) s news f before later told; height = frame_told_keeps (λ d. d.height) (λ d ws. refl) s news f before later told })
+      sides_stay kept new (IsFrameNotified s news f) (λ before later told. record { width = frame_told_keeps (λ d. d.width) (λ d ws. refl) s news f before later told; height = frame_told_keeps (λ d. d.height) (λ d ws. refl) s news f before later told })
       (by_number kept s at stands new news f leaves)
 
 -- the step of a call is that of the call that it is

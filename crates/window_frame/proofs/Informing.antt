@@ -23,7 +23,7 @@ use Rattle.window_mgr.specs.Records.{state_of}
 use Rattle.window_mgr.specs.Updating.{LeavesState}
 use Rattle.window_mgr.proofs.EditSeats.{there_is}
 use Rattle.window_mgr.proofs.FindLemmas.{not_among, record_at}
-use Rattle.window_frame.specs.Followers.{Flag, Telling, Knows, AreTold, IsCaughtUp, IsCaughtUpBy, IsInformed, IsTold, with_heard}
+use Rattle.window_frame.specs.Followers.{Flag, Telling, Knows, AreNotified, IsCaughtUp, IsCaughtUpBy, IsInformed, IsNotified, with_heard}
 use Rattle.window_frame.specs.Followers.Flag.{Highlighting, Zooming}
 use Rattle.window_frame.proofs.FrameSteps.{still_kept}
 
@@ -92,16 +92,16 @@ knows_still Zooming Zooming w d knew = refl
 
 -- ---- a window manager of which one definition was told
 
-several_then : (ts : List Telling) (t : Telling) (before middle after : FullState) → AreTold ts before middle → IsTold t middle after → AreTold (ts ++ t ∷ []) before after
-several_then [] t before middle after same told = (after, subst (λ m. IsTold t m after) same told, refl)
+several_then : (ts : List Telling) (t : Telling) (before middle after : FullState) → AreNotified ts before middle → IsNotified t middle after → AreNotified (ts ++ t ∷ []) before after
+several_then [] t before middle after same told = (after, subst (λ m. IsNotified t m after) same told, refl)
 several_then (one ∷ ts) t before middle after (first, its, rest) told = (first, its, several_then ts t first middle after rest told)
 
 -- several were told
 abbrev pub AreSomeTold : FullState → FullState → Type 0
-AreSomeTold before after = (ts : List Telling) × AreTold ts before after
+AreSomeTold before after = (ts : List Telling) × AreNotified ts before after
 
 and_one : (flag : Flag) (s : ℕ) (before middle after : FullState) → AreSomeTold before middle → IsInformed flag s middle after → AreSomeTold before after
-and_one flag s before middle after (ts, told) (inl (known, same)) = (ts, subst (λ m. AreTold ts before m) (sym same) told)
+and_one flag s before middle after (ts, told) (inl (known, same)) = (ts, subst (λ m. AreNotified ts before m) (sym same) told)
 and_one flag s before middle after (ts, told) (inr one) = (ts ++ record { window = s; flag = flag } ∷ [], several_then ts (record { window = s; flag = flag }) before middle after told one)
 
 module _ {V : Type 0} {H : V → Type 0} (loan : Taken V H → Loan) where

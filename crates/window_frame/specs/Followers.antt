@@ -6,7 +6,7 @@ use Rattle.desk_call.specs.declared.activity.Standing.{Standing}
 use Rattle.desk_call.specs.declared.activity.Standing.TheVariants.{Asks}
 use Rattle.vis_update.specs.Records.{WindowRecord}
 use Rattle.window_mgr.specs.Finding.{record_with}
-use Rattle.window_mgr.specs.FrameTelling.{IsFrameTold}
+use Rattle.window_mgr.specs.FrameNotices.{IsFrameNotified}
 use Rattle.window_mgr.specs.FullDesk.{FullState}
 
 -- what a call on windows may change without telling the definition
@@ -44,20 +44,20 @@ pub record Telling : Type 0 where
   pub flag : Flag
 
 -- the window's definition, which had heard otherwise, was told how the window stands, and the frame was drawn
-pub record IsTold (t : Telling) (before after : FullState) : Type 0 where
-  pub told : IsFrameTold t.window (told_flag t.flag) (with_heard t.flag) before after
+pub record IsNotified (t : Telling) (before after : FullState) : Type 0 where
+  pub told : IsFrameNotified t.window (told_flag t.flag) (with_heard t.flag) before after
   pub otherwise : Knows t.flag told.window → ⊥
 
 -- the window of this serial has a definition that knew how it stands, and nothing changed, or one that was told
 abbrev pub IsInformed : Flag → ℕ → FullState → FullState → Type 0
 IsInformed flag s before after =
     (((w : WindowRecord) → record_with s before.desk.windows ≡ Some w → Knows flag w) × (after ≡ before))
-    ⊎ IsTold (record { window = s; flag = flag }) before after
+    ⊎ IsNotified (record { window = s; flag = flag }) before after
 
 -- these were told, one after another
-abbrev pub AreTold : List Telling → FullState → FullState → Type 0
-AreTold [] before after = after ≡ before
-AreTold (t ∷ ts) before after = (middle : FullState) × IsTold t before middle × AreTold ts middle after
+abbrev pub AreNotified : List Telling → FullState → FullState → Type 0
+AreNotified [] before after = after ≡ before
+AreNotified (t ∷ ts) before after = (middle : FullState) × IsNotified t before middle × AreNotified ts middle after
 
 -- each window's definition knows how the window stands
 abbrev pub AreInformed : List WindowRecord → Type 0
@@ -65,7 +65,7 @@ AreInformed windows = All (λ w. Knows Highlighting w × Knows Zooming w) window
 
 -- the definitions that had heard otherwise were told how their windows stand, and no other was told anything
 abbrev pub IsCaughtUp : FullState → FullState → Type 0
-IsCaughtUp before after = (tellings : List Telling) × AreTold tellings before after × AreInformed after.desk.windows
+IsCaughtUp before after = (tellings : List Telling) × AreNotified tellings before after × AreInformed after.desk.windows
 
 -- so it is after a call of this standing; after one that asks none was told anything
 abbrev pub IsCaughtUpBy : Standing → FullState → FullState → Type 0

@@ -17,7 +17,7 @@ use Rattle.vis_update.specs.Records.{WindowRecord}
 use Rattle.vis_update.specs.Touches.{is_this}
 use Rattle.window_mgr.specs.declared.manager.WindowManager.{WindowManager}
 use Rattle.window_mgr.specs.Finding.{found_at}
-use Rattle.window_mgr.specs.FrameTelling.{IsFrameTold}
+use Rattle.window_mgr.specs.FrameNotices.{IsFrameNotified}
 use Rattle.window_mgr.specs.FullDesk.{FullDesk, FullState}
 use Rattle.tb_geom.specs.Refusals.{first_refusal}
 use Rattle.window_mgr.specs.Refused.{is_missing}
@@ -42,13 +42,13 @@ abbrev pub in_go_away : ℕ → FullDesk → Point → Bool
 in_go_away s desk p = let found = found_at desk p in is_go_away found.part && is_this found.window s
 
 -- the definition of the window of this serial, if there is one, is told whether the go-away box is tracked with the point inside
-abbrev pub IsTrackingTold : Bool → ℕ → FullState → FullState → Type 0
-IsTrackingTold inside s before after = ((is_missing s before.desk.windows ≡ true) × (after ≡ before))
-    ⊎ IsFrameTold s (λ _. told_tracked inside) (with_tracked inside) before after
+abbrev pub IsTrackingNotified : Bool → ℕ → FullState → FullState → Type 0
+IsTrackingNotified inside s before after = ((is_missing s before.desk.windows ≡ true) × (after ≡ before))
+    ⊎ IsFrameNotified s (λ _. told_tracked inside) (with_tracked inside) before after
 
 -- tracking begins where the point lies in the box, and the definition is told; elsewhere nothing does
 abbrev pub IsBegunAt : ℕ → Bool → DeskState → DeskState → Type 0
-IsBegunAt s true before after = (after.activity ≡ Tracking s) × IsTrackingTold true s before.windows after.windows
+IsBegunAt s true before after = (after.activity ≡ Tracking s) × IsTrackingNotified true s before.windows after.windows
 IsBegunAt s false before after = IsDeskUnchanged before after
 
 -- tracking of some window goes on at this point, or ends there: its definition is told whether that lies in the box, or that
@@ -57,12 +57,12 @@ pub record IsTrackedAt (p : Point) (inside shows : Bool) (before after : DeskSta
   pub window : ℕ
   pub tracked : before.activity ≡ Tracking window
   pub answer : inside ≡ in_go_away window before.windows.desk p
-  pub told : IsTrackingTold shows window before.windows after.windows
+  pub told : IsTrackingNotified shows window before.windows after.windows
 
 -- what a call that nothing refuses answers and leaves
 abbrev pub IsFrameEffect : FrameCall → FrameReply → DeskState → DeskState → Type 0
-IsFrameEffect (SetTitle n) Done before after = SameActivity before after × IsFrameTold n.window (λ _. told_title n.title) (with_title n.title) before.windows after.windows
-IsFrameEffect (Hilite h) Done before after = SameActivity before after × IsFrameTold h.window (λ _. told_highlighted h.highlighted) (with_flag h.highlighted) before.windows after.windows
+IsFrameEffect (SetTitle n) Done before after = SameActivity before after × IsFrameNotified n.window (λ _. told_title n.title) (with_title n.title) before.windows after.windows
+IsFrameEffect (Hilite h) Done before after = SameActivity before after × IsFrameNotified h.window (λ _. told_highlighted h.highlighted) (with_flag h.highlighted) before.windows after.windows
 IsFrameEffect (TrackGoAway g) (Tracked inside) before after =
     (inside ≡ in_go_away g.window before.windows.desk g.point) × IsBegunAt g.window inside before after
 IsFrameEffect (StepGoAway p) (Tracked inside) before after = SameActivity before after × IsTrackedAt p inside inside before after

@@ -11,7 +11,7 @@ use def_iface::{Defined, Taken, WindowChange};
 use desk_call::{Standing, WindowCall};
 use window_mgr::WindowManager;
 
-/// Tells definitions how their windows stand, once a call on windows was done: each that heard otherwise, and no other, is
+/// Notifies definitions of how their windows stand, once a call on windows was done: each that heard otherwise, and no other, is
 /// told whether its window is highlighted, and whether it is zoomed, and has the frame drawn where that shows. After a call
 /// that asks none is told anything. Takes no memory.
 pub fn follow(windows: &mut WindowManager, call: &WindowCall<'_>)
@@ -24,42 +24,42 @@ pub fn follow(windows: &mut WindowManager, call: &WindowCall<'_>)
     }
 }
 
-/// Tells the definition of each window, from front to back.
+/// Notifies the definition of each window, from front to back.
 fn inform_all(windows: &mut WindowManager)
     requires { IsKept ⟦<Taken as Defined>⟧.loan windows.old }
     ensures { LeavesState ⟦<Taken as Defined>⟧.loan IsCaughtUp windows.old windows.new }
 {
-    let count = windows.parts().windows.len();
+    let count = windows.list().len();
     for at in 0..count {
-        tell_highlighting(windows, at);
-        tell_zooming(windows, at);
+        notify_highlighting(windows, at);
+        notify_zooming(windows, at);
     }
 }
 
-/// Tells the definition of the window at this place whether the window is highlighted, where it heard otherwise.
-fn tell_highlighting(windows: &mut WindowManager, at: usize)
+/// Notifies the definition of the window at this index of whether the window is highlighted, where it heard otherwise.
+fn notify_highlighting(windows: &mut WindowManager, at: usize)
     requires kept { IsKept ⟦<Taken as Defined>⟧.loan windows.old }
     requires at { at < length windows.old.windows.records.items }
     ensures { (w : _) → IsWindowAt windows.old.windows.records.items at w
         → LeavesState ⟦<Taken as Defined>⟧.loan (IsInformed Highlighting w.serial) windows.old windows.new }
 {
-    let window = windows.parts().windows.at(at);
+    let window = windows.list().at(at);
     let highlighted = window.highlighted;
     if window.heard.highlighted != highlighted {
-        windows.tell_frame(at, WindowChange::Highlighted(highlighted));
+        windows.notify(at, WindowChange::Highlighted(highlighted));
     }
 }
 
-/// Tells it whether the window is zoomed, where it heard otherwise.
-fn tell_zooming(windows: &mut WindowManager, at: usize)
+/// Notifies it of whether the window is zoomed, where it heard otherwise.
+fn notify_zooming(windows: &mut WindowManager, at: usize)
     requires kept { IsKept ⟦<Taken as Defined>⟧.loan windows.old }
     requires at { at < length windows.old.windows.records.items }
     ensures { (w : _) → IsWindowAt windows.old.windows.records.items at w
         → LeavesState ⟦<Taken as Defined>⟧.loan (IsInformed Zooming w.serial) windows.old windows.new }
 {
-    let window = windows.parts().windows.at(at);
+    let window = windows.list().at(at);
     let is_zoomed = window.user_state.is_some();
     if window.heard.zoomed != is_zoomed {
-        windows.tell_frame(at, WindowChange::Zoomed(is_zoomed));
+        windows.notify(at, WindowChange::Zoomed(is_zoomed));
     }
 }

@@ -12,15 +12,13 @@ use crate::goaway::{end_go_away, step_go_away, track_go_away};
 use crate::{FrameCall, FrameReply, HiliteWindow, NewTitle};
 use def_iface::{Defined, Taken, WindowChange};
 use desk_call::Activity;
+use draw_port::LONGEST_TEXT;
 use tb_geom::Refusal;
 use window_mgr::WindowManager;
 
-/// The longest title, in bytes.
-const LONGEST_TITLE: usize = 255;
-
-/// Makes one call on these windows, which may come while this is open, and gives its answer. A refused call changes nothing:
+/// Performs one call on these windows, which may come while this is open, and gives its answer. A refused call changes nothing:
 /// NoSuchWindow, OutOfRange and TooLong come in this order. Takes no memory.
-pub fn make(
+pub fn perform(
     windows: &mut WindowManager,
     activity: &mut Activity,
     call: &FrameCall<'_>,
@@ -61,7 +59,7 @@ fn set_title(windows: &mut WindowManager, new: &NewTitle<'_>) -> Result<FrameRep
     if is_too_long(title) {
         return Err(Refusal::TooLong);
     }
-    windows.tell_frame(at, WindowChange::Titled(title));
+    windows.notify(at, WindowChange::Titled(title));
     Ok(FrameReply::Done)
 }
 
@@ -69,7 +67,7 @@ fn set_title(windows: &mut WindowManager, new: &NewTitle<'_>) -> Result<FrameRep
 fn is_too_long(title: &[u8]) -> bool
     ensures { result ≡ nat_lt longest_text (length title.now) }
 {
-    LONGEST_TITLE < title.len()
+    LONGEST_TEXT < title.len()
 }
 
 /// Highlights a window, or not.
@@ -83,6 +81,6 @@ fn hilite(windows: &mut WindowManager, change: HiliteWindow) -> Result<FrameRepl
     let Some(at) = windows.find(change.window) else {
         return Err(Refusal::NoSuchWindow);
     };
-    windows.tell_frame(at, WindowChange::Highlighted(change.highlighted));
+    windows.notify(at, WindowChange::Highlighted(change.highlighted));
     Ok(FrameReply::Done)
 }

@@ -7,7 +7,7 @@ ghost use Rattle.desk_call.specs.declared.frame.FrameCall.TheVariants as asks;
 ghost use Rattle.window_mgr.specs.Kept.{IsKept};
 ghost use Rattle.window_mgr.specs.Records.{desk_of};
 ghost use Rattle.window_mgr.specs.Updating.{LeavesState};
-ghost use Rattle.window_frame.specs.FrameSteps.{IsFrameStepOverAnySlots, IsTrackingTold, in_go_away, is_go_away};
+ghost use Rattle.window_frame.specs.FrameSteps.{IsFrameStepOverAnySlots, IsTrackingNotified, in_go_away, is_go_away};
 
 use crate::{FrameReply, GoAwayPoint};
 use def_iface::{Defined, Taken, WindowChange};
@@ -33,7 +33,7 @@ pub(crate) fn track_go_away(
     match is_inside(windows, pressed.window, pressed.point) {
         Ok(true) => {
             *activity = Activity::Tracking(pressed.window);
-            windows.tell_frame(at, WindowChange::Tracked(true));
+            windows.notify(at, WindowChange::Tracked(true));
             Ok(FrameReply::Tracked(true))
         }
         Ok(false) => Ok(FrameReply::Tracked(false)),
@@ -54,7 +54,7 @@ pub(crate) fn step_go_away(
         windows.old (record { activity = Tracking window; begun = begun }) windows.new (record { activity = Tracking window; begun = begun }) }
 {
     let inside = is_inside(windows, window, point)?;
-    tell_tracked(windows, window, inside);
+    notify_tracked(windows, window, inside);
     Ok(FrameReply::Tracked(inside))
 }
 
@@ -73,7 +73,7 @@ pub(crate) fn end_go_away(
         windows.old (record { activity = activity.old; begun = begun }) windows.new (record { activity = activity.new; begun = begun }) }
 {
     let inside = is_inside(windows, window, point)?;
-    tell_tracked(windows, window, false);
+    notify_tracked(windows, window, false);
     *activity = Activity::Idle;
     Ok(FrameReply::Tracked(inside))
 }
@@ -99,12 +99,12 @@ fn is_go_away(part: WindowPart) -> bool
     }
 }
 
-/// Tells the definition of a window, if there is one, whether its go-away box is tracked with the mouse in it.
-fn tell_tracked(windows: &mut WindowManager, window: u64, inside: bool)
+/// Notifies the definition of a window, if there is one, of whether its go-away box is tracked with the mouse in it.
+fn notify_tracked(windows: &mut WindowManager, window: u64, inside: bool)
     requires { IsKept ⟦<Taken as Defined>⟧.loan windows.old }
-    ensures { LeavesState ⟦<Taken as Defined>⟧.loan (IsTrackingTold inside window) windows.old windows.new }
+    ensures { LeavesState ⟦<Taken as Defined>⟧.loan (IsTrackingNotified inside window) windows.old windows.new }
 {
     if let Some(at) = windows.find(window) {
-        windows.tell_frame(at, WindowChange::Tracked(inside));
+        windows.notify(at, WindowChange::Tracked(inside));
     }
 }

@@ -10,7 +10,7 @@ use Rattle.def_iface.specs.declared.window_def.WindowChange.TheVariants.{Resized
 use Rattle.def_iface.specs.News.{told_change, told_placed}
 use Rattle.def_iface.specs.Meaning.{Definition, Loan, SameRegions, Hears, IsDamage, size_after}
 use Rattle.window_list.specs.declared.window.Window.{Window}
-use Rattle.window_list.specs.Changes.{keeps_size, with_change, IsToldAt}
+use Rattle.window_list.specs.Changes.{keeps_size, with_change, IsNotifiedAt}
 
 -- a change that is none of the size leaves it
 pub same_size : (change : WindowChange) (s : Size) → keeps_size change ≡ true → size_after change s ≡ s
@@ -49,7 +49,7 @@ module _ {V : Type 0} {H : V → Type 0} where
       → Hears (told_change change) (loan kept.taken).definition (loan taken).definition
       → (loan taken).slot ≡ (loan kept.taken).slot
       → IsDamage damage (loan kept.taken).definition (loan taken).definition
-      → IsToldAt loan i change damage w old (slice_set old i (record kept { taken = taken }))
+      → IsNotifiedAt loan i change damage w old (slice_set old i (record kept { taken = taken }))
   told_at loan i change damage w kept taken old keeps is live size regions heard slot damaged =
       let was : kept.taken ≡ w.taken = ap (λ (x : Window V H). x.taken) is ∙ same_taken change w in
       record {

@@ -32,7 +32,7 @@ module _ {V : Type 0} {H : V → Type 0} where
 
   -- the definition of the i-th window, which is w, was told of the change and is live as before, and the record keeps what
   -- it keeps of that; outside the damage its pictures are as they were
-  pub record IsToldAt (loan : Taken V H → Loan) (i : ℕ) (change : WindowChange) (damage : Rect) (w : Window V H) (old new : List (Window V H)) : Type 0 where
+  pub record IsNotifiedAt (loan : Taken V H → Loan) (i : ℕ) (change : WindowChange) (damage : Rect) (w : Window V H) (old new : List (Window V H)) : Type 0 where
     pub taken : Taken V H
     pub items : new ≡ slice_set old i (record (with_change change w) { taken = taken })
     pub live : (loan taken).definition.stage ≡ Live

@@ -3,7 +3,7 @@ use Rattle.std.specs.Prelude.{◌≡◌, ℕ, Bool, ◌==◌, List, [], ◌∷�
 use Rattle.tb_geom.specs.declared.point.Point.{Point}
 use Rattle.draw_port.specs.declared.shapes.Op.{Op}
 use Rattle.def_iface.specs.declared.taken.Taken.{Taken}
-use Rattle.def_iface.specs.declared.window_def.Stage.TheVariants.{Live, Closed}
+use Rattle.def_iface.specs.declared.window_def.Stage.TheVariants.{Live}
 use Rattle.def_iface.specs.Meaning.{Loan, SameRegions, Hears}
 use Rattle.window_list.specs.Ranks.{Ranked}
 use Rattle.window_list.specs.declared.window.Placement.{Placement}
@@ -25,21 +25,21 @@ edit_at f i r = record r { items = edit f i r.items }
 abbrev pub map_ranked : {T : Type 0} → (T → T) → Ranked T → Ranked T
 map_ranked f r = record r { items = map f r.items }
 
--- the number after this one, of 64 bits
-abbrev pub number_after : ℕ → Option ℕ
-number_after n = if nat_lt (n + 1) (2 ^ 64) then Some (n + 1) else None
+-- the serial after this one, of 64 bits
+abbrev pub serial_after : ℕ → Option ℕ
+serial_after n = if nat_lt (n + 1) (2 ^ 64) then Some (n + 1) else None
 
 module _ {V : Type 0} {H : V → Type 0} where
-  -- the window, without its highlighting if it is the one of this number
+  -- the window, without its highlighting if it is the one of this serial
   abbrev pub dimmed : Option ℕ → Window V H → Window V H
   dimmed None w = w
   dimmed (Some s) w = if w.serial == s then record w { highlighted = false } else w
 
-  -- the window has this number
-  abbrev pub is_numbered : ℕ → Window V H → Bool
-  is_numbered serial w = w.serial == serial
+  -- the window has this serial
+  abbrev pub has_serial : ℕ → Window V H → Bool
+  has_serial serial w = w.serial == serial
 
-  -- the number of the first visible window
+  -- the serial of the first visible window
   abbrev pub first_shown : List (Window V H) → Option ℕ
   first_shown [] = None
   first_shown (w ∷ ws) = if w.shown then Some w.serial else first_shown ws
@@ -47,7 +47,7 @@ module _ {V : Type 0} {H : V → Type 0} where
   abbrev pub with_stand : Point → Bool → Option UserState → Window V H → Window V H
   with_stand place shown user_state w = record w { place = place; shown = shown; user_state = user_state }
 
-  -- the window, highlighted if it is the one of this number
+  -- the window, highlighted if it is the one of this serial
   abbrev pub lit : Option ℕ → Window V H → Window V H
   lit None w = w
   lit (Some s) w = if w.serial == s then record w { highlighted = true } else w
@@ -75,14 +75,6 @@ module _ {V : Type 0} {H : V → Type 0} where
     user_state = to.user_state;
     heard = record w.heard { zoomed = is_some to.user_state };
   }
-
-  -- the definition of the i-th window, which is w, was disposed of
-  pub record IsDisposedAt (loan : Taken V H → Loan) (i : ℕ) (w : Window V H) (old new : List (Window V H)) : Type 0 where
-    pub taken : Taken V H
-    pub items : new ≡ slice_set old i (record w { taken = taken })
-    pub closed : (loan taken).definition.stage ≡ Closed
-    pub regions : SameRegions (loan w.taken).definition (loan taken).definition
-    pub slot : (loan taken).slot ≡ (loan w.taken).slot
 
   -- the i-th window, which is w, has this place and size, and its definition, which is live as before, was told the size
   pub record IsPlacedAt (loan : Taken V H → Loan) (i : ℕ) (to : Placement) (w : Window V H) (old new : List (Window V H)) : Type 0 where

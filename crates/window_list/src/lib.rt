@@ -1,6 +1,6 @@
 //! The windows of a desk, as one list from front to back.
 //!
-//! A window's record (`Window`) holds all that is its own: its number, its place and size and those that it goes back to
+//! A window's record (`Window`) holds all that is its own: its serial, its place and size and those that it goes back to
 //! where it is zoomed, its title, its picture and its definition. A record can only be changed by the list that it lies
 //! in.
 //!
@@ -11,10 +11,10 @@
 //! A window's definition is told by the list alone, and the record keeps what it was told last (`Heard`): that may be
 //! older than how the window stands, until the definition is told again.
 //!
-//! `WindowList` has the windows so, and with them the number of the active window and the number of the
+//! `WindowList` has the windows so, and with them the serial of the active window and the serial of the
 //! next. What makes a window active and what that does to the highlighting of two windows is said here once,
-//! and so is the order of the numbers. Each call that changes one window says which, by its place from the
-//! front; `find` gives the place of a number.
+//! and so is the order of the serials. Each call that changes one window says which, by its index from the
+//! front; `find` gives the index of a serial.
 //!
 //! `local` and `picture_place` go from points of the screen to those of a window, and of its picture.
 #![tactic(auto)]

@@ -1,11 +1,11 @@
-//! The windows of a desk, which of them is active, and the number of the next.
+//! The windows of a desk, which of them is active, and the serial of the next.
 ghost use Rattle.std.specs.Prelude.{◌≡◌, true, ◌<◌, nat_lt, ◌==◌, [], ◌∷◌, length, map, if◌then◌else◌, position, slice_index_or, slice_get, Some, None, OnOk, OnErr, IfErr, IfNone, IfSome};
 ghost use Rattle.std.specs.List.{remove};
 ghost use Rattle.std.specs.Option.{option_map};
 ghost use Rattle.def_iface.specs.Meaning.{is_fitting};
 ghost use Rattle.window_list.specs.Ranks.{moved_item};
-ghost use Rattle.window_list.specs.Lists.{is_numbered, first_shown, dimmed, relit, number_after, map_ranked, edit_at, IsLastBox, with_stand, with_picture, with_origin, with_operation, IsDisposedAt, IsPlacedAt};
-ghost use Rattle.window_list.specs.Changes.{keeps_size, has_short_title, IsToldAt};
+ghost use Rattle.window_list.specs.Lists.{has_serial, first_shown, dimmed, relit, serial_after, map_ranked, edit_at, IsLastBox, with_stand, with_picture, with_origin, with_operation, IsPlacedAt};
+ghost use Rattle.window_list.specs.Changes.{keeps_size, has_short_title, IsNotifiedAt};
 
 use crate::{Placement, Ranks, UserState, Window};
 use def_iface::{Defined, Stage, Taken, WindowChange};
@@ -18,12 +18,12 @@ use tb_geom::{Point, Rect, Refusal};
 pub struct WindowList {
     pub(crate) records: Ranks<Window>,
     pub(crate) active: Option<u64>,
-    /// The number of the next window, or none where all are used.
+    /// The serial of the next window, or none where all are used.
     pub(crate) next: Option<u64>,
 }
 
 impl WindowList {
-    /// A list of no windows, which are to lie here; the first will have the number 1.
+    /// A list of no windows, which are to lie here; the first will have the serial 1.
     pub fn new(records: Ranks<Window>) -> WindowList
         requires { records.items ≡ [] }
         ensures windows { result.records.items ≡ [] }
@@ -44,21 +44,21 @@ impl WindowList {
         self.records.len()
     }
 
-    /// The number of the active window.
+    /// The serial of the active window.
     pub fn active(&self) -> Option<u64>
         ensures { result ≡ self.now.active }
     {
         self.active
     }
 
-    /// The number of the next window, or none where all are used.
+    /// The serial of the next window, or none where all are used.
     pub fn next(&self) -> Option<u64>
         ensures { result ≡ self.now.next }
     {
         self.next
     }
 
-    /// The window at a place, counted from the front.
+    /// The window at an index, counted from the front.
     pub fn at(&self, at: usize) -> &Window
         requires { at < length self.now.records.items }
         ensures { result.now ≡ slice_index_or self.now.records.items at result.now }
@@ -66,9 +66,9 @@ impl WindowList {
         self.records.at(at)
     }
 
-    /// The place of the first window of this number.
+    /// The index of the first window of this serial.
     pub fn find(&self, serial: u64) -> Option<usize>
-        ensures { result ≡ position (is_numbered serial) self.now.records.items }
+        ensures { result ≡ position (has_serial serial) self.now.records.items }
     {
         for at in 0..self.len() {
             if self.at(at).serial == serial {
@@ -78,7 +78,7 @@ impl WindowList {
         None
     }
 
-    /// The number of the first visible window.
+    /// The serial of the first visible window.
     pub fn front(&self) -> Option<u64>
         ensures { result ≡ first_shown self.now.records.items }
     {
@@ -111,10 +111,10 @@ impl WindowList {
             capacity = self.old.records.capacity;
           };
           active = if window.shown then Some window.serial else self.old.active;
-          next = number_after window.serial;
+          next = serial_after window.serial;
         } }
     {
-        self.next = number_after(window.serial);
+        self.next = serial_after(window.serial);
         if window.shown {
             self.dim();
             self.active = Some(window.serial);
@@ -133,7 +133,7 @@ impl WindowList {
         }
     }
 
-    /// Takes the window at this place out.
+    /// Takes the window at this index out.
     pub fn remove(&mut self, at: usize) -> Window
         requires { at < length self.old.records.items }
         ensures value { result ≡ slice_index_or self.old.records.items at result }
@@ -143,7 +143,7 @@ impl WindowList {
         self.records.remove(at)
     }
 
-    /// Moves the window at a place to another, counted without it.
+    /// Moves the window at an index to another, counted without it.
     pub fn move_to(&mut self, from: usize, to: usize)
         requires from { from < length self.old.records.items }
         requires to { to < length self.old.records.items }
@@ -153,7 +153,7 @@ impl WindowList {
         self.records.place(from, to);
     }
 
-    /// Sets where the window at this place stands, whether it is visible, and what it goes back to where it is zoomed.
+    /// Sets where the window at this index stands, whether it is visible, and what it goes back to where it is zoomed.
     pub fn set_stand(&mut self, at: usize, place: Point, shown: bool, user_state: Option<UserState>)
         requires { at < length self.old.records.items }
         ensures { self.new ≡ record self.old { records = edit_at (with_stand place shown user_state) at self.old.records } }
@@ -164,7 +164,7 @@ impl WindowList {
         window.user_state = user_state;
     }
 
-    /// Gives the window at this place another place and size, and tells its definition the size and whether it is zoomed.
+    /// Gives the window at this index another place and size, and tells its definition the size and whether it is zoomed.
     pub fn set_placement(&mut self, at: usize, placement: Placement)
         requires within { at < length self.old.records.items }
         requires live { IfSome (slice_get self.old.records.items at)
@@ -185,7 +185,7 @@ impl WindowList {
         window.heard.zoomed = is_zoomed;
     }
 
-    /// Gives the window at this place another picture, whose 0 0 is to lie there in the window.
+    /// Gives the window at this index another picture, whose 0 0 is to lie there in the window.
     pub fn set_picture(&mut self, at: usize, picture: Picture, origin: Point)
         requires { at < length self.old.records.items }
         ensures { self.new ≡ record self.old { records = edit_at (with_picture picture origin) at self.old.records } }
@@ -195,7 +195,7 @@ impl WindowList {
         window.origin = origin;
     }
 
-    /// Puts the 0 0 of the picture of the window at this place elsewhere in the window.
+    /// Puts the 0 0 of the picture of the window at this index elsewhere in the window.
     pub fn set_origin(&mut self, at: usize, origin: Point)
         requires { at < length self.old.records.items }
         ensures { self.new ≡ record self.old { records = edit_at (with_origin origin) at self.old.records } }
@@ -204,7 +204,7 @@ impl WindowList {
         window.origin = origin;
     }
 
-    /// Adds an operation behind all others of the picture of the window at this place. What refuses
+    /// Adds an operation behind all others of the picture of the window at this index. What refuses
     /// it leaves the list as it was.
     pub fn push_operation(&mut self, at: usize, operation: Op) -> Result<(), Refusal>
         requires { at < length self.old.records.items }
@@ -217,7 +217,7 @@ impl WindowList {
         window.picture.push(operation)
     }
 
-    /// Makes the window of this number the active one and highlights it; the window that was active
+    /// Makes the window of this serial the active one and highlights it; the window that was active
     /// before, if it is another, loses its highlighting. With None no window is active.
     pub fn set_active(&mut self, active: Option<u64>)
         ensures { self.new ≡ record self.old {
@@ -233,9 +233,10 @@ impl WindowList {
         self.active = active;
     }
 
-    /// Tells the definition of the window at this place of a change, which the record keeps. The answer is the damage, local to the window: in every font the definition's pictures before and after
-    /// are equal outside it. A change of the size is `set_placement`'s, and a title has at most 255 bytes.
-    pub fn tell(&mut self, at: usize, change: WindowChange<'_>) -> Rect
+    /// Notifies the definition of the window at this index of a change, which the record keeps. The answer is the damage,
+    /// local to the window: in every font the definition's pictures before and after are equal outside it. A change of
+    /// the size is `set_placement`'s, and a title has at most 255 bytes.
+    pub fn notify(&mut self, at: usize, change: WindowChange<'_>) -> Rect
         requires within { at < length self.old.records.items }
         requires size { keeps_size change ≡ true }
         requires title { has_short_title change ≡ true }
@@ -244,26 +245,13 @@ impl WindowList {
         requires fits { IfSome (slice_get self.old.records.items at)
             (λ w. is_fitting (⟦<Taken as Defined>⟧.loan w.taken).definition
             (⟦<Taken as Defined>⟧.loan w.taken).definition.size ≡ true) }
-        ensures told { IfSome (slice_get self.old.records.items at) (λ w. IsToldAt ⟦<Taken as Defined>⟧.loan
+        ensures told { IfSome (slice_get self.old.records.items at) (λ w. IsNotifiedAt ⟦<Taken as Defined>⟧.loan
             at change.entry result w self.old.records.items self.new.records.items) }
         ensures others { self.new ≡ record self.old { records = self.new.records } }
     {
         let window = self.records.at_mut(at);
         window.keep(change);
         window.taken.told(change)
-    }
-
-    /// Ends the use of the definition of the window at this place.
-    pub fn dispose(&mut self, at: usize)
-        requires within { at < length self.old.records.items }
-        requires live { IfSome (slice_get self.old.records.items at)
-            (λ w. (⟦<Taken as Defined>⟧.loan w.taken).definition.stage ≡ Stage.Live) }
-        ensures disposed { IfSome (slice_get self.old.records.items at) (λ w. IsDisposedAt ⟦<Taken as Defined>⟧.loan
-            at w self.old.records.items self.new.records.items) }
-        ensures others { self.new ≡ record self.old { records = self.new.records } }
-    {
-        let window = self.records.at_mut(at);
-        window.taken.dispose();
     }
 
     /// Takes the rearmost window's definition out and ends the window, or answers None where no window
@@ -282,9 +270,9 @@ impl WindowList {
     }
 }
 
-/// The number of the window after this one, if there can be one.
-fn number_after(serial: u64) -> Option<u64>
-    ensures { result ≡ number_after serial }
+/// The serial of the window after this one, if there can be one.
+fn serial_after(serial: u64) -> Option<u64>
+    ensures { result ≡ serial_after serial }
 {
     serial.checked_add(1)
 }

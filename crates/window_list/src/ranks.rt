@@ -60,7 +60,7 @@ impl<T> Ranks<T> {
         Ok(())
     }
 
-    /// Puts a value before the one at this place, or behind all. There has to be room.
+    /// Puts a value before the one at this index, or behind all. There has to be room.
     pub fn insert(&mut self, at: usize, value: T)
         requires place { at ≤ length self.old.items }
         requires room { length self.old.items < self.old.capacity }
@@ -71,7 +71,7 @@ impl<T> Ranks<T> {
         self.order.insert(at, key).unwrap();
     }
 
-    /// Takes the value at this place out.
+    /// Takes the value at this index out.
     pub fn remove(&mut self, at: usize) -> T
         requires { at < length self.old.items }
         ensures value { result ≡ slice_index_or self.old.items at result }
@@ -82,7 +82,7 @@ impl<T> Ranks<T> {
         self.records.remove(key)
     }
 
-    /// The value at this place.
+    /// The value at this index.
     pub fn at(&self, at: usize) -> &T
         requires { at < length self.now.items }
         ensures { result.now ≡ slice_index_or self.now.items at result.now }
@@ -90,7 +90,7 @@ impl<T> Ranks<T> {
         &self.records[self.order[at]]
     }
 
-    /// Moves the value at a place to another, counted without it.
+    /// Moves the value at an index to another, counted without it.
     pub fn place(&mut self, from: usize, to: usize)
         requires from { from < length self.old.items }
         requires to { to < length self.old.items }
@@ -101,7 +101,7 @@ impl<T> Ranks<T> {
         self.order.insert(to, key).unwrap();
     }
 
-    /// The value at this place, for writing.
+    /// The value at this index, for writing.
     pub fn at_mut(&mut self, at: usize) -> &mut T
         requires { at < length self.old.items }
         ensures* writes_back { sem 𝓛 (lends_value T.row self.entry at result) }

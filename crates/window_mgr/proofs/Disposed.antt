@@ -19,7 +19,7 @@ use Rattle.window_mgr.specs.Arrange.{activated, activation_of, desk_activated, d
 use Rattle.window_mgr.specs.Closing.{IsShut, loan_of}
 use Rattle.window_mgr.specs.Effects.{IsWindowDisposed}
 use Rattle.window_mgr.specs.Finding.{front_of}
-use Rattle.window_mgr.specs.FullDesk.{FullDesk, FullState, IsRightState, AreNumbered, layered_desk, layered_state, IsGiven}
+use Rattle.window_mgr.specs.FullDesk.{FullDesk, FullState, IsRightState, AreSerials, layered_desk, layered_state, IsGiven}
 use Rattle.window_mgr.specs.Whole.{IsSoundDesk, IsSettled, IsStocked}
 use Rattle.window_mgr.proofs.PutIn.{put_in, put_permutes, put_last, IsFree, found_put, distinct_out, serials_out, All-out, is_put, IsTakenOut, out_of}
 use Rattle.window_mgr.proofs.Rearranged.{layers_lit, length_lit, numbered_lit, settled_all, stocked_lit, stocked_put}
@@ -36,9 +36,9 @@ module _ (before : FullDesk) (s i : ℕ) (w : WindowRecord) (rest : List WindowR
   abbrev pub left : FullDesk
   left = record (desk_activated rest a before) { stock = slots }
 
-  pub numbered_left : AreNumbered before.next before.windows → AreNumbered left.next left.windows
-  numbered_left numbered = numbered_lit before.active before.next a rest
-      (let all = subst (AreNumbered before.next) O.windows numbered in (all.0, (serials_out (IsGiven before.next) i w rest all.1).1))
+  pub numbered_left : AreSerials before.next before.windows → AreSerials left.next left.windows
+  numbered_left serials = numbered_lit before.active before.next a rest
+      (let all = subst (AreSerials before.next) O.windows serials in (all.0, (serials_out (IsGiven before.next) i w rest all.1).1))
 
   pub settled_left : All IsSettled before.windows → All IsSettled left.windows
   settled_left all = settled_all before.active a rest (All-tail IsSettled w rest (All-out IsSettled i w rest (subst (All IsSettled) O.windows all)))
@@ -92,7 +92,7 @@ module _ (before : FullDesk) (s i : ℕ) (w : WindowRecord) (rest : List WindowR
   sound_left sound shut = record {
     screen = sound.screen;
     distinct = distinct_left sound.distinct;
-    numbered = numbered_left sound.numbered;
+    serials = numbered_left sound.serials;
     few = fewer (ap (λ (ws : List WindowRecord). length ws) O.windows ∙ length_permutation (w ∷ rest) (put_in i w rest) (put_permutes i w rest)) (length_lit before.active a rest) sound.few;
     settled = settled_left sound.settled;
     stocked = stocked_lit before.active a rest slots (stocked_front rest w before.stock slots last shut);
@@ -111,7 +111,7 @@ disposed_stays_right s before after right closed =
     let sound = disposal_is_sound before.desk s out.place closed.window out.rest one activation after.desk.stock right.plain.desk before.stale before.image in
     record {
       plain = stays_right plain.no_change (layered_state before) (layered_state after) right.plain (subst (plain.IsSound plain.no_change (layered_state before)) (sym (ap layered_desk desk_is)) sound) closed.pixels;
-      numbered = subst (λ (d : FullDesk). AreNumbered d.next d.windows) (sym desk_is) (numbered_left before.desk s out.place closed.window out.rest one activation after.desk.stock right.numbered);
+      serials = subst (λ (d : FullDesk). AreSerials d.next d.windows) (sym desk_is) (numbered_left before.desk s out.place closed.window out.rest one activation after.desk.stock right.serials);
     }
   where
     out : IsTakenOut s before.desk.windows closed.window

@@ -17,7 +17,7 @@ use Rattle.bit_map.specs.Bits.{Bits}
 use Rattle.bit_blit.specs.Draws.{Draws}
 use Rattle.bit_blit.proofs.DrawsLemmas.{Draws-same}
 use Rattle.draw_port.specs.declared.shapes.Op.{Op}
-use Rattle.scan_region.specs.Cuts.{cut_holds}
+use Rattle.scan_region.specs.Cuts.{cut_inside, cut_holds}
 use Rattle.draw_port.specs.Ops.{op_value}
 use Rattle.draw_port.specs.Origins.{is_near_origin}
 use Rattle.op_ref.specs.OpRefs.{IsMeant}
@@ -62,7 +62,7 @@ pub drawn_within : (font : List ℕ) (shown : Pixels) (visible : Bor Pixels) (cl
     → at ≡ plus place origin
     → last ≡ op
     → ((p : Point) → holds shown p ≡ true → rect_holds clip p ≡ true)
-    → Draws (λ p. rect_holds clip p && cut_holds (record { inside = Some visible ∷ None ∷ None ∷ []; outside = None }) p) (λ p value. op_value font last (minus p at) value) old new
+    → Draws (λ p. rect_holds clip p && cut_holds (cut_inside visible) p) (λ p value. op_value font last (minus p at) value) old new
     → Draws (holds shown) (λ p value. op_value font op (minus (minus p place) origin) value) old end
 drawn_within font shown visible clip at place origin op last old new end is_shown is_end moved same within drawn = rw is_end (
     Draws-same _ (holds shown) _ (λ p value. op_value font op (minus (minus p place) origin) value) old new
@@ -73,7 +73,7 @@ drawn_within font shown visible clip at place origin op last old new end is_show
     clipped false true e = e refl
     clipped false false e = refl
 
-    held : (p : Point) → (rect_holds clip p && cut_holds (record { inside = Some visible ∷ None ∷ None ∷ []; outside = None }) p) ≡ holds shown p
+    held : (p : Point) → (rect_holds clip p && cut_holds (cut_inside visible) p) ≡ holds shown p
     held p = ap (λ b. rect_holds clip p && b) (cut_holds-one visible p ∙ ap (λ s. holds s p) is_shown) ∙ clipped (rect_holds clip p) (holds shown p) (within p)
 
 -- ---- the last operation of a picture

@@ -5,7 +5,7 @@ use Rattle.std.proofs.lemmas.List.Elements.{All-map, All-weaker}
 use Rattle.std.proofs.lemmas.List.Kept.{AllPairs-cons}
 use Rattle.def_iface.specs.Stocked.{SlotView, is_left}
 use Rattle.vis_update.specs.Records.{WindowRecord}
-use Rattle.window_mgr.specs.FullDesk.{IsGiven, HaveSerials, AreNumbered}
+use Rattle.window_mgr.specs.FullDesk.{IsGiven, HaveSerials, AreSerials}
 use Rattle.window_mgr.specs.Whole.{IsSettled, IsStocked}
 
 -- ---- pairs of a list
@@ -43,5 +43,5 @@ module _ (f : WindowRecord → WindowRecord) where
   serials_map same P [] h = tt
   serials_map same P (w ∷ ws) h = (subst P (sym (same w)) h.0, serials_map same P ws h.1)
 
-  pub numbered_map : ((w : WindowRecord) → (f w).serial ≡ w.serial) → (next : Option ℕ) (ws : List WindowRecord) → AreNumbered next ws → AreNumbered next (map f ws)
+  pub numbered_map : ((w : WindowRecord) → (f w).serial ≡ w.serial) → (next : Option ℕ) (ws : List WindowRecord) → AreSerials next ws → AreSerials next (map f ws)
   numbered_map same next ws h = (h.0, serials_map same (IsGiven next) ws h.1)

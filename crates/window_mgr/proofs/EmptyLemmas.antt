@@ -120,7 +120,7 @@ module _ {V : Type 0} {H : V → Type 0} (loan : Taken V H → Loan) (width heig
   sound = record {
     screen = B.screen;
     distinct = tt;
-    numbered = (omega arith, tt);
+    serials = (omega arith, tt);
     few = omega arith;
     settled = All-nil _;
     stocked = record {
@@ -155,6 +155,6 @@ module _ {V : Type 0} {H : V → Type 0} (loan : Taken V H → Loan) (width heig
             (λ p on stale. plain_is p on ∙ sym (scratch_is_owners (layered_desk empty) p tt));
         content = λ p on stale. absurd (false≢true (sym (none_stale p) ∙ stale));
       };
-      numbered = empty_is_whole.sound.numbered;
+      serials = empty_is_whole.sound.serials;
     };
   }

@@ -25,7 +25,7 @@ use Rattle.def_iface.proofs.Owning.{same_number, same_owner-true, not_first}
 use Rattle.vis_update.specs.declared.area.Area.{Area}
 use Rattle.window_mgr.specs.declared.manager.WindowManager.{WindowManager}
 use Rattle.window_list.specs.declared.window.Window.{Window}
-use Rattle.window_list.specs.Lists.{first_shown, is_numbered}
+use Rattle.window_list.specs.Lists.{first_shown, has_serial}
 use Rattle.vis_update.specs.Records.{WindowRecord, layered_window}
 use Rattle.window_mgr.specs.FullDesk.{layered_desk}
 use Rattle.vis_update.specs.Records.{record_of}
@@ -192,24 +192,24 @@ front-records loan (w ∷ ws) = ap (λ o. if w.shown then Some w.serial else o) 
 
 -- what the search for a number among the windows tells
 module _ {V : Type 0} {H : V → Type 0} (loan : Taken V H → Loan) (s : ℕ) where
-  missing : (ws : List (Window V H)) → ((i : ℕ) (d : Window V H) → i < length ws → is_numbered s (get_or ws i d) ≡ false) → record_with s (map (record_of loan) ws) ≡ None
+  missing : (ws : List (Window V H)) → ((i : ℕ) (d : Window V H) → i < length ws → has_serial s (get_or ws i d) ≡ false) → record_with s (map (record_of loan) ws) ≡ None
   missing [] none = refl
   missing (w ∷ ws) none =
       (λ i. if none 0 w (omega arith) i then Some (record_of loan w) else record_with s (map (record_of loan) ws)) ∙ missing ws (λ k d low. none (suc k) d (omega arith))
 
-  stands : (ws : List (Window V H)) (i : ℕ) → position (is_numbered s) ws ≡ Some i → StandsAt ws s i
+  stands : (ws : List (Window V H)) (i : ℕ) → position (has_serial s) ws ≡ Some i → StandsAt ws s i
   stands [] i e = absurd (cc)
   stands (w ∷ ws) i e = (
-    (position-Some (is_numbered s) (w ∷ ws) i w e).0,
-    λ v v_is. ap (λ (z : Window V H). z.serial) v_is ∙ eqb-true _ s (position-Some (is_numbered s) (w ∷ ws) i v e).1,
+    (position-Some (has_serial s) (w ∷ ws) i w e).0,
+    λ v v_is. ap (λ (z : Window V H). z.serial) v_is ∙ eqb-true _ s (position-Some (has_serial s) (w ∷ ws) i v e).1,
   )
 
-  pub numbered_at : (ws : List (Window V H)) (o : Option ℕ) → o ≡ position (is_numbered s) ws
+  pub numbered_at : (ws : List (Window V H)) (o : Option ℕ) → o ≡ position (has_serial s) ws
       → MatchOption o (record_with s (map (record_of loan) ws) ≡ None) (StandsAt ws s)
   numbered_at ws o e = by_answer o (sym e)
     where
-      by_answer : (a : Option ℕ) → position (is_numbered s) ws ≡ a → MatchOption a (record_with s (map (record_of loan) ws) ≡ None) (StandsAt ws s)
-      by_answer None f = missing ws (position-None (is_numbered s) ws f)
+      by_answer : (a : Option ℕ) → position (has_serial s) ws ≡ a → MatchOption a (record_with s (map (record_of loan) ws) ≡ None) (StandsAt ws s)
+      by_answer None f = missing ws (position-None (has_serial s) ws f)
       by_answer (Some i) f = stands ws i f
 
 -- the window at the place is there

@@ -12,7 +12,7 @@ use Rattle.tb_geom.proofs.RectLemmas.{sides_of, sides_rise, is_around}
 use Rattle.bit_map.specs.Bits.{Bits}
 use Rattle.bit_blit.specs.Draws.{Draws}
 use Rattle.bit_blit.proofs.DrawsLemmas.{Draws-same}
-use Rattle.scan_region.specs.Cuts.{cut_holds}
+use Rattle.scan_region.specs.Cuts.{cut_inside, cut_holds}
 use Rattle.window_mgr.proofs.PaintLemmas.{cut_holds-one}
 
 -- ---- the range of coordinates
@@ -78,7 +78,7 @@ shared_is false b e = refl
 pub framed_within : (r : Bor Pixels) (clip : Rect) (these f : PixelSet) (old new end : Bits)
     → end ≡ new
     → ((p : Point) → holds r.now p ≡ true → rect_holds clip p ≡ these p)
-    → Draws (λ p. rect_holds clip p && cut_holds (record { inside = Some r ∷ None ∷ None ∷ []; outside = None }) p) (λ p _. f p) old new
+    → Draws (λ p. rect_holds clip p && cut_holds (cut_inside r) p) (λ p _. f p) old new
     → Draws (λ p. holds r.now p && these p) (λ p _. f p) old end
 framed_within r clip these f old new end is clips drawn =
     rw is (Draws-same _ (λ p. holds r.now p && these p) _ (λ p _. f p) old new (λ p value on. ap (λ b. if b then f p else value) (held p)) drawn)
@@ -89,5 +89,5 @@ framed_within r clip these f old new end is clips drawn =
     turned false true t e = refl
     turned false false t e = refl
 
-    held : (p : Point) → (rect_holds clip p && cut_holds (record { inside = Some r ∷ None ∷ None ∷ []; outside = None }) p) ≡ (holds r.now p && these p)
+    held : (p : Point) → (rect_holds clip p && cut_holds (cut_inside r) p) ≡ (holds r.now p && these p)
     held p = ap (λ b. rect_holds clip p && b) (cut_holds-one r p) ∙ turned (holds r.now p) (rect_holds clip p) (these p) (clips p)

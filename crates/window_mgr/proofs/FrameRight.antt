@@ -14,9 +14,9 @@ use Rattle.def_iface.proofs.Changing.{stays_right}
 use Rattle.vis_update.specs.Records.{WindowRecord, layered_window}
 use Rattle.window_mgr.specs.declared.arrange.Activation.TheVariants.{Stays}
 use Rattle.window_mgr.specs.Arrange.{changed}
-use Rattle.window_mgr.specs.FrameTelling.{IsFrameTold, told_record}
+use Rattle.window_mgr.specs.FrameNotices.{IsFrameNotified, notified_record}
 use Rattle.window_mgr.specs.Finding.{record_with}
-use Rattle.window_mgr.specs.FullDesk.{FullDesk, FullState, IsRightState, AreNumbered, layered_desk, layered_state}
+use Rattle.window_mgr.specs.FullDesk.{FullDesk, FullState, IsRightState, AreSerials, layered_desk, layered_state}
 use Rattle.window_mgr.proofs.FrameSteps.{told_keeps}
 use Rattle.window_mgr.proofs.PutIn.{IsFree, is_put, IsTakenOut, out_of, distinct_out}
 use Rattle.window_mgr.proofs.Rearranged.{IsEdit, edited, edit_is_sound, numbered_now}
@@ -30,7 +30,7 @@ pub record KeepsLayers (kept : WindowRecord → WindowRecord) : Type 0 where
   pub picture : (w : WindowRecord) → (kept w).picture ≡ w.picture
   pub origin : (w : WindowRecord) → (kept w).origin ≡ w.origin
 
-pub told_keeps_layers : (change : WindowChange) → KeepsLayers (told_record change)
+pub told_keeps_layers : (change : WindowChange) → KeepsLayers (notified_record change)
 told_keeps_layers change = record {
   serial = λ w. ap (λ (v : WindowRecord). v.serial) (told_keeps change w);
   place = λ w. ap (λ (v : WindowRecord). v.place) (told_keeps change w);
@@ -42,7 +42,7 @@ told_keeps_layers change = record {
 
 -- ---- a right state stays right
 
-module _ (s : ℕ) (news : WindowRecord → News → News) (kept : WindowRecord → WindowRecord) (before after : FullState) (keeps : KeepsLayers kept) (right : IsRightState before) (done : IsFrameTold s news kept before after) where
+module _ (s : ℕ) (news : WindowRecord → News → News) (kept : WindowRecord → WindowRecord) (before after : FullState) (keeps : KeepsLayers kept) (right : IsRightState before) (done : IsFrameNotified s news kept before after) where
   abbrev w : WindowRecord
   w = done.window
 
@@ -75,10 +75,10 @@ module _ (s : ℕ) (news : WindowRecord → News → News) (kept : WindowRecord 
         (subst (plain.IsSound plain.no_change (layered_state before)) (sym (ap layered_desk desk_is))
         (edit_is_sound before.desk w.serial out.place out.place w v out.rest edit Stays right.plain.desk before.stale before.image None same_content))
         done.pixels;
-    numbered = subst (λ (x : FullDesk). AreNumbered x.next x.windows) (sym desk_is) (numbered_now before.desk w.serial out.place out.place w v out.rest edit Stays right.numbered);
+    serials = subst (λ (x : FullDesk). AreSerials x.next x.windows) (sym desk_is) (numbered_now before.desk w.serial out.place out.place w v out.rest edit Stays right.serials);
   }
 
-pub frame_told_stays_right : (s : ℕ) (news : WindowRecord → News → News) (kept : WindowRecord → WindowRecord) (before after : FullState) → KeepsLayers kept → IsRightState before → IsFrameTold s news kept before after → IsRightState after
+pub frame_told_stays_right : (s : ℕ) (news : WindowRecord → News → News) (kept : WindowRecord → WindowRecord) (before after : FullState) → KeepsLayers kept → IsRightState before → IsFrameNotified s news kept before after → IsRightState after
 frame_told_stays_right s news kept before after keeps right done = told_right s news kept before after keeps right done
 
 -- ---- what the record keeps
@@ -96,7 +96,7 @@ changed_alike s f g w (y ∷ ys) found same = by_test (λ e. changed_alike s f g
     by_test behind false e = ap (λ xs. y ∷ xs) (behind e)
 
 -- so what its record keeps is told by that record alone
-pub told_alike : (s : ℕ) {news : WindowRecord → News → News} (f g : WindowRecord → WindowRecord) (w : WindowRecord) (before after : FullState) → record_with s before.desk.windows ≡ Some w → f w ≡ g w → IsFrameTold s news f before after → IsFrameTold s news g before after
+pub told_alike : (s : ℕ) {news : WindowRecord → News → News} (f g : WindowRecord → WindowRecord) (w : WindowRecord) (before after : FullState) → record_with s before.desk.windows ≡ Some w → f w ≡ g w → IsFrameNotified s news f before after → IsFrameNotified s news g before after
 told_alike s f g w before after found same done = record {
   window = done.window;
   definition = done.definition;
@@ -109,8 +109,8 @@ told_alike s f g w before after found same done = record {
 }
 
 -- what its definition is told is told by the record alone
-pub told_of : (s : ℕ) (f : News → News) (g : WindowRecord → News → News) (kept : WindowRecord → WindowRecord) (w : WindowRecord) (before after : FullState) → record_with s before.desk.windows ≡ Some w → f ≡ g w → IsFrameTold s (λ _. f) kept before after → IsFrameTold s g kept before after
-told_of s f g kept w before after found same done =
+pub told_likewise : (s : ℕ) (f : News → News) (g : WindowRecord → News → News) (kept : WindowRecord → WindowRecord) (w : WindowRecord) (before after : FullState) → record_with s before.desk.windows ≡ Some w → f ≡ g w → IsFrameNotified s (λ _. f) kept before after → IsFrameNotified s g kept before after
+told_likewise s f g kept w before after found same done =
     let its : w ≡ done.window = cc in
     record {
       window = done.window;

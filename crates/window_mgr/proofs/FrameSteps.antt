@@ -16,7 +16,7 @@ use Rattle.def_iface.proofs.Owning.{same_number}
 use Rattle.window_list.specs.Changes.{keeps_size}
 use Rattle.vis_update.specs.Records.{WindowRecord, layered_window, news_of}
 use Rattle.window_mgr.specs.declared.arrange.Activation.TheVariants.{Stays}
-use Rattle.window_mgr.specs.FrameTelling.{told_record}
+use Rattle.window_mgr.specs.FrameNotices.{notified_record}
 use Rattle.window_mgr.specs.FullDesk.{FullDesk, layered_desk}
 use Rattle.window_mgr.proofs.Committing.{turned}
 use Rattle.window_mgr.proofs.PutIn.{put_in, found_put}
@@ -38,7 +38,7 @@ noted said d w = record w {
 abbrev pub KeepsStand : (WindowRecord → WindowRecord) → Type 0
 KeepsStand kept = (w : WindowRecord) → kept w ≡ noted (kept w) w.definition w
 
-pub told_keeps : (change : WindowChange) → KeepsStand (told_record change)
+pub told_keeps : (change : WindowChange) → KeepsStand (notified_record change)
 told_keeps (Resized s) w = refl
 told_keeps (Titled t) w = refl
 told_keeps (Highlighted b) w = refl
@@ -48,13 +48,13 @@ told_keeps (Tracked b) w = refl
 
 -- its definition, told of the change, goes by the record as that is now
 pub told_goes_by : (change : WindowChange) (w : WindowRecord) (d : Definition) → keeps_size change ≡ true
-    → GoesBy (news_of w) w.definition → Hears (told_change change) w.definition d → GoesBy (news_of (noted (told_record change w) d w)) d
+    → GoesBy (news_of w) w.definition → Hears (told_change change) w.definition d → GoesBy (news_of (noted (notified_record change w) d w)) d
 told_goes_by (Resized s) w d keeps goes heard = absurd (cc)
-told_goes_by (Titled t) w d keeps goes heard = goes_by_news (told_change (Titled t)) (news_of w) (news_of (noted (told_record (Titled t) w) d w)) w.definition d (λ n. refl) (λ n. refl) goes heard
-told_goes_by (Highlighted b) w d keeps goes heard = goes_by_news (told_change (Highlighted b)) (news_of w) (news_of (noted (told_record (Highlighted b) w) d w)) w.definition d (λ n. refl) (λ n. refl) goes heard
-told_goes_by (Closable b) w d keeps goes heard = goes_by_news (told_change (Closable b)) (news_of w) (news_of (noted (told_record (Closable b) w) d w)) w.definition d (λ n. refl) (λ n. refl) goes heard
-told_goes_by (Zoomed b) w d keeps goes heard = goes_by_news (told_change (Zoomed b)) (news_of w) (news_of (noted (told_record (Zoomed b) w) d w)) w.definition d (λ n. refl) (λ n. refl) goes heard
-told_goes_by (Tracked b) w d keeps goes heard = goes_by_news (told_change (Tracked b)) (news_of w) (news_of (noted (told_record (Tracked b) w) d w)) w.definition d (λ n. refl) (λ n. refl) goes heard
+told_goes_by (Titled t) w d keeps goes heard = goes_by_news (told_change (Titled t)) (news_of w) (news_of (noted (notified_record (Titled t) w) d w)) w.definition d (λ n. refl) (λ n. refl) goes heard
+told_goes_by (Highlighted b) w d keeps goes heard = goes_by_news (told_change (Highlighted b)) (news_of w) (news_of (noted (notified_record (Highlighted b) w) d w)) w.definition d (λ n. refl) (λ n. refl) goes heard
+told_goes_by (Closable b) w d keeps goes heard = goes_by_news (told_change (Closable b)) (news_of w) (news_of (noted (notified_record (Closable b) w) d w)) w.definition d (λ n. refl) (λ n. refl) goes heard
+told_goes_by (Zoomed b) w d keeps goes heard = goes_by_news (told_change (Zoomed b)) (news_of w) (news_of (noted (notified_record (Zoomed b) w) d w)) w.definition d (λ n. refl) (λ n. refl) goes heard
+told_goes_by (Tracked b) w d keeps goes heard = goes_by_news (told_change (Tracked b)) (news_of w) (news_of (noted (notified_record (Tracked b) w) d w)) w.definition d (λ n. refl) (λ n. refl) goes heard
 
 -- ---- whose the pixels are
 

@@ -33,12 +33,12 @@ use Rattle.vis_update.specs.Areas.{IsArea, AreAreas, IsGray, IsDesktop, is_conte
 use Rattle.vis_update.specs.Records.{WindowRecord, layered_window, record_of}
 use Rattle.window_list.specs.declared.window.Window.{Window}
 use Rattle.window_list.specs.declared.list.WindowList.{WindowList}
-use Rattle.window_list.specs.Changes.{keeps_size, with_change, IsToldAt}
+use Rattle.window_list.specs.Changes.{keeps_size, with_change, IsNotifiedAt}
 use Rattle.window_mgr.specs.declared.arrange.Activation.TheVariants.{Stays}
 use Rattle.window_mgr.specs.declared.manager.WindowManager.{WindowManager}
 use Rattle.window_mgr.specs.Arrange.{changed}
 use Rattle.window_mgr.specs.Edits.{IsWindowAt}
-use Rattle.window_mgr.specs.FrameTelling.{IsFrameTold, told_record}
+use Rattle.window_mgr.specs.FrameNotices.{IsFrameNotified, notified_record}
 use Rattle.window_mgr.specs.FullDesk.{FullDesk, layered_desk, layered_state}
 use Rattle.window_mgr.specs.Records.{desk_of, state_of}
 use Rattle.window_mgr.specs.Whole.{IsWholeManager, IsSoundDesk, IsSettled}
@@ -95,7 +95,7 @@ frame_in font (y ∷ ys) (suc i) w p distinct e its =
 module _ {V : Type 0} {H : V → Type 0} (loan : Taken V H → Loan) where
   -- the record is what it is to be
   record_told : (change : WindowChange) (x : Window V H) (taken : Taken V H) → (loan taken).slot ≡ (loan x.taken).slot
-      → record_of loan (record (with_change change x) { taken = taken }) ≡ record (told_record change (record_of loan x)) { definition = (loan taken).definition }
+      → record_of loan (record (with_change change x) { taken = taken }) ≡ record (notified_record change (record_of loan x)) { definition = (loan taken).definition }
   record_told (Resized s) x taken slot = λ k. record (record_of loan x) { definition = (loan taken).definition; slot = slot k }
   record_told (Titled t) x taken slot = λ k. record (record_of loan x) { title = t.now; definition = (loan taken).definition; slot = slot k }
   record_told (Highlighted b) x taken slot = λ k. record (record_of loan x) { highlighted = b; heard = record x.heard { highlighted = b }; definition = (loan taken).definition; slot = slot k }
@@ -104,12 +104,12 @@ module _ {V : Type 0} {H : V → Type 0} (loan : Taken V H → Loan) where
   record_told (Tracked b) x taken slot = λ k. record (record_of loan x) { heard = record x.heard { tracked = b }; definition = (loan taken).definition; slot = slot k }
 
   -- the list is as long as it was
-  pub still_low : {at : ℕ} {change : WindowChange} {damage : Rect} {x : Window V H} {old new : List (Window V H)} → at < length old → IsToldAt loan at change damage x old new → at < length new
+  pub still_low : {at : ℕ} {change : WindowChange} {damage : Rect} {x : Window V H} {old new : List (Window V H)} → at < length old → IsNotifiedAt loan at change damage x old new → at < length new
   still_low {at} {change} {damage} {x} {old} {new} low T =
       let long : length new ≡ length old = ap length T.items ∙ length-set old at (record (with_change change x) { taken = T.taken }) in
       omega arith
 
-  module _ (t : WindowManager V H) (slots : List SlotView) (whole : IsWholeManager loan t slots) (at : ℕ) (low : at < length t.windows.records.items) (x : Window V H) (there : IsWindowAt t.windows.records.items at x) (change : WindowChange) (keeps : keeps_size change ≡ true) (damage : Rect) (list : WindowList V H) (T : IsToldAt loan at change damage x t.windows.records.items list.records.items) where
+  module _ (t : WindowManager V H) (slots : List SlotView) (whole : IsWholeManager loan t slots) (at : ℕ) (low : at < length t.windows.records.items) (x : Window V H) (there : IsWindowAt t.windows.records.items at x) (change : WindowChange) (keeps : keeps_size change ≡ true) (damage : Rect) (list : WindowList V H) (T : IsNotifiedAt loan at change damage x t.windows.records.items list.records.items) where
     abbrev before : FullDesk
     before = desk_of loan t slots
 
@@ -123,7 +123,7 @@ module _ {V : Type 0} {H : V → Type 0} (loan : Taken V H → Loan) where
     d = (loan T.taken).definition
 
     abbrev v : WindowRecord
-    v = noted (told_record change w) d w
+    v = noted (notified_record change w) d w
 
     abbrev rest : List WindowRecord
     rest = map (record_of loan) (remove t.windows.records.items at)
@@ -131,7 +131,7 @@ module _ {V : Type 0} {H : V → Type 0} (loan : Taken V H → Loan) where
     windows_were : before.windows ≡ put_in at w rest
     windows_were = ap (map (record_of loan)) (taken_out t.windows.records.items at x low there) ∙ map-put (record_of loan) at x (remove t.windows.records.items at)
 
-    told_is : record (told_record change w) { definition = d } ≡ v
+    told_is : record (notified_record change w) { definition = d } ≡ v
     told_is = λ k. record (told_keeps change w k) { definition = d }
 
     windows_are : map (record_of loan) list.records.items ≡ put_in at v rest
@@ -185,7 +185,7 @@ module _ {V : Type 0} {H : V → Type 0} (loan : Taken V H → Loan) where
       module _ (screen : Bits) (drawn : Draws (λ p. holds a.frame p && rect_holds damage (minus p x.place)) (λ p _. d.picture no_news t.font (minus p x.place)) t.screen screen)
           (near : (p : Point) → holds a.frame p ≡ true → in_plane (minus p x.place) ≡ true) (p : Point) (on : layers.on_screen was p ≡ true) where
         abbrev now : LayeredDesk
-        now = layered_desk (desk_noted before whole.sound.distinct at w rest windows_were (told_record change w) d T.regions)
+        now = layered_desk (desk_noted before whole.sound.distinct at w rest windows_were (notified_record change w) d T.regions)
 
         on_map_is : layers.on_screen was p ≡ on_map t.screen p
         unfolding on_map
@@ -207,7 +207,7 @@ module _ {V : Type 0} {H : V → Type 0} (loan : Taken V H → Loan) where
             bit_is
             ∙ ap (λ b. if b && rect_holds damage (minus p x.place) then d.picture no_news t.font (minus p x.place) else bit t.screen p) its
             ∙ by_damage (rect_holds damage (minus p x.place)) refl
-            ∙ sym (frame_now before whole.sound.distinct at w rest windows_were (told_record change w) d T.regions p)
+            ∙ sym (frame_now before whole.sound.distinct at w rest windows_were (notified_record change w) d T.regions p)
           where
             its : same_owner (owner was p) (Frame x.serial) ≡ true
             its = ap (λ o. same_owner o (Frame x.serial)) e ∙ same_number x.serial
@@ -217,7 +217,7 @@ module _ {V : Type 0} {H : V → Type 0} (loan : Taken V H → Loan) where
             by_damage false f =
                 whole.frames p on (ap is_content e)
                 ∙ ap (λ o. own_bit was o p) e
-                ∙ frame_was before whole.sound.distinct at w rest windows_were (told_record change w) d T.regions p
+                ∙ frame_was before whole.sound.distinct at w rest windows_were (notified_record change w) d T.regions p
                 ∙ sym (T.damaged t.font (minus p x.place) (near p (area_is.frame p ∙ (λ i. on i && its i))) f)
 
         shown : (o : Owner) → owner was p ≡ o → is_content o ≡ false → bit screen p ≡ own_bit now o p
@@ -233,11 +233,11 @@ module _ {V : Type 0} {H : V → Type 0} (loan : Taken V H → Loan) where
                 still (ap (λ o. same_owner o (Frame x.serial)) e ∙ away)
                 ∙ whole.frames p on (ap is_content e)
                 ∙ ap (λ o. own_bit was o p) e
-                ∙ others_same before whole.sound.distinct at w rest windows_were (told_record change w) d T.regions n p away
+                ∙ others_same before whole.sound.distinct at w rest windows_were (notified_record change w) d T.regions n p away
         shown (Content n part) e c = absurd (cc)
 
         same : owner now p ≡ owner was p
-        same = owner_same before whole.sound.distinct at w rest windows_were (told_record change w) d T.regions p
+        same = owner_same before whole.sound.distinct at w rest windows_were (notified_record change w) d T.regions p
 
         frame_shown : is_content (owner now p) ≡ false → bit screen p ≡ own_bit now (owner now p) p
         frame_shown c = shown (owner was p) refl (ap is_content (sym same) ∙ c) ∙ ap (λ o. own_bit now o p) (sym same)
@@ -276,7 +276,7 @@ module _ {V : Type 0} {H : V → Type 0} (loan : Taken V H → Loan) where
       module _ (screen : Bits) (drawn : Draws (λ p. holds a.frame p && rect_holds damage (minus p x.place)) (λ p _. d.picture no_news t.font (minus p x.place)) t.screen screen)
           (near : (p : Point) → holds a.frame p ≡ true → in_plane (minus p x.place) ≡ true) (others : list ≡ record t.windows { records = list.records }) where
         abbrev after : FullDesk
-        after = desk_noted before whole.sound.distinct at w rest windows_were (told_record change w) d T.regions
+        after = desk_noted before whole.sound.distinct at w rest windows_were (notified_record change w) d T.regions
 
         desk_is : desk_of loan (with_frame screen) slots ≡ after
         desk_is = λ i. record {
@@ -292,10 +292,10 @@ module _ {V : Type 0} {H : V → Type 0} (loan : Taken V H → Loan) where
 
         sound_after : IsSoundDesk after
         sound_after =
-            sound_now before x.serial at at w v rest (noted_edit before whole.sound.distinct at w rest windows_were (told_record change w) d T.regions) Stays whole.sound refl now_settled
+            sound_now before x.serial at at w v rest (noted_edit before whole.sound.distinct at w rest windows_were (notified_record change w) d T.regions) Stays whole.sound refl now_settled
 
         same_owners : (p : Point) → owner (layered_desk after) p ≡ owner was p
-        same_owners p = owner_same before whole.sound.distinct at w rest windows_were (told_record change w) d T.regions p
+        same_owners p = owner_same before whole.sound.distinct at w rest windows_were (notified_record change w) d T.regions p
 
         area_same : (n m : ℕ) (b : Area) → n ≡ m → IsArea was (stale_in t.areas.items) n b → IsArea (layered_desk after) (stale_in t.areas.items) m b
         area_same n m b same its = record {
@@ -331,14 +331,14 @@ module _ {V : Type 0} {H : V → Type 0} (loan : Taken V H → Loan) where
               (λ p on c. frame_shown screen drawn near p on c);
         }
 
-        changed_so : changed x.serial (λ y. record (told_record change y) { definition = d }) before.windows ≡ after.windows
+        changed_so : changed x.serial (λ y. record (notified_record change y) { definition = d }) before.windows ≡ after.windows
         changed_so =
-            ap (changed x.serial (λ y. record (told_record change y) { definition = d })) windows_were
-            ∙ (is_put t.font x.serial at w rest refl (free before x.serial at at w v rest (noted_edit before whole.sound.distinct at w rest windows_were (told_record change w) d T.regions) Stays whole.sound.distinct)).changed_is (λ y. record (told_record change y) { definition = d })
+            ap (changed x.serial (λ y. record (notified_record change y) { definition = d })) windows_were
+            ∙ (is_put t.font x.serial at w rest refl (free before x.serial at at w v rest (noted_edit before whole.sound.distinct at w rest windows_were (notified_record change w) d T.regions) Stays whole.sound.distinct)).changed_is (λ y. record (notified_record change y) { definition = d })
             ∙ ap (λ y. put_in at y rest) told_is
 
         -- it is whole again, the definition was told, and the frame drawn
-        pub frame_told : IsWholeManager loan (with_frame screen) slots × IsFrameTold x.serial (λ _. told_change change) (told_record change) (state_of loan t slots) (state_of loan (with_frame screen) slots)
+        pub frame_told : IsWholeManager loan (with_frame screen) slots × IsFrameNotified x.serial (λ _. told_change change) (notified_record change) (state_of loan t slots) (state_of loan (with_frame screen) slots)
         frame_told = (
           is_whole,
           record {
@@ -371,7 +371,7 @@ module _ {V : Type 0} {H : V → Type 0} (loan : Taken V H → Loan) where
 
       pub frame_told_by : (screen : Bits) → Draws (λ p. holds a.frame p && rect_holds damage (minus p z.place)) (λ p _. (loan z.taken).definition.picture no_news t.font (minus p z.place)) t.screen screen
           → ((p : Point) → holds a.frame p ≡ true → in_plane (minus p z.place) ≡ true) → list ≡ record t.windows { records = list.records }
-          → IsWholeManager loan (record t { screen = screen; windows = list }) slots × IsFrameTold x.serial (λ _. told_change change) (told_record change) (state_of loan t slots) (state_of loan (record t { screen = screen; windows = list }) slots)
+          → IsWholeManager loan (record t { screen = screen; windows = list }) slots × IsFrameNotified x.serial (λ _. told_change change) (notified_record change) (state_of loan t slots) (state_of loan (record t { screen = screen; windows = list }) slots)
       frame_told_by screen drawn near others =
           frame_told a read screen
           (subst (λ (y : WindowRecord). Draws (λ p. holds a.frame p && rect_holds damage (minus p y.place)) (λ p _. y.definition.picture no_news t.font (minus p y.place)) t.screen screen) as_drawn drawn)

@@ -31,7 +31,7 @@ use Rattle.vis_update.specs.declared.plan.Plan.{Plan}
 use Rattle.vis_update.specs.declared.plan.Touch.{Touch}
 use Rattle.window_list.specs.declared.window.Window.{Window}
 use Rattle.vis_update.specs.Records.{WindowRecord, layered_window}
-use Rattle.window_mgr.specs.FullDesk.{FullDesk, AreNumbered, layered_desk, layered_state}
+use Rattle.window_mgr.specs.FullDesk.{FullDesk, AreSerials, layered_desk, layered_state}
 use Rattle.vis_update.specs.Records.{record_of}
 use Rattle.window_mgr.specs.Records.{desk_of, state_of}
 use Rattle.tb_geom.specs.Refusals.{first_refusal}
@@ -153,8 +153,8 @@ module _ {V : Type 0} {H : V → Type 0} (loan : Taken V H → Loan) where
     next_is : t.windows.next ≡ Some n
     next_is = sym N.same.next ∙ N.number
 
-    below : AreNumbered (Some n) before.windows
-    below = subst (λ (k : Option ℕ). AreNumbered k before.windows) next_is N.whole.sound.numbered
+    below : AreSerials (Some n) before.windows
+    below = subst (λ (k : Option ℕ). AreSerials k before.windows) next_is N.whole.sound.serials
 
     free : layers.window_of n (layered_desk before).windows ≡ None
     free = next_is_free t.font n before.windows below.1
@@ -223,7 +223,7 @@ module _ {V : Type 0} {H : V → Type 0} (loan : Taken V H → Loan) where
     sound_after = record {
       screen = N.whole.sound.screen;
       distinct = subst layers.IsDesk (sym layers_are) (free, ((refl, tt), N.whole.sound.distinct));
-      numbered = numbered_with w n taken.slot N.added.begun before below;
+      serials = numbered_with w n taken.slot N.added.begun before below;
       few = few_after;
       settled = All-cons IsSettled _ _ settled (settled_behind t.windows.active w.shown before.windows N.whole.sound.settled);
       stocked = stocked_with w.kind taken slots left N.took _ _ refl (stocked_behind t.windows.active w.shown before.windows slots N.whole.sound.stocked);
@@ -250,7 +250,7 @@ module _ {V : Type 0} {H : V → Type 0} (loan : Taken V H → Loan) where
     is_new_window = record {
       loan = taken;
       begun = N.added.begun;
-      numbered = next_is;
+      serials = next_is;
       taken = N.took;
       live = N.added.live;
       desk = desk_is;

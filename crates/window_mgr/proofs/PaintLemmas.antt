@@ -17,7 +17,7 @@ use Rattle.bit_map.specs.Modes.{mode_bit}
 use Rattle.bit_map.specs.Patterns.{pattern_bit, bit_of, eighth_of}
 use Rattle.bit_blit.specs.Draws.{Draws}
 use Rattle.bit_blit.proofs.DrawsLemmas.{Draws-on_map}
-use Rattle.scan_region.specs.Cuts.{cut_holds}
+use Rattle.scan_region.specs.Cuts.{cut_inside, cut_holds}
 use Rattle.def_iface.specs.News.{no_news}
 use Rattle.def_iface.specs.declared.taken.Taken.{Taken}
 use Rattle.def_iface.specs.Meaning.{Definition, Loan}
@@ -53,7 +53,7 @@ pub pattern_bit-white : (p : Point) → pattern_bit white p ≡ false
 pattern_bit-white p = ap (λ n. bit_of n (eighth_of p.h)) (zero_at (eighth_of p.v)) ∙ bit_of-zero (eighth_of p.h)
 
 -- a cut of one region
-pub cut_holds-one : (r : Bor Pixels) (p : Point) → cut_holds (record { inside = Some r ∷ None ∷ None ∷ []; outside = None }) p ≡ holds r.now p
+pub cut_holds-one : (r : Bor Pixels) (p : Point) → cut_holds (cut_inside r) p ≡ holds r.now p
 unfolding cut_holds
 cut_holds-one r p = by_test (holds r.now p)
   where
@@ -66,12 +66,12 @@ pub IsPainted-by : (part : Part) (frame : Bor Pixels) (place : Point) (d : Defin
     → frame.now ≡ part.redraw
     → ((p : Point) → holds part.redraw p ≡ true → rect_holds clip p ≡ true)
     → Draws (holds part.erase) (λ p d. mode_bit Copy (pattern_bit white (minus p (record { h = pos 0; v = pos 0 }))) d) old mid
-    → Draws (λ p. rect_holds clip p && cut_holds (record { inside = Some frame ∷ None ∷ None ∷ []; outside = None }) p) (λ p _. d.picture no_news font (minus p place)) mid new
+    → Draws (λ p. rect_holds clip p && cut_holds (cut_inside frame) p) (λ p _. d.picture no_news font (minus p place)) mid new
     → IsPainted part place d font old end
 IsPainted-by part frame place d font clip old mid new end is_end is_frame within filled drawn = rw is_end (record {
   pixels = λ p on.
       let there = Draws-on_map _ _ old mid filled p ∙ on in
-      let held : (rect_holds clip p && cut_holds (record { inside = Some frame ∷ None ∷ None ∷ []; outside = None }) p) ≡ holds part.redraw p =
+      let held : (rect_holds clip p && cut_holds (cut_inside frame) p) ≡ holds part.redraw p =
       ap (λ b. rect_holds clip p && b) (cut_holds-one frame p ∙ ap (λ s. holds s p) is_frame) ∙ clipped (rect_holds clip p) (holds part.redraw p) (within p) in
       drawn.pixels p there
       ∙ (λ i. if held i then d.picture no_news font (minus p place) else bit mid p)

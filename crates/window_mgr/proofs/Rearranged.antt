@@ -17,7 +17,7 @@ use Rattle.vis_update.specs.Seats.{stand_of}
 use Rattle.vis_update.specs.Touches.{moved_from, moving}
 use Rattle.window_mgr.specs.declared.arrange.Activation.{Activation}
 use Rattle.window_mgr.specs.declared.arrange.Activation.TheVariants.{Stays, Becomes}
-use Rattle.window_mgr.specs.FullDesk.{FullDesk, AreNumbered, layered_desk, IsGiven}
+use Rattle.window_mgr.specs.FullDesk.{FullDesk, AreSerials, layered_desk, IsGiven}
 use Rattle.window_mgr.specs.Arrange.{with_highlighting, activated, desk_activated}
 use Rattle.window_mgr.specs.Whole.{IsSoundDesk, IsSettled, IsStocked}
 use Rattle.window_mgr.proofs.PutIn.{put_in, IsFree, found_put, distinct_put, distinct_out, serials_put, serials_out, put_permutes, All-out, All-put, AllPairs-put, AllPairs-out, Contains-put}
@@ -62,9 +62,9 @@ module _ (former : Option ℕ) where
   length_lit (Becomes s) ws = length-map ws (relit_record s former)
   length_lit Stays ws = refl
 
-  pub numbered_lit : (next : Option ℕ) (a : Activation) (ws : List WindowRecord) → AreNumbered next ws → AreNumbered next (activated a former ws)
-  numbered_lit next (Becomes s) ws numbered = numbered_map (relit_record s former) (same_serial s former) next ws numbered
-  numbered_lit next Stays ws numbered = numbered
+  pub numbered_lit : (next : Option ℕ) (a : Activation) (ws : List WindowRecord) → AreSerials next ws → AreSerials next (activated a former ws)
+  numbered_lit next (Becomes s) ws serials = numbered_map (relit_record s former) (same_serial s former) next ws serials
+  numbered_lit next Stays ws serials = serials
 
   pub settled_all : (a : Activation) (ws : List WindowRecord) → All IsSettled ws → All IsSettled (activated a former ws)
   settled_all (Becomes s) ws all = settled_map (relit_record s former) (settled_lit s former) ws all
@@ -168,9 +168,9 @@ module _ (before : FullDesk) (s i j : ℕ) (w v : WindowRecord) (rest : List Win
             by_test false away =
                 (λ k. content_bit (others_found n (turned away) k) part (still by away k))
 
-  pub numbered_now : AreNumbered before.next before.windows → AreNumbered edited.next edited.windows
-  numbered_now numbered = numbered_lit before.active before.next b (put_in j v rest)
-      (let all = subst (AreNumbered before.next) E.windows numbered in
+  pub numbered_now : AreSerials before.next before.windows → AreSerials edited.next edited.windows
+  numbered_now serials = numbered_lit before.active before.next b (put_in j v rest)
+      (let all = subst (AreSerials before.next) E.windows serials in
       let parts = serials_out (IsGiven before.next) i w rest all.1 in
       (all.0, serials_put (IsGiven before.next) j v rest (subst (IsGiven before.next) (sym E.same_serial) parts.0) parts.1))
 
@@ -179,7 +179,7 @@ module _ (before : FullDesk) (s i j : ℕ) (w v : WindowRecord) (rest : List Win
   sound_now sound slot settled = record {
     screen = sound.screen;
     distinct = distinct_now sound.distinct;
-    numbered = numbered_now sound.numbered;
+    serials = numbered_now sound.serials;
     few = subst (λ n. n ≤ 64) (sym (length_lit before.active b (put_in j v rest) ∙ length_permutation (v ∷ rest) (put_in j v rest) (put_permutes j v rest) ∙ sym (length_permutation (w ∷ rest) (put_in i w rest) (put_permutes i w rest)) ∙ ap (λ (ws : List WindowRecord). length ws) (sym E.windows))) sound.few;
     settled = settled_all before.active b (put_in j v rest) (All-put IsSettled j v rest settled (All-tail IsSettled w rest (All-out IsSettled i w rest (subst (All IsSettled) E.windows sound.settled))));
     stocked = stocked_lit before.active b (put_in j v rest) before.stock (stocked_put i j w v rest before.stock slot (subst (λ ws. IsStocked ws before.stock) E.windows sound.stocked));

@@ -246,7 +246,7 @@ module _ {V : Type 0} {H : V → Type 0} (loan : Taken V H → Loan) (s : ℕ) (
         record {
           screen = whole.sound.screen;
           distinct = after_distinct;
-          numbered = numbered_map (repictured s picture origin) (repictured_serial s picture origin) before.next before.windows whole.sound.numbered;
+          serials = numbered_map (repictured s picture origin) (repictured_serial s picture origin) before.next before.windows whole.sound.serials;
           few = omega arith;
           settled = subst (All IsSettled) (ap (map (record_of loan)) (sym D.windows) ∙ windows_are) (put_settled t.font s picture origin loan t.windows.records.items at D.window D.there D.placed whole.sound.settled);
           stocked = stocked_map (repictured s picture origin) (repictured_slot s picture origin) before.windows slots whole.sound.stocked;

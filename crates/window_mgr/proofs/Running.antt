@@ -20,7 +20,7 @@ use Rattle.desk_call.specs.declared.window.NewWindow.{NewWindow}
 use Rattle.desk_call.specs.declared.window.ScrollPicture.{ScrollPicture}
 use Rattle.desk_call.specs.declared.window.WindowReply.{WindowReply}
 use Rattle.vis_update.specs.Records.{WindowRecord, layered_window}
-use Rattle.window_mgr.specs.FullDesk.{FullDesk, FullState, IsRightState, IsGiven, HaveSerials, AreNumbered, layered_desk, layered_state}
+use Rattle.window_mgr.specs.FullDesk.{FullDesk, FullState, IsRightState, IsGiven, HaveSerials, AreSerials, layered_desk, layered_state}
 use Rattle.window_mgr.specs.Step.{IsWindowStep}
 use Rattle.window_mgr.specs.Effects.{IsNewWindow, IsDrawn, IsPictureSet, IsScrolled, IsUnchanged, IsArrangement, Effect, IsEffect, effect_of, new_record, desk_with, with_drawn, with_new_picture, with_scrolled, draw_change, picture_change, scroll_change}
 use Rattle.window_mgr.specs.Effects.Effect.{Makes, Disposes, Draws, Pictures, Scrolls, Arranges, Places, Tells, Describes}
@@ -84,28 +84,28 @@ new_is_sound before w desk free parts = record {
   right = λ p on taken. absurd (cc);
 }
 
--- the windows of a desk with a new window are numbered, it by the last number
-pub numbered_with : (w : NewWindow) (serial slot : ℕ) (d : Definition) (desk : FullDesk) → AreNumbered (Some serial) desk.windows → AreNumbered (desk_with w serial slot d desk).next (desk_with w serial slot d desk).windows
-numbered_with w serial slot d desk numbered = let first = numbered.0 in after_number (desk_with w serial slot d desk).windows (nat_lt (serial + 1) (2 ^ 64)) ((first, omega arith), by_shown w.shown)
+-- the windows of a desk with a new window are serials, it by the last number
+pub numbered_with : (w : NewWindow) (serial slot : ℕ) (d : Definition) (desk : FullDesk) → AreSerials (Some serial) desk.windows → AreSerials (desk_with w serial slot d desk).next (desk_with w serial slot d desk).windows
+numbered_with w serial slot d desk serials = let first = serials.0 in after_number (desk_with w serial slot d desk).windows (nat_lt (serial + 1) (2 ^ 64)) ((first, omega arith), by_shown w.shown)
   where
-    after_number : (ws : List WindowRecord) (b : Bool) → HaveSerials (IsGiven (Some (serial + 1))) ws → AreNumbered (if b then Some (serial + 1) else None) ws
+    after_number : (ws : List WindowRecord) (b : Bool) → HaveSerials (IsGiven (Some (serial + 1))) ws → AreSerials (if b then Some (serial + 1) else None) ws
     after_number ws true h = (omega arith, h)
     after_number ws false h = (tt, given-all (serial + 1) ws h)
 
     by_shown : (b : Bool) → HaveSerials (IsGiven (Some (serial + 1))) (if b then map (with_highlighting false desk.active) desk.windows else desk.windows)
-    by_shown true = serials_map (with_highlighting false desk.active) (same_serial desk.active) _ desk.windows (given-more serial desk.windows numbered.1)
-    by_shown false = given-more serial desk.windows numbered.1
+    by_shown true = serials_map (with_highlighting false desk.active) (same_serial desk.active) _ desk.windows (given-more serial desk.windows serials.1)
+    by_shown false = given-more serial desk.windows serials.1
 
 new_stays_right : (w : NewWindow) (serial : ℕ) (before after : FullState) → IsRightState before → IsNewWindow w serial before after → IsRightState after
 new_stays_right w serial before after right new =
     let new_window = layered_window before.desk.font (new_record w serial new.loan.slot new.begun) in
-    let below : AreNumbered (Some serial) before.desk.windows = subst (λ (n : Option ℕ). AreNumbered n before.desk.windows) new.numbered right.numbered in
+    let below : AreSerials (Some serial) before.desk.windows = subst (λ (n : Option ℕ). AreSerials n before.desk.windows) new.serials right.serials in
     let desk : layered_desk after.desk ≡ record (layered_desk before.desk) { windows = new_window ∷ map (layered_window before.desk.font) before.desk.windows } =
     ap layered_desk new.desk ∙ layered_desk-with w serial new.loan.slot new.begun before.desk after.desk.stock in
     let sound = new_is_sound (layered_state before) new_window right.plain.desk (next_is_free before.desk.font serial before.desk.windows below.1) (refl, tt) in
     record {
       plain = stays_right plain.no_change (layered_state before) (layered_state after) right.plain (subst (plain.IsSound plain.no_change (layered_state before)) (sym desk) sound) new.pixels;
-      numbered = subst (λ (d : FullDesk). AreNumbered d.next d.windows) (sym new.desk) (numbered_with w serial new.loan.slot new.begun before.desk below);
+      serials = subst (λ (d : FullDesk). AreSerials d.next d.windows) (sym new.desk) (numbered_with w serial new.loan.slot new.begun before.desk below);
     }
 
 -- ---- a picture that changes is a sound change
@@ -116,7 +116,7 @@ draw_stays_right d before after right drawn =
     let sound = draw_is_sound before.desk d.window drawn.window drawn.operation drawn.found before.stale before.image right.plain.desk in
     record {
       plain = stays_right change (layered_state before) (layered_state after) right.plain (subst (plain.IsSound change (layered_state before)) (sym (ap layered_desk drawn.desk)) sound) drawn.pixels;
-      numbered = subst (λ (x : FullDesk). AreNumbered x.next x.windows) (sym drawn.desk) (numbered_map (with_drawn d.window drawn.operation) (repictured_serial d.window (λ w. w.picture ++ drawn.operation ∷ []) (λ w. w.origin)) before.desk.next before.desk.windows right.numbered);
+      serials = subst (λ (x : FullDesk). AreSerials x.next x.windows) (sym drawn.desk) (numbered_map (with_drawn d.window drawn.operation) (repictured_serial d.window (λ w. w.picture ++ drawn.operation ∷ []) (λ w. w.origin)) before.desk.next before.desk.windows right.serials);
     }
 
 picture_stays_right : (n : NewPicture) (before after : FullState) → IsRightState before → IsPictureSet n before after → IsRightState after
@@ -125,7 +125,7 @@ picture_stays_right n before after right done =
     let sound = picture_is_sound before.desk n before.stale before.image right.plain.desk in
     record {
       plain = stays_right change (layered_state before) (layered_state after) right.plain (subst (plain.IsSound change (layered_state before)) (sym (ap layered_desk done.desk)) sound) done.pixels;
-      numbered = subst (λ (x : FullDesk). AreNumbered x.next x.windows) (sym done.desk) (numbered_map (with_new_picture n) (repictured_serial n.window (λ w. n.picture) (λ w. n.origin)) before.desk.next before.desk.windows right.numbered);
+      serials = subst (λ (x : FullDesk). AreSerials x.next x.windows) (sym done.desk) (numbered_map (with_new_picture n) (repictured_serial n.window (λ w. n.picture) (λ w. n.origin)) before.desk.next before.desk.windows right.serials);
     }
 
 scroll_stays_right : (m : ScrollPicture) (before after : FullState) (v : WindowRecord) → record_with m.window before.desk.windows ≡ Some v → IsRightState before → IsScrolled m before after → IsRightState after
@@ -134,7 +134,7 @@ scroll_stays_right m before after v found right done =
     let sound = scroll_is_sound before.desk m v found before.stale before.image right.plain.desk in
     record {
       plain = stays_right change (layered_state before) (layered_state after) right.plain (subst (plain.IsSound change (layered_state before)) (sym (ap layered_desk done.desk)) sound) done.pixels;
-      numbered = subst (λ (x : FullDesk). AreNumbered x.next x.windows) (sym done.desk) (numbered_map (with_scrolled m) (repictured_serial m.window (λ w. w.picture) (λ w. plus w.origin m.by)) before.desk.next before.desk.windows right.numbered);
+      serials = subst (λ (x : FullDesk). AreSerials x.next x.windows) (sym done.desk) (numbered_map (with_scrolled m) (repictured_serial m.window (λ w. w.picture) (λ w. plus w.origin m.by)) before.desk.next before.desk.windows right.serials);
     }
 
 -- ---- steps and runs
@@ -155,7 +155,7 @@ unchanged_stays_right before after right same =
             let there = on_before p on in
             subst (λ (d : layers.LayeredDesk). is_content (owner d p) ≡ true) (sym desk) (right.plain.content p there (sym (same.stale p there) ∙ old));
       };
-      numbered = subst (λ (d : FullDesk). AreNumbered d.next d.windows) (sym same.desk) right.numbered;
+      serials = subst (λ (d : FullDesk). AreSerials d.next d.windows) (sym same.desk) right.serials;
     }
 
 arranged_stays_right : (a : Arrangement) (before after : FullState) → IsRightState before → IsSoundArrangement a before.desk → IsArrangement a before after → IsRightState after
@@ -167,7 +167,7 @@ arranged_stays_right a before after right E arranged =
     let sound = edit_is_sound before.desk a.window E.place E.to E.old E.new E.rest E.edit activation right.plain.desk before.stale before.image a.by E.moves in
     record {
       plain = stays_right change (layered_state before) (layered_state after) right.plain (subst (plain.IsSound change (layered_state before)) (sym (ap layered_desk desk_is)) sound) arranged.pixels;
-      numbered = subst (λ (x : FullDesk). AreNumbered x.next x.windows) (sym desk_is) (numbered_now before.desk a.window E.place E.to E.old E.new E.rest E.edit activation right.numbered);
+      serials = subst (λ (x : FullDesk). AreSerials x.next x.windows) (sym desk_is) (numbered_now before.desk a.window E.place E.to E.old E.new E.rest E.edit activation right.serials);
     }
 
 effect_stays_right : (effect : Effect) (answer : WindowReply) (before after : FullState) → IsRightState before → IsSoundEffect effect before.desk → IsEffect effect answer before after → IsRightState after

@@ -16,7 +16,7 @@ use Rattle.vis_update.specs.declared.area.Area.{Area}
 use Rattle.vis_update.specs.declared.plan.Seat.{Seat}
 use Rattle.window_list.specs.declared.window.Window.{Window}
 use Rattle.vis_update.specs.Records.{WindowRecord}
-use Rattle.window_mgr.specs.FullDesk.{FullDesk, AreNumbered, layered_desk, layered_state}
+use Rattle.window_mgr.specs.FullDesk.{FullDesk, AreSerials, layered_desk, layered_state}
 use Rattle.window_mgr.specs.Kept.{IsKept}
 use Rattle.vis_update.specs.Records.{record_of}
 use Rattle.window_mgr.specs.Records.{desk_of, state_of}
@@ -159,7 +159,7 @@ module _ {V : Type 0} {H : V → Type 0} (loan : Taken V H → Loan) where
     after = desk_with w n slot begun (desk_of loan t [])
 
     free : layers.window_of n before.desk.windows ≡ None
-    free = next_is_free t.font n (desk_of loan t []).windows (subst (λ (k : Option ℕ). AreNumbered k (desk_of loan t []).windows) next kept.whole.sound.numbered).1
+    free = next_is_free t.font n (desk_of loan t []).windows (subst (λ (k : Option ℕ). AreSerials k (desk_of loan t []).windows) next kept.whole.sound.serials).1
 
     distinct : layers.IsDesk (layered_desk after)
     distinct = subst layers.IsDesk (sym (layered_desk-with w n slot begun (desk_of loan t []) [])) (free, ((refl, tt), kept.whole.sound.distinct))

@@ -39,12 +39,12 @@ use Rattle.vis_update.specs.Areas.{IsArea, is_content_of, stale_in}
 use Rattle.desk_call.specs.declared.window.WindowCall.TheVariants.{VisibleRegion, UpdateRegion}
 use Rattle.desk_call.specs.declared.window.WindowReply.{WindowReply}
 use Rattle.window_mgr.specs.declared.manager.WindowManager.{WindowManager}
-use Rattle.window_mgr.specs.declared.tell.Told.{Told}
-use Rattle.window_mgr.specs.declared.tell.Told.TheVariants.{Visible, Update}
+use Rattle.window_mgr.specs.declared.tell.AskedRegion.{AskedRegion}
+use Rattle.window_mgr.specs.declared.tell.AskedRegion.TheVariants.{Visible, Update}
 use Rattle.window_mgr.specs.FullDesk.{FullDesk, layered_desk}
 use Rattle.window_mgr.specs.Records.{desk_of, state_of}
 use Rattle.window_mgr.specs.Finding.{record_with}
-use Rattle.window_mgr.specs.Telling.{IsRegionOf, IsMeasured, AreRegionBytes, IsNotTold, seen_from, visible_of, update_of, told_of, kept_region, asking, IsRegionTold}
+use Rattle.window_mgr.specs.Telling.{IsRegionOf, IsMeasured, AreRegionBytes, IsNotTold, seen_from, visible_of, update_of, asked_region, kept_region, asking, IsRegionTold}
 use Rattle.tb_geom.specs.Refusals.{first_refusal}
 use Rattle.window_mgr.specs.Refused.{IsRefusal, IsUntold, is_missing}
 use Rattle.window_mgr.specs.Step.{IsCallRefused}
@@ -208,7 +208,7 @@ module _ {V : Type 0} {H : V → Type 0} (loan : Taken V H → Loan) (t : Window
     ap (λ o. if is_none o then Some NoSuchWindow else None) missing,
   )
 
-  pub missing_refused : (told : Told) → record_with s desk.windows ≡ None → IsCallRefused (asking told s) NoSuchWindow (state_of loan t [])
+  pub missing_refused : (told : AskedRegion) → record_with s desk.windows ≡ None → IsCallRefused (asking told s) NoSuchWindow (state_of loan t [])
   missing_refused Visible missing = inl (missing_first _ missing)
   missing_refused Update missing = inl (missing_first _ missing)
 
@@ -272,21 +272,21 @@ module _ {V : Type 0} {H : V → Type 0} (loan : Taken V H → Loan) (t : Window
           ∙ sym (ap (λ o. seen_from o (λ q. own q && stale_in t.areas.items q) p) found)
 
       -- so the call tells it
-      pub region_told : (told : Told) {X : Type 0} (items : X → List ℕ) (result : Result X Refusal)
+      pub region_told : (told : AskedRegion) {X : Type 0} (items : X → List ℕ) (result : Result X Refusal)
           → MatchResult result (λ b. AreRegionBytes (λ p. holds (kept_region told a) (plus p x.place)) (items b)) (IsNotTold (λ p. holds (kept_region told a) (plus p x.place)))
-          → MatchResult result (λ b. IsRefusal (asking told s) (state_of loan t []) None × AreRegionBytes (told_of told s (state_of loan t [])) (items b)) (λ e. IsCallRefused (asking told s) e (state_of loan t []))
+          → MatchResult result (λ b. IsRefusal (asking told s) (state_of loan t []) None × AreRegionBytes (asked_region told s (state_of loan t [])) (items b)) (λ e. IsCallRefused (asking told s) e (state_of loan t []))
       region_told Visible items result its = told_where items result _ _ visible_seen its
       region_told Update items result its = told_where items result _ _ update_seen its
 
       -- both can be moved
-      visible_too : (told : Told) (p : Point) → holds (kept_region told a) p ≡ true → holds a.visible p ≡ true
+      visible_too : (told : AskedRegion) (p : Point) → holds (kept_region told a) p ≡ true → holds a.visible p ≡ true
       visible_too Visible p e = e
       visible_too Update p e = (and_parts (holds a.visible p) _ (sym (area_is.update p) ∙ e)).0
 
-      pub region_local : (told : Told) (p : Point) → holds (kept_region told a) (plus p x.place) ≡ true → is_pixel_in_range p ≡ true
+      pub region_local : (told : AskedRegion) (p : Point) → holds (kept_region told a) (plus p x.place) ≡ true → is_pixel_in_range p ≡ true
       region_local told p e = local_in p (sym (area_is.visible (plus p x.place)) ∙ visible_too told (plus p x.place) e)
 
-      pub region_screen : (told : Told) (p : Point) → holds (kept_region told a) p ≡ true → is_pixel_in_range p ≡ true
+      pub region_screen : (told : AskedRegion) (p : Point) → holds (kept_region told a) p ≡ true → is_pixel_in_range p ≡ true
       region_screen told p e = screen_in p (sym (area_is.visible p) ∙ visible_too told p e)
 
   -- ---- the call
@@ -306,10 +306,10 @@ module _ {V : Type 0} {H : V → Type 0} (loan : Taken V H → Loan) (t : Window
   }
 
   -- a region that is told, or not, on a desk that stays
-  pub region_step : (told : Told) (u : WindowManager V H) (answer : WindowReply) → SameDesk t u → IsRefusal (asking told s) (state_of loan t []) None → IsRegionTold (told_of told s (state_of loan t [])) answer → IsStepOverAnySlots loan (asking told s) (Ok answer) t u
+  pub region_step : (told : AskedRegion) (u : WindowManager V H) (answer : WindowReply) → SameDesk t u → IsRefusal (asking told s) (state_of loan t []) None → IsRegionTold (asked_region told s (state_of loan t [])) answer → IsStepOverAnySlots loan (asking told s) (Ok answer) t u
   region_step Visible u answer same allowed its slots whole = (stays_whole loan t u slots slots same refl whole, (allowed, (its, stays_unchanged loan t u slots slots same refl)))
   region_step Update u answer same allowed its slots whole = (stays_whole loan t u slots slots same refl whole, (allowed, (its, stays_unchanged loan t u slots slots same refl)))
 
-  pub region_refused : (told : Told) (u : WindowManager V H) (e : Refusal) → SameDesk t u → IsCallRefused (asking told s) e (state_of loan t []) → IsStepOverAnySlots loan (asking told s) (Err e) t u
+  pub region_refused : (told : AskedRegion) (u : WindowManager V H) (e : Refusal) → SameDesk t u → IsCallRefused (asking told s) e (state_of loan t []) → IsStepOverAnySlots loan (asking told s) (Err e) t u
   region_refused Visible u e same refused = stays_refused loan t u same (VisibleRegion s) e (λ slots whole. refused)
   region_refused Update u e same refused = stays_refused loan t u same (UpdateRegion s) e (λ slots whole. refused)

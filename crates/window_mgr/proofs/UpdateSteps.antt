@@ -16,7 +16,7 @@ use Rattle.def_iface.proofs.Owning.{same_owner-self}
 use Rattle.def_iface.proofs.Painting.{scratch_is_owners}
 use Rattle.vis_update.specs.Areas.{is_content_of, stale_in}
 use Rattle.window_mgr.specs.declared.manager.WindowManager.{WindowManager}
-use Rattle.window_mgr.specs.FullDesk.{FullDesk, FullState, IsRightState, AreNumbered, layered_desk, layered_state}
+use Rattle.window_mgr.specs.FullDesk.{FullDesk, FullState, IsRightState, AreSerials, layered_desk, layered_state}
 use Rattle.window_mgr.specs.Records.{desk_of, state_of}
 use Rattle.window_mgr.specs.Updating.{IsRemarked, IsRefreshed, refresh_change}
 use Rattle.window_mgr.specs.Whole.{IsWholeManager, AreFramesShown}
@@ -36,7 +36,7 @@ taking these = record plain.no_change { taken = these }
 same_desk_stays_right : (c : plain.Change) (before after : FullState) → after.desk ≡ before.desk → IsRightState before → plain.IsSound c (layered_state before) (layered_desk before.desk) → plain.IsChanged c (layered_state before) (layered_state after) → IsRightState after
 same_desk_stays_right c before after same right sound changed = record {
   plain = stays_right c (layered_state before) (layered_state after) right.plain (subst (plain.IsSound c (layered_state before)) (sym (ap layered_desk same)) sound) changed;
-  numbered = subst (λ (d : FullDesk). AreNumbered d.next d.windows) (sym same) right.numbered;
+  serials = subst (λ (d : FullDesk). AreSerials d.next d.windows) (sym same) right.serials;
 }
 
 module _ (before : FullState) (distinct : layers.IsDesk (layered_desk before.desk)) where

@@ -10,7 +10,7 @@ use Rattle.window_mgr.specs.Records.{desk_of, state_of}
 use Rattle.vis_update.specs.Areas.{stale_in}
 use Rattle.window_mgr.specs.Whole.{IsWholeManager}
 
--- the desk without windows; the first will have the number 1
+-- the desk without windows; the first will have the serial 1
 abbrev pub empty_desk : ℤ → ℤ → ℤ → List ℕ → List SlotView → FullDesk
 empty_desk width height bar font slots = record {
   width = width;

@@ -16,7 +16,7 @@ use Rattle.def_iface.specs.Desk.Part.{Picture}
 use Rattle.def_iface.specs.Owner.{Owner, same_owner}
 use Rattle.def_iface.specs.Owner.Owner.{Content}
 use Rattle.def_iface.specs.Change.{Change, no_change, IsChanged}
-use Rattle.window_list.specs.Lists.{number_after}
+use Rattle.window_list.specs.Lists.{serial_after}
 use Rattle.vis_update.specs.Records.{WindowRecord}
 use Rattle.vis_update.specs.Touches.{moving}
 use Rattle.desk_call.specs.declared.window.WindowCall.{WindowCall}
@@ -63,14 +63,14 @@ desk_with w serial slot d desk = record desk {
   windows = new_record w serial slot d
       ∷ (if w.shown then map (with_highlighting false desk.active) desk.windows else desk.windows);
   active = if w.shown then Some serial else desk.active;
-  next = number_after serial;
+  next = serial_after serial;
 }
 
--- a new window was made, of this number
+-- a new window was made, of this serial
 pub record IsNewWindow (w : NewWindow) (serial : ℕ) (before after : FullState) : Type 0 where
   pub loan : Loan
   pub begun : Definition
-  pub numbered : before.desk.next ≡ Some serial
+  pub serials : before.desk.next ≡ Some serial
   pub taken : IsTaken w.kind loan before.desk.stock after.desk.stock
   pub live : IsBegun (first_news w) loan.definition begun
   pub desk : after.desk ≡ record (desk_with w serial loan.slot begun before.desk) { stock = after.desk.stock }

@@ -20,7 +20,7 @@ pub record FullDesk : Type 0 where
   -- from front to back
   pub windows : List WindowRecord
   pub active : Option ℕ
-  -- the number of the next window, if one is left
+  -- the serial of the next window, if one is left
   pub next : Option ℕ
   -- what the stock holds
   pub stock : List SlotView
@@ -65,11 +65,11 @@ IsNext None = Unit {0}
 IsNext (Some next) = 1 ≤ next
 
 -- the windows have serials from 1 on, below that of the next window, if there can be one
-abbrev pub AreNumbered : Option ℕ → List WindowRecord → Type 0
-AreNumbered next ws = IsNext next × HaveSerials (IsGiven next) ws
+abbrev pub AreSerials : Option ℕ → List WindowRecord → Type 0
+AreSerials next ws = IsNext next × HaveSerials (IsGiven next) ws
 
 -- a state whose pixels in no update set have the value that painting from nothing gives, and whose windows were all
 -- counted
 pub record IsRightState (s : FullState) : Type 0 where
   pub plain : plain.IsRight (layered_state s)
-  pub numbered : AreNumbered s.desk.next s.desk.windows
+  pub serials : AreSerials s.desk.next s.desk.windows

@@ -19,7 +19,7 @@ pub mod AnySlots
 pub mod Updating
 pub mod DeskStates
 pub mod Laying
-pub mod FrameTelling
+pub mod FrameNotices
 pub mod Without
 pub mod Begin
 pub mod Closing

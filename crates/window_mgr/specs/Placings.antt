@@ -59,7 +59,7 @@ zoom_target Out (Some kept) desk w = None
 zoom_target In None desk w = None
 zoom_target In (Some kept) desk w = Some (zoomed_in kept)
 
--- the window of this number and record goes there with its content, if it goes anywhere
+-- the window of this serial and record goes there with its content, if it goes anywhere
 abbrev pub gone : ℕ → WindowRecord → Option Placement → Option Placing
 gone s w None = None
 gone s w (Some to) = Some (record { window = s; by = Some (minus to.place w.place); to = to })

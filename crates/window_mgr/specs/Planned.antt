@@ -13,7 +13,7 @@ use Rattle.op_ref.specs.OpRefs.{IsGood, IsMeant}
 use Rattle.def_iface.specs.declared.taken.Taken.{Taken}
 use Rattle.def_iface.specs.Meaning.{Definition, Loan, SameRegions, IsWithin, IsBegun}
 use Rattle.window_list.specs.declared.window.Window.{Window}
-use Rattle.window_list.specs.Lists.{dimmed, number_after}
+use Rattle.window_list.specs.Lists.{dimmed, serial_after}
 use Rattle.vis_update.specs.declared.plan.Plan.{Plan}
 use Rattle.vis_update.specs.declared.plan.Touch.{Touch}
 use Rattle.vis_update.specs.Records.{record_of}
@@ -101,7 +101,7 @@ module _ {V : Type 0} {H : V → Type 0} where
     pub active : new.windows.active ≡ old.windows.active
     pub next : new.windows.next ≡ old.windows.next
 
-  -- the number and the title of the window
+  -- the serial and the title of the window
   pub record IsTicket (w : NewWindow) (t : WindowManager V H) (ticket : Ticket) : Type 0 where
     pub next : t.windows.next ≡ Some ticket.serial
     pub title : ticket.title.items ≡ w.title
@@ -139,4 +139,4 @@ module _ {V : Type 0} {H : V → Type 0} (loan : Taken V H → Loan) where
     pub font : new.font ≡ old.font
     pub gray : new.gray ≡ old.gray
     pub active : new.windows.active ≡ (if w.shown then Some serial else old.windows.active)
-    pub next : new.windows.next ≡ number_after serial
+    pub next : new.windows.next ≡ serial_after serial

@@ -36,7 +36,7 @@ most_windows = 64
 abbrev pub longest_text : ℕ
 longest_text = 255
 
--- no window can be added to so many: there are as many as there may be, or no number is left for it
+-- no window can be added to so many: there are as many as there may be, or no serial is left for it
 abbrev pub is_full : ℕ → Option ℕ → Bool
 is_full count next = nat_le most_windows count || is_none next
 

@@ -15,8 +15,8 @@ use Rattle.desk_call.specs.declared.window.WindowReply.TheVariants as reply
 use Rattle.vis_update.specs.declared.area.Area.{Area}
 use Rattle.vis_update.specs.Records.{WindowRecord}
 use Rattle.vis_update.specs.Areas.{is_content_of}
-use Rattle.window_mgr.specs.declared.tell.Told.{Told}
-use Rattle.window_mgr.specs.declared.tell.Told.TheVariants.{Visible, Update}
+use Rattle.window_mgr.specs.declared.tell.AskedRegion.{AskedRegion}
+use Rattle.window_mgr.specs.declared.tell.AskedRegion.TheVariants.{Visible, Update}
 use Rattle.window_mgr.specs.FullDesk.{FullState, layered_desk}
 use Rattle.window_mgr.specs.Finding.{record_with}
 
@@ -37,17 +37,17 @@ update_of s state = seen_from (record_with s state.desk.windows)
 
 -- ---- which of both is told
 
-abbrev pub told_of : Told → ℕ → FullState → PixelSet
-told_of Visible = visible_of
-told_of Update = update_of
+abbrev pub asked_region : AskedRegion → ℕ → FullState → PixelSet
+asked_region Visible = visible_of
+asked_region Update = update_of
 
 -- the call that asks for it
-abbrev pub asking : Told → ℕ → WindowCall
+abbrev pub asking : AskedRegion → ℕ → WindowCall
 asking Visible = VisibleRegion
 asking Update = UpdateRegion
 
 -- the region of the area that has it
-abbrev pub kept_region : Told → Area → Pixels
+abbrev pub kept_region : AskedRegion → Area → Pixels
 kept_region Visible area = area.visible
 kept_region Update area = area.update
 

@@ -1,5 +1,6 @@
 -- The update region of one window: another set of pixels, or drawn.
-use Rattle.std.specs.Prelude.{◌≡◌, ℕ, true, ◌&&◌, if◌then◌else◌, List}
+use Rattle.std.specs.Prelude.{◌≡◌, ℕ, true, ◌&&◌, if◌then◌else◌, List, slice_index_or}
+use Rattle.std.specs.Vec.{with_item}
 use Rattle.tb_geom.specs.declared.point.Point.{Point}
 use Rattle.tb_geom.specs.Pixels.{Pixels, holds}
 use Rattle.def_iface.specs.declared.taken.Taken.{Taken}
@@ -10,6 +11,7 @@ use Rattle.def_iface.specs.Desk.Part.{Picture}
 use Rattle.def_iface.specs.Owner.{owner, same_owner}
 use Rattle.def_iface.specs.Owner.Owner.{Content}
 use Rattle.def_iface.specs.Change.{Change, no_change, IsChanged}
+use Rattle.vis_update.specs.declared.area.Area.{Area}
 use Rattle.vis_update.specs.Areas.{is_content_of}
 use Rattle.window_mgr.specs.declared.manager.WindowManager.{WindowManager}
 use Rattle.window_mgr.specs.FullDesk.{FullState, layered_desk, layered_state}
@@ -38,3 +40,9 @@ module _ {V : Type 0} {H : V → Type 0} (loan : Taken V H → Loan) where
   abbrev pub LeavesState : (FullState → FullState → Type 0) → WindowManager V H → WindowManager V H → Type 0
   LeavesState after old new = (slots : List SlotView) → IsWholeManager loan old slots
       → IsWholeManager loan new slots × after (state_of loan old slots) (state_of loan new slots)
+
+-- the update region of the window at an index is this one, and nothing else changed
+pub record IsUpdatePut {V : Type 0} {H : V → Type 0} (at : ℕ) (update : Pixels) (old new : WindowManager V H) : Type 0 where
+  pub area : Area
+  pub there : area ≡ slice_index_or old.areas.items at area
+  pub state : new ≡ record old { areas = with_item old.areas at (record area { update = update }) }

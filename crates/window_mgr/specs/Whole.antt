@@ -11,7 +11,7 @@ use Rattle.def_iface.specs.Owner.{owner, own_bit, is_content}
 use Rattle.vis_update.specs.Records.{WindowRecord, news_of}
 use Rattle.vis_update.specs.Areas.{AreAreas, IsGray, IsDesktop, stale_in}
 use Rattle.window_mgr.specs.declared.manager.WindowManager.{WindowManager}
-use Rattle.window_mgr.specs.FullDesk.{FullDesk, FullState, AreNumbered, layered_desk}
+use Rattle.window_mgr.specs.FullDesk.{FullDesk, FullState, AreSerials, layered_desk}
 use Rattle.window_mgr.specs.Records.{desk_of, state_of}
 use Rattle.window_mgr.specs.Refused.{most_windows}
 use Rattle.desk_ground.specs.Screens.{is_screen}
@@ -45,7 +45,7 @@ pub record IsStocked (windows : List WindowRecord) (slots : List SlotView) : Typ
 pub record IsSoundDesk (desk : FullDesk) : Type 0 where
   pub screen : is_screen desk.width desk.height desk.bar ≡ true
   pub distinct : IsDesk (layered_desk desk)
-  pub numbered : AreNumbered desk.next desk.windows
+  pub serials : AreSerials desk.next desk.windows
   pub few : length desk.windows ≤ most_windows
   pub settled : All IsSettled desk.windows
   pub stocked : IsStocked desk.windows desk.stock

@@ -110,7 +110,7 @@ pub(crate) fn if_active(becomes: bool, window: Option<u64>) -> Activation
 }
 
 impl Edit {
-    /// The window at this place stays as it stands.
+    /// The window at this index stays as it stands.
     pub(crate) fn of(at: usize, window: &Window) -> Edit
         ensures { result ≡ stays_put at window.now }
     {
@@ -126,7 +126,7 @@ impl Edit {
 }
 
 impl WindowManager {
-    /// The place of the window of this number in the list.
+    /// The index of the window of this serial in the list.
     pub fn find(&self, window: u64) -> Option<usize>
         ensures { MatchOption result
             (record_with window (map (record_of ⟦<Taken as Defined>⟧.loan) self.now.windows.records.items) ≡ None)
@@ -263,7 +263,7 @@ impl WindowManager {
     }
 }
 
-/// The number of the first visible window, by the seats of all.
+/// The serial of the first visible window, by the seats of all.
 pub(crate) fn front_of(seats: &[Seat<'_>]) -> Option<u64>
     ensures { result ≡ first_seated seats.now }
 {

@@ -55,7 +55,7 @@ impl WindowManager {
         self.rearrange(edit, Activates::NextInItsPlace, None)
     }
 
-    /// The place in the list, counted without the window at this place, where it is to go behind another.
+    /// The index in the list, counted without the window at this index, where it is to go behind another.
     fn place_to_send(&self, sent: SendBehind, at: usize) -> Result<usize, Refusal>
         requires kept { IsKept ⟦<Taken as Defined>⟧.loan self.now }
         requires at { StandsAt self.now.windows.records.items sent.window at }
@@ -136,7 +136,7 @@ fn when_shown(was: bool, is: bool) -> Activates
     }
 }
 
-/// The place in the list, counted without a window, of what goes behind another: the places of both
+/// The index in the list, counted without a window, of what goes behind another: the indices of both
 /// are given.
 fn place_behind(there: usize, at: usize) -> usize
     ensures { result ≡ (if nat_lt there at then there + 1 else there) }
@@ -144,7 +144,7 @@ fn place_behind(there: usize, at: usize) -> usize
     if there < at { there + 1 } else { there }
 }
 
-/// The place in the list of a window that is brought to the front, or stays where it is.
+/// The index in the list of a window that is brought to the front, or stays where it is.
 fn place_in(front: bool, at: usize) -> usize
     ensures { result ≡ (if front then 0 else at) }
 {

@@ -7,10 +7,10 @@ ghost use Rattle.window_mgr.specs.Commits.{IsPainted, ArePainted, IsMoved, IsPla
 ghost use Rattle.window_mgr.specs.Whole.{IsSettled};
 
 use crate::WindowManager;
-use bit_blit::{fill, shift};
+use bit_blit::{cut_inside, fill, shift};
 use bit_map::{BitMap, Mode, Pattern};
 use def_iface::{Defined, Stage, Taken};
-use draw_port::{Canvas, Cut};
+use draw_port::Canvas;
 use scan_region::Region;
 use strike_font::Font;
 use tb_geom::Point;
@@ -80,10 +80,7 @@ fn paint(screen: &mut BitMap, part: &Part, taken: &Taken, place: Point, font: &F
 {
     let origin = Point { h: 0, v: 0 };
     fill(screen, &part.erase, origin, Pattern::WHITE, Mode::Copy);
-    let cut = Cut {
-        inside: [Some(&part.redraw), None, None],
-        outside: None,
-    };
+    let cut = cut_inside(&part.redraw);
     let clip = part.redraw.bbox();
     let mut canvas = Canvas {
         map: screen,

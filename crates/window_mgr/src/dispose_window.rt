@@ -44,7 +44,7 @@ impl WindowManager {
         Ok(WindowReply::Done)
     }
 
-    /// All that changes on the screen where this window, at this place, is there no more, and all growth.
+    /// All that changes on the screen where this window, at this index, is there no more, and all growth.
     fn plan_without(&self, window: u64, at: usize) -> Result<Rearrangement, AllocError>
         requires kept { IsKept ⟦<Taken as Defined>⟧.loan self.now }
         requires at { at < length self.now.windows.records.items }
@@ -65,7 +65,7 @@ impl WindowManager {
         Ok(Rearrangement { plan, activation })
     }
 
-    /// The windows as they are, but the one at this place.
+    /// The windows as they are, but the one at this index.
     fn seats_without(&self, at: usize) -> Result<Vec<Seat<'_>>, AllocError>
         requires areas { length self.now.areas.items ≡ length self.now.windows.records.items }
         requires at { at < length self.now.windows.records.items }
@@ -77,7 +77,7 @@ impl WindowManager {
         Ok(seats)
     }
 
-    /// Makes active what becomes so, takes the window at this place out, and draws what a plan says.
+    /// Makes active what becomes so, takes the window at this index out, and draws what a plan says.
     fn take_off(&mut self, at: usize, activation: Activation, plan: Plan) -> Taken
         requires at { at < length self.old.windows.records.items }
         requires settled { All IsSettled (map (record_of ⟦<Taken as Defined>⟧.loan)

@@ -14,21 +14,19 @@ ghost use Rattle.window_mgr.specs.Records.{state_of};
 ghost use Rattle.window_mgr.specs.Refused.{IsRefusal, is_formal};
 
 use crate::{Drawing, WindowManager};
+use bit_blit::cut_inside;
 use bit_map::BitMap;
 use def_iface::{Defined, Taken};
-use draw_port::{Canvas, Cut};
+use draw_port::{Canvas, MOST_OPERATIONS};
 use std::alloc::AllocError;
 use strike_font::Font;
 use tb_geom::{Point, Refusal};
 use vis_update::Area;
 use window_list::{Window, picture_place};
 
-/// As many operations as a picture may have.
-const MOST_OPERATIONS: usize = 1024;
-
 impl WindowManager {
-    /// The place of the window that is drawn in, where nothing but memory can refuse that.
-    pub(crate) fn place_to_draw(&self, drawing: &Drawing<'_>) -> Result<usize, Refusal>
+    /// The index of the window that is drawn in, where nothing but memory can refuse that.
+    pub(crate) fn index_to_draw(&self, drawing: &Drawing<'_>) -> Result<usize, Refusal>
         requires { IsKept ⟦<Taken as Defined>⟧.loan self.now }
         ensures { MatchResult result (MayDraw drawing.now self.now)
             (λ e. IsRefusal (Draw drawing.now) (state_of ⟦<Taken as Defined>⟧.loan self.now []) (Some e)) }
@@ -47,7 +45,7 @@ impl WindowManager {
         }
     }
 
-    /// Adds an operation to the picture of the window at this place, and draws it on each pixel of
+    /// Adds an operation to the picture of the window at this index, and draws it on each pixel of
     /// the screen that the picture owns. Where there is no memory the desk stays as it was.
     pub(crate) fn add_operation(
         &mut self,
@@ -99,10 +97,7 @@ fn show_last(screen: &mut BitMap, area: &Area, window: &Window, font: &Font)
     let Some(operation) = window.picture.ops().last() else {
         return;
     };
-    let cut = Cut {
-        inside: [Some(&area.visible), None, None],
-        outside: None,
-    };
+    let cut = cut_inside(&area.visible);
     let clip = area.visible.bbox();
     let mut canvas = Canvas {
         map: screen,

@@ -49,7 +49,7 @@ impl WindowManager {
         }
     }
 
-    /// The place of the window that owns the pixel.
+    /// The index of the window that owns the pixel.
     fn window_at(&self, point: Point) -> Option<usize>
         ensures { result ≡ position (area_has point) self.now.areas.items }
     {

@@ -9,33 +9,34 @@ ghost use Rattle.def_iface.specs.News.{no_news, told_change};
 ghost use Rattle.window_list.specs.Changes.{keeps_size, has_short_title};
 ghost use Rattle.vis_update.specs.Records.{record_of};
 ghost use Rattle.window_mgr.specs.Edits.{IsWindowAt};
-ghost use Rattle.window_mgr.specs.FrameTelling.{IsFrameTold, told_record};
+ghost use Rattle.window_mgr.specs.FrameNotices.{IsFrameNotified, notified_record};
 ghost use Rattle.window_mgr.specs.Kept.{IsKept};
 ghost use Rattle.window_mgr.specs.Updating.{LeavesState};
 ghost use Rattle.window_mgr.specs.Whole.{IsSettled};
 
 use crate::WindowManager;
+use bit_blit::cut_inside;
 use bit_map::BitMap;
 use def_iface::{Defined, Taken, WindowChange};
-use draw_port::{Canvas, Cut};
+use draw_port::Canvas;
 use scan_region::Region;
 use strike_font::Font;
 use tb_geom::{Point, Rect};
 use window_list::Window;
 
 impl WindowManager {
-    /// Tells the definition of the window at this place of a change, and draws the window's frame anew where it shows,
+    /// Notifies the definition of the window at this index of a change, and draws the window's frame anew where it shows,
     /// within the damage that the definition answers. The record keeps what it is told. A change of the size
     /// is told by `WindowCall::Size`, and a title has at most 255 bytes. It takes no memory.
-    pub fn tell_frame(&mut self, at: usize, change: WindowChange<'_>)
+    pub fn notify(&mut self, at: usize, change: WindowChange<'_>)
         requires kept { IsKept ⟦<Taken as Defined>⟧.loan self.old }
         requires at { at < length self.old.windows.records.items }
         requires size { keeps_size change ≡ true }
         requires title { has_short_title change ≡ true }
         ensures { (w : _) → IsWindowAt self.old.windows.records.items at w
-            → LeavesState ⟦<Taken as Defined>⟧.loan (IsFrameTold w.serial (λ _. told_change change.entry) (told_record change.entry)) self.old self.new }
+            → LeavesState ⟦<Taken as Defined>⟧.loan (IsFrameNotified w.serial (λ _. told_change change.entry) (notified_record change.entry)) self.old self.new }
     {
-        let damage = self.windows.tell(at, change);
+        let damage = self.windows.notify(at, change);
         draw_frame(
             &mut self.screen,
             &self.areas[at].frame,
@@ -57,10 +58,7 @@ fn draw_frame(map: &mut BitMap, region: &Region, window: &Window, within: Rect, 
     ensures near { (p : Point) → holds region.now p ≡ true → in_plane (minus p window.now.place) ≡ true }
 {
     let clip = on_screen(window, within);
-    let cut = Cut {
-        inside: [Some(region), None, None],
-        outside: None,
-    };
+    let cut = cut_inside(region);
     let mut canvas = Canvas {
         map,
         clip,

@@ -105,6 +105,13 @@ impl WindowManager {
         &self.screen
     }
 
+    /// Its windows.
+    pub fn list(&self) -> &WindowList
+        ensures { result.now ≡ self.now.windows }
+    {
+        &self.windows
+    }
+
     /// What painting the desk from nothing needs of it.
     pub fn parts(&self) -> Parts<'_>
         ensures width { result.width ≡ pos self.now.screen.width }

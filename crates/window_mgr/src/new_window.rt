@@ -43,7 +43,7 @@ struct Addition {
 }
 
 impl WindowManager {
-    /// Makes a window in front of all others, and answers its number.
+    /// Makes a window in front of all others, and answers its serial.
     pub(crate) fn new_window(
         &mut self,
         window: &NewWindow<'_>,

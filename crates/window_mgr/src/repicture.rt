@@ -32,7 +32,7 @@ impl WindowManager {
         }
     }
 
-    /// Gives the window at this place another picture. Where there is no memory the desk stays as it was.
+    /// Gives the window at this index another picture. Where there is no memory the desk stays as it was.
     fn replace_picture(&mut self, at: usize, new: &NewPicture<'_>) -> Result<(), AllocError>
         requires kept { IsKept ⟦<Taken as Defined>⟧.loan self.old }
         requires at { StandsAt self.old.windows.records.items new.now.window at }
@@ -42,7 +42,7 @@ impl WindowManager {
         let picture = new.picture.copy(self.alloc)?;
         let update = self.areas[at].visible.copy(self.alloc)?;
         self.windows.set_picture(at, picture, new.origin);
-        self.areas[at].update = update;
+        self.put_update(at, update);
         Ok(())
     }
 

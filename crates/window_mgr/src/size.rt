@@ -35,7 +35,7 @@ impl WindowManager {
         self.place_window(at, placement, None)
     }
 
-    /// Gives the window at this place of the list another place and size, its pixels coming from so far away, if they
+    /// Gives the window at this index another place and size, its pixels coming from so far away, if they
     /// move. NoMemory is the only refusal.
     pub(crate) fn place_window(
         &mut self,
@@ -58,7 +58,7 @@ impl WindowManager {
         Ok(WindowReply::Done)
     }
 
-    /// Gives the window at this place of the list another place and size, tells its definition, and draws what a plan
+    /// Gives the window at this index another place and size, tells its definition, and draws what a plan
     /// says.
     fn commit_placement(&mut self, at: usize, placement: Placement, plan: Plan, by: Option<Point>)
         requires at { at < length self.old.windows.records.items }

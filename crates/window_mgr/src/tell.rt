@@ -19,7 +19,7 @@ use window_list::local;
 
 /// Which of a window's regions is told.
 #[derive(Clone, Copy)]
-pub(crate) enum Told {
+pub(crate) enum AskedRegion {
     /// What of the screen its content owns.
     Visible,
     /// What of that is to be redrawn.
@@ -28,7 +28,11 @@ pub(crate) enum Told {
 
 impl WindowManager {
     /// Tells one of a window's regions, in the window's own coordinates.
-    pub(crate) fn answer_region(&mut self, window: u64, told: Told) -> Result<WindowReply, Refusal>
+    pub(crate) fn answer_region(
+        &mut self,
+        window: u64,
+        told: AskedRegion,
+    ) -> Result<WindowReply, Refusal>
         requires { IsKept ⟦<Taken as Defined>⟧.loan self.old }
         ensures { IsStepOverAnySlots ⟦<Taken as Defined>⟧.loan (asking told window) result self.old self.new }
     {
@@ -44,7 +48,12 @@ impl WindowManager {
 }
 
 /// The bytes of one of the regions of an area, as it is seen from the origin.
-fn area_bytes(area: &mut Area, told: Told, alloc: Global, origin: Point) -> Result<Vec<u8>, Refusal>
+fn area_bytes(
+    area: &mut Area,
+    told: AskedRegion,
+    alloc: Global,
+    origin: Point,
+) -> Result<Vec<u8>, Refusal>
     requires origin { in_plane origin ≡ true }
     requires there { (p : Point) → holds (kept_region told area.old) (plus p origin) ≡ true → is_pixel_in_range p ≡ true }
     requires here { (p : Point) → holds (kept_region told area.old) p ≡ true → is_pixel_in_range p ≡ true }
@@ -54,8 +63,8 @@ fn area_bytes(area: &mut Area, told: Told, alloc: Global, origin: Point) -> Resu
         (IsNotTold (λ p. holds (kept_region told area.old) (plus p origin))) }
 {
     match told {
-        Told::Visible => bytes_from(&mut area.visible, alloc, origin),
-        Told::Update => bytes_from(&mut area.update, alloc, origin),
+        AskedRegion::Visible => bytes_from(&mut area.visible, alloc, origin),
+        AskedRegion::Update => bytes_from(&mut area.update, alloc, origin),
     }
 }
 

@@ -10,12 +10,13 @@ ghost use Rattle.vis_update.specs.Areas.{stale_in};
 ghost use Rattle.vis_update.specs.declared.area.Area.{Area};
 ghost use Rattle.window_mgr.specs.Edits.{IsWindowAt};
 ghost use Rattle.window_mgr.specs.Kept.{IsKept};
-ghost use Rattle.window_mgr.specs.Updating.{LeavesState, IsRemarked, IsRefreshed};
+ghost use Rattle.window_mgr.specs.Updating.{LeavesState, IsRemarked, IsRefreshed, IsUpdatePut};
 
 use crate::WindowManager;
+use bit_blit::cut_inside;
 use bit_map::BitMap;
 use def_iface::{Defined, Taken};
-use draw_port::{Canvas, Cut};
+use draw_port::Canvas;
 use scan_region::Region;
 use strike_font::Font;
 use tb_geom::Point;
@@ -23,7 +24,7 @@ use vis_update::Area;
 use window_list::{Window, picture_place};
 
 impl WindowManager {
-    /// What the window at this place owns of the screen.
+    /// What the window at this index owns of the screen.
     pub fn area(&self, at: usize) -> &Area
         requires { at < length self.now.areas.items }
         ensures { result.now ≡ slice_index_or self.now.areas.items at result.now }
@@ -47,6 +48,15 @@ impl WindowManager {
         ensures { (w : _) → IsWindowAt self.old.windows.records.items at w
             → LeavesState ⟦<Taken as Defined>⟧.loan (IsRemarked w.serial update) self.old self.new }
     {
+        self.put_update(at, update);
+    }
+
+    /// Makes this region the update region of the window at this index. Beside the sweep, which makes the areas of all
+    /// windows, nothing else sets one.
+    pub(crate) fn put_update(&mut self, at: usize, update: Region)
+        requires { at < length self.old.areas.items }
+        ensures { IsUpdatePut at update self.old self.new }
+    {
         self.areas[at].update = update;
     }
 
@@ -63,7 +73,7 @@ impl WindowManager {
             self.windows.at(at),
             &self.font,
         );
-        self.areas[at].update = Region::empty(self.alloc);
+        self.put_update(at, Region::empty(self.alloc));
     }
 }
 
@@ -75,10 +85,7 @@ pub fn paint_picture(map: &mut BitMap, region: &Region, window: &Window, font: &
         (λ p _. picture_bit font.now window.now.picture (minus (minus p window.now.place) window.now.origin))
         map.old map.new }
 {
-    let cut = Cut {
-        inside: [Some(region), None, None],
-        outside: None,
-    };
+    let cut = cut_inside(region);
     let clip = region.bbox();
     let mut canvas = Canvas {
         map,

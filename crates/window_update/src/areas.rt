@@ -77,7 +77,7 @@ pub fn update_form_refusal(call: &UpdateCall<'_>) -> Option<Refusal>
 }
 
 /// The same, of an area.
-pub(crate) fn form_refusal_of(marking: &WindowArea<'_>) -> Option<Refusal>
+fn form_refusal_of(marking: &WindowArea<'_>) -> Option<Refusal>
     ensures { IsAreaForm marking.now result }
 {
     match judge(&marking.area) {

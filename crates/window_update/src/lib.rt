@@ -2,7 +2,7 @@
 //!
 //! A program says that pixels are to be redrawn (`Invalidate`) or are right as they are (`Validate`), and serves what is
 //! to be redrawn between `Begin` and `End`, layer by layer (*Inside Macintosh* I, "The Window Manager", "Update Region
-//! Maintenance"). `Updates` makes these calls on the windows of a `WindowManager`, and says what is open then. It keeps what
+//! Maintenance"). `Updates` performs these calls on the windows of a `WindowManager`, and says what is open then. It keeps what
 //! was to be redrawn when the open update began, which is the window's visible region until its end.
 //!
 //! What is right, `Rightness` says: a pixel of the content that shows and has the value that painting the desk from

@@ -17,7 +17,7 @@ ghost use Rattle.window_update.specs.Sets.{IsAreaOf, judged_set};
 ghost use Rattle.window_update.specs.UpdateRefusals.{IsAreaRefusal};
 ghost use Rattle.window_update.specs.UpdateSteps.{IsUpdateStepOverAnySlots};
 
-use crate::areas::{JudgedArea, form_refusal_of, judge, region_of};
+use crate::areas::{JudgedArea, judge, region_of};
 use crate::right::agree;
 use crate::{AreaRef, Updates, WindowArea};
 use def_iface::{Defined, Taken};
@@ -42,11 +42,17 @@ impl Updates {
         ensures width { windows.new.screen.width ≡ windows.old.screen.width }
         ensures height { windows.new.screen.height ≡ windows.old.screen.height }
     {
-        let place = match place_of(windows, marking) {
-            Ok(place) => place,
+        let target = match target_of(windows, marking) {
+            Ok(target) => target,
             Err(refusal) => return Err(refusal),
         };
-        mark(self.alloc, windows, place.at, &marking.area, Verdict::Stale)
+        mark(
+            self.alloc,
+            windows,
+            target.at,
+            &marking.area,
+            Verdict::Stale,
+        )
     }
 
     /// Takes what lies in an area of a window's visible content out of its update region, where its pixels are right.
@@ -62,14 +68,20 @@ impl Updates {
         ensures same { self.new.begun ≡ self.old.begun }
         ensures whole { IsWholeUpdates windows.new self.new }
     {
-        let place = match place_of(windows, marking) {
-            Ok(place) => place,
+        let target = match target_of(windows, marking) {
+            Ok(target) => target,
             Err(refusal) => return Err(refusal),
         };
-        if !self.is_right(windows, place.at, &place.area) {
+        if !self.is_right(windows, target.at, &target.area) {
             return Err(Refusal::StalePixels);
         }
-        mark(self.alloc, windows, place.at, &marking.area, Verdict::Right)
+        mark(
+            self.alloc,
+            windows,
+            target.at,
+            &marking.area,
+            Verdict::Right,
+        )
     }
 
     /// Whether what shows of a window's content in an area is right.
@@ -95,34 +107,31 @@ impl Updates {
     }
 }
 
-/// A window's place in the list, and an area of it that was judged.
+/// A window's index in the list, and an area of it that was judged.
 #[derive(Drop)]
-struct Place<'a> {
+struct Target<'a> {
     at: usize,
     area: JudgedArea<'a>,
 }
 
 /// The window that an area is of, and the area. The refusal is the first of these: BadRegion, NoSuchWindow, OutOfRange.
-fn place_of<'a>(windows: &WindowManager, marking: &WindowArea<'a>) -> Result<Place<'a>, Refusal>
+fn target_of<'a>(windows: &WindowManager, marking: &WindowArea<'a>) -> Result<Target<'a>, Refusal>
     requires kept { IsKept ⟦<Taken as Defined>⟧.loan windows.now }
     ensures { MatchResult result
         (λ r. StandsAt windows.now.windows.records.items marking.now.window r.at × IsAreaOf marking.now.area (judged_set r.area)
         × IsAreaRefusal marking.now (state_of ⟦<Taken as Defined>⟧.loan windows.now []) None)
         (λ e. IsAreaRefusal marking.now (state_of ⟦<Taken as Defined>⟧.loan windows.now []) (Some e)) }
 {
-    if let Some(refusal) = form_refusal_of(marking) {
-        return Err(refusal);
-    }
-    let Some(at) = windows.find(marking.window) else {
-        return Err(Refusal::NoSuchWindow);
-    };
-    match judge(&marking.area) {
-        Ok(area) => Ok(Place { at, area }),
-        Err(refusal) => Err(refusal),
+    match (judge(&marking.area), windows.find(marking.window)) {
+        (Err(Refusal::BadRegion), _) => Err(Refusal::BadRegion),
+        (Ok(area), Some(at)) => Ok(Target { at, area }),
+        (Err(refusal), Some(_)) => Err(refusal),
+        (Ok(_), None) => Err(Refusal::NoSuchWindow),
+        (Err(_), None) => Err(Refusal::NoSuchWindow),
     }
 }
 
-/// Marks an area of the window at this place. NoMemory is the only refusal.
+/// Marks an area of the window at this index. NoMemory is the only refusal.
 fn mark(
     alloc: Global,
     windows: &mut WindowManager,
@@ -143,7 +152,7 @@ fn mark(
     }
 }
 
-/// The update region of the window at this place, once an area is marked.
+/// The update region of the window at this index, once an area is marked.
 fn update_after(
     alloc: Global,
     windows: &WindowManager,
@@ -156,7 +165,7 @@ fn update_after(
     ensures { IfOk result (IsUpdateAfter windows.now at area.now verdict) }
 {
     let pixels = region_of(alloc, area)?;
-    let place = windows.parts().windows.at(at).place;
+    let place = windows.list().at(at).place;
     marked(alloc, windows.area(at), place, &pixels, verdict)
 }
 
@@ -169,7 +178,7 @@ pub(crate) enum Verdict {
     Right,
 }
 
-/// The update region of a window at a place, once these pixels, which are in the window's own coordinates, are marked
+/// The update region of a window at this place of the screen, once these pixels, which are in the window's own coordinates, are marked
 /// where its content shows.
 fn marked(
     alloc: Global,

@@ -38,7 +38,7 @@ impl Updates {
         let Some(at) = windows.find(window) else {
             return Err(Refusal::NoSuchWindow);
         };
-        let place = windows.parts().windows.at(at).place;
+        let place = windows.list().at(at).place;
         let Ok(begun) = seen_from(self.alloc, &windows.area(at).update, place) else {
             return Err(Refusal::NoMemory);
         };

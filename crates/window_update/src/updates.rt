@@ -51,9 +51,9 @@ impl Updates {
         }
     }
 
-    /// Makes one call on these windows, while this is open, and gives its answer. A refused call changes nothing; which
+    /// Performs one call on these windows, while this is open, and gives its answer. A refused call changes nothing; which
     /// refusal comes first where several would do stands with the call. It does not ask what is open.
-    pub fn make(
+    pub fn perform(
         &mut self,
         windows: &mut WindowManager,
         activity: &mut Activity,

@@ -3,7 +3,8 @@ use Rattle.std.proofs.lemmas.Int.{ints, to_z-of_z}
 use Rattle.tb_geom.specs.declared.point.Point.{Point}
 use Rattle.tb_geom.specs.Points.{minus}
 use Rattle.bit_blit.proofs.DrawsLemmas.{Draws-where}
-use Rattle.bit_blit.proofs.WalkLemmas.{fits_next, in_row-at, in_row-end}
+use Rattle.tb_geom.proofs.Steps.{fits_next}
+use Rattle.bit_blit.proofs.WalkLemmas.{in_row-at, in_row-end}
 use Rattle.bit_blit.proofs.ShiftLemmas.{left_step, both-on}
 use Rattle.bit_blit.proofs.shifting.shift_row_left.Goals as goal
 

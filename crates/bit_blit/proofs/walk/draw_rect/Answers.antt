@@ -2,7 +2,8 @@ use Rattle.std.proofs.Common.{◌∙◌, refl, rules, arith, ℤ, pos, ◌+ℤ�
 use Rattle.std.proofs.lemmas.Int.{ints, to_z-of_z}
 use Rattle.bit_blit.specs.Draws.{Draws, in_row}
 use Rattle.bit_blit.proofs.DrawsLemmas.{Draws-of, Draws-none, Draws-where, Draws-on_map}
-use Rattle.bit_blit.proofs.WalkLemmas.{fits_next, rows_step, in_rows-none, in_rows-end, row-in_rect, shared-on_map, shared-where}
+use Rattle.tb_geom.proofs.Steps.{fits_next}
+use Rattle.bit_blit.proofs.WalkLemmas.{rows_step, in_rows-none, in_rows-end, row-in_rect, shared-on_map, shared-where}
 use Rattle.bit_blit.proofs.walk.draw_rect.Goals as goal
 
 pub loop-v-init : goal.loop-v-init

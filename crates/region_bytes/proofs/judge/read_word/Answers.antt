@@ -4,8 +4,8 @@ use Rattle.region_bytes.proofs.Scanned.{ends, top_low, top_next, row_ends, row_o
 use Rattle.region_bytes.proofs.judge.read_word.Goals as goal
 use Rattle.region_bytes.proofs.judge.read_word.Goals.{then-at-via-then-at, then-at-via-else-at+then-at-leminus32769}
 
-pub returns-then-word-eq32767 : goal.returns-then-word-eq32767
-returns-then-word-eq32767 c = λ ws e. let fw = c.ranges.word in let a : c.args.at.within ≡ false = search rules in let b : c.args.word ≡ pos 32767 = search (rules, ints) in e ∙ sym (ends c.args.at c.args.word ws a b)
+pub returns-then-word-eq-END : goal.returns-then-word-eq-END
+returns-then-word-eq-END c = λ ws e. let fw = c.ranges.word in let a : c.args.at.within ≡ false = search rules in let b : c.args.word ≡ pos 32767 = search (rules, ints) in e ∙ sym (ends c.args.at c.args.word ws a b)
 
 pub returns-then-word-at : goal.returns-then-word-at
 returns-then-word-at c = λ ws e.
@@ -36,8 +36,8 @@ returns-then-at c = λ ws e.
       | then-at-via-else-at+then-at-leminus32769 w ↦ (let t = simp to_z-of_z at w.if-at-leminus32769.true in sym (row_empty c.args.at c.args.word ws a b (from_le _ _ t)))
     ]
 
-pub returns-then-word-eq32767-2 : goal.returns-then-word-eq32767-2
-returns-then-word-eq32767-2 c = λ ws e.
+pub returns-then-word-eq-END-2 : goal.returns-then-word-eq-END-2
+returns-then-word-eq-END-2 c = λ ws e.
     let fw = c.ranges.word in
     let fv : SFits w32 c.args.at.v = search rules in
     let fh : SFits w32 c.args.at.h = search rules in

@@ -3,7 +3,8 @@ use Rattle.std.proofs.lemmas.Int.{ints, to_z-of_z}
 use Rattle.tb_geom.specs.Rects.{between}
 use Rattle.tb_geom.proofs.RectLemmas.{holds_none, sides_rise}
 use Rattle.scan_region.proofs.Merged.{has_in_rows-nil, AreRows-nil}
-use Rattle.scan_region.proofs.RectRows.{RunsUpTo-none, RunsUpTo-more, sides_in_range, fits_next}
+use Rattle.tb_geom.proofs.Steps.{fits_next}
+use Rattle.scan_region.proofs.RectRows.{RunsUpTo-none, RunsUpTo-more, sides_in_range}
 use Rattle.scan_region.proofs.rect.rect_rows.Goals as goal
 
 pub returns-then-is_empty-clause-pixels : goal.returns-then-is_empty-clause-pixels

@@ -4,7 +4,7 @@ use Rattle.std.proofs.lemmas.List.{nil_from_length}
 use Rattle.region_bytes.proofs.Edges.{inside-nil}
 use Rattle.scan_region.specs.Edges.{inside}
 use Rattle.scan_region.specs.Restored.{IsMadeTo}
-use Rattle.scan_region.proofs.RectRows.{fits_next}
+use Rattle.tb_geom.proofs.Steps.{fits_next}
 use Rattle.scan_region.proofs.Restored.{IsMadeTo-skip, IsMadeTo-more}
 use Rattle.scan_region.proofs.restore.fill.Goals as goal
 

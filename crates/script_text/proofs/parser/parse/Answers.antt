@@ -1,7 +1,7 @@
 use Rattle.std.proofs.Common.{◌≡◌, ◌⊎◌, Err, subst, sym, ◌∙◌}
 use Rattle.tb_geom.specs.declared.refusal.Refusal.TheVariants.{BadSyntax}
 use Rattle.script_text.specs.Spelling.{IsLine}
-use Rattle.script_text.proofs.Spelled.{line-reads, line-spelled}
+use Rattle.script_text.proofs.LineLaws.{line-reads, line-spelled}
 use Rattle.script_text.proofs.parser.parse.Goals as goal
 
 pub returns-clause-found : goal.returns-clause-found

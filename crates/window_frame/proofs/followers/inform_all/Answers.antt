@@ -6,37 +6,37 @@ use Rattle.window_frame.proofs.followers.inform_all.Goals as goal
 pub loop-at-init : goal.loop-at-init
 loop-at-init g c = informing.begins _ c.args.windows.now c.requires
 
-pub tell_highlighting-requires-clause-at : goal.tell_highlighting-requires-clause-at
-tell_highlighting-requires-clause-at g c =
-    let count = c.len-count.ensures ∙ ap (λ (l : WindowList _ _). length l.records.items) c.parts.ensures.windows in
+pub notify_highlighting-requires-clause-at : goal.notify_highlighting-requires-clause-at
+notify_highlighting-requires-clause-at g c =
+    let count = c.len-count.ensures ∙ ap (λ (l : WindowList _ _). length l.records.items) c.list.ensures in
     let many = c.loop-at.invariant.many in
     let low = c.loop-at-test.true in
     omega arith
 
-pub tell_zooming-requires-clause-kept : goal.tell_zooming-requires-clause-kept
-tell_zooming-requires-clause-kept g c =
-    let count = c.len-count.ensures ∙ ap (λ (l : WindowList _ _). length l.records.items) c.parts.ensures.windows in
+pub notify_zooming-requires-clause-kept : goal.notify_zooming-requires-clause-kept
+notify_zooming-requires-clause-kept g c =
+    let count = c.len-count.ensures ∙ ap (λ (l : WindowList _ _). length l.records.items) c.list.ensures in
     let before = c.loop-at-test.true in
     let low : c.loop-at.at < length c.args.windows.now.windows.records.items = omega arith in
-    informing.middle_kept _ c.loop-at.at c.args.windows.now c.loop-at.windows c.tell_highlighting.new.windows c.loop-at.invariant low c.tell_highlighting.ensures
+    informing.middle_kept _ c.loop-at.at c.args.windows.now c.loop-at.windows c.notify_highlighting.new.windows c.loop-at.invariant low c.notify_highlighting.ensures
 
-pub tell_zooming-requires-clause-at : goal.tell_zooming-requires-clause-at
-tell_zooming-requires-clause-at g c =
-    let count = c.len-count.ensures ∙ ap (λ (l : WindowList _ _). length l.records.items) c.parts.ensures.windows in
+pub notify_zooming-requires-clause-at : goal.notify_zooming-requires-clause-at
+notify_zooming-requires-clause-at g c =
+    let count = c.len-count.ensures ∙ ap (λ (l : WindowList _ _). length l.records.items) c.list.ensures in
     let before = c.loop-at-test.true in
     let low : c.loop-at.at < length c.args.windows.now.windows.records.items = omega arith in
-    informing.middle_low _ c.loop-at.at c.args.windows.now c.loop-at.windows c.tell_highlighting.new.windows c.loop-at.invariant low c.tell_highlighting.ensures
+    informing.middle_low _ c.loop-at.at c.args.windows.now c.loop-at.windows c.notify_highlighting.new.windows c.loop-at.invariant low c.notify_highlighting.ensures
 
 pub loop-at-preserved : goal.loop-at-preserved
 loop-at-preserved g c =
-    let count = c.len-count.ensures ∙ ap (λ (l : WindowList _ _). length l.records.items) c.parts.ensures.windows in
+    let count = c.len-count.ensures ∙ ap (λ (l : WindowList _ _). length l.records.items) c.list.ensures in
     let before = c.loop-at-test.true in
     let low : c.loop-at.at < length c.args.windows.now.windows.records.items = omega arith in
-    informing.both_told _ c.loop-at.at c.args.windows.now c.loop-at.windows c.tell_highlighting.new.windows c.loop-at.invariant low c.tell_highlighting.ensures c.tell_zooming.new.windows c.tell_zooming.ensures
+    informing.both_told _ c.loop-at.at c.args.windows.now c.loop-at.windows c.notify_highlighting.new.windows c.loop-at.invariant low c.notify_highlighting.ensures c.notify_zooming.new.windows c.notify_zooming.ensures
 
 pub returns : goal.returns
 returns g c =
-    let count = c.len-count.ensures ∙ ap (λ (l : WindowList _ _). length l.records.items) c.parts.ensures.windows in
+    let count = c.len-count.ensures ∙ ap (λ (l : WindowList _ _). length l.records.items) c.list.ensures in
     let end = c.loop-at.auto.at-end in
     let over = c.loop-at-test.false in
     let all : c.loop-at.at ≡ length c.args.windows.now.windows.records.items = omega arith in

@@ -4,17 +4,17 @@ use Rattle.window_frame.proofs.FrameSteps.{begun, not_begun, no_point, told_apar
 use Rattle.window_frame.proofs.goaway.track_go_away.Goals as goal
 
 pub returns-in-Ok-true-clause-width : goal.returns-in-Ok-true-clause-width
-returns-in-Ok-true-clause-width g c = (told_stays_sized _ c.args.windows.now c.requires.kept _ c.args.pressed.window c.tell_frame.new.self
-    (told_apart _ c.args.windows.now c.requires.kept c.args.pressed.window c.in-Some.at c.in-Some.ensures c.tell_frame.new.self true c.tell_frame.ensures)).width
+returns-in-Ok-true-clause-width g c = (told_stays_sized _ c.args.windows.now c.requires.kept _ c.args.pressed.window c.notify.new.self
+    (told_apart _ c.args.windows.now c.requires.kept c.args.pressed.window c.in-Some.at c.in-Some.ensures c.notify.new.self true c.notify.ensures)).width
 
 pub returns-in-Ok-true-clause-height : goal.returns-in-Ok-true-clause-height
-returns-in-Ok-true-clause-height g c = (told_stays_sized _ c.args.windows.now c.requires.kept _ c.args.pressed.window c.tell_frame.new.self
-    (told_apart _ c.args.windows.now c.requires.kept c.args.pressed.window c.in-Some.at c.in-Some.ensures c.tell_frame.new.self true c.tell_frame.ensures)).height
+returns-in-Ok-true-clause-height g c = (told_stays_sized _ c.args.windows.now c.requires.kept _ c.args.pressed.window c.notify.new.self
+    (told_apart _ c.args.windows.now c.requires.kept c.args.pressed.window c.in-Some.at c.in-Some.ensures c.notify.new.self true c.notify.ensures)).height
 
 pub returns-in-Ok-true-clause-step : goal.returns-in-Ok-true-clause-step
 returns-in-Ok-true-clause-step g c = λ pending.
-    begun _ c.args.windows.now c.requires.kept c.args.pressed c.in-Some.at c.in-Some.ensures (record { activity = c.args.activity.now; begun = pending }) (record { activity = Tracking c.args.pressed.window; begun = pending }) c.tell_frame.new.self c.in-Ok-true.ensures.0 (sym c.in-Ok-true.field-0-test ∙ c.in-Ok-true.ensures.1)
-    refl (told_apart _ c.args.windows.now c.requires.kept c.args.pressed.window c.in-Some.at c.in-Some.ensures c.tell_frame.new.self true c.tell_frame.ensures)
+    begun _ c.args.windows.now c.requires.kept c.args.pressed c.in-Some.at c.in-Some.ensures (record { activity = c.args.activity.now; begun = pending }) (record { activity = Tracking c.args.pressed.window; begun = pending }) c.notify.new.self c.in-Ok-true.ensures.0 (sym c.in-Ok-true.field-0-test ∙ c.in-Ok-true.ensures.1)
+    refl (told_apart _ c.args.windows.now c.requires.kept c.args.pressed.window c.in-Some.at c.in-Some.ensures c.notify.new.self true c.notify.ensures)
 
 pub returns-in-Ok-false-clause-step : goal.returns-in-Ok-false-clause-step
 returns-in-Ok-false-clause-step g c = λ pending.

@@ -12,4 +12,4 @@ pub returns : goal.returns
 returns g c =
     painted_within c.args.region c.args.region.now c.bbox-clip.result _ _ c.args.map.now c.paint_picture.new.self.map.now _ refl (search rules) (λ p e. c.bbox-clip.ensures.exact.holds p e)
     (λ p. ap (picture_bit c.args.font.now c.args.window.now.picture) (ap (minus p) c.picture_place.ensures ∙ minus_twice p c.args.window.now.place c.args.window.now.origin))
-    c.paint_picture.ensures.drawn
+    (rw c.cut_inside-cut.ensures at c.paint_picture.ensures.drawn)

@@ -4,7 +4,8 @@ use Rattle.std.proofs.lemmas.Int.{ints, to_z-of_z}
 use Rattle.tb_geom.specs.declared.point.Point.{Point}
 use Rattle.tb_geom.specs.Points.{minus}
 use Rattle.bit_blit.specs.Draws.{in_row}
-use Rattle.bit_blit.proofs.WalkLemmas.{fits_next, in_row-at, in_row-end}
+use Rattle.tb_geom.proofs.Steps.{fits_next}
+use Rattle.bit_blit.proofs.WalkLemmas.{in_row-at, in_row-end}
 use Rattle.scan_region.specs.Scan.{span_holds}
 use Rattle.window_update.specs.Sets.{judged_set}
 use Rattle.window_update.proofs.RightLemmas.{agree_step, differ_there}

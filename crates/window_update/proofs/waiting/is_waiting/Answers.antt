@@ -13,7 +13,7 @@ area-requires g c = area_low _ c.args.windows.now c.requires.kept c.args.at c.re
 
 pub returns : goal.returns
 returns g c = λ w w_is begun slots.
-    let there = c.at.ensures ∙ ap (λ (l : WindowList _ _). slice_index_or l.records.items c.args.at c.at.result.now) c.parts.ensures.windows in
+    let there = c.at.ensures ∙ ap (λ (l : WindowList _ _). slice_index_or l.records.items c.args.at c.at.result.now) c.list.ensures in
     let same = same_at c.args.windows.now.windows.records.items c.args.at w c.at.result.now c.requires.at w_is there in
     let closed = ap (λ (x : Window _ _). is_updating x.serial c.args.activity) same ∙ sym c.is_updating.ensures ∙ c.if-is_updating.false in
     told_waiting _ c.args.windows.now (record { activity = c.args.activity; begun = begun }) c.requires.kept c.args.at c.requires.at w w_is c.area.result.now c.area.ensures slots closed c.is_empty.result c.is_empty.ensures

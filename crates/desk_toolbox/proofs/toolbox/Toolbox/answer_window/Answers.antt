@@ -4,6 +4,6 @@ use Rattle.desk_toolbox.proofs.toolbox.Toolbox.answer_window.Goals as goal
 
 pub returns-in-None-clause-whole : goal.returns-in-None-clause-whole
 returns-in-None-clause-whole g c = record {
-  windows = c.make.ensures.whole;
-  updates = stays_sized _ _ _ _ _ _ c.requires.updates (step_keeps_sides c.args.call.now c.make.result _ _ c.make.ensures.step);
+  windows = c.perform.ensures.whole;
+  updates = stays_sized _ _ _ _ _ _ c.requires.updates (step_keeps_sides c.args.call.now c.perform.result _ _ c.perform.ensures.step);
 }

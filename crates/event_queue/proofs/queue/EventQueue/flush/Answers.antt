@@ -3,7 +3,7 @@ use Rattle.std.specs.Option.{is_some}
 use Rattle.std.proofs.lemmas.Bool.{false≢true}
 use Rattle.circular_buffer.specs.Buffer.{Buffer}
 use Rattle.event_queue.specs.declared.event.Event.{Event}
-use Rattle.event_queue.specs.Events.{selected}
+use Rattle.event_queue.specs.Events.{is_selected}
 use Rattle.event_queue.specs.Queues.{Queue, added, flushed}
 use Rattle.std.proofs.Common.{take}
 use Rattle.event_queue.proofs.QueueLemmas.{IsFlushed, flushed_on, front_there}
@@ -12,8 +12,8 @@ use Rattle.event_queue.proofs.queue.EventQueue.flush.Goals.{in-Some+then-survive
 
 pub loop-preserved : goal.loop-preserved
 loop-preserved c =
-    let test = selected c.args.mask in
-    let stop = selected c.args.stop in
+    let test = is_selected c.args.mask in
+    let stop = is_selected c.args.stop in
     let all = c.args.self.now.events in
     let at = c.loop.counter in
     let items = c.self-in-loop.inside.events.items in

@@ -3,7 +3,7 @@ use Rattle.std.specs.Option.{is_some}
 use Rattle.std.proofs.lemmas.Bool.{false≢true}
 use Rattle.circular_buffer.specs.Buffer.{Buffer}
 use Rattle.event_queue.specs.declared.event.Event.{Event}
-use Rattle.event_queue.specs.Events.{selected}
+use Rattle.event_queue.specs.Events.{is_selected}
 use Rattle.event_queue.specs.Queues.{Queue, added, without_first}
 use Rattle.event_queue.proofs.QueueLemmas.{IsSearched, searched_on, searched_out, front_there}
 use Rattle.event_queue.proofs.queue.EventQueue.take_first.Goals as goal
@@ -11,7 +11,7 @@ use Rattle.event_queue.proofs.queue.EventQueue.take_first.Goals.{in-Some+then-st
 
 pub loop-preserved : goal.loop-preserved
 loop-preserved c =
-    let test = selected c.args.mask in
+    let test = is_selected c.args.mask in
     let all = c.args.self.now.events in
     let at = c.loop.counter in
     let items = c.self-in-loop.inside.events.items in

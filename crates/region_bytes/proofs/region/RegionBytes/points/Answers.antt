@@ -1,7 +1,7 @@
 use Rattle.std.proofs.Common.{List, ap, ◌∙◌, sym, subst}
 use Rattle.tb_geom.specs.declared.point.Point.{Point}
 use Rattle.region_bytes.specs.Points.{inverted}
-use Rattle.region_bytes.specs.Walk.{IsDown}
+use Rattle.region_bytes.specs.Points.{IsDown}
 use Rattle.region_bytes.proofs.Pointed.{rect_points, rect_down, rows_points, rows_down}
 use Rattle.region_bytes.proofs.region.RegionBytes.points.Goals as goal
 

@@ -2,7 +2,8 @@ use Rattle.std.proofs.Common.{rules, ◌++◌, ◌<ℤ◌, ◌≤ℤ◌, ◌+ℤ
 use Rattle.std.proofs.lemmas.Int.{ints, to_z-of_z}
 use Rattle.scan_region.specs.Cuts.{cut_holds}
 use Rattle.scan_region.specs.Walks.{rows_runs, count_to}
-use Rattle.scan_region.proofs.WalkRuns.{rows-more, rows-end, rows-less, fits_next}
+use Rattle.tb_geom.proofs.Steps.{fits_next}
+use Rattle.scan_region.proofs.WalkRuns.{rows-more, rows-end, rows-less}
 use Rattle.scan_region.proofs.cut_spans.CutSpansIterator.next.Goals as goal
 
 pub returns-then-self-clause-steps : goal.returns-then-self-clause-steps

@@ -1,10 +1,11 @@
 use Rattle.std.proofs.Common.{◌≡◌, true, sym, ap, ◌∙◌}
 use Rattle.looks.specs.Letters.{lettering}
-use Rattle.std_wdef.proofs.Hearing.{std_hears, kept_title}
+use Rattle.def_iface.proofs.KeptLemmas.{kept_title}
+use Rattle.std_wdef.proofs.Hearing.{std_hears}
 use Rattle.std_wdef.proofs.std_window.StdWindowWindowDef.told.Goals as goal
 
 pub returns-clause-heard : goal.returns-clause-heard
-returns-clause-heard c = rw c.after.ensures (rw c.title_after-title.ensures (rw c.size_after.ensures (std_hears c.args.change c.args.self.now)))
+returns-clause-heard c = rw c.flags_after.ensures (rw c.title_after-title.ensures (rw c.size_after.ensures (std_hears c.args.change c.args.self.now)))
 
 pub returns-clause-damage : goal.returns-clause-damage
 returns-clause-damage c = λ font p plane out.

@@ -1,6 +1,6 @@
 use Rattle.std.proofs.Common.{◌≡◌, ◌+◌, ◌∷◌, Bool, true, false, List, length, if◌then◌else◌, map, ap, ◌∙◌, Some, refl, arith}
 use Rattle.std.proofs.lemmas.List.{length-map}
-use Rattle.window_list.specs.Lists.{dimmed, number_after}
+use Rattle.window_list.specs.Lists.{dimmed, serial_after}
 use Rattle.window_mgr.specs.Effects.{new_record}
 use Rattle.window_mgr.proofs.NewWindowLemmas.{settled_added, begun_as}
 use Rattle.window_mgr.proofs.manager.WindowManager.add_window.Goals as goal
@@ -41,5 +41,5 @@ returns g c =
       font = rw c.commit.ensures.others refl;
       gray = rw c.commit.ensures.others refl;
       active = ap (λ t. t.windows.active) c.commit.ensures.others ∙ ap (λ l. l.active) c.add.ensures ∙ (λ i. if c.record_for-added.ensures.shown i then Some (c.record_for-added.ensures.serial i) else c.args.self.now.windows.active);
-      next = ap (λ t. t.windows.next) c.commit.ensures.others ∙ ap (λ l. l.next) c.add.ensures ∙ ap number_after c.record_for-added.ensures.serial;
+      next = ap (λ t. t.windows.next) c.commit.ensures.others ∙ ap (λ l. l.next) c.add.ensures ∙ ap serial_after c.record_for-added.ensures.serial;
     }

@@ -15,13 +15,11 @@ paint_picture-requires-clause-placed g c = (settled_there _ c.args.self.now c.re
 pub paint_picture-requires-clause-origin : goal.paint_picture-requires-clause-origin
 paint_picture-requires-clause-origin g c = (settled_there _ c.args.self.now c.requires.kept c.args.at c.at.result.now c.requires.at c.at.ensures).origin
 
-pub index_mut-requires : goal.index_mut-requires
-index_mut-requires g c =
-    let low = area_there _ c.args.self.now c.requires.kept c.args.at c.requires.at in
-    let long = c.args.self.now.areas.ok.0 in
-    omega arith
+pub put_update-requires : goal.put_update-requires
+put_update-requires g c = area_there _ c.args.self.now c.requires.kept c.args.at c.requires.at
 
 pub returns : goal.returns
 returns g c w there slots whole =
-    refreshed _ c.args.self.now slots whole c.args.at c.requires.at w there c.index_mut.result.now c.index_mut.ensures.value c.empty.result c.empty.ensures
-    c.paint_picture.new.map c.index.result.now c.index.ensures c.at.result.now c.at.ensures c.paint_picture.ensures
+    rw c.put_update.ensures.state (
+    refreshed _ c.args.self.now slots whole c.args.at c.requires.at w there c.put_update.ensures.area c.put_update.ensures.there c.empty.result c.empty.ensures
+    c.paint_picture.new.map c.index.result.now c.index.ensures c.at.result.now c.at.ensures c.paint_picture.ensures)

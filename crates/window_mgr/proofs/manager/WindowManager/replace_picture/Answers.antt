@@ -9,14 +9,11 @@ index-requires g c =
     let long = c.args.self.now.areas.ok.0 in
     omega arith
 
-pub index_mut-requires : goal.index_mut-requires
-index_mut-requires g c =
-    let low = steps.area_low _ c.args.self.now c.requires.kept c.args.at _ c.requires.at in
-    let long = c.args.self.now.areas.ok.0 in
-    omega arith
+pub put_update-requires : goal.put_update-requires
+put_update-requires g c = steps.area_low _ c.args.self.now c.requires.kept c.args.at _ c.requires.at
 
 pub returns-clause-set : goal.returns-clause-set
 returns-clause-set g c =
-    steps.is_picture_at _ c.args.self.now c.requires.kept c.args.at _ c.requires.at c.args.new.now c.index.result.now c.index_mut.result.now c.in_ok-update.update c.index.ensures c.index_mut.ensures.value c.in_ok-update.ensures _
+    rw c.put_update.ensures.state (steps.is_picture_at _ c.args.self.now c.requires.kept c.args.at _ c.requires.at c.args.new.now c.index.result.now c.put_update.ensures.area c.in_ok-update.update c.index.ensures c.put_update.ensures.there c.in_ok-update.ensures _
     (c.set_picture.ensures ∙ ap (λ picture. record c.args.self.now.windows { records = edit_at (with_picture picture c.args.new.now.origin) c.args.at c.args.self.now.windows.records }) c.in_ok-picture.ensures)
-    refl refl
+    refl refl)

@@ -10,13 +10,13 @@ pub area-requires : goal.area-requires
 area-requires g c = area_low _ c.args.windows.now c.requires.kept c.in-Some.at c.in-Some.ensures.0
 
 pub seen_from-requires-clause-place : goal.seen_from-requires-clause-place
-seen_from-requires-clause-place g c = (settled _ c.args.windows.now c.requires.kept c.in-Some.at c.in-Some.ensures.0 c.at.result.now (c.at.ensures ∙ ap (λ (l : WindowList _ _). slice_index_or l.records.items c.in-Some.at c.at.result.now) c.parts.ensures.windows)).placed
+seen_from-requires-clause-place g c = (settled _ c.args.windows.now c.requires.kept c.in-Some.at c.in-Some.ensures.0 c.at.result.now (c.at.ensures ∙ ap (λ (l : WindowList _ _). slice_index_or l.records.items c.in-Some.at c.at.result.now) c.list.ensures)).placed
 
 pub seen_from-requires-clause-there : goal.seen_from-requires-clause-there
-seen_from-requires-clause-there g c = λ p e. seen_in _ c.args.windows.now c.requires.kept c.in-Some.at c.in-Some.ensures.0 c.at.result.now c.area.result.now (c.at.ensures ∙ ap (λ (l : WindowList _ _). slice_index_or l.records.items c.in-Some.at c.at.result.now) c.parts.ensures.windows) c.area.ensures p (stale_shows _ c.args.windows.now c.requires.kept c.in-Some.at c.in-Some.ensures.0 c.at.result.now c.area.result.now (c.at.ensures ∙ ap (λ (l : WindowList _ _). slice_index_or l.records.items c.in-Some.at c.at.result.now) c.parts.ensures.windows) c.area.ensures _ e)
+seen_from-requires-clause-there g c = λ p e. seen_in _ c.args.windows.now c.requires.kept c.in-Some.at c.in-Some.ensures.0 c.at.result.now c.area.result.now (c.at.ensures ∙ ap (λ (l : WindowList _ _). slice_index_or l.records.items c.in-Some.at c.at.result.now) c.list.ensures) c.area.ensures p (stale_shows _ c.args.windows.now c.requires.kept c.in-Some.at c.in-Some.ensures.0 c.at.result.now c.area.result.now (c.at.ensures ∙ ap (λ (l : WindowList _ _). slice_index_or l.records.items c.in-Some.at c.at.result.now) c.list.ensures) c.area.ensures _ e)
 
 pub returns-in_default-seen_from-clause-step : goal.returns-in_default-seen_from-clause-step
 returns-in_default-seen_from-clause-step g c = no_memory _ c.args.windows.now c.requires.kept c.args.window c.in-Some.at c.in-Some.ensures (opened c.args.activity.now c.args.self.now)
 
 pub returns-clause-step : goal.returns-clause-step
-returns-clause-step g c = is_begun _ c.args.windows.now c.requires.kept c.args.window c.in-Some.at c.in-Some.ensures (opened c.args.activity.now c.args.self.now) _ c.in-Ok.begun c.at.result.now c.area.result.now (c.at.ensures ∙ ap (λ (l : WindowList _ _). slice_index_or l.records.items c.in-Some.at c.at.result.now) c.parts.ensures.windows) c.area.ensures c.in-Ok.ensures refl
+returns-clause-step g c = is_begun _ c.args.windows.now c.requires.kept c.args.window c.in-Some.at c.in-Some.ensures (opened c.args.activity.now c.args.self.now) _ c.in-Ok.begun c.at.result.now c.area.result.now (c.at.ensures ∙ ap (λ (l : WindowList _ _). slice_index_or l.records.items c.in-Some.at c.at.result.now) c.list.ensures) c.area.ensures c.in-Ok.ensures refl

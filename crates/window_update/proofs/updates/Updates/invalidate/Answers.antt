@@ -13,14 +13,14 @@ returns-in-Err-clause-step g c = λ o. is_refused _ c.args.windows.now o (Invali
 pub returns-clause-step : goal.returns-clause-step
 returns-clause-step g c = λ o.
     let found = c.in-Ok.ensures in
-    is_marked _ c.args.windows.now c.requires.kept c.args.marking.now c.in-Ok.place.at found.0 c.mark.new.windows o Stale (λ slots. found.2) (area_low _ c.args.windows.now c.requires.kept c.in-Ok.place.at found.0.0) c.mark.result c.mark.ensures
+    is_marked _ c.args.windows.now c.requires.kept c.args.marking.now c.in-Ok.target.at found.0 c.mark.new.windows o Stale (λ slots. found.2) (area_low _ c.args.windows.now c.requires.kept c.in-Ok.target.at found.0.0) c.mark.result c.mark.ensures
 
 pub returns-clause-width : goal.returns-clause-width
 returns-clause-width g c =
     let found = c.in-Ok.ensures in
-    (sides_stay _ c.args.windows.now c.requires.kept c.args.marking.now c.in-Ok.place.at found.0 c.mark.new.windows (opened Idle c.args.self.now) Stale c.mark.result c.mark.ensures).0
+    (sides_stay _ c.args.windows.now c.requires.kept c.args.marking.now c.in-Ok.target.at found.0 c.mark.new.windows (opened Idle c.args.self.now) Stale c.mark.result c.mark.ensures).0
 
 pub returns-clause-height : goal.returns-clause-height
 returns-clause-height g c =
     let found = c.in-Ok.ensures in
-    (sides_stay _ c.args.windows.now c.requires.kept c.args.marking.now c.in-Ok.place.at found.0 c.mark.new.windows (opened Idle c.args.self.now) Stale c.mark.result c.mark.ensures).1
+    (sides_stay _ c.args.windows.now c.requires.kept c.args.marking.now c.in-Ok.target.at found.0 c.mark.new.windows (opened Idle c.args.self.now) Stale c.mark.result c.mark.ensures).1

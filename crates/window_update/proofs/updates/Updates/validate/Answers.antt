@@ -19,16 +19,16 @@ pub returns-then-not-is_right-clause-step : goal.returns-then-not-is_right-claus
 returns-then-not-is_right-clause-step g c = λ o.
     let found = c.in-Ok.ensures in
     is_refused _ c.args.windows.now o (Validate c.args.marking.now) StalePixels
-    (λ slots. inl (wrong_pixels _ c.args.windows.now c.requires.kept c.args.marking.now c.in-Ok.place.at found.0 (judged_set c.in-Ok.place.area) found.1 slots found.2 c.is_right.result c.is_right.ensures.right c.if-not-is_right.true))
+    (λ slots. inl (wrong_pixels _ c.args.windows.now c.requires.kept c.args.marking.now c.in-Ok.target.at found.0 (judged_set c.in-Ok.target.area) found.1 slots found.2 c.is_right.result c.is_right.ensures.right c.if-not-is_right.true))
 
 pub returns-clause-step : goal.returns-clause-step
 returns-clause-step g c = λ o.
     let found = c.in-Ok.ensures in
-    is_marked _ c.args.windows.now c.requires.kept c.args.marking.now c.in-Ok.place.at found.0 c.mark.new.windows o Right
-    (λ slots. right_pixels _ c.args.windows.now c.requires.kept c.args.marking.now c.in-Ok.place.at found.0 (judged_set c.in-Ok.place.area) found.1 slots found.2 c.is_right.result c.is_right.ensures.right c.if-not-is_right.false)
-    (area_low _ c.args.windows.now c.requires.kept c.in-Ok.place.at found.0.0) c.mark.result c.mark.ensures
+    is_marked _ c.args.windows.now c.requires.kept c.args.marking.now c.in-Ok.target.at found.0 c.mark.new.windows o Right
+    (λ slots. right_pixels _ c.args.windows.now c.requires.kept c.args.marking.now c.in-Ok.target.at found.0 (judged_set c.in-Ok.target.area) found.1 slots found.2 c.is_right.result c.is_right.ensures.right c.if-not-is_right.false)
+    (area_low _ c.args.windows.now c.requires.kept c.in-Ok.target.at found.0.0) c.mark.result c.mark.ensures
 
 pub returns-clause-whole : goal.returns-clause-whole
 returns-clause-whole g c =
-    let sides = sides_stay _ c.args.windows.now c.requires.kept c.args.marking.now c.in-Ok.place.at c.in-Ok.ensures.0 c.mark.new.windows (opened Idle c.args.self.now) Right c.mark.result c.mark.ensures in
+    let sides = sides_stay _ c.args.windows.now c.requires.kept c.args.marking.now c.in-Ok.target.at c.in-Ok.ensures.0 c.mark.new.windows (opened Idle c.args.self.now) Right c.mark.result c.mark.ensures in
     record { width = c.is_right.ensures.whole.width ∙ sym sides.0; height = c.is_right.ensures.whole.height ∙ sym sides.1 }

@@ -1,0 +1,3 @@
+-- Lemmas on settings and on parts.
+pub mod SettingLemmas
+pub mod PartLemmas

@@ -1,0 +1,3 @@
+-- Lemmas on rows of cells.
+pub mod RowLemmas
+pub mod GridLemmas

@@ -1,0 +1,24 @@
+//! The cells of a list, and which of them are selected (*Inside Macintosh* IV, "The List Manager Package").
+//!
+//! `ListCells` has columns and rows of cells. A cell holds bytes, its data, is selected or not, and is named by its column and
+//! its row, both counted from 0. The cells lie by rows, that of column c and row r at the place r times the number of columns
+//! and c more, and there is one for each column and row. Rows and columns are put in and taken out (LAddRow, LAddColumn,
+//! LDelRow, LDelColumn), data is set, added to, cleared, read and searched (LSetCell, LAddToCell, LClrCell, LGetCell, LSearch),
+//! and cells are selected and asked for (LSetSelect, LGetSelect, LNextCell). `SelectionFlags::click` says what a click on a cell
+//! does to the selection (LClick). No window, no rectangle and no drawing is known here.
+//!
+//! A call that is refused has changed nothing. What may need memory takes all of it before it changes anything; an empty cell
+//! takes none besides its place.
+#![tactic(auto)]
+
+mod cell;
+mod click;
+mod content;
+mod lines;
+mod list;
+mod runs;
+mod selection;
+
+pub use cell::Cell;
+pub use click::{Click, ClickKeys, SelectionFlags};
+pub use list::ListCells;

@@ -1,0 +1,117 @@
+//! Which cells are selected, and the first cells that are or that hold some bytes.
+ghost use Rattle.std.specs.Prelude.{◌≡◌, ◌<◌, ◌+◌, ◌*◌, ◌&&◌, None, Some, length, IfOk, IfErr, is_ok, if◌then◌else◌};
+ghost use Rattle.std.specs.Option.{option_map, ForSome};
+ghost use Rattle.std.specs.Str.{bytes_eq};
+ghost use Rattle.tb_geom.specs.Refusals.{first_refusal};
+ghost use Rattle.list_cells.specs.Grids.{search_refusals, is_cell, content_of, cell_of, with_selection, deselected, first_from, next_cell};
+
+use crate::cell::Cell;
+use crate::content::{deselect, first_holding, first_selected};
+use crate::list::{ListCells, MOST_TEXT};
+use tb_geom::Refusal;
+
+impl ListCells {
+    /// Whether a cell is selected (LGetSelect). NoSuchCell exactly where the list has no such cell.
+    pub fn is_selected(&self, cell: Cell) -> Result<bool, Refusal>
+        ensures selected { IfOk result (λ selected. selected ≡ (content_of self.now cell).selected) }
+        ensures found { is_ok result ≡ is_cell self.now cell }
+        ensures refused { IfErr result (λ e. e ≡ Refusal.NoSuchCell) }
+    {
+        let place = self.place(cell)?;
+        Ok(self.contents[place].is_selected())
+    }
+
+    /// The first selected cell from a cell on, by rows, itself included, if there is one (LGetSelect with its flag `next`).
+    /// NoSuchCell exactly where the list has no such cell.
+    pub fn first_selected(&self, from: Cell) -> Result<Option<Cell>, Refusal>
+        ensures first { IfOk result (λ first. first ≡ first_from (λ c. c.selected) self.now from) }
+        ensures found { is_ok result ≡ is_cell self.now from }
+        ensures refused { IfErr result (λ e. e ≡ Refusal.NoSuchCell) }
+    {
+        let place = self.place(from)?;
+        Ok(self.far_cell(place, first_selected(&self.contents[place..])))
+    }
+
+    /// The first cell from a cell on, by rows, itself included, that holds just these bytes, if there is one (LSearch).
+    /// NoSuchCell where the list has no such cell, TooLong where the text is longer than 255 bytes.
+    #[tactic(auto, unfolding(crate::specs::Grids::search_refusals))]
+    pub fn search(&self, from: Cell, text: &[u8]) -> Result<Option<Cell>, Refusal>
+        ensures first { IfOk result (λ first. first ≡ first_from (λ c. bytes_eq c.bytes text.now) self.now from) }
+        ensures allowed { IfOk result (λ _. first_refusal (search_refusals self.now from (length text.now)) ≡ None) }
+        ensures refused { IfErr result (λ e. first_refusal (search_refusals self.now from (length text.now)) ≡ Some e) }
+    {
+        let place = self.place(from)?;
+        if text.len() > MOST_TEXT {
+            return Err(Refusal::TooLong);
+        }
+        Ok(self.far_cell(place, first_holding(&self.contents[place..], text)))
+    }
+
+    /// The cell that lies so far behind a place, if there is one.
+    fn far_cell(&self, place: usize, far: Option<usize>) -> Option<Cell>
+        requires { ForSome far (λ far. place + far < self.now.rows * self.now.columns) }
+        ensures { result ≡ option_map (λ far. cell_of self.now (place + far)) far }
+    {
+        match far {
+            Some(far) => Some(self.cell_at(place, far)),
+            None => None,
+        }
+    }
+
+    /// The cell that lies so far behind a place.
+    fn cell_at(&self, place: usize, far: usize) -> Cell
+        requires { place + far < self.now.rows * self.now.columns }
+        ensures { result ≡ cell_of self.now (place + far) }
+    {
+        let columns = self.columns;
+        let place = place + far;
+        Cell {
+            column: (place % columns) as i32,
+            row: (place / columns) as i32,
+        }
+    }
+
+    /// The cell that follows a cell: by rows where both flags say so, in its row for the first flag alone and in its column for
+    /// the second alone; none after the last one, and none for neither flag (LNextCell). NoSuchCell exactly where the list has
+    /// no such cell.
+    pub fn next_cell(&self, cell: Cell, across: bool, down: bool) -> Result<Option<Cell>, Refusal>
+        ensures next { IfOk result (λ next. next ≡ next_cell self.now across down cell) }
+        ensures found { is_ok result ≡ is_cell self.now cell }
+        ensures refused { IfErr result (λ e. e ≡ Refusal.NoSuchCell) }
+    {
+        let _place = self.place(cell)?;
+        Ok(match (across, down) {
+            (true, true) => self.present(cell.right()).or(self.present(cell.next_row())),
+            (true, false) => self.present(cell.right()),
+            (false, true) => self.present(cell.below()),
+            (false, false) => None,
+        })
+    }
+
+    /// The cell, where the list has it.
+    fn present(&self, cell: Cell) -> Option<Cell>
+        ensures { result ≡ (if is_cell self.now cell then Some cell else None) }
+    {
+        match self.place(cell) {
+            Ok(_) => Some(cell),
+            Err(_) => None,
+        }
+    }
+
+    /// Selects a cell, or deselects it (LSetSelect). Where `alone` says so and it is selected, all others are deselected.
+    /// NoSuchCell exactly where the list has no such cell.
+    pub fn select(&mut self, cell: Cell, selected: bool, alone: bool) -> Result<(), Refusal>
+        ensures cells { self.new ≡ (if is_cell self.old cell
+            then with_selection (if selected && alone then deselected self.old else self.old) cell selected else self.old) }
+        ensures found { is_ok result ≡ is_cell self.old cell }
+        ensures refused { IfErr result (λ e. e ≡ Refusal.NoSuchCell) }
+    {
+        let place = self.place(cell)?;
+        if selected && alone {
+            deselect(&mut self.contents);
+        }
+        let content = &mut self.contents[place];
+        content.select(selected);
+        Ok(())
+    }
+}

@@ -1,0 +1,151 @@
+//! The cells of lists: rows and columns put in and taken out, data, and selections.
+
+use list_cells::{Cell, Click, ClickKeys, ListCells, SelectionFlags};
+use std::test::Fail;
+use tb_geom::Refusal;
+
+/// A cell, by its column and its row.
+macro_rules! cell {
+    ($column:expr, $row:expr) => {
+        Cell {
+            column: $column,
+            row: $row,
+        }
+    };
+}
+
+#[test]
+fn cells_move_with_their_rows_and_columns(rt: HostRuntime) -> Result<(), Fail> {
+    let mut list = ListCells::new(rt.alloc(), 2, 2)?;
+    list.set_cell(cell!(0, 0), b"a")?;
+    list.set_cell(cell!(1, 0), b"b")?;
+    list.set_cell(cell!(0, 1), b"c")?;
+    list.set_cell(cell!(1, 1), b"d")?;
+    assert!(rt; list.add_rows(1, 1) == Ok(1) && list.add_columns(2, 9) == Ok(2));
+    assert!(rt; list.rows() == 3 && list.columns() == 4);
+    assert!(rt; list.cell(cell!(1, 0)) == Ok(b"b") && list.cell(cell!(1, 2)) == Ok(b"d"));
+    assert!(rt; list.cell(cell!(0, 1)) == Ok(b"") && list.cell(cell!(3, 2)) == Ok(b""));
+    assert!(rt; list.delete_columns(1, 0) == Ok(()) && list.delete_rows(4096, 1) == Ok(()));
+    assert!(rt; list.rows() == 1 && list.columns() == 3 && list.cell(cell!(0, 0)) == Ok(b"b"));
+    Ok(())
+}
+
+#[test]
+fn rows_are_refused_in_the_written_order(rt: HostRuntime) -> Result<(), Fail> {
+    let mut list = ListCells::new(rt.alloc(), 1, 3)?;
+    assert!(rt; list.add_rows(5000, -1) == Err(Refusal::NoSuchCell));
+    assert!(rt; list.add_rows(5000, 0) == Err(Refusal::OutOfRange));
+    assert!(rt; list.add_rows(4094, 99) == Err(Refusal::TooMany));
+    assert!(rt; list.delete_rows(5000, 3) == Err(Refusal::NoSuchCell));
+    assert!(rt; list.delete_rows(0, 2) == Err(Refusal::OutOfRange));
+    assert!(rt; list.add_columns(4096, 0) == Err(Refusal::TooMany));
+    assert!(rt; list.delete_columns(1, 1) == Err(Refusal::NoSuchCell));
+    assert!(rt; ListCells::new(rt.alloc(), 4097, 0).err() == Some(Refusal::OutOfRange));
+    assert!(rt; ListCells::new(rt.alloc(), 64, 65).err() == Some(Refusal::TooMany));
+    Ok(())
+}
+
+#[test]
+fn cells_hold_32000_bytes(rt: HostRuntime) -> Result<(), Fail> {
+    let mut list = ListCells::new(rt.alloc(), 1, 3)?;
+    let longest = [b'x'; 255];
+    for _ in 0..125 {
+        list.add_to_cell(cell!(0, 0), &longest)?;
+    }
+    list.add_to_cell(cell!(0, 0), &longest[..125])?;
+    assert!(rt; list.add_to_cell(cell!(0, 0), b"x") == Err(Refusal::TooLong));
+    assert!(rt; list.set_cell(cell!(0, 2), b"z") == Err(Refusal::TooLong));
+    assert!(rt; list.set_cell(cell!(0, 3), b"z") == Err(Refusal::NoSuchCell));
+    list.clear_cell(cell!(0, 0))?;
+    assert!(rt; list.set_cell(cell!(0, 2), &[b'x'; 256]) == Err(Refusal::TooLong));
+    list.set_cell(cell!(0, 2), b"zz")?;
+    assert!(rt; list.cell(cell!(0, 2)) == Ok(b"zz") && list.cell(cell!(0, 0)) == Ok(b""));
+    Ok(())
+}
+
+#[test]
+fn cells_are_selected_and_searched_by_rows(rt: HostRuntime) -> Result<(), Fail> {
+    let mut list = ListCells::new(rt.alloc(), 2, 3)?;
+    list.set_cell(cell!(1, 1), b"abc")?;
+    list.select(cell!(0, 1), true, false)?;
+    list.select(cell!(1, 2), true, false)?;
+    assert!(rt;
+        list.is_selected(cell!(0, 1)) == Ok(true) && list.is_selected(cell!(1, 1)) == Ok(false)
+    );
+    assert!(rt; list.first_selected(cell!(1, 0)) == Ok(Some(cell!(0, 1))));
+    assert!(rt; list.first_selected(cell!(1, 1)) == Ok(Some(cell!(1, 2))));
+    list.select(cell!(0, 2), true, true)?;
+    assert!(rt; list.first_selected(cell!(0, 0)) == Ok(Some(cell!(0, 2))));
+    assert!(rt; list.first_selected(cell!(1, 2)) == Ok(None));
+    assert!(rt;
+        list.search(cell!(0, 0), b"abc") == Ok(Some(cell!(1, 1)))
+            && list.search(cell!(0, 0), b"ab") == Ok(None)
+    );
+    assert!(rt; list.search(cell!(1, 1), b"") == Ok(Some(cell!(0, 2))));
+    Ok(())
+}
+
+/// Cells of 2 columns and 3 rows, whether the cell in the row and the one in the column is wanted, and which one follows.
+const NEXT: [(Cell, bool, bool, Option<Cell>); 7] = [
+    (cell!(0, 1), true, true, Some(cell!(1, 1))),
+    (cell!(1, 1), true, true, Some(cell!(0, 2))),
+    (cell!(1, 2), true, true, None),
+    (cell!(1, 1), true, false, None),
+    (cell!(0, 1), false, true, Some(cell!(0, 2))),
+    (cell!(0, 2), false, true, None),
+    (cell!(0, 0), false, false, None),
+];
+
+#[test]
+fn cells_follow_each_other(rt: HostRuntime) -> Result<(), Fail> {
+    let list = ListCells::new(rt.alloc(), 2, 3)?;
+    for (cell, across, down, next) in NEXT {
+        assert!(rt; list.next_cell(cell, across, down) == Ok(next));
+    }
+    assert!(rt; list.next_cell(cell!(2, 0), true, true) == Err(Refusal::NoSuchCell));
+    Ok(())
+}
+
+/// Flags of lists: none, lOnlyOne, lNoExtend, lUseSense, and the last two.
+const PLAIN: SelectionFlags = SelectionFlags {
+    only_one: false,
+    no_extend: false,
+    use_sense: false,
+    no_nil_hilite: false,
+};
+
+const ONLY_ONE: SelectionFlags = SelectionFlags {
+    only_one: true,
+    ..PLAIN
+};
+
+const NO_EXTEND: SelectionFlags = SelectionFlags {
+    no_extend: true,
+    ..PLAIN
+};
+
+const USE_SENSE: SelectionFlags = SelectionFlags {
+    use_sense: true,
+    ..PLAIN
+};
+
+/// Flags, whether the Command key and the Shift key are down, whether the cell is selected, and what a click does.
+const CLICKS: [(SelectionFlags, bool, bool, bool, Click); 10] = [
+    (PLAIN, false, false, true, Click::SelectsAlone),
+    (PLAIN, true, false, false, Click::Toggles),
+    (PLAIN, true, true, true, Click::Toggles),
+    (PLAIN, false, true, true, Click::Extends),
+    (ONLY_ONE, true, false, true, Click::SelectsAlone),
+    (ONLY_ONE, false, true, false, Click::SelectsAlone),
+    (NO_EXTEND, false, true, false, Click::SelectsAlone),
+    (NO_EXTEND, true, false, false, Click::Toggles),
+    (USE_SENSE, false, true, true, Click::Deselects),
+    (USE_SENSE, false, true, false, Click::Extends),
+];
+
+#[test]
+fn clicks_select_by_flags_and_keys(rt: HostRuntime) {
+    for (flags, command, shift, selected, click) in CLICKS {
+        assert!(rt; flags.click(ClickKeys { command, shift }, selected) == click);
+    }
+}

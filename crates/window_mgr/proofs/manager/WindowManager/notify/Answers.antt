@@ -1,0 +1,48 @@
+use Rattle.std.proofs.Common.{arith}
+use Rattle.window_mgr.proofs.EditSeats.{there_is}
+use Rattle.window_mgr.proofs.FrameTold as telling
+use Rattle.window_mgr.proofs.Remarked.{area_there, settled_there}
+use Rattle.window_mgr.proofs.PlacementCalls.{read_at}
+use Rattle.window_mgr.proofs.manager.WindowManager.notify.Goals as goal
+
+pub notify-damage-requires-clause-live : goal.notify-damage-requires-clause-live
+notify-damage-requires-clause-live g c =
+    let found = there_is c.args.self.now.windows.records.items c.args.at c.requires.at in
+    rw (read_at c.args.self.now.windows.records.items c.args.at found.0 c.requires.at found.1)
+    (settled_there _ c.args.self.now c.requires.kept c.args.at found.0 c.requires.at found.1).live
+
+pub notify-damage-requires-clause-fits : goal.notify-damage-requires-clause-fits
+notify-damage-requires-clause-fits g c =
+    let found = there_is c.args.self.now.windows.records.items c.args.at c.requires.at in
+    let its = settled_there _ c.args.self.now c.requires.kept c.args.at found.0 c.requires.at found.1 in
+    rw (read_at c.args.self.now.windows.records.items c.args.at found.0 c.requires.at found.1) (rw its.told its.fits)
+
+pub index-requires : goal.index-requires
+index-requires g c =
+    let low = area_there _ c.args.self.now c.requires.kept c.args.at c.requires.at in
+    let long = c.args.self.now.areas.ok.0 in
+    omega arith
+
+pub at-requires : goal.at-requires
+at-requires g c =
+    let found = there_is c.args.self.now.windows.records.items c.args.at c.requires.at in
+    let told = rw (read_at c.args.self.now.windows.records.items c.args.at found.0 c.requires.at found.1) at c.notify-damage.ensures.told in
+    telling.still_low _ c.requires.at told
+
+pub draw_frame-requires-clause-settled : goal.draw_frame-requires-clause-settled
+draw_frame-requires-clause-settled g c =
+    let found = there_is c.args.self.now.windows.records.items c.args.at c.requires.at in
+    let told = rw (read_at c.args.self.now.windows.records.items c.args.at found.0 c.requires.at found.1) at c.notify-damage.ensures.told in
+    telling.drawn_settled _ c.args.self.now c.requires.kept.slots c.requires.kept.whole c.args.at c.requires.at found.0 found.1 c.args.change c.requires.size c.notify-damage.result c.notify-damage.new.self told c.at.result.now c.at.ensures
+
+pub draw_frame-requires-clause-inside : goal.draw_frame-requires-clause-inside
+draw_frame-requires-clause-inside g c =
+    let found = there_is c.args.self.now.windows.records.items c.args.at c.requires.at in
+    let told = rw (read_at c.args.self.now.windows.records.items c.args.at found.0 c.requires.at found.1) at c.notify-damage.ensures.told in
+    telling.drawn_within _ c.args.self.now c.requires.kept.slots c.requires.kept.whole c.args.at c.requires.at found.0 found.1 c.args.change c.requires.size c.notify-damage.result c.notify-damage.new.self told c.at.result.now c.at.ensures c.index.result.now c.index.ensures
+
+pub returns : goal.returns
+returns g c w there slots whole =
+    let told = rw (read_at c.args.self.now.windows.records.items c.args.at w c.requires.at there) at c.notify-damage.ensures.told in
+    telling.frame_told_by _ c.args.self.now slots whole c.args.at c.requires.at w there c.args.change c.requires.size c.notify-damage.result c.notify-damage.new.self told c.at.result.now c.at.ensures c.index.result.now c.index.ensures
+    c.draw_frame.new.map c.draw_frame.ensures.drawn c.draw_frame.ensures.near c.notify-damage.ensures.others

@@ -1,0 +1,6 @@
+pub mod Drawings
+pub mod FrameWords
+pub mod Names
+pub mod UpdateWords
+pub mod WindowLines
+pub mod WindowWords
