@@ -42,15 +42,38 @@
 //! they are told, `stock` the slots, `taken` the definition out of its slot, and `laws` the two laws.
 #![tactic(auto)]
 
+mod control_def;
+mod control_keeping;
+mod control_stock;
 mod keeping;
 pub mod laws;
+mod list_def;
+mod list_stock;
+mod menu_def;
+mod menu_stock;
 mod size;
+mod slots;
 mod stock;
 mod taken;
+mod taken_control;
+mod taken_list;
+mod taken_menu;
 mod window_def;
+mod window_stock;
 
+pub use control_def::{ControlChange, ControlDef};
+pub use control_keeping::KeptControl;
+pub use control_stock::{ControlStock, ReturnedControl, StockedControls};
 pub use keeping::Flags;
+pub use list_def::{ListChange, ListDef};
+pub use list_stock::{ListStock, ReturnedList, StockedLists};
+pub use menu_def::{MenuChange, MenuDef};
+pub use menu_stock::{MenuStock, ReturnedMenu, StockedMenus};
 pub use size::Size;
-pub use stock::{Returned, Stock, Stocked};
+pub use stock::Stock;
 pub use taken::{Defined, Taken};
+pub use taken_control::{DefinedControl, TakenControl};
+pub use taken_list::{DefinedList, TakenList};
+pub use taken_menu::{DefinedMenu, TakenMenu};
 pub use window_def::{Hit, Stage, WindowChange, WindowDef, WindowRegions};
+pub use window_stock::{Returned, Stocked, WindowStock};
