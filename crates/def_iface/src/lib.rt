@@ -32,24 +32,28 @@
 //! gives to pixels outside its frame.
 //!
 //! Two laws say what all of this is for. The desk as plain data is a stack of layers: the desktop, the
-//! windows from back to front, each a frame and content layers on it, and the menu bar. The first law:
+//! windows from back to front, each a frame and content layers on it, and the menu bar. A window may
+//! have any number of content layers; `Part` says which one is meant, its picture, a control or a list. The first law:
 //! painting all of it from nothing, back to front, gives each pixel the value of its owner, the one
 //! layer to which the pixel belongs. The second: a call that moves, uncovers or draws pixels, and does
 //! so soundly, keeps a right screen right, where right means that each pixel which waits for no update
 //! has the very value that painting from nothing would give it.
 //!
-//! Modules: `size` has the sizes of windows, `window_def` the trait, `keeping` what most definitions keep of what
-//! they are told, `stock` the slots, `taken` the definition out of its slot, and `laws` the two laws.
+//! Modules: `size` has the sizes of windows, `part` the layers of a window's content, `window_def` the trait,
+//! `keeping` what most definitions keep of what they are told, `stock` the slots, `taken` the definition out
+//! of its slot, and `laws` the two laws.
 #![tactic(auto)]
 
 mod keeping;
 pub mod laws;
+mod part;
 mod size;
 mod stock;
 mod taken;
 mod window_def;
 
 pub use keeping::Flags;
+pub use part::Part;
 pub use size::Size;
 pub use stock::{Returned, Stock, Stocked};
 pub use taken::{Defined, Taken};
