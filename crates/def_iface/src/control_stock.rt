@@ -54,7 +54,11 @@ impl ControlStock {
 
     /// Adds a slot for the kind, behind all others, with a Fresh definition in it. Where memory is
     /// refused the definition comes back and the slots are as they were.
-    pub fn add(&mut self, kind: &[u8], definition: Box<dyn ControlDef>) -> Result<(), ReturnedControl>
+    pub fn add(
+        &mut self,
+        kind: &[u8],
+        definition: Box<dyn ControlDef>,
+    ) -> Result<(), ReturnedControl>
         requires { (control_meaning definition).stage ≡ Stage.Fresh }
         ensures added { OnOk result (⟦<ControlStock as StockedControls>⟧.control_slots self.new
             ≡ ⟦<ControlStock as StockedControls>⟧.control_slots self.old ++ record { kind = kind.now; held = Some (control_meaning definition) } ∷ []) }
