@@ -228,7 +228,7 @@ impl Toolbox {
     {
         match self.updates.tell(self.activity, call) {
             Some(answer) => answer,
-            None => self.windows.perform(call, stock),
+            None => self.windows.perform(call, &mut stock.windows),
         }
     }
 
@@ -296,7 +296,7 @@ impl Toolbox {
             (⟦<Stock as Stocked>⟧.slots stock.old) (⟦<Stock as Stocked>⟧.slots stock.new) }
     {
         let Toolbox { windows, .. } = self;
-        windows.close(stock);
+        windows.close(&mut stock.windows);
     }
 }
 
@@ -306,7 +306,7 @@ fn form_refusal_of(call: &Call<'_>, stock: &Stock) -> Option<Refusal>
         → IsFormFault call.now before result }
 {
     match call {
-        Call::Window(call) => form_refusal(call, stock),
+        Call::Window(call) => form_refusal(call, &stock.windows),
         Call::Update(call) => update_form_refusal(call),
         Call::Frame(_) | Call::Event(_) => None,
     }

@@ -204,7 +204,7 @@ fn is_known_call(call: &WindowCall<'_>, stock: &Stock) -> bool
     ensures { result ≡ is_known (Command.Call (asks.Window call.now)) (⟦<Stock as Stocked>⟧.slots stock.now) }
 {
     match call {
-        WindowCall::New(window) => stock.has(window.kind.as_slice()),
+        WindowCall::New(window) => stock.windows.has(window.kind.as_slice()),
         _ => true,
     }
 }

@@ -13,7 +13,7 @@ ghost use Rattle.window_mgr.specs.Without.{AreSeatsWithout, IsPlanWithout, IsAct
 use crate::arrange::{Activates, Activation, Rearrangement, front_of};
 use crate::close::put_away;
 use crate::{WindowManager, WindowReply};
-use def_iface::{Defined, Stock, Stocked, Taken};
+use def_iface::{Defined, Stocked, Taken, WindowStock};
 use std::alloc::AllocError;
 use tb_geom::Refusal;
 use vis_update::{Plan, Seat, Touch, plan_of};
@@ -25,13 +25,13 @@ impl WindowManager {
     pub(crate) fn dispose_window(
         &mut self,
         window: u64,
-        stock: &mut Stock,
+        stock: &mut WindowStock,
     ) -> Result<WindowReply, Refusal>
-        requires { IsWholeManager ⟦<Taken as Defined>⟧.loan self.old (⟦<Stock as Stocked>⟧.slots stock.old) }
-        ensures whole { IsWholeManager ⟦<Taken as Defined>⟧.loan self.new (⟦<Stock as Stocked>⟧.slots stock.new) }
+        requires { IsWholeManager ⟦<Taken as Defined>⟧.loan self.old (⟦<WindowStock as Stocked>⟧.slots stock.old) }
+        ensures whole { IsWholeManager ⟦<Taken as Defined>⟧.loan self.new (⟦<WindowStock as Stocked>⟧.slots stock.new) }
         ensures step { IsWindowStep (Dispose window) result
-            (state_of ⟦<Taken as Defined>⟧.loan self.old (⟦<Stock as Stocked>⟧.slots stock.old))
-            (state_of ⟦<Taken as Defined>⟧.loan self.new (⟦<Stock as Stocked>⟧.slots stock.new)) }
+            (state_of ⟦<Taken as Defined>⟧.loan self.old (⟦<WindowStock as Stocked>⟧.slots stock.old))
+            (state_of ⟦<Taken as Defined>⟧.loan self.new (⟦<WindowStock as Stocked>⟧.slots stock.new)) }
     {
         let Some(at) = self.find(window) else {
             return Err(Refusal::NoSuchWindow);

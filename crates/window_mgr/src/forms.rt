@@ -5,13 +5,13 @@ ghost use Rattle.window_mgr.specs.Refused.{IsFormRefusal};
 
 use crate::WindowCall;
 use crate::draw::is_formal;
-use def_iface::{Stock, Stocked};
+use def_iface::{Stocked, WindowStock};
 use tb_geom::Refusal;
 
 /// Why a call is refused whatever is open: it names a kind that the stock does not have, or its bytes
 /// have not their form.
-pub fn form_refusal(call: &WindowCall<'_>, stock: &Stock) -> Option<Refusal>
-    ensures { (desk : FullDesk) → desk.stock ≡ ⟦<Stock as Stocked>⟧.slots stock.now
+pub fn form_refusal(call: &WindowCall<'_>, stock: &WindowStock) -> Option<Refusal>
+    ensures { (desk : FullDesk) → desk.stock ≡ ⟦<WindowStock as Stocked>⟧.slots stock.now
         → IsFormRefusal call.now desk result }
 {
     match call {

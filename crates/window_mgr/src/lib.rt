@@ -12,7 +12,7 @@
 //! own on the screen and what of the content is not yet drawn (`Area`). `Records` reads the desk and its state off it;
 //! `IsWholeManager` (in `Whole`) says that what is kept agrees with the desk. Every call keeps it.
 //!
-//! Definitions wait outside, in a `Stock` that each call is handed. A window's record holds its definition together
+//! Definitions wait outside, in a `WindowStock` that each call is handed. A window's record holds its definition together
 //! with the number of the slot that it came from. Where the window or the desk ends, the definition goes back there, Closed.
 //! A call that leaves the stock alone is a step over any slots with which the windows are whole (`AnySlots`).
 //!

@@ -17,7 +17,7 @@ ghost use Rattle.window_mgr.specs.Whole.{IsWholeManager, IsSettled};
 
 use crate::arrange::if_active;
 use crate::{NewWindow, WindowManager, WindowReply};
-use def_iface::{Defined, Stage, Stock, Stocked, Taken};
+use def_iface::{Defined, Stage, Stocked, Taken, WindowStock};
 use draw_port::Picture;
 use std::alloc::{AllocError, Global};
 use tb_geom::{Point, Refusal};
@@ -47,13 +47,13 @@ impl WindowManager {
     pub(crate) fn new_window(
         &mut self,
         window: &NewWindow<'_>,
-        stock: &mut Stock,
+        stock: &mut WindowStock,
     ) -> Result<WindowReply, Refusal>
-        requires { IsWholeManager ⟦<Taken as Defined>⟧.loan self.old (⟦<Stock as Stocked>⟧.slots stock.old) }
-        ensures whole { IsWholeManager ⟦<Taken as Defined>⟧.loan self.new (⟦<Stock as Stocked>⟧.slots stock.new) }
+        requires { IsWholeManager ⟦<Taken as Defined>⟧.loan self.old (⟦<WindowStock as Stocked>⟧.slots stock.old) }
+        ensures whole { IsWholeManager ⟦<Taken as Defined>⟧.loan self.new (⟦<WindowStock as Stocked>⟧.slots stock.new) }
         ensures step { IsWindowStep (New window.now) result
-            (state_of ⟦<Taken as Defined>⟧.loan self.old (⟦<Stock as Stocked>⟧.slots stock.old))
-            (state_of ⟦<Taken as Defined>⟧.loan self.new (⟦<Stock as Stocked>⟧.slots stock.new)) }
+            (state_of ⟦<Taken as Defined>⟧.loan self.old (⟦<WindowStock as Stocked>⟧.slots stock.old))
+            (state_of ⟦<Taken as Defined>⟧.loan self.new (⟦<WindowStock as Stocked>⟧.slots stock.new)) }
     {
         match stock.take(window.kind.as_slice()) {
             Ok(taken) => match self.plan_window(window, &taken) {

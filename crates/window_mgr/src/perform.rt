@@ -9,7 +9,7 @@ ghost use Rattle.window_mgr.specs.Whole.{IsWholeManager};
 
 use crate::tell::AskedRegion;
 use crate::{Drawing, ShowHide, WindowCall, WindowInfo, WindowManager, WindowReply};
-use def_iface::{Defined, Stock, Stocked, Taken};
+use def_iface::{Defined, Stocked, Taken, WindowStock};
 use std::alloc::AllocError;
 use tb_geom::{Point, Refusal};
 use window_list::Window;
@@ -20,13 +20,13 @@ impl WindowManager {
     pub fn perform(
         &mut self,
         call: &WindowCall<'_>,
-        stock: &mut Stock,
+        stock: &mut WindowStock,
     ) -> Result<WindowReply, Refusal>
-        requires { IsWholeManager ⟦<Taken as Defined>⟧.loan self.old (⟦<Stock as Stocked>⟧.slots stock.old) }
-        ensures whole { IsWholeManager ⟦<Taken as Defined>⟧.loan self.new (⟦<Stock as Stocked>⟧.slots stock.new) }
+        requires { IsWholeManager ⟦<Taken as Defined>⟧.loan self.old (⟦<WindowStock as Stocked>⟧.slots stock.old) }
+        ensures whole { IsWholeManager ⟦<Taken as Defined>⟧.loan self.new (⟦<WindowStock as Stocked>⟧.slots stock.new) }
         ensures step { IsWindowStep call.now result
-            (state_of ⟦<Taken as Defined>⟧.loan self.old (⟦<Stock as Stocked>⟧.slots stock.old))
-            (state_of ⟦<Taken as Defined>⟧.loan self.new (⟦<Stock as Stocked>⟧.slots stock.new)) }
+            (state_of ⟦<Taken as Defined>⟧.loan self.old (⟦<WindowStock as Stocked>⟧.slots stock.old))
+            (state_of ⟦<Taken as Defined>⟧.loan self.new (⟦<WindowStock as Stocked>⟧.slots stock.new)) }
     {
         match call {
             WindowCall::New(window) => self.new_window(window, stock),
