@@ -6,8 +6,10 @@ use Rattle.tb_geom.specs.declared.point.Point.{Point}
 use Rattle.tb_geom.specs.declared.refusal.Refusal.{Refusal}
 use Rattle.tb_geom.specs.declared.refusal.Refusal.TheVariants.{NoSuchWindow}
 use Rattle.tb_geom.specs.Points.{minus}
+use Rattle.draw_port.specs.Ops.{picture_bit}
+use Rattle.def_iface.specs.declared.part.Part.{Part}
 use Rattle.def_iface.specs.Desk as layers
-use Rattle.def_iface.specs.Desk.Part.{Picture}
+use Rattle.def_iface.specs.declared.part.Part.TheVariants.{Picture}
 use Rattle.def_iface.specs.Owner.{content_bit, layer_bit}
 use Rattle.def_iface.specs.Owner.Owner.{Content}
 use Rattle.def_iface.proofs.Owning.{same_number}
@@ -76,7 +78,7 @@ pub record IsSoundArrangement (a : Arrangement) (desk : FullDesk) : Type 0 where
   pub rest : List WindowRecord
   pub edit : IsEdit desk a.window place to old new rest
   pub windows : a.windows ≡ put_in to new rest
-  pub moves : (part : layers.Part) (p : Point) → content_bit (Some (layered_window desk.font old)) part (moved_from a.window a.by (Content a.window part) p) ≡ content_bit (Some (layered_window desk.font new)) part p
+  pub moves : (part : Part) (p : Point) → content_bit (Some (layered_window desk.font old)) part (moved_from a.window a.by (Content a.window part) p) ≡ content_bit (Some (layered_window desk.font new)) part p
 
 -- the content of a window that is put elsewhere moves as it does
 abbrev IsWay : Placing → WindowRecord → Type 0
@@ -122,7 +124,7 @@ module _ (desk : FullDesk) (distinct : layers.IsDesk (layered_desk desk)) (s : �
 
   -- a window that keeps its content where it is
   stays : (a : Arrangement) (j : ℕ) (v : WindowRecord) → a.window ≡ s → a.by ≡ None → v.serial ≡ w.serial → a.windows ≡ put_in j v out.rest
-      → ((part : layers.Part) (p : Point) → content_bit (Some (layered_window desk.font w)) part p ≡ content_bit (Some (layered_window desk.font v)) part p) → IsSoundArrangement a desk
+      → ((part : Part) (p : Point) → content_bit (Some (layered_window desk.font w)) part p ≡ content_bit (Some (layered_window desk.font v)) part p) → IsSoundArrangement a desk
   stays a j v its still same windows content = record {
     old = w;
     new = v;
@@ -153,14 +155,22 @@ module _ (desk : FullDesk) (distinct : layers.IsDesk (layered_desk desk)) (s : �
     moves = came;
   }
     where
-      from : (by : Option Point) (part : layers.Part) (q : Point) → moved_from p.window by (Content p.window part) q ≡ came_from by q
+      from : (by : Option Point) (part : Part) (q : Point) → moved_from p.window by (Content p.window part) q ≡ came_from by q
       from None part q = refl
       from (Some by) part q = ap (λ b. if b then minus q by else q) (same_number p.window)
 
-      came : (part : layers.Part) (q : Point) → content_bit (Some (layered_window desk.font w)) part (moved_from p.window p.by (Content p.window part) q) ≡ content_bit (Some (layered_window desk.font (with_placement p.to d w))) part q
-      came Picture q =
-          ap (content_bit (Some (layered_window desk.font w)) Picture) (from p.by Picture q)
-          ∙ ap (λ local. layer_bit (layers.layer_of Picture (layered_window desk.font w).layers) local) (way q)
+      came : (part : Part) (q : Point) → content_bit (Some (layered_window desk.font w)) part (moved_from p.window p.by (Content p.window part) q) ≡ content_bit (Some (layered_window desk.font (with_placement p.to d w))) part q
+      came part q =
+          ap (content_bit (Some (layered_window desk.font w)) part) (from p.by part q)
+          ∙ ap (λ local. layer_bit (layers.layer_of part (layered_window desk.font w).layers) local) (way q)
+          ∙ either (layers.same_part Picture part)
+        where
+          layer : WindowRecord → layers.ContentLayer
+          layer x = record { part = Picture; extent = x.definition.content x.size; picture = λ k. picture_bit desk.font x.picture (minus k x.origin) }
+
+          either : (b : Bool) → layer_bit (if b then Some (layer w) else None) (minus q p.to.place) ≡ layer_bit (if b then Some (layer (with_placement p.to d w)) else None) (minus q p.to.place)
+          either true = refl
+          either false = refl
 
   pub sent_sound : (a : Arrangement) (b : sending.SendBehind) → b.window ≡ s → a.window ≡ s → a.by ≡ None → a.windows ≡ behind_this b.behind (record_with s desk.windows) (without s desk.windows) → IsSoundArrangement a desk
   sent_sound a b named its still windows = stays a (place_after b.behind out.rest) w its still refl
@@ -179,13 +189,13 @@ module _ (desk : FullDesk) (distinct : layers.IsDesk (layered_desk desk)) (s : �
       way : (moved m desk.windows).by ≡ Some (minus m.place w.place)
       way = ap (λ n. way_to m.place (record_with n desk.windows)) named ∙ ap (way_to m.place) found
 
-      came : (part : layers.Part) (p : Point) → content_bit (Some (layered_window desk.font w)) part (moved_from m.window (moved m desk.windows).by (Content m.window part) p) ≡ content_bit (Some (layered_window desk.font (at_place m.place w))) part p
+      came : (part : Part) (p : Point) → content_bit (Some (layered_window desk.font w)) part (moved_from m.window (moved m desk.windows).by (Content m.window part) p) ≡ content_bit (Some (layered_window desk.font (at_place m.place w))) part p
       came part p =
           ap (λ by. content_bit (Some (layered_window desk.font w)) part (moved_from m.window by (Content m.window part) p)) way
           ∙ ap (λ b. content_bit (Some (layered_window desk.font w)) part (if b then minus p (minus m.place w.place) else p)) (same_number m.window)
           ∙ (λ k. layers_at part (record { h = same_way p.h m.place.h w.place.h k; v = same_way p.v m.place.v w.place.v k }))
         where
-          layers_at : layers.Part → Point → Bool
+          layers_at : Part → Point → Bool
           layers_at q local = layer_bit (layers.layer_of q (layered_window desk.font w).layers) local
 
       windows_are : (b : Bool) → m.select ≡ b → (j : ℕ) × ((moved m desk.windows).windows ≡ put_in j (at_place m.place w) out.rest)

@@ -10,7 +10,7 @@ use Rattle.bit_map.specs.Patterns.{pattern_bit}
 use Rattle.def_iface.specs.News.{no_news}
 use Rattle.def_iface.specs.Desk as layers
 use Rattle.def_iface.specs.Desk.{LayeredDesk}
-use Rattle.def_iface.specs.Desk.Part.{Picture}
+use Rattle.def_iface.specs.declared.part.Part.{Part as Layer}
 use Rattle.def_iface.specs.Owner.{Owner, owner, owner_among, owner_within, own_bit, same_owner, is_content, frame_bit}
 use Rattle.def_iface.specs.Owner.Owner.{Desktop, Bar, Frame, Content}
 use Rattle.def_iface.specs.Scratch.{scratch}
@@ -124,11 +124,11 @@ turned a b f = by_test (b == a) refl
     by_test true g = absurd (false≢true (sym f ∙ ap (λ x. a == x) (eqb-true b a g) ∙ same_number a))
     by_test false g = refl
 
-of_content : (s n : ℕ) → (n == s) ≡ false → is_other n (Content s Picture) ≡ true
-of_content s n e = ap not e
+of_content : (s n : ℕ) (part : Layer) → (n == s) ≡ false → is_other n (Content s part) ≡ true
+of_content s n part e = ap not e
 
 of_frame : (s n : ℕ) → (n == s) ≡ false → is_other n (Frame s) ≡ true
-of_frame s n e = of_content s n e
+of_frame s n e = ap not e
 
 -- ---- what a plan that is drawn leaves
 
@@ -262,41 +262,41 @@ module _ (t : Touch) (before : FullState) (after : FullDesk) (desktop : Pixels) 
         table false false ew eb = refl
 
     -- content comes from where it came from, or is white
-    content_is_bit : (s : ℕ) → owner is p ≡ Content s Picture → bit new p ≡ (if not (plain.had (change_of t) was (Content s Picture) p) then false else before.image (moved_from t.window t.by (Content s Picture) p))
-    content_is_bit s e =
+    content_is_bit : (s : ℕ) (part : Layer) → owner is p ≡ Content s part → bit new p ≡ (if not (plain.had (change_of t) was (Content s part) p) then false else before.image (moved_from t.window t.by (Content s part) p))
+    content_is_bit s part e =
         painted
         ∙ one.tells
         ∙ (λ i. if redraw i then one.window.definition.picture no_news after.font (minus p one.window.place) else (if erase i then false else under))
-        ∙ by_had (plain.had (change_of t) was (Content s Picture) p) refl
+        ∙ by_had (plain.had (change_of t) was (Content s part) p) refl
       where
         there : (v : layers.LayeredWindow) × (layers.window_of s is.windows ≡ Some v)
         there = found s (ap (is_other s) e ∙ ap not (same_number s))
 
         one : IsAlone after.font t (layered_state before) is p s there.0 after.windows plan.parts.items under
-        one = alone after.font t (layered_state before) is p s there.0 after.windows plan.parts.items under (λ n away. ap (is_other n) e ∙ of_content s n away) R.planned.parts R.distinct there.1
+        one = alone after.font t (layered_state before) is p s there.0 after.windows plan.parts.items under (λ n away. ap (is_other n) e ∙ of_content s n part away) R.planned.parts R.distinct there.1
 
         redraw : holds one.part.redraw p ≡ false
         redraw = one.its.redraw p ∙ (λ i. (on_now i && same_owner (e i) (Frame s)) && (draws_whole t s || not (layers.on_screen was p && same_owner (owner was p) (Frame s))))
 
-        erase : holds one.part.erase p ≡ not (plain.had (change_of t) was (Content s Picture) p)
-        erase = one.its.erase p ∙ (λ i. (on_now i && is_content_of s (e i)) && not (plain.had (change_of t) was (e i) p)) ∙ ap (λ b. (true && b) && not (plain.had (change_of t) was (Content s Picture) p)) (same_number s)
+        erase : holds one.part.erase p ≡ not (plain.had (change_of t) was (Content s part) p)
+        erase = one.its.erase p ∙ (λ i. (on_now i && is_content_of s (e i)) && not (plain.had (change_of t) was (e i) p)) ∙ ap (λ b. (true && b) && not (plain.had (change_of t) was (Content s part) p)) (same_number s)
 
         uncovered : holds plan.uncovered p ≡ false
-        uncovered = uncovered_by (Content s Picture) e
+        uncovered = uncovered_by (Content s part) e
 
-        from_source : plain.had (change_of t) was (Content s Picture) p ≡ true → moved_bit plan.copied t.by old p ≡ bit old (moved_from t.window t.by (Content s Picture) p)
-        from_source had = by_way t.by (copied_by (Content s Picture) e ∙ ap (λ h. (true && (s == t.window && is_some t.by)) && h) had) (sym (R.on (moved_from t.window t.by (Content s Picture) p)) ∙ (and_parts _ _ had).0)
+        from_source : plain.had (change_of t) was (Content s part) p ≡ true → moved_bit plan.copied t.by old p ≡ bit old (moved_from t.window t.by (Content s part) p)
+        from_source had = by_way t.by (copied_by (Content s part) e ∙ ap (λ h. (true && (s == t.window && is_some t.by)) && h) had) (sym (R.on (moved_from t.window t.by (Content s part) p)) ∙ (and_parts _ _ had).0)
           where
             by_test : (by : Point) (b : Bool) → holds plan.copied p ≡ ((true && (b && true)) && true) → on_map old (if b then minus p by else p) ≡ true → (if holds plan.copied p && on_map old (minus p by) then bit old (minus p by) else bit old p) ≡ bit old (if b then minus p by else p)
             by_test by true c m = λ i. if c i && m i then bit old (minus p by) else bit old p
             by_test by false c m = ap (λ x. if x && on_map old (minus p by) then bit old (minus p by) else bit old p) c
 
-            by_way : (by : Option Point) → holds plan.copied p ≡ ((true && (s == t.window && is_some by)) && true) → on_map old (moved_from t.window by (Content s Picture) p) ≡ true → moved_bit plan.copied by old p ≡ bit old (moved_from t.window by (Content s Picture) p)
+            by_way : (by : Option Point) → holds plan.copied p ≡ ((true && (s == t.window && is_some by)) && true) → on_map old (moved_from t.window by (Content s part) p) ≡ true → moved_bit plan.copied by old p ≡ bit old (moved_from t.window by (Content s part) p)
             by_way None c m = refl
             by_way (Some by) c m = by_test by (s == t.window) c m
 
-        by_had : (b : Bool) → plain.had (change_of t) was (Content s Picture) p ≡ b → (if false then one.window.definition.picture no_news after.font (minus p one.window.place) else (if not b then false else under)) ≡ (if not b then false else before.image (moved_from t.window t.by (Content s Picture) p))
-        by_had true f = ap (λ b. if b then pattern_bit gray p else moved_bit plan.copied t.by old p) uncovered ∙ from_source f ∙ sym (R.image (moved_from t.window t.by (Content s Picture) p))
+        by_had : (b : Bool) → plain.had (change_of t) was (Content s part) p ≡ b → (if false then one.window.definition.picture no_news after.font (minus p one.window.place) else (if not b then false else under)) ≡ (if not b then false else before.image (moved_from t.window t.by (Content s part) p))
+        by_had true f = ap (λ b. if b then pattern_bit gray p else moved_bit plan.copied t.by old p) uncovered ∙ from_source f ∙ sym (R.image (moved_from t.window t.by (Content s part) p))
         by_had false f = refl
 
     -- ---- the whole
@@ -320,4 +320,4 @@ module _ (t : Touch) (before : FullState) (after : FullDesk) (desktop : Pixels) 
         by_owner Desktop e = desktop_bit e ∙ from_scratch Desktop e
         by_owner Bar e = bar_bit e ∙ from_scratch Bar e
         by_owner (Frame s) e = frame_is_bit s e ∙ from_scratch (Frame s) e
-        by_owner (Content s Picture) e = content_is_bit s e
+        by_owner (Content s part) e = content_is_bit s part e

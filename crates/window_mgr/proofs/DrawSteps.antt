@@ -12,7 +12,7 @@ use Rattle.def_iface.specs.declared.taken.Taken.{Taken}
 use Rattle.def_iface.specs.Meaning.{Loan}
 use Rattle.def_iface.specs.Stocked.{SlotView}
 use Rattle.def_iface.specs.Desk as layers
-use Rattle.def_iface.specs.Desk.Part.{Picture}
+use Rattle.def_iface.specs.declared.part.Part.TheVariants.{Picture}
 use Rattle.def_iface.specs.Owner.{owner, same_owner}
 use Rattle.def_iface.specs.Owner.Owner.{Content}
 use Rattle.def_iface.specs.Change as plain
@@ -21,6 +21,7 @@ use Rattle.desk_call.specs.declared.window.WindowCall.TheVariants.{Draw}
 use Rattle.desk_call.specs.declared.window.WindowReply.TheVariants.{Done}
 use Rattle.window_mgr.specs.declared.manager.WindowManager.{WindowManager}
 use Rattle.vis_update.specs.declared.area.Area.{Area}
+use Rattle.vis_update.proofs.Others.{content_is_picture}
 use Rattle.window_list.specs.declared.window.Window.{Window}
 use Rattle.vis_update.specs.Records.{record_of}
 use Rattle.vis_update.specs.Areas.{stale_in, IsArea, AreAreas, is_content_of}
@@ -35,7 +36,8 @@ use Rattle.window_mgr.proofs.DrawRefusals.{unrefused}
 use Rattle.window_mgr.proofs.KeptLemmas.{kept}
 use Rattle.window_mgr.proofs.Arranged.{between-is_below}
 use Rattle.window_mgr.proofs.Repicturing as anew
-use Rattle.window_mgr.proofs.Repicturing.{IsRepictured, no_picture, content_is_picture}
+use Rattle.window_mgr.proofs.Repicturing.{IsRepictured, no_layer}
+use Rattle.window_mgr.proofs.Pictured.{pictured}
 use Rattle.window_mgr.proofs.SameDeskLemmas.{stays_refused}
 
 -- ---- the desk before and after
@@ -74,7 +76,7 @@ module _ {V : Type 0} {H : V → Type 0} (loan : Taken V H → Loan) (t new : Wi
   bit_is p on =
       let its = owner (layered_desk before) p in
       shown.1.1.pixels p (sym (on_before p) ∙ on)
-      ∙ ap (λ b. if b then value p (bit t.screen p) else bit t.screen p) (shown.1.0.visible p ∙ ap (λ b. b && is_content_of d.window its) on ∙ content_is_picture d.window its)
+      ∙ ap (λ b. if b then value p (bit t.screen p) else bit t.screen p) (shown.1.0.visible p ∙ ap (λ b. b && is_content_of d.window its) on ∙ content_is_picture d.window its (pictured before p))
 
   repictured : IsRepictured loan d.window (λ w. w.picture ++ D.operation ∷ []) (λ w. w.origin) at t new
   repictured = record {
@@ -91,7 +93,7 @@ module _ {V : Type 0} {H : V → Type 0} (loan : Taken V H → Loan) (t new : Wi
     desktop = D.desktop;
     active = D.active;
     next = D.next;
-    frames = λ p on e. bit_is p on ∙ ap (λ b. if b then value p (bit t.screen p) else bit t.screen p) (no_picture d.window (owner (layered_desk before) p) e);
+    frames = λ p on e. bit_is p on ∙ ap (λ b. if b then value p (bit t.screen p) else bit t.screen p) (no_layer d.window Picture (owner (layered_desk before) p) e);
     areas = subst (λ areas. AreAreas (layered_desk before) (stale_in areas) before.windows areas) (sym D.areas) whole.areas;
   }
 

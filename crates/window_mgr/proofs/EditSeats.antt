@@ -23,9 +23,10 @@ use Rattle.window_mgr.specs.FullDesk.{FullDesk, layered_desk, layered_state}
 use Rattle.window_mgr.specs.Edits.{put_record, records_put, IsWindowAt, AreSeatsAfter, IsDeskOfEdit, IsPlaceable, SameSize}
 use Rattle.window_mgr.specs.Finding.{front_of}
 use Rattle.window_mgr.specs.Kept.{IsKept}
-use Rattle.window_mgr.specs.Records.{state_of}
+use Rattle.window_mgr.specs.Records.{desk_of, state_of}
 use Rattle.window_mgr.specs.Seats.{first_seated}
 use Rattle.window_mgr.specs.Whole.{IsSettled}
+use Rattle.window_mgr.proofs.Pictured.{pictured}
 use Rattle.window_mgr.proofs.PaintLemmas.{settled_in}
 use Rattle.vis_update.proofs.PlaceLemmas.{placed_from}
 use Rattle.window_mgr.proofs.PutIn.{put_in, put_is_insert, taken_out, All-out, All-put, map-put, put_permutes}
@@ -149,6 +150,7 @@ module _ {V : Type 0} {H : V → Type 0} (loan : Taken V H → Loan) (t : Window
       gray_is = subst (λ (d : LayeredDesk). IsGray d t.gray) (sym D.screen) kept.whole.gray;
       stands = seats_put ∙ sym D.stands;
       areas = had;
+      pictures = pictured (desk_of loan t []);
     }
 
     -- and the first visible one is the same

@@ -6,8 +6,9 @@ use Rattle.draw_port.specs.Ops.{picture_bit}
 use Rattle.def_iface.specs.News.{News}
 use Rattle.def_iface.specs.Meaning.{Hears}
 use Rattle.def_iface.specs.declared.window_def.WindowChange.{WindowChange}
+use Rattle.def_iface.specs.declared.part.Part.{Part}
 use Rattle.def_iface.specs.Desk as layers
-use Rattle.def_iface.specs.Desk.Part.{Picture}
+use Rattle.def_iface.specs.declared.part.Part.TheVariants as part
 use Rattle.def_iface.specs.Owner.{content_bit}
 use Rattle.def_iface.specs.Change as plain
 use Rattle.def_iface.proofs.Changing.{stays_right}
@@ -66,8 +67,10 @@ module _ (s : ℕ) (news : WindowRecord → News → News) (kept : WindowRecord 
       ∙ (is_put before.desk.font s out.place w out.rest out.serial free).changed_is (λ x. record (kept x) { definition = done.definition }))
 
   -- its content shows what it showed
-  same_content : (part : layers.Part) (p : Point) → content_bit (Some (layered_window before.desk.font w)) part p ≡ content_bit (Some (layered_window before.desk.font v)) part p
-  same_content Picture p = λ k. picture_bit before.desk.font (sym (keeps.picture w) k) (minus (minus p (sym (keeps.place w) k)) (sym (keeps.origin w) k))
+  same_content : (part : Part) (p : Point) → content_bit (Some (layered_window before.desk.font w)) part p ≡ content_bit (Some (layered_window before.desk.font v)) part p
+  same_content part.Picture p = λ k. picture_bit before.desk.font (sym (keeps.picture w) k) (minus (minus p (sym (keeps.place w) k)) (sym (keeps.origin w) k))
+  same_content (part.Control n) p = refl
+  same_content (part.List n) p = refl
 
   told_right : IsRightState after
   told_right = record {

@@ -1,5 +1,5 @@
 -- A desk of which one window's definition was told something that leaves where the window stands.
-use Rattle.std.proofs.Common.{◌≡◌, ℕ, zero, suc, ◌==◌, Bool, true, false, if◌then◌else◌, List, [], ◌∷◌, map, Some, refl, sym, ap, ◌∙◌}
+use Rattle.std.proofs.Common.{◌≡◌, ℕ, zero, suc, ◌==◌, true, false, if◌then◌else◌, List, [], ◌∷◌, map, Some, refl, sym, ap, ◌∙◌}
 use Rattle.tb_geom.specs.declared.point.Point.{Point}
 use Rattle.tb_geom.specs.Points.{minus}
 use Rattle.draw_port.specs.Ops.{picture_bit}
@@ -8,7 +8,7 @@ use Rattle.def_iface.specs.declared.window_def.WindowChange.{WindowChange}
 use Rattle.def_iface.specs.declared.window_def.WindowChange.TheVariants.{Resized, Titled, Highlighted, Closable, Zoomed, Tracked}
 use Rattle.def_iface.specs.Meaning.{Definition, SameRegions, Hears, GoesBy}
 use Rattle.def_iface.specs.Desk as layers
-use Rattle.def_iface.specs.Desk.Part.{Picture}
+use Rattle.def_iface.specs.declared.part.Part.TheVariants.{Picture}
 use Rattle.def_iface.specs.Owner.{owner, owner_among, owner_within, own_bit, frame_bit}
 use Rattle.def_iface.specs.Owner.Owner.{Bar, Frame}
 use Rattle.def_iface.proofs.Hearing.{goes_by_news}

@@ -21,7 +21,7 @@ use Rattle.def_iface.specs.Sizes.{is_size}
 use Rattle.def_iface.specs.Stocked.{SlotView}
 use Rattle.def_iface.specs.Desk as layers
 use Rattle.def_iface.specs.Desk.{LayeredDesk}
-use Rattle.def_iface.specs.Desk.Part.{Picture}
+use Rattle.def_iface.specs.declared.part.Part.TheVariants.{Picture}
 use Rattle.def_iface.specs.Owner.{Owner, owner, owner_among, owner_within, own_bit, same_owner, is_content}
 use Rattle.def_iface.specs.Owner.Owner.{Desktop, Bar, Frame, Content}
 use Rattle.def_iface.specs.Scratch.{scratch}

@@ -1,4 +1,5 @@
 -- Lemmas on steps.
+pub mod Pictured
 pub mod EachChanged
 pub mod DimLemmas
 pub mod PaintLemmas

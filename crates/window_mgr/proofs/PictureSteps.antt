@@ -12,7 +12,7 @@ use Rattle.def_iface.specs.declared.taken.Taken.{Taken}
 use Rattle.def_iface.specs.Meaning.{Loan}
 use Rattle.def_iface.specs.Stocked.{SlotView}
 use Rattle.def_iface.specs.Desk as layers
-use Rattle.def_iface.specs.Desk.Part.{Picture}
+use Rattle.def_iface.specs.declared.part.Part.TheVariants.{Picture}
 use Rattle.def_iface.specs.Owner.{owner, same_owner}
 use Rattle.def_iface.specs.Owner.Owner.{Content}
 use Rattle.def_iface.specs.Change as plain
@@ -22,6 +22,7 @@ use Rattle.desk_call.specs.declared.window.WindowReply.TheVariants.{Done}
 use Rattle.vis_update.specs.declared.area.Area.{Area}
 use Rattle.vis_update.specs.Records.{record_of}
 use Rattle.vis_update.specs.Areas.{stale_in, IsArea, AreAreas, is_content_of}
+use Rattle.vis_update.proofs.Others.{content_is_picture}
 use Rattle.window_list.specs.Lists.{edit_at, with_picture}
 use Rattle.window_list.proofs.ListLemmas.{set_is_edit}
 use Rattle.window_mgr.specs.declared.manager.WindowManager.{WindowManager}
@@ -38,7 +39,8 @@ use Rattle.window_mgr.specs.Whole.{IsWholeManager}
 use Rattle.window_mgr.proofs.EditSeats.{same_at, there_is}
 use Rattle.window_mgr.proofs.Marking.{marked, stale_more, stale_marked, areas_marked}
 use Rattle.window_mgr.proofs.Repicturing as anew
-use Rattle.window_mgr.proofs.Repicturing.{IsRepictured, content_is_picture}
+use Rattle.window_mgr.proofs.Repicturing.{IsRepictured}
+use Rattle.window_mgr.proofs.Pictured.{pictured}
 use Rattle.window_mgr.proofs.SameDeskLemmas.{stays_refused}
 use Rattle.window_mgr.proofs.Seating.{as_many}
 use Rattle.window_mgr.proofs.Steps as steps
@@ -137,7 +139,7 @@ module _ {V : Type 0} {H : V → Type 0} (loan : Taken V H → Loan) (t new : Wi
       stale_there p on =
           let its = owner (layered_desk before) p in
           sym (ap (λ (stale : Point → Bool). stale p) stale_now)
-          ∙ ap (λ b. b || stale_in t.areas.items p) (area.1.0.visible p ∙ ap (λ b. b && is_content_of n.window its) on ∙ content_is_picture n.window its)
+          ∙ ap (λ b. b || stale_in t.areas.items p) (area.1.0.visible p ∙ ap (λ b. b && is_content_of n.window its) on ∙ content_is_picture n.window its (pictured before p))
           ∙ by_test (same_owner its (Content n.window Picture)) (stale_in t.areas.items p)
 
   is_set : IsPictureSet n (state_of loan t slots) (state_of loan new slots)

@@ -48,10 +48,10 @@ use Rattle.window_mgr.specs.declared.manager.WindowManager.{WindowManager}
 use Rattle.window_mgr.specs.FullDesk.{FullDesk, layered_state}
 use Rattle.window_mgr.specs.Arrange.{also_of, changed, with_placement, desk_activated}
 use Rattle.window_mgr.specs.Commits.{IsPlanDrawn}
-use Rattle.window_mgr.specs.Effects.{Effect, IsEffect, IsWindowPlaced, IsUnchanged, effect_of, places}
+use Rattle.window_mgr.specs.Effects.{Effect, IsEffect, IsWindowPlaced, effect_of, places}
 use Rattle.window_mgr.specs.Effects.Effect.{Places}
-use Rattle.window_mgr.specs.Placings.{Placing, of_size, sized, zoom_target, zoomed_by, gone}
-use Rattle.window_mgr.specs.Edits.{IsWindowAt, StandsAt, put_record, stays_put, IsPlanOfEdit, IsDeskOfEdit, IsPlaceable}
+use Rattle.window_mgr.specs.Placings.{of_size, sized, zoom_target, zoomed_by, gone}
+use Rattle.window_mgr.specs.Edits.{IsWindowAt, put_record, stays_put, IsPlanOfEdit, IsDeskOfEdit, IsPlaceable}
 use Rattle.window_mgr.specs.Finding.{record_with}
 use Rattle.window_mgr.specs.Kept.{IsKept}
 use Rattle.window_mgr.specs.Records.{desk_of, state_of}

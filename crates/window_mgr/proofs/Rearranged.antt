@@ -1,5 +1,5 @@
 -- One window put anew among the others, and what becomes active: what holds of the desk after it.
-use Rattle.std.proofs.Common.{◌≡◌, inl, inr, ℕ, ◌<◌, ◌≤◌, ◌==◌, Bool, true, false, if◌then◌else◌, List, ◌∷◌, length, map, Option, None, Some, refl, sym, ap, ◌∙◌, subst}
+use Rattle.std.proofs.Common.{◌≡◌, inl, inr, ℕ, ◌≤◌, ◌==◌, Bool, true, false, if◌then◌else◌, List, ◌∷◌, length, map, Option, None, Some, refl, sym, ap, ◌∙◌, subst}
 use Rattle.std.specs.Prelude.{All}
 use Rattle.std.proofs.lemmas.Bool.{eqb-true, false≢true}
 use Rattle.std.proofs.lemmas.List.{length-map}
@@ -8,6 +8,7 @@ use Rattle.std.proofs.lemmas.List.Sorted.{length_permutation}
 use Rattle.tb_geom.specs.declared.point.Point.{Point}
 use Rattle.tb_geom.specs.Points.{minus}
 use Rattle.def_iface.specs.Stocked.{SlotView, is_left}
+use Rattle.def_iface.specs.declared.part.Part.{Part}
 use Rattle.def_iface.specs.Desk as layers
 use Rattle.def_iface.specs.Owner.{Owner, owner, own_bit, content_bit, is_content}
 use Rattle.def_iface.specs.Owner.Owner.{Desktop, Bar, Frame, Content}
@@ -130,7 +131,7 @@ module _ (before : FullDesk) (s i j : ℕ) (w v : WindowRecord) (rest : List Win
 
     -- the call is a sound change, where the window's content moves as it does
     pub edit_is_sound : (stale : Point → Bool) (image : Point → Bool) (by : Option Point)
-        → ((part : layers.Part) (p : Point) → content_bit (Some (layered_window before.font w)) part (moved_from s by (Content s part) p) ≡ content_bit (Some (layered_window before.font v)) part p)
+        → ((part : Part) (p : Point) → content_bit (Some (layered_window before.font w)) part (moved_from s by (Content s part) p) ≡ content_bit (Some (layered_window before.font v)) part p)
         → plain.IsSound (moving s by) (record { desk = layered_desk before; stale = stale; image = image }) (layered_desk edited)
     edit_is_sound stale image by moves = record {
       desk = distinct_now;

@@ -13,7 +13,7 @@ use Rattle.def_iface.specs.Meaning.{Loan}
 use Rattle.def_iface.specs.Stocked.{SlotView}
 use Rattle.def_iface.specs.Desk as layers
 use Rattle.def_iface.specs.Desk.{LayeredDesk}
-use Rattle.def_iface.specs.Desk.Part.{Picture}
+use Rattle.def_iface.specs.declared.part.Part.TheVariants.{Picture}
 use Rattle.def_iface.specs.Owner.{Owner, owner, own_bit, content_bit, is_content}
 use Rattle.def_iface.specs.Scratch.{scratch}
 use Rattle.def_iface.specs.Change as plain
@@ -22,7 +22,7 @@ use Rattle.def_iface.proofs.Painting.{scratch_is_owners}
 use Rattle.vis_update.specs.declared.area.Area.{Area}
 use Rattle.vis_update.specs.Areas.{IsArea, is_content_of, stale_in}
 use Rattle.vis_update.specs.Records.{layered_window, record_of}
-use Rattle.vis_update.proofs.Others.{same_content}
+use Rattle.vis_update.proofs.Others.{content_is_picture, same_content}
 use Rattle.window_list.specs.declared.window.Window.{Window}
 use Rattle.window_mgr.specs.declared.manager.WindowManager.{WindowManager}
 use Rattle.window_mgr.specs.Edits.{IsWindowAt}
@@ -30,8 +30,9 @@ use Rattle.window_mgr.specs.FullDesk.{FullDesk, layered_desk, layered_state}
 use Rattle.window_mgr.specs.Records.{desk_of, state_of}
 use Rattle.window_mgr.specs.Updating.{IsRefreshed, refresh_change}
 use Rattle.window_mgr.specs.Whole.{IsWholeManager}
+use Rattle.window_mgr.proofs.Pictured.{pictured}
 use Rattle.window_mgr.proofs.Arranged.{between-is_below}
-use Rattle.window_mgr.proofs.Repicturing.{no_content, content_is_picture, not_stale}
+use Rattle.window_mgr.proofs.Repicturing.{no_content, not_stale}
 use Rattle.window_mgr.proofs.EditSeats.{same_at}
 use Rattle.window_mgr.proofs.Remarked as remarked
 use Rattle.window_mgr.proofs.Remarked.{unless}
@@ -67,7 +68,7 @@ module _ {V : Type 0} {H : V → Type 0} (loan : Taken V H → Loan) (t : Window
   shown_is p its =
       let found : layers.window_of w.serial desk.windows ≡ Some (layered_window t.font (record_of loan w)) =
       remarked.window_at t.font before.windows at (record_of loan w) whole.sound.distinct (remarked.record_there loan t slots whole at low w there a read) in
-      sym (scratch_is_owners desk p whole.sound.distinct ∙ ap (λ o. own_bit desk o p) (same_content w.serial (owner desk p) its) ∙ ap (λ v. content_bit v Picture p) found)
+      sym (scratch_is_owners desk p whole.sound.distinct ∙ ap (λ o. own_bit desk o p) (same_content w.serial (owner desk p) (pictured before p) its) ∙ ap (λ v. content_bit v Picture p) found)
 
   module _ (screen : Bits) (drawn : Draws (holds a.update) (λ p _. shown p) t.screen screen) (p : Point) (on : layers.on_screen desk p ≡ true) where
     abbrev its : Owner
@@ -104,7 +105,7 @@ module _ {V : Type 0} {H : V → Type 0} (loan : Taken V H → Loan) (t : Window
         by_content true c =
             bit_is
             ∙ by_test (is_content_of w.serial its) (stale p) (shown_is p)
-            ∙ sym (λ i. if not (c i) then scratch desk p else (if sym (content_is_picture w.serial its) i && stale p then scratch desk p else (if not (had_is i) then false else bit t.screen p)))
+            ∙ sym (λ i. if not (c i) then scratch desk p else (if sym (content_is_picture w.serial its (pictured before p)) i && stale p then scratch desk p else (if not (had_is i) then false else bit t.screen p)))
 
     abbrev areas : List Area
     areas = slice_set t.areas.items at (record a { update = update })
@@ -125,7 +126,7 @@ module _ {V : Type 0} {H : V → Type 0} (loan : Taken V H → Loan) (t : Window
         by_content true c =
             (λ i. if is_content_of w.serial its then none p i else stale p)
             ∙ by_test (is_content_of w.serial its) (stale p)
-            ∙ sym (λ i. if not (c i) then false else (if sym (content_is_picture w.serial its) i && stale p then false else (if had_is i then stale p else true)))
+            ∙ sym (λ i. if not (c i) then false else (if sym (content_is_picture w.serial its (pictured before p)) i && stale p then false else (if had_is i then stale p else true)))
 
   module _ (screen : Bits) (b : Area) (b_read : b ≡ get_or t.areas.items at b) (v : Window V H) (v_read : IsWindowAt t.windows.records.items at v) (drawn : Draws (holds b.update) (λ p _. picture_bit t.font v.picture (minus (minus p v.place) v.origin)) t.screen screen) where
     its_drawn : Draws (holds a.update) (λ p _. shown p) t.screen screen

@@ -14,16 +14,13 @@ use Rattle.def_iface.specs.Meaning.{Loan}
 use Rattle.def_iface.specs.Stocked.{SlotView}
 use Rattle.def_iface.specs.Desk as layers
 use Rattle.def_iface.specs.Desk.{LayeredDesk}
-use Rattle.def_iface.specs.Desk.Part.{Picture}
 use Rattle.def_iface.specs.Owner.{owner, own_bit, is_content}
-use Rattle.def_iface.specs.Owner.Owner.{Content}
 use Rattle.def_iface.specs.Change as plain
 use Rattle.def_iface.proofs.Owning.{same_number, same_owner-self, not_first}
 use Rattle.vis_update.specs.declared.area.Area.{Area}
 use Rattle.vis_update.specs.Areas.{IsGray, IsDesktop, IsArea, AreAreas, is_content_of, stale_in}
 use Rattle.vis_update.specs.Plans.{stale_after, AreAreasAfter}
 use Rattle.vis_update.specs.Records.{WindowRecord, layered_window, record_of}
-use Rattle.vis_update.proofs.Others.{same_content}
 use Rattle.vis_update.proofs.UpdateLemmas.{areas_are, updated_is_stale}
 use Rattle.window_list.specs.declared.window.Window.{Window}
 use Rattle.window_mgr.specs.declared.manager.WindowManager.{WindowManager}
@@ -33,7 +30,7 @@ use Rattle.window_mgr.specs.Kept.{IsKept}
 use Rattle.window_mgr.specs.Records.{desk_of, state_of}
 use Rattle.window_mgr.specs.Updating.{IsRemarked}
 use Rattle.window_mgr.specs.Whole.{IsWholeManager, IsSoundDesk, IsSettled}
-use Rattle.window_mgr.proofs.Repicturing.{no_content, not_stale}
+use Rattle.window_mgr.proofs.Repicturing.{no_content, its_layer, not_stale}
 use Rattle.window_mgr.proofs.FindLemmas.{area_at, not_among, settled_at}
 use Rattle.window_mgr.proofs.KeptLemmas.{kept}
 use Rattle.window_mgr.proofs.Seating.{as_many}
@@ -102,8 +99,8 @@ module _ (desk : LayeredDesk) (image stale : PixelSet) (s : ℕ) (update : Pixel
       by_visible : (p : Point) (b : Bool) → holds a.visible p ≡ b → (b && stale p) ≡ (b && stale_now p)
       by_visible p true e =
           let parts = seen n a p its e in
-          let is : owner desk p ≡ Content n Picture = same_content n (owner desk p) parts.1 in
-          sym (content_stale p parts.0 (ap is_content is) ∙ ap (λ o. if is_content_of s o then holds update p else stale p) is ∙ ap (λ b. if b then holds update p else stale p) away)
+          let is = its_layer n (owner desk p) parts.1 in
+          sym (content_stale p parts.0 (ap is_content is.1) ∙ ap (λ o. if is_content_of s o then holds update p else stale p) is.1 ∙ ap (λ b. if b then holds update p else stale p) away)
       by_visible p false e = refl
 
   -- and this window's gets its region
@@ -117,7 +114,7 @@ module _ (desk : LayeredDesk) (image stale : PixelSet) (s : ℕ) (update : Pixel
       by_visible : (p : Point) (b : Bool) → holds a.visible p ≡ b → holds update p ≡ (b && stale_now p)
       by_visible p true e =
           let parts = seen s a p its e in
-          sym (content_stale p parts.0 (ap is_content (same_content s (owner desk p) parts.1)) ∙ ap (λ b. if b then holds update p else stale p) parts.1)
+          sym (content_stale p parts.0 (ap is_content (its_layer s (owner desk p) parts.1).1) ∙ ap (λ b. if b then holds update p else stale p) parts.1)
       by_visible p false e = by_update p (holds update p) refl e
 
   -- windows of other numbers

@@ -5,8 +5,11 @@ use Rattle.tb_geom.specs.declared.point.Point.{Point}
 use Rattle.tb_geom.specs.Points.{minus}
 use Rattle.draw_port.specs.declared.shapes.Op.{Op}
 use Rattle.draw_port.specs.Ops.{picture_bit}
+use Rattle.def_iface.specs.declared.part.Part.{Part}
+use Rattle.def_iface.specs.declared.part.Part.TheVariants as part
 use Rattle.def_iface.specs.Desk as layers
-use Rattle.def_iface.specs.Desk.Part.{Picture}
+use Rattle.def_iface.specs.Desk.{same_part}
+use Rattle.def_iface.specs.declared.part.Part.TheVariants.{Picture}
 use Rattle.def_iface.specs.Owner.{Owner, owner, owner_among, owner_within, own_bit, frame_bit, content_bit, same_owner}
 use Rattle.def_iface.specs.Owner.Owner.{Desktop, Bar, Frame, Content}
 use Rattle.def_iface.proofs.Owning.{same_number, not_first}
@@ -87,9 +90,10 @@ module _ (font : List ℕ) (s : ℕ) (picture : WindowRecord → List Op) (origi
       by_test true rest = found_or (λ o. frame_bit o p) (w.serial == t) _ (layered_window font w) (layers.window_of t (anew ws)) (layers.window_of t (bare ws)) refl rest
       by_test false rest = found_or (λ o. frame_bit o p) (w.serial == t) _ (layered_window font w) (layers.window_of t (anew ws)) (layers.window_of t (bare ws)) refl rest
 
-  content_same : (t : ℕ) (ws : List WindowRecord) (p : Point) → (t == s) ≡ false → content_bit (layers.window_of t (anew ws)) Picture p ≡ content_bit (layers.window_of t (bare ws)) Picture p
-  content_same t [] p other = refl
-  content_same t (w ∷ ws) p other = by_test (w.serial == s) refl (content_same t ws p other)
+  -- another window's content shows what it showed
+  content_same : (t : ℕ) (layer : Part) (ws : List WindowRecord) (p : Point) → (t == s) ≡ false → content_bit (layers.window_of t (anew ws)) layer p ≡ content_bit (layers.window_of t (bare ws)) layer p
+  content_same t layer [] p other = refl
+  content_same t layer (w ∷ ws) p other = by_test (w.serial == s) refl (content_same t layer ws p other)
     where
       by_number : (c : Bool) → (w.serial == t) ≡ c → (w.serial == s) ≡ true → c ≡ false
       by_number true found its =
@@ -97,9 +101,18 @@ module _ (font : List ℕ) (s : ℕ) (picture : WindowRecord → List Op) (origi
           absurd (false≢true (sym other ∙ ap (λ n. n == s) same ∙ same_number s))
       by_number false found its = refl
 
-      by_test : (b : Bool) → (w.serial == s) ≡ b → content_bit (layers.window_of t (anew ws)) Picture p ≡ content_bit (layers.window_of t (bare ws)) Picture p → content_bit (layers.window_of t (layered_window font (one b w) ∷ anew ws)) Picture p ≡ content_bit (layers.window_of t (bare (w ∷ ws))) Picture p
+      by_test : (b : Bool) → (w.serial == s) ≡ b → content_bit (layers.window_of t (anew ws)) layer p ≡ content_bit (layers.window_of t (bare ws)) layer p → content_bit (layers.window_of t (layered_window font (one b w) ∷ anew ws)) layer p ≡ content_bit (layers.window_of t (bare (w ∷ ws))) layer p
       by_test true its rest = rw (by_number (w.serial == t) refl its) rest
-      by_test false its rest = found_or (λ o. content_bit o Picture p) (w.serial == t) _ (layered_window font w) (layers.window_of t (anew ws)) (layers.window_of t (bare ws)) refl rest
+      by_test false its rest = found_or (λ o. content_bit o layer p) (w.serial == t) _ (layered_window font w) (layers.window_of t (anew ws)) (layers.window_of t (bare ws)) refl rest
+
+  -- and so do the layers of this window that are not its picture
+  layer_same : (t : ℕ) (layer : Part) (ws : List WindowRecord) (p : Point) → same_part Picture layer ≡ false → content_bit (layers.window_of t (anew ws)) layer p ≡ content_bit (layers.window_of t (bare ws)) layer p
+  layer_same t layer [] p other = refl
+  layer_same t layer (w ∷ ws) p other = by_test (w.serial == s) (layer_same t layer ws p other)
+    where
+      by_test : (b : Bool) → content_bit (layers.window_of t (anew ws)) layer p ≡ content_bit (layers.window_of t (bare ws)) layer p → content_bit (layers.window_of t (layered_window font (one b w) ∷ anew ws)) layer p ≡ content_bit (layers.window_of t (bare (w ∷ ws))) layer p
+      by_test true rest = found_or (λ o. content_bit o layer p) (w.serial == t) (layered_window font (one true w)) (layered_window font w) (layers.window_of t (anew ws)) (layers.window_of t (bare ws)) (rw other refl) rest
+      by_test false rest = found_or (λ o. content_bit o layer p) (w.serial == t) (layered_window font w) (layered_window font w) (layers.window_of t (anew ws)) (layers.window_of t (bare ws)) refl rest
 
   content_own : (v : WindowRecord) (ws : List WindowRecord) (p : Point) → record_with s ws ≡ Some v → content_bit (layers.window_of s (anew ws)) Picture p ≡ picture_bit font (picture v) (minus (minus p v.place) (origin v))
   content_own v [] p found = absurd (cc)
@@ -136,11 +149,13 @@ module _ (desk : FullDesk) (s : ℕ) (picture : WindowRecord → List Op) (origi
   others_show Desktop p e = refl
   others_show Bar p e = refl
   others_show (Frame t) p e = frame_same desk.font s picture origin t desk.windows p
-  others_show (Content t Picture) p e = content_same desk.font s picture origin t desk.windows p (sym (and_true (t == s)) ∙ e)
+  others_show (Content t part.Picture) p e = content_same desk.font s picture origin t Picture desk.windows p (sym (and_true (t == s)) ∙ e)
     where
       and_true : (b : Bool) → (b && true) ≡ b
       and_true true = refl
       and_true false = refl
+  others_show (Content t (part.Control n)) p e = layer_same desk.font s picture origin t (part.Control n) desk.windows p refl
+  others_show (Content t (part.List n)) p e = layer_same desk.font s picture origin t (part.List n) desk.windows p refl
 
   pub after_is_desk : layers.IsDesk (layered_desk desk) → layers.IsDesk (layered_desk after)
   after_is_desk distinct = windows_same desk.font s picture origin desk.windows distinct

@@ -2,6 +2,7 @@
 use Rattle.std.proofs.Common.{◌≡◌, ℕ, zero, suc, ◌==◌, ◌&&◌, ◌||◌, Bool, true, false, if◌then◌else◌, List, [], ◌∷◌, length, map, set, None, Some, pos, refl, sym, ap, ◌∙◌, subst, arith}
 use Rattle.std.specs.Prelude.{All, slice_get}
 use Rattle.std.specs.Option.{option_map}
+use Rattle.std.proofs.lemmas.Bool.{eqb-true}
 use Rattle.std.proofs.lemmas.List.{length-map}
 use Rattle.std.proofs.lemmas.List.Elements.{All-head, All-tail, All-cons}
 use Rattle.std.proofs.lemmas.Option.{slice_get-map, slice_get_within, get_or_from_slice_get}
@@ -14,9 +15,10 @@ use Rattle.draw_port.specs.declared.shapes.Op.{Op}
 use Rattle.def_iface.specs.declared.taken.Taken.{Taken}
 use Rattle.def_iface.specs.Meaning.{Loan}
 use Rattle.def_iface.specs.Stocked.{SlotView}
+use Rattle.def_iface.specs.declared.part.Part.{Part}
 use Rattle.def_iface.specs.Desk as layers
 use Rattle.def_iface.specs.Desk.{LayeredDesk}
-use Rattle.def_iface.specs.Desk.Part.{Picture}
+use Rattle.def_iface.specs.declared.part.Part.TheVariants.{Picture}
 use Rattle.def_iface.specs.Owner.{Owner, owner, own_bit, same_owner, is_content}
 use Rattle.def_iface.specs.Owner.Owner.{Desktop, Bar, Frame, Content}
 use Rattle.def_iface.specs.Scratch.{scratch}
@@ -47,22 +49,18 @@ no_content s Bar e = refl
 no_content s (Frame t) e = refl
 no_content s (Content t part) e = absurd (cc)
 
-pub no_picture : (s : ℕ) (o : Owner) → is_content o ≡ false → same_owner o (Content s Picture) ≡ false
-no_picture s Desktop e = refl
-no_picture s Bar e = refl
-no_picture s (Frame t) e = refl
-no_picture s (Content t part) e = absurd (cc)
+pub no_layer : (s : ℕ) (part : Part) (o : Owner) → is_content o ≡ false → same_owner o (Content s part) ≡ false
+no_layer s part Desktop e = refl
+no_layer s part Bar e = refl
+no_layer s part (Frame t) e = refl
+no_layer s part (Content t other) e = absurd (cc)
 
--- the content of a window is its picture
-pub content_is_picture : (s : ℕ) (o : Owner) → is_content_of s o ≡ same_owner o (Content s Picture)
-content_is_picture s Desktop = refl
-content_is_picture s Bar = refl
-content_is_picture s (Frame t) = refl
-content_is_picture s (Content t Picture) = sym (and_true (t == s))
-  where
-    and_true : (b : Bool) → (b && true) ≡ b
-    and_true true = refl
-    and_true false = refl
+-- what is content of a window is one of its layers
+pub its_layer : (s : ℕ) (o : Owner) → is_content_of s o ≡ true → (part : Part) × (o ≡ Content s part)
+its_layer s Desktop e = absurd (cc)
+its_layer s Bar e = absurd (cc)
+its_layer s (Frame t) e = absurd (cc)
+its_layer s (Content t part) e = (part, ap (λ n. Content n part) (eqb-true t s e))
 
 -- what is no content is in no update region
 pub not_stale : (desk : LayeredDesk) (stale : PixelSet) (ws : List WindowRecord) (areas : List Area) (p : Point) → AreAreas desk stale ws areas → is_content (owner desk p) ≡ false → stale_in areas p ≡ false
@@ -196,7 +194,7 @@ module _ {V : Type 0} {H : V → Type 0} (loan : Taken V H → Loan) (s : ℕ) (
     plain_is p on e =
         D.frames p on e
         ∙ whole.frames p on e
-        ∙ sym (layered.others_show before s picture origin (owner (layered_desk before) p) p (no_picture s (owner (layered_desk before) p) e))
+        ∙ sym (layered.others_show before s picture origin (owner (layered_desk before) p) p (no_layer s Picture (owner (layered_desk before) p) e))
 
     -- what is no content shows what painting from nothing gives
     pub scratch_is : (p : Point) → layers.on_screen (layered_desk before) p ≡ true → is_content (owner (layered_desk before) p) ≡ false → bit new.screen p ≡ scratch (layered_desk after) p

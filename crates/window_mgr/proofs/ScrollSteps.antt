@@ -14,7 +14,6 @@ use Rattle.bit_map.specs.Bits.{bit}
 use Rattle.def_iface.specs.declared.taken.Taken.{Taken}
 use Rattle.def_iface.specs.Meaning.{Loan}
 use Rattle.def_iface.specs.Stocked.{SlotView}
-use Rattle.def_iface.specs.Desk.Part.{Picture}
 use Rattle.def_iface.specs.Owner.{Owner, owner, is_content}
 use Rattle.def_iface.specs.Owner.Owner.{Desktop, Bar, Frame, Content}
 use Rattle.def_iface.specs.Change as plain
@@ -22,7 +21,7 @@ use Rattle.desk_call.specs.declared.window.ScrollPicture.{ScrollPicture}
 use Rattle.desk_call.specs.declared.window.WindowCall.TheVariants.{Scroll}
 use Rattle.desk_call.specs.declared.window.WindowReply.{WindowReply}
 use Rattle.vis_update.specs.Records.{WindowRecord, record_of}
-use Rattle.vis_update.specs.Areas.{stale_in, AreAreas}
+use Rattle.vis_update.specs.Areas.{stale_in, AreAreas, is_pictured, ArePictures}
 use Rattle.vis_update.specs.Touches.{moving, moved_from}
 use Rattle.window_list.specs.declared.window.Window.{Window}
 use Rattle.window_list.specs.Lists.{edit_at, with_origin}
@@ -39,6 +38,7 @@ use Rattle.window_mgr.specs.Records.{desk_of, state_of}
 use Rattle.tb_geom.specs.Refusals.{first_refusal}
 use Rattle.window_mgr.specs.Refused.{scroll_refusals, may_scroll}
 use Rattle.window_mgr.specs.Whole.{IsWholeManager}
+use Rattle.window_mgr.proofs.Pictured.{pictured}
 use Rattle.window_mgr.proofs.EditSeats.{there_is}
 use Rattle.window_mgr.proofs.PutIn.{put_is_insert, taken_out, map-put}
 use Rattle.window_mgr.proofs.Repicturing as anew
@@ -49,18 +49,22 @@ use Rattle.window_mgr.proofs.Steps as steps
 -- ---- what moves
 
 -- a window's content is its picture, so that both move alike
-moves_alike : (s : ℕ) (by : Point) (o : Owner) (p : Point) → moved_from s (Some by) o p ≡ scrolled_from s by o p
-moves_alike s by Desktop p = refl
-moves_alike s by Bar p = refl
-moves_alike s by (Frame t) p = refl
-moves_alike s by (Content t Picture) p = by_test (t == s)
+moves_alike : (s : ℕ) (by : Point) (o : Owner) (p : Point) → is_pictured o ≡ true → moved_from s (Some by) o p ≡ scrolled_from s by o p
+moves_alike s by Desktop p e = refl
+moves_alike s by Bar p e = refl
+moves_alike s by (Frame t) p e = refl
+moves_alike s by (Content t part) p e = rw e (by_test (t == s))
   where
     by_test : (b : Bool) → (if b then minus p by else p) ≡ (if b && true then minus p by else p)
     by_test true = refl
     by_test false = refl
 
-scroll_is_moving : (s : ℕ) (by : Point) → moving s (Some by) ≡ scroll_change s by
-scroll_is_moving s by = λ i. record plain.no_change { source = λ o p. moves_alike s by o p i }
+-- what moves a window's content scrolls it
+scrolls_so : (s : ℕ) (by : Point) (before after : plain.State) → ArePictures after.desk → plain.IsChanged (moving s (Some by)) before after → plain.IsChanged (scroll_change s by) before after
+scrolls_so s by before after pictures done = record {
+  stale = λ p on. done.stale p on ∙ ap (λ q. plain.stale_by (record plain.no_change { source = λ o r. q }) before (owner after.desk p) p) (moves_alike s by (owner after.desk p) p (pictures p));
+  image = λ p on. done.image p on ∙ ap (λ q. plain.image_by (record plain.no_change { source = λ o r. q }) before after.desk (owner after.desk p) p) (moves_alike s by (owner after.desk p) p (pictures p));
+}
 
 -- ---- the desk in between: its pixels moved, and its picture lies where it lay
 
@@ -161,7 +165,8 @@ module _ {V : Type 0} {H : V → Type 0} (loan : Taken V H → Loan) (t mid new 
     desk =
         anew.desk_is loan m.window (λ w. w.picture) (λ w. plus w.origin m.by) at mid new slots whole repictured
         ∙ ap (λ (d : FullDesk). record d { windows = map (with_scrolled m) d.windows }) (desk_stays loan t mid slots m at x low x_is done);
-    pixels = subst (λ (c : plain.Change). plain.IsChanged c (layered_state (state_of loan t slots)) (layered_state (state_of loan new slots))) (ap (λ s. moving s (Some m.by)) serial ∙ scroll_is_moving m.window m.by) changed;
+    pixels = scrolls_so m.window m.by (layered_state (state_of loan t slots)) (layered_state (state_of loan new slots)) (pictured (desk_of loan new slots))
+        (subst (λ (s : ℕ). plain.IsChanged (moving s (Some m.by)) (layered_state (state_of loan t slots)) (layered_state (state_of loan new slots))) serial changed);
   }
 
 -- ---- the call

@@ -30,6 +30,7 @@ use Rattle.vis_update.specs.Areas.{IsArea, AreAreas}
 use Rattle.window_mgr.specs.Whole.{IsSettled}
 use Rattle.desk_ground.specs.Screens.{is_screen_side}
 use Rattle.vis_update.proofs.PlaceLemmas.{placed_from}
+use Rattle.window_mgr.proofs.Pictured.{pictured}
 use Rattle.window_mgr.proofs.EachChanged.{map-map}
 use Rattle.window_mgr.proofs.DimLemmas.{either, windows_behind}
 use Rattle.window_mgr.proofs.Running.{layered_desk-with, next_is_free}
@@ -184,6 +185,7 @@ module _ {V : Type 0} {H : V → Type 0} (loan : Taken V H → Loan) where
       desk = refl;
       distinct = distinct;
       gray_is = kept.whole.gray;
+      pictures = pictured (desk_of loan t []);
       stands = (λ i. (ap (seat_stand loan) its.0 ∙ front_stand) i ∷ (seats_stand t.windows.records.items t.areas.items seats its.1 ∙ sym (stands-behind t.windows.active w.shown (desk_of loan t []).windows)) i);
       areas = All-cons (λ s. IsArea before.desk before.stale s.serial s.area.now) s seats
           (subst (λ (x : Seat V H). IsArea before.desk before.stale x.serial x.area.now) (sym its.0) front_had)

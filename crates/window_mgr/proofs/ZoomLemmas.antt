@@ -1,5 +1,5 @@
 -- The numbers of a screen's sides, and of what is left of them.
-use Rattle.std.proofs.Common.{◌≡◌, true, ◌&&◌, ℤ, pos, ◌+ℤ◌, ◌-ℤ◌, ◌≤ℤ◌, ◌<ℤ◌, SFits, w32, arith}
+use Rattle.std.proofs.Common.{◌≡◌, true, ℤ, pos, ◌+ℤ◌, ◌-ℤ◌, ◌≤ℤ◌, SFits, w32, arith}
 use Rattle.std.proofs.lemmas.Bool.{and_parts}
 use Rattle.std.proofs.lemmas.Int.{ints}
 use Rattle.desk_ground.specs.Screens.{is_screen, is_screen_side, is_bar}

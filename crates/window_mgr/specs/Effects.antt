@@ -12,7 +12,7 @@ use Rattle.def_iface.specs.declared.window_def.Stage.TheVariants.{Live}
 use Rattle.def_iface.specs.Meaning.{Definition, Loan, SameRegions, Hears, IsBegun}
 use Rattle.def_iface.specs.Stocked.{IsTaken, is_left}
 use Rattle.def_iface.specs.Desk.{on_screen}
-use Rattle.def_iface.specs.Desk.Part.{Picture}
+use Rattle.def_iface.specs.declared.part.Part.TheVariants.{Picture}
 use Rattle.def_iface.specs.Owner.{Owner, same_owner}
 use Rattle.def_iface.specs.Owner.Owner.{Content}
 use Rattle.def_iface.specs.Change.{Change, no_change, IsChanged}

@@ -7,7 +7,7 @@ use Rattle.def_iface.specs.declared.taken.Taken.{Taken}
 use Rattle.def_iface.specs.Meaning.{Loan}
 use Rattle.def_iface.specs.Stocked.{SlotView}
 use Rattle.def_iface.specs.Desk.{on_screen}
-use Rattle.def_iface.specs.Desk.Part.{Picture}
+use Rattle.def_iface.specs.declared.part.Part.TheVariants.{Picture}
 use Rattle.def_iface.specs.Owner.{owner, same_owner}
 use Rattle.def_iface.specs.Owner.Owner.{Content}
 use Rattle.def_iface.specs.Change.{Change, no_change, IsChanged}

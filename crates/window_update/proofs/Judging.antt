@@ -11,7 +11,7 @@ use Rattle.draw_port.specs.Ops.{picture_bit}
 use Rattle.def_iface.specs.declared.taken.Taken.{Taken}
 use Rattle.def_iface.specs.Meaning.{Loan}
 use Rattle.def_iface.specs.Desk as layers
-use Rattle.def_iface.specs.Desk.Part.{Picture}
+use Rattle.def_iface.specs.declared.part.Part.TheVariants.{Picture}
 use Rattle.def_iface.specs.Owner.{Owner, owner, own_bit, content_bit}
 use Rattle.def_iface.specs.Owner.Owner.{Content}
 use Rattle.def_iface.specs.Scratch.{scratch}
@@ -21,6 +21,7 @@ use Rattle.window_list.specs.declared.window.Window.{Window}
 use Rattle.vis_update.specs.declared.area.Area.{Area}
 use Rattle.vis_update.specs.Areas.{IsArea, stale_in, is_content_of}
 use Rattle.vis_update.specs.Records.{WindowRecord, layered_window, record_of}
+use Rattle.vis_update.proofs.Others.{content_is_picture}
 use Rattle.window_mgr.specs.declared.manager.WindowManager.{WindowManager}
 use Rattle.window_mgr.specs.Edits.{IsWindowAt}
 use Rattle.window_mgr.specs.Finding.{record_with}
@@ -29,7 +30,7 @@ use Rattle.window_mgr.specs.Kept.{IsKept}
 use Rattle.window_mgr.specs.Records.{desk_of, state_of}
 use Rattle.window_mgr.proofs.Arranged.{between-is_below}
 use Rattle.window_mgr.proofs.EditSeats.{same_at}
-use Rattle.window_mgr.proofs.Repicturing.{content_is_picture}
+use Rattle.window_mgr.proofs.Pictured.{pictured}
 use Rattle.window_mgr.proofs.TellLemmas as telling
 use Rattle.window_update.specs.Sets.{marked_in, on_place}
 use Rattle.window_update.specs.Rightness.{IsAgreement, IsJudgement}
@@ -58,7 +59,7 @@ module _ {V : Type 0} {H : V → Type 0} (loan : Taken V H → Loan) (t : Window
   shows : (p : Point) → is_content_of x.serial (owner (layered_desk desk) p) ≡ true → scratch (layered_desk desk) p ≡ picture_bit t.font x.picture (minus (minus p x.place) x.origin)
   shows p its =
       scratch_is_owners (layered_desk desk) p kept.whole.sound.distinct
-      ∙ ap (λ o. own_bit (layered_desk desk) o p) (same_owner-true (owner (layered_desk desk) p) (Content x.serial Picture) (sym (content_is_picture x.serial (owner (layered_desk desk) p)) ∙ its))
+      ∙ ap (λ o. own_bit (layered_desk desk) o p) (same_owner-true (owner (layered_desk desk) p) (Content x.serial Picture) (sym (content_is_picture x.serial (owner (layered_desk desk) p) (pictured desk p)) ∙ its))
       ∙ ap (λ w. content_bit w Picture p) (window_found t.font x.serial desk.windows (record_of loan x) found)
 
   pub on_map_is : (p : Point) → layers.on_screen (layered_desk desk) p ≡ on_map t.screen p

@@ -5,7 +5,7 @@ use Rattle.tb_geom.specs.declared.point.Point.{Point}
 use Rattle.tb_geom.specs.Points.{PixelSet, plus, minus}
 use Rattle.def_iface.specs.Desk as layers
 use Rattle.def_iface.specs.Desk.{LayeredDesk, on_screen}
-use Rattle.def_iface.specs.Desk.Part.{Picture}
+use Rattle.def_iface.specs.declared.part.Part.TheVariants.{Picture}
 use Rattle.def_iface.specs.Owner.{Owner, owner, owner_among, same_owner, is_content}
 use Rattle.def_iface.specs.Owner.Owner.{Desktop, Bar, Frame, Content}
 use Rattle.def_iface.specs.Change.{stale_by, image_by}
@@ -15,12 +15,13 @@ use Rattle.desk_call.specs.declared.update.UpdateCall.TheVariants.{Serve}
 use Rattle.desk_call.specs.declared.window.WindowReply.TheVariants.{Done}
 use Rattle.vis_update.specs.Areas.{is_content_of}
 use Rattle.vis_update.specs.Records.{WindowRecord, layered_window}
+use Rattle.vis_update.proofs.Others.{content_is_picture}
 use Rattle.window_mgr.specs.Effects.{IsUnchanged}
 use Rattle.window_mgr.specs.Finding.{record_with}
 use Rattle.window_mgr.specs.FullDesk.{FullDesk, FullState, IsRightState, layered_desk, layered_state}
 use Rattle.window_mgr.specs.Telling.{seen_from, update_of}
 use Rattle.window_mgr.specs.Updating.{IsRefreshed, refresh_change}
-use Rattle.window_mgr.proofs.Repicturing.{content_is_picture}
+use Rattle.window_mgr.proofs.Pictured.{pictured}
 use Rattle.window_mgr.proofs.TellLemmas.{again_there}
 use Rattle.window_mgr.specs.DeskStates.{DeskState}
 use Rattle.window_update.specs.Served.{AreDone, AreAllServed, IsAllRight, layer_by_layer}
@@ -93,7 +94,7 @@ module _ (s : ℕ) (before after : FullState) (done : IsRefreshed s before after
   -- of the content that shows, what was drawn is not stale any more, and the rest is stale where it was
   stale_is : (t : ℕ) (b : Bool) (q : Point) → on_screen was q ≡ true → is_content_of t (owner was q) ≡ true → is_content_of s (owner was q) ≡ b → after.stale q ≡ (if b && before.stale q then false else before.stale q)
   stale_is t b q on its served =
-      let picture : same_owner (owner was q) (Content s Picture) ≡ b = sym (content_is_picture s (owner was q)) ∙ served in
+      let picture : same_owner (owner was q) (Content s Picture) ≡ b = sym (content_is_picture s (owner was q) (pictured before.desk q)) ∙ served in
       let content : is_content (owner was q) ≡ true = is_its t (owner was q) its in
       stale_after q on
       ∙ (λ i. if not (content i) then false else (if picture i && before.stale q then false else (if on i && same_owner-self (owner was q) i then before.stale q else true)))

@@ -1,6 +1,5 @@
-use Rattle.std.proofs.Common.{refl, rules}
+use Rattle.std.proofs.Common.{rules}
 use Rattle.window_mgr.proofs.PlacementCalls as placing
-use Rattle.window_mgr.proofs.SameDeskLemmas.{is_refused}
 use Rattle.window_mgr.proofs.manager.WindowManager.place_window.Goals as goal
 
 pub plan_edit-requires-clause-placed : goal.plan_edit-requires-clause-placed

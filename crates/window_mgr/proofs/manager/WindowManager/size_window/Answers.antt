@@ -1,4 +1,4 @@
-use Rattle.std.proofs.Common.{refl, rules, inl, false, true, None}
+use Rattle.std.proofs.Common.{refl, rules, inl, false, None}
 use Rattle.desk_call.specs.declared.window.WindowCall.TheVariants.{Size}
 use Rattle.window_mgr.proofs.SameDeskLemmas.{is_refused}
 use Rattle.window_mgr.proofs.PlacementCalls as placing
