@@ -1,6 +1,6 @@
 use Rattle.looks.specs.Letters.{lettering}
 use Rattle.looks.proofs.PaintLemmas.{drawn-step, drawn-none}
-use Rattle.looks.proofs.paint.paint.Goals as goal
+use Rattle.looks.proofs.paint.draw_step.Goals as goal
 
 pub returns-then-step-clause-drawn : goal.returns-then-step-clause-drawn
 returns-then-step-clause-drawn c =
