@@ -80,12 +80,12 @@ fn run_standard<F: Opener, R: Source, W: Sink>(
     for round in 0..DEFINITIONS {
         for (kind, variation) in &STANDARD {
             let window = Box::new(alloc, StdWindow::new(*variation))?;
-            let Ok(()) = stock.add(kind, window) else {
+            let Ok(()) = stock.windows.add(kind, window) else {
                 return Err(Refusal::NoMemory);
             };
         }
         let notched = Box::new(alloc, NotchedWindow::new())?;
-        let Ok(()) = stock.add(b"notched", notched) else {
+        let Ok(()) = stock.windows.add(b"notched", notched) else {
             return Err(Refusal::NoMemory);
         };
     }

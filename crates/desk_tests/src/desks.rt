@@ -128,7 +128,7 @@ fn a_desk_is_called_and_painted(rt: HostRuntime) -> Result<(), Fail> {
     let alloc = rt.alloc();
     let mut stock = Stock::new(alloc);
     for _ in 0..2 {
-        let Ok(()) = stock.add(b"plain", Box::new(alloc, StdWindow::new(Variation::Plain))?) else {
+        let Ok(()) = stock.windows.add(b"plain", Box::new(alloc, StdWindow::new(Variation::Plain))?) else {
             return Err(Fail::from(Refusal::NoMemory));
         };
     }
@@ -146,6 +146,6 @@ fn a_desk_is_called_and_painted(rt: HostRuntime) -> Result<(), Fail> {
     assert!(rt; shown.as_slice() == SHOWN);
     assert!(rt; painted.as_slice() == PAINTED);
     assert!(rt; right == Ok(true) && stale == Ok(false));
-    assert!(rt; stock.take(b"plain").err() == Some(Refusal::NoDefinition));
+    assert!(rt; stock.windows.take(b"plain").err() == Some(Refusal::NoDefinition));
     Ok(())
 }

@@ -36,7 +36,7 @@ fn main(rt: HostRuntime) -> Result<()> {
     for _ in 0..DEFINITIONS {
         for kind in &KINDS {
             let window = Box::new(alloc, HollowWindow::new())?;
-            let Ok(()) = stock.add(kind, window) else {
+            let Ok(()) = stock.windows.add(kind, window) else {
                 bail!("no memory for the stock");
             };
         }

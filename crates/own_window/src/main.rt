@@ -45,11 +45,11 @@ fn main(rt: HostRuntime) -> Result<()> {
     // window that we will make.
     let mut stock = Stock::new(alloc);
     let first = Box::new(alloc, Banner::new())?;
-    let Ok(()) = stock.add(b"banner", first) else {
+    let Ok(()) = stock.windows.add(b"banner", first) else {
         bail!("no memory for the stock");
     };
     let second = Box::new(alloc, Banner::new())?;
-    let Ok(()) = stock.add(b"banner", second) else {
+    let Ok(()) = stock.windows.add(b"banner", second) else {
         bail!("no memory for the stock");
     };
 

@@ -64,7 +64,7 @@ fn run_here(
 ) -> Result<(Result<(), Refusal>, u32), Fail> {
     let mut stock = Stock::new(alloc);
     let plain: Box<dyn WindowDef> = Box::new(alloc, StdWindow::new(Variation::Plain))?;
-    let Ok(()) = stock.add(b"plain", plain) else {
+    let Ok(()) = stock.windows.add(b"plain", plain) else {
         return Err(Fail::from(Refusal::NoMemory));
     };
     let mut script = Script::new(TEXT, 4096, 2);

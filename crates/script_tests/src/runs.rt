@@ -56,7 +56,7 @@ fn run_with(
 ) -> Result<Ended, Fail> {
     let mut stock = Stock::new(alloc);
     let plain: Box<dyn WindowDef> = Box::new(alloc, StdWindow::new(Variation::Plain))?;
-    let Ok(()) = stock.add(b"plain", plain) else {
+    let Ok(()) = stock.windows.add(b"plain", plain) else {
         return Err(Fail::from(Refusal::NoMemory));
     };
     let mut source = WatchedReader::new(script);
@@ -64,7 +64,7 @@ fn run_with(
     let raw = shows == Shows::Images;
     let check = shows == Shows::RepliesAndCheck;
     let outcome = run(alloc, &mut source, &mut sink, &mut stock, font, raw, check);
-    let is_used = stock.take(b"plain").is_err();
+    let is_used = stock.windows.take(b"plain").is_err();
     Ok(Ended { outcome, is_used })
 }
 

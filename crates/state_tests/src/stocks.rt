@@ -3,7 +3,7 @@ ghost use Rattle.std.specs.Prelude.{◌≡◌, true};
 ghost use Rattle.def_iface.specs.Meaning.{is_fitting};
 
 use crate::titled_window::Titled;
-use def_iface::{Defined, Hit, Size, Stage, Stock, Taken, WindowDef, WindowRegions};
+use def_iface::{Defined, Hit, Size, Stage, WindowStock, Taken, WindowDef, WindowRegions};
 use draw_port::{Canvas, Cut};
 use geometry_tests::pixels::{Pixels, map_of, mark, picture};
 use scan_region::Region;
@@ -49,7 +49,7 @@ const PLAIN: Rect = rect!(-1, -1, 4, 3);
 #[test]
 fn a_stock_gives_the_first_fresh_definition_of_a_kind(rt: HostRuntime) -> Result<(), Fail> {
     let alloc = rt.alloc();
-    let mut stock = Stock::new(alloc);
+    let mut stock = WindowStock::new(alloc);
     assert!(rt; stock.take(b"window").err() == Some(Refusal::NoSuchName));
     let first: Box<dyn WindowDef> = Box::new(alloc, Titled::new())?;
     assert!(rt; stock.add(b"window", first).is_ok());
@@ -177,7 +177,7 @@ fn drawn(alloc: Global, taken: &Taken, value: bool) -> Result<Vec<u8>, Refusal>
 #[test]
 fn a_boxed_definition_is_reached(rt: HostRuntime) -> Result<(), Fail> {
     let alloc = rt.alloc();
-    let mut stock = Stock::new(alloc);
+    let mut stock = WindowStock::new(alloc);
     let titled: Box<dyn WindowDef> = Box::new(alloc, Titled::new())?;
     assert!(rt; stock.add(b"titled", titled).is_ok());
     let mut taken = stock.take(b"titled")?;

@@ -3,7 +3,7 @@ ghost use Rattle.std.specs.Prelude.{◌≡◌, ◌<◌, length, true, IfOk, OnOk
 ghost use Rattle.def_iface.specs.Meaning.{is_fitting};
 
 use crate::titled_window::Titled;
-use def_iface::{Defined, Size, Stage, Stock, Taken, WindowChange, WindowDef};
+use def_iface::{Defined, Size, Stage, WindowStock, Taken, WindowChange, WindowDef};
 use draw_port::{Op, Picture, Shape};
 use std::alloc::Global;
 use std::test::Fail;
@@ -121,7 +121,7 @@ fn reorder(windows: &mut WindowList, from: usize, last: usize) -> Result<Window,
 }
 
 /// A definition out of the stock, begun at the size.
-fn begun(stock: &mut Stock) -> Result<Taken, Refusal>
+fn begun(stock: &mut WindowStock) -> Result<Taken, Refusal>
     ensures live { IfOk result (λ t. (⟦<Taken as Defined>⟧.loan t).definition.stage ≡ Stage.Live) }
     ensures told { IfOk result (λ t. is_fitting (⟦<Taken as Defined>⟧.loan t).definition
         (⟦<Taken as Defined>⟧.loan t).definition.size ≡ true) }
@@ -137,7 +137,7 @@ fn begun(stock: &mut Stock) -> Result<Taken, Refusal>
 #[test]
 fn windows_lie_from_front_to_back(rt: HostRuntime) -> Result<(), Fail> {
     let alloc = rt.alloc();
-    let mut stock = Stock::new(alloc);
+    let mut stock = WindowStock::new(alloc);
     for _ in 0..3 {
         let Ok(()) = stock.add(b"titled", Box::new(alloc, Titled::new())?) else {
             return Err(Fail::from(Refusal::NoMemory));
@@ -167,7 +167,7 @@ fn windows_lie_from_front_to_back(rt: HostRuntime) -> Result<(), Fail> {
 #[test]
 fn a_windows_box_comes_out(rt: HostRuntime) -> Result<(), Fail> {
     let alloc = rt.alloc();
-    let mut stock = Stock::new(alloc);
+    let mut stock = WindowStock::new(alloc);
     let Ok(()) = stock.add(b"titled", Box::new(alloc, Titled::new())?) else {
         return Err(Fail::from(Refusal::NoMemory));
     };
@@ -183,7 +183,7 @@ fn a_windows_box_comes_out(rt: HostRuntime) -> Result<(), Fail> {
 #[test]
 fn a_window_is_given_a_size_where_it_lies(rt: HostRuntime) -> Result<(), Fail> {
     let alloc = rt.alloc();
-    let mut stock = Stock::new(alloc);
+    let mut stock = WindowStock::new(alloc);
     let Ok(()) = stock.add(b"titled", Box::new(alloc, Titled::new())?) else {
         return Err(Fail::from(Refusal::NoMemory));
     };
@@ -207,7 +207,7 @@ fn a_window_is_given_a_size_where_it_lies(rt: HostRuntime) -> Result<(), Fail> {
 #[test]
 fn a_window_is_told_its_title_where_it_lies(rt: HostRuntime) -> Result<(), Fail> {
     let alloc = rt.alloc();
-    let mut stock = Stock::new(alloc);
+    let mut stock = WindowStock::new(alloc);
     let Ok(()) = stock.add(b"titled", Box::new(alloc, Titled::new())?) else {
         return Err(Fail::from(Refusal::NoMemory));
     };
@@ -224,7 +224,7 @@ fn a_window_is_told_its_title_where_it_lies(rt: HostRuntime) -> Result<(), Fail>
 #[test]
 fn a_window_is_told_its_highlighting_where_it_lies(rt: HostRuntime) -> Result<(), Fail> {
     let alloc = rt.alloc();
-    let mut stock = Stock::new(alloc);
+    let mut stock = WindowStock::new(alloc);
     let Ok(()) = stock.add(b"titled", Box::new(alloc, Titled::new())?) else {
         return Err(Fail::from(Refusal::NoMemory));
     };
