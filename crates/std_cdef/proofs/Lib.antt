@@ -1,0 +1,4 @@
+-- Lemmas on what controls are told, on their rectangles, and on the numbers of thumbs.
+pub mod Hearing
+pub mod RegionFacts
+pub mod ThumbLemmas

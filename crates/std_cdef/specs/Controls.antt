@@ -1,0 +1,57 @@
+-- The standard controls as definitions.
+use Rattle.std.specs.Prelude.{ℕ, ℤ, List, Option}
+use Rattle.tb_geom.specs.declared.point.Point.{Point}
+use Rattle.tb_geom.specs.Points.{PixelSet}
+use Rattle.tb_geom.specs.Rects.{rect_holds}
+use Rattle.control_values.specs.declared.part.ControlPart.{ControlPart}
+use Rattle.control_values.specs.declared.part.ControlPart.TheVariants.{Button, CheckBox}
+use Rattle.def_iface.specs.declared.window_def.Stage.{Stage}
+use Rattle.def_iface.specs.declared.control_keeping.KeptControl.{KeptControl}
+use Rattle.def_iface.specs.Sizes.{rect_of}
+use Rattle.def_iface.specs.ControlMeaning.{ControlDefinition}
+use Rattle.def_iface.specs.ControlKeeping.{kept_control_picture, kept_control_hit, kept_thumb_value}
+use Rattle.looks.specs.Letters.{lettering}
+use Rattle.looks.specs.Marks.{look_bit}
+use Rattle.std_cdef.specs.declared.check.Variation.{Variation}
+use Rattle.std_cdef.specs.Thumbs.{thumb_value}
+use Rattle.std_cdef.specs.Looks.{button_look, box_look, scroll_look}
+use Rattle.std_cdef.specs.Hits.{whole_hit, scroll_hit}
+
+-- a control whose region is its rectangle, by what it looks like, its parts, and where a dragged thumb leads
+abbrev pub std_control : (KeptControl → List ℕ → PixelSet) → (KeptControl → Point → Option ControlPart) → (KeptControl → Point → Point → ℤ)
+    → Stage → KeptControl → ControlDefinition
+std_control look part value stage k = record {
+  stage = stage;
+  size = k.size;
+  region = λ s. rect_holds (rect_of s);
+  bounds = rect_of;
+  picture = kept_control_picture look k;
+  hit = kept_control_hit part k;
+  thumb_value = kept_thumb_value value k;
+}
+
+-- a control without a thumb keeps its value
+abbrev pub same_value : KeptControl → Point → Point → ℤ
+same_value k from to = k.values.value
+
+abbrev pub button_seen : KeptControl → List ℕ → PixelSet
+button_seen k font = look_bit (lettering font k.title) (button_look k.size k.highlight)
+
+abbrev pub button_part : KeptControl → Point → Option ControlPart
+button_part k = whole_hit Button k.size
+
+abbrev pub box_seen : Variation → KeptControl → List ℕ → PixelSet
+box_seen kind k font = look_bit (lettering font k.title) (box_look kind k.size k.values k.highlight)
+
+abbrev pub box_part : KeptControl → Point → Option ControlPart
+box_part k = whole_hit CheckBox k.size
+
+-- a scroll bar shows no title
+abbrev pub scroll_seen : KeptControl → List ℕ → PixelSet
+scroll_seen k font = look_bit (lettering font k.title) (scroll_look k.size k.values k.highlight)
+
+abbrev pub scroll_part : KeptControl → Point → Option ControlPart
+scroll_part k = scroll_hit k.size k.values k.highlight
+
+abbrev pub scrolled_value : KeptControl → Point → Point → ℤ
+scrolled_value k = thumb_value k.size k.values k.highlight

@@ -1,0 +1,7 @@
+-- The tables of the standard controls, and the definitions that they make.
+pub mod Axes
+pub mod Thumbs
+pub mod Looks
+pub mod Hits
+pub mod Controls
+pub mod Told

@@ -1,0 +1,29 @@
+//! The standard control definitions (*Inside Macintosh* I, "The Control Manager", "Controls and Control
+//! Definition Functions").
+//!
+//! `StdButton` is the definition of a simple button, `StdCheck` that of a check box and of a radio
+//! button (its `Variation` says which), and `StdScroll` that of a scroll bar. The pixels of each are all
+//! those of its rectangle.
+//!
+//! What a control looks like, which part of it a point lies in, and where a scroll bar's thumb is, are
+//! tables and a few numbers of what it was told: its size, its title, its setting and how it is
+//! highlighted (`def_iface::KeptControl`, which each keeps). Each table stands twice, in `specs/` and in
+//! the code, and the check finds the two equal; the loops over them are those of `looks`. All
+//! rectangles are in the control's own coordinates, where it begins at 0 0.
+//!
+//! `laws` has what the numbers of a thumb imply.
+#![tactic(auto)]
+
+mod axis;
+mod boxes;
+mod button;
+mod check;
+pub mod laws;
+mod rects;
+mod scroll;
+mod scroll_bar;
+mod thumb;
+
+pub use button::StdButton;
+pub use check::{StdCheck, Variation};
+pub use scroll::StdScroll;
