@@ -11,9 +11,11 @@
 //! takes none besides its place.
 #![tactic(auto)]
 
+mod block;
 mod cell;
 mod click;
 mod content;
+mod laws;
 mod lines;
 mod list;
 mod runs;
