@@ -1,12 +1,12 @@
 -- Blocks of cells, place by place.
-use Rattle.std.proofs.Common.{get_or, ◌≡◌, ℕ, ◌+◌, ◌<◌, ◌≤◌, List, [], ◌∷◌, ◌++◌, Bool, true, false, cond, length, refl, sym, ap, ◌∙◌, map, arith}
+use Rattle.std.proofs.Common.{get_or, ◌≡◌, ℕ, ◌+◌, ◌<◌, List, [], ◌∷◌, ◌++◌, Bool, true, false, cond, length, refl, sym, ap, ◌∙◌, arith, suc, add-one}
 use Rattle.std.specs.List.{filter, fold, range_with_len}
 use Rattle.std.proofs.lemmas.List.{map-id, get_or_default}
 use Rattle.std.proofs.lemmas.List.Sums.{fold-append}
 use Rattle.std.proofs.lemmas.List.FromFn.{filter_of_map_range_with_len_more, fill_by_all}
 use Rattle.list_cells.specs.Contents.{Content, empty_content}
 use Rattle.list_cells.specs.declared.block.Block.{Block}
-use Rattle.list_cells.specs.Blocks.{content_at, block_at, with_place, is_in, smallest, with_block}
+use Rattle.list_cells.specs.Blocks.{content_at, block_at, with_place, is_in, with_block}
 
 -- one number more
 filter_more : (p : ℕ → Bool) (n : ℕ) → filter p (range_with_len 0 (n + 1)) ≡ filter p (range_with_len 0 n) ++ cond (p n) (n ∷ []) []
@@ -50,3 +50,9 @@ smallest_takes columns cells place n c old now h is sel was e = e ∙ ap (λ b. 
 pub smallest_passes : (columns : ℕ) (cells : List Content) (place n : ℕ) (c : Content) (old : Block) → n < length cells → c ≡ get_or cells n c → c.selected ≡ false
     → old ≡ smallest_below columns cells place n → old ≡ smallest_below columns cells place (n + 1)
 smallest_passes columns cells place n c old h is sel was = was ∙ sym (smallest_more columns cells place n c false h is sel)
+
+-- and by the number of cells
+pub smallest_below_suc : (columns : ℕ) (cells : List Content) (place n : ℕ)
+    → smallest_below columns cells place (suc n) ≡ cond ((content_at cells n).selected) (with_place columns (smallest_below columns cells place n) n) (smallest_below columns cells place n)
+smallest_below_suc columns cells place n =
+    ap (smallest_below columns cells place) (sym (add-one n)) ∙ fold_more (with_place columns) (block_at columns place) (λ k. (content_at cells k).selected) n

@@ -1,5 +1,5 @@
 -- Blocks of cells, and what a click does to the selection of all cells.
-use Rattle.std.specs.Prelude.{ℕ, ◌/◌, ◌%◌, Bool, true, false, not, ◌&&◌, nat_le, min, max, List, length, map, slice_index_or, slice_set}
+use Rattle.std.specs.Prelude.{◌≡◌, ◌<◌, ◌≤◌, ℕ, ◌/◌, ◌%◌, Bool, true, false, not, ◌&&◌, nat_le, min, max, List, length, map, slice_index_or, slice_set}
 use Rattle.std.specs.List.{filter, fold, range_with_len}
 use Rattle.list_cells.specs.Contents.{Content, empty_content, deselected_contents}
 use Rattle.list_cells.specs.declared.block.Block.{Block}
@@ -58,3 +58,9 @@ clicked Extends columns place cells = with_block columns (smallest columns cells
 -- what a click with some keys on a cell makes of a list
 abbrev pub clicked_cell : SelectionFlags → ClickKeys → Cell → Grid → Grid
 clicked_cell flags keys c g = record g { contents = clicked (click_of flags keys (content_of g c).selected) g.columns (place_of g c) g.contents }
+
+-- the cell at a place passes a test, and none does that lies before it, from a place on
+pub record IsFirst (test : Content → Bool) (g : Grid) (from found : ℕ) : Type 0 where
+  pub passes : test (content_at g.contents found) ≡ true
+  pub behind : from ≤ found
+  pub none_before : (k : ℕ) → from ≤ k → k < found → test (content_at g.contents k) ≡ false

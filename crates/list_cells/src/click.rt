@@ -6,6 +6,7 @@ use tb_geom::Refusal;
 
 /// The modifier keys among an event's modifiers.
 const COMMAND_KEY: u16 = 0x0100;
+
 const SHIFT_KEY: u16 = 0x0200;
 
 /// How cells are selected (*Inside Macintosh* IV, "The List Manager Package", "Cell Selection Algorithm").

@@ -1,4 +1,4 @@
-use Rattle.std.proofs.Common.{◌≡◌, ◌<◌, ◌≤◌, ℕ, length}
+use Rattle.std.proofs.Common.{◌≡◌, ◌<◌, ◌≤◌, ℕ}
 use Rattle.list_cells.specs.Blocks.{content_at, is_in}
 use Rattle.list_cells.proofs.block.select_block.Given as goal
 
