@@ -14,7 +14,7 @@ use Rattle.def_iface.specs.Meaning.{Definition, Hears, size_after}
 use Rattle.def_iface.specs.Keeping.{flags_after, title_after, keeps_title, flags_in, title_in, size_in, kept_picture, kept_hit}
 
 -- of two titles the later one is kept
-later_title : (o : Option (List ℕ)) (t title : List ℕ)
+pub later_title : (o : Option (List ℕ)) (t title : List ℕ)
     → option_map_or (λ x. take 255 x) o (take 255 t) ≡ option_map_or (λ x. take 255 x) (Some (unwrap_or o t)) title
 later_title None t title = refl
 later_title (Some x) t title = refl

@@ -3,8 +3,9 @@ use Rattle.std.proofs.Common.{◌≡◌, ℕ, Bool, true, false, ◌==◌, ◌&&
 use Rattle.std.proofs.lemmas.Bool.{eqb-true, and_parts, not-true}
 use Rattle.std.proofs.lemmas.Bool.Decides.{nat_tests}
 use Rattle.tb_geom.specs.declared.point.Point.{Point}
-use Rattle.def_iface.specs.Desk.{Part, ContentLayer, LayeredWindow, LayeredDesk, in_structure, local, window_of, layer_of, same_part}
-use Rattle.def_iface.specs.Desk.Part.{Picture}
+use Rattle.def_iface.specs.declared.part.Part.{Part}
+use Rattle.def_iface.specs.declared.part.Part.TheVariants as part
+use Rattle.def_iface.specs.Desk.{ContentLayer, LayeredWindow, LayeredDesk, in_structure, local, window_of, layer_of, same_part}
 use Rattle.def_iface.specs.Owner.{Owner, owner_among, owner_within, own_bit, same_owner}
 use Rattle.def_iface.specs.Owner.Owner.{Desktop, Bar, Frame, Content}
 
@@ -12,10 +13,20 @@ pub same_number : (n : ℕ) → (n == n) ≡ true
 same_number n = eq-eqb n n refl
 
 pub same_part-self : (a : Part) → same_part a a ≡ true
-same_part-self Picture = refl
+same_part-self part.Picture = refl
+same_part-self (part.Control a) = same_number a
+same_part-self (part.List a) = same_number a
 
 pub same_part-true : (a b : Part) → same_part a b ≡ true → a ≡ b
-same_part-true Picture Picture e = refl
+same_part-true part.Picture part.Picture e = refl
+same_part-true part.Picture (part.Control b) e = cc
+same_part-true part.Picture (part.List b) e = cc
+same_part-true (part.Control a) part.Picture e = cc
+same_part-true (part.Control a) (part.Control b) e = ap part.Control (eqb-true a b e)
+same_part-true (part.Control a) (part.List b) e = cc
+same_part-true (part.List a) part.Picture e = cc
+same_part-true (part.List a) (part.Control b) e = cc
+same_part-true (part.List a) (part.List b) e = ap part.List (eqb-true a b e)
 
 -- owners that test as the same are the same
 pub same_owner-true : (o q : Owner) → same_owner o q ≡ true → o ≡ q

@@ -2,7 +2,8 @@
 use Rattle.std.proofs.Common.{◌≡◌, Bool, true, false, ◌&&◌, if◌then◌else◌, List, [], ◌∷◌, fold, Some, refl, sym, ◌∙◌, ap}
 use Rattle.std.proofs.lemmas.Grind.{fold-append}
 use Rattle.tb_geom.specs.declared.point.Point.{Point}
-use Rattle.def_iface.specs.Desk.{Part, ContentLayer, LayeredWindow, LayeredDesk, IsDesk, AreParts, AreWindows, in_structure, in_bar, local, layer_of}
+use Rattle.def_iface.specs.declared.part.Part.{Part}
+use Rattle.def_iface.specs.Desk.{ContentLayer, LayeredWindow, LayeredDesk, IsDesk, AreParts, AreWindows, in_structure, in_bar, local, layer_of}
 use Rattle.def_iface.specs.Owner.{Owner, owner, owner_among, owner_within, own_bit}
 use Rattle.def_iface.specs.Owner.Owner.{Bar, Frame, Content}
 use Rattle.def_iface.specs.Scratch.{painted, content_layers, window_layers, layers_of, scratch}

@@ -10,8 +10,7 @@ use Rattle.std.proofs.lemmas.Option.{get_or_from_slice_get, slice_get-get_or, sl
 use Rattle.std.proofs.lemmas.Slice.Eq.{slice_eq-Decides}
 use Rattle.def_iface.specs.declared.window_def.Stage.{Stage}
 use Rattle.def_iface.specs.declared.window_def.Stage.TheVariants.{Fresh, Live, Closed}
-use Rattle.def_iface.specs.Meaning.{Definition, Loan}
-use Rattle.def_iface.specs.Stocked.{SlotView, IsFull, IsTaken, is_kind, is_fresh, holds_fresh, offers, is_left}
+use Rattle.def_iface.specs.Slots.{SlotOf, LoanOf, IsFull, IsTaken, is_kind, is_fresh, holds_fresh, offers, is_left}
 use Rattle.std.proofs.lemmas.List.{length-map, length-set, get_or-set_same, map-set}
 use Rattle.std.proofs.lemmas.List.Sums.{position_or_len_is}
 
@@ -42,23 +41,23 @@ position-map p f xs =
 
 -- ---- slots and what they hold
 
-is_kind-true : (kind : List ℕ) (s : SlotView) → is_kind kind s ≡ true → s.kind ≡ kind
+is_kind-true : {D : Type 0} (kind : List ℕ) (s : SlotOf D) → is_kind kind s ≡ true → s.kind ≡ kind
 is_kind-true kind s e = (slice_eq-Decides Decides-eqb s.kind kind _ refl).0 e
 
-holds_fresh-true : (held : Option Definition) → holds_fresh held ≡ true → (d : Definition) × (held ≡ Some d) × (d.stage ≡ Fresh)
-holds_fresh-true None e = absurd (cc)
-holds_fresh-true (Some d) e = (d, refl, fresh d.stage e)
-  where
-    fresh : (s : Stage) → is_fresh s ≡ true → s ≡ Fresh
-    fresh Fresh e = refl
-    fresh Live e = absurd (cc)
-    fresh Closed e = absurd (cc)
+fresh-true : (s : Stage) → is_fresh s ≡ true → s ≡ Fresh
+fresh-true Fresh e = refl
+fresh-true Live e = absurd (cc)
+fresh-true Closed e = absurd (cc)
+
+holds_fresh-true : {D : Type 0} (stage : D → Stage) (held : Option D) → holds_fresh stage held ≡ true → (d : D) × (held ≡ Some d) × (stage d ≡ Fresh)
+holds_fresh-true stage None e = absurd (cc)
+holds_fresh-true stage (Some d) e = (d, refl, fresh-true (stage d) e)
 
 -- a slot that offers the kind holds a fresh definition of it
-pub offers-true : (kind : List ℕ) (s : SlotView) → offers kind s ≡ true → (d : Definition) × (s ≡ record { kind = kind; held = Some d }) × (d.stage ≡ Fresh)
-offers-true kind s e =
-    let parts = and_parts (is_kind kind s) (holds_fresh s.held) e in
-    let d = holds_fresh-true s.held parts.1 in
+pub offers-true : {D : Type 0} (stage : D → Stage) (kind : List ℕ) (s : SlotOf D) → offers stage kind s ≡ true → (d : D) × (s ≡ record { kind = kind; held = Some d }) × (stage d ≡ Fresh)
+offers-true stage kind s e =
+    let parts = and_parts (is_kind kind s) (holds_fresh stage s.held) e in
+    let d = holds_fresh-true stage s.held parts.1 in
     let named = is_kind-true kind s parts.0 in
     (d.0, λ i. record { kind = named i; held = d.1 i }, d.2)
 
@@ -83,18 +82,18 @@ put-seen view xs i x put new read seen = by_get (slice_get xs i) refl
         rw (slice_get-map view xs i, e) (map-set view xs i new ∙ ap (λ z. set (map view xs) i z) (seen ∙ ap (λ z. put (view z)) (sym same)))
 
 -- a slot is its kind and what it holds
-pub same_slot : (s : SlotView) (kind : List ℕ) (held : Option Definition) → s.kind ≡ kind → s.held ≡ held → s ≡ record { kind = kind; held = held }
+pub same_slot : {D : Type 0} (s : SlotOf D) (kind : List ℕ) (held : Option D) → s.kind ≡ kind → s.held ≡ held → s ≡ record { kind = kind; held = held }
 same_slot s kind held k h = λ i. record { kind = k i; held = h i }
 
 -- what a slot holds is one definition
-pub held_same : (s : SlotView) (kind : List ℕ) (d e : Definition) → s ≡ record { kind = kind; held = Some d } → s.held ≡ Some e → d.stage ≡ Fresh → e.stage ≡ Fresh
-held_same s kind d e is held fresh =
-    let same : Some d ≡ Some e = sym (ap (λ (t : SlotView). t.held) is) ∙ held in
+pub held_same : {D : Type 0} (stage : D → Stage) (s : SlotOf D) (kind : List ℕ) (d e : D) → s ≡ record { kind = kind; held = Some d } → s.held ≡ Some e → stage d ≡ Fresh → stage e ≡ Fresh
+held_same {D} stage s kind d e is held fresh =
+    let same : Some d ≡ Some e = sym (ap (λ (t : SlotOf D). t.held) is) ∙ held in
     let same_d : d ≡ e = cc in
-    sym (ap (λ (x : Definition). x.stage) same_d) ∙ fresh
+    sym (ap stage same_d) ∙ fresh
 
 -- an empty slot is one of the slots
-pub left_is_there : {X : Type 0} (view : X → SlotView) (xs : List X) (i : ℕ) → is_left i (map view xs) ≡ true → i < length xs
+pub left_is_there : {X D : Type 0} (view : X → SlotOf D) (xs : List X) (i : ℕ) → is_left i (map view xs) ≡ true → i < length xs
 left_is_there view xs i e =
     let all : length (map view xs) ≡ length xs = length-map xs view in
     elim (slice_get_cases (map view xs) i).1 [
@@ -103,9 +102,9 @@ left_is_there view xs i e =
     ]
 
 -- the slot of a definition that was taken is empty
-pub taken_is_left : (kind : List ℕ) (loan : Loan) (old new : List SlotView) → IsTaken kind loan old new → is_left loan.slot new ≡ true
-taken_is_left kind loan old new taken =
-    let emptied : SlotView = record { kind = kind; held = None } in
+pub taken_is_left : {D : Type 0} (stage : D → Stage) (kind : List ℕ) (loan : LoanOf D) (old new : List (SlotOf D)) → IsTaken stage kind loan old new → is_left loan.slot new ≡ true
+taken_is_left {D} stage kind loan old new taken =
+    let emptied : SlotOf D = record { kind = kind; held = None } in
     let within : loan.slot < length old = slice_get_within old loan.slot _ taken.held in
     let long : length (set old loan.slot emptied) ≡ length old = length-set old loan.slot emptied in
     let there : slice_get (set old loan.slot emptied) loan.slot ≡ Some emptied =
@@ -113,5 +112,5 @@ taken_is_left kind loan old new taken =
     rw (taken.left, there) refl
 
 -- a slot was added with a fresh definition in it
-pub full_added : (old new : List SlotView) (kind : List ℕ) (d : Definition) → d.stage ≡ Fresh → new ≡ old ++ record { kind = kind; held = Some d } ∷ [] → All IsFull old → All IsFull new
-full_added old new kind d fresh added all = subst (All IsFull) (sym added) (All-push IsFull old (record { kind = kind; held = Some d }) all (d, refl, inl fresh))
+pub full_added : {D : Type 0} (stage : D → Stage) (old new : List (SlotOf D)) (kind : List ℕ) (d : D) → stage d ≡ Fresh → new ≡ old ++ record { kind = kind; held = Some d } ∷ [] → All (IsFull stage) old → All (IsFull stage) new
+full_added stage old new kind d fresh added all = subst (All (IsFull stage)) (sym added) (All-push (IsFull stage) old (record { kind = kind; held = Some d }) all (d, refl, inl fresh))

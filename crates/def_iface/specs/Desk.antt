@@ -1,12 +1,10 @@
 -- The desk as plain data: a stack of layers, with no region and no saved pixel.
-use Rattle.std.specs.Prelude.{◌≡◌, ℕ, Bool, true, ◌==◌, ◌&&◌, if◌then◌else◌, List, [], ◌∷◌, Option, None, Some, ℤ, pos, int_lt}
+use Rattle.std.specs.Prelude.{◌≡◌, ℕ, Bool, true, false, ◌==◌, ◌&&◌, if◌then◌else◌, List, [], ◌∷◌, Option, None, Some, ℤ, pos, int_lt}
 use Rattle.tb_geom.specs.declared.point.Point.{Point}
 use Rattle.tb_geom.specs.Points.{PixelSet, minus}
 use Rattle.tb_geom.specs.Rects.{between}
-
--- what a layer of a window's content is; controls and lists are to be further ones
-pub data Part : Type 0 where
-  Picture : Part
+use Rattle.def_iface.specs.declared.part.Part.{Part}
+use Rattle.def_iface.specs.declared.part.Part.TheVariants as part
 
 -- a layer of a window's content: where it lies and what it shows, in the window's coordinates
 pub record ContentLayer : Type 0 where
@@ -55,8 +53,12 @@ abbrev pub window_of : ℕ → List LayeredWindow → Option LayeredWindow
 window_of s [] = None
 window_of s (w ∷ ws) = if w.serial == s then Some w else window_of s ws
 
+-- the parts are one: both the picture, or controls or lists of one serial
 abbrev pub same_part : Part → Part → Bool
-same_part Picture Picture = true
+same_part part.Picture part.Picture = true
+same_part (part.Control a) (part.Control b) = a == b
+same_part (part.List a) (part.List b) = a == b
+same_part _ _ = false
 
 -- the layer that is this part
 abbrev pub layer_of : Part → List ContentLayer → Option ContentLayer

@@ -1,11 +1,16 @@
--- What the contracts speak of: what a definition means, what one keeps of what it is told, and what a stock of them holds, the desk and its layers, the
--- owner of a pixel, and what a change does to pixels.
+-- What the contracts speak of: what definitions of windows, controls, menus and lists mean, what one keeps of what it is
+-- told, and what a stock of them holds, the desk and its layers, the owner of a pixel, and what a change does to pixels.
 pub mod Sizes
+pub mod Slots
 pub mod News
 pub mod Meaning
 pub mod Keeping
+pub mod ControlNews
+pub mod ControlMeaning
+pub mod ControlKeeping
+pub mod MenuMeaning
+pub mod ListMeaning
 pub mod Stocked
-pub mod Slots
 pub mod Desk
 pub mod Owner
 pub mod Scratch

@@ -12,6 +12,7 @@ use Rattle.def_iface.specs.declared.window_def.WindowChange.{WindowChange}
 use Rattle.def_iface.specs.declared.window_def.WindowChange.TheVariants.{Resized}
 use Rattle.def_iface.specs.Sizes.{is_size}
 use Rattle.def_iface.specs.News.{News, AllNews, no_news, told_all}
+use Rattle.def_iface.specs.Slots.{LoanOf}
 
 -- A definition as a value: its stage, the size that it was told, its regions and their box as functions of the size
 -- alone, its picture in a font, which is the list of its bytes, and which part of the window a point of the structure lies
@@ -26,9 +27,8 @@ pub record Definition : Type 0 where
   pub hit : News → Point → Hit
 
 -- a definition that is out of its slot, and the number of that slot
-pub record Loan : Type 0 where
-  pub definition : Definition
-  pub slot : ℕ
+abbrev pub Loan : Type 0
+Loan = LoanOf Definition
 
 -- the regions and their box answer each size as before
 pub record SameRegions (old new : Definition) : Type 0 where

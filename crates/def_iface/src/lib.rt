@@ -1,56 +1,81 @@
-//! The interface of window definitions, and the stock that they wait in.
+//! The interfaces of definitions, the stock that they wait in, and the desk as plain data.
 //!
-//! A definition is the code behind a kind of window (*Inside Macintosh* I, "The Window Manager",
-//! "Defining Your Own Windows"): it answers which pixels belong to a window of some size, and it draws
-//! the window's frame. The program makes its definitions, and hands them in as boxes of the trait
-//! `WindowDef`. The Toolbox knows no more of a box than the value that the trait's contract gives it:
-//! its stage, the size that it was told, its regions and their box as functions of the size alone, its
-//! picture, and the part of the window that a point lies in. The picture is asked with a font, the
-//! desk's: at each point it has a value in each font. Points are local to the window, whose content
-//! begins at 0 0 and lies in its structure.
+//! A definition is the code behind a kind of window, control, menu or list (*Inside Macintosh* I, "The Window Manager",
+//! "The Control Manager" and "The Menu Manager", "Defining Your Own ..."; IV, "The List Manager Package"): it answers which
+//! pixels belong to a thing of some size, which of its parts a point lies in, and it draws it. The program makes its
+//! definitions, and hands them in as boxes of the traits `WindowDef`, `ControlDef`, `MenuDef` and `ListDef`. The Toolbox knows
+//! no more of a box than the value that the trait's contract gives it (`Definition`, `ControlDefinition`, `MenuDefinition`,
+//! `ListDefinition` in specs): its stage, what is a function of the size alone, as its regions, and its picture, which is
+//! asked with a font, the desk's: at each point it has a value in each font. Points are local to the window, control, menu or
+//! list cell, whose content or rectangle begins at 0 0.
 //!
-//! A definition's life has three stages. It is Fresh when it is made. `begin` makes it Live, and from
-//! then on it can draw, and can be told of changes (`WindowChange`): of the size, the title, the
-//! highlighting, the go-away box and its tracking, and the zoom state. Each change is answered by a
-//! rectangle outside which the picture stayed as it was, in every font and within the range of
-//! coordinates. `dispose` makes it Closed, and Closed it remains: no window is made with it again.
+//! A definition's life has three stages. It is Fresh when it is made. `begin` makes it Live, and from then on it can draw, and
+//! can be told of changes: of a window its size, title, highlighting, go-away box with its tracking, and zoom state; of a
+//! control its size, title, setting and highlighting; of a menu which item is highlighted; of a list the size of its cells and
+//! whether empty ones are highlighted. Each change is answered by a rectangle outside which the picture stayed as it was, in
+//! every font and within the range of coordinates. What it was told last of each of these is part of its meaning, and it
+//! forgets nothing of it. `dispose` makes it Closed, and Closed it remains: nothing is made with it again.
 //!
-//! Definitions wait in a `Stock`: a list of slots, each for a kind that goes by its name, and several
-//! slots may be for one kind. `take` gives the first Fresh definition of a kind, in the order in which
-//! the slots were added, and leaves its slot empty. What it gives is a `Taken`, in which the box
-//! travels together with the number of its slot. So in a stock whose boxes come back to it each slot
-//! has one definition for good, whether that is in it or out: the box goes back to the very place that
-//! it left, and putting it back takes no memory and cannot fail. A Closed definition is put back too.
-//! Its slot is then still one of the kind, which is how a kind that is used up differs from one that
-//! never was.
+//! Definitions wait in a `Stock`, which has slots for each of the four: `WindowStock`, `ControlStock`, `ListStock` and
+//! `MenuStock`. A slot is for a kind that goes by its name, and several slots may be for one kind. `take` gives the first
+//! Fresh definition of a kind, in the order in which the slots were added, and leaves its slot empty. What it gives, a `Taken`
+//! or its like, has the box together with the number of its slot. So in a stock whose boxes come back to it each slot has one
+//! definition for good, whether that is in it or out: the box goes back to the very place that it left, and putting it back
+//! takes no memory and cannot fail. A Closed definition is put back too. Its slot is then still one of the kind, which is how
+//! a kind that is used up differs from one that never was. How slots work is said once for all four (`slots`); what stands in
+//! one is a box there, of which no more is known than its stage.
 //!
-//! A definition draws on a `draw_port::Canvas`, by any of its calls: fills, images, texts, operations
-//! and whole pictures. The canvas carries the font of the picture, and its own coordinates are those
-//! local to the window. The definition gives each pixel of the canvas its value, also white ones:
-//! nothing of what stood there shows through. Of a definition's picture the desk shows the frame's
-//! pixels alone, so a definition may fill all of the canvas and put the rest on top, whatever that
-//! gives to pixels outside its frame.
+//! A definition draws on a `draw_port::Canvas`, by any of its calls: fills, images, texts, operations and whole pictures. The
+//! canvas carries the font of the picture, and its own coordinates are those local to what is drawn. The definition gives each
+//! pixel of the canvas its value, also white ones: nothing of what stood there shows through. Of a window definition's picture
+//! the desk shows the frame's pixels alone, so such a definition may fill all of the canvas and put the rest on top, whatever
+//! that gives to pixels outside its frame.
 //!
-//! Two laws say what all of this is for. The desk as plain data is a stack of layers: the desktop, the
-//! windows from back to front, each a frame and content layers on it, and the menu bar. The first law:
-//! painting all of it from nothing, back to front, gives each pixel the value of its owner, the one
-//! layer to which the pixel belongs. The second: a call that moves, uncovers or draws pixels, and does
-//! so soundly, keeps a right screen right, where right means that each pixel which waits for no update
-//! has the very value that painting from nothing would give it.
+//! Two laws say what all of this is for. The desk as plain data is a stack of layers: the desktop, the windows from back to
+//! front, each a frame and content layers on it (a `Part` each: controls, lists, the picture), and the menu bar. The first
+//! law: painting all of it from nothing, back to front, gives each pixel the value of its owner, the one layer to which the
+//! pixel belongs. The second: a call that moves, uncovers or draws pixels, and does so soundly, keeps a right screen right,
+//! where right means that each pixel which waits for no update has the very value that painting from nothing would give it.
 //!
-//! Modules: `size` has the sizes of windows, `window_def` the trait, `keeping` what most definitions keep of what
-//! they are told, `stock` the slots, `taken` the definition out of its slot, and `laws` the two laws.
+//! Modules: `size` has the sizes of windows, `part` the layers of a window's content; `window_def`, `control_def`, `menu_def`
+//! and `list_def` the traits; `keeping` and `control_keeping` what most definitions keep of what they are told; `stock`, and
+//! for each trait a module `.._stock`, the slots; `taken`, and `taken_..`, the definition out of its slot; `laws` the laws.
 #![tactic(auto)]
 
+mod control_def;
+mod control_keeping;
+mod control_stock;
 mod keeping;
 pub mod laws;
+mod list_def;
+mod list_stock;
+mod menu_def;
+mod menu_stock;
+mod part;
 mod size;
+mod slots;
 mod stock;
 mod taken;
+mod taken_control;
+mod taken_list;
+mod taken_menu;
 mod window_def;
+mod window_stock;
 
+pub use control_def::{ControlChange, ControlDef};
+pub use control_keeping::KeptControl;
+pub use control_stock::{ControlStock, ReturnedControl, StockedControls};
 pub use keeping::Flags;
+pub use list_def::{ListChange, ListDef};
+pub use list_stock::{ListStock, ReturnedList, StockedLists};
+pub use menu_def::{MenuChange, MenuDef};
+pub use menu_stock::{MenuStock, ReturnedMenu, StockedMenus};
+pub use part::Part;
 pub use size::Size;
-pub use stock::{Returned, Stock, Stocked};
+pub use stock::Stock;
 pub use taken::{Defined, Taken};
+pub use taken_control::{DefinedControl, TakenControl};
+pub use taken_list::{DefinedList, TakenList};
+pub use taken_menu::{DefinedMenu, TakenMenu};
 pub use window_def::{Hit, Stage, WindowChange, WindowDef, WindowRegions};
+pub use window_stock::{Returned, Stocked, WindowStock};

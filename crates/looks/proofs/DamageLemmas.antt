@@ -7,9 +7,9 @@ use Rattle.tb_geom.specs.Rects.{rect_holds, IsBoxOf}
 use Rattle.draw_port.specs.Ops.{frame_holds, is_end}
 use Rattle.looks.specs.declared.step.Step.{Step}
 use Rattle.looks.specs.declared.step.Mark.{Mark}
-use Rattle.looks.specs.declared.step.Mark.TheVariants.{Fill, Frame, Behind, Text}
+use Rattle.looks.specs.declared.step.Mark.TheVariants.{Fill, Frame, Behind, Text, Cross}
 use Rattle.looks.specs.Same.{shows_text}
-use Rattle.looks.specs.Marks.{look_bit, step_value, step_holds, mark_holds, mark_value}
+use Rattle.looks.specs.Marks.{look_bit, step_value, step_holds, mark_holds, mark_value, cross_holds, on_diagonals}
 use Rattle.looks.specs.Letters.{Lettering}
 
 -- a pixel outside the box around two rectangles is outside both
@@ -60,6 +60,14 @@ frame_in r p e = first (rect_holds r p) (is_end r.left p.h r.right || is_end r.t
     first true b e = refl
     first false b e = absurd (cc)
 
+-- a pixel of the diagonals lies in the rectangle
+pub cross_in : (r : Rect) (p : Point) → cross_holds r p ≡ true → rect_holds r p ≡ true
+cross_in r p e = first (rect_holds r p) (on_diagonals r p) e
+  where
+    first : (a b : Bool) → (a && b) ≡ true → a ≡ true
+    first true b e = refl
+    first false b e = absurd (cc)
+
 -- one step more of each look
 pub same-more : (u t : Lettering) (p : Point) (old new : List Step) (k : ℕ) (a b : Step) → k < length old → k < length new
     → look_bit t (take k new) p ≡ look_bit u (take k old) p
@@ -80,5 +88,6 @@ alike old new false u t p d e k is = ap (λ s. step_value t p d s) (sym e) ∙ a
     by_mark : (m : Mark) → not (shows_text m) ≡ true → mark_holds t m p ≡ mark_holds u m p
     by_mark (Fill r s) k = refl
     by_mark (Frame r s) k = refl
+    by_mark (Cross r) k = refl
     by_mark (Behind plate) k = absurd (cc)
     by_mark (Text place) k = absurd (cc)

@@ -19,19 +19,29 @@ use Rattle.draw_port.specs.declared.shapes.Shape.TheVariants.{Frame}
 use Rattle.draw_port.proofs.OverLemmas.{equal_rows, white_everywhere}
 use Rattle.looks.specs.declared.step.Mark.{Mark}
 use Rattle.looks.specs.declared.step.Step.{Step}
+use Rattle.looks.specs.declared.lettered.Lettered.{Lettered}
 use Rattle.looks.specs.Letters.{Lettering, lettering}
+use Rattle.looks.specs.Lettered.{one_value, lettered_value}
 use Rattle.looks.specs.Marks.{step_value, look_bit, step_holds, mark_holds, mark_value}
 
-twice : (t : Bool) (g : Bool → Bool) (x q d : Bool) → q ≡ g x → cond t (g (cond t x d)) (cond t x d) ≡ cond t q d
+-- what is drawn over a part that was drawn before, with the value q of both together
+pub twice : (t : Bool) (g : Bool → Bool) (x q d : Bool) → q ≡ g x → cond t (g (cond t x d)) (cond t x d) ≡ cond t q d
 twice true g x q d e = sym e
 twice false g x q d e = refl
 
 -- on a canvas of the same frame a step is drawn at the same pixels, and alike
-frame_step : (c d : Canvas) (text : List ℕ) (step : Step) (p : Point) (old : Bool) → SameFrame c d
+pub frame_step : (c d : Canvas) (text : List ℕ) (step : Step) (p : Point) (old : Bool) → SameFrame c d
     → cond (canvas_holds d p) (step_value (lettering d.font.now text) (canvas_point d p) old step) old ≡ cond (canvas_holds c p) (step_value (lettering c.font.now text) (canvas_point c p) old step) old
 frame_step c d text step p old f = λ i.
     cond (rect_holds (f.clip i) p && cut_holds ((f.cut i).now) p)
     (step_value (lettering ((f.font i).now) text) (record { h = p.h -ℤ (f.origin i).h; v = p.v -ℤ (f.origin i).v }) old step) old
+
+-- and so are steps with texts of their own
+pub frame_steps : (c d : Canvas) (steps : List Lettered) (p : Point) (old : Bool) → SameFrame c d
+    → cond (canvas_holds d p) (lettered_value d.font.now steps (canvas_point d p) old) old ≡ cond (canvas_holds c p) (lettered_value c.font.now steps (canvas_point c p) old) old
+frame_steps c d steps p old f = λ i.
+    cond (rect_holds (f.clip i) p && cut_holds ((f.cut i).now) p)
+    (lettered_value ((f.font i).now) steps (record { h = p.h -ℤ (f.origin i).h; v = p.v -ℤ (f.origin i).v }) old) old
 
 -- one step more
 pub drawn-more : (text : List ℕ) (c d : Canvas) (steps : List Step) (k : ℕ) (other : Step) (first middle last : Bits)
@@ -102,3 +112,17 @@ pub drawn-white : (c : Canvas) (pixels : Point → Bool) (first last : Bits)
     → Draws pixels (λ p d. mode_bit Copy (pattern_bit (equal_rows 0) (canvas_point c p)) d) first last
     → Draws pixels (λ p d. false) first last
 drawn-white c pixels first last drawn = Draws-value pixels _ _ first last (λ p d. white_everywhere (canvas_point c p)) drawn
+
+-- one step with its own text more
+pub lettered-more : (c d : Canvas) (steps : List Lettered) (k : ℕ) (s : Lettered) (text : List ℕ) (first middle last : Bits)
+    → k < length steps → s ≡ get_or steps k s → text ≡ s.text → SameFrame c d
+    → Draws (canvas_holds c) (λ p old. lettered_value c.font.now (take k steps) (canvas_point c p) old) first middle
+    → Draws (canvas_holds d) (λ p old. step_value (lettering d.font.now text) (canvas_point d p) old s.step) middle last
+    → Draws (canvas_holds c) (λ p old. lettered_value c.font.now (take (k + 1) steps) (canvas_point c p) old) first last
+lettered-more c d steps k s text first middle last h is e same drawn over =
+    let f = one_value c.font.now in
+    Draws-over (canvas_holds c) (canvas_holds c) (canvas_holds c) _ (λ p old. f (canvas_point c p) old s) _ first middle last
+    (λ p old on. twice (canvas_holds c p) (λ b. f (canvas_point c p) b s) (lettered_value c.font.now (take k steps) (canvas_point c p) old) (lettered_value c.font.now (take (k + 1) steps) (canvas_point c p) old) old
+    (fold_more (f (canvas_point c p)) old steps k s h ∙ ap (f (canvas_point c p) (lettered_value c.font.now (take k steps) (canvas_point c p) old)) (sym is)))
+    drawn
+    (Draws-same _ _ _ _ middle last (λ p old on. frame_step c d text s.step p old same ∙ ap (λ x. cond (canvas_holds c p) (step_value (lettering c.font.now x) (canvas_point c p) old s.step) old) e) over)

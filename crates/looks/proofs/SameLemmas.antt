@@ -13,12 +13,14 @@ use Rattle.bit_map.specs.declared.mode.Mode.TheVariants.{Copy, Or, Xor, Bic, Not
 use Rattle.bit_map.specs.Modes.{source_number}
 use Rattle.looks.specs.declared.pen.Pen.{Pen}
 use Rattle.looks.specs.declared.pen.Pen.TheVariants.{At, Middle}
+use Rattle.looks.specs.declared.pen.Baseline.{Baseline}
+use Rattle.looks.specs.declared.pen.Baseline.TheVariants.{At as AtRow, Middle as MiddleRow}
 use Rattle.looks.specs.declared.pen.Plate.{Plate}
 use Rattle.draw_port.specs.declared.shapes.Shade.{Shade}
 use Rattle.looks.specs.declared.step.Mark.{Mark}
-use Rattle.looks.specs.declared.step.Mark.TheVariants.{Fill, Frame, Behind, Text}
+use Rattle.looks.specs.declared.step.Mark.TheVariants.{Fill, Frame, Behind, Text, Cross}
 use Rattle.looks.specs.declared.step.Step.{Step}
-use Rattle.looks.specs.Same.{same_rects, same_shades, same_marks, same_plates, same_pens}
+use Rattle.looks.specs.Same.{same_rects, same_shades, same_marks, same_plates, same_pens, same_baselines}
 
 and_true : (a b : Bool) → (a && b) ≡ true → (a ≡ true) × (b ≡ true)
 and_true true b e = (refl, e)
@@ -74,11 +76,18 @@ pens_same (Middle w) (Middle v) e = ap Middle (eqb-true w v e)
 pens_same (At x) (Middle v) e = absurd (cc)
 pens_same (Middle w) (At y) e = absurd (cc)
 
+pub baselines_same : (a b : Baseline) → same_baselines a b ≡ true → a ≡ b
+baselines_same (AtRow x) (AtRow y) e = ap AtRow ((Decides-int_eq x y).0 e)
+baselines_same (MiddleRow h) (MiddleRow k) e = ap MiddleRow (eqb-true h k e)
+baselines_same (AtRow x) (MiddleRow k) e = absurd (cc)
+baselines_same (MiddleRow h) (AtRow y) e = absurd (cc)
+
 pub marks_same : (a b : Mark) → same_marks a b ≡ true → a ≡ b
 marks_same (Fill r s) (Fill q t) e = let both = and_true (same_rects r q) (same_shades s t) e in λ i. Fill (rects_same r q both.0 i) (shades_same s t both.1 i)
 marks_same (Frame r s) (Frame q t) e = let both = and_true (same_rects r q) (same_shades s t) e in λ i. Frame (rects_same r q both.0 i) (shades_same s t both.1 i)
 marks_same (Behind a) (Behind b) e = ap Behind (plates_same a b e)
-marks_same (Text a) (Text b) e = let both = and_true (same_pens a.pen b.pen) (int_eq a.baseline b.baseline) e in λ i. Text (record { pen = pens_same a.pen b.pen both.0 i; baseline = (Decides-int_eq a.baseline b.baseline).0 both.1 i })
+marks_same (Text a) (Text b) e = let both = and_true (same_pens a.pen b.pen) (same_baselines a.baseline b.baseline) e in λ i. Text (record { pen = pens_same a.pen b.pen both.0 i; baseline = baselines_same a.baseline b.baseline both.1 i })
+marks_same (Cross r) (Cross q) e = ap Cross (rects_same r q e)
 marks_same (Fill r s) (Frame q t) e = absurd (cc)
 marks_same (Fill r s) (Behind q) e = absurd (cc)
 marks_same (Fill r s) (Text q) e = absurd (cc)
@@ -91,6 +100,14 @@ marks_same (Behind a) (Text q) e = absurd (cc)
 marks_same (Text a) (Fill q t) e = absurd (cc)
 marks_same (Text a) (Frame q t) e = absurd (cc)
 marks_same (Text a) (Behind q) e = absurd (cc)
+marks_same (Fill r s) (Cross q) e = absurd (cc)
+marks_same (Frame r s) (Cross q) e = absurd (cc)
+marks_same (Behind a) (Cross q) e = absurd (cc)
+marks_same (Text a) (Cross q) e = absurd (cc)
+marks_same (Cross r) (Fill q t) e = absurd (cc)
+marks_same (Cross r) (Frame q t) e = absurd (cc)
+marks_same (Cross r) (Behind q) e = absurd (cc)
+marks_same (Cross r) (Text q) e = absurd (cc)
 
 pub steps_same : (a b : Step) → a.on ≡ b.on → same_rects a.cut b.cut ≡ true → same_marks a.mark b.mark ≡ true → a ≡ b
 steps_same a b on cut mark = λ i. record { on = on i; cut = rects_same a.cut b.cut cut i; mark = marks_same a.mark b.mark mark i }

@@ -6,10 +6,12 @@ use Rattle.tb_geom.specs.declared.rect.Rect.{Rect}
 use Rattle.bit_map.specs.Modes.{source_number}
 use Rattle.looks.specs.declared.pen.Pen.{Pen}
 use Rattle.looks.specs.declared.pen.Pen.TheVariants.{At, Middle}
+use Rattle.looks.specs.declared.pen.Baseline.{Baseline}
+use Rattle.looks.specs.declared.pen.Baseline.TheVariants.{At as AtRow, Middle as MiddleRow}
 use Rattle.looks.specs.declared.pen.Plate.{Plate}
 use Rattle.draw_port.specs.declared.shapes.Shade.{Shade}
 use Rattle.looks.specs.declared.step.Mark.{Mark}
-use Rattle.looks.specs.declared.step.Mark.TheVariants.{Fill, Frame, Behind, Text}
+use Rattle.looks.specs.declared.step.Mark.TheVariants.{Fill, Frame, Behind, Text, Cross}
 
 abbrev pub same_rects : Rect → Rect → Bool
 same_rects a b = int_eq a.left b.left && (int_eq a.top b.top && (int_eq a.right b.right && int_eq a.bottom b.bottom))
@@ -25,11 +27,17 @@ same_pens (At x) (At y) = int_eq x y
 same_pens (Middle w) (Middle v) = nat_eq w v
 same_pens _ _ = false
 
+abbrev pub same_baselines : Baseline → Baseline → Bool
+same_baselines (AtRow x) (AtRow y) = int_eq x y
+same_baselines (MiddleRow h) (MiddleRow k) = nat_eq h k
+same_baselines _ _ = false
+
 abbrev pub same_marks : Mark → Mark → Bool
 same_marks (Fill r s) (Fill q t) = same_rects r q && same_shades s t
 same_marks (Frame r s) (Frame q t) = same_rects r q && same_shades s t
 same_marks (Behind a) (Behind b) = same_plates a b
-same_marks (Text a) (Text b) = same_pens a.pen b.pen && int_eq a.baseline b.baseline
+same_marks (Text a) (Text b) = same_pens a.pen b.pen && same_baselines a.baseline b.baseline
+same_marks (Cross r) (Cross q) = same_rects r q
 same_marks _ _ = false
 
 -- the mark stands by the text of the look

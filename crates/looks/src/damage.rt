@@ -58,6 +58,7 @@ fn reach_of(step: Step) -> Rect
         match step.mark {
             Mark::Fill(rect, _) => step.cut.sect(rect),
             Mark::Frame(rect, _) => step.cut.sect(rect),
+            Mark::Cross(rect) => step.cut.sect(rect),
             Mark::Behind(_) | Mark::Text(_) => step.cut,
         }
     } else {

@@ -5,7 +5,7 @@ ghost use Rattle.draw_port.specs.Canvases.{canvas_holds, canvas_point, SameFrame
 ghost use Rattle.looks.specs.Letters.{lettering};
 ghost use Rattle.looks.specs.Marks.{look_bit};
 
-use crate::paint::paint;
+use crate::paint::draw_step;
 use crate::step::Step;
 use bit_map::{Mode, Pattern};
 use draw_port::Canvas;
@@ -22,6 +22,6 @@ pub fn draw_look(canvas: &mut Canvas<'_>, steps: &[Step], text: &[u8])
 {
     canvas.fill_all(Pattern::WHITE, Mode::Copy);
     for step in steps {
-        paint(canvas, *step, text);
+        draw_step(canvas, *step, text);
     }
 }

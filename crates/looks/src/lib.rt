@@ -8,6 +8,9 @@
 //! rectangle outside which they are equal in every font. So a step that is not wanted is switched off,
 //! and not left out.
 //!
+//! Where several texts stand together, as in a row of a menu, each step has its own: `draw_lettered` draws
+//! such steps over what stands there, and `draw_step` draws a single one.
+//!
 //! An area is a list of pieces, each a rectangle that is added or taken away: `area_has` asks for a
 //! point, and `area_region` makes the region. Parts are a list of spots: `first_part` gives the part of
 //! the first one that has the point.
@@ -17,8 +20,10 @@
 #![tactic(auto)]
 
 mod area;
+mod cross;
 mod damage;
 mod draw;
+mod lettered;
 mod look;
 mod paint;
 mod pen;
@@ -30,8 +35,10 @@ mod step;
 pub use area::{Piece, area_has, area_region};
 pub use damage::damage_between;
 pub use draw::draw_look;
+pub use lettered::{Label, Lettered, draw_lettered};
 pub use look::Look;
-pub use pen::{Pen, Place, Plate};
+pub use paint::draw_step;
+pub use pen::{Baseline, Pen, Place, Plate};
 pub use rects::{columns, from_right, less, more, sides};
 pub use spot::{Spot, first_part};
 pub use step::{Mark, Step};

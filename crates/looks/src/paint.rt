@@ -6,14 +6,16 @@ ghost use Rattle.draw_port.specs.Ops.{frame_holds, shade_value};
 ghost use Rattle.looks.specs.Letters.{lettering};
 ghost use Rattle.looks.specs.Marks.{step_value, mark_holds, mark_value};
 
+use crate::cross::cross;
 use crate::pen::{pen_point, plate_rect};
 use crate::step::{Mark, Step};
 use bit_map::{Mode, Pattern};
 use draw_port::{Canvas, Op, Shade, Shape, placed_within};
 use tb_geom::Rect;
 
-/// Draws a step, in the look's coordinates, which are the canvas's.
-pub(crate) fn paint(canvas: &mut Canvas<'_>, step: Step, text: &[u8])
+/// Draws a step over what stands there, with a text of at most 65535 characters. The step's coordinates
+/// are the canvas's.
+pub fn draw_step(canvas: &mut Canvas<'_>, step: Step, text: &[u8])
     requires { length text.now ≤ 65535 }
     ensures same_map { canvas.new.map.ghost_name ≡ canvas.old.map.ghost_name }
     ensures same_frame { SameFrame canvas.old canvas.new }
@@ -43,12 +45,18 @@ fn mark(canvas: &mut Canvas<'_>, mark: Mark, text: &[u8])
         (λ p d. mark_value mark (canvas_point canvas.old p) d)
         canvas.old.map.now canvas.new.map.now }
 {
-    let width = canvas.font.width(text);
     match mark {
         Mark::Fill(rect, shade) => canvas.fill(rect, shade.pattern, shade.mode),
         Mark::Frame(rect, shade) => frame(canvas, rect, shade),
-        Mark::Behind(plate) => canvas.fill(plate_rect(width, plate), Pattern::WHITE, Mode::Copy),
-        Mark::Text(place) => canvas.text(text, pen_point(width, place), Mode::Or),
+        Mark::Behind(plate) => {
+            let rect = plate_rect(canvas.font.width(text), plate);
+            canvas.fill(rect, Pattern::WHITE, Mode::Copy);
+        }
+        Mark::Text(place) => {
+            let pen = pen_point(canvas.font, text, place);
+            canvas.text(text, pen, Mode::Or);
+        }
+        Mark::Cross(rect) => cross(canvas, rect),
     }
 }
 

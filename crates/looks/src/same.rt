@@ -1,9 +1,8 @@
 //! Whether two steps are the same.
 ghost use Rattle.std.specs.Prelude.{◌≡◌, true, ◌||◌, ◌&&◌, not};
-ghost use Rattle.std.specs.Ordering.{int_eq};
-ghost use Rattle.looks.specs.Same.{same_rects, same_shades, same_marks, same_plates, same_pens, shows_text};
+ghost use Rattle.looks.specs.Same.{same_rects, same_shades, same_marks, same_plates, same_pens, same_baselines, shows_text};
 
-use crate::pen::{Pen, Place, Plate};
+use crate::pen::{Baseline, Pen, Place, Plate};
 use crate::step::{Mark, Step};
 use draw_port::Shade;
 use tb_geom::Rect;
@@ -35,6 +34,10 @@ fn same_marks(a: Mark, b: Mark) -> bool
             Mark::Text(other) => same_places(place, other),
             _ => false,
         },
+        Mark::Cross(r) => match b {
+            Mark::Cross(q) => same_rects(r, q),
+            _ => false,
+        },
     }
 }
 
@@ -45,9 +48,9 @@ fn same_plates(a: Plate, b: Plate) -> bool
 }
 
 fn same_places(a: Place, b: Place) -> bool
-    ensures { result ≡ (same_pens a.pen b.pen && int_eq a.baseline b.baseline) }
+    ensures { result ≡ (same_pens a.pen b.pen && same_baselines a.baseline b.baseline) }
 {
-    same_pens(a.pen, b.pen) && a.baseline == b.baseline
+    same_pens(a.pen, b.pen) && same_baselines(a.baseline, b.baseline)
 }
 
 fn same_pens(a: Pen, b: Pen) -> bool
@@ -65,12 +68,27 @@ fn same_pens(a: Pen, b: Pen) -> bool
     }
 }
 
+fn same_baselines(a: Baseline, b: Baseline) -> bool
+    ensures { result ≡ same_baselines a b }
+{
+    match a {
+        Baseline::At(x) => match b {
+            Baseline::At(y) => x == y,
+            _ => false,
+        },
+        Baseline::Middle(h) => match b {
+            Baseline::Middle(k) => h == k,
+            _ => false,
+        },
+    }
+}
+
 /// Whether a mark stays as it is: it does not stand by the text, or that is the same.
 pub(crate) fn keeps_text(mark: Mark, same_text: bool) -> bool
     ensures { result ≡ (same_text || not (shows_text mark)) }
 {
     match mark {
-        Mark::Fill(_, _) | Mark::Frame(_, _) => true,
+        Mark::Fill(_, _) | Mark::Frame(_, _) | Mark::Cross(_) => true,
         Mark::Behind(_) | Mark::Text(_) => same_text,
     }
 }

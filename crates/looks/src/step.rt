@@ -1,8 +1,9 @@
 //! The steps of a look.
 ghost use Rattle.std.specs.Prelude.{◌≡◌, false};
 ghost use Rattle.looks.specs.Marks.{black_fill, white_fill, black_frame, white_plate, black_text, when, cut_to};
+ghost use Rattle.looks.specs.Marks.{placed_text, text_at, centred_text, greyed, inverted, light_gray_fill, black_cross};
 
-use crate::pen::{Pen, Place, Plate};
+use crate::pen::{Baseline, Pen, Place, Plate};
 use crate::rects::sides;
 use bit_map::{Mode, Pattern};
 use draw_port::Shade;
@@ -17,8 +18,11 @@ pub enum Mark {
     Frame(Rect, Shade),
     /// White behind the text.
     Behind(Plate),
-    /// The text in black, on a baseline.
+    /// The text in black.
     Text(Place),
+    /// Both diagonals of a square in black: of any rectangle, those from its two upper corners on, as far
+    /// as they lie in it.
+    Cross(Rect),
 }
 
 /// A step of a look. It draws nothing where it is off.
@@ -39,6 +43,24 @@ const BLACK: Shade = Shade {
 /// All white.
 const WHITE: Shade = Shade {
     pattern: Pattern::WHITE,
+    mode: Mode::Copy,
+};
+
+/// Every other pixel white.
+const GRAY_AWAY: Shade = Shade {
+    pattern: Pattern::GRAY,
+    mode: Mode::Bic,
+};
+
+/// The other color of each pixel.
+const TURNED: Shade = Shade {
+    pattern: Pattern::BLACK,
+    mode: Mode::Xor,
+};
+
+/// One pixel in four black.
+const LIGHT_GRAY: Shade = Shade {
+    pattern: Pattern::LIGHT_GRAY,
     mode: Mode::Copy,
 };
 
@@ -96,9 +118,80 @@ impl Step {
             cut,
             mark: Mark::Text(Place {
                 pen: Pen::Middle(width),
-                baseline,
+                baseline: Baseline::At(baseline),
             }),
         }
+    }
+
+    /// Light gray on all of a rectangle, in place of what stands there.
+    pub fn light_gray_fill(rect: Rect) -> Step
+        ensures { result ≡ light_gray_fill rect }
+    {
+        Step {
+            on: true,
+            cut: rect,
+            mark: Mark::Fill(rect, LIGHT_GRAY),
+        }
+    }
+
+    /// Every other pixel of a rectangle white, as what cannot be used is shown.
+    pub fn greyed(rect: Rect) -> Step
+        ensures { result ≡ greyed rect }
+    {
+        Step {
+            on: true,
+            cut: rect,
+            mark: Mark::Fill(rect, GRAY_AWAY),
+        }
+    }
+
+    /// Each pixel of a rectangle in its other color.
+    pub fn inverted(rect: Rect) -> Step
+        ensures { result ≡ inverted rect }
+    {
+        Step {
+            on: true,
+            cut: rect,
+            mark: Mark::Fill(rect, TURNED),
+        }
+    }
+
+    /// Both diagonals of a square in black.
+    pub fn black_cross(rect: Rect) -> Step
+        ensures { result ≡ black_cross rect }
+    {
+        Step {
+            on: true,
+            cut: rect,
+            mark: Mark::Cross(rect),
+        }
+    }
+
+    /// The text at a place, within a cut.
+    pub fn placed_text(cut: Rect, place: Place) -> Step
+        ensures { result ≡ placed_text cut place }
+    {
+        Step {
+            on: true,
+            cut,
+            mark: Mark::Text(place),
+        }
+    }
+
+    /// The text from a column on, on a baseline, within a cut.
+    pub fn text_at(cut: Rect, column: i32, baseline: Baseline) -> Step
+        ensures { result ≡ text_at cut column baseline }
+    {
+        let pen = Pen::At(column);
+        Step::placed_text(cut, Place { pen, baseline })
+    }
+
+    /// The text in the middle of a width, on a baseline that may depend on the font, within a cut.
+    pub fn centred_text(cut: Rect, width: u16, baseline: Baseline) -> Step
+        ensures { result ≡ centred_text cut width baseline }
+    {
+        let pen = Pen::Middle(width);
+        Step::placed_text(cut, Place { pen, baseline })
     }
 
     /// The step, where the test holds, and off where it does not.

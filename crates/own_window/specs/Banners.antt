@@ -10,11 +10,10 @@ use Rattle.def_iface.specs.declared.window_def.Stage.{Stage}
 use Rattle.def_iface.specs.Sizes.{rect_of}
 use Rattle.def_iface.specs.Meaning.{Definition}
 use Rattle.def_iface.specs.Keeping.{size_in}
-use Rattle.looks.specs.declared.pen.Pen.TheVariants.{At}
-use Rattle.looks.specs.declared.step.Mark.TheVariants.{Text}
+use Rattle.looks.specs.declared.pen.Baseline.TheVariants.{At}
 use Rattle.looks.specs.declared.step.Step.{Step}
 use Rattle.looks.specs.Letters.{lettering}
-use Rattle.looks.specs.Marks.{box, neg, black_fill, white_fill, look_bit}
+use Rattle.looks.specs.Marks.{box, neg, black_fill, white_fill, text_at, look_bit}
 use Rattle.looks.specs.Spots.{spot, first_part}
 
 -- nine rows above the content, with one row of the frame between the two
@@ -34,7 +33,7 @@ abbrev pub banner_look : Size → List Step
 banner_look s =
     black_fill (box_of s)
     ∷ white_fill (banner_of s)
-    ∷ record { on = true; cut = box_of s; mark = Text (record { pen = At (pos 1); baseline = neg 2 }) }
+    ∷ text_at (box_of s) (pos 1) (At (neg 2))
     ∷ white_fill (rect_of s)
     ∷ []
 

@@ -9,7 +9,7 @@ ghost use Rattle.own_window.specs.Banners.{banner_of, box_of, banner_look, banne
 
 use def_iface::{Hit, Size, Stage, WindowChange, WindowDef, WindowRegions};
 use draw_port::Canvas;
-use looks::{Mark, Pen, Place, Spot, Step, damage_between, draw_look, first_part, more, sides};
+use looks::{Baseline, Spot, Step, damage_between, draw_look, first_part, more, sides};
 use scan_region::Region;
 use std::alloc::{AllocError, Global};
 use tb_geom::{Point, Rect};
@@ -59,18 +59,10 @@ fn look_of(size: Size) -> [Step; 4]
     requires { is_size size ≡ true }
     ensures { result ≡ banner_look size }
 {
-    let place = Place {
-        pen: Pen::At(1),
-        baseline: -2,
-    };
     [
         Step::black_fill(box_of(size)),
         Step::white_fill(banner_of(size)),
-        Step {
-            on: true,
-            cut: box_of(size),
-            mark: Mark::Text(place),
-        },
+        Step::text_at(box_of(size), 1, Baseline::At(-2)),
         Step::white_fill(size.rect()),
     ]
 }

@@ -10,6 +10,7 @@ use Rattle.tb_geom.specs.Points.{PixelSet, minus}
 use Rattle.tb_geom.specs.Pixels.{Pixels, holds}
 use Rattle.def_iface.specs.declared.taken.Taken.{Taken}
 use Rattle.def_iface.specs.Meaning.{Loan}
+use Rattle.def_iface.specs.declared.part.Part.TheVariants.{Picture}
 use Rattle.def_iface.specs.Desk as layers
 use Rattle.def_iface.specs.Desk.{LayeredDesk}
 use Rattle.def_iface.specs.Owner.{Owner, owner, owner_among, same_owner, is_content}
@@ -20,11 +21,11 @@ use Rattle.vis_update.specs.declared.plan.Part.{Part}
 use Rattle.vis_update.specs.declared.plan.Seat.{Seat}
 use Rattle.vis_update.specs.declared.plan.Touch.{Touch}
 use Rattle.vis_update.specs.Records.{WindowRecord, layered_window}
-use Rattle.vis_update.specs.Areas.{IsArea, is_content_of}
+use Rattle.vis_update.specs.Areas.{IsArea, ArePictures, is_content_of}
 use Rattle.vis_update.specs.Seats.{Stand, stand_of, seat_stand, IsArranged}
 use Rattle.vis_update.specs.Plans.{IsSwept, stale_after, AreAreasAfter, IsPart, ArePlanParts, IsPlan}
 use Rattle.vis_update.specs.Touches.{change_of, way_of, came_from, draws_whole, moves}
-use Rattle.vis_update.proofs.Others.{AreOthers}
+use Rattle.vis_update.proofs.Others.{AreOthers, are_pictures}
 use Rattle.vis_update.proofs.UpdateLemmas.{is_content_among, content_is_among}
 use Rattle.vis_update.proofs.Sweeping.{AreSwept}
 use Rattle.vis_update.proofs.Takings.{Reaches, Taking, taking, visible_is, frame_is, reaches_behind}
@@ -32,8 +33,8 @@ use Rattle.vis_update.proofs.Sources.{kept_or_stale, stale_is, erase_is, copied_
 
 module _ {V : Type 0} {H : V → Type 0} (loan : Taken V H → Loan) (t : Touch) (font : List ℕ) (before : State) (after : LayeredDesk) where
   -- what one window takes, where the windows in front left what they should
-  area_is : (first middle : PixelSet) (w : WindowRecord) (ws : List WindowRecord) (s : Seat V H) (a : Area) (part : Part) → seat_stand loan s ≡ stand_of w → layers.AreWindows (map (layered_window font) (w ∷ ws)) → Reaches font after (w ∷ ws) first → IsArea before.desk before.stale s.serial s.area.now → IsSwept loan t first s a part middle → IsArea after (stale_after (change_of t) before after) w.serial a × IsPart t before after w.serial part × Reaches font after ws middle
-  area_is first middle w ws s a part same distinct reach was swept = (
+  area_is : (first middle : PixelSet) (w : WindowRecord) (ws : List WindowRecord) (s : Seat V H) (a : Area) (part : Part) → seat_stand loan s ≡ stand_of w → layers.AreWindows (map (layered_window font) (w ∷ ws)) → Reaches font after (w ∷ ws) first → IsArea before.desk before.stale s.serial s.area.now → ArePictures before.desk → ArePictures after → IsSwept loan t first s a part middle → IsArea after (stale_after (change_of t) before after) w.serial a × IsPart t before after w.serial part × Reaches font after ws middle
+  area_is first middle w ws s a part same distinct reach was pictures pictured swept = (
     record {
       visible = visible_is font after w ws first middle a distinct reach takes;
       update = λ p.
@@ -41,7 +42,7 @@ module _ {V : Type 0} {H : V → Type 0} (loan : Taken V H → Loan) (t : Touch)
           ∙ (λ i. holds a.visible p && not (was.visible (q p) i && not ((was.update (q p) ∙ ap (λ b. b && before.stale (q p)) (was.visible (q p))) i)))
           ∙ kept_or_stale (holds a.visible p) _ (before.stale (q p))
           ∙ (λ i. holds a.visible p && (let r = came_from (way_of t (serial i)) p in if layers.on_screen before.desk r && is_content_of (serial i) (owner before.desk r) then before.stale r else true))
-          ∙ stale_is t w.serial before after p (holds a.visible p) (visible_is font after w ws first middle a distinct reach takes p);
+          ∙ stale_is t w.serial before after p (holds a.visible p) pictures (pictured p) (visible_is font after w ws first middle a distinct reach takes p);
       frame = frame_is font after w ws first middle a distinct reach takes;
     },
     record {
@@ -49,7 +50,7 @@ module _ {V : Type 0} {H : V → Type 0} (loan : Taken V H → Loan) (t : Touch)
           swept.erase p
           ∙ (λ i. holds a.visible p && not (was.visible (q p) i))
           ∙ (λ i. holds a.visible p && (let r = came_from (way_of t (serial i)) p in not (layers.on_screen before.desk r && is_content_of (serial i) (owner before.desk r))))
-          ∙ erase_is t w.serial before.desk after p (holds a.visible p) (visible_is font after w ws first middle a distinct reach takes p)
+          ∙ erase_is t w.serial before.desk after p (holds a.visible p) pictures (pictured p) (visible_is font after w ws first middle a distinct reach takes p)
           ∙ ap (λ v. v && not (had (change_of t) before.desk (owner after p) p)) (visible_is font after w ws first middle a distinct reach takes p);
       redraw = λ p.
           swept.redraw p
@@ -65,8 +66,8 @@ module _ {V : Type 0} {H : V → Type 0} (loan : Taken V H → Loan) (t : Touch)
       serial : s.serial ≡ w.serial
       serial = ap (λ (x : Stand). x.serial) same
 
-      takes : (p : Point) → Taking w.serial (first p) w.shown (w.definition.structure w.size (minus p w.place)) (w.definition.content w.size (minus p w.place)) (holds a.visible p) (holds a.frame p) (middle p) (owner after p) (owner_among (map (layered_window font) ws) p)
-      takes p = taking w.serial (first p) w.shown _ _ (holds a.visible p) (holds a.frame p) (middle p) (owner after p) (owner_among (map (layered_window font) ws) p)
+      takes : (p : Point) → Taking w.serial Picture (first p) w.shown (w.definition.structure w.size (minus p w.place)) (w.definition.content w.size (minus p w.place)) (holds a.visible p) (holds a.frame p) (middle p) (owner after p) (owner_among (map (layered_window font) ws) p)
+      takes p = taking w.serial Picture (first p) w.shown _ _ (holds a.visible p) (holds a.frame p) (middle p) (owner after p) (owner_among (map (layered_window font) ws) p)
           (λ shown e.
           let sh : s.shown ≡ true = ap (λ (x : Stand). x.shown) same ∙ shown in
           sym (ap (λ (x : Stand). x.structure (minus p x.place)) same) ∙ swept.within sh (minus p s.place) (ap (λ (x : Stand). x.content (minus p x.place)) same ∙ e))
@@ -89,8 +90,8 @@ module _ {V : Type 0} {H : V → Type 0} (loan : Taken V H → Loan) (t : Touch)
     copied : (p : Point) → upto p ≡ (from p || (is_content_among ws (owner after p) && moved_in p))
     left : Reaches font after [] last
 
-  all_areas : (first from last upto : PixelSet) (ws : List WindowRecord) (seats : List (Seat V H)) (areas : List Area) (parts : List Part) → map (seat_stand loan) seats ≡ map stand_of ws → layers.AreWindows (map (layered_window font) ws) → Reaches font after ws first → All (λ s. IsArea before.desk before.stale s.serial s.area.now) seats → AreSwept loan t first from seats areas parts last upto → AllSwept ws areas parts from upto last
-  all_areas first from last upto [] [] [] [] same distinct reach was swept = record {
+  all_areas : (first from last upto : PixelSet) (ws : List WindowRecord) (seats : List (Seat V H)) (areas : List Area) (parts : List Part) → map (seat_stand loan) seats ≡ map stand_of ws → layers.AreWindows (map (layered_window font) ws) → Reaches font after ws first → All (λ s. IsArea before.desk before.stale s.serial s.area.now) seats → ArePictures before.desk → ArePictures after → AreSwept loan t first from seats areas parts last upto → AllSwept ws areas parts from upto last
+  all_areas first from last upto [] [] [] [] same distinct reach was pictures pictured swept = record {
     areas_are = tt;
     parts_are = tt;
     copied = λ p. swept.1 p ∙ sym (or_false (from p));
@@ -103,10 +104,10 @@ module _ {V : Type 0} {H : V → Type 0} (loan : Taken V H → Loan) (t : Touch)
       or_false : (b : Bool) → (b || false) ≡ b
       or_false true = refl
       or_false false = refl
-  all_areas first from last upto (w ∷ ws) (s ∷ seats) (a ∷ areas) (part ∷ parts) same distinct reach was swept =
+  all_areas first from last upto (w ∷ ws) (s ∷ seats) (a ∷ areas) (part ∷ parts) same distinct reach was pictures pictured swept =
       let two = stands_first s seats w ws same in
-      let one = area_is first swept.0 w ws s a part two.0 distinct reach (All-head (λ (v : Seat V H). IsArea before.desk before.stale v.serial v.area.now) s seats was) swept.2 in
-      let rest = all_areas swept.0 swept.1 last upto ws seats areas parts two.1 distinct.1.1 one.2 (All-tail (λ (v : Seat V H). IsArea before.desk before.stale v.serial v.area.now) s seats was) swept.4 in
+      let one = area_is first swept.0 w ws s a part two.0 distinct reach (All-head (λ (v : Seat V H). IsArea before.desk before.stale v.serial v.area.now) s seats was) pictures pictured swept.2 in
+      let rest = all_areas swept.0 swept.1 last upto ws seats areas parts two.1 distinct.1.1 one.2 (All-tail (λ (v : Seat V H). IsArea before.desk before.stale v.serial v.area.now) s seats was) pictures pictured swept.4 in
       record {
         areas_are = (one.0, rest.areas_are);
         parts_are = (one.1, rest.parts_are);
@@ -127,12 +128,12 @@ module _ {V : Type 0} {H : V → Type 0} (loan : Taken V H → Loan) (t : Touch)
       shared false true false true = refl
       shared false true false false = refl
       shared false false y k = refl
-  all_areas first from last upto ws [] [] (part ∷ parts) same distinct reach was swept = absurd swept
-  all_areas first from last upto ws [] (a ∷ areas) parts same distinct reach was swept = absurd swept
-  all_areas first from last upto ws (s ∷ seats) [] parts same distinct reach was swept = absurd swept
-  all_areas first from last upto ws (s ∷ seats) (a ∷ areas) [] same distinct reach was swept = absurd swept
-  all_areas first from last upto (w ∷ ws) [] [] [] same distinct reach was swept = absurd (cc)
-  all_areas first from last upto [] (s ∷ seats) (a ∷ areas) (part ∷ parts) same distinct reach was swept = absurd (cc)
+  all_areas first from last upto ws [] [] (part ∷ parts) same distinct reach was pictures pictured swept = absurd swept
+  all_areas first from last upto ws [] (a ∷ areas) parts same distinct reach was pictures pictured swept = absurd swept
+  all_areas first from last upto ws (s ∷ seats) [] parts same distinct reach was pictures pictured swept = absurd swept
+  all_areas first from last upto ws (s ∷ seats) (a ∷ areas) [] same distinct reach was pictures pictured swept = absurd swept
+  all_areas first from last upto (w ∷ ws) [] [] [] same distinct reach was pictures pictured swept = absurd (cc)
+  all_areas first from last upto [] (s ∷ seats) (a ∷ areas) (part ∷ parts) same distinct reach was pictures pictured swept = absurd (cc)
 
   -- the sweep over the gray region makes the plan
   pub swept_plan : (ws : List WindowRecord) (gray desktop behind uncovered copied none : Pixels) (seats : List (Seat V H)) (areas : Vec Area Global) (parts : Vec Part Global) (i : ℕ) → IsArranged loan font before after ws gray seats → i ≡ length seats → ((p : Point) → holds none p ≡ false) → AreSwept loan t (holds gray) (holds none) (take i seats) areas.items parts.items (holds behind) (holds copied) → ((p : Point) → holds uncovered p ≡ (holds behind p && not (holds desktop p))) → IsPlan t before after desktop ws (record { areas = areas; parts = parts; desktop = behind; uncovered = uncovered; copied = copied })
@@ -171,7 +172,7 @@ module _ {V : Type 0} {H : V → Type 0} (loan : Taken V H → Loan) (t : Touch)
       }
 
       its : AllSwept ws areas.items parts.items (holds none) (holds copied) (holds behind)
-      its = all_areas (holds gray) (holds none) (holds behind) (holds copied) ws seats areas.items parts.items arranged.stands (subst layers.AreWindows arranged.desk arranged.distinct) reach arranged.areas (subst (λ (ss : List (Seat V H)). AreSwept loan t (holds gray) (holds none) ss areas.items parts.items (holds behind) (holds copied)) (ap (λ n. take n seats) all ∙ take-length seats) swept)
+      its = all_areas (holds gray) (holds none) (holds behind) (holds copied) ws seats areas.items parts.items arranged.stands (subst layers.AreWindows arranged.desk arranged.distinct) reach arranged.areas arranged.pictures (are_pictures font after ws arranged.desk) (subst (λ (ss : List (Seat V H)). AreSwept loan t (holds gray) (holds none) ss areas.items parts.items (holds behind) (holds copied)) (ap (λ n. take n seats) all ∙ take-length seats) swept)
 
       by_left : (p : Point) (b : Bool) → holds behind p ≡ b → b ≡ (layers.on_screen after p && same_owner (owner after p) Desktop)
       by_left p true e = let here = its.left.here p e in λ i. sym here.0 i && same_owner (sym here.1 i) Desktop

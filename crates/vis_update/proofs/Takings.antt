@@ -6,7 +6,8 @@ use Rattle.tb_geom.specs.Points.{PixelSet, minus}
 use Rattle.tb_geom.specs.Pixels.{holds}
 use Rattle.def_iface.specs.Desk as layers
 use Rattle.def_iface.specs.Desk.{LayeredDesk}
-use Rattle.def_iface.specs.Desk.Part.{Picture}
+use Rattle.def_iface.specs.declared.part.Part.{Part}
+use Rattle.def_iface.specs.declared.part.Part.TheVariants.{Picture}
 use Rattle.def_iface.specs.Owner.{Owner, owner, owner_among, same_owner}
 use Rattle.def_iface.specs.Owner.Owner.{Frame, Content}
 use Rattle.def_iface.proofs.Owning.{same_number, is_other, owner_is_other}
@@ -22,13 +23,13 @@ pub record Reaches (font : List ℕ) (desk : LayeredDesk) (ws : List WindowRecor
   pub elsewhere : (p : Point) → rest p ≡ false → (layers.on_screen desk p ≡ false) ⊎ AreOthers ws (owner desk p)
 
 -- one pixel and one window: r is whether the windows in front left it; s, x and c whether the window is shown and has it
--- in its structure and its content; v, f and k whether it took it for its content or its frame, or left it; o is its owner,
+-- in its structure and its content, and part the layer of that; v, f and k whether it took it for its content or its frame, or left it; o is its owner,
 -- and u the owner among the windows behind
-pub data Taking (n : ℕ) (r s x c v f k : Bool) (o u : Owner) : Type 0 where
-  taken_before : r ≡ false → v ≡ false → f ≡ false → k ≡ false → Taking n r s x c v f k o u
-  content : r ≡ true → o ≡ Content n Picture → v ≡ true → f ≡ false → k ≡ false → Taking n r s x c v f k o u
-  frame : r ≡ true → o ≡ Frame n → v ≡ false → f ≡ true → k ≡ false → Taking n r s x c v f k o u
-  left : r ≡ true → o ≡ u → v ≡ false → f ≡ false → k ≡ true → Taking n r s x c v f k o u
+pub data Taking (n : ℕ) (part : Part) (r s x c v f k : Bool) (o u : Owner) : Type 0 where
+  taken_before : r ≡ false → v ≡ false → f ≡ false → k ≡ false → Taking n part r s x c v f k o u
+  content : r ≡ true → o ≡ Content n part → v ≡ true → f ≡ false → k ≡ false → Taking n part r s x c v f k o u
+  frame : r ≡ true → o ≡ Frame n → v ≡ false → f ≡ true → k ≡ false → Taking n part r s x c v f k o u
+  left : r ≡ true → o ≡ u → v ≡ false → f ≡ false → k ≡ true → Taking n part r s x c v f k o u
 
 no_content : (c s : Bool) → (c && (s && false)) ≡ false
 no_content true true = refl
@@ -50,13 +51,13 @@ hidden_frame true true = refl
 hidden_frame true false = refl
 hidden_frame false c = refl
 
-pub taking : (n : ℕ) (r s x c v f k : Bool) (o u : Owner) → (s ≡ true → c ≡ true → x ≡ true) → v ≡ (c && (s && r)) → f ≡ ((x && not c) && (s && r)) → k ≡ (r && not (s && x)) → (r ≡ true → o ≡ (if s && x then (if c then Content n Picture else Frame n) else u)) → Taking n r s x c v f k o u
-taking n false s x c v f k o u within ev ef ek its = taken_before refl (ev ∙ no_content c s) (ef ∙ no_frame x c s) ek
-taking n true true true true v f k o u within ev ef ek its = content refl (its refl) ev ef ek
-taking n true true true false v f k o u within ev ef ek its = frame refl (its refl) ev ef ek
-taking n true true false true v f k o u within ev ef ek its = absurd (false≢true (within refl refl))
-taking n true true false false v f k o u within ev ef ek its = left refl (its refl) ev ef ek
-taking n true false x c v f k o u within ev ef ek its = left refl (its refl) (ev ∙ hidden c) (ef ∙ hidden_frame x c) ek
+pub taking : (n : ℕ) (part : Part) (r s x c v f k : Bool) (o u : Owner) → (s ≡ true → c ≡ true → x ≡ true) → v ≡ (c && (s && r)) → f ≡ ((x && not c) && (s && r)) → k ≡ (r && not (s && x)) → (r ≡ true → o ≡ (if s && x then (if c then Content n part else Frame n) else u)) → Taking n part r s x c v f k o u
+taking n part false s x c v f k o u within ev ef ek its = taken_before refl (ev ∙ no_content c s) (ef ∙ no_frame x c s) ek
+taking n part true true true true v f k o u within ev ef ek its = content refl (its refl) ev ef ek
+taking n part true true true false v f k o u within ev ef ek its = frame refl (its refl) ev ef ek
+taking n part true true false true v f k o u within ev ef ek its = absurd (false≢true (within refl refl))
+taking n part true true false false v f k o u within ev ef ek its = left refl (its refl) ev ef ek
+taking n part true false x c v f k o u within ev ef ek its = left refl (its refl) (ev ∙ hidden c) (ef ∙ hidden_frame x c) ek
 
 -- what is none of a window's, on the screen or off it
 none_of : (is_its : Owner → Bool) (on : Bool) (o : Owner) → (on ≡ false) ⊎ (is_its o ≡ false) → (on && is_its o) ≡ false
@@ -65,10 +66,10 @@ none_of is_its true o (inl off) = absurd (false≢true (sym off))
 none_of is_its true o (inr e) = e
 
 module _ (font : List ℕ) (desk : LayeredDesk) (w : WindowRecord) (ws : List WindowRecord) (rest left_set : PixelSet) (a : Area) (distinct : layers.AreWindows (map (layered_window font) (w ∷ ws))) (reach : Reaches font desk (w ∷ ws) rest)
-    (takes : (p : Point) → Taking w.serial (rest p) w.shown (w.definition.structure w.size (minus p w.place)) (w.definition.content w.size (minus p w.place)) (holds a.visible p) (holds a.frame p) (left_set p) (owner desk p) (owner_among (map (layered_window font) ws) p)) where
+    (takes : (p : Point) → Taking w.serial Picture (rest p) w.shown (w.definition.structure w.size (minus p w.place)) (w.definition.content w.size (minus p w.place)) (holds a.visible p) (holds a.frame p) (left_set p) (owner desk p) (owner_among (map (layered_window font) ws) p)) where
   -- the case of one pixel
   abbrev Here : Point → Type 0
-  Here p = Taking w.serial (rest p) w.shown (w.definition.structure w.size (minus p w.place)) (w.definition.content w.size (minus p w.place)) (holds a.visible p) (holds a.frame p) (left_set p) (owner desk p) (owner_among (map (layered_window font) ws) p)
+  Here p = Taking w.serial Picture (rest p) w.shown (w.definition.structure w.size (minus p w.place)) (w.definition.content w.size (minus p w.place)) (holds a.visible p) (holds a.frame p) (left_set p) (owner desk p) (owner_among (map (layered_window font) ws) p)
 
   -- the owner among the windows behind is not this window
   behind_is_other : (p : Point) → is_other w.serial (owner_among (map (layered_window font) ws) p) ≡ true
@@ -110,6 +111,6 @@ module _ (font : List ℕ) (desk : LayeredDesk) (w : WindowRecord) (ws : List Wi
 
       elsewhere_case : (p : Point) → left_set p ≡ false → Here p → (layers.on_screen desk p ≡ false) ⊎ AreOthers ws (owner desk p)
       elsewhere_case p e (taken_before r v f k) = ⊎_elim (λ off. inl off) (λ others. inr others.1) (reach.elsewhere p r)
-      elsewhere_case p e (content r o v f k) = inr (subst (λ q. AreOthers ws q) (sym o) (others_of font w.serial ws distinct.0).0)
-      elsewhere_case p e (frame r o v f k) = inr (subst (λ q. AreOthers ws q) (sym o) (others_of font w.serial ws distinct.0).1)
+      elsewhere_case p e (content r o v f k) = inr (subst (λ q. AreOthers ws q) (sym o) (others_of font w.serial Picture ws distinct.0).0)
+      elsewhere_case p e (frame r o v f k) = inr (subst (λ q. AreOthers ws q) (sym o) (others_of font w.serial Picture ws distinct.0).1)
       elsewhere_case p e (left r o v f k) = absurd (false≢true (sym e ∙ k))

@@ -9,7 +9,7 @@ use Rattle.def_iface.specs.declared.taken.Taken.{Taken}
 use Rattle.def_iface.specs.Meaning.{Definition, Loan}
 use Rattle.def_iface.specs.News.{AllNews, no_news}
 use Rattle.def_iface.specs.Desk as layers
-use Rattle.def_iface.specs.Desk.Part.{Picture}
+use Rattle.def_iface.specs.declared.part.Part.TheVariants.{Picture}
 use Rattle.window_list.specs.declared.window.Heard.{Heard}
 use Rattle.window_list.specs.declared.window.UserState.{UserState}
 use Rattle.window_list.specs.declared.window.Window.{Window}

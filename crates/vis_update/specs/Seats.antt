@@ -12,7 +12,7 @@ use Rattle.vis_update.specs.declared.area.Area.{Area}
 use Rattle.vis_update.specs.declared.plan.Seat.{Seat}
 use Rattle.vis_update.specs.Records.{WindowRecord, layered_window}
 use Rattle.vis_update.specs.Places.{is_placed}
-use Rattle.vis_update.specs.Areas.{IsArea, IsGray, IsNear}
+use Rattle.vis_update.specs.Areas.{IsArea, ArePictures, IsGray, IsNear}
 
 -- where a window stands; structure and content are in its own coordinates
 pub record Stand : Type 0 where
@@ -67,3 +67,4 @@ module _ {V : Type 0} {H : V → Type 0} (loan : Taken V H → Loan) where
     pub gray_is : IsGray after gray
     pub stands : map seat_stand seats ≡ map stand_of windows
     pub areas : All (λ s. IsArea before.desk before.stale s.serial s.area.now) seats
+    pub pictures : ArePictures before.desk

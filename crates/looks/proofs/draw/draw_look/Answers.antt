@@ -15,7 +15,7 @@ pub loop-step-preserved : goal.loop-step-preserved
 loop-step-preserved c =
     let was = c.loop-step.invariant in
     record {
-      same_map = c.paint.ensures.same_map ∙ was.same_map;
-      same_frame = SameFrame-then _ _ _ was.same_frame c.paint.ensures.same_frame;
-      drawn = drawn-more c.args.text.now c.args.canvas.now c.loop-step.canvas c.args.steps.now c.loop-step.step-index _ _ _ _ (omega arith) was.same_frame was.drawn c.paint.ensures.drawn;
+      same_map = c.draw_step.ensures.same_map ∙ was.same_map;
+      same_frame = SameFrame-then _ _ _ was.same_frame c.draw_step.ensures.same_frame;
+      drawn = drawn-more c.args.text.now c.args.canvas.now c.loop-step.canvas c.args.steps.now c.loop-step.step-index _ _ _ _ (omega arith) was.same_frame was.drawn c.draw_step.ensures.drawn;
     }

@@ -11,7 +11,7 @@ pub returns-in-Behind-clause-drawn : goal.returns-in-Behind-clause-drawn
 returns-in-Behind-clause-drawn c =
     let k = c.args.canvas.now in
     let plate = c.in-Behind.plate in
-    let same = c.plate_rect.ensures ∙ ap (λ w. plate_rect w plate) c.width-width.ensures.value in
+    let same = c.plate_rect-rect.ensures ∙ ap (λ w. plate_rect w plate) c.width.ensures.value in
     drawn-mark (lettering k.font.now c.args.text.now) k c.args.mark (Behind plate) _ _ c.in-Behind.is
     (Draws-where _ _ _ _ _ (λ p on. ap (λ r. canvas_holds k p && rect_holds r (canvas_point k p)) same)
-    (drawn-white k (λ p. canvas_holds k p && rect_holds c.plate_rect.result (canvas_point k p)) _ _ c.fill-in-Behind.ensures.drawn))
+    (drawn-white k (λ p. canvas_holds k p && rect_holds c.plate_rect-rect.result (canvas_point k p)) _ _ c.fill-in-Behind.ensures.drawn))
