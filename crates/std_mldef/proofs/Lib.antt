@@ -1,0 +1,4 @@
+-- Lemmas on the rows of a menu and the cells of a list.
+pub mod RowLemmas
+pub mod BandLemmas
+pub mod CellLemmas
