@@ -91,6 +91,10 @@ rows_value font menu lit (suc n) p d = row_value font menu lit n p (rows_value f
 abbrev pub menu_box : Size → Rect
 menu_box size = box (pos 0) (pos 0) size.width size.height
 
+-- what of a menu lies inside its frame
+abbrev pub inside_frame : Size → Rect
+inside_frame size = box (pos 1) (pos 1) (size.width -ℤ pos 1) (size.height -ℤ pos 1)
+
 -- a menu of this size without its rows: white with a black frame
 abbrev pub framed_bit : List ℕ → Size → PixelSet
 framed_bit font size p = look_bit (lettering font []) (black_frame (menu_box size) ∷ []) p

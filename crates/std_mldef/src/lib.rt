@@ -12,6 +12,7 @@
 mod cells;
 mod chosen;
 mod damage;
+pub mod laws;
 mod measures;
 mod rows;
 mod std_list;
