@@ -5,15 +5,17 @@
 //! and c more, and there is one for each column and row. Rows and columns are put in and taken out (LAddRow, LAddColumn,
 //! LDelRow, LDelColumn), data is set, added to, cleared, read and searched (LSetCell, LAddToCell, LClrCell, LGetCell, LSearch),
 //! and cells are selected and asked for (LSetSelect, LGetSelect, LNextCell). `SelectionFlags::click` says what a click on a cell
-//! does to the selection (LClick). No window, no rectangle and no drawing is known here.
+//! does to the selection, and `ListCells::click` does it (LClick). No window, no rectangle and no drawing is known here.
 //!
 //! A call that is refused has changed nothing. What may need memory takes all of it before it changes anything; an empty cell
 //! takes none besides its place.
 #![tactic(auto)]
 
+mod block;
 mod cell;
 mod click;
 mod content;
+pub mod laws;
 mod lines;
 mod list;
 mod runs;

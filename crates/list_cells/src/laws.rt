@@ -1,0 +1,67 @@
+//! What the definitions of a list's cells imply. A cell goes by its place among all: row times columns, and the column more.
+ghost use Rattle.std.specs.Prelude.{◌≡◌, ◌<◌, ◌≤◌, ◌+◌, ◌-◌, ◌*◌, ℕ, Bool, List, length, true, Some};
+ghost use Rattle.list_cells.specs.Contents.{Content, empty_content};
+ghost use Rattle.list_cells.specs.declared.block.Block.{Block};
+ghost use Rattle.list_cells.specs.declared.cell.Cell.{Cell};
+ghost use Rattle.list_cells.specs.declared.click.ClickKeys.{ClickKeys};
+ghost use Rattle.list_cells.specs.declared.click.SelectionFlags.{SelectionFlags};
+ghost use Rattle.list_cells.specs.Blocks.{IsFirst, content_at, is_in, smallest, clicked_cell};
+ghost use Rattle.list_cells.specs.Grids.{Grid, IsGrid, place_of, first_from, rows_added, rows_deleted, columns_deleted};
+
+/// The block that a click extends the selection to holds the clicked cell and all selected ones, and every block that does
+/// holds it.
+#[tactic(auto, using(crate::proofs::LawLemmas::smallest_holds_clicked, crate::proofs::LawLemmas::smallest_holds, crate::proofs::LawLemmas::smallest_is_least))]
+pub fn the_block_is_the_smallest()
+    ensures clicked { (columns : ℕ) (cells : List Content) (place : ℕ)
+        → is_in columns (smallest columns cells place) place ≡ true }
+    ensures selected { (columns : ℕ) (cells : List Content) (place k : ℕ) → k < length cells
+        → (content_at cells k).selected ≡ true → is_in columns (smallest columns cells place) k ≡ true }
+    ensures least { (columns : ℕ) (cells : List Content) (place : ℕ) (block : Block) → is_in columns block place ≡ true
+        → ((k : ℕ) → k < length cells → (content_at cells k).selected ≡ true → is_in columns block k ≡ true)
+        → (k : ℕ) → is_in columns (smallest columns cells place) k ≡ true → is_in columns block k ≡ true }
+{}
+
+/// With lOnlyOne no cell is selected after a click but the clicked one.
+#[tactic(auto, using(crate::proofs::LawLemmas::only_one_alone))]
+pub fn only_one_is_selected()
+    ensures { (flags : SelectionFlags) (keys : ClickKeys) (cell : Cell) (list : Grid) (k : ℕ) → flags.only_one ≡ true
+        → (content_at (clicked_cell flags keys cell list).contents k).selected ≡ true → k ≡ place_of list cell }
+{}
+
+/// What a search finds passes its test, and no cell does that lies before it, from the first searched one on.
+pub fn a_search_finds_the_first()
+    ensures { (test : Content → Bool) (list : Grid) (from found : Cell) → 0 < list.columns
+        → first_from test list from ≡ Some found → IsFirst test list (place_of list from) (place_of list found) }
+{}
+
+/// The cells of added rows are empty and not selected.
+#[tactic(auto, using(crate::proofs::LawLemmas::added_row_empty))]
+pub fn added_rows_are_empty()
+    ensures { (list : Grid) (at n row column : ℕ) → IsGrid list → at ≤ list.rows → at ≤ row → row < at + n
+        → column < list.columns
+        → content_at (rows_added at n list).contents (row * list.columns + column) ≡ empty_content }
+{}
+
+/// Where rows are deleted, the cells above them stay what they are, and those below move up with what they hold.
+#[tactic(auto, using(crate::proofs::LawLemmas::row_above_stays, crate::proofs::LawLemmas::row_below_moves))]
+pub fn deleted_rows_keep_the_others()
+    ensures above { (list : Grid) (at n row column : ℕ) → IsGrid list → at ≤ list.rows → row < at
+        → column < list.columns → content_at (rows_deleted at n list).contents (row * list.columns + column)
+        ≡ content_at list.contents (row * list.columns + column) }
+    ensures below { (list : Grid) (at n row column : ℕ) → IsGrid list → at ≤ list.rows → at ≤ row
+        → column < list.columns → content_at (rows_deleted at n list).contents (row * list.columns + column)
+        ≡ content_at list.contents ((row + n) * list.columns + column) }
+{}
+
+/// Where columns are deleted, the cells left of them stay what they are, and those right of them move left with what they
+/// hold.
+#[tactic(auto, using(crate::proofs::LawLemmas::column_left_stays, crate::proofs::LawLemmas::column_right_moves))]
+pub fn deleted_columns_keep_the_others()
+    ensures left { (list : Grid) (at n row column : ℕ) → IsGrid list → at + n ≤ list.columns → row < list.rows
+        → column < at → content_at (columns_deleted at n list).contents (row * (list.columns - n) + column)
+        ≡ content_at list.contents (row * list.columns + column) }
+    ensures right { (list : Grid) (at n row column : ℕ) → IsGrid list → at + n ≤ list.columns → row < list.rows
+        → at ≤ column → column + n < list.columns
+        → content_at (columns_deleted at n list).contents (row * (list.columns - n) + column)
+        ≡ content_at list.contents (row * list.columns + (column + n)) }
+{}

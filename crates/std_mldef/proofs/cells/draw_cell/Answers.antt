@@ -1,0 +1,14 @@
+use Rattle.std.proofs.Common.{subst, List}
+use Rattle.bit_blit.specs.Draws.{Draws}
+use Rattle.draw_port.specs.Canvases.{canvas_holds, canvas_point}
+use Rattle.looks.specs.declared.step.Step.{Step}
+use Rattle.looks.specs.Letters.{lettering}
+use Rattle.looks.specs.Marks.{look_bit}
+use Rattle.std_mldef.proofs.CellLemmas.{cell_drawn}
+use Rattle.std_mldef.proofs.cells.draw_cell.Goals as goal
+
+pub returns-clause-drawn : goal.returns-clause-drawn
+returns-clause-drawn c =
+    cell_drawn c.args.canvas.now c.args.size c.args.turned c.args.bytes.now c.args.canvas.now.map.now c.draw_look.new.canvas.map.now
+    (subst (λ (steps : List Step). Draws (canvas_holds c.args.canvas.now) (λ p x. look_bit (lettering c.args.canvas.now.font.now c.args.bytes.now) steps (canvas_point c.args.canvas.now p)) c.args.canvas.now.map.now c.draw_look.new.canvas.map.now)
+    c.cell_steps.ensures c.draw_look.ensures.drawn)
