@@ -1,12 +1,12 @@
 -- The step of a new window.
-use Rattle.std.proofs.Common.{◌≡◌, ℕ, ◌<◌, ◌≤◌, nat_lt, nat_le, Bool, true, false, not, ◌&&◌, ◌||◌, ◌==◌, if◌then◌else◌, List, [], ◌∷◌, length, map, Option, None, Some, pos, refl, sym, ap, ◌∙◌, subst, arith}
+use Rattle.std.proofs.Common.{◌≡◌, ℕ, ◌<◌, ◌≤◌, nat_lt, nat_le, Bool, true, false, not, ◌&&◌, ◌||◌, ◌==◌, if◌then◌else◌, List, [], ◌∷◌, ◌++◌, length, map, Option, None, Some, pos, inl, refl, sym, ap, ◌∙◌, subst, arith}
 use Rattle.std.specs.Prelude.{All, Ok, Err, is_none}
 use Rattle.std.proofs.lemmas.Bool.Decides.{nat_tests}
 use Rattle.std.proofs.lemmas.List.{length-map}
 use Rattle.std.proofs.lemmas.List.Elements.{All-cons}
 use Rattle.tb_geom.specs.declared.point.Point.{Point}
 use Rattle.tb_geom.specs.declared.refusal.Refusal.{Refusal}
-use Rattle.tb_geom.specs.declared.refusal.Refusal.TheVariants.{OutOfRange, TooLong, TooMany}
+use Rattle.tb_geom.specs.declared.refusal.Refusal.TheVariants.{OutOfRange, TooLong, TooMany, NoDefinition}
 use Rattle.tb_geom.specs.declared.rect.Rect.{Rect}
 use Rattle.tb_geom.specs.Points.{PixelSet}
 use Rattle.tb_geom.specs.Rects.{in_plane, is_in_range, moved_rect, rect_holds}
@@ -16,7 +16,7 @@ use Rattle.def_iface.specs.declared.size.Size.{Size}
 use Rattle.def_iface.specs.Sizes.{is_size}
 use Rattle.def_iface.specs.News.{AllNews, new_window_news}
 use Rattle.def_iface.specs.Meaning.{Definition, Loan, IsBegun, IsWithin, is_fitting}
-use Rattle.def_iface.specs.Stocked.{SlotView, IsTaken, IsPutBack}
+use Rattle.def_iface.specs.Stocked.{SlotView, IsTaken, IsNotTaken, IsPutBack}
 use Rattle.def_iface.specs.Desk as layers
 use Rattle.def_iface.specs.Owner.{own_bit}
 use Rattle.def_iface.specs.Owner.Owner.{Frame}
@@ -47,7 +47,7 @@ use Rattle.vis_update.specs.Touches.{change_of, draws_whole, is_this}
 use Rattle.window_mgr.specs.Whole.{IsWholeManager, IsSoundDesk, IsSettled}
 use Rattle.window_mgr.specs.Commits.{IsPlanDrawn}
 use Rattle.window_mgr.proofs.SlotLemmas.{stocked_with, put_back_is_old}
-use Rattle.window_mgr.proofs.RefusalLemmas.{refusal_is, unplanned_is_refused}
+use Rattle.window_mgr.proofs.RefusalLemmas.{refusal_is, refusal_without, unplanned_is_refused}
 use Rattle.window_mgr.proofs.SameDeskLemmas.{plan_stays, stays_unchanged}
 use Rattle.vis_update.proofs.PlaceLemmas.{placed_parts}
 use Rattle.window_mgr.proofs.Committing.{turned}
@@ -266,4 +266,17 @@ module _ {V : Type 0} {H : V → Type 0} (loan : Taken V H → Loan) where
   is_not_made w e taken t planned slots left back whole took unplanned same back_is = (
     unplanned_is_refused loan w taken t slots left took e unplanned,
     stays_unchanged loan t planned slots back same (put_back_is_old w.kind taken slots left took back back_is),
+  )
+
+  -- nor is a window made that no definition of its kind is left for
+  pub is_not_given : (w : NewWindow) (e why : Refusal) (kind : List ℕ) (t : WindowManager V H) (slots back : List SlotView) → kind ≡ w.kind → why ≡ NoDefinition → IsNotTaken kind slots why
+      → first_refusal (judged_refusals w (is_placed None w.place w.size) (length (desk_of loan t []).windows) t.windows.next ++ (true, NoDefinition) ∷ []) ≡ Some e
+      → back ≡ slots → IsWindowStep (New w) (Err e) (state_of loan t slots) (state_of loan t back)
+  is_not_given w e why kind t slots back named is_why none judged same = (
+    inl (refusal_without w (desk_of loan t slots) kind e named (subst (IsNotTaken kind slots) is_why none) judged),
+    record {
+      desk = ap (desk_of loan t) same;
+      stale = λ p on. ap (λ (s : List SlotView). (state_of loan t s).stale p) same;
+      image = λ p on. ap (λ (s : List SlotView). (state_of loan t s).image p) same;
+    },
   )

@@ -1,5 +1,5 @@
 -- Why a new window is refused, once its definition was taken.
-use Rattle.std.proofs.Common.{◌≡◌, inl, inr, ℕ, zero, suc, Bool, true, false, not, ◌||◌, if◌then◌else◌, List, [], ◌∷◌, length, Some, None, refl, ap, ◌∙◌}
+use Rattle.std.proofs.Common.{◌≡◌, inl, inr, ℕ, zero, suc, Bool, true, false, not, ◌||◌, if◌then◌else◌, List, [], ◌∷◌, ◌++◌, length, Some, None, refl, ap, ◌∙◌, subst}
 use Rattle.std.specs.Prelude.{slice_get}
 use Rattle.std.specs.Option.{option_and_then}
 use Rattle.std.proofs.lemmas.List.{length-map}
@@ -8,7 +8,7 @@ use Rattle.tb_geom.specs.declared.refusal.Refusal.{Refusal}
 use Rattle.tb_geom.specs.declared.refusal.Refusal.TheVariants.{OutOfRange, TooLong, TooMany, NoDefinition}
 use Rattle.def_iface.specs.declared.taken.Taken.{Taken}
 use Rattle.def_iface.specs.Meaning.{Definition, Loan}
-use Rattle.def_iface.specs.Stocked.{SlotView, IsTaken, is_kind, has_kind, offered}
+use Rattle.def_iface.specs.Stocked.{SlotView, IsTaken, IsNotTaken, is_kind, has_kind, offered}
 use Rattle.desk_call.specs.declared.window.WindowCall.TheVariants.{New}
 use Rattle.desk_call.specs.declared.window.NewWindow.{NewWindow}
 use Rattle.window_mgr.specs.declared.manager.WindowManager.{WindowManager}
@@ -52,6 +52,15 @@ refusal_with w desk d there at_hand = rw (there, at_hand) (by_tests (is_placed (
     by_tests true true c = refl
     by_tests true false true = refl
     by_tests true false false = refl
+
+-- with none at hand the name of the kind refuses nothing, and that none is left comes last
+pub refusal_without : (w : NewWindow) (desk : FullDesk) (kind : List ℕ) (e : Refusal) → kind ≡ w.kind → IsNotTaken kind desk.stock NoDefinition
+    → first_refusal (judged_refusals w (is_placed None w.place w.size) (length desk.windows) desk.next ++ (true, NoDefinition) ∷ []) ≡ Some e
+    → first_refusal (new_window_refusals w desk) ≡ Some e
+refusal_without w desk kind e named none judged =
+    let there = subst (λ k. IsNotTaken k desk.stock NoDefinition) named none in
+    let at_hand : offered w.kind desk.stock ≡ None = ap (λ o. option_and_then (λ at. option_and_then (λ (s : SlotView). s.held) (slice_get desk.stock at)) o) there.1 in
+    rw (there.0, at_hand) judged
 
 module _ {V : Type 0} {H : V → Type 0} (loan : Taken V H → Loan) (w : NewWindow) (taken : Loan) (t : WindowManager V H) (slots left : List SlotView) (took : IsTaken w.kind taken slots left) where
   -- why a new window is refused, by the judgement of a window manager

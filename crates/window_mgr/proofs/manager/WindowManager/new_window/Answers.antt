@@ -53,3 +53,7 @@ add_window-requires-clause-settled g c = keeping.settled_stay _ _ _ c.plan_windo
 pub add_window-requires-clause-may_stand : goal.add_window-requires-clause-may_stand
 add_window-requires-clause-may_stand g c =
     adding.unrefused_placed c.args.window.now _ _ c.args.self.now.windows.next c.in-Ok-plan_window.ensures.ok.0
+
+pub returns-in-Err-NoDefinition-clause-step : goal.returns-in-Err-NoDefinition-clause-step
+returns-in-Err-NoDefinition-clause-step g c =
+    adding.is_not_given _ c.args.window.now _ _ _ c.args.self.now _ _ c.as_slice.ensures c.in-Err-NoDefinition.field-0-is c.in-Err-NoDefinition.ensures.refused c.refusal_without.ensures c.in-Err-NoDefinition.ensures.kept
