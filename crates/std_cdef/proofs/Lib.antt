@@ -2,3 +2,4 @@
 pub mod Hearing
 pub mod RegionFacts
 pub mod ThumbLemmas
+pub mod DragLemmas

@@ -1,5 +1,5 @@
 -- The rectangle of a control.
-use Rattle.std.proofs.Common.{◌≡◌, true, false, refl, arith}
+use Rattle.std.proofs.Common.{◌≡◌, true, false, arith}
 use Rattle.std.proofs.lemmas.Int.{ints}
 use Rattle.tb_geom.specs.Rects.{IsBoxOf, rect_holds, is_empty_rect, empty_rect}
 use Rattle.def_iface.specs.declared.size.Size.{Size}

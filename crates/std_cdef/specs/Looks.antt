@@ -1,5 +1,5 @@
 -- What the standard controls look like, as lists of steps, from white.
-use Rattle.std.specs.Prelude.{ℕ, ℤ, pos, nat_abs, Bool, not, ◌&&◌, nat_eq, List, [], ◌∷◌}
+use Rattle.std.specs.Prelude.{ℕ, pos, nat_abs, Bool, not, ◌&&◌, nat_eq, List, [], ◌∷◌}
 use Rattle.std.specs.Ordering.{int_eq}
 use Rattle.control_values.specs.Settings.{Setting}
 use Rattle.control_values.specs.Parts.{number_of}
