@@ -13,7 +13,7 @@ use Rattle.watched_io.specs.Writes.{Output}
 use Rattle.script_runner.specs.declared.command_line.Choices.{Choices}
 use Rattle.script_runner.specs.ChosenRuns.{ChosenEnds}
 use Rattle.desk.specs.StandardStock.{one_of_each, so_many_of_each, standard_slots, notched_slot}
-use Rattle.desk.specs.Program.{StandardEnds}
+use Rattle.desk.specs.Program.{EndsOver, StandardEnds}
 
 -- ---- a slot of a kind, behind the others
 
@@ -66,10 +66,11 @@ so_many_full (suc n) = All-append IsFull (so_many_of_each n) one_of_each (so_man
 -- ---- the run
 
 module _ {File : Type 0} (opens : List ℕ → Result File Refusal → Type 0) (input : File → Input) (standard rest : Input) (old new : Output) (chosen : Choices) where
-  of_standard : (left : List SlotView) {X : Type 0} (r : Result X Refusal) → ChosenEnds opens input chosen standard_slots left standard rest old new r → StandardEnds opens input standard rest old new chosen r
-  of_standard left (Ok x) ends = record { left = left; ends = ends }
-  of_standard left (Err e) ends = inl (record { left = left; ends = ends })
+  -- a run over a stock with these windows
+  pub run_over_stock : (windows left : List SlotView) {X : Type 0} (r : Result X Refusal) → ChosenEnds opens input chosen windows left standard rest old new r → EndsOver opens input standard rest old new windows chosen r
+  run_over_stock windows left (Ok x) ends = record { left = left; ends = ends }
+  run_over_stock windows left (Err e) ends = inl (record { left = left; ends = ends })
 
-  -- a run over slots that are the standard ones
-  pub run_over_standard : (slots left : List SlotView) → slots ≡ standard_slots → {X : Type 0} (r : Result X Refusal) → ChosenEnds opens input chosen slots left standard rest old new r → StandardEnds opens input standard rest old new chosen r
-  run_over_standard slots left is r ends = of_standard left r (subst (λ s. ChosenEnds opens input chosen s left standard rest old new r) is ends)
+  -- a run over windows that are the standard ones
+  pub run_over_standard : (windows : List SlotView) → windows ≡ standard_slots → {X : Type 0} (r : Result X Refusal) → EndsOver opens input standard rest old new windows chosen r → StandardEnds opens input standard rest old new chosen r
+  run_over_standard windows is r ends = subst (λ s. EndsOver opens input standard rest old new s chosen r) is ends

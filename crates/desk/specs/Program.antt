@@ -26,15 +26,19 @@ module _ {File : Type 0} (opens : List ℕ → Result File Refusal → Type 0) (
     pub unread : rest ≡ standard
     pub silent : new ≡ old
 
-  -- the choices were run over the standard stock
-  pub record HasRunStandard (chosen : Choices) {X : Type 0} (r : Result X Refusal) : Type 0 where
+  -- the choices were run over a stock with these windows
+  pub record HasRunOver (windows : List SlotView) (chosen : Choices) {X : Type 0} (r : Result X Refusal) : Type 0 where
     pub left : List SlotView
-    pub ends : ChosenEnds opens input chosen standard_slots left standard rest old new r
+    pub ends : ChosenEnds opens input chosen windows left standard rest old new r
 
   -- so it ends, or there was no memory for that stock
+  abbrev pub EndsOver : List SlotView → Choices → {X : Type 0} → Result X Refusal → Type 0
+  EndsOver windows chosen {X} (Ok x) = HasRunOver windows chosen {X = X} (Ok x)
+  EndsOver windows chosen {X} (Err e) = HasRunOver windows chosen {X = X} (Err e) ⊎ ((e ≡ NoMemory) × IsSilent)
+
+  -- so it ends over the standard stock
   abbrev pub StandardEnds : Choices → {X : Type 0} → Result X Refusal → Type 0
-  StandardEnds chosen {X} (Ok x) = HasRunStandard chosen {X = X} (Ok x)
-  StandardEnds chosen {X} (Err e) = HasRunStandard chosen {X = X} (Err e) ⊎ ((e ≡ NoMemory) × IsSilent)
+  StandardEnds chosen r = EndsOver standard_slots chosen r
 
   -- nothing is wrong with the words, and what they choose was run
   pub record HasRunWords (words : List (List ℕ)) {X : Type 0} (r : Result X Refusal) : Type 0 where

@@ -1,4 +1,4 @@
--- The stock of definitions that the program begins with.
+-- The window definitions that the program begins with.
 use Rattle.std.specs.Prelude.{ℕ, zero, suc, List, [], ◌∷◌, ◌++◌, Some, codes}
 use Rattle.def_iface.specs.Stocked.{SlotView}
 use Rattle.std_wdef.specs.declared.kind.Variation.{Variation}
@@ -31,6 +31,6 @@ unfoldable pub so_many_of_each : ℕ → List SlotView
 so_many_of_each zero = []
 so_many_of_each (suc n) = so_many_of_each n ++ one_of_each
 
--- the slots of the program's stock
+-- the slots of windows of the program's stock
 abbrev pub standard_slots : List SlotView
 standard_slots = so_many_of_each 16

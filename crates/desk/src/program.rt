@@ -1,19 +1,31 @@
 //! The program, but for what only the system can give: the words of its command line, its files, and where it reads and
 //! writes.
-ghost use Rattle.std.specs.Prelude.{◌≡◌, false, map};
+ghost use Rattle.std.specs.Prelude.{◌≡◌, false, map, All};
+ghost use Rattle.def_iface.specs.Stocked.{IsFull};
 ghost use Rattle.watched_io.specs.Reads.{IsOpen};
-ghost use Rattle.desk.specs.Program.{ProgramEnds, StandardEnds};
+ghost use Rattle.desk.specs.Program.{EndsOver, ProgramEnds, StandardEnds};
 
-use def_iface::Stock;
+use def_iface::{ControlStock, ListStock, MenuStock, Stock, Stocked, WindowStock};
 use script_runner::{Choices, Opener, OptionsError, options, run_chosen};
 use std::alloc::Global;
 use std::convert::AsStr;
+use std_cdef::{StdButton, StdCheck, StdScroll};
+use std_mldef::{StdList, StdMenu};
 use std_wdef::{NotchedWindow, StdWindow, Variation};
 use tb_geom::Refusal;
 use watched_io::{Sink, Source};
 
 /// How many definitions of each kind of window the stock begins with.
-const DEFINITIONS: u8 = 16;
+const WINDOWS: u8 = 16;
+
+/// How many of each kind of control.
+const CONTROLS: u8 = 64;
+
+/// How many of menus.
+const MENUS: u8 = 32;
+
+/// How many of lists.
+const LISTS: u8 = 16;
 
 /// The names of the standard kinds of windows, as a script has them.
 static STANDARD: [(&[u8], Variation); 6] = [
@@ -60,8 +72,8 @@ pub fn run_words<F: Opener, R: Source, W: Sink, S: AsStr>(
     }
 }
 
-/// Runs what was chosen over a stock of 16 definitions of each kind. NoMemory also where there is none for the stock,
-/// and then nothing is read or written.
+/// Runs what was chosen over the standard stock. NoMemory also where there is none for the stock, and then nothing is read
+/// or written.
 fn run_standard<F: Opener, R: Source, W: Sink>(
     alloc: Global,
     files: &F,
@@ -76,18 +88,73 @@ fn run_standard<F: Opener, R: Source, W: Sink>(
         (R.input standard.old) (R.input standard.new) (W.output sink.old) (W.output sink.new)
         chosen.now result }
 {
-    let mut stock = Stock::new(alloc);
-    for round in 0..DEFINITIONS {
+    let mut windows = WindowStock::new(alloc);
+    for round in 0..WINDOWS {
         for (kind, variation) in &STANDARD {
             let window = Box::new(alloc, StdWindow::new(*variation))?;
-            let Ok(()) = stock.windows.add(kind, window) else {
+            let Ok(()) = windows.add(kind, window) else {
                 return Err(Refusal::NoMemory);
             };
         }
         let notched = Box::new(alloc, NotchedWindow::new())?;
-        let Ok(()) = stock.windows.add(b"notched", notched) else {
+        let Ok(()) = windows.add(b"notched", notched) else {
             return Err(Refusal::NoMemory);
         };
     }
+    run_over(alloc, windows, files, standard, sink, chosen)
+}
+
+/// Runs what was chosen over a stock with these windows, and with the standard controls, menus and lists. NoMemory also
+/// where there is none for those, and then nothing is read or written.
+fn run_over<F: Opener, R: Source, W: Sink>(
+    alloc: Global,
+    windows: WindowStock,
+    files: &F,
+    standard: &mut R,
+    sink: &mut W,
+    chosen: &Choices<'_>,
+) -> Result<(), Refusal>
+    requires full { All IsFull (⟦<WindowStock as Stocked>⟧.slots windows) }
+    requires unread { (R.input standard.old).reads ≡ 0 }
+    requires going { IsOpen (R.input standard.old) }
+    requires unfailed { (W.output sink.old).has_failed ≡ false }
+    ensures { EndsOver (F.opens files.now) F.Opened.input
+        (R.input standard.old) (R.input standard.new) (W.output sink.old) (W.output sink.new)
+        (⟦<WindowStock as Stocked>⟧.slots windows.entry) chosen.now result }
+{
+    let mut controls = ControlStock::new(alloc);
+    for _ in 0..CONTROLS {
+        let button = Box::new(alloc, StdButton::new())?;
+        let check = Box::new(alloc, StdCheck::new(std_cdef::Variation::CheckBox))?;
+        let radio = Box::new(alloc, StdCheck::new(std_cdef::Variation::RadioButton))?;
+        let scroll = Box::new(alloc, StdScroll::new())?;
+        let added = controls.add(b"button", button).is_ok()
+            && controls.add(b"check", check).is_ok()
+            && controls.add(b"radio", radio).is_ok()
+            && controls.add(b"scroll", scroll).is_ok();
+        if !added {
+            return Err(Refusal::NoMemory);
+        }
+    }
+    let mut menus = MenuStock::new(alloc);
+    for _ in 0..MENUS {
+        let menu = Box::new(alloc, StdMenu::new())?;
+        let Ok(()) = menus.add(b"menu", menu) else {
+            return Err(Refusal::NoMemory);
+        };
+    }
+    let mut lists = ListStock::new(alloc);
+    for _ in 0..LISTS {
+        let list = Box::new(alloc, StdList::new())?;
+        let Ok(()) = lists.add(b"text", list) else {
+            return Err(Refusal::NoMemory);
+        };
+    }
+    let mut stock = Stock {
+        windows,
+        controls,
+        lists,
+        menus,
+    };
     run_chosen(alloc, files, standard, sink, &mut stock, chosen)
 }

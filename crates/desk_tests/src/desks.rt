@@ -3,7 +3,7 @@ ghost use Rattle.std.specs.Prelude.{All};
 ghost use Rattle.def_iface.specs.Stocked.{IsFull};
 
 use bit_map::{Mode, Pattern};
-use def_iface::{Size, Stock, Stocked, WindowDef};
+use def_iface::{Size, Stock, Stocked, WindowDef, WindowStock};
 use desk_toolbox::{
     Call, Found, NewPicture, NewWindow, PictureRef, Reply, Toolbox, UpdateCall, WindowCall,
     WindowPart, WindowReply,
@@ -126,12 +126,15 @@ const PAINTED: &[u8] = b"\
 #[test]
 fn a_desk_is_called_and_painted(rt: HostRuntime) -> Result<(), Fail> {
     let alloc = rt.alloc();
-    let mut stock = Stock::new(alloc);
+    let mut windows = WindowStock::new(alloc);
     for _ in 0..2 {
-        let Ok(()) = stock.windows.add(b"plain", Box::new(alloc, StdWindow::new(Variation::Plain))?) else {
+        let Ok(()) = windows.add(b"plain", Box::new(alloc, StdWindow::new(Variation::Plain))?)
+        else {
             return Err(Fail::from(Refusal::NoMemory));
         };
     }
+    let mut stock = Stock::new(alloc);
+    stock.windows = windows;
     let Ok(mut desk) = Toolbox::new(alloc, 16, 10, 0, Font::built_in(alloc)?) else {
         return Err(Fail::from(Refusal::NoMemory));
     };

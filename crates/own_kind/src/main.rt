@@ -10,7 +10,7 @@ mod hollow_window;
 mod tables;
 
 use anyhow::{Result, bail};
-use def_iface::Stock;
+use def_iface::{Stock, WindowStock};
 use hollow_window::HollowWindow;
 use script_runner::run;
 use std::io;
@@ -32,15 +32,17 @@ static KINDS: [&[u8]; 7] = [
 
 fn main(rt: HostRuntime) -> Result<()> {
     let alloc = rt.alloc();
-    let mut stock = Stock::new(alloc);
+    let mut windows = WindowStock::new(alloc);
     for _ in 0..DEFINITIONS {
         for kind in &KINDS {
             let window = Box::new(alloc, HollowWindow::new())?;
-            let Ok(()) = stock.windows.add(kind, window) else {
+            let Ok(()) = windows.add(kind, window) else {
                 bail!("no memory for the stock");
             };
         }
     }
+    let mut stock = Stock::new(alloc);
+    stock.windows = windows;
     let mut source = WatchedReader::new(rt.reader());
     let mut sink = WatchedWriter::new(io::writer(&rt));
     if let Err(refusal) = run(alloc, &mut source, &mut sink, &mut stock, None, false, true) {

@@ -3,7 +3,7 @@ ghost use Rattle.std.specs.Prelude.{◌≡◌, ◌<◌, length, true, IfOk, OnOk
 ghost use Rattle.def_iface.specs.Meaning.{is_fitting};
 
 use crate::titled_window::Titled;
-use def_iface::{Defined, Size, Stage, WindowStock, Taken, WindowChange, WindowDef};
+use def_iface::{Defined, Size, Stage, Taken, WindowChange, WindowDef, WindowStock};
 use draw_port::{Op, Picture, Shape};
 use std::alloc::Global;
 use std::test::Fail;

@@ -1,11 +1,11 @@
 use Rattle.std.specs.Prelude.{All}
-use Rattle.def_iface.specs.contracts.stock.StockStocked.TheImpl as stock
+use Rattle.def_iface.specs.contracts.window_stock.WindowStockStocked.TheImpl as stock
 use Rattle.def_iface.specs.Stocked.{IsFull}
 use Rattle.own_kind.proofs.main.OwnLists as own
 use Rattle.own_kind.proofs.main.Given as goal
 
 abbrev pub invariant-loop : goal.invariant-loop
-invariant-loop l = All IsFull ((stock.slots-value (own.own-1, own.lawful-own-1)).it l.stock)
+invariant-loop l = All IsFull ((stock.slots-value (own.own-1, own.lawful-own-1)).it l.windows)
 
 abbrev pub invariant-loop-kind : goal.invariant-loop-kind
-invariant-loop-kind l = All IsFull ((stock.slots-value (own.own-1, own.lawful-own-1)).it l.stock)
+invariant-loop-kind l = All IsFull ((stock.slots-value (own.own-1, own.lawful-own-1)).it l.windows)

@@ -12,7 +12,7 @@ use Rattle.desk.proofs.program.run_standard.Goals as goal
 
 pub loop-round-init : goal.loop-round-init
 unfolding so_many_of_each
-loop-round-init g c = c.new-stock.ensures.empty
+loop-round-init g c = c.new-windows.ensures.empty
 
 -- what a box means is what the window in it does: `own.at-1-1` is where the prover has standard windows in boxes
 pub loop-kind-preserved : goal.loop-kind-preserved
@@ -28,10 +28,10 @@ loop-round-preserved g c =
     round_done _ _ c.loop-round.round _ _ _ _ c.loop-kind.invariant c.loop-kind-test.false c.in-Ok-add.ensures.added
     (means ∙ ap notched_meaning (c.in_ok-notched.ensures.ok ∙ c.new-in-loop-round.ensures.value)) refl
 
-pub run_chosen-requires-clause-full : goal.run_chosen-requires-clause-full
-run_chosen-requires-clause-full g c = subst (All IsFull) (sym c.loop-round.invariant) (so_many_full c.loop-round.round)
+pub run_over-requires-clause-full : goal.run_over-requires-clause-full
+run_over-requires-clause-full g c = subst (All IsFull) (sym c.loop-round.invariant) (so_many_full c.loop-round.round)
 
 pub returns : goal.returns
 returns g c =
     let all : c.loop-round.round ≡ 16 = omega arith in
-    run_over_standard _ _ _ _ _ _ _ _ _ (c.loop-round.invariant ∙ ap so_many_of_each all) c.run_chosen.result c.run_chosen.ensures.ends
+    run_over_standard _ _ _ _ _ _ _ _ (c.loop-round.invariant ∙ ap so_many_of_each all) c.run_over.result c.run_over.ensures
