@@ -1,6 +1,6 @@
 use Rattle.std.proofs.Common.{◌≡◌, false, []}
 use Rattle.def_iface.specs.contracts.taken.TakenDefined.TheImpl as taken
-use Rattle.def_iface.specs.contracts.stock.StockStocked.TheImpl as stock
+use Rattle.def_iface.specs.contracts.window_stock.WindowStockStocked.TheImpl as stock
 use Rattle.script_runner.specs.SessionViews.{session_of, IsReady}
 use Rattle.script_runner.specs.Progress.{SoFar}
 use Rattle.script_runner.proofs.runner.answer_all.Given as goal
@@ -10,8 +10,8 @@ invariant-loop-read g l =
     let loan = (taken.loan-value g.dyn-1).it in
     let slots = (stock.slots-value g.dyn-1).it in
     record {
-      ready : IsReady loan l.session (slots l.stock);
+      ready : IsReady loan l.session (slots l.stock.windows);
       quiet : (g.W.Sink.output l.sink).has_failed ≡ false;
-      so_far : SoFar l.raw (session_of loan l.fn.session (slots l.fn.stock)) (g.R.Source.input l.fn.source) (g.W.Sink.output l.fn.sink) (g.R.Source.input l.source) (g.W.Sink.output l.sink) (session_of loan l.session (slots l.stock)) l.line [];
+      so_far : SoFar l.raw (session_of loan l.fn.session (slots l.fn.stock.windows)) (g.R.Source.input l.fn.source) (g.W.Sink.output l.fn.sink) (g.R.Source.input l.source) (g.W.Sink.output l.sink) (session_of loan l.session (slots l.stock.windows)) l.line [];
       counted : (g.R.Source.input l.source).reads ≡ l.read;
     }

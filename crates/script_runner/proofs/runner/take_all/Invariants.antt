@@ -1,6 +1,6 @@
 use Rattle.std.proofs.Common.{◌≡◌, false, drop}
 use Rattle.def_iface.specs.contracts.taken.TakenDefined.TheImpl as taken
-use Rattle.def_iface.specs.contracts.stock.StockStocked.TheImpl as stock
+use Rattle.def_iface.specs.contracts.window_stock.WindowStockStocked.TheImpl as stock
 use Rattle.script_runner.specs.Session.{SessionState}
 use Rattle.script_runner.specs.SessionViews.{session_of, IsReady}
 use Rattle.script_runner.specs.Progress.{SoFar}
@@ -13,9 +13,9 @@ invariant-loop-byte g l =
     let loan = (taken.loan-value g.dyn-1).it in
     let slots = (stock.slots-value g.dyn-1).it in
     record {
-      ready : IsReady loan l.session (slots l.stock);
+      ready : IsReady loan l.session (slots l.stock.windows);
       quiet : (g.W.Sink.output l.sink).has_failed ≡ false;
       so_far : (first : SessionState) (input rest : Input) (old : Output)
-          → SoFar l.raw first input old rest (g.W.Sink.output l.initial.sink) (session_of loan l.initial.session (slots l.initial.stock)) l.initial.line l.bytes
-          → SoFar l.raw first input old rest (g.W.Sink.output l.sink) (session_of loan l.session (slots l.stock)) l.line (drop l.byte-index l.bytes);
+          → SoFar l.raw first input old rest (g.W.Sink.output l.initial.sink) (session_of loan l.initial.session (slots l.initial.stock.windows)) l.initial.line l.bytes
+          → SoFar l.raw first input old rest (g.W.Sink.output l.sink) (session_of loan l.session (slots l.stock.windows)) l.line (drop l.byte-index l.bytes);
     }
