@@ -149,3 +149,65 @@ fn clicks_select_by_flags_and_keys(rt: HostRuntime) {
         assert!(rt; flags.click(ClickKeys { command, shift }, selected) == click);
     }
 }
+
+/// Flags, in the order of their fields.
+macro_rules! flags {
+    ($only_one:expr, $no_extend:expr, $use_sense:expr, $no_nil_hilite:expr) => {
+        SelectionFlags {
+            only_one: $only_one,
+            no_extend: $no_extend,
+            use_sense: $use_sense,
+            no_nil_hilite: $no_nil_hilite,
+        }
+    };
+}
+
+/// All numbers that say how cells are selected, and what they say.
+const SUMS: [(i32, SelectionFlags); 16] = [
+    (-128, flags!(true, false, false, false)),
+    (-126, flags!(true, false, false, true)),
+    (-124, flags!(true, false, true, false)),
+    (-122, flags!(true, false, true, true)),
+    (-112, flags!(true, true, false, false)),
+    (-110, flags!(true, true, false, true)),
+    (-108, flags!(true, true, true, false)),
+    (-106, flags!(true, true, true, true)),
+    (0, flags!(false, false, false, false)),
+    (2, flags!(false, false, false, true)),
+    (4, flags!(false, false, true, false)),
+    (6, flags!(false, false, true, true)),
+    (16, flags!(false, true, false, false)),
+    (18, flags!(false, true, false, true)),
+    (20, flags!(false, true, true, false)),
+    (22, flags!(false, true, true, true)),
+];
+
+#[test]
+fn numbers_say_how_cells_are_selected(rt: HostRuntime) {
+    for number in -200..201 {
+        let said = SUMS.iter().find(|sum| sum.0 == number);
+        let wanted = match said {
+            Some(sum) => Ok(sum.1),
+            None => Err(Refusal::OutOfRange),
+        };
+        assert!(rt; SelectionFlags::of_number(number) == wanted, "of {number}");
+    }
+}
+
+/// Modifiers of events, and whether they say that the Command key and the Shift key are down.
+const MODIFIERS: [(u16, bool, bool); 7] = [
+    (0, false, false),
+    (0x0100, true, false),
+    (0x0200, false, true),
+    (0x0300, true, true),
+    (0xFCFF, false, false),
+    (0xFDFF, true, false),
+    (0xFFFF, true, true),
+];
+
+#[test]
+fn modifiers_say_which_keys_are_down(rt: HostRuntime) {
+    for (modifiers, command, shift) in MODIFIERS {
+        assert!(rt; ClickKeys::of_modifiers(modifiers) == ClickKeys { command, shift });
+    }
+}

@@ -1,0 +1,113 @@
+//! Buttons, check boxes and radio buttons.
+ghost use Rattle.std.specs.Prelude.{◌≡◌};
+
+use crate::checksum::Checksum;
+use crate::controls::{Numbers, add_picture, begin};
+use crate::paper::Paper;
+use crate::sizes::{GROUPS, Widths, sizes};
+use anyhow::Result;
+use def_iface::{ControlDef, Size, Stage};
+use std_cdef::{StdButton, StdCheck, Variation};
+use tb_geom::Refusal;
+
+/// What is drawn.
+#[derive(Clone, Copy)]
+enum Kind {
+    Button,
+    Check,
+    Radio,
+}
+
+/// The kinds with their names and the part codes that they have.
+const KINDS: [(Kind, &str, i32); 3] = [
+    (Kind::Button, "button", 10),
+    (Kind::Check, "check", 11),
+    (Kind::Radio, "radio", 11),
+];
+
+/// The title of each.
+const TITLE: &[u8] = b"Ag";
+
+/// Adds the picture of a Fresh control.
+fn add_fresh<C: ControlDef>(
+    sum: &mut Checksum,
+    paper: Paper<'_>,
+    fresh: C,
+    size: Size,
+    numbers: Numbers,
+) -> Result<(), Refusal>
+    requires { (C.control_meaning fresh).stage ≡ Stage.Fresh }
+{
+    let mut control = fresh;
+    begin(&mut control, size, TITLE, numbers)?;
+    add_picture(sum, paper, &control, size)
+}
+
+/// Adds the picture of a control of this kind.
+fn add_kind(
+    sum: &mut Checksum,
+    paper: Paper<'_>,
+    kind: Kind,
+    size: Size,
+    numbers: Numbers,
+) -> Result<(), Refusal> {
+    match kind {
+        Kind::Button => add_fresh(sum, paper, StdButton::new(), size, numbers),
+        Kind::Check => {
+            let check = StdCheck::new(Variation::CheckBox);
+            add_fresh(sum, paper, check, size, numbers)
+        }
+        Kind::Radio => {
+            let radio = StdCheck::new(Variation::RadioButton);
+            add_fresh(sum, paper, radio, size, numbers)
+        }
+    }
+}
+
+/// The checksum of the pictures of these widths. Where the control is off and not highlighted, more sizes are drawn.
+fn sum_of(paper: Paper<'_>, kind: Kind, widths: Widths, numbers: Numbers) -> Result<u32, Refusal> {
+    let few = numbers.value != 0 || numbers.highlight != 0;
+    let mut sum = Checksum::new();
+    for size in &sizes(paper.alloc, widths, few)? {
+        add_kind(&mut sum, paper, kind, *size, numbers)?;
+    }
+    Ok(sum.sum)
+}
+
+/// Prints the lines of a kind with these numbers.
+fn print_case(
+    rt: &impl Print,
+    paper: Paper<'_>,
+    kind: Kind,
+    name: &str,
+    numbers: Numbers,
+) -> Result<()> {
+    let Numbers {
+        value,
+        highlight,
+        ..
+    } = numbers;
+    for widths in GROUPS {
+        let sum = sum_of(paper, kind, widths, numbers)?;
+        println!(rt; "{name} {value} {highlight} {} {sum}", widths.first)?;
+    }
+    Ok(())
+}
+
+/// Prints a line for each kind, value, highlight and group of widths.
+pub fn print(rt: &impl Print, paper: Paper<'_>) -> Result<()> {
+    for (kind, name, part) in KINDS {
+        for value in 0..=1 {
+            for highlight in [0, part, 255] {
+                let numbers = Numbers {
+                    minimum: 0,
+                    maximum: 1,
+                    value,
+                    highlight,
+                };
+                print_case(rt, paper, kind, name, numbers)?;
+            }
+        }
+    }
+    Ok(())
+}
