@@ -25,6 +25,9 @@ const KINDS: [(Kind, &str, i32); 3] = [
     (Kind::Radio, "radio", 11),
 ];
 
+/// The part code of a part that none of them has.
+const OTHER_PART: i32 = 20;
+
 /// The title of each.
 const TITLE: &[u8] = b"Ag";
 
@@ -64,7 +67,7 @@ fn add_kind(
     }
 }
 
-/// The checksum of the pictures of these widths. Where the control is off and not highlighted, more sizes are drawn.
+/// The checksum of the pictures of these widths. Where the control is off and not highlighted, all sizes are drawn.
 fn sum_of(paper: Paper<'_>, kind: Kind, widths: Widths, numbers: Numbers) -> Result<u32, Refusal> {
     let few = numbers.value != 0 || numbers.highlight != 0;
     let mut sum = Checksum::new();
@@ -98,7 +101,7 @@ fn print_case(
 pub fn print(rt: &impl Print, paper: Paper<'_>) -> Result<()> {
     for (kind, name, part) in KINDS {
         for value in 0..=1 {
-            for highlight in [0, part, 255] {
+            for highlight in [0, part, OTHER_PART, 255] {
                 let numbers = Numbers {
                     minimum: 0,
                     maximum: 1,

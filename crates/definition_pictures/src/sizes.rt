@@ -32,10 +32,9 @@ pub const GROUPS: [Widths; 4] = [
 /// The greatest height.
 const HIGHEST: u8 = 40;
 
-/// Whether a size is drawn: whether the sum of its sides is a multiple of 3, or of 7 where just a few are.
+/// Whether a size is drawn: each is, or where just a few are, those whose sides have a sum that is a multiple of 7.
 fn is_drawn(width: u8, height: u8, few: bool) -> bool {
-    let sum = u16::from(width) + u16::from(height);
-    if few { sum % 7 == 0 } else { sum % 3 == 0 }
+    !few || (u16::from(width) + u16::from(height)) % 7 == 0
 }
 
 /// The sizes of these widths that are drawn, the narrower ones first, and of each width the lower ones.
