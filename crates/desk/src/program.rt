@@ -120,7 +120,7 @@ fn run_over<F: Opener, R: Source, W: Sink>(
     requires unfailed { (W.output sink.old).has_failed ≡ false }
     ensures { EndsOver (F.opens files.now) F.Opened.input
         (R.input standard.old) (R.input standard.new) (W.output sink.old) (W.output sink.new)
-        (⟦<WindowStock as Stocked>⟧.slots windows.entry) chosen.now result }
+        (⟦<WindowStock as Stocked>⟧.slots windows) chosen.now result }
 {
     let mut controls = ControlStock::new(alloc);
     for _ in 0..CONTROLS {
