@@ -3,8 +3,8 @@ ghost use Rattle.std.specs.Prelude.{◌≡◌};
 
 use crate::checksum::Checksum;
 use crate::controls::{Numbers, add_picture, begin};
-use crate::paper::Paper;
 use crate::sizes::{GROUPS, Widths, sizes};
+use crate::tools::Tools;
 use anyhow::Result;
 use def_iface::{ControlDef, Size, Stage};
 use std_cdef::{StdButton, StdCheck, Variation};
@@ -34,7 +34,7 @@ const TITLE: &[u8] = b"Ag";
 /// Adds the picture of a Fresh control.
 fn add_fresh<C: ControlDef>(
     sum: &mut Checksum,
-    paper: Paper<'_>,
+    tools: Tools<'_>,
     fresh: C,
     size: Size,
     numbers: Numbers,
@@ -43,36 +43,36 @@ fn add_fresh<C: ControlDef>(
 {
     let mut control = fresh;
     begin(&mut control, size, TITLE, numbers)?;
-    add_picture(sum, paper, &control, size)
+    add_picture(sum, tools, &control, size)
 }
 
 /// Adds the picture of a control of this kind.
 fn add_kind(
     sum: &mut Checksum,
-    paper: Paper<'_>,
+    tools: Tools<'_>,
     kind: Kind,
     size: Size,
     numbers: Numbers,
 ) -> Result<(), Refusal> {
     match kind {
-        Kind::Button => add_fresh(sum, paper, StdButton::new(), size, numbers),
+        Kind::Button => add_fresh(sum, tools, StdButton::new(), size, numbers),
         Kind::Check => {
             let check = StdCheck::new(Variation::CheckBox);
-            add_fresh(sum, paper, check, size, numbers)
+            add_fresh(sum, tools, check, size, numbers)
         }
         Kind::Radio => {
             let radio = StdCheck::new(Variation::RadioButton);
-            add_fresh(sum, paper, radio, size, numbers)
+            add_fresh(sum, tools, radio, size, numbers)
         }
     }
 }
 
 /// The checksum of the pictures of these widths. Where the control is off and not highlighted, all sizes are drawn.
-fn sum_of(paper: Paper<'_>, kind: Kind, widths: Widths, numbers: Numbers) -> Result<u32, Refusal> {
+fn sum_of(tools: Tools<'_>, kind: Kind, widths: Widths, numbers: Numbers) -> Result<u32, Refusal> {
     let few = numbers.value != 0 || numbers.highlight != 0;
     let mut sum = Checksum::new();
-    for size in &sizes(paper.alloc, widths, few)? {
-        add_kind(&mut sum, paper, kind, *size, numbers)?;
+    for size in &sizes(tools.alloc, widths, few)? {
+        add_kind(&mut sum, tools, kind, *size, numbers)?;
     }
     Ok(sum.sum)
 }
@@ -80,7 +80,7 @@ fn sum_of(paper: Paper<'_>, kind: Kind, widths: Widths, numbers: Numbers) -> Res
 /// Prints the lines of a kind with these numbers.
 fn print_case(
     rt: &impl Print,
-    paper: Paper<'_>,
+    tools: Tools<'_>,
     kind: Kind,
     name: &str,
     numbers: Numbers,
@@ -91,14 +91,14 @@ fn print_case(
         ..
     } = numbers;
     for widths in GROUPS {
-        let sum = sum_of(paper, kind, widths, numbers)?;
+        let sum = sum_of(tools, kind, widths, numbers)?;
         println!(rt; "{name} {value} {highlight} {} {sum}", widths.first)?;
     }
     Ok(())
 }
 
 /// Prints a line for each kind, value, highlight and group of widths.
-pub fn print(rt: &impl Print, paper: Paper<'_>) -> Result<()> {
+pub fn print(rt: &impl Print, tools: Tools<'_>) -> Result<()> {
     for (kind, name, part) in KINDS {
         for value in 0..=1 {
             for highlight in [0, part, OTHER_PART, 255] {
@@ -108,7 +108,7 @@ pub fn print(rt: &impl Print, paper: Paper<'_>) -> Result<()> {
                     value,
                     highlight,
                 };
-                print_case(rt, paper, kind, name, numbers)?;
+                print_case(rt, tools, kind, name, numbers)?;
             }
         }
     }

@@ -4,8 +4,8 @@ ghost use Rattle.def_iface.specs.ControlMeaning.{is_control_size};
 ghost use Rattle.std_mldef.specs.Lists.{std_list_meaning};
 
 use crate::checksum::Checksum;
-use crate::paper::{ORIGIN, Paper, WHOLE};
 use crate::sizes::{GROUPS, Widths, is_fitting_size, sizes};
+use crate::tools::{ORIGIN, Tools, WHOLE};
 use anyhow::Result;
 use bit_map::BitMap;
 use def_iface::{ListChange, ListDef, Size, Stage};
@@ -68,16 +68,16 @@ fn list_of(size: Size, nil_hilited: bool) -> Result<StdList, Refusal>
 }
 
 /// Adds the picture of a cell of this size, and what it is once it is highlighted and once it is highlighted again.
-fn add_cell(sum: &mut Checksum, paper: Paper<'_>, cell: &Cell, size: Size) -> Result<(), Refusal> {
+fn add_cell(sum: &mut Checksum, tools: Tools<'_>, cell: &Cell, size: Size) -> Result<(), Refusal> {
     let list = list_of(size, cell.nil_hilited)?;
     let bytes = ShortText::new(cell.bytes)?;
-    let mut map = BitMap::new(paper.alloc, size.width, size.height)?;
+    let mut map = BitMap::new(tools.alloc, size.width, size.height)?;
     let mut canvas = Canvas {
         map: &mut map,
         clip: size.rect(),
         origin: ORIGIN,
         cut: &WHOLE,
-        font: paper.font,
+        font: tools.font,
     };
     list.draw_cell(bytes.as_slice(), cell.selected, &mut canvas);
     sum.add_map(canvas.map);
@@ -89,19 +89,19 @@ fn add_cell(sum: &mut Checksum, paper: Paper<'_>, cell: &Cell, size: Size) -> Re
 }
 
 /// The checksum of cells of these widths.
-fn sum_of(paper: Paper<'_>, cell: &Cell, widths: Widths) -> Result<u32, Refusal> {
+fn sum_of(tools: Tools<'_>, cell: &Cell, widths: Widths) -> Result<u32, Refusal> {
     let mut sum = Checksum::new();
-    for size in &sizes(paper.alloc, widths, true)? {
-        add_cell(&mut sum, paper, cell, *size)?;
+    for size in &sizes(tools.alloc, widths, true)? {
+        add_cell(&mut sum, tools, cell, *size)?;
     }
     Ok(sum.sum)
 }
 
 /// Prints a line for each cell and group of widths.
-pub fn print(rt: &impl Print, paper: Paper<'_>) -> Result<()> {
+pub fn print(rt: &impl Print, tools: Tools<'_>) -> Result<()> {
     for cell in CELLS {
         for widths in GROUPS {
-            let sum = sum_of(paper, &cell, widths)?;
+            let sum = sum_of(tools, &cell, widths)?;
             println!(rt; "cell {} {} {sum}", cell.name, widths.first)?;
         }
     }

@@ -3,8 +3,8 @@ ghost use Rattle.std.specs.Prelude.{◌≡◌, true, OnOk};
 ghost use Rattle.def_iface.specs.ControlMeaning.{is_fitting_control};
 
 use crate::checksum::Checksum;
-use crate::paper::{ORIGIN, Paper, WHOLE};
 use crate::sizes::is_fitting_size;
+use crate::tools::{ORIGIN, Tools, WHOLE};
 use bit_map::BitMap;
 use control_values::{ControlValues, Highlight};
 use def_iface::{ControlChange, ControlDef, Size, Stage};
@@ -83,20 +83,20 @@ pub fn begin<C: ControlDef>(
 /// Adds the picture of a control of this size.
 pub fn add_picture<C: ControlDef>(
     sum: &mut Checksum,
-    paper: Paper<'_>,
+    tools: Tools<'_>,
     control: &C,
     size: Size,
 ) -> Result<(), Refusal>
     requires live { (C.control_meaning control.now).stage ≡ Stage.Live }
     requires told { is_fitting_control (C.control_meaning control.now) (C.control_meaning control.now).size ≡ true }
 {
-    let mut map = BitMap::new(paper.alloc, size.width, size.height)?;
+    let mut map = BitMap::new(tools.alloc, size.width, size.height)?;
     let mut canvas = Canvas {
         map: &mut map,
         clip: size.rect(),
         origin: ORIGIN,
         cut: &WHOLE,
-        font: paper.font,
+        font: tools.font,
     };
     control.draw(&mut canvas);
     sum.add_map(&map);

@@ -9,22 +9,22 @@ mod cells;
 mod checksum;
 mod controls;
 mod menus;
-mod paper;
 mod scrolls;
 mod sizes;
+mod tools;
 
 use anyhow::Result;
-use paper::Paper;
 use strike_font::Font;
+use tools::Tools;
 
 fn main(rt: HostRuntime) -> Result<()> {
     let font = Font::built_in(rt.alloc())?;
-    let paper = Paper {
+    let tools = Tools {
         alloc: rt.alloc(),
         font: &font,
     };
-    boxes::print(&rt, paper)?;
-    scrolls::print(&rt, paper)?;
-    menus::print(&rt, paper)?;
-    cells::print(&rt, paper)
+    boxes::print(&rt, tools)?;
+    scrolls::print(&rt, tools)?;
+    menus::print(&rt, tools)?;
+    cells::print(&rt, tools)
 }

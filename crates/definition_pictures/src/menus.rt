@@ -1,7 +1,7 @@
 //! Menus.
 
 use crate::checksum::Checksum;
-use crate::paper::{ORIGIN, Paper, WHOLE};
+use crate::tools::{ORIGIN, Tools, WHOLE};
 use anyhow::Result;
 use bit_map::BitMap;
 use def_iface::{MenuChange, MenuDef, Size};
@@ -43,7 +43,7 @@ fn menu_of(alloc: Global, count: u8, enabled: bool) -> Result<Menu, Refusal> {
 /// Adds the picture of a menu of this size with this item highlighted.
 fn add_picture(
     sum: &mut Checksum,
-    paper: Paper<'_>,
+    tools: Tools<'_>,
     menu: &Menu,
     lit: Option<u8>,
 ) -> Result<(), Refusal> {
@@ -51,14 +51,14 @@ fn add_picture(
     definition.begin();
     definition.told(MenuChange::Highlighted(Some(2)));
     definition.told(MenuChange::Highlighted(lit));
-    let size = definition.size(menu, paper.font);
-    let mut map = BitMap::new(paper.alloc, size.width, size.height)?;
+    let size = definition.size(menu, tools.font);
+    let mut map = BitMap::new(tools.alloc, size.width, size.height)?;
     let mut canvas = Canvas {
         map: &mut map,
         clip: size.rect(),
         origin: ORIGIN,
         cut: &WHOLE,
-        font: paper.font,
+        font: tools.font,
     };
     definition.draw(menu, &mut canvas);
     sum.add_map(&map);
@@ -66,25 +66,25 @@ fn add_picture(
 }
 
 /// The checksum of the pictures of a menu of so many items.
-fn sum_of_pictures(paper: Paper<'_>, menu: &Menu, count: u8) -> Result<u32, Refusal> {
+fn sum_of_pictures(tools: Tools<'_>, menu: &Menu, count: u8) -> Result<u32, Refusal> {
     let mut sum = Checksum::new();
-    add_picture(&mut sum, paper, menu, None)?;
+    add_picture(&mut sum, tools, menu, None)?;
     for number in 1..=count {
         if number <= LAST_LIT || number == 31 {
-            add_picture(&mut sum, paper, menu, Some(number))?;
+            add_picture(&mut sum, tools, menu, Some(number))?;
         }
     }
     Ok(sum.sum)
 }
 
 /// The checksum of the items, or 0, that the points of a menu choose, with those up to two pixels outside.
-fn sum_of_choices(paper: Paper<'_>, menu: &Menu) -> u32 {
+fn sum_of_choices(tools: Tools<'_>, menu: &Menu) -> u32 {
     let definition = StdMenu::new();
-    let size = definition.size(menu, paper.font);
+    let size = definition.size(menu, tools.font);
     let mut sum = Checksum::new();
     for v in -2..size.height + 2 {
         for h in -2..size.width + 2 {
-            let item = definition.choose(menu, paper.font, Point { h, v });
+            let item = definition.choose(menu, tools.font, Point { h, v });
             sum.add(u32::from(item.unwrap_or(0)));
         }
     }
@@ -92,13 +92,13 @@ fn sum_of_choices(paper: Paper<'_>, menu: &Menu) -> u32 {
 }
 
 /// Prints three lines for each menu: its size, and the checksums.
-pub fn print(rt: &impl Print, paper: Paper<'_>) -> Result<()> {
+pub fn print(rt: &impl Print, tools: Tools<'_>) -> Result<()> {
     for count in COUNTS {
         for enabled in [true, false] {
-            let menu = menu_of(paper.alloc, count, enabled)?;
-            let Size { width, height } = StdMenu::new().size(&menu, paper.font);
-            let look = sum_of_pictures(paper, &menu, count)?;
-            let choice = sum_of_choices(paper, &menu);
+            let menu = menu_of(tools.alloc, count, enabled)?;
+            let Size { width, height } = StdMenu::new().size(&menu, tools.font);
+            let look = sum_of_pictures(tools, &menu, count)?;
+            let choice = sum_of_choices(tools, &menu);
             println!(rt; "menu {count} {enabled} size {width} {height}")?;
             println!(rt; "menu {count} {enabled} look {look}")?;
             println!(rt; "menu {count} {enabled} choice {choice}")?;

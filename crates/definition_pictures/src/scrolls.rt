@@ -4,7 +4,7 @@ ghost use Rattle.def_iface.specs.ControlMeaning.{is_fitting_control};
 
 use crate::checksum::Checksum;
 use crate::controls::{Numbers, add_picture, begin};
-use crate::paper::Paper;
+use crate::tools::Tools;
 use anyhow::Result;
 use def_iface::{ControlDef, Size, Stage};
 use std_cdef::StdScroll;
@@ -141,30 +141,30 @@ fn add_drags<C: ControlDef>(sum: &mut Checksum, control: &C)
 }
 
 /// Adds all that comes of a bar with these numbers.
-fn add_bar(sums: &mut Sums, paper: Paper<'_>, bar: Bar, numbers: Numbers) -> Result<(), Refusal> {
+fn add_bar(sums: &mut Sums, tools: Tools<'_>, bar: Bar, numbers: Numbers) -> Result<(), Refusal> {
     let mut scroll = StdScroll::new();
     begin(&mut scroll, bar.size(), b"Ag", numbers)?;
-    add_picture(&mut sums.look, paper, &scroll, bar.size())?;
+    add_picture(&mut sums.look, tools, &scroll, bar.size())?;
     add_parts(&mut sums.part, &scroll, bar);
     add_drags(&mut sums.drag, &scroll);
     Ok(())
 }
 
 /// The checksums of a bar with all of the numbers.
-fn sums_of(paper: Paper<'_>, bar: Bar) -> Result<Sums, Refusal> {
+fn sums_of(tools: Tools<'_>, bar: Bar) -> Result<Sums, Refusal> {
     let mut sums = Sums {
         look: Checksum::new(),
         part: Checksum::new(),
         drag: Checksum::new(),
     };
     for numbers in NUMBERS {
-        add_bar(&mut sums, paper, bar, numbers)?;
+        add_bar(&mut sums, tools, bar, numbers)?;
     }
     Ok(sums)
 }
 
 /// Prints three lines for each bar.
-pub fn print(rt: &impl Print, paper: Paper<'_>) -> Result<()> {
+pub fn print(rt: &impl Print, tools: Tools<'_>) -> Result<()> {
     for (length, across) in SIDES {
         for down in [true, false] {
             let bar = Bar {
@@ -173,7 +173,7 @@ pub fn print(rt: &impl Print, paper: Paper<'_>) -> Result<()> {
                 down,
             };
             let Size { width, height } = bar.size();
-            let sums = sums_of(paper, bar)?;
+            let sums = sums_of(tools, bar)?;
             println!(rt; "scroll {width} {height} look {}", sums.look.sum)?;
             println!(rt; "scroll {width} {height} part {}", sums.part.sum)?;
             println!(rt; "scroll {width} {height} drag {}", sums.drag.sum)?;

@@ -7,7 +7,7 @@ use tb_geom::Point;
 
 /// The memory of the maps, and the font of the texts.
 #[derive(Clone, Copy)]
-pub struct Paper<'a> {
+pub struct Tools<'a> {
     pub alloc: Global,
     pub font: &'a Font,
 }
