@@ -1,5 +1,5 @@
 -- One title after another.
-use Rattle.std.proofs.Common.{◌≡◌, ℕ, ◌+◌, ◌<◌, ◌≤◌, ℤ, pos, negsuc, not, arith, ◌-ℤ◌, Bool, true, false, cond, ◌&&◌, if◌then◌else◌, None, List, [], ◌∷◌, ◌++◌, length, take, get_or, refl, sym, ap, ◌∙◌}
+use Rattle.std.proofs.Common.{◌≡◌, ℕ, ◌+◌, ◌≤◌, ℤ, pos, negsuc, not, arith, ◌-ℤ◌, Bool, true, false, ◌&&◌, if◌then◌else◌, None, List, [], ◌∷◌, ◌++◌, take, refl, sym, ap, ◌∙◌}
 use Rattle.tb_geom.specs.declared.point.Point.{Point}
 use Rattle.std.specs.Prelude.{int_lt}
 use Rattle.std.specs.Ordering.{int_eq}
@@ -52,9 +52,9 @@ titles-more c d titles k left width t first middle last one at wide same drawn o
     let font = c.font.now in
     Draws-over (canvas_holds c) (canvas_holds c) (canvas_holds c) _ (λ p old. lettered_value font (title_steps left width t) (canvas_point c p) old) _ first middle last
     (λ p old on. twice (canvas_holds c p) (λ b. lettered_value font (title_steps left width t) (canvas_point c p) b)
-        (titles_value font 10 (take k titles) (canvas_point c p) old) (titles_value font 10 (take (k + 1) titles) (canvas_point c p) old) old
-        (ap (λ ts. titles_value font 10 ts (canvas_point c p) old) one ∙ titles_value-more font 10 (take k titles) t (canvas_point c p) old
-         ∙ (λ i. lettered_value font (title_steps (sym at i) (sym wide i) t) (canvas_point c p) (titles_value font 10 (take k titles) (canvas_point c p) old))))
+    (titles_value font 10 (take k titles) (canvas_point c p) old) (titles_value font 10 (take (k + 1) titles) (canvas_point c p) old) old
+    (ap (λ ts. titles_value font 10 ts (canvas_point c p) old) one ∙ titles_value-more font 10 (take k titles) t (canvas_point c p) old
+    ∙ (λ i. lettered_value font (title_steps (sym at i) (sym wide i) t) (canvas_point c p) (titles_value font 10 (take k titles) (canvas_point c p) old))))
     drawn
     (Draws-same _ _ _ _ middle last (λ p old on. frame_steps c d (title_steps left width t) p old same) over)
 
@@ -127,13 +127,13 @@ unfolding cut_holds
 bar_drawn titles shown step rows clip at cut font d first middle last end is_shown is_step few is is_clip is_at is_whole same_clip same_origin same_cut same_font ground over = rw is (
     Draws-over _ _ (λ p. int_lt p.v rows) _ _ (λ p _. bar_picture font.now titles p) first middle last
     (λ p x on. let r = in_rows first rows p few on in
-        twice (int_lt p.v rows) (λ b. titles_value font.now 10 titles p b) (plain p) (bar_picture font.now titles p) x
-            (ap (λ b. titles_value font.now 10 titles p b) (sym (plain_bar font.now p r.0))))
+    twice (int_lt p.v rows) (λ b. titles_value font.now 10 titles p b) (plain p) (bar_picture font.now titles p) x
+    (ap (λ b. titles_value font.now 10 titles p b) (sym (plain_bar font.now p r.0))))
     (Draws-same _ (λ p. int_lt p.v rows) _ (λ p _. plain p) first middle
-        (λ p x on. (λ i. if held first p few on i then look_bit (lettering font.now []) (is_step i ∷ []) (moved p i) else x)) ground)
+    (λ p x on. (λ i. if held first p few on i then look_bit (lettering font.now []) (is_step i ∷ []) (moved p i) else x)) ground)
     (Draws-same _ (λ p. int_lt p.v rows) _ (λ p x. titles_value font.now 10 titles p x) middle last
-        (λ p x on. (λ i. if rect_holds (same_clip i) p && cut_holds ((same_cut i).now) p then titles_value ((same_font i).now) 10 (is_shown i) (minus p (same_origin i)) x else x)
-            ∙ (λ i. if held middle p (rw ground.width few) on i then titles_value font.now 10 titles (moved p i) x else x)) over))
+    (λ p x on. (λ i. if rect_holds (same_clip i) p && cut_holds ((same_cut i).now) p then titles_value ((same_font i).now) 10 (is_shown i) (minus p (same_origin i)) x else x)
+    ∙ (λ i. if held middle p (rw ground.width few) on i then titles_value font.now 10 titles (moved p i) x else x)) over))
   where
     plain : PixelSet
     plain p = look_bit (lettering font.now []) (black_fill (box (pos 0) (pos 19) (pos 1024) (pos 20)) ∷ []) p

@@ -1,11 +1,11 @@
 -- Which title a point is on.
-use Rattle.std.proofs.Common.{◌≡◌, ℕ, ◌+◌, ℤ, pos, arith, Bool, true, false, ◌&&◌, if◌then◌else◌, List, [], ◌∷◌, Option, None, Some, refl, ap, ◌∙◌}
+use Rattle.std.proofs.Common.{◌≡◌, ℕ, ◌+◌, ℤ, pos, arith, Bool, true, false, ◌&&◌, if◌then◌else◌, List, [], ◌∷◌, None, Some, refl, ap, ◌∙◌}
 use Rattle.std.specs.Prelude.{int_le}
 use Rattle.std.proofs.lemmas.Int.{ints}
 use Rattle.tb_geom.specs.declared.point.Point.{Point}
-use Rattle.tb_geom.specs.Rects.{between, rect_holds}
+use Rattle.tb_geom.specs.Rects.{between}
 use Rattle.menu_bar.specs.declared.titles.BarTitle.{BarTitle}
-use Rattle.menu_bar.specs.Bars.{title_at, title_box, title_width}
+use Rattle.menu_bar.specs.Bars.{title_at, title_width}
 
 above : (v : ℤ) → int_le (pos 19) v ≡ true → between (pos 0) v (pos 19) ≡ false
 above v low = grind (arith, ints)
