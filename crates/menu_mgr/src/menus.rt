@@ -1,0 +1,59 @@
+//! What a Menu Manager keeps, how it begins, and what it shows.
+ghost use Rattle.std.specs.Prelude.{◌≡◌, ◌≤◌, [], List, length, nat_abs, pos, IfOk, true, vec_capacity, None};
+ghost use Rattle.bit_map.specs.Bits.{is_side};
+ghost use Rattle.menu_list.specs.Lists.{titles_of};
+ghost use Rattle.window_mgr.specs.BarShown.{IsBarShown};
+ghost use Rattle.window_mgr.specs.Kept.{IsKept};
+ghost use Rattle.window_mgr.specs.Updating.{LeavesState};
+
+use bit_map::BitMap;
+use def_iface::{Defined, Taken, TakenMenu};
+use menu_list::MenuList;
+use menu_overlay::Overlay;
+use std::alloc::{AllocError, Global};
+use window_mgr::WindowManager;
+
+/// The menus of a desk, and the map on which the one that is pulled down lies in front of the windows' screen.
+#[derive(Drop)]
+pub struct Menus {
+    pub(crate) alloc: Global,
+    pub(crate) list: MenuList<TakenMenu>,
+    pub(crate) overlay: Overlay,
+}
+
+impl Menus {
+    /// No menu, before a screen of `width` by `height` pixels. All the memory that menus need is taken here, but for their
+    /// items.
+    pub fn new(alloc: Global, width: i32, height: i32) -> Result<Menus, AllocError>
+        requires width { is_side width ≡ true }
+        requires height { is_side height ≡ true }
+        ensures none { IfOk result (λ m. m.list.menus.items ≡ []) }
+        ensures highlighted { IfOk result (λ m. m.list.highlighted ≡ None) }
+        ensures room { IfOk result (λ m. 16 ≤ vec_capacity m.list.menus) }
+        ensures width { IfOk result (λ m. pos m.overlay.front.width ≡ width) }
+        ensures height { IfOk result (λ m. pos m.overlay.front.height ≡ height) }
+    {
+        Ok(Menus {
+            alloc,
+            list: MenuList::new(alloc)?,
+            overlay: Overlay::new(alloc, width, height)?,
+        })
+    }
+
+    /// The screen while a menu is pulled down.
+    pub fn screen(&self) -> &BitMap
+        ensures { result.now ≡ self.now.overlay.front }
+    {
+        self.overlay.front()
+    }
+
+    /// Shows the titles of these menus in the menu bar. Takes no memory.
+    pub(crate) fn show_titles(&self, windows: &mut WindowManager)
+        requires few { length self.now.list.menus.items ≤ 16 }
+        requires kept { IsKept ⟦<Taken as Defined>⟧.loan windows.old }
+        ensures { LeavesState ⟦<Taken as Defined>⟧.loan
+            (IsBarShown (titles_of self.now.list.highlighted self.now.list.menus.items)) windows.old windows.new }
+    {
+        windows.set_titles(self.list.titles());
+    }
+}
