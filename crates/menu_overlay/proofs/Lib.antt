@@ -1,0 +1,3 @@
+-- Lemmas on a menu that is pulled down.
+pub mod PlaceLemmas
+pub mod ShownLemmas

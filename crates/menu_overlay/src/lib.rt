@@ -1,0 +1,19 @@
+//! The menu that is pulled down, in front of the base image.
+//!
+//! A menu that is pulled down lies over what the desk shows, and changes none of it: the screen then shows an `Overlay`, a
+//! map of its own of the same size. `show` copies the base image into it, `pull` draws a menu over that, and `redraw` draws
+//! it anew where its definition says that it changed. `show` again puts the menu away. The map is made once, with the
+//! `Overlay`; nothing else takes memory.
+//!
+//! A menu lies where its corner is, the point `pulled_place`, below its title; its size is `shown_size`. Places are in the
+//! coordinates of the screen.
+#![tactic(auto)]
+
+mod drawing;
+pub mod laws;
+mod overlay;
+mod place;
+
+pub use drawing::draw_pulled;
+pub use overlay::Overlay;
+pub use place::{pulled_place, shown_size};
