@@ -1,15 +1,13 @@
 -- What the screen shows, whose its pixels are, and what painting the desk from nothing gives, with the menu in front that is
 -- pulled down.
-use Rattle.std.specs.Prelude.{Bool, false, ◌&&◌, if◌then◌else◌, Option, None, Some}
+use Rattle.std.specs.Prelude.{Bool, false, if◌then◌else◌, Option, None, Some}
 use Rattle.tb_geom.specs.declared.point.Point.{Point}
 use Rattle.tb_geom.specs.Points.{PixelSet}
-use Rattle.tb_geom.specs.Rects.{rect_holds}
-use Rattle.def_iface.specs.Desk.{on_screen}
 use Rattle.def_iface.specs.Owner.{Owner, own_bit, owner}
 use Rattle.def_iface.specs.Scratch.{scratch}
-use Rattle.menu_overlay.specs.Overlays.{Pulled, pulled_bit, pulled_rect, shown_bit}
-use Rattle.window_mgr.specs.FullDesk.{FullDesk, layered_desk}
-use Rattle.menu_mgr.specs.Pulling.{pulled_of}
+use Rattle.menu_overlay.specs.Overlays.{Pulled, pulled_bit, shown_bit}
+use Rattle.window_mgr.specs.FullDesk.{layered_desk}
+use Rattle.menu_mgr.specs.Pulling.{is_in, is_pulled_at, pulled_of}
 use Rattle.menu_mgr.specs.Pulling as menus
 use Rattle.desk_toolbox.specs.ToolboxStates.{ToolboxState, with_menus}
 
@@ -21,14 +19,9 @@ pulled s = pulled_of s.desk.activity s.menus.menus
 abbrev pub screen_of : ToolboxState → PixelSet
 screen_of s = menus.screen_of (with_menus s)
 
--- the pulled menu's rectangle has the point
-abbrev pub is_in : Option Pulled → Point → Bool
-is_in None p = false
-is_in (Some m) p = rect_holds (pulled_rect m.place m.size) p
-
 -- the point is a pixel of the screen that the pulled menu has
 abbrev pub is_on_menu : ToolboxState → Point → Bool
-is_on_menu s p = on_screen (layered_desk s.desk.windows.desk) p && is_in (pulled s) p
+is_on_menu s p = is_pulled_at s.desk.windows.desk (pulled s) p
 
 -- whose a pixel of the screen is: the pulled menu's, or the owner's of the base image
 pub data ScreenOwner : Type 0 where

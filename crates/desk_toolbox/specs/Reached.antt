@@ -6,11 +6,10 @@ use Rattle.event_queue.specs.Events.{is_posted}
 use Rattle.desk_call.specs.declared.activity.Activity.{Activity}
 use Rattle.desk_call.specs.declared.activity.Activity.TheVariants.{Idle, Updating, Tracking, Pulling}
 use Rattle.vis_update.specs.Records.{WindowRecord}
-use Rattle.window_mgr.specs.FullDesk.{FullDesk, IsRightState}
+use Rattle.window_mgr.specs.FullDesk.{IsRightState}
 use Rattle.window_mgr.specs.Refused.{is_missing}
 use Rattle.window_frame.specs.Followers.{AreInformed}
-use Rattle.menu_list.specs.Lists.{titles_of}
-use Rattle.menu_mgr.specs.MenuDesks.{MenusState}
+use Rattle.menu_mgr.specs.MenuDesks.{IsBarOf}
 use Rattle.desk_toolbox.specs.EventSteps.{first_events}
 use Rattle.desk_toolbox.specs.ToolboxStates.{ToolboxState}
 
@@ -29,10 +28,6 @@ open_window (Pulling m) = None
 -- where the window's definition heard last that the go-away box is tracked, it is
 abbrev pub IsTrackedIfHeard : Activity → WindowRecord → Type 0
 IsTrackedIfHeard activity w = w.heard.tracked ≡ true → activity ≡ Tracking w.serial
-
--- the menu bar has the titles of the menus that are inserted, and the one is highlighted that is to be
-abbrev pub IsBarOf : MenusState → FullDesk → Type 0
-IsBarOf menus desk = desk.bar.titles ≡ titles_of menus.highlighted menus.menus
 
 -- a right state, in which the active window, the one last told active and that of what is open are windows of the desk, and
 -- only events of kinds that are posted are queued. Each window's definition knows how the window stands, and none heard last

@@ -3,6 +3,8 @@ use Rattle.std.specs.Prelude.{◌≡◌, ℕ, List, Option}
 use Rattle.def_iface.specs.MenuMeaning.{MenuDefinition, MenuLoan}
 use Rattle.def_iface.specs.Slots.{SlotOf}
 use Rattle.menu_list.specs.declared.listed.Listed.{Listed}
+use Rattle.menu_list.specs.Lists.{titles_of}
+use Rattle.window_mgr.specs.FullDesk.{FullDesk}
 use Rattle.window_mgr.specs.DeskStates.{DeskState, IsDeskUnchanged}
 
 -- the slots of the menus' definitions, as the stock holds them
@@ -19,6 +21,10 @@ pub record MenusState : Type 0 where
   pub menus : List MenuRecord
   pub highlighted : Option ℕ
   pub stock : List MenuSlot
+
+-- the menu bar has the titles of the menus that are in it, and the one is highlighted that is to be
+abbrev pub IsBarOf : MenusState → FullDesk → Type 0
+IsBarOf menus desk = desk.bar.titles ≡ titles_of menus.highlighted menus.menus
 
 -- a desk with its menus
 pub record MenuDesk : Type 0 where

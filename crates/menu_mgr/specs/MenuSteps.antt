@@ -172,16 +172,14 @@ pub record AreEdited (call : MenuCall) (answer : MenuReply) (before after : Menu
 
 -- what a call that nothing refuses answers and leaves
 abbrev pub IsMenuEffect : MenuCall → MenuReply → MenuDesk → MenuDesk → Type 0
-IsMenuEffect (New n) reply.Done before after = IsMenuMade n before after
-IsMenuEffect (Dispose id) reply.Done before after = IsDisposedAt (menu_index id before.menus.menus) before after
-IsMenuEffect (Down p) (reply.Pulled menu) before after = IsPressedOn (title_of_point before p) menu before after
-IsMenuEffect (Move p) (reply.Item item) before after = IsMoved before.desk.activity p item before after
-IsMenuEffect (Up p) (reply.Chosen choice) before after = IsReleased before.desk.activity p choice before after
-IsMenuEffect (New n) _ before after = ⊥
-IsMenuEffect (Dispose id) _ before after = ⊥
-IsMenuEffect (Down p) _ before after = ⊥
-IsMenuEffect (Move p) _ before after = ⊥
-IsMenuEffect (Up p) _ before after = ⊥
+IsMenuEffect (New n) answer before after = (answer ≡ reply.Done) × IsMenuMade n before after
+IsMenuEffect (Dispose id) answer before after = (answer ≡ reply.Done) × IsDisposedAt (menu_index id before.menus.menus) before after
+IsMenuEffect (Down p) answer before after =
+    (menu : Option ℕ) × (answer ≡ reply.Pulled menu) × IsPressedOn (title_of_point before p) menu before after
+IsMenuEffect (Move p) answer before after =
+    (item : Option ℕ) × (answer ≡ reply.Item item) × IsMoved before.desk.activity p item before after
+IsMenuEffect (Up p) answer before after =
+    (choice : Option Choice) × (answer ≡ reply.Chosen choice) × IsReleased before.desk.activity p choice before after
 IsMenuEffect call answer before after = AreEdited call answer before after
 
 -- one step of a call about menus

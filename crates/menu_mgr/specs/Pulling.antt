@@ -1,5 +1,5 @@
 -- Which menu is pulled down, which of its items a point is over, and what the screen shows.
-use Rattle.std.specs.Prelude.{ℕ, ℤ, pos, Bool, not, ◌&&◌, ◌==◌, if◌then◌else◌, List, Option, None, Some}
+use Rattle.std.specs.Prelude.{ℕ, ℤ, pos, Bool, false, not, ◌&&◌, ◌==◌, if◌then◌else◌, List, Option, None, Some}
 use Rattle.std.specs.Option.{option_map, option_and_then}
 use Rattle.std.specs.Ordering.{int_eq}
 use Rattle.tb_geom.specs.declared.point.Point.{Point}
@@ -72,6 +72,15 @@ item_of desk m l p =
 
 abbrev pub item_under : FullDesk → PulledMenu → List MenuRecord → Point → Option ℕ
 item_under desk m menus p = option_and_then (λ l. item_of desk m l p) (menu_with (pos m.menu) menus)
+
+-- its rectangle has the point
+abbrev pub is_in : Option Pulled → Point → Bool
+is_in None p = false
+is_in (Some m) p = rect_holds (pulled_rect m.place m.size) p
+
+-- the point is a pixel of the screen that it has
+abbrev pub is_pulled_at : FullDesk → Option Pulled → Point → Bool
+is_pulled_at desk m p = on_screen (layered_desk desk) p && is_in m p
 
 -- ---- the screen
 

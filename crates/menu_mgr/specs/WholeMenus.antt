@@ -1,5 +1,5 @@
 -- What holds of the menus of a desk and of their stock between calls, and their state as plain data.
-use Rattle.std.specs.Prelude.{◌≡◌, ◌⊎◌, ℕ, ◌+◌, ◌≤◌, ◌==◌, Bool, true, if◌then◌else◌, List, [], ◌∷◌, length, Option, None, Some, slice_get, vec_capacity}
+use Rattle.std.specs.Prelude.{◌≡◌, ◌⊎◌, ℕ, ℤ, pos, ◌+◌, ◌≤◌, ◌==◌, Bool, true, if◌then◌else◌, List, [], ◌∷◌, length, Option, None, Some, slice_get, vec_capacity}
 use Rattle.def_iface.specs.declared.taken.Taken.{Taken}
 use Rattle.def_iface.specs.declared.taken_menu.TakenMenu.{TakenMenu}
 use Rattle.def_iface.specs.declared.window_def.Stage.TheVariants.{Live}
@@ -43,6 +43,14 @@ AreLive (l ∷ ls) = (l.definition.definition.stage ≡ Live) × AreLive ls
 abbrev pub IsPlaced : Activity → Type 0
 IsPlaced (Pulling m) = (is_menu_place m.place ≡ true) × (is_menu_size m.size ≡ true)
 IsPlaced _ = Unit {0}
+
+-- no menus, with room for 16, before a screen of these sides
+pub record AreNoMenus {W : Type 0} {K : W → Type 0} (width height : ℤ) (m : Menus W K) : Type 0 where
+  pub none : m.list.menus.items ≡ []
+  pub highlighted : m.list.highlighted ≡ None
+  pub room : 16 ≤ vec_capacity m.list.menus
+  pub width : pos m.overlay.front.width ≡ width
+  pub height : pos m.overlay.front.height ≡ height
 
 -- `menu_loan` says what a menu's definition that was taken means
 module _ {W : Type 0} {K : W → Type 0} (menu_loan : TakenMenu W K → MenuLoan) where

@@ -1,10 +1,11 @@
 //! What a Menu Manager keeps, how it begins, and what it shows.
-ghost use Rattle.std.specs.Prelude.{◌≡◌, ◌≤◌, [], List, length, nat_abs, pos, IfOk, true, vec_capacity, None};
+ghost use Rattle.std.specs.Prelude.{◌≡◌, ◌≤◌, ◌&&◌, length, IfOk, true};
 ghost use Rattle.bit_map.specs.Bits.{is_side};
 ghost use Rattle.menu_list.specs.Lists.{titles_of};
 ghost use Rattle.window_mgr.specs.BarShown.{IsBarShown};
 ghost use Rattle.window_mgr.specs.Kept.{IsKept};
 ghost use Rattle.window_mgr.specs.Updating.{LeavesState};
+ghost use Rattle.menu_mgr.specs.WholeMenus.{AreNoMenus};
 
 use bit_map::BitMap;
 use def_iface::{Defined, Taken, TakenMenu};
@@ -25,13 +26,8 @@ impl Menus {
     /// No menu, before a screen of `width` by `height` pixels. All the memory that menus need is taken here, but for their
     /// items.
     pub fn new(alloc: Global, width: i32, height: i32) -> Result<Menus, AllocError>
-        requires width { is_side width ≡ true }
-        requires height { is_side height ≡ true }
-        ensures none { IfOk result (λ m. m.list.menus.items ≡ []) }
-        ensures highlighted { IfOk result (λ m. m.list.highlighted ≡ None) }
-        ensures room { IfOk result (λ m. 16 ≤ vec_capacity m.list.menus) }
-        ensures width { IfOk result (λ m. pos m.overlay.front.width ≡ width) }
-        ensures height { IfOk result (λ m. pos m.overlay.front.height ≡ height) }
+        requires { (is_side width && is_side height) ≡ true }
+        ensures { IfOk result (λ m. AreNoMenus width height m) }
     {
         Ok(Menus {
             alloc,

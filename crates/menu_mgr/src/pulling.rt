@@ -1,5 +1,5 @@
 //! The menu that is pulled down.
-ghost use Rattle.std.specs.Prelude.{◌≡◌, ◌<◌, ◌≤◌, ◌×◌, [], length, vec_capacity, Some, None, IfSome, true, List, ℕ, pos, ◌≤ℤ◌, slice_index_or, if◌then◌else◌};
+ghost use Rattle.std.specs.Prelude.{◌≡◌, ◌<◌, ◌≤◌, [], length, vec_capacity, Some, None, IfSome, true, List, ℕ, pos, ◌≤ℤ◌, slice_get};
 ghost use Rattle.tb_geom.specs.Points.{PixelSet, minus};
 ghost use Rattle.tb_geom.specs.Rects.{in_plane};
 ghost use Rattle.bit_map.specs.Bits.{Bits};
@@ -15,8 +15,8 @@ ghost use Rattle.window_mgr.specs.Records.{desk_of};
 ghost use Rattle.window_mgr.specs.Updating.{LeavesState};
 ghost use Rattle.menu_mgr.specs.Leaving.{AreKeptMenus, LeavesMenus, indexed, opened};
 ghost use Rattle.menu_mgr.specs.MenuSteps.{IsMenuStep, IsTold};
-ghost use Rattle.menu_mgr.specs.Pulling.{as_pulled, item_under, pulled_below, pulled_of, title_under};
-ghost use Rattle.menu_mgr.specs.WholeMenus.{AreLive, menus_of};
+ghost use Rattle.menu_mgr.specs.Pulling.{as_pulled, is_pulled_at, item_under, pulled_below, pulled_of, title_under};
+ghost use Rattle.menu_mgr.specs.WholeMenus.{AreLive, IsPlaced, menus_of};
 
 use crate::{Choice, MenuReply, Menus};
 use def_iface::{Defined, DefinedMenu, MenuChange, Taken, TakenMenu};
@@ -84,6 +84,22 @@ impl Menus {
         listed
             .definition
             .choose(&listed.menu, font, seen_from(pulled.place, point))
+    }
+
+    /// Whether a point is a pixel of the screen that the menu has which is pulled down, if one is.
+    pub fn has_point(&self, windows: &WindowManager, activity: Activity, point: Point) -> bool
+        requires { IsPlaced activity }
+        ensures { result ≡ is_pulled_at (desk_of ⟦<Taken as Defined>⟧.loan windows.now [])
+            (pulled_of activity (menus_of ⟦<TakenMenu as DefinedMenu>⟧.menu_loan self.now.list.menus.items)) point }
+    {
+        match activity {
+            Activity::Pulling(pulled) => {
+                windows.screen().bounds().contains(point)
+                    && self.list.find(i32::from(pulled.menu)).is_some()
+                    && pulled_rect(pulled.place, pulled.size).contains(point)
+            }
+            _ => false,
+        }
     }
 
     /// Pulls a menu down below its title, which alone is highlighted then. No item is. Takes no memory.

@@ -59,8 +59,8 @@ pub(crate) fn draw_menu(
     taken.draw(menu, &mut canvas);
 }
 
-/// The rectangle of a menu whose corner lies at a place.
-pub(crate) fn pulled_rect(place: Point, size: Size) -> Rect
+/// The rectangle of a menu of this size whose corner lies at a place of the screen, before it is cut to that.
+pub fn pulled_rect(place: Point, size: Size) -> Rect
     requires place { is_menu_place place ≡ true }
     requires size { is_menu_size size ≡ true }
     ensures { result ≡ pulled_rect place size }

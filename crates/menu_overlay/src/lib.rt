@@ -14,6 +14,6 @@ pub mod laws;
 mod overlay;
 mod place;
 
-pub use drawing::draw_pulled;
+pub use drawing::{draw_pulled, pulled_rect};
 pub use overlay::Overlay;
 pub use place::{pulled_place, shown_size};

@@ -1,0 +1,5 @@
+-- Lemmas on the Menu Manager.
+pub mod Indices
+pub mod Stocks
+pub mod Ending
+pub mod MenuKeeps
