@@ -1,0 +1,3 @@
+-- Lemmas on the menu bar.
+pub mod BarLemmas
+pub mod TitleLemmas
