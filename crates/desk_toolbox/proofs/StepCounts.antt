@@ -92,6 +92,7 @@ module _ (g : Weight) where
   caught_up_total Asks before after same = ap (λ (s : FullState). total g s.desk.windows) same
   caught_up_total (Updates s) before after (ss, told, informed) = are_told_total ss before after told
   caught_up_total Tracks before after (ss, told, informed) = are_told_total ss before after told
+  caught_up_total Pulls before after (ss, told, informed) = are_told_total ss before after told
   caught_up_total Changes before after (ss, told, informed) = are_told_total ss before after told
 
 pub caught_up_counts : (standing : Standing) (before after : FullState) → IsCaughtUpBy standing before after → HasSame before.desk after.desk
