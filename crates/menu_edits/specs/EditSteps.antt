@@ -1,5 +1,5 @@
 -- Menus that were changed as data, as the code keeps them.
-use Rattle.std.specs.Prelude.{◌≡◌, List, length, Result, vec_capacity}
+use Rattle.std.specs.Prelude.{◌≡◌, ◌≤◌, List, Result, vec_capacity}
 use Rattle.tb_geom.specs.declared.refusal.Refusal.{Refusal}
 use Rattle.tb_geom.specs.Refusals.{first_refusal}
 use Rattle.menu_list.specs.declared.list.MenuList.{MenuList}
@@ -12,16 +12,16 @@ use Rattle.menu_edits.specs.EditRefusals.{edit_refusals, may_menu_grow}
 module _ {D : Type 0} where
   -- this is what the call answers and leaves; there is as much room as before
   pub record IsEditDone (call : MenuCall) (answer : MenuReply) (old new : MenuList D) : Type 0 where
-    pub answer : answer ≡ answer_to call old.menus.items
+    pub answered : answer ≡ answer_to call old.menus.items
     pub menus : new.menus.items ≡ menus_after call old.menus.items
     pub highlighted : new.highlighted ≡ highlight_after call old.menus.items old.highlighted
-    pub room : vec_capacity new.menus ≡ vec_capacity old.menus
+    pub room : vec_capacity old.menus ≤ vec_capacity new.menus
 
   -- nothing changed
   pub record AreSameMenus (old new : MenuList D) : Type 0 where
     pub menus : new.menus.items ≡ old.menus.items
     pub highlighted : new.highlighted ≡ old.highlighted
-    pub room : vec_capacity new.menus ≡ vec_capacity old.menus
+    pub room : vec_capacity old.menus ≤ vec_capacity new.menus
 
   -- the call was done, or it was refused and nothing changed
   abbrev pub IsEdit : MenuCall → Result MenuReply Refusal → MenuList D → MenuList D → Type 0

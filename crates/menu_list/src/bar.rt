@@ -1,5 +1,5 @@
 //! The menus that are in the menu bar.
-ghost use Rattle.std.specs.Prelude.{◌≡◌, ◌<◌, ◌≤◌, false, length};
+ghost use Rattle.std.specs.Prelude.{◌≡◌, vec_capacity, ◌<◌, ◌≤◌, false, length};
 ghost use Rattle.menu_list.specs.Lists.{edit_at, with_inserted, moved_before, place_before, without_highlight_at, is_in_bar, titles_of, key_choice};
 
 use crate::MenuList;
@@ -13,6 +13,7 @@ impl<D> MenuList<D> {
         requires { at < length self.old.menus.items }
         ensures menus { self.new.menus.items ≡ moved_before before at self.old.menus.items }
         ensures highlighted { self.new.highlighted ≡ self.old.highlighted }
+        ensures room { vec_capacity self.old.menus ≤ vec_capacity self.new.menus }
     {
         let mut listed = self.menus.remove(at);
         listed.inserted = true;
@@ -36,6 +37,7 @@ impl<D> MenuList<D> {
         requires { at < length self.old.menus.items }
         ensures menus { self.new.menus.items ≡ edit_at (with_inserted false) at self.old.menus.items }
         ensures highlighted { self.new.highlighted ≡ without_highlight_at at self.old.menus.items self.old.highlighted }
+        ensures room { vec_capacity self.old.menus ≤ vec_capacity self.new.menus }
     {
         let listed = &mut self.menus[at];
         listed.inserted = false;

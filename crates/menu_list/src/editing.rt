@@ -1,5 +1,5 @@
 //! What changes one menu of the list.
-ghost use Rattle.std.specs.Prelude.{◌≡◌, ◌<◌, None, Some, OnOk, OnErr, IfErr, IfSome, length, slice_get};
+ghost use Rattle.std.specs.Prelude.{◌≡◌, ◌≤◌, vec_capacity, ◌<◌, None, Some, OnOk, OnErr, IfErr, IfSome, length, slice_get};
 ghost use Rattle.std.specs.Result.{result_err};
 ghost use Rattle.menu_record.specs.Appending.{why_not_appended};
 ghost use Rattle.menu_record.specs.Edits.{set_enabled, why_no_item, why_no_text, why_not_enabled};
@@ -22,6 +22,7 @@ impl<D> MenuList<D> {
             (λ l. IsNotAppended text.now (length l.menu.items) e)) }
         ensures kept { OnErr result (self.new.menus.items ≡ self.old.menus.items) }
         ensures highlighted { self.new.highlighted ≡ self.old.highlighted }
+        ensures room { vec_capacity self.old.menus ≤ vec_capacity self.new.menus }
     {
         self.menus[at].menu.items.append(text)
     }
@@ -34,6 +35,7 @@ impl<D> MenuList<D> {
         ensures answered { result_err result ≡ why_at (λ m. why_no_text item text.now m.items) at self.old.menus.items }
         ensures kept { OnErr result (self.new.menus.items ≡ self.old.menus.items) }
         ensures highlighted { self.new.highlighted ≡ self.old.highlighted }
+        ensures room { vec_capacity self.old.menus ≤ vec_capacity self.new.menus }
     {
         self.menus[at].menu.items.set_text(item, text)
     }
@@ -46,6 +48,7 @@ impl<D> MenuList<D> {
         ensures answered { result_err result ≡ why_at (why_not_enabled item) at self.old.menus.items }
         ensures kept { OnErr result (self.new.menus.items ≡ self.old.menus.items) }
         ensures highlighted { self.new.highlighted ≡ self.old.highlighted }
+        ensures room { vec_capacity self.old.menus ≤ vec_capacity self.new.menus }
     {
         self.menus[at].menu.set_enabled(item, enabled)
     }
@@ -58,6 +61,7 @@ impl<D> MenuList<D> {
         ensures answered { result_err result ≡ why_at (λ m. why_no_item item m.items) at self.old.menus.items }
         ensures kept { OnErr result (self.new.menus.items ≡ self.old.menus.items) }
         ensures highlighted { self.new.highlighted ≡ self.old.highlighted }
+        ensures room { vec_capacity self.old.menus ≤ vec_capacity self.new.menus }
     {
         self.menus[at].menu.items.check(item, checked)
     }

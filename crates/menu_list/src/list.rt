@@ -1,10 +1,13 @@
 //! The menus of a desk.
-ghost use Rattle.std.specs.Prelude.{◌≡◌, ◌<◌, ◌++◌, [], ◌∷◌, None, Some, OnOk, IfSome, vec_capacity, slice_get, length};
+ghost use Rattle.std.specs.Prelude.{◌≡◌, ◌<◌, ◌++◌, [], ◌∷◌, None, Some, IfOk, IfSome, ◌≤◌, vec_capacity, slice_get, length};
 ghost use Rattle.std.specs.List.{remove};
 ghost use Rattle.menu_list.specs.Lists.{menu_index, without_highlight};
 
 use crate::Listed;
 use std::alloc::{AllocError, Global};
+
+/// As many menus as a desk may have.
+const MOST_MENUS: usize = 16;
 
 /// The menus of a desk, at most 16. Those in the menu bar stand in the list as there, from left to right; where the others
 /// stand means nothing.
@@ -16,15 +19,16 @@ pub struct MenuList<D> {
 }
 
 impl<D> MenuList<D> {
-    /// No menu. It takes no memory.
-    pub fn new(alloc: Global) -> MenuList<D>
-        ensures menus { result.menus.items ≡ [] }
-        ensures highlighted { result.highlighted ≡ None }
+    /// No menu, and room for 16.
+    pub fn new(alloc: Global) -> Result<MenuList<D>, AllocError>
+        ensures menus { IfOk result (λ list. list.menus.items ≡ []) }
+        ensures highlighted { IfOk result (λ list. list.highlighted ≡ None) }
+        ensures room { IfOk result (λ list. 16 ≤ vec_capacity list.menus) }
     {
-        MenuList {
-            menus: Vec::new(alloc),
+        Ok(MenuList {
+            menus: Vec::with_capacity(alloc, MOST_MENUS)?,
             highlighted: None,
-        }
+        })
     }
 
     /// Where the first menu of this number stands in the list, if there is one.
@@ -35,21 +39,12 @@ impl<D> MenuList<D> {
         self.menus.iter().position(|listed| listed.has_number(id))
     }
 
-    /// Makes room for one menu more.
-    pub fn reserve(&mut self) -> Result<(), AllocError>
-        ensures menus { self.new.menus.items ≡ self.old.menus.items }
-        ensures room { OnOk result (length self.new.menus.items < vec_capacity self.new.menus) }
-        ensures highlighted { self.new.highlighted ≡ self.old.highlighted }
-    {
-        self.menus.reserve(1)?;
-        Ok(())
-    }
-
     /// Puts a menu behind all others. There has to be room.
     pub fn push(&mut self, listed: Listed<D>)
         requires { length self.old.menus.items < vec_capacity self.old.menus }
         ensures menus { self.new.menus.items ≡ self.old.menus.items ++ listed ∷ [] }
         ensures highlighted { self.new.highlighted ≡ self.old.highlighted }
+        ensures room { vec_capacity self.old.menus ≤ vec_capacity self.new.menus }
     {
         self.menus.push(listed).unwrap();
     }
@@ -60,6 +55,7 @@ impl<D> MenuList<D> {
         ensures value { slice_get self.old.menus.items at ≡ Some result }
         ensures menus { self.new.menus.items ≡ remove self.old.menus.items at }
         ensures highlighted { self.new.highlighted ≡ without_highlight result.menu.id self.old.highlighted }
+        ensures room { vec_capacity self.old.menus ≤ vec_capacity self.new.menus }
     {
         let listed = self.menus.remove(at);
         self.dim(listed.menu.id);

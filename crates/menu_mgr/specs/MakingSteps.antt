@@ -1,5 +1,5 @@
 -- Menus that were made and ended, as the code keeps them.
-use Rattle.std.specs.Prelude.{◌≡◌, ℕ, false, ◌++◌, ◌∷◌, [], List, Option, None, Some, Result, Ok, Err, slice_get, vec_capacity}
+use Rattle.std.specs.Prelude.{◌≡◌, ◌≤◌, ℕ, false, ◌++◌, ◌∷◌, [], List, Option, None, Some, Result, Ok, Err, slice_get, vec_capacity}
 use Rattle.std.specs.List.{remove}
 use Rattle.tb_geom.specs.declared.refusal.Refusal.{Refusal}
 use Rattle.tb_geom.specs.declared.refusal.Refusal.TheVariants.{NoSuchMenu}
@@ -21,7 +21,7 @@ use Rattle.menu_mgr.specs.WholeMenus.{menus_of, menus_state}
 -- nothing but the list of the menus and which title is highlighted is another
 pub record IsAsRoomy {W : Type 0} {K : W → Type 0} (old new : Menus W K) : Type 0 where
   pub alloc : new.alloc ≡ old.alloc
-  pub room : vec_capacity new.list.menus ≡ vec_capacity old.list.menus
+  pub room : vec_capacity old.list.menus ≤ vec_capacity new.list.menus
   pub overlay : new.overlay ≡ old.overlay
 
 -- `menu_loan` says what a menu's definition that was taken means

@@ -32,9 +32,9 @@ use Rattle.menu_mgr.specs.Pulling.{TitleOf, item_under, pulled_below, title_of_p
 
 -- the menus are so now, the title of this one is highlighted, and the menu bar shows that; no other pixel of the base image
 -- changed, and what is to be redrawn is as it was
-pub record AreMenusShown (menus : List MenuRecord) (highlighted : Option ℕ) (stock : List MenuSlot) (before after : MenuDesk) : Type 0 where
-  pub menus : after.menus ≡ record { menus = menus; highlighted = highlighted; stock = stock }
-  pub bar : IsBarShown (titles_of highlighted menus) before.desk.windows after.desk.windows
+pub record AreMenusShown (ls : List MenuRecord) (highlighted : Option ℕ) (slots : List MenuSlot) (before after : MenuDesk) : Type 0 where
+  pub menus : after.menus ≡ record { menus = ls; highlighted = highlighted; stock = slots }
+  pub bar : IsBarShown (titles_of highlighted ls) before.desk.windows after.desk.windows
 
 -- ---- menus that are made and ended
 
@@ -111,11 +111,11 @@ IsPressedOn None answer before after = (answer ≡ None) × IsMenuDeskUnchanged 
 IsPressedOn (Some t) answer before after = (answer ≡ Some t.hit.menu) × IsPulledDown t before.menus.menus before after
 
 -- this item of the pulled menu is highlighted, if one is, and no other
-pub record IsItemShown (m : PulledMenu) (item : Option ℕ) (menus : List MenuRecord) (before after : MenuDesk) : Type 0 where
+pub record IsItemShown (m : PulledMenu) (item : Option ℕ) (ls : List MenuRecord) (before after : MenuDesk) : Type 0 where
   pub activity : after.desk.activity ≡ Pulling (record m { item = item })
   pub windows : after.desk.windows ≡ before.desk.windows
   pub begun : after.desk.begun ≡ before.desk.begun
-  pub menus : after.menus ≡ record before.menus { menus = menus }
+  pub menus : after.menus ≡ record before.menus { menus = ls }
 
 -- the mouse went on to the title of another menu, which is pulled down then, or to an item of this one, or to none
 abbrev pub IsMovedOn : PulledMenu → Option TitleOf → Point → Option ℕ → MenuDesk → MenuDesk → Type 0
@@ -165,7 +165,7 @@ is_edit _ = true
 
 -- menus were changed as data
 pub record AreEdited (call : MenuCall) (answer : MenuReply) (before after : MenuDesk) : Type 0 where
-  pub answer : answer ≡ answer_to call before.menus.menus
+  pub answered : answer ≡ answer_to call before.menus.menus
   pub activity : SameActivity before.desk after.desk
   pub shown : AreMenusShown (menus_after call before.menus.menus)
       (highlight_after call before.menus.menus before.menus.highlighted) before.menus.stock before after

@@ -149,7 +149,7 @@ impl Menus {
         ensures told { IsTold pulled item (menus_of ⟦<TakenMenu as DefinedMenu>⟧.menu_loan self.old.list.menus.items)
             (menus_of ⟦<TakenMenu as DefinedMenu>⟧.menu_loan self.new.list.menus.items) }
         ensures highlighted { self.new.list.highlighted ≡ self.old.list.highlighted }
-        ensures room { vec_capacity self.new.list.menus ≡ vec_capacity self.old.list.menus }
+        ensures room { vec_capacity self.old.list.menus ≤ vec_capacity self.new.list.menus }
         ensures alloc { self.new.alloc ≡ self.old.alloc }
         ensures front { (base : Bits)
             → IsShown font.now (pulled_of (Pulling pulled) (menus_of ⟦<TakenMenu as DefinedMenu>⟧.menu_loan self.old.list.menus.items))

@@ -10,11 +10,10 @@ use tb_geom::Refusal;
 /// A list of the menus 1, 2 and 3, of which none is in the menu bar. Each has an item for the key Q. What stands for their
 /// definitions is their numbers.
 fn three_menus(alloc: Global) -> Result<MenuList<i32>, Refusal> {
-    let mut list = MenuList::new(alloc);
+    let mut list = MenuList::new(alloc)?;
     for id in 1..4 {
         let mut menu = Menu::new(alloc, id, b"Menu")?;
         menu.items.append(b"Open/O;Quit/Q")?;
-        list.reserve()?;
         list.push(Listed {
             menu,
             inserted: false,
