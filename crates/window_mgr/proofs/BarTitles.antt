@@ -87,7 +87,12 @@ module _ {V : Type 0} {H : V → Type 0} (loan : Taken V H → Loan) (t : Window
 
   sound_now : IsSoundDesk after
   sound_now = let s = whole.sound in record {
-    screen = s.screen; distinct = s.distinct; serials = s.serials; few = s.few; settled = s.settled; stocked = s.stocked;
+    screen = s.screen;
+    distinct = s.distinct;
+    serials = s.serials;
+    few = s.few;
+    settled = s.settled;
+    stocked = s.stocked;
   }
 
   had_is : (p : Point) → layers.on_screen was p ≡ true → plain.had plain.no_change was (owner was p) p ≡ true
