@@ -88,7 +88,11 @@ fn one_menu_changes(rt: HostRuntime) -> Result<(), Fail> {
     list.check(1, 3, true)?;
     assert!(rt; list.check(1, 4, true) == Err(Refusal::NoSuchItem));
     let items = list.menus[1].menu.items.as_slice();
-    assert!(rt; items.len() == 3 && items[2].text.as_slice() == b"Redo" && items[2].mark == Some(b'*'));
+    assert!(rt;
+        items.len() == 3
+            && items[2].text.as_slice() == b"Redo".as_slice()
+            && items[2].mark == Some(b'*')
+    );
     assert!(rt; list.menus[0].menu.items.as_slice().len() == 2);
     Ok(())
 }
