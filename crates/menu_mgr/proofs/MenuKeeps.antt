@@ -1,5 +1,6 @@
 -- What any call about menus leaves of the windows.
 use Rattle.std.proofs.Common.{◌≡◌, ◌⊎◌, ⊎_elim, inl, inr, ℕ, zero, suc, Bool, true, false, List, [], ◌∷◌, map, Option, None, Some, Result, Ok, Err, cond, refl, sym, ap, ◌∙◌, subst}
+use Rattle.std.specs.Prelude.{pos}
 use Rattle.tb_geom.specs.declared.point.Point.{Point}
 use Rattle.tb_geom.specs.declared.refusal.Refusal.{Refusal}
 use Rattle.def_iface.specs.MenuMeaning.{MenuDefinition}
@@ -117,21 +118,18 @@ shown_is_bar before after shown = ap (λ (d : FullDesk). d.bar.titles) shown.bar
 same_titles : (highlighted : Option ℕ) (d : MenuDefinition) (at : ℕ) (menus : List MenuRecord) → titles_of highlighted (edit_at (with_definition d) at menus) ≡ titles_of highlighted menus
 same_titles highlighted d at [] = refl
 same_titles highlighted d zero (l ∷ ls) = refl
-same_titles highlighted d (suc at) (l ∷ ls) = by_test l.inserted
+same_titles highlighted d (suc at) (l ∷ ls) = by_test l.inserted (same_titles highlighted d at ls)
   where
-    by_test : (b : Bool) → map (title_of highlighted) (cond b (l ∷ in_bar (edit_at (with_definition d) at ls)) (in_bar (edit_at (with_definition d) at ls))) ≡ map (title_of highlighted) (cond b (l ∷ in_bar ls) (in_bar ls))
-    by_test true = ap (λ ts. title_of highlighted l ∷ ts) (same_titles highlighted d at ls)
-    by_test false = same_titles highlighted d at ls
+    by_test : (b : Bool) → titles_of highlighted (edit_at (with_definition d) at ls) ≡ titles_of highlighted ls → map (title_of highlighted) (cond b (l ∷ in_bar (edit_at (with_definition d) at ls)) (in_bar (edit_at (with_definition d) at ls))) ≡ map (title_of highlighted) (cond b (l ∷ in_bar ls) (in_bar ls))
+    by_test true rest = ap (λ ts. title_of highlighted l ∷ ts) rest
+    by_test false rest = rest
 
 told_titles : (highlighted : Option ℕ) (at item : Option ℕ) (before after : List MenuRecord) → IsToldAt at item before after → titles_of highlighted after ≡ titles_of highlighted before
 told_titles highlighted None item before after same = ap (titles_of highlighted) same
 told_titles highlighted (Some at) item before after (l, found, (d, told, is)) = ap (titles_of highlighted) is ∙ same_titles highlighted d at before
 
 unchanged_bar : (before after : MenuDesk) → after.desk.windows.desk ≡ before.desk.windows.desk → after.menus ≡ before.menus → IsBarOf before.menus before.desk.windows.desk → IsBarOf after.menus after.desk.windows.desk
-unchanged_bar before after desk menus was = λ i. was_at i
-  where
-    was_at : after.desk.windows.desk.bar.titles ≡ titles_of after.menus.highlighted after.menus.menus
-    was_at = ap (λ (d : FullDesk). d.bar.titles) desk ∙ was ∙ sym (λ i. titles_of (menus i).highlighted (menus i).menus)
+unchanged_bar before after desk menus was = ap (λ (d : FullDesk). d.bar.titles) desk ∙ was ∙ sym (λ i. titles_of (menus i).highlighted (menus i).menus)
 
 pressed_bar : (t : Option TitleOf) (answer : Option ℕ) (before after : MenuDesk) → IsPressedOn t answer before after → IsBarOf before.menus before.desk.windows.desk → IsBarOf after.menus after.desk.windows.desk
 pressed_bar None answer before after (is, same) was = unchanged_bar before after same.desk.windows.desk same.menus was
@@ -141,7 +139,7 @@ moved_on_bar : (m : PulledMenu) (t : Option TitleOf) (p : Point) (answer : Optio
 moved_on_bar m (Some t) p answer before after (is, (menus, told, pulled)) was = shown_is_bar before after pulled.shown
 moved_on_bar m None p answer before after (is, (menus, told, shown)) was =
     ap (λ (s : FullState). s.desk.bar.titles) shown.windows ∙ was
-    ∙ sym (told_titles before.menus.highlighted (menu_index _ before.menus.menus) answer before.menus.menus menus told)
+    ∙ sym (told_titles before.menus.highlighted (menu_index (pos m.menu) before.menus.menus) answer before.menus.menus menus told)
     ∙ sym (λ i. titles_of (shown.menus i).highlighted (shown.menus i).menus)
 
 moved_bar : (a : Activity) (p : Point) (answer : Option ℕ) (before after : MenuDesk) → IsMoved a p answer before after → IsBarOf before.menus before.desk.windows.desk → IsBarOf after.menus after.desk.windows.desk

@@ -30,11 +30,11 @@ uses-remove k (suc i) (x ∷ xs) l e = let h = uses-remove k i xs l e in omega a
 
 uses-put : (k : ℕ) (before : ℤ) (l : MenuRecord) (xs : List MenuRecord) → uses k (put_before before l xs) ≡ use_of k l + uses k xs
 uses-put k before l [] = refl
-uses-put k before l (x ∷ xs) = by_test (has_number before x)
+uses-put k before l (x ∷ xs) = by_test (has_number before x) (uses-put k before l xs)
   where
-    by_test : (b : Bool) → uses k (cond b (l ∷ x ∷ xs) (x ∷ put_before before l xs)) ≡ use_of k l + uses k (x ∷ xs)
-    by_test true = refl
-    by_test false = let h = uses-put k before l xs in omega arith
+    by_test : (b : Bool) → uses k (put_before before l xs) ≡ use_of k l + uses k xs → uses k (cond b (l ∷ x ∷ xs) (x ∷ put_before before l xs)) ≡ use_of k l + uses k (x ∷ xs)
+    by_test true h = refl
+    by_test false h = omega arith
 
 pub uses-moved : (k : ℕ) (before : ℤ) (i : ℕ) (xs : List MenuRecord) → uses k (moved_before before i xs) ≡ uses k xs
 uses-moved k before i xs = by_get (slice_get xs i) refl
@@ -78,11 +78,11 @@ live-remove (suc i) (x ∷ xs) h = (h.0, live-remove i xs h.1)
 
 live-put : (before : ℤ) (l : MenuRecord) (xs : List MenuRecord) → l.definition.definition.stage ≡ Live → AreLive xs → AreLive (put_before before l xs)
 live-put before l [] e h = (e, tt)
-live-put before l (x ∷ xs) e h = by_test (has_number before x)
+live-put before l (x ∷ xs) e h = by_test (has_number before x) (live-put before l xs e h.1)
   where
-    by_test : (b : Bool) → AreLive (cond b (l ∷ x ∷ xs) (x ∷ put_before before l xs))
-    by_test true = (e, h)
-    by_test false = (h.0, live-put before l xs e h.1)
+    by_test : (b : Bool) → AreLive (put_before before l xs) → AreLive (cond b (l ∷ x ∷ xs) (x ∷ put_before before l xs))
+    by_test true rest = (e, h)
+    by_test false rest = (h.0, rest)
 
 pub live-moved : (before : ℤ) (i : ℕ) (xs : List MenuRecord) → AreLive xs → AreLive (moved_before before i xs)
 live-moved before i xs h = by_get (slice_get xs i) refl
@@ -144,19 +144,16 @@ pub stocked_with : (xs : List MenuRecord) (l : MenuRecord) (loan : MenuLoan) (ol
     → IsTaken (λ (d : MenuDefinition). d.stage) menu_kind loan old left → AreMenusStocked xs old → AreMenusStocked (xs ++ l ∷ []) left
 stocked_with xs l loan old left slot took stocked k = ⊎_elim here away (cases_eq k loan.slot)
   where
-    emptied : MenuSlot
-    emptied = record { kind = menu_kind; held = None }
-
     here : k ≡ loan.slot → IsUsedBy (uses k (xs ++ l ∷ [])) (slice_get left k)
     here e =
         let was : slice_get old k ≡ Some (record { kind = menu_kind; held = Some loan.definition }) = ap (slice_get old) e ∙ took.held in
-        let none : uses k xs ≡ 0 = none_uses_full (uses k xs) _ loan.definition refl (subst (IsUsedBy (uses k xs)) was (stocked k)) in
+        let none : uses k xs ≡ 0 = none_uses_full (uses k xs) (record { kind = menu_kind; held = Some loan.definition }) loan.definition refl (subst (IsUsedBy (uses k xs)) was (stocked k)) in
         let a = uses-append k xs l in
         let b = one_use k l (slot ∙ sym e) in
         let one : uses k (xs ++ l ∷ []) ≡ 1 = omega arith in
         let now : slice_get left k ≡ Some (record { kind = menu_kind; held = None }) =
             ap (λ ss. slice_get ss k) took.left ∙ ap (slice_get (slice_set old loan.slot (record { kind = menu_kind; held = None }))) e
-            ∙ get-set_same old loan.slot _ _ took.held in
+            ∙ get-set_same old loan.slot (record { kind = menu_kind; held = Some loan.definition }) (record { kind = menu_kind; held = None }) took.held in
         subst (IsUsedBy (uses k (xs ++ l ∷ []))) (sym now) (inr (one, refl))
 
     away : (k ≡ loan.slot → ⊥) → IsUsedBy (uses k (xs ++ l ∷ [])) (slice_get left k)
@@ -168,22 +165,20 @@ stocked_with xs l loan old left slot took stocked k = ⊎_elim here away (cases_
         subst (IsUsedBy (uses k (xs ++ l ∷ []))) (sym now) (subst (λ n. IsUsedBy n (slice_get old k)) (sym same) (stocked k))
 
 -- what is known where an empty slot got a closed definition
-pub record Shut (loan : MenuLoan) (old new : List MenuSlot) : Type 0 where
+pub record Shut (loan : MenuLoan) (old new : List MenuSlot) (definition : MenuDefinition) : Type 0 where
   pub slot : MenuSlot
-  pub definition : MenuDefinition
   pub found : slice_get old loan.slot ≡ Some slot
   pub empty : slot.held ≡ None
   pub closed : definition.stage ≡ Closed
   pub back : new ≡ slice_set old loan.slot (holding (Some definition) slot)
   pub here : slice_get new loan.slot ≡ Some (holding (Some definition) slot)
 
-pub shut_facts : (loan : MenuLoan) (old new : List MenuSlot) → IsEmptyFor loan.slot old → IsMenuShut loan old new → Shut loan old new
+pub shut_facts : (loan : MenuLoan) (old new : List MenuSlot) → IsEmptyFor loan.slot old → (shut : IsMenuShut loan old new) → Shut loan old new shut.definition
 shut_facts loan old new e shut =
     let back : new ≡ slice_set old loan.slot (holding (Some shut.definition) e.slot) =
         subst (λ o. IfSome o (λ (s : MenuSlot). new ≡ slice_set old loan.slot (holding (Some shut.definition) s))) e.found shut.back in
     record {
       slot = e.slot;
-      definition = shut.definition;
       found = e.found;
       empty = e.empty;
       closed = shut.closed;
@@ -202,7 +197,7 @@ stocked_without i xs rest l old new at parts is_shut stocked k = ⊎_elim here a
     slot : IsEmptyFor l.definition.slot old × (uses l.definition.slot xs ≡ 1)
     slot = slot_of i xs l old at stocked
 
-    shut : Shut l.definition old new
+    shut : Shut l.definition old new is_shut.definition
     shut = shut_facts l.definition old new slot.0 is_shut
 
     here : k ≡ l.definition.slot → IsUsedBy (uses k rest) (slice_get new k)
@@ -211,7 +206,7 @@ stocked_without i xs rest l old new at parts is_shut stocked k = ⊎_elim here a
         let a = parts k in
         let b = one_use k l (sym e) in
         let none : uses k rest ≡ 0 = omega arith in
-        subst (IsUsedBy (uses k rest)) (sym (ap (slice_get new) e ∙ shut.here)) (inl (none, shut_is_full shut.definition shut.slot shut.closed))
+        subst (IsUsedBy (uses k rest)) (sym (ap (slice_get new) e ∙ shut.here)) (inl (none, shut_is_full is_shut.definition shut.slot shut.closed))
 
     away : (k ≡ l.definition.slot → ⊥) → IsUsedBy (uses k rest) (slice_get new k)
     away ne =

@@ -45,12 +45,12 @@ IsPlaced (Pulling m) = (is_menu_place m.place ≡ true) × (is_menu_size m.size 
 IsPlaced _ = Unit {0}
 
 -- no menus, with room for 16, before a screen of these sides
-pub record AreNoMenus {W : Type 0} {K : W → Type 0} (width height : ℤ) (m : Menus W K) : Type 0 where
+pub record AreNoMenus {W : Type 0} {K : W → Type 0} (wide high : ℤ) (m : Menus W K) : Type 0 where
   pub none : m.list.menus.items ≡ []
   pub highlighted : m.list.highlighted ≡ None
   pub room : 16 ≤ vec_capacity m.list.menus
-  pub width : pos m.overlay.front.width ≡ width
-  pub height : pos m.overlay.front.height ≡ height
+  pub width : pos m.overlay.front.width ≡ wide
+  pub height : pos m.overlay.front.height ≡ high
 
 -- `menu_loan` says what a menu's definition that was taken means
 module _ {W : Type 0} {K : W → Type 0} (menu_loan : TakenMenu W K → MenuLoan) where

@@ -1,5 +1,5 @@
 //! Menus that are made and ended, and the end of a desk.
-ghost use Rattle.std.specs.Prelude.{◌≡◌, ◌<◌, ◌++◌, ◌∷◌, [], length, vec_capacity, None, Some, true, MatchResult};
+ghost use Rattle.std.specs.Prelude.{◌≡◌, ◌<◌, ◌≤◌, ◌++◌, ◌∷◌, [], length, vec_capacity, None, Some, true, MatchResult};
 ghost use Rattle.def_iface.specs.Slots.{is_left};
 ghost use Rattle.def_iface.specs.MenuMeaning.{IsMenuBegun};
 ghost use Rattle.menu_list.specs.Lists.{menu_index};
