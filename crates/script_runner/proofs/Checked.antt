@@ -15,14 +15,14 @@ use Rattle.script_runner.specs.Checks.{IsCheckLine, check_text}
 use Rattle.script_runner.specs.SessionViews.{state_with}
 
 module _ {V : Type 0} {H : V → Type 0} (loan : Taken V H → Loan) {W : Type 0} {K : W → Type 0} (menu_loan : TakenMenu W K → MenuLoan) (font : Option (List ℕ)) (slots : List SlotView) (kept : List MenuSlot) where
-  made_line : (t : Toolbox V H W K) (count : Result ℕ AllocError) → IfOk count (λ n. n ≡ difference_count (toolbox_state loan menu_loan t [] []))
+  made_line : (t : Toolbox V W H K) (count : Result ℕ AllocError) → IfOk count (λ n. n ≡ difference_count (toolbox_state loan menu_loan t [] []))
       → IsCheckLine (state_with loan menu_loan (Some t) font slots kept) (check_text (result_ok count))
   unfolding differences_of row_differences
   made_line t (Ok n) is = inl (ap (λ k. check_text (Some k)) is)
   made_line t (Err e) is = inr refl
 
   -- with a desk, whose pixels were counted or not
-  pub line_of_desk : (desk : Option (Toolbox V H W K)) (t : Toolbox V H W K) (count : Result ℕ AllocError) → desk ≡ Some t
+  pub line_of_desk : (desk : Option (Toolbox V W H K)) (t : Toolbox V W H K) (count : Result ℕ AllocError) → desk ≡ Some t
       → IfOk count (λ n. n ≡ difference_count (toolbox_state loan menu_loan t [] [])) → IsCheckLine (state_with loan menu_loan desk font slots kept) (check_text (result_ok count))
   line_of_desk desk t count some is = rw some (made_line t count is)
 
@@ -31,5 +31,5 @@ module _ {V : Type 0} {H : V → Type 0} (loan : Taken V H → Loan) {W : Type 0
   unmade_line (Some font) = refl
 
   -- without one
-  pub line_of_none : (desk : Option (Toolbox V H W K)) → desk ≡ None → IsCheckLine (state_with loan menu_loan desk font slots kept) (check_text (Some 0))
+  pub line_of_none : (desk : Option (Toolbox V W H K)) → desk ≡ None → IsCheckLine (state_with loan menu_loan desk font slots kept) (check_text (Some 0))
   line_of_none desk none = rw none (unmade_line font)

@@ -22,7 +22,7 @@ use Rattle.script_text.specs.Replies.{refused_text}
 use Rattle.watched_io.specs.Writes.{Output, Sends}
 
 -- the desk that the Toolbox made
-pub new_desk : {V : Type 0} {H : V → Type 0} (loan : Taken V H → Loan) {W : Type 0} {K : W → Type 0} (menu_loan : TakenMenu W K → MenuLoan) (t : Toolbox V H W K) (font : List ℕ) (slots : List SlotView) (kept : List MenuSlot) (size wanted : DeskSize) → size ≡ wanted
+pub new_desk : {V : Type 0} {H : V → Type 0} (loan : Taken V H → Loan) {W : Type 0} {K : W → Type 0} (menu_loan : TakenMenu W K → MenuLoan) (t : Toolbox V W H K) (font : List ℕ) (slots : List SlotView) (kept : List MenuSlot) (size wanted : DeskSize) → size ≡ wanted
     → IsEmptyDesk loan size.width size.height size.bar font t.windows slots → IsJustBegun (toolbox_state loan menu_loan t slots kept) → IsNewDesk wanted font slots kept (toolbox_state loan menu_loan t slots kept)
 new_desk loan menu_loan t font slots kept size wanted same empty begun =
     subst (λ s. IsNewDesk s font slots kept (toolbox_state loan menu_loan t slots kept)) same (record {
