@@ -3,9 +3,9 @@ use Rattle.std.proofs.Common.{◌≡◌, ℕ, List, Option, None, Some, Result, 
 use Rattle.tb_geom.specs.declared.refusal.Refusal.{Refusal}
 use Rattle.tb_geom.specs.Points.{PixelSet}
 use Rattle.desk_call.specs.declared.activity.Activity.{Activity}
-use Rattle.desk_call.specs.declared.activity.Activity.TheVariants.{Idle, Updating, Tracking, Pulling}
+use Rattle.desk_call.specs.declared.activity.Activity.TheVariants.{Idle, Updating, Tracking}
 use Rattle.desk_call.specs.declared.activity.Standing.{Standing}
-use Rattle.desk_call.specs.declared.activity.Standing.TheVariants.{Asks, Updates, Tracks, Pulls, Changes}
+use Rattle.desk_call.specs.declared.activity.Standing.TheVariants.{Asks, Updates, Tracks, Changes}
 use Rattle.desk_call.specs.declared.event.EventCall.{EventCall}
 use Rattle.desk_call.specs.declared.event.EventReply.{EventReply}
 use Rattle.desk_call.specs.declared.window.WindowCall.{WindowCall}
@@ -93,7 +93,7 @@ module _ (before after : ToolboxState) (desk : after.desk.windows.desk ≡ befor
 -- ---- calls about events
 
 pub event_stands : (call : EventCall) (answer : Result EventReply Refusal) (before after : ToolboxState) → Stands before → IsRightState after.desk.windows → IsEventAnswer call answer before after → Stands after
-event_stands call answer before after was right (same, menus, (update, first, is)) =
+event_stands call answer before after was right (same, (update, first, is)) =
     let active = before.desk.windows.desk.active in
     let events : after.events ≡ (event_step call active update before.events).1 = ap (λ (x : Result EventReply Refusal × Events). x.1) is in
     stands_on before after same.windows.desk same.activity was right
@@ -107,7 +107,6 @@ pub idle_now : (activity : Activity) → gate activity Changes ≡ None → acti
 idle_now Idle e = refl
 idle_now (Updating s) e = absurd (cc)
 idle_now (Tracking s) e = absurd (cc)
-idle_now (Pulling m) e = absurd (cc)
 
 -- no window is disposed of while something of it is open
 apart_open : (call : WindowCall) (activity : Activity) → gate activity (window_standing call) ≡ None → Apart (to_dispose call) (open_window activity)
@@ -145,11 +144,10 @@ caught_up_informs : (standing : Standing) (first before after : FullState) → I
 caught_up_informs Asks first before after same kept was = subst (λ (d : FullDesk). AreInformed d.windows) (sym (ap (λ (s : FullState). s.desk) same ∙ kept refl)) was
 caught_up_informs (Updates s) first before after (ts, told, informed) kept was = informed
 caught_up_informs Tracks first before after (ts, told, informed) kept was = informed
-caught_up_informs Pulls first before after (ts, told, informed) kept was = informed
 caught_up_informs Changes first before after (ts, told, informed) kept was = informed
 
 done_stands : (call : WindowCall) (answer : WindowReply) (before after : ToolboxState) → gate before.desk.activity (window_standing call) ≡ None → Stands before → IsRightState after.desk.windows → IsWindowMade call (Ok answer) before after → Stands after
-done_stands call answer before after may was right ((middle, answered, (same, told)), (events, menus)) =
+done_stands call answer before after may was right ((middle, answered, (same, told)), events) =
     let asked = narrowed call before.desk.activity before.desk.begun in
     let was_desk = before.desk.windows.desk in
     let desk = after.desk.windows.desk in
@@ -182,6 +180,6 @@ refused_keeps_desk (Some set) call e before after step = step.1.windows.desk
 
 pub window_stands : (call : WindowCall) (answer : Result WindowReply Refusal) (before after : ToolboxState) → gate before.desk.activity (window_standing call) ≡ None → Stands before → IsRightState after.desk.windows → IsWindowMade call answer before after → Stands after
 window_stands call (Ok answer) before after may was right made = done_stands call answer before after may was right made
-window_stands call (Err e) before after may was right (answered, (events, menus)) =
+window_stands call (Err e) before after may was right (answered, events) =
     let asked = narrowed call before.desk.activity before.desk.begun in
     stands_still before after (refused_keeps_desk asked call e before.desk after.desk answered) (answer_keeps_activity asked call (Err e) before.desk after.desk answered) events was right

@@ -17,12 +17,10 @@ pub mod laws;
 mod toolbox;
 
 pub use desk_call::{
-    Activity, AppendItems, AreaRef, Call, CheckItem, Choice, Drawing, EventCall, EventReply,
-    FlushEvents, Found, FrameCall, FrameReply, GoAwayPoint, HiliteWindow, InsertMenu, ItemOfMenu,
-    ItemText, LayerDraw, Layers, MenuCall, MenuReply, MoveWindow, NewMenu, NewPicture, NewTitle,
-    NewWindow, PictureRef, PostEvent, PulledMenu, Reply, ScrollPicture, SendBehind, ShowHide,
-    SizeWindow, UpdateCall, WindowArea, WindowCall, WindowInfo, WindowPart, WindowReply, Zoom,
-    ZoomWindow,
+    Activity, AreaRef, Call, Drawing, EventCall, EventReply, FlushEvents, Found, FrameCall,
+    FrameReply, GoAwayPoint, HiliteWindow, LayerDraw, Layers, MoveWindow, NewPicture, NewTitle,
+    NewWindow, PictureRef, PostEvent, Reply, ScrollPicture, SendBehind, ShowHide, SizeWindow,
+    UpdateCall, WindowArea, WindowCall, WindowInfo, WindowPart, WindowReply, Zoom, ZoomWindow,
 };
 pub use toolbox::Toolbox;
 pub use window_mgr::NotBegun;

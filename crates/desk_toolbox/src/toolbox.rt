@@ -8,29 +8,22 @@ ghost use Rattle.window_mgr.specs.Closing.{IsClosed};
 ghost use Rattle.window_mgr.specs.FullDesk.{IsRightState};
 ghost use Rattle.window_mgr.specs.Records.{desk_of, state_of};
 ghost use Rattle.window_mgr.specs.Refused.{is_missing};
+ghost use Rattle.window_mgr.specs.Whole.{IsWholeManager};
 ghost use Rattle.desk_call.specs.Gates.{gate, standing_of};
 ghost use Rattle.desk_call.specs.declared.activity.Activity.TheVariants.{Idle};
-ghost use Rattle.bit_map.specs.Bits.{bit, on_map};
-ghost use Rattle.menu_mgr.specs.MenuClosing.{AreMenusClosed};
-ghost use Rattle.menu_mgr.specs.MenuDesks.{MenuSlot};
-ghost use Rattle.menu_mgr.specs.WholeMenus.{AreMenusStocked, AreNoMenus, menus_of};
-ghost use Rattle.tb_geom.specs.declared.point.Point.{Point};
-ghost use Rattle.desk_toolbox.specs.Fronts.{screen_of};
+ghost use Rattle.window_mgr.specs.DeskStates.{DeskState};
 ghost use Rattle.window_update.specs.Rightness.{IsJudgement};
 ghost use Rattle.desk_toolbox.specs.EventSteps.{first_events};
 ghost use Rattle.desk_toolbox.specs.Reached.{IsJustBegun};
-ghost use Rattle.desk_toolbox.specs.Run.{IsAdmitted, IsEventAnswer, IsFormFault, IsRunOfCalls, IsStep, IsWindowAnswered, IsWindowMade, IsWindowTold, is_covered};
-ghost use Rattle.desk_toolbox.specs.ToolboxStates.{IsToolboxUnchanged, ToolboxState};
+ghost use Rattle.desk_toolbox.specs.Run.{IsAdmitted, IsEventAnswer, IsFormFault, IsRunOfCalls, IsStep, IsWindowAnswered, IsWindowMade};
+ghost use Rattle.desk_toolbox.specs.ToolboxStates.{IsToolboxUnchanged};
 ghost use Rattle.desk_toolbox.specs.WholeToolbox.{IsKeptToolbox, IsWholeToolbox, toolbox_state};
 
 use crate::events::Events;
-use crate::{
-    Activity, Call, EventCall, EventReply, Found, Reply, WindowCall, WindowPart, WindowReply,
-};
+use crate::{Activity, Call, EventCall, EventReply, Reply, WindowCall, WindowReply};
 use bit_map::BitMap;
-use def_iface::{Defined, DefinedMenu, MenuStock, Stock, Stocked, StockedMenus, Taken, TakenMenu};
+use def_iface::{Defined, Stock, Stocked, Taken};
 use desk_ground::is_screen;
-use menu_mgr::Menus;
 use std::alloc::{AllocError, Global};
 use strike_font::Font;
 use tb_geom::{Rect, Refusal};
@@ -39,13 +32,11 @@ use window_list::{Ranks, WindowList};
 use window_mgr::{NotBegun, WindowManager, form_refusal};
 use window_update::{Updates, first_to_update, update_form_refusal};
 
-/// A desk: its screen, its windows, what of them has to be drawn, its menus, what is open, and the events that are to be told.
+/// A desk: its screen, its windows, what of them has to be drawn, what is open, and the events that are to be told.
 #[derive(Drop)]
 pub struct Toolbox {
     pub(crate) alloc: Global,
     pub(crate) windows: WindowManager,
-    /// Its menus, and the map on which the one lies that is pulled down.
-    pub(crate) menus: Menus,
     /// What is open between its begin and its end.
     pub(crate) activity: Activity,
     pub(crate) updates: Updates,
@@ -68,10 +59,10 @@ impl Toolbox {
             → IsEmptyDesk ⟦<Taken as Defined>⟧.loan width height bar font t.windows slots) }
         ensures idle { IfOk result (λ t. t.activity ≡ Idle) }
         ensures events { IfOk result (λ t. t.events ≡ first_events) }
-        ensures whole { IfOk result (λ t. (slots : List SlotView) (kept : List MenuSlot) → All IsFull slots
-            → AreMenusStocked [] kept → IsWholeToolbox ⟦<Taken as Defined>⟧.loan ⟦<TakenMenu as DefinedMenu>⟧.menu_loan t slots kept) }
-        ensures just_begun { IfOk result (λ t. (slots : List SlotView) (kept : List MenuSlot) → All IsFull slots
-            → IsJustBegun (toolbox_state ⟦<Taken as Defined>⟧.loan ⟦<TakenMenu as DefinedMenu>⟧.menu_loan t slots kept)) }
+        ensures whole { IfOk result (λ t. (slots : List SlotView) → All IsFull slots
+            → IsWholeToolbox ⟦<Taken as Defined>⟧.loan t slots) }
+        ensures just_begun { IfOk result (λ t. (slots : List SlotView) → All IsFull slots
+            → IsJustBegun (toolbox_state ⟦<Taken as Defined>⟧.loan t slots)) }
         ensures in_range { IfOk result (λ t. screens.is_screen width height bar ≡ true) }
         ensures refused { IfErr result (λ e. (e.font ≡ font)
             × (e.refusal ≡ (if screens.is_screen width height bar then Refusal.NoMemory else Refusal.OutOfRange))) }
@@ -82,14 +73,9 @@ impl Toolbox {
                 font,
             });
         }
-        let parts = (
-            Updates::new(alloc, width, height),
-            Menus::new(alloc, width, height),
-            Events::new(alloc),
-        );
-        match parts {
-            (Ok(updates), Ok(menus), Ok(events)) => Toolbox::with_parts(
-                alloc, width, height, bar, font, updates, menus, events,
+        match (Updates::new(alloc, width, height), Events::new(alloc)) {
+            (Ok(updates), Ok(events)) => Toolbox::with_parts(
+                alloc, width, height, bar, font, updates, events,
             ),
             _ => Err(NotBegun {
                 refusal: Refusal::NoMemory,
@@ -98,7 +84,7 @@ impl Toolbox {
         }
     }
 
-    /// The same desk, where its screen was judged, and of these updates, menus and events.
+    /// The same desk, where its screen was judged, and of these updates and events.
     fn with_parts(
         alloc: Global,
         width: i32,
@@ -106,19 +92,16 @@ impl Toolbox {
         bar: i32,
         font: Font,
         updates: Updates,
-        menus: Menus,
         events: Events,
     ) -> Result<Toolbox, NotBegun>
         requires width { pos updates.buffer.width ≡ width }
         requires height { pos updates.buffer.height ≡ height }
-        requires menus { AreNoMenus width height menus }
         ensures begun { IfOk result (λ t. (slots : List SlotView) → All IsFull slots
             → IsEmptyDesk ⟦<Taken as Defined>⟧.loan width height bar font t.windows slots) }
         ensures idle { IfOk result (λ t. t.activity ≡ Idle) }
         ensures events { IfOk result (λ t. t.events ≡ events) }
-        ensures menus { IfOk result (λ t. t.menus ≡ menus) }
-        ensures whole { IfOk result (λ t. (slots : List SlotView) (kept : List MenuSlot) → All IsFull slots
-            → AreMenusStocked [] kept → IsWholeToolbox ⟦<Taken as Defined>⟧.loan ⟦<TakenMenu as DefinedMenu>⟧.menu_loan t slots kept) }
+        ensures whole { IfOk result (λ t. (slots : List SlotView) → All IsFull slots
+            → IsWholeToolbox ⟦<Taken as Defined>⟧.loan t slots) }
         ensures in_range { IfOk result (λ t. screens.is_screen width height bar ≡ true) }
         ensures refused { IfErr result (λ e. (e.font ≡ font)
             × (e.refusal ≡ (if screens.is_screen width height bar then Refusal.NoMemory else Refusal.OutOfRange))) }
@@ -128,7 +111,6 @@ impl Toolbox {
             Ok(windows) => Ok(Toolbox {
                 alloc,
                 windows,
-                menus,
                 activity: Activity::Idle,
                 updates,
                 events,
@@ -137,32 +119,11 @@ impl Toolbox {
         }
     }
 
-    /// The screen: the pulled menu where it lies, and else what the windows, the menu bar and the desktop show.
+    /// The screen.
     pub fn screen(&self) -> &BitMap
-        requires { IsKeptToolbox ⟦<Taken as Defined>⟧.loan ⟦<TakenMenu as DefinedMenu>⟧.menu_loan self.now }
-        ensures width { result.now.width ≡ self.now.windows.screen.width }
-        ensures height { result.now.height ≡ self.now.windows.screen.height }
-        ensures shown { (slots : List SlotView) (kept : List MenuSlot) (p : Point) → on_map result.now p ≡ true
-            → bit result.now p ≡ screen_of (toolbox_state ⟦<Taken as Defined>⟧.loan ⟦<TakenMenu as DefinedMenu>⟧.menu_loan self.now slots kept) p }
+        ensures { result.now ≡ self.now.windows.screen }
     {
-        match self.activity {
-            Activity::Pulling(_) => self.menus.screen(),
-            _ => self.windows.screen(),
-        }
-    }
-
-    /// Its menus, to be read.
-    pub fn menus(&self) -> &Menus
-        ensures { result.now ≡ self.now.menus }
-    {
-        &self.menus
-    }
-
-    /// What is open between its begin and its end.
-    pub fn activity(&self) -> Activity
-        ensures { result ≡ self.now.activity }
-    {
-        self.activity
+        self.windows.screen()
     }
 
     /// The manager of its windows, to be read.
@@ -176,15 +137,11 @@ impl Toolbox {
     /// first where several would do stands with the call. While something is open, a call that may not
     /// come then is refused for that, but first for a name that no table has, or bytes without their form.
     pub fn call(&mut self, call: &Call<'_>, stock: &mut Stock) -> Result<Reply, Refusal>
-        requires { IsWholeToolbox ⟦<Taken as Defined>⟧.loan ⟦<TakenMenu as DefinedMenu>⟧.menu_loan self.old
-            (⟦<Stock as Stocked>⟧.slots stock.old) (⟦<MenuStock as StockedMenus>⟧.menu_slots stock.old.menus) }
-        ensures whole { IsWholeToolbox ⟦<Taken as Defined>⟧.loan ⟦<TakenMenu as DefinedMenu>⟧.menu_loan self.new
-            (⟦<Stock as Stocked>⟧.slots stock.new) (⟦<MenuStock as StockedMenus>⟧.menu_slots stock.new.menus) }
+        requires { IsWholeToolbox ⟦<Taken as Defined>⟧.loan self.old (⟦<Stock as Stocked>⟧.slots stock.old) }
+        ensures whole { IsWholeToolbox ⟦<Taken as Defined>⟧.loan self.new (⟦<Stock as Stocked>⟧.slots stock.new) }
         ensures step { IsStep call.now result
-            (toolbox_state ⟦<Taken as Defined>⟧.loan ⟦<TakenMenu as DefinedMenu>⟧.menu_loan self.old
-            (⟦<Stock as Stocked>⟧.slots stock.old) (⟦<MenuStock as StockedMenus>⟧.menu_slots stock.old.menus))
-            (toolbox_state ⟦<Taken as Defined>⟧.loan ⟦<TakenMenu as DefinedMenu>⟧.menu_loan self.new
-            (⟦<Stock as Stocked>⟧.slots stock.new) (⟦<MenuStock as StockedMenus>⟧.menu_slots stock.new.menus)) }
+            (toolbox_state ⟦<Taken as Defined>⟧.loan self.old (⟦<Stock as Stocked>⟧.slots stock.old))
+            (toolbox_state ⟦<Taken as Defined>⟧.loan self.new (⟦<Stock as Stocked>⟧.slots stock.new)) }
         ensures right { IsRightState (state_of ⟦<Taken as Defined>⟧.loan self.old.windows (⟦<Stock as Stocked>⟧.slots stock.old))
             → IsRightState (state_of ⟦<Taken as Defined>⟧.loan self.new.windows (⟦<Stock as Stocked>⟧.slots stock.new)) }
     {
@@ -199,19 +156,15 @@ impl Toolbox {
 
     /// Performs one call that may come.
     fn perform(&mut self, call: &Call<'_>, stock: &mut Stock) -> Result<Reply, Refusal>
-        requires whole { IsWholeToolbox ⟦<Taken as Defined>⟧.loan ⟦<TakenMenu as DefinedMenu>⟧.menu_loan self.old
-            (⟦<Stock as Stocked>⟧.slots stock.old) (⟦<MenuStock as StockedMenus>⟧.menu_slots stock.old.menus) }
+        requires whole { IsWholeToolbox ⟦<Taken as Defined>⟧.loan self.old (⟦<Stock as Stocked>⟧.slots stock.old) }
         requires admitted { gate self.old.activity (standing_of call.now) ≡ None }
-        ensures whole { IsWholeToolbox ⟦<Taken as Defined>⟧.loan ⟦<TakenMenu as DefinedMenu>⟧.menu_loan self.new
-            (⟦<Stock as Stocked>⟧.slots stock.new) (⟦<MenuStock as StockedMenus>⟧.menu_slots stock.new.menus) }
+        ensures whole { IsWholeToolbox ⟦<Taken as Defined>⟧.loan self.new (⟦<Stock as Stocked>⟧.slots stock.new) }
         ensures step { IsAdmitted call.now result
-            (toolbox_state ⟦<Taken as Defined>⟧.loan ⟦<TakenMenu as DefinedMenu>⟧.menu_loan self.old
-            (⟦<Stock as Stocked>⟧.slots stock.old) (⟦<MenuStock as StockedMenus>⟧.menu_slots stock.old.menus))
-            (toolbox_state ⟦<Taken as Defined>⟧.loan ⟦<TakenMenu as DefinedMenu>⟧.menu_loan self.new
-            (⟦<Stock as Stocked>⟧.slots stock.new) (⟦<MenuStock as StockedMenus>⟧.menu_slots stock.new.menus)) }
+            (toolbox_state ⟦<Taken as Defined>⟧.loan self.old (⟦<Stock as Stocked>⟧.slots stock.old))
+            (toolbox_state ⟦<Taken as Defined>⟧.loan self.new (⟦<Stock as Stocked>⟧.slots stock.new)) }
     {
         match call {
-            Call::Window(call) => match self.tell_window(call, stock) {
+            Call::Window(call) => match self.perform_window(call, stock) {
                 Ok(reply) => Ok(Reply::Window(reply)),
                 Err(refusal) => Err(refusal),
             },
@@ -230,58 +183,10 @@ impl Toolbox {
                     Err(refusal) => Err(refusal),
                 }
             }
-            Call::Menu(call) => {
-                match self.menus.perform(
-                    &mut self.windows,
-                    &mut self.activity,
-                    call,
-                    &mut stock.menus,
-                ) {
-                    Ok(reply) => Ok(Reply::Menu(reply)),
-                    Err(refusal) => Err(refusal),
-                }
-            }
             Call::Event(call) => match self.answer_event(*call) {
                 Ok(reply) => Ok(Reply::Event(reply)),
                 Err(refusal) => Err(refusal),
             },
-        }
-    }
-
-    /// Answers a call on windows: whose a point of the pulled menu is, the menus tell, and all else is performed.
-    fn tell_window(
-        &mut self,
-        call: &WindowCall<'_>,
-        stock: &mut Stock,
-    ) -> Result<WindowReply, Refusal>
-        requires { IsWholeToolbox ⟦<Taken as Defined>⟧.loan ⟦<TakenMenu as DefinedMenu>⟧.menu_loan self.old
-            (⟦<Stock as Stocked>⟧.slots stock.old) (⟦<MenuStock as StockedMenus>⟧.menu_slots stock.old.menus) }
-        ensures whole { IsWholeToolbox ⟦<Taken as Defined>⟧.loan ⟦<TakenMenu as DefinedMenu>⟧.menu_loan self.new
-            (⟦<Stock as Stocked>⟧.slots stock.new) (⟦<MenuStock as StockedMenus>⟧.menu_slots stock.new.menus) }
-        ensures step { let before = toolbox_state ⟦<Taken as Defined>⟧.loan ⟦<TakenMenu as DefinedMenu>⟧.menu_loan self.old
-            (⟦<Stock as Stocked>⟧.slots stock.old) (⟦<MenuStock as StockedMenus>⟧.menu_slots stock.old.menus) in
-            IsWindowTold (is_covered call.now before) call.now result before
-            (toolbox_state ⟦<Taken as Defined>⟧.loan ⟦<TakenMenu as DefinedMenu>⟧.menu_loan self.new
-            (⟦<Stock as Stocked>⟧.slots stock.new) (⟦<MenuStock as StockedMenus>⟧.menu_slots stock.new.menus)) }
-    {
-        if self.is_covered(call) {
-            return Ok(WindowReply::Found(Found {
-                part: WindowPart::InMenuBar,
-                window: None,
-            }));
-        }
-        self.perform_window(call, stock)
-    }
-
-    /// Whether a call asks whose a point of the pulled menu is.
-    fn is_covered(&self, call: &WindowCall<'_>) -> bool
-        requires { IsKeptToolbox ⟦<Taken as Defined>⟧.loan ⟦<TakenMenu as DefinedMenu>⟧.menu_loan self.now }
-        ensures { (slots : List SlotView) (kept : List MenuSlot) → result
-            ≡ is_covered call.now (toolbox_state ⟦<Taken as Defined>⟧.loan ⟦<TakenMenu as DefinedMenu>⟧.menu_loan self.now slots kept) }
-    {
-        match call {
-            WindowCall::Find(point) => self.menus.has_point(&self.windows, self.activity, *point),
-            _ => false,
         }
     }
 
@@ -292,15 +197,11 @@ impl Toolbox {
         call: &WindowCall<'_>,
         stock: &mut Stock,
     ) -> Result<WindowReply, Refusal>
-        requires { IsWholeToolbox ⟦<Taken as Defined>⟧.loan ⟦<TakenMenu as DefinedMenu>⟧.menu_loan self.old
-            (⟦<Stock as Stocked>⟧.slots stock.old) (⟦<MenuStock as StockedMenus>⟧.menu_slots stock.old.menus) }
-        ensures whole { IsWholeToolbox ⟦<Taken as Defined>⟧.loan ⟦<TakenMenu as DefinedMenu>⟧.menu_loan self.new
-            (⟦<Stock as Stocked>⟧.slots stock.new) (⟦<MenuStock as StockedMenus>⟧.menu_slots stock.new.menus) }
+        requires { IsWholeToolbox ⟦<Taken as Defined>⟧.loan self.old (⟦<Stock as Stocked>⟧.slots stock.old) }
+        ensures whole { IsWholeToolbox ⟦<Taken as Defined>⟧.loan self.new (⟦<Stock as Stocked>⟧.slots stock.new) }
         ensures step { IsWindowMade call.now result
-            (toolbox_state ⟦<Taken as Defined>⟧.loan ⟦<TakenMenu as DefinedMenu>⟧.menu_loan self.old
-            (⟦<Stock as Stocked>⟧.slots stock.old) (⟦<MenuStock as StockedMenus>⟧.menu_slots stock.old.menus))
-            (toolbox_state ⟦<Taken as Defined>⟧.loan ⟦<TakenMenu as DefinedMenu>⟧.menu_loan self.new
-            (⟦<Stock as Stocked>⟧.slots stock.new) (⟦<MenuStock as StockedMenus>⟧.menu_slots stock.new.menus)) }
+            (toolbox_state ⟦<Taken as Defined>⟧.loan self.old (⟦<Stock as Stocked>⟧.slots stock.old))
+            (toolbox_state ⟦<Taken as Defined>⟧.loan self.new (⟦<Stock as Stocked>⟧.slots stock.new)) }
     {
         match self.answer_window(call, stock) {
             Ok(reply) => {
@@ -318,18 +219,12 @@ impl Toolbox {
         call: &WindowCall<'_>,
         stock: &mut Stock,
     ) -> Result<WindowReply, Refusal>
-        requires { IsWholeToolbox ⟦<Taken as Defined>⟧.loan ⟦<TakenMenu as DefinedMenu>⟧.menu_loan self.old
-            (⟦<Stock as Stocked>⟧.slots stock.old) (⟦<MenuStock as StockedMenus>⟧.menu_slots stock.old.menus) }
-        ensures whole { IsWholeToolbox ⟦<Taken as Defined>⟧.loan ⟦<TakenMenu as DefinedMenu>⟧.menu_loan self.new
-            (⟦<Stock as Stocked>⟧.slots stock.new) (⟦<MenuStock as StockedMenus>⟧.menu_slots stock.new.menus) }
+        requires { IsWholeToolbox ⟦<Taken as Defined>⟧.loan self.old (⟦<Stock as Stocked>⟧.slots stock.old) }
+        ensures whole { IsWholeToolbox ⟦<Taken as Defined>⟧.loan self.new (⟦<Stock as Stocked>⟧.slots stock.new) }
         ensures step { IsWindowAnswered call.now result
-            (toolbox_state ⟦<Taken as Defined>⟧.loan ⟦<TakenMenu as DefinedMenu>⟧.menu_loan self.old
-            (⟦<Stock as Stocked>⟧.slots stock.old) (⟦<MenuStock as StockedMenus>⟧.menu_slots stock.old.menus)).desk
-            (toolbox_state ⟦<Taken as Defined>⟧.loan ⟦<TakenMenu as DefinedMenu>⟧.menu_loan self.new
-            (⟦<Stock as Stocked>⟧.slots stock.new) (⟦<MenuStock as StockedMenus>⟧.menu_slots stock.new.menus)).desk }
+            (toolbox_state ⟦<Taken as Defined>⟧.loan self.old (⟦<Stock as Stocked>⟧.slots stock.old)).desk
+            (toolbox_state ⟦<Taken as Defined>⟧.loan self.new (⟦<Stock as Stocked>⟧.slots stock.new)).desk }
         ensures events { self.new.events ≡ self.old.events }
-        ensures menus { self.new.menus ≡ self.old.menus }
-        ensures menu_stock { ⟦<MenuStock as StockedMenus>⟧.menu_slots stock.new.menus ≡ ⟦<MenuStock as StockedMenus>⟧.menu_slots stock.old.menus }
     {
         match self.updates.tell(self.activity, call) {
             Some(answer) => answer,
@@ -339,13 +234,11 @@ impl Toolbox {
 
     /// Answers a call about events.
     fn answer_event(&mut self, call: EventCall) -> Result<EventReply, Refusal>
-        requires { IsKeptToolbox ⟦<Taken as Defined>⟧.loan ⟦<TakenMenu as DefinedMenu>⟧.menu_loan self.old }
-        ensures whole { (slots : List SlotView) (kept : List MenuSlot)
-            → IsWholeToolbox ⟦<Taken as Defined>⟧.loan ⟦<TakenMenu as DefinedMenu>⟧.menu_loan self.old slots kept
-            → IsWholeToolbox ⟦<Taken as Defined>⟧.loan ⟦<TakenMenu as DefinedMenu>⟧.menu_loan self.new slots kept }
-        ensures step { (slots : List SlotView) (kept : List MenuSlot) → IsEventAnswer call result
-            (toolbox_state ⟦<Taken as Defined>⟧.loan ⟦<TakenMenu as DefinedMenu>⟧.menu_loan self.old slots kept)
-            (toolbox_state ⟦<Taken as Defined>⟧.loan ⟦<TakenMenu as DefinedMenu>⟧.menu_loan self.new slots kept) }
+        requires { IsKeptToolbox ⟦<Taken as Defined>⟧.loan self.old }
+        ensures whole { (slots : List SlotView) → IsWholeToolbox ⟦<Taken as Defined>⟧.loan self.old slots
+            → IsWholeToolbox ⟦<Taken as Defined>⟧.loan self.new slots }
+        ensures step { (slots : List SlotView) → IsEventAnswer call result
+            (toolbox_state ⟦<Taken as Defined>⟧.loan self.old slots) (toolbox_state ⟦<Taken as Defined>⟧.loan self.new slots) }
     {
         let active = self.windows.list().active();
         let update = first_to_update(&self.windows, self.activity);
@@ -359,21 +252,15 @@ impl Toolbox {
         calls: &[Call<'_>],
         stock: &mut Stock,
     ) -> Result<Vec<Result<Reply, Refusal>>, AllocError>
-        requires { IsWholeToolbox ⟦<Taken as Defined>⟧.loan ⟦<TakenMenu as DefinedMenu>⟧.menu_loan self.old
-            (⟦<Stock as Stocked>⟧.slots stock.old) (⟦<MenuStock as StockedMenus>⟧.menu_slots stock.old.menus) }
-        ensures whole { IsWholeToolbox ⟦<Taken as Defined>⟧.loan ⟦<TakenMenu as DefinedMenu>⟧.menu_loan self.new
-            (⟦<Stock as Stocked>⟧.slots stock.new) (⟦<MenuStock as StockedMenus>⟧.menu_slots stock.new.menus) }
+        requires { IsWholeToolbox ⟦<Taken as Defined>⟧.loan self.old (⟦<Stock as Stocked>⟧.slots stock.old) }
+        ensures whole { IsWholeToolbox ⟦<Taken as Defined>⟧.loan self.new (⟦<Stock as Stocked>⟧.slots stock.new) }
         ensures run { IfOk result (λ answers. IsRunOfCalls
-            (toolbox_state ⟦<Taken as Defined>⟧.loan ⟦<TakenMenu as DefinedMenu>⟧.menu_loan self.old
-            (⟦<Stock as Stocked>⟧.slots stock.old) (⟦<MenuStock as StockedMenus>⟧.menu_slots stock.old.menus))
+            (toolbox_state ⟦<Taken as Defined>⟧.loan self.old (⟦<Stock as Stocked>⟧.slots stock.old))
             calls.now answers.items
-            (toolbox_state ⟦<Taken as Defined>⟧.loan ⟦<TakenMenu as DefinedMenu>⟧.menu_loan self.new
-            (⟦<Stock as Stocked>⟧.slots stock.new) (⟦<MenuStock as StockedMenus>⟧.menu_slots stock.new.menus))) }
+            (toolbox_state ⟦<Taken as Defined>⟧.loan self.new (⟦<Stock as Stocked>⟧.slots stock.new))) }
         ensures kept { OnErr result (IsToolboxUnchanged
-            (toolbox_state ⟦<Taken as Defined>⟧.loan ⟦<TakenMenu as DefinedMenu>⟧.menu_loan self.old
-            (⟦<Stock as Stocked>⟧.slots stock.old) (⟦<MenuStock as StockedMenus>⟧.menu_slots stock.old.menus))
-            (toolbox_state ⟦<Taken as Defined>⟧.loan ⟦<TakenMenu as DefinedMenu>⟧.menu_loan self.new
-            (⟦<Stock as Stocked>⟧.slots stock.new) (⟦<MenuStock as StockedMenus>⟧.menu_slots stock.new.menus))) }
+            (toolbox_state ⟦<Taken as Defined>⟧.loan self.old (⟦<Stock as Stocked>⟧.slots stock.old))
+            (toolbox_state ⟦<Taken as Defined>⟧.loan self.new (⟦<Stock as Stocked>⟧.slots stock.new))) }
         ensures right { IsRightState (state_of ⟦<Taken as Defined>⟧.loan self.old.windows (⟦<Stock as Stocked>⟧.slots stock.old))
             → IsRightState (state_of ⟦<Taken as Defined>⟧.loan self.new.windows (⟦<Stock as Stocked>⟧.slots stock.new)) }
     {
@@ -389,13 +276,11 @@ impl Toolbox {
     /// screen has the value that painting the desk from nothing gives. NoSuchWindow is the only refusal. Takes no
     /// memory, and changes nothing that a call can tell.
     pub fn pixels_right(&mut self, window: u64, rect: Rect) -> Result<bool, Refusal>
-        requires { IsKeptToolbox ⟦<Taken as Defined>⟧.loan ⟦<TakenMenu as DefinedMenu>⟧.menu_loan self.old }
-        ensures whole { (slots : List SlotView) (kept : List MenuSlot)
-            → IsWholeToolbox ⟦<Taken as Defined>⟧.loan ⟦<TakenMenu as DefinedMenu>⟧.menu_loan self.old slots kept
-            → IsWholeToolbox ⟦<Taken as Defined>⟧.loan ⟦<TakenMenu as DefinedMenu>⟧.menu_loan self.new slots kept }
-        ensures same { (slots : List SlotView) (kept : List MenuSlot)
-            → toolbox_state ⟦<Taken as Defined>⟧.loan ⟦<TakenMenu as DefinedMenu>⟧.menu_loan self.new slots kept
-            ≡ toolbox_state ⟦<Taken as Defined>⟧.loan ⟦<TakenMenu as DefinedMenu>⟧.menu_loan self.old slots kept }
+        requires { IsKeptToolbox ⟦<Taken as Defined>⟧.loan self.old }
+        ensures whole { (slots : List SlotView) → IsWholeToolbox ⟦<Taken as Defined>⟧.loan self.old slots
+            → IsWholeToolbox ⟦<Taken as Defined>⟧.loan self.new slots }
+        ensures same { (slots : List SlotView)
+            → toolbox_state ⟦<Taken as Defined>⟧.loan self.new slots ≡ toolbox_state ⟦<Taken as Defined>⟧.loan self.old slots }
         ensures right { let state = state_of ⟦<Taken as Defined>⟧.loan self.old.windows [] in MatchResult result
             (λ right. (is_missing window state.desk.windows ≡ false) × IsJudgement window (rect_holds rect) state right)
             (λ e. (is_missing window state.desk.windows ≡ true) × (e ≡ Refusal.NoSuchWindow)) }
@@ -403,31 +288,26 @@ impl Toolbox {
         self.updates.pixels_right(&self.windows, window, rect)
     }
 
-    /// Ends the desk: the definition of every window and of every menu is disposed of, and put back Closed into its slot, while
-    /// every other slot stays as it was. Takes no memory, and refuses nothing.
+    /// Ends the desk: the definition of every window is disposed of, and put back Closed into its
+    /// slot, while every other slot stays as it was. Takes no memory, and refuses nothing.
     pub fn close(self, stock: &mut Stock)
-        requires { IsWholeToolbox ⟦<Taken as Defined>⟧.loan ⟦<TakenMenu as DefinedMenu>⟧.menu_loan self
-            (⟦<Stock as Stocked>⟧.slots stock.old) (⟦<MenuStock as StockedMenus>⟧.menu_slots stock.old.menus) }
-        ensures windows { IsClosed (desk_of ⟦<Taken as Defined>⟧.loan self.windows (⟦<Stock as Stocked>⟧.slots stock.old)).windows
+        requires { IsWholeManager ⟦<Taken as Defined>⟧.loan self.windows (⟦<Stock as Stocked>⟧.slots stock.old) }
+        ensures { IsClosed (desk_of ⟦<Taken as Defined>⟧.loan self.windows (⟦<Stock as Stocked>⟧.slots stock.old)).windows
             (⟦<Stock as Stocked>⟧.slots stock.old) (⟦<Stock as Stocked>⟧.slots stock.new) }
-        ensures menus { AreMenusClosed (menus_of ⟦<TakenMenu as DefinedMenu>⟧.menu_loan self.menus.list.menus.items)
-            (⟦<MenuStock as StockedMenus>⟧.menu_slots stock.old.menus) (⟦<MenuStock as StockedMenus>⟧.menu_slots stock.new.menus) }
     {
-        let Toolbox { windows, menus, .. } = self;
+        let Toolbox { windows, .. } = self;
         windows.close(&mut stock.windows);
-        menus.close(&mut stock.menus);
     }
 }
 
 /// Why a call is refused for its names and bytes alone, whatever is open.
 fn form_refusal_of(call: &Call<'_>, stock: &Stock) -> Option<Refusal>
-    ensures { (before : ToolboxState) → before.desk.windows.desk.stock ≡ ⟦<Stock as Stocked>⟧.slots stock.now
-        → before.menus.stock ≡ ⟦<MenuStock as StockedMenus>⟧.menu_slots stock.now.menus → IsFormFault call.now before result }
+    ensures { (before : DeskState) → before.windows.desk.stock ≡ ⟦<Stock as Stocked>⟧.slots stock.now
+        → IsFormFault call.now before result }
 {
     match call {
         Call::Window(call) => form_refusal(call, &stock.windows),
         Call::Update(call) => update_form_refusal(call),
-        Call::Menu(call) => menu_mgr::form_refusal(call, &stock.menus),
         Call::Frame(_) | Call::Event(_) => None,
     }
 }

@@ -1,8 +1,6 @@
 mod Checked
 mod ChoicesLemmas
 mod Ends
-mod MenuStocks
-mod SameImages
 mod Sessions
 mod StockKinds
 mod RawRuns
