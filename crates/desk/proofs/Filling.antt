@@ -6,13 +6,17 @@ use Rattle.std.proofs.lemmas.List.Elements.{All-from_recursion, All-nil, All-app
 use Rattle.tb_geom.specs.declared.refusal.Refusal.{Refusal}
 use Rattle.def_iface.specs.declared.window_def.Stage.TheVariants.{Fresh}
 use Rattle.def_iface.specs.Meaning.{Definition}
+use Rattle.def_iface.specs.MenuMeaning.{MenuDefinition}
+use Rattle.def_iface.specs.Slots as slots
+use Rattle.def_iface.specs.Slots.{SlotOf}
 use Rattle.def_iface.specs.Stocked.{SlotView, IsFull, IsIdle}
+use Rattle.std_mldef.specs.Menus.{fresh_menu, std_menu_meaning}
 use Rattle.std_wdef.specs.Notched.{notched_meaning, fresh_notched}
 use Rattle.watched_io.specs.Reads.{Input}
 use Rattle.watched_io.specs.Writes.{Output}
 use Rattle.script_runner.specs.declared.command_line.Choices.{Choices}
 use Rattle.script_runner.specs.ChosenRuns.{ChosenEnds}
-use Rattle.desk.specs.StandardStock.{one_of_each, so_many_of_each, standard_slots, notched_slot}
+use Rattle.desk.specs.StandardStock.{menu_slot, notched_slot, one_of_each, so_many_menus, so_many_of_each, standard_menus, standard_slots}
 use Rattle.desk.specs.Program.{EndsOver, StandardEnds}
 
 -- ---- a slot of a kind, behind the others
@@ -51,6 +55,13 @@ round_done slot table n i slots new d was all added is whole =
     ∙ ap (λ r. so_many_of_each n ++ r) whole
     ∙ sym more
 
+-- ---- a slot for menus, behind the others
+
+pub menu_added : (n : ℕ) (slots new : List (SlotOf MenuDefinition)) (d : MenuDefinition) → slots ≡ so_many_menus n
+    → new ≡ slots ++ record menu_slot { held = Some d } ∷ [] → d ≡ std_menu_meaning fresh_menu → new ≡ so_many_menus (n + 1)
+unfolding so_many_menus
+menu_added n slots new d was added is = added ∙ (λ i. was i ++ record menu_slot { held = Some (is i) } ∷ []) ∙ sym (ap so_many_menus (add-one n))
+
 -- ---- each slot is full
 
 each_full : All IsFull one_of_each
@@ -63,14 +74,31 @@ unfolding so_many_of_each
 so_many_full zero = All-nil IsFull
 so_many_full (suc n) = All-append IsFull (so_many_of_each n) one_of_each (so_many_full n) each_full
 
+abbrev pub IsMenuFull : SlotOf MenuDefinition → Type 0
+IsMenuFull s = slots.IsFull (λ (d : MenuDefinition). d.stage) s
+
+pub so_many_menus_full : (n : ℕ) → All IsMenuFull (so_many_menus n)
+unfolding so_many_menus
+so_many_menus_full zero = All-nil IsMenuFull
+so_many_menus_full (suc n) =
+    All-append IsMenuFull (so_many_menus n) (menu_slot ∷ []) (so_many_menus_full n)
+    (All-from_recursion IsMenuFull (menu_slot ∷ []) ((std_menu_meaning fresh_menu, refl, inl refl), tt))
+
 -- ---- the run
 
 module _ {File : Type 0} (opens : List ℕ → Result File Refusal → Type 0) (input : File → Input) (standard rest : Input) (old new : Output) (chosen : Choices) where
-  -- a run over a stock with these windows
-  pub run_over_stock : (windows left : List SlotView) {X : Type 0} (r : Result X Refusal) → ChosenEnds opens input chosen windows left standard rest old new r → EndsOver opens input standard rest old new windows chosen r
-  run_over_stock windows left (Ok x) ends = record { left = left; ends = ends }
-  run_over_stock windows left (Err e) ends = inl (record { left = left; ends = ends })
+  -- a run over a stock with these windows and these menus
+  pub run_over_stock : (windows left : List SlotView) (menus left_menus : List (SlotOf MenuDefinition)) {X : Type 0} (r : Result X Refusal)
+      → ChosenEnds opens input chosen windows left menus left_menus standard rest old new r → EndsOver opens input standard rest old new windows menus chosen r
+  run_over_stock windows left menus left_menus (Ok x) ends = record { left = left; left_menus = left_menus; ends = ends }
+  run_over_stock windows left menus left_menus (Err e) ends = inl (record { left = left; left_menus = left_menus; ends = ends })
+
+  -- a run over menus that are the standard ones
+  pub run_over_menus : (windows : List SlotView) (menus : List (SlotOf MenuDefinition)) → menus ≡ standard_menus → {X : Type 0} (r : Result X Refusal)
+      → EndsOver opens input standard rest old new windows menus chosen r → EndsOver opens input standard rest old new windows standard_menus chosen r
+  run_over_menus windows menus is r ends = subst (λ m. EndsOver opens input standard rest old new windows m chosen r) is ends
 
   -- a run over windows that are the standard ones
-  pub run_over_standard : (windows : List SlotView) → windows ≡ standard_slots → {X : Type 0} (r : Result X Refusal) → EndsOver opens input standard rest old new windows chosen r → StandardEnds opens input standard rest old new chosen r
-  run_over_standard windows is r ends = subst (λ s. EndsOver opens input standard rest old new s chosen r) is ends
+  pub run_over_standard : (windows : List SlotView) → windows ≡ standard_slots → {X : Type 0} (r : Result X Refusal)
+      → EndsOver opens input standard rest old new windows standard_menus chosen r → StandardEnds opens input standard rest old new chosen r
+  run_over_standard windows is r ends = subst (λ s. EndsOver opens input standard rest old new s standard_menus chosen r) is ends

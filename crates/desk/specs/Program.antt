@@ -2,13 +2,15 @@
 use Rattle.std.specs.Prelude.{◌≡◌, ◌⊎◌, ◌&&◌, ℕ, false, List, [], Result, Ok, Err}
 use Rattle.tb_geom.specs.declared.refusal.Refusal.{Refusal}
 use Rattle.tb_geom.specs.declared.refusal.Refusal.TheVariants.{NoMemory}
+use Rattle.def_iface.specs.MenuMeaning.{MenuDefinition}
+use Rattle.def_iface.specs.Slots.{SlotOf}
 use Rattle.def_iface.specs.Stocked.{SlotView}
 use Rattle.watched_io.specs.Reads.{Input}
 use Rattle.watched_io.specs.Writes.{Output}
 use Rattle.script_runner.specs.declared.command_line.Choices.{Choices}
 use Rattle.script_runner.specs.Choices.{IsChosen, AreWordsRefused, faults_in}
 use Rattle.script_runner.specs.ChosenRuns.{ChosenEnds}
-use Rattle.desk.specs.StandardStock.{standard_slots}
+use Rattle.desk.specs.StandardStock.{standard_menus, standard_slots}
 use Rattle.desk.specs.declared.program.Stopped.{Stopped}
 use Rattle.desk.specs.declared.program.Stopped.TheVariants.{Words, Run}
 
@@ -26,19 +28,20 @@ module _ {File : Type 0} (opens : List ℕ → Result File Refusal → Type 0) (
     pub unread : rest ≡ standard
     pub silent : new ≡ old
 
-  -- the choices were run over a stock with these windows
-  pub record HasRunOver (windows : List SlotView) (chosen : Choices) {X : Type 0} (r : Result X Refusal) : Type 0 where
+  -- the choices were run over a stock with these windows and these menus
+  pub record HasRunOver (windows : List SlotView) (menus : List (SlotOf MenuDefinition)) (chosen : Choices) {X : Type 0} (r : Result X Refusal) : Type 0 where
     pub left : List SlotView
-    pub ends : ChosenEnds opens input chosen windows left standard rest old new r
+    pub left_menus : List (SlotOf MenuDefinition)
+    pub ends : ChosenEnds opens input chosen windows left menus left_menus standard rest old new r
 
   -- so it ends, or there was no memory for that stock
-  abbrev pub EndsOver : List SlotView → Choices → {X : Type 0} → Result X Refusal → Type 0
-  EndsOver windows chosen {X} (Ok x) = HasRunOver windows chosen {X = X} (Ok x)
-  EndsOver windows chosen {X} (Err e) = HasRunOver windows chosen {X = X} (Err e) ⊎ ((e ≡ NoMemory) × IsSilent)
+  abbrev pub EndsOver : List SlotView → List (SlotOf MenuDefinition) → Choices → {X : Type 0} → Result X Refusal → Type 0
+  EndsOver windows menus chosen {X} (Ok x) = HasRunOver windows menus chosen {X = X} (Ok x)
+  EndsOver windows menus chosen {X} (Err e) = HasRunOver windows menus chosen {X = X} (Err e) ⊎ ((e ≡ NoMemory) × IsSilent)
 
   -- so it ends over the standard stock
   abbrev pub StandardEnds : Choices → {X : Type 0} → Result X Refusal → Type 0
-  StandardEnds chosen r = EndsOver standard_slots chosen r
+  StandardEnds chosen r = EndsOver standard_slots standard_menus chosen r
 
   -- nothing is wrong with the words, and what they choose was run
   pub record HasRunWords (words : List (List ℕ)) {X : Type 0} (r : Result X Refusal) : Type 0 where

@@ -1,6 +1,9 @@
--- The window definitions that the program begins with.
+-- The definitions of windows and of menus that the program begins with.
 use Rattle.std.specs.Prelude.{ℕ, zero, suc, List, [], ◌∷◌, ◌++◌, Some, codes}
+use Rattle.def_iface.specs.MenuMeaning.{MenuDefinition}
+use Rattle.def_iface.specs.Slots.{SlotOf}
 use Rattle.def_iface.specs.Stocked.{SlotView}
+use Rattle.std_mldef.specs.Menus.{fresh_menu, std_menu_meaning}
 use Rattle.std_wdef.specs.declared.kind.Variation.{Variation}
 use Rattle.std_wdef.specs.declared.kind.Variation.TheVariants.{Document, Dialog, Plain, Shadow, NoGrow, Zoom}
 use Rattle.std_wdef.specs.Told.{window_meaning, fresh_window}
@@ -34,3 +37,16 @@ so_many_of_each (suc n) = so_many_of_each n ++ one_of_each
 -- the slots of windows of the program's stock
 abbrev pub standard_slots : List SlotView
 standard_slots = so_many_of_each 16
+
+-- a slot for menus, with a definition that was told nothing yet
+abbrev pub menu_slot : SlotOf MenuDefinition
+menu_slot = record { kind = codes "menu"; held = Some (std_menu_meaning fresh_menu) }
+
+-- so many of them
+unfoldable pub so_many_menus : ℕ → List (SlotOf MenuDefinition)
+so_many_menus zero = []
+so_many_menus (suc n) = so_many_menus n ++ menu_slot ∷ []
+
+-- the slots of menus of the program's stock
+abbrev pub standard_menus : List (SlotOf MenuDefinition)
+standard_menus = so_many_menus 32

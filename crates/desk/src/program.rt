@@ -1,11 +1,13 @@
 //! The program, but for what only the system can give: the words of its command line, its files, and where it reads and
 //! writes.
 ghost use Rattle.std.specs.Prelude.{◌≡◌, false, map, All};
+ghost use Rattle.def_iface.specs.Slots as slots;
 ghost use Rattle.def_iface.specs.Stocked.{IsFull};
 ghost use Rattle.watched_io.specs.Reads.{IsOpen};
 ghost use Rattle.desk.specs.Program.{EndsOver, ProgramEnds, StandardEnds};
+ghost use Rattle.desk.specs.StandardStock.{standard_menus};
 
-use def_iface::{ControlStock, ListStock, MenuStock, Stock, Stocked, WindowStock};
+use def_iface::{ControlStock, ListStock, MenuStock, Stock, Stocked, StockedMenus, WindowStock};
 use script_runner::{Choices, Opener, OptionsError, options, run_chosen};
 use std::alloc::Global;
 use std::convert::AsStr;
@@ -47,7 +49,7 @@ pub enum Stopped {
 }
 
 /// Runs what the words of the command line choose, of which the first is the program's name, over a stock of 16
-/// definitions of each kind. Where the words are not taken, nothing is read or written.
+/// definitions of each kind of window, and 32 of menus. Where the words are not taken, nothing is read or written.
 pub fn run_words<F: Opener, R: Source, W: Sink, S: AsStr>(
     alloc: Global,
     words: &[S],
@@ -101,12 +103,12 @@ fn run_standard<F: Opener, R: Source, W: Sink>(
             return Err(Refusal::NoMemory);
         };
     }
-    run_over(alloc, windows, files, standard, sink, chosen)
+    run_with_windows(alloc, windows, files, standard, sink, chosen)
 }
 
-/// Runs what was chosen over a stock with these windows, and with the standard controls, menus and lists. NoMemory also
-/// where there is none for those, and then nothing is read or written.
-fn run_over<F: Opener, R: Source, W: Sink>(
+/// Runs what was chosen over a stock with these windows, and with the standard menus. NoMemory also where there is none for
+/// those, and then nothing is read or written.
+fn run_with_windows<F: Opener, R: Source, W: Sink>(
     alloc: Global,
     windows: WindowStock,
     files: &F,
@@ -120,7 +122,37 @@ fn run_over<F: Opener, R: Source, W: Sink>(
     requires unfailed { (W.output sink.old).has_failed ≡ false }
     ensures { EndsOver (F.opens files.now) F.Opened.input
         (R.input standard.old) (R.input standard.new) (W.output sink.old) (W.output sink.new)
-        (⟦<WindowStock as Stocked>⟧.slots windows) chosen.now result }
+        (⟦<WindowStock as Stocked>⟧.slots windows) standard_menus chosen.now result }
+{
+    let mut menus = MenuStock::new(alloc);
+    for round in 0..MENUS {
+        let menu = Box::new(alloc, StdMenu::new())?;
+        let Ok(()) = menus.add(b"menu", menu) else {
+            return Err(Refusal::NoMemory);
+        };
+    }
+    run_over(alloc, windows, menus, files, standard, sink, chosen)
+}
+
+/// Runs what was chosen over a stock with these windows and these menus, and with the standard controls and lists. NoMemory
+/// also where there is none for those, and then nothing is read or written.
+fn run_over<F: Opener, R: Source, W: Sink>(
+    alloc: Global,
+    windows: WindowStock,
+    menus: MenuStock,
+    files: &F,
+    standard: &mut R,
+    sink: &mut W,
+    chosen: &Choices<'_>,
+) -> Result<(), Refusal>
+    requires full { All IsFull (⟦<WindowStock as Stocked>⟧.slots windows) }
+    requires full_menus { All (slots.IsFull (λ d. d.stage)) (⟦<MenuStock as StockedMenus>⟧.menu_slots menus) }
+    requires unread { (R.input standard.old).reads ≡ 0 }
+    requires going { IsOpen (R.input standard.old) }
+    requires unfailed { (W.output sink.old).has_failed ≡ false }
+    ensures { EndsOver (F.opens files.now) F.Opened.input
+        (R.input standard.old) (R.input standard.new) (W.output sink.old) (W.output sink.new)
+        (⟦<WindowStock as Stocked>⟧.slots windows) (⟦<MenuStock as StockedMenus>⟧.menu_slots menus) chosen.now result }
 {
     let mut controls = ControlStock::new(alloc);
     for _ in 0..CONTROLS {
@@ -135,13 +167,6 @@ fn run_over<F: Opener, R: Source, W: Sink>(
         if !added {
             return Err(Refusal::NoMemory);
         }
-    }
-    let mut menus = MenuStock::new(alloc);
-    for _ in 0..MENUS {
-        let menu = Box::new(alloc, StdMenu::new())?;
-        let Ok(()) = menus.add(b"menu", menu) else {
-            return Err(Refusal::NoMemory);
-        };
     }
     let mut lists = ListStock::new(alloc);
     for _ in 0..LISTS {

@@ -3,13 +3,15 @@ use Rattle.std.specs.Prelude.{ℕ, ◌==◌, if◌then◌else◌, Option, None, 
 use Rattle.tb_geom.specs.declared.refusal.Refusal.{Refusal}
 use Rattle.tb_geom.specs.declared.refusal.Refusal.TheVariants.{Busy, NotBusy}
 use Rattle.desk_call.specs.declared.activity.Activity.{Activity}
-use Rattle.desk_call.specs.declared.activity.Activity.TheVariants.{Idle, Updating, Tracking}
+use Rattle.desk_call.specs.declared.activity.Activity.TheVariants.{Idle, Updating, Tracking, Pulling}
 use Rattle.desk_call.specs.declared.activity.Standing.{Standing}
-use Rattle.desk_call.specs.declared.activity.Standing.TheVariants.{Asks, Updates, Tracks, Changes}
+use Rattle.desk_call.specs.declared.activity.Standing.TheVariants.{Asks, Updates, Tracks, Pulls, Changes}
 use Rattle.desk_call.specs.declared.call.Call.{Call}
-use Rattle.desk_call.specs.declared.call.Call.TheVariants.{Window, Update, Frame, Event}
+use Rattle.desk_call.specs.declared.call.Call.TheVariants.{Window, Update, Frame, Menu, Event}
 use Rattle.desk_call.specs.declared.frame.FrameCall.{FrameCall}
 use Rattle.desk_call.specs.declared.frame.FrameCall.TheVariants.{StepGoAway, EndGoAway}
+use Rattle.desk_call.specs.declared.menu.MenuCall.{MenuCall}
+use Rattle.desk_call.specs.declared.menu.MenuCall.TheVariants as menus
 use Rattle.desk_call.specs.declared.update.UpdateCall.{UpdateCall}
 use Rattle.desk_call.specs.declared.update.UpdateCall.TheVariants.{Draw as DrawLayers, End}
 use Rattle.desk_call.specs.declared.window.WindowCall.{WindowCall}
@@ -36,11 +38,18 @@ frame_standing (StepGoAway p) = Tracks
 frame_standing (EndGoAway p) = Tracks
 frame_standing _ = Changes
 
+-- steps and the end of a menu that is pulled down belong to it
+abbrev pub menu_standing : MenuCall → Standing
+menu_standing (menus.Move p) = Pulls
+menu_standing (menus.Up p) = Pulls
+menu_standing _ = Changes
+
 -- when a call may come; one about events may at any time
 abbrev pub standing_of : Call → Standing
 standing_of (Window call) = window_standing call
 standing_of (Update call) = update_standing call
 standing_of (Frame call) = frame_standing call
+standing_of (Menu call) = menu_standing call
 standing_of (Event call) = Asks
 
 -- why a call of a standing may not come while this is open
@@ -50,4 +59,5 @@ gate Idle Changes = None
 gate activity Changes = Some Busy
 gate (Updating s) (Updates t) = if s == t then None else Some NotBusy
 gate (Tracking s) Tracks = None
+gate (Pulling m) Pulls = None
 gate activity standing = Some NotBusy

@@ -1,9 +1,10 @@
 //! Which calls may come while something is open.
 ghost use Rattle.std.specs.Prelude.{◌≡◌, None, MatchResult, Some};
-ghost use Rattle.desk_call.specs.Gates.{gate, standing_of, window_standing, update_standing, frame_standing};
+ghost use Rattle.desk_call.specs.Gates.{gate, standing_of, window_standing, update_standing, frame_standing, menu_standing};
 
-use crate::{Call, FrameCall, UpdateCall, WindowCall};
-use tb_geom::Refusal;
+use crate::{Call, FrameCall, MenuCall, UpdateCall, WindowCall};
+use def_iface::Size;
+use tb_geom::{Point, Refusal};
 
 /// What is open between its begin and its end. At most one thing is.
 #[derive(Clone, Copy, PartialEq, Eq)]
@@ -14,6 +15,21 @@ pub enum Activity {
     Updating(u64),
     /// The tracking of this window's go-away box.
     Tracking(u64),
+    /// This menu is pulled down.
+    Pulling(PulledMenu),
+}
+
+/// A menu that is pulled down.
+#[derive(Clone, Copy, Debug, PartialEq, Eq)]
+pub struct PulledMenu {
+    /// Its number.
+    pub menu: u16,
+    /// Where its top left corner lies on the screen.
+    pub place: Point,
+    /// How large it is, before it is cut to the screen.
+    pub size: Size,
+    /// The number of the item that is highlighted, from 1 on, if one is.
+    pub item: Option<u8>,
 }
 
 /// When a call may come.
@@ -25,6 +41,8 @@ pub enum Standing {
     Updates(u64),
     /// It goes on with the tracking of a go-away box or ends it, while that is open.
     Tracks,
+    /// It goes on with a menu that is pulled down or puts it away, while one is.
+    Pulls,
     /// It is any other, while nothing is open.
     Changes,
 }
@@ -41,6 +59,7 @@ impl Activity {
             (_, Standing::Changes) => Err(Refusal::Busy),
             (Activity::Updating(open), Standing::Updates(window)) if open == window => Ok(()),
             (Activity::Tracking(_), Standing::Tracks) => Ok(()),
+            (Activity::Pulling(_), Standing::Pulls) => Ok(()),
             _ => Err(Refusal::NotBusy),
         }
     }
@@ -55,6 +74,7 @@ impl Call<'_> {
             Call::Window(call) => call.standing(),
             Call::Update(call) => call.standing(),
             Call::Frame(call) => call.standing(),
+            Call::Menu(call) => call.standing(),
             Call::Event(_) => Standing::Asks,
         }
     }
@@ -93,6 +113,18 @@ impl FrameCall<'_> {
     {
         match self {
             FrameCall::StepGoAway(_) | FrameCall::EndGoAway(_) => Standing::Tracks,
+            _ => Standing::Changes,
+        }
+    }
+}
+
+impl MenuCall<'_> {
+    /// When the call may come.
+    pub fn standing(&self) -> Standing
+        ensures { result ≡ menu_standing self.now }
+    {
+        match self {
+            MenuCall::Move(_) | MenuCall::Up(_) => Standing::Pulls,
             _ => Standing::Changes,
         }
     }

@@ -1,6 +1,9 @@
 //! What a Toolbox can be asked, and what it answers.
 
-use crate::{EventCall, EventReply, FrameCall, FrameReply, UpdateCall, WindowCall, WindowReply};
+use crate::{
+    EventCall, EventReply, FrameCall, FrameReply, MenuCall, MenuReply, UpdateCall, WindowCall,
+    WindowReply,
+};
 
 /// A call of the Toolbox, by what it is about. Titles, and the bytes of operations and regions, are borrowed, so that
 /// the value of a call owns no memory; performing the call may take some.
@@ -12,6 +15,8 @@ pub enum Call<'a> {
     Update(UpdateCall<'a>),
     /// About a window's frame: its title, its highlighting and its go-away box.
     Frame(FrameCall<'a>),
+    /// About menus.
+    Menu(MenuCall<'a>),
     /// About events.
     Event(EventCall),
 }
@@ -23,6 +28,8 @@ pub enum Reply {
     Window(WindowReply),
     /// To a `Call::Frame`.
     Frame(FrameReply),
+    /// To a `Call::Menu`.
+    Menu(MenuReply),
     /// To a `Call::Event`.
     Event(EventReply),
 }

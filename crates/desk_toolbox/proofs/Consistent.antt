@@ -1,33 +1,37 @@
 -- Each state that a Toolbox reaches is consistent.
-use Rattle.std.proofs.Common.{◌≡◌, true, List, [], ◌∷◌, Option, None, Some, Result, Ok, Err, refl, sym, ap, subst}
+use Rattle.std.proofs.Common.{◌≡◌, true, List, [], ◌∷◌, Result, sym, ap, ◌∙◌, subst, arith}
 use Rattle.std.proofs.lemmas.List.Elements.{All-nil, All-same}
 use Rattle.tb_geom.specs.declared.refusal.Refusal.{Refusal}
 use Rattle.event_queue.specs.declared.event.Event.{Event}
 use Rattle.event_queue.specs.Events.{is_posted}
 use Rattle.desk_call.specs.declared.call.Call.{Call}
 use Rattle.desk_call.specs.declared.call.Reply.{Reply}
+use Rattle.menu_list.specs.Lists.{titles_of}
 use Rattle.vis_update.specs.Records.{WindowRecord}
 use Rattle.window_mgr.specs.FullDesk.{IsRightState}
 use Rattle.window_frame.specs.Followers.{Knows}
 use Rattle.window_frame.specs.Followers.Flag.{Highlighting, Zooming}
 use Rattle.desk_toolbox.specs.declared.events.Events.{Events}
-use Rattle.desk_toolbox.specs.Reached.{IsThere, IsTrackedIfHeard, IsConsistent, IsJustBegun, open_window}
+use Rattle.desk_toolbox.specs.Reached.{AreApart, IsLit, IsPulledThere, IsThere, IsTrackedIfHeard, IsConsistent, IsJustBegun, open_window}
 use Rattle.desk_toolbox.specs.Run.{IsStep, IsRunOfCalls}
 use Rattle.desk_toolbox.specs.ToolboxStates.{ToolboxState}
 use Rattle.desk_toolbox.proofs.EachManager.{HoldsOfEach, of_step}
 use Rattle.desk_toolbox.proofs.Runs.{step_stays_right}
 use Rattle.desk_toolbox.proofs.Stands.{Stands, stands, consistent, stands_still, event_stands, window_stands}
 use Rattle.desk_toolbox.proofs.StandsOpen.{update_stands, frame_stands}
+use Rattle.desk_toolbox.proofs.MenuStands.{menu_stands}
 
 abbrev GoesOnStanding : Call → Result Reply Refusal → ToolboxState → ToolboxState → Type 0
 GoesOnStanding call answer before after = Stands before → IsRightState after.desk.windows → Stands after
 
 each_stands : HoldsOfEach GoesOnStanding
 each_stands = record {
-  unchanged = λ call e before after same was right. stands_still before after same.desk.windows.desk same.desk.activity same.events was right;
+  unchanged = λ call e before after same was right. stands_still before after same.desk.windows.desk same.desk.activity same.menus same.events was right;
+  covered = λ p before after same was right. stands_still before after same.desk.windows.desk same.desk.activity same.menus same.events was right;
   window = λ call answer before after may step was right. window_stands call answer before after may was right step;
-  update = λ call answer before after may step events was right. update_stands call answer before after may was right step events;
-  frame = λ call answer before after may step events was right. frame_stands call answer before after may was right step events;
+  update = λ call answer before after may step events menus was right. update_stands call answer before after may was right step events menus;
+  frame = λ call answer before after may step events menus was right. frame_stands call answer before after may was right step events menus;
+  menu = λ call answer before after may step events was right. menu_stands call answer before after may was right step events;
   event = λ call answer before after step was right. event_stands call answer before after was right step;
 }
 
@@ -57,4 +61,8 @@ just_begun_is_consistent s begun =
       queued = All-same (λ (e : Event). is_posted e.what ≡ true) s.events.queue.events [] (ap (λ (e : Events). e.queue.events) begun.events) (All-nil (λ (e : Event). is_posted e.what ≡ true));
       informed = All-same (λ (w : WindowRecord). Knows Highlighting w × Knows Zooming w) windows [] begun.windows (All-nil (λ (w : WindowRecord). Knows Highlighting w × Knows Zooming w));
       tracked = All-same (IsTrackedIfHeard s.desk.activity) windows [] begun.windows (All-nil (IsTrackedIfHeard s.desk.activity));
+      bar = begun.titles ∙ sym (λ i. titles_of (begun.highlighted i) (begun.menus i));
+      apart = subst AreApart (sym begun.menus) (λ id. omega arith);
+      pulled = subst (λ a. IsPulledThere a s.menus) (sym begun.idle) tt;
+      lit = All-same (IsLit s.desk.activity) s.menus.menus [] begun.menus (All-nil (IsLit s.desk.activity));
     }

@@ -1,42 +1,61 @@
 -- What holds of an unchanged Toolbox and of each manager's step holds of every step.
-use Rattle.std.proofs.Common.{◌≡◌, Option, None, Some, Result, Ok, Err, refl, sym, subst}
+use Rattle.std.proofs.Common.{◌≡◌, Bool, true, false, Option, None, Some, Result, Ok, Err, refl, sym, subst}
+use Rattle.tb_geom.specs.declared.point.Point.{Point}
 use Rattle.tb_geom.specs.declared.refusal.Refusal.{Refusal}
 use Rattle.desk_call.specs.declared.call.Call.{Call}
-use Rattle.desk_call.specs.declared.call.Call.TheVariants.{Window, Update, Frame, Event}
+use Rattle.desk_call.specs.declared.call.Call.TheVariants.{Window, Update, Frame, Menu, Event}
 use Rattle.desk_call.specs.declared.call.Reply.{Reply}
 use Rattle.desk_call.specs.declared.call.Reply.TheVariants as reply
 use Rattle.desk_call.specs.declared.event.EventCall.{EventCall}
 use Rattle.desk_call.specs.declared.event.EventReply.{EventReply}
 use Rattle.desk_call.specs.declared.frame.FrameCall.{FrameCall}
 use Rattle.desk_call.specs.declared.frame.FrameReply.{FrameReply}
+use Rattle.desk_call.specs.declared.menu.MenuCall.{MenuCall}
+use Rattle.desk_call.specs.declared.menu.MenuReply.{MenuReply}
 use Rattle.desk_call.specs.declared.update.UpdateCall.{UpdateCall}
 use Rattle.desk_call.specs.declared.window.WindowCall.{WindowCall}
+use Rattle.desk_call.specs.declared.window.WindowCall.TheVariants.{Find}
 use Rattle.desk_call.specs.declared.window.WindowReply.{WindowReply}
 use Rattle.desk_call.specs.Gates.{gate, standing_of}
 use Rattle.window_update.specs.UpdateSteps.{IsUpdateStep}
 use Rattle.window_frame.specs.FrameSteps.{IsFrameStep}
-use Rattle.desk_toolbox.specs.ToolboxStates.{ToolboxState, IsToolboxUnchanged}
-use Rattle.desk_toolbox.specs.Run.{IsWindowMade, IsEventAnswer, IsAdmitted, IsGated, IsStep, replied}
+use Rattle.menu_mgr.specs.MenuSteps.{IsMenuStep}
+use Rattle.desk_toolbox.specs.Fronts.{is_on_menu}
+use Rattle.desk_toolbox.specs.ToolboxStates.{ToolboxState, IsToolboxUnchanged, with_menus}
+use Rattle.desk_toolbox.specs.Run.{IsWindowMade, IsWindowTold, IsEventAnswer, IsAdmitted, IsGated, IsStep, found_menu, is_covered, replied}
 
 -- `R` relates a call, what it is answered, and the states before and after it
 module _ (R : Call → Result Reply Refusal → ToolboxState → ToolboxState → Type 0) where
   -- it holds where a refused call changes nothing, and of each step that a manager makes of a call that may come
   pub record HoldsOfEach : Type 0 where
     pub unchanged : (call : Call) (e : Refusal) (before after : ToolboxState) → IsToolboxUnchanged before after → R call (Err e) before after
+    pub covered : (p : Point) (before after : ToolboxState) → IsToolboxUnchanged before after → R (Window (Find p)) (Ok (reply.Window found_menu)) before after
     pub window : (call : WindowCall) (answer : Result WindowReply Refusal) (before after : ToolboxState) → gate before.desk.activity (standing_of (Window call)) ≡ None
         → IsWindowMade call answer before after → R (Window call) (replied reply.Window answer) before after
     pub update : (call : UpdateCall) (answer : Result WindowReply Refusal) (before after : ToolboxState) → gate before.desk.activity (standing_of (Update call)) ≡ None
-        → IsUpdateStep call answer before.desk after.desk → after.events ≡ before.events → R (Update call) (replied reply.Window answer) before after
+        → IsUpdateStep call answer before.desk after.desk → after.events ≡ before.events → after.menus ≡ before.menus → R (Update call) (replied reply.Window answer) before after
     pub frame : (call : FrameCall) (answer : Result FrameReply Refusal) (before after : ToolboxState) → gate before.desk.activity (standing_of (Frame call)) ≡ None
-        → IsFrameStep call answer before.desk after.desk → after.events ≡ before.events → R (Frame call) (replied reply.Frame answer) before after
+        → IsFrameStep call answer before.desk after.desk → after.events ≡ before.events → after.menus ≡ before.menus → R (Frame call) (replied reply.Frame answer) before after
+    pub menu : (call : MenuCall) (answer : Result MenuReply Refusal) (before after : ToolboxState) → gate before.desk.activity (standing_of (Menu call)) ≡ None
+        → IsMenuStep call answer (with_menus before) (with_menus after) → after.events ≡ before.events → R (Menu call) (replied reply.Menu answer) before after
     pub event : (call : EventCall) (answer : Result EventReply Refusal) (before after : ToolboxState)
         → IsEventAnswer call answer before after → R (Event call) (replied reply.Event answer) before after
 
   module _ (each : HoldsOfEach) where
+    -- whether the point lies on a pulled menu, or the windows answer
+    of_found : (covered : Bool) (p : Point) (own : Result WindowReply Refusal) (before after : ToolboxState) → gate before.desk.activity (standing_of (Window (Find p))) ≡ None → IsWindowTold covered (Find p) own before after → R (Window (Find p)) (replied reply.Window own) before after
+    of_found false p own before after may step = each.window (Find p) own before after may step
+    of_found true p own before after may (is, same) = subst (λ r. R (Window (Find p)) (replied reply.Window r) before after) (sym is) (each.covered p before after same)
+
+    of_window : (call : WindowCall) (own : Result WindowReply Refusal) (before after : ToolboxState) → gate before.desk.activity (standing_of (Window call)) ≡ None → IsWindowTold (is_covered call before) call own before after → R (Window call) (replied reply.Window own) before after
+    of_window (Find p) own before after may step = of_found (is_on_menu before p) p own before after may step
+    of_window call own before after may step = each.window call own before after may step
+
     pub of_admitted : (call : Call) (answer : Result Reply Refusal) (before after : ToolboxState) → gate before.desk.activity (standing_of call) ≡ None → IsAdmitted call answer before after → R call answer before after
-    of_admitted (Window call) answer before after may (own, is, step) = subst (λ r. R (Window call) r before after) (sym is) (each.window call own before after may step)
-    of_admitted (Update call) answer before after may (own, is, step) = subst (λ r. R (Update call) r before after) (sym is) (each.update call own before after may step.0 step.1)
-    of_admitted (Frame call) answer before after may (own, is, step) = subst (λ r. R (Frame call) r before after) (sym is) (each.frame call own before after may step.0 step.1)
+    of_admitted (Window call) answer before after may (own, is, step) = subst (λ r. R (Window call) r before after) (sym is) (of_window call own before after may step)
+    of_admitted (Update call) answer before after may (own, is, step) = subst (λ r. R (Update call) r before after) (sym is) (each.update call own before after may step.0 step.1.0 step.1.1)
+    of_admitted (Frame call) answer before after may (own, is, step) = subst (λ r. R (Frame call) r before after) (sym is) (each.frame call own before after may step.0 step.1.0 step.1.1)
+    of_admitted (Menu call) answer before after may (own, is, step) = subst (λ r. R (Menu call) r before after) (sym is) (each.menu call own before after may step.0 step.1)
     of_admitted (Event call) answer before after may (own, is, step) = subst (λ r. R (Event call) r before after) (sym is) (each.event call own before after step)
 
     of_gated : (stopped : Option Refusal) (call : Call) (answer : Result Reply Refusal) (before after : ToolboxState) → gate before.desk.activity (standing_of call) ≡ stopped → IsGated stopped call answer before after → R call answer before after

@@ -2,6 +2,7 @@
 pub mod Sayings
 pub mod Ordering
 pub mod UpdatedDesks
+pub mod KeptDesks
 pub mod Sides
 pub mod EachManager
 pub mod Runs
@@ -14,7 +15,19 @@ pub mod Telling
 pub mod Tracked
 pub mod Stands
 pub mod StandsOpen
+pub mod MenuKinds
+pub mod MenuNumbers
+pub mod LitMenus
+pub mod PulledMenus
+pub mod PulledSteps
+pub mod MenuStands
 pub mod Consistent
 pub mod Histories
 pub mod Shown
+pub mod FrontLaws
+pub mod LeftByMenus
+pub mod MenusBeside
+pub mod Lent
+pub mod Asked
+pub mod MenuSides
 pub mod Begun

@@ -1,12 +1,18 @@
 -- The reasons to refuse, and the written order.
-use Rattle.std.proofs.Common.{◌≡◌, ◌&&◌, ℕ, ◌≤◌, Bool, true, false, if◌then◌else◌, List, [], ◌∷◌, map, None, Some, refl, subst, arith}
-use Rattle.std.specs.Prelude.{All, nat_le}
+use Rattle.std.proofs.Common.{◌≡◌, Bool, true, false, if◌then◌else◌, List, [], ◌∷◌, ◌++◌, map, Some, refl, subst, arith}
+use Rattle.std.specs.Prelude.{All}
 use Rattle.std.proofs.lemmas.Bool.{and_parts, le-leb, leb-true}
 use Rattle.std.proofs.lemmas.List.Elements.{All-nil, All-cons}
 use Rattle.tb_geom.specs.declared.refusal.Refusal.{Refusal}
+use Rattle.tb_geom.specs.declared.refusal.Refusal.TheVariants.{Busy, NoSuchMenu}
 use Rattle.tb_geom.specs.Refusals.{first_refusal, in_order, is_before, place_in, refusal_order}
 use Rattle.desk_call.specs.declared.frame.FrameCall.{FrameCall}
 use Rattle.desk_call.specs.declared.frame.FrameCall.TheVariants.{SetTitle, Hilite, TrackGoAway, StepGoAway, EndGoAway}
+use Rattle.desk_call.specs.declared.menu.MenuCall.{MenuCall}
+use Rattle.desk_call.specs.declared.menu.MenuCall.TheVariants.{New, Append, SetItem, Insert, Delete, Dispose, Enable, Disable, Check, Down, Move, Up, Key, Hilite}
+use Rattle.desk_call.specs.declared.menu.NewMenu.{NewMenu}
+use Rattle.menu_mgr.specs.MenuDesks.{MenuSlot, MenusState}
+use Rattle.menu_mgr.specs.MenuRefusals.{menu_form_refusals, menu_refusals}
 use Rattle.window_mgr.specs.FullDesk.{FullDesk}
 use Rattle.window_frame.specs.FrameRefusals.{frame_refusals}
 use Rattle.desk_toolbox.specs.Ordered.{AreInOrder}
@@ -17,6 +23,26 @@ frame_reasons_in_order (Hilite h) desk = refl
 frame_reasons_in_order (TrackGoAway g) desk = refl
 frame_reasons_in_order (StepGoAway p) desk = refl
 frame_reasons_in_order (EndGoAway p) desk = refl
+
+pub menu_reasons_in_order : (call : MenuCall) (menus : MenusState) → AreInOrder (menu_refusals call menus)
+menu_reasons_in_order (New n) menus = refl
+menu_reasons_in_order (Append a) menus = refl
+menu_reasons_in_order (SetItem t) menus = refl
+menu_reasons_in_order (Insert i) menus = refl
+menu_reasons_in_order (Delete id) menus = refl
+menu_reasons_in_order (Dispose id) menus = refl
+menu_reasons_in_order (Enable i) menus = refl
+menu_reasons_in_order (Disable i) menus = refl
+menu_reasons_in_order (Check c) menus = refl
+menu_reasons_in_order (Down p) menus = refl
+menu_reasons_in_order (Move p) menus = refl
+menu_reasons_in_order (Up p) menus = refl
+menu_reasons_in_order (Key k) menus = refl
+menu_reasons_in_order (Hilite id) menus = refl
+
+-- what is judged of a new menu whatever is open, what is open, and the rest
+pub menu_form_in_order : (n : NewMenu) (slots : List MenuSlot) (busy missing : Bool) → AreInOrder (menu_form_refusals (New n) slots ++ (busy, Busy) ∷ (missing, NoSuchMenu) ∷ [])
+menu_form_in_order n slots busy missing = refl
 
 -- ---- what is told comes first
 

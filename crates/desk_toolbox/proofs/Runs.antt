@@ -8,6 +8,8 @@ use Rattle.desk_call.specs.declared.event.EventCall.{EventCall}
 use Rattle.desk_call.specs.declared.event.EventReply.{EventReply}
 use Rattle.desk_call.specs.declared.frame.FrameCall.{FrameCall}
 use Rattle.desk_call.specs.declared.frame.FrameReply.{FrameReply}
+use Rattle.desk_call.specs.declared.menu.MenuCall.{MenuCall}
+use Rattle.desk_call.specs.declared.menu.MenuReply.{MenuReply}
 use Rattle.desk_call.specs.declared.update.UpdateCall.{UpdateCall}
 use Rattle.desk_call.specs.declared.window.WindowCall.{WindowCall}
 use Rattle.desk_call.specs.declared.window.WindowReply.{WindowReply}
@@ -24,7 +26,6 @@ use Rattle.window_mgr.proofs.KeptKinds.{kinds_of}
 use Rattle.window_mgr.proofs.Running as windowing
 use Rattle.window_mgr.proofs.Running.{unchanged_stays_right}
 use Rattle.desk_call.specs.declared.call.Call.{Call}
-use Rattle.desk_call.specs.declared.call.Call.TheVariants.{Window, Update, Frame, Event}
 use Rattle.desk_call.specs.declared.call.Reply.{Reply}
 use Rattle.desk_call.specs.declared.call.Reply.TheVariants as reply
 use Rattle.desk_call.specs.Gates.{gate, standing_of, window_standing}
@@ -34,8 +35,10 @@ use Rattle.window_update.specs.UpdateSteps.{IsUpdateStep, IsToldOf}
 use Rattle.window_frame.specs.FrameSteps.{IsFrameStep}
 use Rattle.window_frame.proofs.FrameKeeps.{caught_up_keeps, frame_keeps}
 use Rattle.window_frame.proofs.FrameLaws.{caught_up_stays_right, frame_stays_right}
-use Rattle.desk_toolbox.specs.ToolboxStates.{ToolboxState}
-use Rattle.desk_toolbox.specs.Run.{IsWindowAnswer, IsWindowMade, IsEventAnswer, IsAdmitted, replied, IsGated, IsStep, IsRunOfCalls, serial_made, made, AreCounted}
+use Rattle.menu_mgr.specs.MenuSteps.{IsMenuStep}
+use Rattle.menu_mgr.proofs.MenuKeeps.{menu_keeps, menu_stays_right}
+use Rattle.desk_toolbox.specs.ToolboxStates.{ToolboxState, with_menus}
+use Rattle.desk_toolbox.specs.Run.{IsWindowAnswer, IsWindowMade, IsEventAnswer, IsAdmitted, replied, IsStep, IsRunOfCalls, serial_made, made, AreCounted}
 use Rattle.window_update.proofs.ServedLaws.{all_served_is_right}
 use Rattle.window_update.proofs.UpdateLaws.{update_stays_right}
 use Rattle.desk_toolbox.proofs.EachManager.{HoldsOfEach, of_admitted, of_step}
@@ -65,9 +68,11 @@ StaysRight call answer before after = IsRightState before.desk.windows → IsRig
 each_stays_right : HoldsOfEach StaysRight
 each_stays_right = record {
   unchanged = λ call e before after same right. unchanged_desk_stays_right before after right same.desk;
+  covered = λ p before after same right. unchanged_desk_stays_right before after right same.desk;
   window = λ call answer before after may step right. window_stays_right call answer before after right step;
-  update = λ call answer before after may step events right. update_stays_right call answer before.desk after.desk right step;
-  frame = λ call answer before after may step events right. frame_stays_right call answer before.desk after.desk right step;
+  update = λ call answer before after may step events menus right. update_stays_right call answer before.desk after.desk right step;
+  frame = λ call answer before after may step events menus right. frame_stays_right call answer before.desk after.desk right step;
+  menu = λ call answer before after may step events right. menu_stays_right call answer (with_menus before) (with_menus after) right step;
   event = λ call answer before after step right. event_stays_right call answer before after right step;
 }
 
@@ -97,9 +102,11 @@ KeepsKinds call answer before after = kinds_of after.desk.windows ≡ kinds_of b
 each_keeps_kinds : HoldsOfEach KeepsKinds
 each_keeps_kinds = record {
   unchanged = λ call e before after same. same_kinds before.desk.windows after.desk.windows same.desk.windows.desk;
+  covered = λ p before after same. same_kinds before.desk.windows after.desk.windows same.desk.windows.desk;
   window = λ call answer before after may step. window_keeps_kinds call answer before after step;
-  update = λ call answer before after may step events. same_kinds before.desk.windows after.desk.windows (update_keeps_desk call answer before.desk after.desk step);
-  frame = λ call answer before after may step events. frame_keeps (λ d. map (λ slot. slot.kind) d.stock) (λ d ws. refl) call answer before.desk after.desk step;
+  update = λ call answer before after may step events menus. same_kinds before.desk.windows after.desk.windows (update_keeps_desk call answer before.desk after.desk step);
+  frame = λ call answer before after may step events menus. frame_keeps (λ d. map (λ slot. slot.kind) d.stock) (λ d ws. refl) call answer before.desk after.desk step;
+  menu = λ call answer before after may step events. menu_keeps (λ d. map (λ slot. slot.kind) d.stock) (λ d titles. refl) call answer (with_menus before) (with_menus after) step;
   event = λ call answer before after step. same_kinds before.desk.windows after.desk.windows step.0.windows.desk;
 }
 
@@ -234,6 +241,7 @@ answer_is_counted (Some set) call answer before after numbers step h =
 abbrev made_by : Result Reply Refusal → List ℕ
 made_by (Ok (reply.Window answer)) = serial_made answer
 made_by (Ok (reply.Frame answer)) = []
+made_by (Ok (reply.Menu answer)) = []
 made_by (Ok (reply.Event answer)) = []
 made_by (Err e) = []
 
@@ -260,6 +268,10 @@ event_is_counted : (call : EventCall) (answer : Result EventReply Refusal) (befo
 event_is_counted call (Ok answer) before after numbers step h = counted_on before.desk.windows after.desk.windows numbers step.0.windows h
 event_is_counted call (Err e) before after numbers step h = counted_on before.desk.windows after.desk.windows numbers step.0.windows h
 
+menu_is_counted : (call : MenuCall) (answer : Result MenuReply Refusal) (before after : ToolboxState) (numbers : List ℕ) → IsMenuStep call answer (with_menus before) (with_menus after) → AreCounted after.desk.windows.desk.next numbers → AreCounted before.desk.windows.desk.next (made_by (replied reply.Menu answer) ++ numbers)
+menu_is_counted call (Ok answer) before after numbers step h = next_counted before.desk.windows after.desk.windows numbers (menu_keeps (λ d. d.next) (λ d titles. refl) call (Ok answer) (with_menus before) (with_menus after) step) h
+menu_is_counted call (Err e) before after numbers step h = next_counted before.desk.windows after.desk.windows numbers (menu_keeps (λ d. d.next) (λ d titles. refl) call (Err e) (with_menus before) (with_menus after) step) h
+
 -- the numbers of what this was answered follow, in front of others
 abbrev GoesOnCounting : Call → Result Reply Refusal → ToolboxState → ToolboxState → Type 0
 GoesOnCounting call answer before after = (numbers : List ℕ) → AreCounted after.desk.windows.desk.next numbers → AreCounted before.desk.windows.desk.next (made_by answer ++ numbers)
@@ -267,15 +279,18 @@ GoesOnCounting call answer before after = (numbers : List ℕ) → AreCounted af
 each_is_counted : HoldsOfEach GoesOnCounting
 each_is_counted = record {
   unchanged = λ call e before after same numbers h. counted_on before.desk.windows after.desk.windows numbers same.desk.windows h;
+  covered = λ p before after same numbers h. counted_on before.desk.windows after.desk.windows numbers same.desk.windows h;
   window = λ call answer before after may step numbers h. window_is_counted call answer before after numbers step h;
-  update = λ call answer before after may step events numbers h. update_is_counted call answer before.desk after.desk numbers step h;
-  frame = λ call answer before after may step events numbers h. frame_is_counted call answer before.desk after.desk numbers step h;
+  update = λ call answer before after may step events menus numbers h. update_is_counted call answer before.desk after.desk numbers step h;
+  frame = λ call answer before after may step events menus numbers h. frame_is_counted call answer before.desk after.desk numbers step h;
+  menu = λ call answer before after may step events numbers h. menu_is_counted call answer before after numbers step h;
   event = λ call answer before after step numbers h. event_is_counted call answer before after numbers step h;
 }
 
 made_first : (answer : Result Reply Refusal) (answers : List (Result Reply Refusal)) → made_by answer ++ made answers ≡ made (answer ∷ answers)
 made_first (Ok (reply.Window answer)) answers = refl
 made_first (Ok (reply.Frame answer)) answers = refl
+made_first (Ok (reply.Menu answer)) answers = refl
 made_first (Ok (reply.Event answer)) answers = refl
 made_first (Err e) answers = refl
 

@@ -1,5 +1,5 @@
 -- Whatever a call does, the screen keeps its sides.
-use Rattle.std.proofs.Common.{◌≡◌, ℕ, ℤ, pos, List, Result, Ok, Err, sym, ap, ◌∙◌, nat_abs}
+use Rattle.std.proofs.Common.{◌≡◌, ℕ, ℤ, pos, List, Result, refl, sym, ap, ◌∙◌, nat_abs}
 use Rattle.tb_geom.specs.declared.refusal.Refusal.{Refusal}
 use Rattle.desk_call.specs.declared.window.WindowCall.{WindowCall}
 use Rattle.desk_call.specs.declared.window.WindowReply.{WindowReply}
@@ -8,29 +8,18 @@ use Rattle.def_iface.specs.Meaning.{Loan}
 use Rattle.def_iface.specs.Stocked.{SlotView}
 use Rattle.window_mgr.specs.declared.manager.WindowManager.{WindowManager}
 use Rattle.window_mgr.specs.Begin.{IsEmptyDesk}
-use Rattle.window_mgr.specs.Records.{desk_of}
 use Rattle.window_update.specs.declared.updates.Updates.{Updates}
-use Rattle.window_mgr.proofs.ScreenSides.{SameSides, equal_sides}
+use Rattle.window_mgr.proofs.ScreenSides.{SameSides}
 use Rattle.window_update.specs.WholeUpdates.{IsWholeUpdates}
 use Rattle.window_mgr.specs.FullDesk.{FullDesk, FullState}
 use Rattle.window_mgr.specs.Step.{IsWindowStep}
-use Rattle.window_mgr.specs.Effects.{Effect, IsEffect, effect_of}
-use Rattle.window_mgr.specs.Effects.Effect.{Makes, Disposes, Draws, Pictures, Scrolls, Arranges, Places, Tells, Describes}
-
-effect_keeps_sides : (effect : Effect) (answer : WindowReply) (before after : FullState) → IsEffect effect answer before after → SameSides before.desk after.desk
-effect_keeps_sides (Makes w) answer before after (n, is, new) = record { width = ap (λ (d : FullDesk). d.width) new.desk; height = ap (λ (d : FullDesk). d.height) new.desk }
-effect_keeps_sides (Draws d) answer before after (is, drawn) = record { width = ap (λ (d : FullDesk). d.width) drawn.desk; height = ap (λ (d : FullDesk). d.height) drawn.desk }
-effect_keeps_sides (Pictures n) answer before after (is, placed) = record { width = ap (λ (d : FullDesk). d.width) placed.desk; height = ap (λ (d : FullDesk). d.height) placed.desk }
-effect_keeps_sides (Scrolls m) answer before after (is, scrolled) = record { width = ap (λ (d : FullDesk). d.width) scrolled.desk; height = ap (λ (d : FullDesk). d.height) scrolled.desk }
-effect_keeps_sides (Arranges a) answer before after (is, arranged) = record { width = ap (λ (d : FullDesk). d.width) arranged.desk; height = ap (λ (d : FullDesk). d.height) arranged.desk }
-effect_keeps_sides (Disposes s) answer before after (is, closed) = record { width = ap (λ (d : FullDesk). d.width) closed.desk; height = ap (λ (d : FullDesk). d.height) closed.desk }
-effect_keeps_sides (Places p) answer before after (is, change) = record { width = ap (λ (d : FullDesk). d.width) change.arranged.desk; height = ap (λ (d : FullDesk). d.height) change.arranged.desk }
-effect_keeps_sides (Tells r) answer before after (is, same) = equal_sides before.desk after.desk same.desk
-effect_keeps_sides (Describes region) answer before after (is, same) = equal_sides before.desk after.desk same.desk
+use Rattle.desk_toolbox.proofs.KeptDesks.{window_keeps}
 
 pub step_keeps_sides : (call : WindowCall) (answer : Result WindowReply Refusal) (before after : FullState) → IsWindowStep call answer before after → SameSides before.desk after.desk
-step_keeps_sides call (Ok answer) before after step = effect_keeps_sides (effect_of call before.desk) answer before after step.1
-step_keeps_sides call (Err e) before after step = equal_sides before.desk after.desk step.1.desk
+step_keeps_sides call answer before after step = record {
+  width = window_keeps (λ d. d.width) (λ d ws active next stock. refl) call answer before after step;
+  height = window_keeps (λ d. d.height) (λ d ws active next stock. refl) call answer before after step;
+}
 
 -- ---- what is kept of updates
 

@@ -3,9 +3,9 @@ use Rattle.std.proofs.Common.{◌≡◌, ℕ, List, Option, None, Some, Result, 
 use Rattle.tb_geom.specs.declared.refusal.Refusal.{Refusal}
 use Rattle.tb_geom.specs.Points.{PixelSet}
 use Rattle.desk_call.specs.declared.activity.Activity.{Activity}
-use Rattle.desk_call.specs.declared.activity.Activity.TheVariants.{Idle, Updating, Tracking}
+use Rattle.desk_call.specs.declared.activity.Activity.TheVariants.{Idle, Updating, Tracking, Pulling}
 use Rattle.desk_call.specs.declared.activity.Standing.{Standing}
-use Rattle.desk_call.specs.declared.activity.Standing.TheVariants.{Asks, Updates, Tracks, Changes}
+use Rattle.desk_call.specs.declared.activity.Standing.TheVariants.{Asks, Updates, Tracks, Pulls, Changes}
 use Rattle.desk_call.specs.declared.event.EventCall.{EventCall}
 use Rattle.desk_call.specs.declared.event.EventReply.{EventReply}
 use Rattle.desk_call.specs.declared.window.WindowCall.{WindowCall}
@@ -17,16 +17,20 @@ use Rattle.vis_update.specs.Touches.{is_this}
 use Rattle.window_mgr.specs.Effects.{IsEffect, effect_of}
 use Rattle.window_mgr.specs.FullDesk.{FullDesk, FullState, IsRightState}
 use Rattle.window_mgr.specs.DeskStates.{DeskState, narrowed}
+use Rattle.menu_list.specs.Lists.{titles_of}
+use Rattle.menu_mgr.specs.MenuDesks.{IsBarOf, MenusState}
 use Rattle.window_frame.specs.Followers.{AreInformed, IsCaughtUpBy}
 use Rattle.window_frame.proofs.FrameKeeps.{caught_up_keeps}
 use Rattle.desk_toolbox.specs.declared.events.Events.{Events}
 use Rattle.desk_toolbox.specs.Activations.{to_dispose}
 use Rattle.desk_toolbox.specs.EventSteps.{event_step}
-use Rattle.desk_toolbox.specs.Reached.{IsThere, IsConsistent, open_window}
+use Rattle.desk_toolbox.specs.Reached.{AreApart, IsThere, IsConsistent, open_window}
 use Rattle.desk_toolbox.specs.Run.{IsWindowAnswer, IsWindowMade, IsEventAnswer}
 use Rattle.desk_toolbox.specs.ToolboxStates.{ToolboxState}
+use Rattle.desk_toolbox.proofs.PulledMenus.{IsPullRight, same_pull}
 use Rattle.desk_toolbox.proofs.Totals.{total, Present, present_when, found_counts, counted_is_found}
 use Rattle.desk_toolbox.proofs.Recounts.{done_counts, done_keeps_active}
+use Rattle.desk_toolbox.proofs.KeptDesks.{made_keeps}
 use Rattle.desk_toolbox.proofs.StepCounts.{Apart, caught_up_counts, caught_up_total, window_recounts, stays_present}
 use Rattle.desk_toolbox.proofs.Told.{ArePosted, step_are_posted}
 use Rattle.desk_toolbox.proofs.Telling.{step_told_present, left_after, forgotten_present}
@@ -40,6 +44,9 @@ pub record Stands (s : ToolboxState) : Type 0 where
   pub queued : ArePosted s.events.queue.events
   pub informed : AreInformed s.desk.windows.desk.windows
   pub tracked : total (misled s.desk.activity) s.desk.windows.desk.windows ≡ 0
+  pub bar : IsBarOf s.menus s.desk.windows.desk
+  pub apart : AreApart s.menus.menus
+  pub pull : IsPullRight s.desk.activity s.menus
 
 there_is_present : (o : Option ℕ) (ws : List WindowRecord) → IsThere o ws → Present o ws
 there_is_present None ws h = tt
@@ -58,6 +65,9 @@ stands s h = record {
   queued = h.queued;
   informed = h.informed;
   tracked = none_misled s.desk.activity s.desk.windows.desk.windows h.tracked;
+  bar = h.bar;
+  apart = h.apart;
+  pull = record { pulled = h.pulled; lit = h.lit };
 }
 
 pub consistent : (s : ToolboxState) → Stands s → IsConsistent s
@@ -69,11 +79,23 @@ consistent s h = record {
   queued = h.queued;
   informed = h.informed;
   tracked = all_heard_rightly s.desk.activity s.desk.windows.desk.windows h.tracked;
+  bar = h.bar;
+  apart = h.apart;
+  pulled = h.pull.pulled;
+  lit = h.pull.lit;
 }
+
+-- the menu bar has the same titles, and they are those of the same menus
+pub bar_stays : (before after : ToolboxState) → after.desk.windows.desk.bar.titles ≡ before.desk.windows.desk.bar.titles → after.menus ≡ before.menus → IsBarOf before.menus before.desk.windows.desk → IsBarOf after.menus after.desk.windows.desk
+bar_stays before after titles menus was = titles ∙ was ∙ sym (ap (λ (m : MenusState). titles_of m.highlighted m.menus) menus)
+
+-- the menus are the same
+pub apart_stays : (before after : ToolboxState) → after.menus ≡ before.menus → AreApart before.menus.menus → AreApart after.menus.menus
+apart_stays before after menus was = subst (λ (m : MenusState). AreApart m.menus) (sym menus) was
 
 -- ---- where the desk and what is open did not change
 
-module _ (before after : ToolboxState) (desk : after.desk.windows.desk ≡ before.desk.windows.desk) (activity : after.desk.activity ≡ before.desk.activity) where
+module _ (before after : ToolboxState) (desk : after.desk.windows.desk ≡ before.desk.windows.desk) (activity : after.desk.activity ≡ before.desk.activity) (menus : after.menus ≡ before.menus) where
   pub stands_on : Stands before → IsRightState after.desk.windows → Present after.events.told before.desk.windows.desk.windows → ArePosted after.events.queue.events → Stands after
   stands_on was right told queued = record {
     right = right;
@@ -83,6 +105,9 @@ module _ (before after : ToolboxState) (desk : after.desk.windows.desk ≡ befor
     queued = queued;
     informed = subst (λ (d : FullDesk). AreInformed d.windows) (sym desk) was.informed;
     tracked = ap (λ (d : FullDesk). total (misled after.desk.activity) d.windows) desk ∙ ap (λ a. total (misled a) before.desk.windows.desk.windows) activity ∙ was.tracked;
+    bar = bar_stays before after (ap (λ (d : FullDesk). d.bar.titles) desk) menus was.bar;
+    apart = apart_stays before after menus was.apart;
+    pull = same_pull before.desk.activity after.desk.activity before.menus after.menus activity menus was.pull;
   }
 
   pub stands_still : after.events ≡ before.events → Stands before → IsRightState after.desk.windows → Stands after
@@ -93,10 +118,10 @@ module _ (before after : ToolboxState) (desk : after.desk.windows.desk ≡ befor
 -- ---- calls about events
 
 pub event_stands : (call : EventCall) (answer : Result EventReply Refusal) (before after : ToolboxState) → Stands before → IsRightState after.desk.windows → IsEventAnswer call answer before after → Stands after
-event_stands call answer before after was right (same, (update, first, is)) =
+event_stands call answer before after was right (same, menus, (update, first, is)) =
     let active = before.desk.windows.desk.active in
     let events : after.events ≡ (event_step call active update before.events).1 = ap (λ (x : Result EventReply Refusal × Events). x.1) is in
-    stands_on before after same.windows.desk same.activity was right
+    stands_on before after same.windows.desk same.activity menus was right
     (subst (λ (e : Events). Present e.told before.desk.windows.desk.windows) (sym events) (step_told_present call active update before.events before.desk.windows.desk.windows was.told was.active))
     (subst (λ (e : Events). ArePosted e.queue.events) (sym events) (step_are_posted call active update before.events was.queued))
 
@@ -107,6 +132,7 @@ pub idle_now : (activity : Activity) → gate activity Changes ≡ None → acti
 idle_now Idle e = refl
 idle_now (Updating s) e = absurd (cc)
 idle_now (Tracking s) e = absurd (cc)
+idle_now (Pulling m) e = absurd (cc)
 
 -- no window is disposed of while something of it is open
 apart_open : (call : WindowCall) (activity : Activity) → gate activity (window_standing call) ≡ None → Apart (to_dispose call) (open_window activity)
@@ -144,10 +170,11 @@ caught_up_informs : (standing : Standing) (first before after : FullState) → I
 caught_up_informs Asks first before after same kept was = subst (λ (d : FullDesk). AreInformed d.windows) (sym (ap (λ (s : FullState). s.desk) same ∙ kept refl)) was
 caught_up_informs (Updates s) first before after (ts, told, informed) kept was = informed
 caught_up_informs Tracks first before after (ts, told, informed) kept was = informed
+caught_up_informs Pulls first before after (ts, told, informed) kept was = informed
 caught_up_informs Changes first before after (ts, told, informed) kept was = informed
 
 done_stands : (call : WindowCall) (answer : WindowReply) (before after : ToolboxState) → gate before.desk.activity (window_standing call) ≡ None → Stands before → IsRightState after.desk.windows → IsWindowMade call (Ok answer) before after → Stands after
-done_stands call answer before after may was right ((middle, answered, (same, told)), events) =
+done_stands call answer before after may was right ((middle, answered, (same, told)), (events, menus)) =
     let asked = narrowed call before.desk.activity before.desk.begun in
     let was_desk = before.desk.windows.desk in
     let desk = after.desk.windows.desk in
@@ -172,6 +199,9 @@ done_stands call answer before after may was right ((middle, answered, (same, to
           ap (λ a. total (misled a) desk.windows) activity
           ∙ caught_up_total (misled before.desk.activity) (window_standing call) middle.windows after.desk.windows told
           ∙ answer_misleads_none asked call answer before.desk.activity before.desk middle answered was.tracked;
+      bar = bar_stays before after (made_keeps (λ d. d.bar.titles) (λ d ws active next stock. refl) call (Ok answer) before after ((middle, answered, (same, told)), (events, menus))) menus was.bar;
+      apart = apart_stays before after menus was.apart;
+      pull = same_pull before.desk.activity after.desk.activity before.menus after.menus activity menus was.pull;
     }
 
 pub refused_keeps_desk : (asked : Option PixelSet) (call : WindowCall) (e : Refusal) (before after : DeskState) → IsWindowAnswer asked call (Err e) before after → after.windows.desk ≡ before.windows.desk
@@ -180,6 +210,6 @@ refused_keeps_desk (Some set) call e before after step = step.1.windows.desk
 
 pub window_stands : (call : WindowCall) (answer : Result WindowReply Refusal) (before after : ToolboxState) → gate before.desk.activity (window_standing call) ≡ None → Stands before → IsRightState after.desk.windows → IsWindowMade call answer before after → Stands after
 window_stands call (Ok answer) before after may was right made = done_stands call answer before after may was right made
-window_stands call (Err e) before after may was right (answered, events) =
+window_stands call (Err e) before after may was right (answered, (events, menus)) =
     let asked = narrowed call before.desk.activity before.desk.begun in
-    stands_still before after (refused_keeps_desk asked call e before.desk after.desk answered) (answer_keeps_activity asked call (Err e) before.desk after.desk answered) events was right
+    stands_still before after (refused_keeps_desk asked call e before.desk after.desk answered) (answer_keeps_activity asked call (Err e) before.desk after.desk answered) menus events was right

@@ -7,7 +7,7 @@ use Rattle.tb_geom.specs.declared.refusal.Refusal.TheVariants.{NoSuchWindow, Out
 use Rattle.tb_geom.specs.Rects.{in_plane}
 use Rattle.def_iface.specs.News.{News, told_title, told_highlighted, told_tracked}
 use Rattle.desk_call.specs.declared.activity.Activity.{Activity}
-use Rattle.desk_call.specs.declared.activity.Activity.TheVariants.{Idle, Updating, Tracking}
+use Rattle.desk_call.specs.declared.activity.Activity.TheVariants.{Idle, Updating, Tracking, Pulling}
 use Rattle.desk_call.specs.declared.activity.Standing.TheVariants.{Updates}
 use Rattle.desk_call.specs.declared.frame.FrameCall.{FrameCall}
 use Rattle.desk_call.specs.declared.frame.FrameCall.TheVariants.{SetTitle, Hilite, TrackGoAway, StepGoAway, EndGoAway}
@@ -39,7 +39,9 @@ use Rattle.desk_toolbox.proofs.Totals.{total, copies, Present, present_when, fou
 use Rattle.desk_toolbox.proofs.StepCounts.{frame_counts, told_total}
 use Rattle.desk_toolbox.proofs.Told.{ArePosted}
 use Rattle.desk_toolbox.proofs.Tracked.{misled, tracking_told, tracking_begins, tracking_ends}
-use Rattle.desk_toolbox.proofs.Stands.{Stands, stands_still, idle_now}
+use Rattle.desk_toolbox.proofs.MenusBeside.{update_comes_then, frame_comes_then, update_pulls_none, frame_pulls_none}
+use Rattle.desk_toolbox.proofs.PulledMenus.{IsPullRight, still_unpulled}
+use Rattle.desk_toolbox.proofs.Stands.{Stands, apart_stays, bar_stays, stands_still, idle_now}
 
 -- where the first reason for a refusal does not hold
 not_refused : (b : Bool) (e : Refusal) (more : List (Bool × Refusal)) → first_refusal ((b, e) ∷ more) ≡ None → b ≡ false
@@ -63,6 +65,7 @@ ended : (activity : Activity) (s : ℕ) (ws : List WindowRecord) → gate activi
 ended Idle s ws e none = none
 ended (Updating t) s ws e none = none
 ended (Tracking t) s ws e none = absurd (cc)
+ended (Pulling m) s ws e none = absurd (cc)
 
 update_misleads_none : (call : UpdateCall) (before after : DeskState) → gate before.activity (update_standing call) ≡ None → IsUpdateEffect call before after → total (misled before.activity) before.windows.desk.windows ≡ 0 → total (misled after.activity) before.windows.desk.windows ≡ 0
 update_misleads_none (update.Invalidate m) before after may (same, marked) none = ap (λ a. total (misled a) before.windows.desk.windows) same.activity ∙ none
@@ -75,8 +78,8 @@ update_misleads_none (update.End s) before after may (idle, same) none =
 update_misleads_none (update.Serve s) before after may (idle, drawn) none =
     ap (λ a. total (misled a) before.windows.desk.windows) idle ∙ sym (ap (λ a. total (misled a) before.windows.desk.windows) (idle_now before.activity may)) ∙ none
 
-pub update_stands : (call : UpdateCall) (answer : Result WindowReply Refusal) (before after : ToolboxState) → gate before.desk.activity (update_standing call) ≡ None → Stands before → IsRightState after.desk.windows → IsUpdateStep call answer before.desk after.desk → after.events ≡ before.events → Stands after
-update_stands call (Ok answer) before after may was right step events =
+pub update_stands : (call : UpdateCall) (answer : Result WindowReply Refusal) (before after : ToolboxState) → gate before.desk.activity (update_standing call) ≡ None → Stands before → IsRightState after.desk.windows → IsUpdateStep call answer before.desk after.desk → after.events ≡ before.events → after.menus ≡ before.menus → Stands after
+update_stands call (Ok answer) before after may was right step events menus =
     let ws = before.desk.windows.desk.windows in
     let desk = update_keeps_desk call (Ok answer) before.desk after.desk step in
     let none = update_misleads_none call before.desk after.desk may step.1.1 was.tracked in
@@ -88,8 +91,14 @@ update_stands call (Ok answer) before after may was right step events =
       queued = subst (λ (e : Events). ArePosted e.queue.events) (sym events) was.queued;
       informed = subst (λ (d : FullDesk). AreInformed d.windows) (sym desk) was.informed;
       tracked = ap (λ (d : FullDesk). total (misled after.desk.activity) d.windows) desk ∙ none;
+      bar = bar_stays before after (ap (λ (d : FullDesk). d.bar.titles) desk) menus was.bar;
+      apart = apart_stays before after menus was.apart;
+      pull =
+          subst (IsPullRight after.desk.activity) (sym menus)
+          (still_unpulled before.desk.activity after.desk.activity before.menus (update_comes_then call before.desk.activity may)
+          (update_pulls_none call (Ok answer) before.desk after.desk may step) was.pull);
     }
-update_stands call (Err e) before after may was right step events = stands_still before after step.1.windows.desk step.1.activity events was right
+update_stands call (Err e) before after may was right step events menus = stands_still before after step.1.windows.desk step.1.activity menus events was right
 
 -- ---- calls about frames
 
@@ -179,8 +188,8 @@ frame_misleads_none (TrackGoAway g) Done before after may right wrong none = abs
 frame_misleads_none (StepGoAway p) Done before after may right wrong none = absurd wrong
 frame_misleads_none (EndGoAway p) Done before after may right wrong none = absurd wrong
 
-pub frame_stands : (call : FrameCall) (answer : Result FrameReply Refusal) (before after : ToolboxState) → gate before.desk.activity (frame_standing call) ≡ None → Stands before → IsRightState after.desk.windows → IsFrameStep call answer before.desk after.desk → after.events ≡ before.events → Stands after
-frame_stands call (Ok answer) before after may was right step events =
+pub frame_stands : (call : FrameCall) (answer : Result FrameReply Refusal) (before after : ToolboxState) → gate before.desk.activity (frame_standing call) ≡ None → Stands before → IsRightState after.desk.windows → IsFrameStep call answer before.desk after.desk → after.events ≡ before.events → after.menus ≡ before.menus → Stands after
+frame_stands call (Ok answer) before after may was right step events menus =
     let was_ws = before.desk.windows.desk.windows in
     let ws = after.desk.windows.desk.windows in
     let counts = frame_counts call (Ok answer) before.desk after.desk step in
@@ -194,5 +203,11 @@ frame_stands call (Ok answer) before after may was right step events =
       queued = subst (λ (e : Events). ArePosted e.queue.events) (sym events) was.queued;
       informed = frame_informs call answer before.desk after.desk step.1 was.informed;
       tracked = frame_misleads_none call answer before.desk after.desk may was.right step.1 was.tracked;
+      bar = bar_stays before after (frame_keeps (λ d. d.bar.titles) (λ d ws. refl) call (Ok answer) before.desk after.desk step) menus was.bar;
+      apart = apart_stays before after menus was.apart;
+      pull =
+          subst (IsPullRight after.desk.activity) (sym menus)
+          (still_unpulled before.desk.activity after.desk.activity before.menus (frame_comes_then call before.desk.activity may)
+          (frame_pulls_none call (Ok answer) before.desk after.desk may step) was.pull);
     }
-frame_stands call (Err e) before after may was right step events = stands_still before after step.1.windows.desk step.1.activity events was right
+frame_stands call (Err e) before after may was right step events menus = stands_still before after step.1.windows.desk step.1.activity menus events was right

@@ -6,11 +6,13 @@ use Rattle.tb_geom.specs.Points.{PixelSet}
 use Rattle.def_iface.specs.News.{News, told_title, told_highlighted, told_tracked}
 use Rattle.desk_call.specs.declared.activity.Activity.{Activity}
 use Rattle.desk_call.specs.declared.activity.Standing.{Standing}
-use Rattle.desk_call.specs.declared.activity.Standing.TheVariants.{Asks, Updates, Tracks, Changes}
+use Rattle.desk_call.specs.declared.activity.Standing.TheVariants.{Asks, Updates, Tracks, Pulls, Changes}
 use Rattle.desk_call.specs.declared.frame.FrameCall.{FrameCall}
 use Rattle.desk_call.specs.declared.frame.FrameCall.TheVariants.{SetTitle, Hilite, TrackGoAway, StepGoAway, EndGoAway}
 use Rattle.desk_call.specs.declared.frame.FrameReply.{FrameReply}
 use Rattle.desk_call.specs.declared.frame.FrameReply.TheVariants.{Done, Tracked}
+use Rattle.desk_call.specs.declared.menu.MenuCall.{MenuCall}
+use Rattle.desk_call.specs.declared.menu.MenuReply.{MenuReply}
 use Rattle.desk_call.specs.declared.window.WindowCall.{WindowCall}
 use Rattle.desk_call.specs.declared.window.WindowCall.TheVariants as asks
 use Rattle.desk_call.specs.declared.window.WindowReply.{WindowReply}
@@ -29,6 +31,9 @@ use Rattle.window_frame.specs.Followers.{Flag, Telling, AreNotified, IsCaughtUpB
 use Rattle.window_frame.specs.Followers.Flag.{Highlighting, Zooming}
 use Rattle.window_frame.proofs.FrameKeeps.{caught_up_keeps}
 use Rattle.window_frame.specs.FrameSteps.{IsFrameStep, IsFrameEffect, IsBegunAt, IsTrackingNotified, with_flag, with_title, with_tracked}
+use Rattle.menu_mgr.specs.MenuDesks.{MenuDesk}
+use Rattle.menu_mgr.specs.MenuSteps.{IsMenuStep}
+use Rattle.menu_mgr.proofs.MenuKeeps.{menu_keeps}
 use Rattle.desk_toolbox.specs.Activations.{to_dispose}
 use Rattle.desk_toolbox.specs.Run.{IsWindowAnswer}
 use Rattle.desk_toolbox.proofs.Totals.{Weight, weight_of, total, counting, copies, Present, total_changed, present_when, found_counts, distinct_counts, serial_of_counted}
@@ -87,6 +92,7 @@ module _ (g : Weight) where
   caught_up_total Asks before after same = ap (λ (s : FullState). total g s.desk.windows) same
   caught_up_total (Updates s) before after (ss, told, informed) = are_told_total ss before after told
   caught_up_total Tracks before after (ss, told, informed) = are_told_total ss before after told
+  caught_up_total Pulls before after (ss, told, informed) = are_told_total ss before after told
   caught_up_total Changes before after (ss, told, informed) = are_told_total ss before after told
 
 pub caught_up_counts : (standing : Standing) (before after : FullState) → IsCaughtUpBy standing before after → HasSame before.desk after.desk
@@ -126,6 +132,14 @@ effect_counts (EndGoAway p) Done before after wrong = absurd wrong
 pub frame_counts : (call : FrameCall) (answer : Result FrameReply Refusal) (before after : DeskState) → IsFrameStep call answer before after → HasSame before.windows.desk after.windows.desk
 frame_counts call (Ok answer) before after step = effect_counts call answer before after step.1
 frame_counts call (Err e) before after step = same_desk before.windows.desk after.windows.desk step.1.windows.desk
+
+-- ---- calls about menus
+
+pub menu_counts : (call : MenuCall) (answer : Result MenuReply Refusal) (before after : MenuDesk) → IsMenuStep call answer before after → HasSame before.desk.windows.desk after.desk.windows.desk
+menu_counts call answer before after step = record {
+  next = menu_keeps (λ d. d.next) (λ d titles. refl) call answer before after step;
+  count = λ s. menu_keeps (λ d. copies s d.windows) (λ d titles. refl) call answer before after step;
+}
 
 -- ---- calls on windows
 

@@ -2,6 +2,7 @@
 -- each state that a run reaches, and that reasons to refuse stand in the written order.
 pub mod EventSteps
 pub mod ToolboxStates
+pub mod Fronts
 pub mod WholeToolbox
 pub mod Run
 pub mod Reached

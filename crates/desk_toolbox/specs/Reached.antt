@@ -1,14 +1,17 @@
 -- What holds of each state that a Toolbox reaches.
-use Rattle.std.specs.Prelude.{◌≡◌, ℕ, true, false, List, [], Option, None, Some, All}
+use Rattle.std.specs.Prelude.{◌≡◌, ℕ, ◌+◌, ◌≤◌, pos, true, false, if◌then◌else◌, List, [], ◌∷◌, Option, None, Some, All}
 use Rattle.std.specs.Option.{is_some}
 use Rattle.def_iface.specs.News.{AllNews}
+use Rattle.def_iface.specs.MenuMeaning.{MenuGoesBy}
 use Rattle.event_queue.specs.Events.{is_posted}
 use Rattle.desk_call.specs.declared.activity.Activity.{Activity}
-use Rattle.desk_call.specs.declared.activity.Activity.TheVariants.{Idle, Updating, Tracking}
+use Rattle.desk_call.specs.declared.activity.Activity.TheVariants.{Idle, Updating, Tracking, Pulling}
 use Rattle.vis_update.specs.Records.{WindowRecord}
 use Rattle.window_mgr.specs.FullDesk.{IsRightState}
 use Rattle.window_mgr.specs.Refused.{is_missing}
 use Rattle.window_frame.specs.Followers.{AreInformed}
+use Rattle.menu_list.specs.Lists.{has_number, is_in_bar}
+use Rattle.menu_mgr.specs.MenuDesks.{IsBarOf, MenuRecord, MenusState}
 use Rattle.desk_toolbox.specs.EventSteps.{first_events}
 use Rattle.desk_toolbox.specs.ToolboxStates.{ToolboxState}
 
@@ -22,14 +25,39 @@ abbrev pub open_window : Activity → Option ℕ
 open_window Idle = None
 open_window (Updating s) = Some s
 open_window (Tracking s) = Some s
+open_window (Pulling m) = None
 
 -- where the window's definition heard last that the go-away box is tracked, it is
 abbrev pub IsTrackedIfHeard : Activity → WindowRecord → Type 0
 IsTrackedIfHeard activity w = w.heard.tracked ≡ true → activity ≡ Tracking w.serial
 
+-- how many of the menus have this number
+abbrev pub numbered : ℕ → List MenuRecord → ℕ
+numbered id [] = 0
+numbered id (l ∷ ls) = (if has_number (pos id) l then 1 else 0) + numbered id ls
+
+-- no two menus have one number
+abbrev pub AreApart : List MenuRecord → Type 0
+AreApart menus = (id : ℕ) → numbered id menus ≤ 1
+
+-- the item of a menu that is highlighted, if one is: of the pulled menu alone
+abbrev pub highlighted_item : Activity → MenuRecord → Option ℕ
+highlighted_item (Pulling m) l = if has_number (pos m.menu) l then m.item else None
+highlighted_item _ l = None
+
+-- a menu's definition goes by that
+abbrev pub IsLit : Activity → MenuRecord → Type 0
+IsLit activity l = MenuGoesBy (highlighted_item activity l) l.definition.definition
+
+-- the menu that is pulled down is in the menu bar, and its title is the highlighted one
+abbrev pub IsPulledThere : Activity → MenusState → Type 0
+IsPulledThere (Pulling m) menus = (is_in_bar (pos m.menu) menus.menus ≡ true) × (menus.highlighted ≡ Some m.menu)
+IsPulledThere _ menus = Unit {0}
+
 -- a right state, in which the active window, the one last told active and that of what is open are windows of the desk, and
 -- only events of kinds that are posted are queued. Each window's definition knows how the window stands, and none heard last
--- that a go-away box is tracked which is not.
+-- that a go-away box is tracked which is not. The menu bar has the titles of the menus that are inserted, and no two menus have
+-- one number. The menu that is pulled down is there, and each menu's definition goes by which of its items is highlighted.
 pub record IsConsistent (s : ToolboxState) : Type 0 where
   pub right : IsRightState s.desk.windows
   pub active : IsThere s.desk.windows.desk.active s.desk.windows.desk.windows
@@ -38,13 +66,20 @@ pub record IsConsistent (s : ToolboxState) : Type 0 where
   pub queued : All (λ e. is_posted e.what ≡ true) s.events.queue.events
   pub informed : AreInformed s.desk.windows.desk.windows
   pub tracked : All (IsTrackedIfHeard s.desk.activity) s.desk.windows.desk.windows
+  pub bar : IsBarOf s.menus s.desk.windows.desk
+  pub apart : AreApart s.menus.menus
+  pub pulled : IsPulledThere s.desk.activity s.menus
+  pub lit : All (IsLit s.desk.activity) s.menus.menus
 
--- a right state of a desk that just began: it has no windows, and nothing is open, told or queued
+-- a right state of a desk that just began: it has no windows and no menus, and nothing is open, told or queued
 pub record IsJustBegun (s : ToolboxState) : Type 0 where
   pub right : IsRightState s.desk.windows
   pub windows : s.desk.windows.desk.windows ≡ []
   pub active : s.desk.windows.desk.active ≡ None
   pub idle : s.desk.activity ≡ Idle
+  pub titles : s.desk.windows.desk.bar.titles ≡ []
+  pub menus : s.menus.menus ≡ []
+  pub highlighted : s.menus.highlighted ≡ None
   pub events : s.events ≡ first_events
 
 -- all that there is to tell of a window, by how it stands, and by what its definition heard of its go-away box

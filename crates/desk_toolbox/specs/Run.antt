@@ -1,18 +1,22 @@
 -- A step of whichever manager, and a run of steps.
-use Rattle.std.specs.Prelude.{◌≡◌, ℕ, List, [], ◌∷◌, ◌++◌, Option, None, Some, Result, Ok, Err}
+use Rattle.std.specs.Prelude.{◌≡◌, ℕ, Bool, true, false, List, [], ◌∷◌, ◌++◌, Option, None, Some, Result, Ok, Err}
 use Rattle.std.specs.Option.{unwrap_or}
 use Rattle.tb_geom.specs.declared.refusal.Refusal.{Refusal}
 use Rattle.tb_geom.specs.Points.{PixelSet}
+use Rattle.tb_geom.specs.Refusals.{first_refusal}
 use Rattle.desk_call.specs.declared.call.Call.{Call}
-use Rattle.desk_call.specs.declared.call.Call.TheVariants.{Window, Update, Frame, Event}
+use Rattle.desk_call.specs.declared.call.Call.TheVariants.{Window, Update, Frame, Menu, Event}
 use Rattle.desk_call.specs.declared.call.Reply.{Reply}
 use Rattle.desk_call.specs.declared.call.Reply.TheVariants as reply
 use Rattle.desk_call.specs.declared.event.EventCall.{EventCall}
 use Rattle.desk_call.specs.declared.event.EventReply.{EventReply}
 use Rattle.desk_call.specs.declared.frame.FrameReply.{FrameReply}
+use Rattle.desk_call.specs.declared.menu.MenuReply.{MenuReply}
 use Rattle.desk_call.specs.declared.window.WindowCall.{WindowCall}
+use Rattle.desk_call.specs.declared.window.WindowCall.TheVariants.{Find}
 use Rattle.desk_call.specs.declared.window.WindowReply.{WindowReply}
-use Rattle.desk_call.specs.declared.window.WindowReply.TheVariants.{Made}
+use Rattle.desk_call.specs.declared.window.WindowReply.TheVariants.{Made, Found}
+use Rattle.desk_call.specs.declared.window.WindowPart.TheVariants.{InMenuBar}
 use Rattle.desk_call.specs.Gates.{gate, standing_of, window_standing}
 use Rattle.window_list.specs.Lists.{serial_after}
 use Rattle.window_mgr.specs.Refused.{IsFormRefusal}
@@ -23,8 +27,11 @@ use Rattle.window_update.specs.UpdateSteps.{IsUpdateStep, IsToldOf}
 use Rattle.window_update.specs.Waiting.{IsFirstToUpdate}
 use Rattle.window_frame.specs.Followers.{IsCaughtUpBy}
 use Rattle.window_frame.specs.FrameSteps.{IsFrameStep}
+use Rattle.menu_mgr.specs.MenuRefusals.{menu_form_refusals}
+use Rattle.menu_mgr.specs.MenuSteps.{IsMenuStep}
 use Rattle.desk_toolbox.specs.EventSteps.{event_step, events_left}
-use Rattle.desk_toolbox.specs.ToolboxStates.{ToolboxState, IsToolboxUnchanged}
+use Rattle.desk_toolbox.specs.Fronts.{is_on_menu}
+use Rattle.desk_toolbox.specs.ToolboxStates.{ToolboxState, IsToolboxUnchanged, with_menus}
 
 -- ---- one step
 
@@ -39,7 +46,7 @@ IsWindowAnswered call result before after = IsWindowAnswer (narrowed call before
 
 -- a call about events leaves the desk as it is, and its answer and the events that it leaves are those of its step
 abbrev pub IsEventAnswer : EventCall → Result EventReply Refusal → ToolboxState → ToolboxState → Type 0
-IsEventAnswer call result before after = IsDeskUnchanged before.desk after.desk
+IsEventAnswer call result before after = IsDeskUnchanged before.desk after.desk × (after.menus ≡ before.menus)
     × ((update : Option ℕ) × IsFirstToUpdate before.desk update
     × ((result, after.events) ≡ event_step call before.desk.windows.desk.active update before.events))
 
@@ -49,8 +56,22 @@ abbrev pub IsWindowMade : WindowCall → Result WindowReply Refusal → ToolboxS
 IsWindowMade call (Ok answer) before after =
     ((middle : DeskState) × IsWindowAnswered call (Ok answer) before.desk middle
     × (SameActivity middle after.desk × IsCaughtUpBy (window_standing call) middle.windows after.desk.windows))
-    × (after.events ≡ events_left call before.events)
-IsWindowMade call (Err e) before after = IsWindowAnswered call (Err e) before.desk after.desk × (after.events ≡ before.events)
+    × ((after.events ≡ events_left call before.events) × (after.menus ≡ before.menus))
+IsWindowMade call (Err e) before after =
+    IsWindowAnswered call (Err e) before.desk after.desk × ((after.events ≡ before.events) × (after.menus ≡ before.menus))
+
+-- FindWindow is asked for a point of the menu that is pulled down
+abbrev pub is_covered : WindowCall → ToolboxState → Bool
+is_covered (Find p) s = is_on_menu s p
+is_covered _ s = false
+
+-- it answers the menu bar there, and no window
+abbrev pub found_menu : WindowReply
+found_menu = Found (record { part = InMenuBar; window = None })
+
+abbrev pub IsWindowTold : Bool → WindowCall → Result WindowReply Refusal → ToolboxState → ToolboxState → Type 0
+IsWindowTold false call result before after = IsWindowMade call result before after
+IsWindowTold true call result before after = (result ≡ Ok found_menu) × IsToolboxUnchanged before after
 
 -- the answer of a manager, as one of the Toolbox
 abbrev pub replied : {R : Type 0} → (R → Reply) → Result R Refusal → Result Reply Refusal
@@ -60,26 +81,30 @@ replied reply_of (Err e) = Err e
 -- a call that may come is a step of its manager, which answers it
 abbrev pub IsAdmitted : Call → Result Reply Refusal → ToolboxState → ToolboxState → Type 0
 IsAdmitted (Window call) result before after =
-    (own : Result WindowReply Refusal) × (result ≡ replied reply.Window own) × IsWindowMade call own before after
+    (own : Result WindowReply Refusal) × (result ≡ replied reply.Window own) × IsWindowTold (is_covered call before) call own before after
 IsAdmitted (Update call) result before after =
-    (own : Result WindowReply Refusal) × (result ≡ replied reply.Window own) × (IsUpdateStep call own before.desk after.desk × (after.events ≡ before.events))
+    (own : Result WindowReply Refusal) × (result ≡ replied reply.Window own) × (IsUpdateStep call own before.desk after.desk × ((after.events ≡ before.events) × (after.menus ≡ before.menus)))
 IsAdmitted (Frame call) result before after =
-    (own : Result FrameReply Refusal) × (result ≡ replied reply.Frame own) × (IsFrameStep call own before.desk after.desk × (after.events ≡ before.events))
+    (own : Result FrameReply Refusal) × (result ≡ replied reply.Frame own) × (IsFrameStep call own before.desk after.desk × ((after.events ≡ before.events) × (after.menus ≡ before.menus)))
+IsAdmitted (Menu call) result before after =
+    (own : Result MenuReply Refusal) × (result ≡ replied reply.Menu own)
+    × (IsMenuStep call own (with_menus before) (with_menus after) × (after.events ≡ before.events))
 IsAdmitted (Event call) result before after =
     (own : Result EventReply Refusal) × (result ≡ replied reply.Event own) × IsEventAnswer call own before after
 
 -- why a call is refused for its names and bytes alone, whatever is open
-abbrev pub IsFormFault : Call → DeskState → Option Refusal → Type 0
-IsFormFault (Window call) before form = IsFormRefusal call before.windows.desk form
+abbrev pub IsFormFault : Call → ToolboxState → Option Refusal → Type 0
+IsFormFault (Window call) before form = IsFormRefusal call before.desk.windows.desk form
 IsFormFault (Update call) before form = IsUpdateForm call form
 IsFormFault (Frame call) before form = form ≡ None
+IsFormFault (Menu call) before form = form ≡ first_refusal (menu_form_refusals call before.menus.stock)
 IsFormFault (Event call) before form = form ≡ None
 
 -- a call that may not come for this is refused: for its form, if that is refused, and else for this. It changes nothing
 abbrev pub IsStopped : Refusal → Call → Result Reply Refusal → ToolboxState → ToolboxState → Type 0
 IsStopped e call (Ok answer) before after = ⊥
 IsStopped e call (Err f) before after =
-    (form : Option Refusal) × IsFormFault call before.desk form × ((f ≡ unwrap_or form e) × IsToolboxUnchanged before after)
+    (form : Option Refusal) × IsFormFault call before form × ((f ≡ unwrap_or form e) × IsToolboxUnchanged before after)
 
 -- whether a call may come, one table says for every call (`gate`)
 abbrev pub IsGated : Option Refusal → Call → Result Reply Refusal → ToolboxState → ToolboxState → Type 0
@@ -109,6 +134,7 @@ abbrev pub made : List (Result Reply Refusal) → List ℕ
 made [] = []
 made (Ok (reply.Window answer) ∷ answers) = serial_made answer ++ made answers
 made (Ok (reply.Frame answer) ∷ answers) = made answers
+made (Ok (reply.Menu answer) ∷ answers) = made answers
 made (Ok (reply.Event answer) ∷ answers) = made answers
 made (Err e ∷ answers) = made answers
 

@@ -1,14 +1,21 @@
 -- The state of a Toolbox.
 use Rattle.std.specs.Prelude.{◌≡◌}
 use Rattle.window_mgr.specs.DeskStates.{DeskState, IsDeskUnchanged}
+use Rattle.menu_mgr.specs.MenuDesks.{MenuDesk, MenusState}
 use Rattle.desk_toolbox.specs.declared.events.Events.{Events}
 
--- its desk, and what it keeps of events
+-- its desk, its menus, and what it keeps of events
 pub record ToolboxState : Type 0 where
   pub desk : DeskState
+  pub menus : MenusState
   pub events : Events
+
+-- the desk with its menus
+abbrev pub with_menus : ToolboxState → MenuDesk
+with_menus s = record { desk = s.desk; menus = s.menus }
 
 -- nothing changed
 pub record IsToolboxUnchanged (before after : ToolboxState) : Type 0 where
   pub desk : IsDeskUnchanged before.desk after.desk
+  pub menus : after.menus ≡ before.menus
   pub events : after.events ≡ before.events

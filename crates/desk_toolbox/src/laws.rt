@@ -1,19 +1,22 @@
 //! What the definitions of a desk, of its steps and of runs say of each other.
-ghost use Rattle.std.specs.Prelude.{◌≡◌, ℕ, Bool, true, List, [], ◌∷◌, ◌++◌, map, Option, Some, Result, All};
+ghost use Rattle.std.specs.Prelude.{◌≡◌, ℕ, Bool, true, false, List, [], ◌∷◌, ◌++◌, map, Option, Some, Result, Ok, All};
 ghost use Rattle.std.specs.List.{find};
 ghost use Rattle.std.specs.Option.{option_map};
 ghost use Rattle.tb_geom.specs.declared.point.Point.{Point};
 ghost use Rattle.tb_geom.specs.declared.refusal.Refusal.{Refusal};
 ghost use Rattle.def_iface.specs.Desk.{IsDesk};
 ghost use Rattle.def_iface.specs.Meaning.{GoesBy};
-ghost use Rattle.def_iface.specs.Owner.{owner, own_bit};
+ghost use Rattle.def_iface.specs.Owner.{is_content, owner, own_bit};
 ghost use Rattle.def_iface.specs.Scratch.{scratch};
 ghost use Rattle.vis_update.specs.Records.{WindowRecord};
 ghost use Rattle.window_mgr.specs.FullDesk.{FullDesk, IsRightState, layered_desk};
 ghost use Rattle.window_mgr.specs.Finding.{front_of};
-ghost use Rattle.tb_geom.specs.declared.refusal.Refusal.TheVariants.{Busy, NoSuchWindow, StalePixels, TooLong};
+ghost use Rattle.tb_geom.specs.declared.refusal.Refusal.TheVariants.{Busy, NoSuchMenu, NoSuchWindow, StalePixels, TooLong};
 ghost use Rattle.tb_geom.specs.Refusals.{first_refusal, is_before};
 ghost use Rattle.desk_call.specs.declared.frame.FrameCall.{FrameCall};
+ghost use Rattle.desk_call.specs.declared.menu.MenuCall.{MenuCall};
+ghost use Rattle.desk_call.specs.declared.menu.MenuCall.TheVariants as asks;
+ghost use Rattle.desk_call.specs.declared.menu.NewMenu.{NewMenu};
 ghost use Rattle.desk_call.specs.declared.window.MoveWindow.{MoveWindow};
 ghost use Rattle.desk_call.specs.declared.window.NewPicture.{NewPicture};
 ghost use Rattle.desk_call.specs.declared.window.NewWindow.{NewWindow};
@@ -24,17 +27,25 @@ ghost use Rattle.desk_call.specs.declared.window.ZoomWindow.{ZoomWindow};
 ghost use Rattle.window_mgr.specs.Refused.{new_window_refusals, kind_refusals, form_refusals, draw_refusals, picture_refusals, scroll_refusals, behind_refusals, move_refusals, size_refusals, zoom_refusals};
 ghost use Rattle.window_update.specs.UpdateRefusals.{area_refusals};
 ghost use Rattle.window_frame.specs.FrameRefusals.{frame_refusals};
+ghost use Rattle.menu_mgr.specs.MenuDesks.{MenuSlot, MenusState};
+ghost use Rattle.menu_mgr.specs.MenuRefusals.{menu_form_refusals, menu_refusals};
 ghost use Rattle.desk_toolbox.specs.Ordered.{AreInOrder};
 ghost use Rattle.window_mgr.specs.Whole.{IsSoundDesk};
 ghost use Rattle.event_queue.specs.History.{told_of, Alternates, is_told_active};
 ghost use Rattle.desk_call.specs.declared.call.Call.{Call};
+ghost use Rattle.desk_call.specs.declared.call.Call.TheVariants.{Menu, Window};
+ghost use Rattle.desk_call.specs.declared.call.Reply.TheVariants as reply;
+ghost use Rattle.desk_call.specs.declared.window.WindowCall.TheVariants.{Find};
 ghost use Rattle.desk_call.specs.declared.call.Reply.{Reply};
 ghost use Rattle.window_update.specs.Served.{AreAllServed, IsAllRight};
 ghost use Rattle.window_frame.specs.Followers.{AreInformed};
 ghost use Rattle.desk_toolbox.specs.Activations.{activate_events_told, IsNeverDisposed};
 ghost use Rattle.desk_toolbox.specs.Reached.{IsConsistent, IsJustBegun, news_by_record};
-ghost use Rattle.desk_toolbox.specs.ToolboxStates.{ToolboxState};
-ghost use Rattle.desk_toolbox.specs.Run.{IsStep, IsRunOfCalls, made, AreCounted};
+ghost use Rattle.def_iface.specs.Desk.{on_screen};
+ghost use Rattle.desk_toolbox.specs.Fronts.{IsScreenAllRight, IsScreenRight, is_on_menu, screen_bit, screen_of, screen_owner, screen_scratch};
+ghost use Rattle.desk_toolbox.specs.Fronts.ScreenOwner.{PulledMenu, Base};
+ghost use Rattle.desk_toolbox.specs.ToolboxStates.{ToolboxState, IsToolboxUnchanged};
+ghost use Rattle.desk_toolbox.specs.Run.{IsStep, IsRunOfCalls, found_menu, made, AreCounted};
 
 /// Painting the desk from nothing, back to front, gives each pixel the value of its owner.
 #[tactic(auto, using(crate::proofs::Sayings::scratch_is_owners_on))]
@@ -58,7 +69,7 @@ pub fn a_refusal_is_the_first_that_holds()
 {}
 
 /// The reasons to refuse each call stand in the written order.
-#[tactic(auto, using(crate::proofs::Ordering::frame_reasons_in_order))]
+#[tactic(auto, using(crate::proofs::Ordering::frame_reasons_in_order, crate::proofs::Ordering::menu_reasons_in_order))]
 pub fn reasons_stand_in_the_written_order()
     ensures new_window { (w : NewWindow) (desk : FullDesk) → AreInOrder (new_window_refusals w desk) }
     ensures draw { (judged : Option Refusal) (window : Option WindowRecord) → AreInOrder (draw_refusals judged window) }
@@ -72,6 +83,9 @@ pub fn reasons_stand_in_the_written_order()
     ensures area { (judged : Option Refusal) (missing wrong : Bool)
         → AreInOrder (area_refusals judged missing ++ (wrong, StalePixels) ∷ []) }
     ensures frame { (call : FrameCall) (desk : FullDesk) → AreInOrder (frame_refusals call desk) }
+    ensures menu { (call : MenuCall) (menus : MenusState) → AreInOrder (menu_refusals call menus) }
+    ensures menu_form { (n : NewMenu) (slots : List MenuSlot) (busy missing : Bool)
+        → AreInOrder (menu_form_refusals (asks.New n) slots ++ (busy, Busy) ∷ (missing, NoSuchMenu) ∷ []) }
     ensures form { (judged : Option Refusal) (w : NewWindow) (desk : FullDesk) (busy missing : Bool)
         → AreInOrder (form_refusals judged ++ (busy, Busy) ∷ (missing, NoSuchWindow) ∷ [])
         × AreInOrder (kind_refusals w desk ++ (busy, Busy) ∷ (missing, NoSuchWindow) ∷ []) }
@@ -84,12 +98,15 @@ pub fn what_is_told_comes_first_in_the_order()
         → All (λ r. r.0 ≡ true → is_before e r.1 ≡ true) reasons }
 {}
 
-/// Whatever a call does, the stock has the same slots, for the same kinds.
-#[tactic(auto, using(crate::proofs::Runs::step_keeps_kinds))]
+/// Whatever a call does, the stock has the same slots, for the same kinds: those of windows, and those of menus.
+#[tactic(auto, using(crate::proofs::Runs::step_keeps_kinds, crate::proofs::MenuKinds::step_keeps_menu_kinds))]
 pub fn steps_keep_the_kinds()
-    ensures { (call : Call) (answer : Result Reply Refusal) (before after : ToolboxState)
+    ensures windows { (call : Call) (answer : Result Reply Refusal) (before after : ToolboxState)
         → IsStep call answer before after
         → map (λ slot. slot.kind) after.desk.windows.desk.stock ≡ map (λ slot. slot.kind) before.desk.windows.desk.stock }
+    ensures menus { (call : Call) (answer : Result Reply Refusal) (before after : ToolboxState)
+        → IsStep call answer before after
+        → map (λ slot. slot.kind) after.menus.stock ≡ map (λ slot. slot.kind) before.menus.stock }
 {}
 
 /// A step keeps a right state right.
@@ -121,6 +138,57 @@ pub fn runs_that_leave_every_update_served_are_all_right()
     ensures { (first last : ToolboxState) (calls : List Call) (answers : List (Result Reply Refusal))
         → IsRightState first.desk.windows → IsRunOfCalls first calls answers last
         → AreAllServed last.desk.windows → IsAllRight last.desk.windows }
+{}
+
+/// In a right state the screen shows what painting the desk from nothing gives, the pulled menu last, at each pixel in no
+/// update region, and at each that the pulled menu has.
+#[tactic(auto, using(crate::proofs::FrontLaws::screen_is_right))]
+pub fn the_screen_of_a_right_state_is_right()
+    ensures { (s : ToolboxState) → IsRightState s.desk.windows → IsScreenRight s }
+{}
+
+/// After any run from a right state that leaves no pixel in any window's update region, the whole screen shows it.
+#[tactic(auto, using(crate::proofs::FrontLaws::served_run_shows_all_right))]
+pub fn runs_that_leave_every_update_served_show_a_right_screen()
+    ensures { (first last : ToolboxState) (calls : List Call) (answers : List (Result Reply Refusal))
+        → IsRightState first.desk.windows → IsRunOfCalls first calls answers last
+        → AreAllServed last.desk.windows → IsScreenAllRight last }
+{}
+
+/// Painting the desk from nothing, the pulled menu last, gives each pixel the value of its owner.
+#[tactic(auto, using(crate::proofs::FrontLaws::screen_scratch_is_owners))]
+pub fn screen_scratch_is_owners()
+    ensures { (s : ToolboxState) (p : Point) → IsDesk (layered_desk s.desk.windows.desk)
+        → screen_scratch s p ≡ screen_bit s (screen_owner s p) p }
+{}
+
+/// The pulled menu is in front of all: it owns each pixel of the screen that it has, which shows the menu, and elsewhere the
+/// base image shows, and what its owners own.
+#[tactic(auto, using(crate::proofs::FrontLaws::menu_is_in_front, crate::proofs::FrontLaws::base_is_elsewhere))]
+pub fn the_pulled_menu_is_in_front()
+    ensures menu { (s : ToolboxState) (p : Point) → is_on_menu s p ≡ true
+        → (screen_owner s p ≡ PulledMenu) × (screen_of s p ≡ screen_bit s PulledMenu p) }
+    ensures base { (s : ToolboxState) (p : Point) → on_screen (layered_desk s.desk.windows.desk) p ≡ true → is_on_menu s p ≡ false
+        → (screen_owner s p ≡ Base (owner (layered_desk s.desk.windows.desk) p)) × (screen_of s p ≡ s.desk.windows.image p) }
+{}
+
+/// A call on menus leaves every update region, and of the base image all that the contents of windows show.
+#[tactic(auto, using(crate::proofs::LeftByMenus::menus_leave_windows))]
+pub fn calls_on_menus_leave_windows_alone()
+    ensures { (call : MenuCall) (answer : Result Reply Refusal) (before after : ToolboxState) → IsRightState before.desk.windows
+        → IsStep (Menu call) answer before after
+        → (p : Point) → on_screen (layered_desk before.desk.windows.desk) p ≡ true
+        → (after.desk.windows.stale p ≡ before.desk.windows.stale p)
+        × (is_content (owner (layered_desk before.desk.windows.desk) p) ≡ true
+        → after.desk.windows.image p ≡ before.desk.windows.image p) }
+{}
+
+/// FindWindow answers the menu bar, and no window, at each pixel that the pulled menu has.
+#[tactic(auto, using(crate::proofs::FrontLaws::menu_is_found_as_bar))]
+pub fn a_pulled_menu_is_found_as_the_menu_bar()
+    ensures { (p : Point) (answer : Result Reply Refusal) (before after : ToolboxState)
+        → is_on_menu before p ≡ true → IsStep (Window (Find p)) answer before after
+        → (answer ≡ Ok (reply.Window found_menu)) × IsToolboxUnchanged before after }
 {}
 
 /// A desk that just began is consistent.

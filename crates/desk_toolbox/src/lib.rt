@@ -12,15 +12,18 @@
 //! Definitions live outside, in a `Stock` that each call is handed; `Toolbox::close` puts them back Closed.
 #![tactic(auto)]
 
+mod answering;
 mod events;
 pub mod laws;
 mod toolbox;
 
 pub use desk_call::{
-    Activity, AreaRef, Call, Drawing, EventCall, EventReply, FlushEvents, Found, FrameCall,
-    FrameReply, GoAwayPoint, HiliteWindow, LayerDraw, Layers, MoveWindow, NewPicture, NewTitle,
-    NewWindow, PictureRef, PostEvent, Reply, ScrollPicture, SendBehind, ShowHide, SizeWindow,
-    UpdateCall, WindowArea, WindowCall, WindowInfo, WindowPart, WindowReply, Zoom, ZoomWindow,
+    Activity, AppendItems, AreaRef, Call, CheckItem, Choice, Drawing, EventCall, EventReply,
+    FlushEvents, Found, FrameCall, FrameReply, GoAwayPoint, HiliteWindow, InsertMenu, ItemOfMenu,
+    ItemText, LayerDraw, Layers, MenuCall, MenuReply, MoveWindow, NewMenu, NewPicture, NewTitle,
+    NewWindow, PictureRef, PostEvent, PulledMenu, Reply, ScrollPicture, SendBehind, ShowHide,
+    SizeWindow, UpdateCall, WindowArea, WindowCall, WindowInfo, WindowPart, WindowReply, Zoom,
+    ZoomWindow,
 };
 pub use toolbox::Toolbox;
 pub use window_mgr::NotBegun;

@@ -8,39 +8,71 @@ ghost use Rattle.window_mgr.specs.Closing.{IsClosed};
 ghost use Rattle.window_mgr.specs.FullDesk.{IsRightState};
 ghost use Rattle.window_mgr.specs.Records.{desk_of, state_of};
 ghost use Rattle.window_mgr.specs.Refused.{is_missing};
-ghost use Rattle.window_mgr.specs.Whole.{IsWholeManager};
-ghost use Rattle.desk_call.specs.Gates.{gate, standing_of};
 ghost use Rattle.desk_call.specs.declared.activity.Activity.TheVariants.{Idle};
-ghost use Rattle.window_mgr.specs.DeskStates.{DeskState};
+ghost use Rattle.bit_map.specs.Bits.{bit, on_map};
+ghost use Rattle.menu_mgr.specs.MenuClosing.{AreMenusClosed};
+ghost use Rattle.menu_mgr.specs.MenuDesks.{IsMenuFull, MenuSlot};
+ghost use Rattle.menu_mgr.specs.WholeMenus.{AreNoMenus, menus_of};
+ghost use Rattle.tb_geom.specs.declared.point.Point.{Point};
+ghost use Rattle.desk_toolbox.specs.Fronts.{screen_of};
 ghost use Rattle.window_update.specs.Rightness.{IsJudgement};
 ghost use Rattle.desk_toolbox.specs.EventSteps.{first_events};
 ghost use Rattle.desk_toolbox.specs.Reached.{IsJustBegun};
-ghost use Rattle.desk_toolbox.specs.Run.{IsAdmitted, IsEventAnswer, IsFormFault, IsRunOfCalls, IsStep, IsWindowAnswered, IsWindowMade};
+ghost use Rattle.desk_toolbox.specs.Run.{IsRunOfCalls, IsStep};
 ghost use Rattle.desk_toolbox.specs.ToolboxStates.{IsToolboxUnchanged};
 ghost use Rattle.desk_toolbox.specs.WholeToolbox.{IsKeptToolbox, IsWholeToolbox, toolbox_state};
 
+use crate::answering::form_refusal_of;
 use crate::events::Events;
-use crate::{Activity, Call, EventCall, EventReply, Reply, WindowCall, WindowReply};
+use crate::{Activity, Call, Reply};
 use bit_map::BitMap;
-use def_iface::{Defined, Stock, Stocked, Taken};
+use def_iface::{Defined, DefinedMenu, MenuStock, Stock, Stocked, StockedMenus, Taken, TakenMenu};
 use desk_ground::is_screen;
+use menu_list::MenuList;
+use menu_mgr::Menus;
 use std::alloc::{AllocError, Global};
 use strike_font::Font;
 use tb_geom::{Rect, Refusal};
-use window_frame::follow;
 use window_list::{Ranks, WindowList};
-use window_mgr::{NotBegun, WindowManager, form_refusal};
-use window_update::{Updates, first_to_update, update_form_refusal};
+use window_mgr::{NotBegun, WindowManager};
+use window_update::Updates;
 
-/// A desk: its screen, its windows, what of them has to be drawn, what is open, and the events that are to be told.
+/// A desk: its screen, its windows, what of them has to be drawn, its menus, what is open, and the events that are to be told.
 #[derive(Drop)]
 pub struct Toolbox {
     pub(crate) alloc: Global,
     pub(crate) windows: WindowManager,
+    /// Its menus, and the map on which the one lies that is pulled down.
+    pub(crate) menus: Menus,
     /// What is open between its begin and its end.
     pub(crate) activity: Activity,
     pub(crate) updates: Updates,
     pub(crate) events: Events,
+}
+
+/// What a desk has beside its windows.
+#[derive(Drop)]
+struct DeskParts {
+    updates: Updates,
+    menus: Menus,
+    events: Events,
+}
+
+impl DeskParts {
+    /// Those of a desk that begins, on a screen of `width` by `height` pixels.
+    fn new(alloc: Global, width: i32, height: i32) -> Result<DeskParts, AllocError>
+        requires width { screens.is_screen_side width ≡ true }
+        requires height { screens.is_screen_side height ≡ true }
+        ensures updates { IfOk result (λ p. (pos p.updates.buffer.width ≡ width) × (pos p.updates.buffer.height ≡ height)) }
+        ensures menus { IfOk result (λ p. AreNoMenus width height p.menus) }
+        ensures events { IfOk result (λ p. p.events ≡ first_events) }
+    {
+        Ok(DeskParts {
+            updates: Updates::new(alloc, width, height)?,
+            events: Events::new(alloc)?,
+            menus: Menus::new(alloc, width, height, MenuList::new(alloc)?)?,
+        })
+    }
 }
 
 impl Toolbox {
@@ -59,10 +91,10 @@ impl Toolbox {
             → IsEmptyDesk ⟦<Taken as Defined>⟧.loan width height bar font t.windows slots) }
         ensures idle { IfOk result (λ t. t.activity ≡ Idle) }
         ensures events { IfOk result (λ t. t.events ≡ first_events) }
-        ensures whole { IfOk result (λ t. (slots : List SlotView) → All IsFull slots
-            → IsWholeToolbox ⟦<Taken as Defined>⟧.loan t slots) }
-        ensures just_begun { IfOk result (λ t. (slots : List SlotView) → All IsFull slots
-            → IsJustBegun (toolbox_state ⟦<Taken as Defined>⟧.loan t slots)) }
+        ensures whole { IfOk result (λ t. (slots : List SlotView) (kept : List MenuSlot) → All IsFull slots
+            → All IsMenuFull kept → IsWholeToolbox ⟦<Taken as Defined>⟧.loan ⟦<TakenMenu as DefinedMenu>⟧.menu_loan t slots kept) }
+        ensures just_begun { IfOk result (λ t. (slots : List SlotView) (kept : List MenuSlot) → All IsFull slots
+            → IsJustBegun (toolbox_state ⟦<Taken as Defined>⟧.loan ⟦<TakenMenu as DefinedMenu>⟧.menu_loan t slots kept)) }
         ensures in_range { IfOk result (λ t. screens.is_screen width height bar ≡ true) }
         ensures refused { IfErr result (λ e. (e.font ≡ font)
             × (e.refusal ≡ (if screens.is_screen width height bar then Refusal.NoMemory else Refusal.OutOfRange))) }
@@ -73,44 +105,49 @@ impl Toolbox {
                 font,
             });
         }
-        match (Updates::new(alloc, width, height), Events::new(alloc)) {
-            (Ok(updates), Ok(events)) => Toolbox::with_parts(
-                alloc, width, height, bar, font, updates, events,
-            ),
-            _ => Err(NotBegun {
+        match DeskParts::new(alloc, width, height) {
+            Ok(parts) => Toolbox::with_parts(alloc, width, height, bar, font, parts),
+            Err(AllocError) => Err(NotBegun {
                 refusal: Refusal::NoMemory,
                 font,
             }),
         }
     }
 
-    /// The same desk, where its screen was judged, and of these updates and events.
+    /// The same desk, where its screen was judged, with these parts.
     fn with_parts(
         alloc: Global,
         width: i32,
         height: i32,
         bar: i32,
         font: Font,
-        updates: Updates,
-        events: Events,
+        parts: DeskParts,
     ) -> Result<Toolbox, NotBegun>
-        requires width { pos updates.buffer.width ≡ width }
-        requires height { pos updates.buffer.height ≡ height }
+        requires width { pos parts.updates.buffer.width ≡ width }
+        requires height { pos parts.updates.buffer.height ≡ height }
+        requires menus { AreNoMenus width height parts.menus }
         ensures begun { IfOk result (λ t. (slots : List SlotView) → All IsFull slots
             → IsEmptyDesk ⟦<Taken as Defined>⟧.loan width height bar font t.windows slots) }
         ensures idle { IfOk result (λ t. t.activity ≡ Idle) }
-        ensures events { IfOk result (λ t. t.events ≡ events) }
-        ensures whole { IfOk result (λ t. (slots : List SlotView) → All IsFull slots
-            → IsWholeToolbox ⟦<Taken as Defined>⟧.loan t slots) }
+        ensures events { IfOk result (λ t. t.events ≡ parts.events) }
+        ensures menus { IfOk result (λ t. t.menus ≡ parts.menus) }
+        ensures whole { IfOk result (λ t. (slots : List SlotView) (kept : List MenuSlot) → All IsFull slots
+            → All IsMenuFull kept → IsWholeToolbox ⟦<Taken as Defined>⟧.loan ⟦<TakenMenu as DefinedMenu>⟧.menu_loan t slots kept) }
         ensures in_range { IfOk result (λ t. screens.is_screen width height bar ≡ true) }
         ensures refused { IfErr result (λ e. (e.font ≡ font)
             × (e.refusal ≡ (if screens.is_screen width height bar then Refusal.NoMemory else Refusal.OutOfRange))) }
     {
+        let DeskParts {
+            updates,
+            menus,
+            events,
+        } = parts;
         let none = WindowList::new(Ranks::new(alloc));
         match WindowManager::new(alloc, width, height, bar, font, none) {
             Ok(windows) => Ok(Toolbox {
                 alloc,
                 windows,
+                menus,
                 activity: Activity::Idle,
                 updates,
                 events,
@@ -119,11 +156,32 @@ impl Toolbox {
         }
     }
 
-    /// The screen.
+    /// The screen: the pulled menu where it lies, and else what the windows, the menu bar and the desktop show.
     pub fn screen(&self) -> &BitMap
-        ensures { result.now ≡ self.now.windows.screen }
+        requires { IsKeptToolbox ⟦<Taken as Defined>⟧.loan ⟦<TakenMenu as DefinedMenu>⟧.menu_loan self.now }
+        ensures width { result.now.width ≡ self.now.windows.screen.width }
+        ensures height { result.now.height ≡ self.now.windows.screen.height }
+        ensures shown { (slots : List SlotView) (kept : List MenuSlot) (p : Point) → on_map result.now p ≡ true
+            → bit result.now p ≡ screen_of (toolbox_state ⟦<Taken as Defined>⟧.loan ⟦<TakenMenu as DefinedMenu>⟧.menu_loan self.now slots kept) p }
     {
-        self.windows.screen()
+        match self.activity {
+            Activity::Pulling(_) => self.menus.screen(),
+            _ => self.windows.screen(),
+        }
+    }
+
+    /// Its menus, to be read.
+    pub fn menus(&self) -> &Menus
+        ensures { result.now ≡ self.now.menus }
+    {
+        &self.menus
+    }
+
+    /// What is open between its begin and its end.
+    pub fn activity(&self) -> Activity
+        ensures { result ≡ self.now.activity }
+    {
+        self.activity
     }
 
     /// The manager of its windows, to be read.
@@ -137,11 +195,15 @@ impl Toolbox {
     /// first where several would do stands with the call. While something is open, a call that may not
     /// come then is refused for that, but first for a name that no table has, or bytes without their form.
     pub fn call(&mut self, call: &Call<'_>, stock: &mut Stock) -> Result<Reply, Refusal>
-        requires { IsWholeToolbox ⟦<Taken as Defined>⟧.loan self.old (⟦<Stock as Stocked>⟧.slots stock.old) }
-        ensures whole { IsWholeToolbox ⟦<Taken as Defined>⟧.loan self.new (⟦<Stock as Stocked>⟧.slots stock.new) }
+        requires { IsWholeToolbox ⟦<Taken as Defined>⟧.loan ⟦<TakenMenu as DefinedMenu>⟧.menu_loan self.old
+            (⟦<Stock as Stocked>⟧.slots stock.old) (⟦<MenuStock as StockedMenus>⟧.menu_slots stock.old.menus) }
+        ensures whole { IsWholeToolbox ⟦<Taken as Defined>⟧.loan ⟦<TakenMenu as DefinedMenu>⟧.menu_loan self.new
+            (⟦<Stock as Stocked>⟧.slots stock.new) (⟦<MenuStock as StockedMenus>⟧.menu_slots stock.new.menus) }
         ensures step { IsStep call.now result
-            (toolbox_state ⟦<Taken as Defined>⟧.loan self.old (⟦<Stock as Stocked>⟧.slots stock.old))
-            (toolbox_state ⟦<Taken as Defined>⟧.loan self.new (⟦<Stock as Stocked>⟧.slots stock.new)) }
+            (toolbox_state ⟦<Taken as Defined>⟧.loan ⟦<TakenMenu as DefinedMenu>⟧.menu_loan self.old
+            (⟦<Stock as Stocked>⟧.slots stock.old) (⟦<MenuStock as StockedMenus>⟧.menu_slots stock.old.menus))
+            (toolbox_state ⟦<Taken as Defined>⟧.loan ⟦<TakenMenu as DefinedMenu>⟧.menu_loan self.new
+            (⟦<Stock as Stocked>⟧.slots stock.new) (⟦<MenuStock as StockedMenus>⟧.menu_slots stock.new.menus)) }
         ensures right { IsRightState (state_of ⟦<Taken as Defined>⟧.loan self.old.windows (⟦<Stock as Stocked>⟧.slots stock.old))
             → IsRightState (state_of ⟦<Taken as Defined>⟧.loan self.new.windows (⟦<Stock as Stocked>⟧.slots stock.new)) }
     {
@@ -154,97 +216,6 @@ impl Toolbox {
         }
     }
 
-    /// Performs one call that may come.
-    fn perform(&mut self, call: &Call<'_>, stock: &mut Stock) -> Result<Reply, Refusal>
-        requires whole { IsWholeToolbox ⟦<Taken as Defined>⟧.loan self.old (⟦<Stock as Stocked>⟧.slots stock.old) }
-        requires admitted { gate self.old.activity (standing_of call.now) ≡ None }
-        ensures whole { IsWholeToolbox ⟦<Taken as Defined>⟧.loan self.new (⟦<Stock as Stocked>⟧.slots stock.new) }
-        ensures step { IsAdmitted call.now result
-            (toolbox_state ⟦<Taken as Defined>⟧.loan self.old (⟦<Stock as Stocked>⟧.slots stock.old))
-            (toolbox_state ⟦<Taken as Defined>⟧.loan self.new (⟦<Stock as Stocked>⟧.slots stock.new)) }
-    {
-        match call {
-            Call::Window(call) => match self.perform_window(call, stock) {
-                Ok(reply) => Ok(Reply::Window(reply)),
-                Err(refusal) => Err(refusal),
-            },
-            Call::Update(call) => {
-                match self
-                    .updates
-                    .perform(&mut self.windows, &mut self.activity, call)
-                {
-                    Ok(reply) => Ok(Reply::Window(reply)),
-                    Err(refusal) => Err(refusal),
-                }
-            }
-            Call::Frame(call) => {
-                match window_frame::perform(&mut self.windows, &mut self.activity, call) {
-                    Ok(reply) => Ok(Reply::Frame(reply)),
-                    Err(refusal) => Err(refusal),
-                }
-            }
-            Call::Event(call) => match self.answer_event(*call) {
-                Ok(reply) => Ok(Reply::Event(reply)),
-                Err(refusal) => Err(refusal),
-            },
-        }
-    }
-
-    /// Performs a call on windows. Once it was done, definitions are notified how their windows stand, and a window that is gone is
-    /// forgotten.
-    fn perform_window(
-        &mut self,
-        call: &WindowCall<'_>,
-        stock: &mut Stock,
-    ) -> Result<WindowReply, Refusal>
-        requires { IsWholeToolbox ⟦<Taken as Defined>⟧.loan self.old (⟦<Stock as Stocked>⟧.slots stock.old) }
-        ensures whole { IsWholeToolbox ⟦<Taken as Defined>⟧.loan self.new (⟦<Stock as Stocked>⟧.slots stock.new) }
-        ensures step { IsWindowMade call.now result
-            (toolbox_state ⟦<Taken as Defined>⟧.loan self.old (⟦<Stock as Stocked>⟧.slots stock.old))
-            (toolbox_state ⟦<Taken as Defined>⟧.loan self.new (⟦<Stock as Stocked>⟧.slots stock.new)) }
-    {
-        match self.answer_window(call, stock) {
-            Ok(reply) => {
-                follow(&mut self.windows, call);
-                self.events.follow(call);
-                Ok(reply)
-            }
-            Err(refusal) => Err(refusal),
-        }
-    }
-
-    /// Answers a call on windows: what is open may narrow what it asks for, and else the windows perform it.
-    fn answer_window(
-        &mut self,
-        call: &WindowCall<'_>,
-        stock: &mut Stock,
-    ) -> Result<WindowReply, Refusal>
-        requires { IsWholeToolbox ⟦<Taken as Defined>⟧.loan self.old (⟦<Stock as Stocked>⟧.slots stock.old) }
-        ensures whole { IsWholeToolbox ⟦<Taken as Defined>⟧.loan self.new (⟦<Stock as Stocked>⟧.slots stock.new) }
-        ensures step { IsWindowAnswered call.now result
-            (toolbox_state ⟦<Taken as Defined>⟧.loan self.old (⟦<Stock as Stocked>⟧.slots stock.old)).desk
-            (toolbox_state ⟦<Taken as Defined>⟧.loan self.new (⟦<Stock as Stocked>⟧.slots stock.new)).desk }
-        ensures events { self.new.events ≡ self.old.events }
-    {
-        match self.updates.tell(self.activity, call) {
-            Some(answer) => answer,
-            None => self.windows.perform(call, &mut stock.windows),
-        }
-    }
-
-    /// Answers a call about events.
-    fn answer_event(&mut self, call: EventCall) -> Result<EventReply, Refusal>
-        requires { IsKeptToolbox ⟦<Taken as Defined>⟧.loan self.old }
-        ensures whole { (slots : List SlotView) → IsWholeToolbox ⟦<Taken as Defined>⟧.loan self.old slots
-            → IsWholeToolbox ⟦<Taken as Defined>⟧.loan self.new slots }
-        ensures step { (slots : List SlotView) → IsEventAnswer call result
-            (toolbox_state ⟦<Taken as Defined>⟧.loan self.old slots) (toolbox_state ⟦<Taken as Defined>⟧.loan self.new slots) }
-    {
-        let active = self.windows.list().active();
-        let update = first_to_update(&self.windows, self.activity);
-        self.events.perform(call, active, update)
-    }
-
     /// Performs the calls one after another, and gives their answers in the same order. Memory for the
     /// answers is taken first: where there is none, no call was performed.
     pub fn run(
@@ -252,15 +223,21 @@ impl Toolbox {
         calls: &[Call<'_>],
         stock: &mut Stock,
     ) -> Result<Vec<Result<Reply, Refusal>>, AllocError>
-        requires { IsWholeToolbox ⟦<Taken as Defined>⟧.loan self.old (⟦<Stock as Stocked>⟧.slots stock.old) }
-        ensures whole { IsWholeToolbox ⟦<Taken as Defined>⟧.loan self.new (⟦<Stock as Stocked>⟧.slots stock.new) }
+        requires { IsWholeToolbox ⟦<Taken as Defined>⟧.loan ⟦<TakenMenu as DefinedMenu>⟧.menu_loan self.old
+            (⟦<Stock as Stocked>⟧.slots stock.old) (⟦<MenuStock as StockedMenus>⟧.menu_slots stock.old.menus) }
+        ensures whole { IsWholeToolbox ⟦<Taken as Defined>⟧.loan ⟦<TakenMenu as DefinedMenu>⟧.menu_loan self.new
+            (⟦<Stock as Stocked>⟧.slots stock.new) (⟦<MenuStock as StockedMenus>⟧.menu_slots stock.new.menus) }
         ensures run { IfOk result (λ answers. IsRunOfCalls
-            (toolbox_state ⟦<Taken as Defined>⟧.loan self.old (⟦<Stock as Stocked>⟧.slots stock.old))
+            (toolbox_state ⟦<Taken as Defined>⟧.loan ⟦<TakenMenu as DefinedMenu>⟧.menu_loan self.old
+            (⟦<Stock as Stocked>⟧.slots stock.old) (⟦<MenuStock as StockedMenus>⟧.menu_slots stock.old.menus))
             calls.now answers.items
-            (toolbox_state ⟦<Taken as Defined>⟧.loan self.new (⟦<Stock as Stocked>⟧.slots stock.new))) }
+            (toolbox_state ⟦<Taken as Defined>⟧.loan ⟦<TakenMenu as DefinedMenu>⟧.menu_loan self.new
+            (⟦<Stock as Stocked>⟧.slots stock.new) (⟦<MenuStock as StockedMenus>⟧.menu_slots stock.new.menus))) }
         ensures kept { OnErr result (IsToolboxUnchanged
-            (toolbox_state ⟦<Taken as Defined>⟧.loan self.old (⟦<Stock as Stocked>⟧.slots stock.old))
-            (toolbox_state ⟦<Taken as Defined>⟧.loan self.new (⟦<Stock as Stocked>⟧.slots stock.new))) }
+            (toolbox_state ⟦<Taken as Defined>⟧.loan ⟦<TakenMenu as DefinedMenu>⟧.menu_loan self.old
+            (⟦<Stock as Stocked>⟧.slots stock.old) (⟦<MenuStock as StockedMenus>⟧.menu_slots stock.old.menus))
+            (toolbox_state ⟦<Taken as Defined>⟧.loan ⟦<TakenMenu as DefinedMenu>⟧.menu_loan self.new
+            (⟦<Stock as Stocked>⟧.slots stock.new) (⟦<MenuStock as StockedMenus>⟧.menu_slots stock.new.menus))) }
         ensures right { IsRightState (state_of ⟦<Taken as Defined>⟧.loan self.old.windows (⟦<Stock as Stocked>⟧.slots stock.old))
             → IsRightState (state_of ⟦<Taken as Defined>⟧.loan self.new.windows (⟦<Stock as Stocked>⟧.slots stock.new)) }
     {
@@ -276,11 +253,13 @@ impl Toolbox {
     /// screen has the value that painting the desk from nothing gives. NoSuchWindow is the only refusal. Takes no
     /// memory, and changes nothing that a call can tell.
     pub fn pixels_right(&mut self, window: u64, rect: Rect) -> Result<bool, Refusal>
-        requires { IsKeptToolbox ⟦<Taken as Defined>⟧.loan self.old }
-        ensures whole { (slots : List SlotView) → IsWholeToolbox ⟦<Taken as Defined>⟧.loan self.old slots
-            → IsWholeToolbox ⟦<Taken as Defined>⟧.loan self.new slots }
-        ensures same { (slots : List SlotView)
-            → toolbox_state ⟦<Taken as Defined>⟧.loan self.new slots ≡ toolbox_state ⟦<Taken as Defined>⟧.loan self.old slots }
+        requires { IsKeptToolbox ⟦<Taken as Defined>⟧.loan ⟦<TakenMenu as DefinedMenu>⟧.menu_loan self.old }
+        ensures whole { (slots : List SlotView) (kept : List MenuSlot)
+            → IsWholeToolbox ⟦<Taken as Defined>⟧.loan ⟦<TakenMenu as DefinedMenu>⟧.menu_loan self.old slots kept
+            → IsWholeToolbox ⟦<Taken as Defined>⟧.loan ⟦<TakenMenu as DefinedMenu>⟧.menu_loan self.new slots kept }
+        ensures same { (slots : List SlotView) (kept : List MenuSlot)
+            → toolbox_state ⟦<Taken as Defined>⟧.loan ⟦<TakenMenu as DefinedMenu>⟧.menu_loan self.new slots kept
+            ≡ toolbox_state ⟦<Taken as Defined>⟧.loan ⟦<TakenMenu as DefinedMenu>⟧.menu_loan self.old slots kept }
         ensures right { let state = state_of ⟦<Taken as Defined>⟧.loan self.old.windows [] in MatchResult result
             (λ right. (is_missing window state.desk.windows ≡ false) × IsJudgement window (rect_holds rect) state right)
             (λ e. (is_missing window state.desk.windows ≡ true) × (e ≡ Refusal.NoSuchWindow)) }
@@ -288,26 +267,18 @@ impl Toolbox {
         self.updates.pixels_right(&self.windows, window, rect)
     }
 
-    /// Ends the desk: the definition of every window is disposed of, and put back Closed into its
-    /// slot, while every other slot stays as it was. Takes no memory, and refuses nothing.
+    /// Ends the desk: the definition of every window and of every menu is disposed of, and put back Closed into its slot, while
+    /// every other slot stays as it was. Takes no memory, and refuses nothing.
     pub fn close(self, stock: &mut Stock)
-        requires { IsWholeManager ⟦<Taken as Defined>⟧.loan self.windows (⟦<Stock as Stocked>⟧.slots stock.old) }
-        ensures { IsClosed (desk_of ⟦<Taken as Defined>⟧.loan self.windows (⟦<Stock as Stocked>⟧.slots stock.old)).windows
+        requires { IsWholeToolbox ⟦<Taken as Defined>⟧.loan ⟦<TakenMenu as DefinedMenu>⟧.menu_loan self
+            (⟦<Stock as Stocked>⟧.slots stock.old) (⟦<MenuStock as StockedMenus>⟧.menu_slots stock.old.menus) }
+        ensures windows { IsClosed (desk_of ⟦<Taken as Defined>⟧.loan self.windows (⟦<Stock as Stocked>⟧.slots stock.old)).windows
             (⟦<Stock as Stocked>⟧.slots stock.old) (⟦<Stock as Stocked>⟧.slots stock.new) }
+        ensures menus { AreMenusClosed (menus_of ⟦<TakenMenu as DefinedMenu>⟧.menu_loan self.menus.list.menus.items)
+            (⟦<MenuStock as StockedMenus>⟧.menu_slots stock.old.menus) (⟦<MenuStock as StockedMenus>⟧.menu_slots stock.new.menus) }
     {
-        let Toolbox { windows, .. } = self;
+        let Toolbox { windows, menus, .. } = self;
         windows.close(&mut stock.windows);
-    }
-}
-
-/// Why a call is refused for its names and bytes alone, whatever is open.
-fn form_refusal_of(call: &Call<'_>, stock: &Stock) -> Option<Refusal>
-    ensures { (before : DeskState) → before.windows.desk.stock ≡ ⟦<Stock as Stocked>⟧.slots stock.now
-        → IsFormFault call.now before result }
-{
-    match call {
-        Call::Window(call) => form_refusal(call, &stock.windows),
-        Call::Update(call) => update_form_refusal(call),
-        Call::Frame(_) | Call::Event(_) => None,
+        menus.close(&mut stock.menus);
     }
 }

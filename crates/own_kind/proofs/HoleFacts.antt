@@ -1,5 +1,5 @@
 -- Structure, content and box of the hollow window.
-use Rattle.std.proofs.Common.{◌≡◌, zero, suc, [], ◌∷◌, Bool, true, false, ◌&&◌, if◌then◌else◌, refl, arith, All}
+use Rattle.std.proofs.Common.{◌≡◌, Bool, true, false, ◌&&◌, refl, arith, All}
 use Rattle.std.proofs.Common.{ℤ, pos, negsuc, ◌+ℤ◌, ◌-ℤ◌, ◌≤ℤ◌, ◌<ℤ◌}
 use Rattle.std.proofs.lemmas.Int.{ints}
 use Rattle.std.specs.Int.{int_div_euclid}
@@ -10,7 +10,6 @@ use Rattle.tb_geom.proofs.RectLemmas.{sides_of, holds_in}
 use Rattle.def_iface.specs.declared.size.Size.{Size}
 use Rattle.def_iface.specs.Sizes.{is_size, is_extent, rect_of}
 use Rattle.def_iface.specs.Meaning.{IsWithin}
-use Rattle.looks.specs.declared.area.Piece.{Piece}
 use Rattle.looks.specs.Areas.{area_holds, piece_fits, added_rect, removed_rect}
 use Rattle.looks.proofs.AreaLemmas.{box-by-corners, coordinate, coordinate_high, two_fit, without, with_all}
 use Rattle.own_kind.specs.HollowWindows.{outline, third, hole, hollow_structure, hollow_content}

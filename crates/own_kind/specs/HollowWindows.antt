@@ -1,5 +1,5 @@
 -- The hollow window as plain data. Rectangles are box left top right bottom, local to the window, whose size is w by h.
-use Rattle.std.specs.Prelude.{ℕ, nat_abs, Bool, true, false, ◌&&◌, if◌then◌else◌, List, [], ◌∷◌, ◌++◌}
+use Rattle.std.specs.Prelude.{ℕ, nat_abs, ◌&&◌, if◌then◌else◌, List, [], ◌∷◌, ◌++◌}
 use Rattle.std.specs.Prelude.{ℤ, pos, ◌+ℤ◌, ◌-ℤ◌}
 use Rattle.std.specs.Int.{int_div_euclid}
 use Rattle.tb_geom.specs.declared.point.Point.{Point}

@@ -1,5 +1,5 @@
 -- Drawing where two regions meet.
-use Rattle.std.proofs.Common.{◌≡◌, Bool, true, false, not, ◌&&◌, if◌then◌else◌, [], ◌∷◌, Some, None, refl, ap, ◌∙◌}
+use Rattle.std.proofs.Common.{◌≡◌, Bool, true, false, not, ◌&&◌, if◌then◌else◌, refl, ap, ◌∙◌}
 use Rattle.std.specs.Borrow.{Bor}
 use Rattle.tb_geom.specs.declared.point.Point.{Point}
 use Rattle.tb_geom.specs.declared.rect.Rect.{Rect}

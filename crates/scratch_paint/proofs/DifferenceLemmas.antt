@@ -1,18 +1,22 @@
 -- Counting the pixels that differ from the desk painted from nothing.
-use Rattle.std.proofs.Common.{◌≡◌, ℕ, ◌+◌, Bool, true, false, not, ◌&&◌, cond, inl, inr, List, [], ◌∷◌, map, sum, count_by, ℤ, pos, nat_abs, refl, sym, ap, ◌∙◌, arith}
+use Rattle.std.proofs.Common.{◌≡◌, ℕ, ◌+◌, Bool, true, false, not, ◌&&◌, if◌then◌else◌, cond, inl, inr, List, [], ◌∷◌, map, sum, count_by, Option, Some, None, ℤ, pos, nat_abs, refl, sym, ap, ◌∙◌, arith}
 use Rattle.std.specs.Bool.{beq}
 use Rattle.std.specs.List.{range_with_len}
 use Rattle.std.proofs.lemmas.Bool.{cases_Bool}
 use Rattle.std.proofs.lemmas.List.FromFn.{sum_by-map-range_with_len_more}
 use Rattle.tb_geom.specs.declared.point.Point.{Point}
-use Rattle.tb_geom.specs.Rects.{between}
+use Rattle.tb_geom.specs.Points.{PixelSet}
+use Rattle.tb_geom.specs.Rects.{between, rect_holds}
 use Rattle.bit_map.specs.Bits.{Bits, on_map, bit}
 use Rattle.region_bytes.specs.Edges.{differ}
 use Rattle.def_iface.specs.Desk.{on_screen}
 use Rattle.def_iface.specs.Scratch.{scratch}
 use Rattle.window_mgr.proofs.Arranged.{between-is_below}
-use Rattle.window_mgr.specs.FullDesk.{FullDesk, FullState, IsRightState, layered_desk}
-use Rattle.scratch_paint.specs.Paints.{IsPaintedDesk}
+use Rattle.window_mgr.specs.FullDesk.{FullDesk, IsRightState, layered_desk}
+use Rattle.menu_overlay.specs.Overlays.{Pulled, pulled_bit, pulled_rect, shown_bit}
+use Rattle.desk_toolbox.specs.Fronts.{pulled, screen_of, screen_scratch}
+use Rattle.desk_toolbox.specs.ToolboxStates.{ToolboxState}
+use Rattle.scratch_paint.specs.Paints.{IsPaintedSo, IsPaintedScreen}
 use Rattle.scratch_paint.specs.Differences.{differs, row_differences, differences_of, difference_count}
 
 -- ---- a desk that is right
@@ -21,12 +25,20 @@ alike : (b : Bool) → differ b b ≡ false
 alike true = refl
 alike false = refl
 
-nowhere : (s : FullState) → IsRightState s → (p : Point) → differs s p ≡ false
+-- what is shown over two images is the same where they are
+pub shown_alike : (font : List ℕ) (m : Option Pulled) (base other : PixelSet) (p : Point) → base p ≡ other p → shown_bit font m base p ≡ shown_bit font m other p
+shown_alike font None base other p e = e
+shown_alike font (Some m) base other p e = ap (λ b. if rect_holds (pulled_rect m.place m.size) p then pulled_bit font m p else b) e
+
+nowhere : (s : ToolboxState) → IsRightState s.desk.windows → (p : Point) → differs s p ≡ false
 nowhere s right p =
-    elim (cases_Bool (on_screen (layered_desk s.desk) p)) [
-      | inl on ↦ elim (cases_Bool (s.stale p)) [
+    elim (cases_Bool (on_screen (layered_desk s.desk.windows.desk) p)) [
+      | inl on ↦ elim (cases_Bool (s.desk.windows.stale p)) [
         | inl stale ↦ rw (on, stale) refl
-        | inr fresh ↦ rw (on, fresh, right.plain.right p on fresh) (alike (scratch (layered_desk s.desk) p))
+        | inr fresh ↦
+            let shown : screen_of s p ≡ screen_scratch s p =
+            shown_alike s.desk.windows.desk.font (pulled s) s.desk.windows.image (scratch (layered_desk s.desk.windows.desk)) p (right.plain.right p on fresh) in
+            (λ i. on i && (not (fresh i) && differ (shown i) (screen_scratch s p))) ∙ alike (screen_scratch s p)
       ]
       | inr off ↦ rw off refl
     ]
@@ -39,11 +51,11 @@ no_sum : (f : ℕ → ℕ) → ((n : ℕ) → f n ≡ 0) → (ns : List ℕ) →
 no_sum f none [] = refl
 no_sum f none (n ∷ ns) = rw (none n) (no_sum f none ns)
 
-pub none_differs : (s : FullState) → IsRightState s → difference_count s ≡ 0
+pub none_differs : (s : ToolboxState) → IsRightState s.desk.windows → difference_count s ≡ 0
 unfolding row_differences differences_of
 none_differs s right =
-    no_sum (row_differences s (nat_abs s.desk.width)) (λ v. none_counted (differs s) (nowhere s right) (map (λ h. record { h = pos h; v = pos v }) (range_with_len 0 (nat_abs s.desk.width))))
-    (range_with_len 0 (nat_abs s.desk.height))
+    no_sum (row_differences s (nat_abs s.desk.windows.desk.width)) (λ v. none_counted (differs s) (nowhere s right) (map (λ h. record { h = pos h; v = pos v }) (range_with_len 0 (nat_abs s.desk.windows.desk.width))))
+    (range_with_len 0 (nat_abs s.desk.windows.desk.height))
 
 -- ---- pixel by pixel
 
@@ -59,8 +71,8 @@ on_its_screen desk m wide high p =
     ∙ (λ i. between-is_below m.width p.h i && between-is_below m.height p.v i)
 
 -- a pixel of one such map is one of another
-pub on_both : (desk : FullDesk) (m screen : Bits) → IsPaintedDesk desk m → pos screen.width ≡ desk.width → pos screen.height ≡ desk.height → (p : Point) → on_map m p ≡ true → on_map screen p ≡ true
-on_both desk m screen painted wide high p on =
+pub on_both : (desk : FullDesk) (value : PixelSet) (m screen : Bits) → IsPaintedSo desk value m → pos screen.width ≡ desk.width → pos screen.height ≡ desk.height → (p : Point) → on_map m p ≡ true → on_map screen p ≡ true
+on_both desk value m screen painted wide high p on =
     sym (on_its_screen desk screen wide high p) ∙ on_its_screen desk m painted.wide painted.high p ∙ on
 
 unlike : (a b : Bool) → not (beq a b) ≡ true → differ a b ≡ true
@@ -69,44 +81,60 @@ unlike true false e = refl
 unlike false true e = refl
 unlike false false e = absurd (cc)
 
--- a pixel whose bits in two maps are those of the screen and of the desk painted from nothing
-module _ (s : FullState) (m : Bits) (p : Point) (painted : IsPaintedDesk s.desk m) (on : on_map m p ≡ true) where
-  there : on_screen (layered_desk s.desk) p ≡ true
-  there = on_its_screen s.desk m painted.wide painted.high p ∙ on
+like : (a b : Bool) → not (beq a b) ≡ false → differ a b ≡ false
+like true true e = refl
+like true false e = absurd (cc)
+like false true e = absurd (cc)
+like false false e = refl
 
-  differs_where : differs s p ≡ (not (s.stale p) && differ (s.image p) (bit m p))
-  differs_where = rw (there, painted.pixels p there) refl
+and_false : (b : Bool) → (b && false) ≡ false
+and_false true = refl
+and_false false = refl
+
+-- a pixel whose bits in two maps are those of the screen and of the desk painted from nothing
+module _ (s : ToolboxState) (m : Bits) (p : Point) (painted : IsPaintedScreen s m) (on : on_map m p ≡ true) where
+  there : on_screen (layered_desk s.desk.windows.desk) p ≡ true
+  there = on_its_screen s.desk.windows.desk m painted.wide painted.high p ∙ on
+
+  differs_where : differs s p ≡ (not (s.desk.windows.stale p) && differ (screen_of s p) (bit m p))
+  differs_where = λ i. there i && (not (s.desk.windows.stale p) && differ (screen_of s p) (sym (painted.pixels p there) i))
+
+  -- where the two bits are the same
+  pub alike_if : (a b : Bool) → a ≡ screen_of s p → b ≡ bit m p → not (beq a b) ≡ false → not (beq a b) ≡ differs s p
+  alike_if a b shown scratched alike =
+      let no : differ (screen_of s p) (bit m p) ≡ false = sym (λ i. differ (shown i) (scratched i)) ∙ like a b alike in
+      alike ∙ sym (and_false (not (s.desk.windows.stale p))) ∙ ap (λ y. not (s.desk.windows.stale p) && y) (sym no) ∙ sym differs_where
 
   -- where the two bits are not the same
-  pub differs_if : (a b stale : Bool) → a ≡ s.image p → b ≡ bit m p → not (beq a b) ≡ true → stale ≡ s.stale p → not stale ≡ differs s p
+  pub differs_if : (a b stale : Bool) → a ≡ screen_of s p → b ≡ bit m p → not (beq a b) ≡ true → stale ≡ s.desk.windows.stale p → not stale ≡ differs s p
   differs_if a b stale shown scratched unlikely is =
-      let yes : differ (s.image p) (bit m p) ≡ true = sym (λ i. differ (shown i) (scratched i)) ∙ unlike a b unlikely in
-      ap not is ∙ sym (and_true (not (s.stale p))) ∙ ap (λ y. not (s.stale p) && y) (sym yes) ∙ sym differs_where
+      let yes : differ (screen_of s p) (bit m p) ≡ true = sym (λ i. differ (shown i) (scratched i)) ∙ unlike a b unlikely in
+      ap not is ∙ sym (and_true (not (s.desk.windows.stale p))) ∙ ap (λ y. not (s.desk.windows.stale p) && y) (sym yes) ∙ sym differs_where
 
 -- one pixel more
-row_more : (s : FullState) (v h : ℕ) → row_differences s (h + 1) v ≡ row_differences s h v + cond (differs s (record { h = pos h; v = pos v })) 1 0
+row_more : (s : ToolboxState) (v h : ℕ) → row_differences s (h + 1) v ≡ row_differences s h v + cond (differs s (record { h = pos h; v = pos v })) 1 0
 unfolding row_differences
 row_more s v h = sum_by-map-range_with_len_more (λ p. cond (differs s p) 1 0) (λ n. record { h = pos n; v = pos v }) 0 h h (omega arith)
 
-pub counted_pixel : (s : FullState) (row column n new : ℕ) (result : Bool) (h v : ℤ) → n ≡ row_differences s column row → result ≡ differs s (record { h = h; v = v })
+pub counted_pixel : (s : ToolboxState) (row column n new : ℕ) (result : Bool) (h v : ℤ) → n ≡ row_differences s column row → result ≡ differs s (record { h = h; v = v })
     → h ≡ pos column → v ≡ pos row → new ≡ n + cond result 1 0 → new ≡ row_differences s (column + 1) row
 counted_pixel s row column n new result h v counted is at below more =
     more ∙ ap (λ k. k + cond result 1 0) counted
     ∙ ap (λ b. row_differences s column row + cond b 1 0) (is ∙ (λ i. differs s (record { h = at i; v = below i })))
     ∙ sym (row_more s row column)
 
-pub row_start : (s : FullState) (v : ℕ) → row_differences s 0 v ≡ 0
+pub row_start : (s : ToolboxState) (v : ℕ) → row_differences s 0 v ≡ 0
 unfolding row_differences
 row_start s v = refl
 
 -- one row more
-rows_more : (s : FullState) (width v : ℕ) → differences_of s width (v + 1) ≡ differences_of s width v + row_differences s width v
+rows_more : (s : ToolboxState) (width v : ℕ) → differences_of s width (v + 1) ≡ differences_of s width v + row_differences s width v
 unfolding differences_of
 rows_more s width v = sum_by-map-range_with_len_more (λ n. n) (row_differences s width) 0 v v (omega arith)
 
-pub counted_row : (s : FullState) (width row n more : ℕ) → n ≡ differences_of s width row → more ≡ row_differences s width row → n + more ≡ differences_of s width (row + 1)
+pub counted_row : (s : ToolboxState) (width row n more : ℕ) → n ≡ differences_of s width row → more ≡ row_differences s width row → n + more ≡ differences_of s width (row + 1)
 counted_row s width row n more counted is = (λ i. counted i + is i) ∙ sym (rows_more s width row)
 
-pub rows_start : (s : FullState) (width : ℕ) → differences_of s width 0 ≡ 0
+pub rows_start : (s : ToolboxState) (width : ℕ) → differences_of s width 0 ≡ 0
 unfolding differences_of
 rows_start s width = refl

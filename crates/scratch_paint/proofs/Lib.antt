@@ -2,3 +2,4 @@
 pub mod CutLemmas
 pub mod PaintLemmas
 pub mod DifferenceLemmas
+pub mod FrontLemmas

@@ -1,7 +1,6 @@
 -- Windows painted over each other, and over the ground.
-use Rattle.std.proofs.Common.{◌≡◌, ℕ, ◌+◌, ◌<◌, Bool, true, false, not, ◌&&◌, if◌then◌else◌, List, [], ◌∷◌, length, get_or, drop, map, Some, ℤ, pos, ◌-ℤ◌, refl, sym, subst, ap, ◌∙◌}
-use Rattle.std.specs.Prelude.{int_le, int_lt}
-use Rattle.std.specs.Ordering.{int_eq}
+use Rattle.std.proofs.Common.{◌≡◌, ℕ, ◌+◌, ◌<◌, Bool, true, false, not, ◌&&◌, if◌then◌else◌, List, [], ◌∷◌, length, get_or, drop, map, Some, ℤ, pos, refl, sym, subst, ap, ◌∙◌}
+use Rattle.std.specs.Prelude.{int_lt}
 use Rattle.std.proofs.lemmas.Bool.{and_parts, false≢true}
 use Rattle.std.proofs.lemmas.Grind.{fold-append}
 use Rattle.std.proofs.lemmas.List.{drop_more}
@@ -12,7 +11,7 @@ use Rattle.tb_geom.specs.Pixels.{Pixels, holds}
 use Rattle.bit_map.specs.Bits.{Bits, on_map, bit}
 use Rattle.bit_map.specs.Patterns.{pattern_bit}
 use Rattle.bit_blit.specs.Draws.{Draws}
-use Rattle.bit_blit.proofs.DrawsLemmas.{Draws-over}
+use Rattle.bit_blit.proofs.DrawsLemmas.{Draws-on_map, Draws-over}
 use Rattle.draw_port.specs.Ops.{picture_bit}
 use Rattle.desk_ground.specs.declared.ground.Ground.{Ground}
 use Rattle.desk_ground.specs.Screens.{is_screen, is_screen_side, is_bar, gray}
@@ -29,12 +28,14 @@ use Rattle.vis_update.specs.Places.{IsRegionsAt, is_placed}
 use Rattle.vis_update.specs.Records.{WindowRecord, record_of, layered_window}
 use Rattle.vis_update.proofs.PlaceLemmas.{placed_from}
 use Rattle.window_mgr.specs.declared.manager.WindowManager.{WindowManager}
-use Rattle.window_mgr.specs.FullDesk.{FullDesk, layered_desk, bar_picture}
+use Rattle.window_mgr.specs.FullDesk.{FullDesk, layered_desk}
 use Rattle.window_mgr.specs.Kept.{IsKept}
 use Rattle.window_mgr.specs.Records.{desk_of}
 use Rattle.window_mgr.specs.Whole.{IsSettled}
 use Rattle.window_mgr.proofs.Arranged.{between-is_below}
-use Rattle.window_mgr.proofs.EmptyLemmas.{below_rows, row_of_bar, no_row}
+use Rattle.window_mgr.proofs.EmptyLemmas.{below_rows, no_row}
+use Rattle.menu_bar.specs.declared.titles.BarTitle.{BarTitle}
+use Rattle.menu_bar.specs.Bars.{bar_picture}
 use Rattle.scratch_paint.specs.Paints.{window_value, windows_value, IsPaintedDesk}
 
 -- a settled window may be where it is
@@ -95,11 +96,12 @@ module _ {V : Type 0} {H : V → Type 0} (loan : Taken V H → Loan) (font : Lis
 -- ---- over the ground
 
 -- painting from nothing is painting the windows over the desktop, and the menu bar over them
-scratch_is : (desk : FullDesk) (p : Point) → scratch (layered_desk desk) p ≡ (if int_lt p.v desk.bar then bar_picture p else windows_value desk.font desk.windows p (pattern_bit gray p))
+scratch_is : (desk : FullDesk) (p : Point)
+    → scratch (layered_desk desk) p ≡ (if int_lt p.v desk.bar.rows then bar_picture desk.font desk.bar.titles p else windows_value desk.font desk.windows p (pattern_bit gray p))
 scratch_is desk p = fold-append (painted p) (pattern_bit gray p) (layers_of (map (layered_window desk.font) desk.windows)) _
 
 -- the desk's pixels are those of the ground
-on_ground : (desk : FullDesk) (g : Ground) → IsGround desk.width desk.height desk.bar g → (p : Point) → on_screen (layered_desk desk) p ≡ on_map g.screen p
+on_ground : (desk : FullDesk) (g : Ground) → IsGround desk.width desk.height desk.bar.rows g → (p : Point) → on_screen (layered_desk desk) p ≡ on_map g.screen p
 unfolding on_map
 on_ground desk g ground p =
     (λ i. between (pos 0) p.h (sym ground.wide i) && between (pos 0) p.v (sym ground.high i))
@@ -109,60 +111,52 @@ on_ground desk g ground p =
 is_bar_of : (width height bar : ℤ) → is_screen width height bar ≡ true → is_bar bar ≡ true
 is_bar_of width height bar e = (and_parts (is_bar bar) _ (and_parts (is_screen_side height) _ (and_parts (is_screen_side width) _ e).1).1).0
 
--- on a desk without windows all windows were painted where it is gray
-pub desk_painted : (desk : FullDesk) (g : Ground) (new : Bits) → is_bar desk.bar ≡ true → IsGround desk.width desk.height desk.bar g → Draws (holds g.gray) (windows_value desk.font desk.windows) g.screen new → IsPaintedDesk desk new
-desk_painted desk g new bar_is ground drawn = record {
-  wide = ap pos drawn.width ∙ ground.wide;
-  high = ap pos drawn.height ∙ ground.high;
+-- on a desk without windows all windows were painted where it is gray, and then the menu bar
+pub desk_painted : (desk : FullDesk) (g : Ground) (mid new : Bits) → is_bar desk.bar.rows ≡ true → IsGround desk.width desk.height desk.bar.rows g
+    → Draws (holds g.gray) (windows_value desk.font desk.windows) g.screen mid
+    → Draws (λ p. int_lt p.v desk.bar.rows) (λ p _. bar_picture desk.font desk.bar.titles p) mid new
+    → IsPaintedDesk desk new
+desk_painted desk g mid new bar_is ground drawn topped = record {
+  wide = ap pos (topped.width ∙ drawn.width) ∙ ground.wide;
+  high = ap pos (topped.height ∙ drawn.height) ∙ ground.high;
   pixels = λ p on. all p on;
 }
   where
-    is_gray : (p : Point) → on_screen (layered_desk desk) p ≡ true → holds g.gray p ≡ not (int_lt p.v desk.bar)
+    is_gray : (p : Point) → on_screen (layered_desk desk) p ≡ true → holds g.gray p ≡ not (int_lt p.v desk.bar.rows)
     is_gray p on =
         let sides = and_parts (between (pos 0) p.h desk.width) _ on in
-        ground.gray p ∙ (λ i. sides.0 i && below_rows desk.bar p.v desk.height bar_is i) ∙ (λ i. sides.1 i && not (int_lt p.v desk.bar))
+        ground.gray p ∙ (λ i. sides.0 i && below_rows desk.bar.rows p.v desk.height bar_is i) ∙ (λ i. sides.1 i && not (int_lt p.v desk.bar.rows))
 
     all : (p : Point) → on_screen (layered_desk desk) p ≡ true → bit new p ≡ scratch (layered_desk desk) p
     all p on =
         let there : on_map g.screen p ≡ true = sym (on_ground desk g ground p) ∙ on in
-        drawn.pixels p there
-        ∙ ap (λ b. if holds g.gray p then windows_value desk.font desk.windows p b else b) (ground.pixels p there)
-        ∙ by_bar (int_lt p.v desk.bar) refl
-        ∙ sym (scratch_is desk p)
+        topped.pixels p (Draws-on_map _ _ g.screen mid drawn p ∙ there) ∙ by_bar there (int_lt p.v desk.bar.rows) refl ∙ sym (scratch_is desk p)
       where
-        low : int_le (pos 0) p.v ≡ true
-        low = (and_parts (int_le (pos 0) p.v) _ (and_parts (between (pos 0) p.h desk.width) _ on).1).0
+        over_bar : Bool → Bool → Bool
+        over_bar b below = if b then bar_picture desk.font desk.bar.titles p else below
 
-        under : Bool
-        under = if int_eq p.v (desk.bar -ℤ pos 1) then true else (if holds g.gray p then pattern_bit gray p else false)
-
-        by_row : (b : Bool) → (if b then true else false) ≡ b
-        by_row true = refl
-        by_row false = refl
-
-        by_bar : (b : Bool) → int_lt p.v desk.bar ≡ b → (if holds g.gray p then windows_value desk.font desk.windows p under else under) ≡ (if b then bar_picture p else windows_value desk.font desk.windows p (pattern_bit gray p))
-        by_bar true e =
-            let h : holds g.gray p ≡ false = is_gray p on ∙ ap not e in
-            rw (row_of_bar desk.bar p.v bar_is low e, h) (by_row (int_eq p.v (pos 19)))
-        by_bar false e =
+        by_bar : on_map g.screen p ≡ true → (b : Bool) → int_lt p.v desk.bar.rows ≡ b
+            → over_bar (int_lt p.v desk.bar.rows) (bit mid p) ≡ over_bar (int_lt p.v desk.bar.rows) (windows_value desk.font desk.windows p (pattern_bit gray p))
+        by_bar there true e = ap (λ b. over_bar b (bit mid p)) e ∙ sym (ap (λ b. over_bar b (windows_value desk.font desk.windows p (pattern_bit gray p))) e)
+        by_bar there false e =
             let h : holds g.gray p ≡ true = is_gray p on ∙ ap not e in
-            rw (no_row desk.bar p.v e, h) refl
+            let under : bit g.screen p ≡ pattern_bit gray p = ground.pixels p there
+            ∙ (λ i. if no_row desk.bar.rows p.v e i then true else (if h i then pattern_bit gray p else false)) in
+            let held : bit mid p ≡ windows_value desk.font desk.windows p (pattern_bit gray p) = drawn.pixels p there
+            ∙ (λ i. if h i then windows_value desk.font desk.windows p (under i) else under i) in
+            ap (over_bar (int_lt p.v desk.bar.rows)) held
 
 -- and that is the desk of a manager, where its parts were asked of what is the same
-pub kept_painted : {V : Type 0} {H : V → Type 0} (loan : Taken V H → Loan) (t asked : WindowManager V H) (width height bar : ℤ) (font : List ℕ) (windows : WindowList V H) (g : Ground) (new : Bits)
-    → asked ≡ t
-    → width ≡ pos asked.screen.width → height ≡ pos asked.screen.height → bar ≡ asked.bar → font ≡ asked.font → windows ≡ asked.windows
+pub kept_painted : {V : Type 0} {H : V → Type 0} (loan : Taken V H → Loan) (t : WindowManager V H) (width height bar : ℤ) (font : List ℕ) (titles : List BarTitle) (windows : WindowList V H) (g : Ground) (mid new : Bits)
+    → width ≡ pos t.screen.width → height ≡ pos t.screen.height → bar ≡ t.bar.rows → titles ≡ t.bar.titles → font ≡ t.font → windows ≡ t.windows
     → IsKept loan t
     → IsGround width height bar g
-    → Draws (holds g.gray) (windows_value font (map (record_of loan) windows.records.items)) g.screen new
+    → Draws (holds g.gray) (windows_value font (map (record_of loan) windows.records.items)) g.screen mid
+    → Draws (λ p. int_lt p.v bar) (λ p _. bar_picture font titles p) mid new
     → IsPaintedDesk (desk_of loan t []) new
-kept_painted {V} {H} loan t asked width height bar font windows g new same wide high rows texts list kept ground drawn =
-    let w : width ≡ pos t.screen.width = wide ∙ (λ i. pos (same i).screen.width) in
-    let h : height ≡ pos t.screen.height = high ∙ (λ i. pos (same i).screen.height) in
-    let b : bar ≡ t.bar = rows ∙ (λ i. (same i).bar) in
-    let f : font ≡ t.font = texts ∙ (λ i. (same i).font) in
-    let l : windows ≡ t.windows = list ∙ (λ i. (same i).windows) in
-    desk_painted (desk_of loan t []) g new
-    (is_bar_of (pos t.screen.width) (pos t.screen.height) t.bar kept.whole.sound.screen)
-    (subst (λ (x : ℤ × (ℤ × ℤ)). IsGround x.0 x.1.0 x.1.1 g) (λ i. (w i, (h i, b i))) ground)
-    (subst (λ (x : List ℕ × WindowList V H). Draws (holds g.gray) (windows_value x.0 (map (record_of loan) x.1.records.items)) g.screen new) (λ i. (f i, l i)) drawn)
+kept_painted {V} {H} loan t width height bar font titles windows g mid new wide high rows texts letters list kept ground drawn topped =
+    desk_painted (desk_of loan t []) g mid new
+    (is_bar_of (pos t.screen.width) (pos t.screen.height) t.bar.rows kept.whole.sound.screen)
+    (subst (λ (x : ℤ × (ℤ × ℤ)). IsGround x.0 x.1.0 x.1.1 g) (λ i. (wide i, (high i, rows i))) ground)
+    (subst (λ (x : List ℕ × WindowList V H). Draws (holds g.gray) (windows_value x.0 (map (record_of loan) x.1.records.items)) g.screen mid) (λ i. (letters i, list i)) drawn)
+    (subst (λ (x : ℤ × (List ℕ × List BarTitle)). Draws (λ p. int_lt p.v x.0) (λ p _. bar_picture x.1.0 x.1.1 p) mid new) (λ i. (rows i, (letters i, texts i))) topped)

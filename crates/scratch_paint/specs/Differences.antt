@@ -4,21 +4,23 @@ use Rattle.std.specs.List.{range_with_len}
 use Rattle.tb_geom.specs.Points.{PixelSet}
 use Rattle.region_bytes.specs.Edges.{differ}
 use Rattle.def_iface.specs.Desk.{on_screen}
-use Rattle.def_iface.specs.Scratch.{scratch}
-use Rattle.window_mgr.specs.FullDesk.{FullState, layered_desk}
+use Rattle.window_mgr.specs.FullDesk.{layered_desk}
+use Rattle.desk_toolbox.specs.Fronts.{screen_of, screen_scratch}
+use Rattle.desk_toolbox.specs.ToolboxStates.{ToolboxState}
 
 -- the pixel is one of the screen's, is in no update set, and has not the value that painting from nothing gives
-abbrev pub differs : FullState → PixelSet
-differs s p = on_screen (layered_desk s.desk) p && (not (s.stale p) && differ (s.image p) (scratch (layered_desk s.desk) p))
+abbrev pub differs : ToolboxState → PixelSet
+differs s p = on_screen (layered_desk s.desk.windows.desk) p
+    && (not (s.desk.windows.stale p) && differ (screen_of s p) (screen_scratch s p))
 
 -- how many pixels of row v do so, of this many from the left
-unfoldable pub row_differences : FullState → ℕ → ℕ → ℕ
+unfoldable pub row_differences : ToolboxState → ℕ → ℕ → ℕ
 row_differences s width v = count_by (differs s) (map (λ h. record { h = pos h; v = pos v }) (range_with_len 0 width))
 
 -- how many pixels do so of this many rows
-unfoldable pub differences_of : FullState → ℕ → ℕ → ℕ
+unfoldable pub differences_of : ToolboxState → ℕ → ℕ → ℕ
 differences_of s width height = sum (map (row_differences s width) (range_with_len 0 height))
 
 -- how many pixels of the screen do so
-abbrev pub difference_count : FullState → ℕ
-difference_count s = differences_of s (nat_abs s.desk.width) (nat_abs s.desk.height)
+abbrev pub difference_count : ToolboxState → ℕ
+difference_count s = differences_of s (nat_abs s.desk.windows.desk.width) (nat_abs s.desk.windows.desk.height)

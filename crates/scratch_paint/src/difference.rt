@@ -1,46 +1,52 @@
 //! How far the screen is from the desk painted from nothing.
 ghost use Rattle.std.specs.Prelude.{◌≡◌, ◌≤◌, ◌<◌, [], true, IfOk};
 ghost use Rattle.bit_map.specs.Bits.{on_map};
-ghost use Rattle.window_mgr.specs.Kept.{IsKept};
-ghost use Rattle.window_mgr.specs.Records.{desk_of, state_of};
+ghost use Rattle.desk_toolbox.specs.WholeToolbox.{IsKeptToolbox, toolbox_state};
 ghost use Rattle.scratch_paint.specs.Differences.{differs, row_differences, difference_count};
-ghost use Rattle.scratch_paint.specs.Paints.{IsPaintedDesk};
+ghost use Rattle.scratch_paint.specs.Paints.{IsPaintedScreen};
 
 use crate::paint;
 use bit_map::BitMap;
-use def_iface::{Defined, Taken};
+use def_iface::{Defined, DefinedMenu, Taken, TakenMenu};
 use desk_toolbox::Toolbox;
 use std::alloc::{AllocError, Global};
 use tb_geom::Point;
-use window_mgr::WindowManager;
 
 /// How many pixels of the screen in no update region differ from the desk painted from nothing.
 pub fn differences(alloc: Global, toolbox: &Toolbox) -> Result<usize, AllocError>
-    requires { IsKept ⟦<Taken as Defined>⟧.loan toolbox.now.windows }
-    ensures { IfOk result (λ n. n ≡ difference_count (state_of ⟦<Taken as Defined>⟧.loan toolbox.now.windows [])) }
+    requires { IsKeptToolbox ⟦<Taken as Defined>⟧.loan ⟦<TakenMenu as DefinedMenu>⟧.menu_loan toolbox.now }
+    ensures { IfOk result (λ n. n ≡ difference_count
+        (toolbox_state ⟦<Taken as Defined>⟧.loan ⟦<TakenMenu as DefinedMenu>⟧.menu_loan toolbox.now [] [])) }
 {
     let painted = paint(alloc, toolbox)?;
-    Ok(differences_from(toolbox.windows(), &painted))
+    Ok(differences_from(toolbox, &painted))
 }
 
 /// How many differ from this map.
-fn differences_from(windows: &WindowManager, painted: &BitMap) -> usize
-    requires { IsPaintedDesk (desk_of ⟦<Taken as Defined>⟧.loan windows.now []) painted.now }
-    ensures { result ≡ difference_count (state_of ⟦<Taken as Defined>⟧.loan windows.now []) }
+fn differences_from(toolbox: &Toolbox, painted: &BitMap) -> usize
+    requires kept { IsKeptToolbox ⟦<Taken as Defined>⟧.loan ⟦<TakenMenu as DefinedMenu>⟧.menu_loan toolbox.now }
+    requires painted { IsPaintedScreen
+        (toolbox_state ⟦<Taken as Defined>⟧.loan ⟦<TakenMenu as DefinedMenu>⟧.menu_loan toolbox.now [] []) painted.now }
+    ensures { result ≡ difference_count
+        (toolbox_state ⟦<Taken as Defined>⟧.loan ⟦<TakenMenu as DefinedMenu>⟧.menu_loan toolbox.now [] []) }
 {
     let rows = painted.bounds().bottom as u16;
     let mut count = 0;
     for row in 0..rows {
-        count += differences_in_row(windows, painted, row);
+        count += differences_in_row(toolbox, painted, row);
     }
     count
 }
 
 /// The same of a row.
-fn differences_in_row(windows: &WindowManager, painted: &BitMap, row: u16) -> usize
-    requires painted { IsPaintedDesk (desk_of ⟦<Taken as Defined>⟧.loan windows.now []) painted.now }
+fn differences_in_row(toolbox: &Toolbox, painted: &BitMap, row: u16) -> usize
+    requires kept { IsKeptToolbox ⟦<Taken as Defined>⟧.loan ⟦<TakenMenu as DefinedMenu>⟧.menu_loan toolbox.now }
+    requires painted { IsPaintedScreen
+        (toolbox_state ⟦<Taken as Defined>⟧.loan ⟦<TakenMenu as DefinedMenu>⟧.menu_loan toolbox.now [] []) painted.now }
     requires row { row < painted.now.height }
-    ensures count { result ≡ row_differences (state_of ⟦<Taken as Defined>⟧.loan windows.now []) painted.now.width row }
+    ensures count { result ≡ row_differences
+        (toolbox_state ⟦<Taken as Defined>⟧.loan ⟦<TakenMenu as DefinedMenu>⟧.menu_loan toolbox.now [] [])
+        painted.now.width row }
     ensures few { result ≤ painted.now.width }
 {
     let columns = painted.bounds().right as u16;
@@ -50,7 +56,7 @@ fn differences_in_row(windows: &WindowManager, painted: &BitMap, row: u16) -> us
             h: i32::from(column),
             v: i32::from(row),
         };
-        if differs_at(windows, painted, point) {
+        if differs_at(toolbox, painted, point) {
             count += 1;
         }
     }
@@ -58,10 +64,13 @@ fn differences_in_row(windows: &WindowManager, painted: &BitMap, row: u16) -> us
 }
 
 /// Whether a pixel of the screen differs, and is in no update region.
-fn differs_at(windows: &WindowManager, painted: &BitMap, point: Point) -> bool
-    requires painted { IsPaintedDesk (desk_of ⟦<Taken as Defined>⟧.loan windows.now []) painted.now }
+fn differs_at(toolbox: &Toolbox, painted: &BitMap, point: Point) -> bool
+    requires kept { IsKeptToolbox ⟦<Taken as Defined>⟧.loan ⟦<TakenMenu as DefinedMenu>⟧.menu_loan toolbox.now }
+    requires painted { IsPaintedScreen
+        (toolbox_state ⟦<Taken as Defined>⟧.loan ⟦<TakenMenu as DefinedMenu>⟧.menu_loan toolbox.now [] []) painted.now }
     requires point { on_map painted.now point ≡ true }
-    ensures { result ≡ differs (state_of ⟦<Taken as Defined>⟧.loan windows.now []) point }
+    ensures { result ≡ differs
+        (toolbox_state ⟦<Taken as Defined>⟧.loan ⟦<TakenMenu as DefinedMenu>⟧.menu_loan toolbox.now [] []) point }
 {
-    windows.screen().get(point) != painted.get(point) && !windows.is_stale(point)
+    toolbox.screen().get(point) != painted.get(point) && !toolbox.windows().is_stale(point)
 }

@@ -10,34 +10,53 @@ ghost use Rattle.vis_update.specs.Records.{record_of};
 ghost use Rattle.window_mgr.specs.Kept.{IsKept};
 ghost use Rattle.window_mgr.specs.Records.{desk_of};
 ghost use Rattle.window_mgr.specs.Whole.{IsSettled};
-ghost use Rattle.scratch_paint.specs.Paints.{IsPaintedDesk, window_value, windows_value};
+ghost use Rattle.desk_toolbox.specs.WholeToolbox.{IsKeptToolbox, toolbox_state};
+ghost use Rattle.scratch_paint.specs.Paints.{IsPaintedDesk, IsPaintedScreen, window_value, windows_value};
 
 use bit_map::BitMap;
-use def_iface::{Defined, Taken, WindowRegions};
+use def_iface::{Defined, DefinedMenu, Taken, TakenMenu, WindowRegions};
 use desk_ground::{Ground, empty_ground};
 use desk_toolbox::Toolbox;
 use draw_port::{Canvas, Cut};
+use menu_bar::draw_bar;
 use scan_region::Region;
 use std::alloc::{AllocError, Global};
 use strike_font::Font;
 use tb_geom::Refusal;
 use vis_update::regions_of;
 use window_list::{Window, WindowList, picture_place};
-use window_mgr::Parts;
+use window_mgr::{Parts, WindowManager};
 
-/// A new map, of the size of the screen, with the whole desk painted from nothing, back to front. It
-/// reads neither the screen's pixels nor any region that the Toolbox keeps.
+/// A new map, of the size of the screen, with the whole desk painted from nothing, back to front: what the windows, the menu
+/// bar and the desktop show, and over that the menu that is pulled down. It reads neither the screen's pixels nor any region
+/// that the Toolbox keeps.
 pub fn paint(alloc: Global, toolbox: &Toolbox) -> Result<BitMap, AllocError>
-    requires { IsKept ⟦<Taken as Defined>⟧.loan toolbox.now.windows }
-    ensures { IfOk result (IsPaintedDesk (desk_of ⟦<Taken as Defined>⟧.loan toolbox.now.windows [])) }
+    requires { IsKeptToolbox ⟦<Taken as Defined>⟧.loan ⟦<TakenMenu as DefinedMenu>⟧.menu_loan toolbox.now }
+    ensures { IfOk result (IsPaintedScreen
+        (toolbox_state ⟦<Taken as Defined>⟧.loan ⟦<TakenMenu as DefinedMenu>⟧.menu_loan toolbox.now [] [])) }
+{
+    let windows = toolbox.windows();
+    let mut image = paint_base(alloc, windows)?;
+    let font = windows.parts().font;
+    toolbox
+        .menus()
+        .paint_pulled(&mut image, font, toolbox.activity());
+    Ok(image)
+}
+
+/// The same without a menu that is pulled down: the base image.
+fn paint_base(alloc: Global, windows: &WindowManager) -> Result<BitMap, AllocError>
+    requires { IsKept ⟦<Taken as Defined>⟧.loan windows.now }
+    ensures { IfOk result (IsPaintedDesk (desk_of ⟦<Taken as Defined>⟧.loan windows.now [])) }
 {
     let Parts {
         width,
         height,
         bar,
+        titles,
         font,
         windows,
-    } = toolbox.windows().parts();
+    } = windows.parts();
     let Ground { screen, gray, .. } = match empty_ground(alloc, width, height, bar) {
         Ok(ground) => ground,
         Err(Refusal::NoMemory) => return Err(AllocError),
@@ -45,6 +64,7 @@ pub fn paint(alloc: Global, toolbox: &Toolbox) -> Result<BitMap, AllocError>
     };
     let mut image = screen;
     paint_windows(alloc, &mut image, &gray, windows, font)?;
+    draw_bar(&mut image, bar, font, titles);
     Ok(image)
 }
 

@@ -1,6 +1,8 @@
 mod Checked
 mod ChoicesLemmas
 mod Ends
+mod MenuStocks
+mod SameImages
 mod Sessions
 mod StockKinds
 mod RawRuns

@@ -1,73 +1,121 @@
--- The stock of a script has the same slots, for the same kinds, whatever its lines do.
+-- What every call leaves as it is, a whole script leaves so: the stock has the same slots, for the same kinds, whatever its
+-- lines do.
 use Rattle.std.proofs.Common.{◌≡◌, ℕ, Bool, List, [], ◌∷◌, map, Option, None, Some, Result, Ok, Err, ap, ◌∙◌}
 use Rattle.tb_geom.specs.declared.refusal.Refusal.{Refusal}
 use Rattle.tb_geom.specs.declared.refusal.Refusal.TheVariants.{NoMemory, ReadFault, WriteFault}
 use Rattle.def_iface.specs.Stocked.{SlotView}
+use Rattle.desk_call.specs.declared.call.Call.{Call as Asked}
+use Rattle.desk_call.specs.declared.call.Reply.{Reply}
+use Rattle.menu_mgr.specs.MenuDesks.{MenuSlot}
+use Rattle.desk_toolbox.specs.Run.{IsStep}
 use Rattle.desk_toolbox.specs.ToolboxStates.{ToolboxState}
 use Rattle.desk_toolbox.proofs.Runs.{step_keeps_kinds}
 use Rattle.script_text.specs.declared.command.Command.{Command}
 use Rattle.script_text.specs.declared.command.Command.TheVariants.{Desk, Image, Call}
+use Rattle.script_text.specs.declared.command.DeskSize.{DeskSize}
 use Rattle.script_text.specs.Lines.{said}
 use Rattle.watched_io.specs.Reads.{Input}
 use Rattle.script_runner.specs.Runs.{CheckedEnds, ScriptEnds}
-use Rattle.script_runner.specs.Session.{SessionState, unmade, made, LeavesStock, Answers, FirstAnswers, Opens, Obeys, SaidAnswers, Written, why_unmade}
+use Rattle.script_runner.specs.Session.{SessionState, unmade, made, IsNewDesk, LeavesStock, Answers, FirstAnswers, Opens, Obeys, SaidAnswers, Written, first_size, why_unmade}
 use Rattle.watched_io.specs.Writes.{Output}
+use Rattle.desk_toolbox.proofs.MenuKinds.{menu_kinds, step_keeps_menu_kinds}
+
+-- what is told of a desk, and of the stock of one that is yet to be made: each call leaves it as it is
+record IsKeptBySteps {K : Type 0} (of_desk : ToolboxState → K) (of_stock : List SlotView → List MenuSlot → K) : Type 0 where
+  pub step : (call : Asked) (answer : Result Reply Refusal) (before after : ToolboxState) → IsStep call answer before after → of_desk after ≡ of_desk before
+  pub fresh : (size : DeskSize) (font : List ℕ) (slots : List SlotView) (kept : List MenuSlot) (s : ToolboxState) → IsNewDesk size font slots kept s → of_desk s ≡ of_stock slots kept
+
+module _ {K : Type 0} (of_desk : ToolboxState → K) (of_stock : List SlotView → List MenuSlot → K) where
+  -- the same of a session
+  abbrev of_session : SessionState → K
+  of_session (unmade font slots kept) = of_stock slots kept
+  of_session (made s) = of_desk s
+
+  module _ (keeps : IsKeptBySteps of_desk of_stock) (raw : Bool) where
+    answers_keep : (s : ToolboxState) (command : Command) (text : List ℕ) (after : ToolboxState) → Answers raw s command text after → of_desk after ≡ of_desk s
+    answers_keep s (Desk size) text after answered = ap of_desk answered.1
+    answers_keep s Image text after answered = ap of_desk answered.1
+    answers_keep s (Call asked) text after answered = keeps.step asked answered.0 s after answered.1
+
+    first_keeps : (s : ToolboxState) (command : Command) (text : List ℕ) (after : ToolboxState) → FirstAnswers raw s command text after → of_desk after ≡ of_desk s
+    first_keeps s (Desk size) text after answered = ap of_desk answered.1
+    first_keeps s Image text after answered = answers_keep s Image text after answered
+    first_keeps s (Call asked) text after answered = answers_keep s (Call asked) text after answered
+
+    opens_keeping : (why : Option Refusal) (font : List ℕ) (slots : List SlotView) (kept : List MenuSlot) (command : Command) (text : List ℕ) (new : SessionState) → Opens raw why font slots kept command text new → of_session new ≡ of_stock slots kept
+    opens_keeping (Some e) font slots kept command text new opened = ap of_session opened.1
+    opens_keeping None font slots kept command text new (first, after, fresh, answered, is) =
+        ap of_session is ∙ first_keeps first command text after answered ∙ keeps.fresh (first_size command) font slots kept first fresh
+
+    obeys_keeping : (old : SessionState) (command : Command) (text : List ℕ) (new : SessionState) → Obeys raw old command text new → of_session new ≡ of_session old
+    obeys_keeping (unmade font slots kept) command text new obeyed = opens_keeping (why_unmade command slots kept) font slots kept command text new obeyed
+    obeys_keeping (made s) command text new (after, answered, is) = ap of_session is ∙ answers_keep s command text after answered
+
+    said_keeps : (old : SessionState) (line : Option (Result Command Refusal)) (text : List ℕ) (new : SessionState) → SaidAnswers raw old line text new → of_session new ≡ of_session old
+    said_keeps old None text new answered = ap of_session answered.1
+    said_keeps old (Some (Err e)) text new answered = ap of_session answered.1
+    said_keeps old (Some (Ok command)) text new answered = obeys_keeping old command text new answered
+
+    written_keeps : (old : SessionState) (lines : List (List ℕ)) (text : List ℕ) (new : SessionState) → Written raw old lines text new → of_session new ≡ of_session old
+    written_keeps old [] text new written = ap of_session written.1
+    written_keeps old (line ∷ lines) text new (middle, first, others, one, rest, whole) =
+        written_keeps middle lines others new rest ∙ said_keeps old (said line) first middle one
+
+    -- a script's session, however it ended
+    ends_keeping : {X : Type 0} (first : SessionState) (input rest : Input) (old new : Output) (session : SessionState) (r : Result X Refusal) → ScriptEnds raw first input rest old new session r → of_session session ≡ of_session first
+    ends_keeping first input rest old new session (Ok x) done = written_keeps first _ _ session done.answered
+    ends_keeping first input rest old new session (Err ReadFault) stopped = written_keeps first _ _ session stopped.answered
+    ends_keeping first input rest old new session (Err WriteFault) stopped = written_keeps first _ _ session stopped.answered
+    ends_keeping first input rest old new session (Err NoMemory) stopped = written_keeps first _ _ session stopped.answered
+    ends_keeping first input rest old new session (Err _) stopped = absurd stopped
+
+-- ---- the slots of windows
 
 -- the kinds of the slots
 abbrev kinds_in : List SlotView → List (List ℕ)
 kinds_in slots = map (λ s. s.kind) slots
 
--- the slots while the session goes on
-abbrev slots_of : SessionState → List SlotView
-slots_of (unmade font slots) = slots
-slots_of (made s) = s.desk.windows.desk.stock
+abbrev desk_kinds : ToolboxState → List (List ℕ)
+desk_kinds s = kinds_in s.desk.windows.desk.stock
 
--- what a command leaves of it
-answers_kinds : (raw : Bool) (s : ToolboxState) (command : Command) (text : List ℕ) (after : ToolboxState) → Answers raw s command text after → kinds_in after.desk.windows.desk.stock ≡ kinds_in s.desk.windows.desk.stock
-answers_kinds raw s (Desk size) text after answered = ap (λ (t : ToolboxState). kinds_in t.desk.windows.desk.stock) answered.1
-answers_kinds raw s Image text after answered = ap (λ (t : ToolboxState). kinds_in t.desk.windows.desk.stock) answered.1
-answers_kinds raw s (Call asked) text after answered = step_keeps_kinds asked answered.0 s after answered.1
+kinds_kept : IsKeptBySteps desk_kinds (λ slots kept. kinds_in slots)
+kinds_kept = record {
+  step = step_keeps_kinds;
+  fresh = λ size font slots kept s fresh. ap (λ d. kinds_in d.stock) fresh.desk;
+}
 
-first_kinds : (raw : Bool) (s : ToolboxState) (command : Command) (text : List ℕ) (after : ToolboxState) → FirstAnswers raw s command text after → kinds_in after.desk.windows.desk.stock ≡ kinds_in s.desk.windows.desk.stock
-first_kinds raw s (Desk size) text after answered = ap (λ (t : ToolboxState). kinds_in t.desk.windows.desk.stock) answered.1
-first_kinds raw s Image text after answered = answers_kinds raw s Image text after answered
-first_kinds raw s (Call asked) text after answered = answers_kinds raw s (Call asked) text after answered
+-- at the end
+left_kinds : (s : SessionState) (left : List SlotView) (left_menus : List MenuSlot) → LeavesStock s left left_menus → kinds_in left ≡ of_session desk_kinds (λ slots kept. kinds_in slots) s
+left_kinds (unmade font slots kept) left left_menus same = ap kinds_in same.0
+left_kinds (made s) left left_menus closed = closed.0.kinds
 
-opens_kinds : (raw : Bool) (why : Option Refusal) (font : List ℕ) (slots : List SlotView) (command : Command) (text : List ℕ) (new : SessionState) → Opens raw why font slots command text new → kinds_in (slots_of new) ≡ kinds_in slots
-opens_kinds raw (Some e) font slots command text new opened = ap (λ s. kinds_in (slots_of s)) opened.1
-opens_kinds raw None font slots command text new (first, after, fresh, answered, is) =
-    ap (λ s. kinds_in (slots_of s)) is ∙ first_kinds raw first command text after answered ∙ ap (λ d. kinds_in d.stock) fresh.desk
+-- ---- those of menus
 
-obeys_kinds : (raw : Bool) (old : SessionState) (command : Command) (text : List ℕ) (new : SessionState) → Obeys raw old command text new → kinds_in (slots_of new) ≡ kinds_in (slots_of old)
-obeys_kinds raw (unmade font slots) command text new obeyed = opens_kinds raw (why_unmade command slots) font slots command text new obeyed
-obeys_kinds raw (made s) command text new (after, answered, is) = ap (λ t. kinds_in (slots_of t)) is ∙ answers_kinds raw s command text after answered
+abbrev desk_menu_kinds : ToolboxState → List (List ℕ)
+desk_menu_kinds s = menu_kinds s.menus.stock
 
-said_kinds : (raw : Bool) (old : SessionState) (line : Option (Result Command Refusal)) (text : List ℕ) (new : SessionState) → SaidAnswers raw old line text new → kinds_in (slots_of new) ≡ kinds_in (slots_of old)
-said_kinds raw old None text new answered = ap (λ s. kinds_in (slots_of s)) answered.1
-said_kinds raw old (Some (Err e)) text new answered = ap (λ s. kinds_in (slots_of s)) answered.1
-said_kinds raw old (Some (Ok command)) text new answered = obeys_kinds raw old command text new answered
+menu_kinds_kept : IsKeptBySteps desk_menu_kinds (λ slots kept. menu_kinds kept)
+menu_kinds_kept = record {
+  step = step_keeps_menu_kinds;
+  fresh = λ size font slots kept s fresh. ap (λ m. menu_kinds m.stock) fresh.menus;
+}
 
-written_kinds : (raw : Bool) (old : SessionState) (lines : List (List ℕ)) (text : List ℕ) (new : SessionState) → Written raw old lines text new → kinds_in (slots_of new) ≡ kinds_in (slots_of old)
-written_kinds raw old [] text new written = ap (λ s. kinds_in (slots_of s)) written.1
-written_kinds raw old (line ∷ lines) text new (middle, first, others, one, rest, whole) =
-    written_kinds raw middle lines others new rest ∙ said_kinds raw old (said line) first middle one
+left_menu_kinds : (s : SessionState) (left : List SlotView) (left_menus : List MenuSlot) → LeavesStock s left left_menus → menu_kinds left_menus ≡ of_session desk_menu_kinds (λ slots kept. menu_kinds kept) s
+left_menu_kinds (unmade font slots kept) left left_menus same = ap menu_kinds same.1
+left_menu_kinds (made s) left left_menus closed = closed.1.kinds
 
--- the stock at the end
-left_kinds : (s : SessionState) (left : List SlotView) → LeavesStock s left → kinds_in left ≡ kinds_in (slots_of s)
-left_kinds (unmade font slots) left same = ap kinds_in same
-left_kinds (made s) left closed = closed.kinds
+-- ---- at the end of a script, whether a check follows or not
 
--- a script's session, however it ended, and what is left of its stock
-module _ {X : Type 0} (raw : Bool) (first : SessionState) (input rest : Input) (old new : Output) (session : SessionState) where
-  ends_kinds : (r : Result X Refusal) → ScriptEnds raw first input rest old new session r → kinds_in (slots_of session) ≡ kinds_in (slots_of first)
-  ends_kinds (Ok x) done = written_kinds raw first _ _ session done.answered
-  ends_kinds (Err ReadFault) stopped = written_kinds raw first _ _ session stopped.answered
-  ends_kinds (Err WriteFault) stopped = written_kinds raw first _ _ session stopped.answered
-  ends_kinds (Err NoMemory) stopped = written_kinds raw first _ _ session stopped.answered
-  ends_kinds (Err _) stopped = absurd stopped
+module _ {X : Type 0} (raw check : Bool) (first : SessionState) (input rest : Input) (old new : Output) (session : SessionState) (font : List ℕ) (slots left : List SlotView) (kept left_menus : List MenuSlot) (r : Result X Refusal)
+    (is : first ≡ unmade font slots kept) (checked : CheckedEnds raw check first input rest old new session r) (closed : LeavesStock session left left_menus) where
+  pub kinds_stay : map (λ s. s.kind) left ≡ map (λ s. s.kind) slots
+  kinds_stay =
+      left_kinds session left left_menus closed
+      ∙ ends_keeping desk_kinds (λ slots kept. kinds_in slots) kinds_kept raw first input rest old checked.between session checked.script checked.ends
+      ∙ ap (of_session desk_kinds (λ slots kept. kinds_in slots)) is
 
--- and so it does where a check follows
-pub kinds_stay : {X : Type 0} (raw check : Bool) (first : SessionState) (input rest : Input) (old new : Output) (session : SessionState) (font : List ℕ) (slots left : List SlotView) (r : Result X Refusal)
-    → first ≡ unmade font slots → CheckedEnds raw check first input rest old new session r → LeavesStock session left → map (λ s. s.kind) left ≡ map (λ s. s.kind) slots
-kinds_stay raw check first input rest old new session font slots left r is checked closed =
-    left_kinds session left closed ∙ ends_kinds raw first input rest old checked.between session checked.script checked.ends ∙ ap (λ s. kinds_in (slots_of s)) is
+  pub menu_kinds_stay : map (λ s. s.kind) left_menus ≡ map (λ s. s.kind) kept
+  menu_kinds_stay =
+      left_menu_kinds session left left_menus closed
+      ∙ ends_keeping desk_menu_kinds (λ slots kept. menu_kinds kept) menu_kinds_kept raw first input rest old checked.between session checked.script checked.ends
+      ∙ ap (of_session desk_menu_kinds (λ slots kept. menu_kinds kept)) is

@@ -1,9 +1,9 @@
 //! The desk of a script: none, until the first command makes it, with the font that waits for it.
 ghost use Rattle.std.specs.Prelude.{◌≡◌, ℕ, true, List, All, None, Some, OnOk, false};
 ghost use Rattle.def_iface.specs.Stocked.{IsFull, SlotView};
+ghost use Rattle.menu_mgr.specs.MenuDesks.{IsMenuFull, MenuSlot};
 ghost use Rattle.desk_call.specs.declared.call.Call.TheVariants as asks;
-ghost use Rattle.window_mgr.specs.Kept.{IsKept};
-ghost use Rattle.desk_toolbox.specs.WholeToolbox.{IsWholeToolbox, toolbox_state};
+ghost use Rattle.desk_toolbox.specs.WholeToolbox.{IsKeptToolbox, IsWholeToolbox, toolbox_state};
 ghost use Rattle.watched_io.specs.Writes.{Sends};
 ghost use Rattle.script_runner.specs.Checks.{IsCheckLine};
 ghost use Rattle.script_runner.specs.Session.{LeavesStock, first_size, is_known};
@@ -12,8 +12,8 @@ ghost use Rattle.script_runner.specs.Endings.{IsAnswered, IsFirstAnswered, Comma
 
 use crate::check_line::write_check;
 use crate::shown::{show_done, show_image, show_reply};
-use def_iface::{Defined, Stock, Stocked, Taken};
-use desk_toolbox::{Call, NotBegun, Toolbox, WindowCall};
+use def_iface::{Defined, DefinedMenu, MenuStock, Stock, Stocked, StockedMenus, Taken, TakenMenu};
+use desk_toolbox::{Call, MenuCall, NotBegun, Toolbox, WindowCall};
 use scratch_paint::differences;
 use script_text::{Command, DeskSize};
 use std::alloc::Global;
@@ -27,6 +27,9 @@ const USUAL_DESK: DeskSize = DeskSize {
     height: 342,
     bar: 20,
 };
+
+/// The kind of each menu, by its name in the stock.
+const MENU_KIND: &[u8] = b"menu";
 
 /// A script's desk, once a command has made it.
 #[derive(Drop)]
@@ -61,13 +64,17 @@ impl Session {
         sink: &mut S,
         raw: bool,
     ) -> Result<(), Refusal>
-        requires ready { IsReady ⟦<Taken as Defined>⟧.loan self.old (⟦<Stock as Stocked>⟧.slots stock.old) }
+        requires ready { IsReady ⟦<Taken as Defined>⟧.loan ⟦<TakenMenu as DefinedMenu>⟧.menu_loan self.old
+            (⟦<Stock as Stocked>⟧.slots stock.old) (⟦<MenuStock as StockedMenus>⟧.menu_slots stock.old.menus) }
         requires unfailed { (S.output sink.old).has_failed ≡ false }
-        ensures ready { IsReady ⟦<Taken as Defined>⟧.loan self.new (⟦<Stock as Stocked>⟧.slots stock.new) }
+        ensures ready { IsReady ⟦<Taken as Defined>⟧.loan ⟦<TakenMenu as DefinedMenu>⟧.menu_loan self.new
+            (⟦<Stock as Stocked>⟧.slots stock.new) (⟦<MenuStock as StockedMenus>⟧.menu_slots stock.new.menus) }
         ensures quiet { OnOk result ((S.output sink.new).has_failed ≡ false) }
         ensures ends { LineEnds raw
-            (session_of ⟦<Taken as Defined>⟧.loan self.old (⟦<Stock as Stocked>⟧.slots stock.old)) said.entry
-            (session_of ⟦<Taken as Defined>⟧.loan self.new (⟦<Stock as Stocked>⟧.slots stock.new))
+            (session_of ⟦<Taken as Defined>⟧.loan ⟦<TakenMenu as DefinedMenu>⟧.menu_loan self.old
+            (⟦<Stock as Stocked>⟧.slots stock.old) (⟦<MenuStock as StockedMenus>⟧.menu_slots stock.old.menus)) said.entry
+            (session_of ⟦<Taken as Defined>⟧.loan ⟦<TakenMenu as DefinedMenu>⟧.menu_loan self.new
+            (⟦<Stock as Stocked>⟧.slots stock.new) (⟦<MenuStock as StockedMenus>⟧.menu_slots stock.new.menus))
             (S.output sink.old) (S.output sink.new) result }
     {
         match said {
@@ -85,13 +92,17 @@ impl Session {
         sink: &mut S,
         raw: bool,
     ) -> Result<(), Refusal>
-        requires ready { IsReady ⟦<Taken as Defined>⟧.loan self.old (⟦<Stock as Stocked>⟧.slots stock.old) }
+        requires ready { IsReady ⟦<Taken as Defined>⟧.loan ⟦<TakenMenu as DefinedMenu>⟧.menu_loan self.old
+            (⟦<Stock as Stocked>⟧.slots stock.old) (⟦<MenuStock as StockedMenus>⟧.menu_slots stock.old.menus) }
         requires unfailed { (S.output sink.old).has_failed ≡ false }
-        ensures ready { IsReady ⟦<Taken as Defined>⟧.loan self.new (⟦<Stock as Stocked>⟧.slots stock.new) }
+        ensures ready { IsReady ⟦<Taken as Defined>⟧.loan ⟦<TakenMenu as DefinedMenu>⟧.menu_loan self.new
+            (⟦<Stock as Stocked>⟧.slots stock.new) (⟦<MenuStock as StockedMenus>⟧.menu_slots stock.new.menus) }
         ensures quiet { OnOk result ((S.output sink.new).has_failed ≡ false) }
         ensures ends { CommandEnds raw
-            (session_of ⟦<Taken as Defined>⟧.loan self.old (⟦<Stock as Stocked>⟧.slots stock.old)) command.now
-            (session_of ⟦<Taken as Defined>⟧.loan self.new (⟦<Stock as Stocked>⟧.slots stock.new))
+            (session_of ⟦<Taken as Defined>⟧.loan ⟦<TakenMenu as DefinedMenu>⟧.menu_loan self.old
+            (⟦<Stock as Stocked>⟧.slots stock.old) (⟦<MenuStock as StockedMenus>⟧.menu_slots stock.old.menus)) command.now
+            (session_of ⟦<Taken as Defined>⟧.loan ⟦<TakenMenu as DefinedMenu>⟧.menu_loan self.new
+            (⟦<Stock as Stocked>⟧.slots stock.new) (⟦<MenuStock as StockedMenus>⟧.menu_slots stock.new.menus))
             (S.output sink.old) (S.output sink.new) result }
     {
         match &mut self.desk {
@@ -111,14 +122,19 @@ impl Session {
         raw: bool,
     ) -> Result<(), Refusal>
         requires unmade { self.old.desk ≡ None }
-        requires ready { IsReady ⟦<Taken as Defined>⟧.loan self.old (⟦<Stock as Stocked>⟧.slots stock.old) }
-        requires known { is_known command.now (⟦<Stock as Stocked>⟧.slots stock.old) ≡ true }
+        requires ready { IsReady ⟦<Taken as Defined>⟧.loan ⟦<TakenMenu as DefinedMenu>⟧.menu_loan self.old
+            (⟦<Stock as Stocked>⟧.slots stock.old) (⟦<MenuStock as StockedMenus>⟧.menu_slots stock.old.menus) }
+        requires known { is_known command.now (⟦<Stock as Stocked>⟧.slots stock.old)
+            (⟦<MenuStock as StockedMenus>⟧.menu_slots stock.old.menus) ≡ true }
         requires unfailed { (S.output sink.old).has_failed ≡ false }
-        ensures ready { IsReady ⟦<Taken as Defined>⟧.loan self.new (⟦<Stock as Stocked>⟧.slots stock.new) }
+        ensures ready { IsReady ⟦<Taken as Defined>⟧.loan ⟦<TakenMenu as DefinedMenu>⟧.menu_loan self.new
+            (⟦<Stock as Stocked>⟧.slots stock.new) (⟦<MenuStock as StockedMenus>⟧.menu_slots stock.new.menus) }
         ensures quiet { OnOk result ((S.output sink.new).has_failed ≡ false) }
         ensures ends { CommandEnds raw
-            (session_of ⟦<Taken as Defined>⟧.loan self.old (⟦<Stock as Stocked>⟧.slots stock.old)) command.now
-            (session_of ⟦<Taken as Defined>⟧.loan self.new (⟦<Stock as Stocked>⟧.slots stock.new))
+            (session_of ⟦<Taken as Defined>⟧.loan ⟦<TakenMenu as DefinedMenu>⟧.menu_loan self.old
+            (⟦<Stock as Stocked>⟧.slots stock.old) (⟦<MenuStock as StockedMenus>⟧.menu_slots stock.old.menus)) command.now
+            (session_of ⟦<Taken as Defined>⟧.loan ⟦<TakenMenu as DefinedMenu>⟧.menu_loan self.new
+            (⟦<Stock as Stocked>⟧.slots stock.new) (⟦<MenuStock as StockedMenus>⟧.menu_slots stock.new.menus))
             (S.output sink.old) (S.output sink.new) result }
     {
         let size = first_size(command);
@@ -145,10 +161,11 @@ impl Session {
     /// Writes the line of the check: how many pixels of the screen in no update region differ from the desk
     /// painted from nothing, or NoMemory where there is none for painting. Without a desk none differs.
     pub fn check<S: Sink>(&self, sink: &mut S) -> Result<(), Refusal>
-        requires kept { (desk : _) → self.now.desk ≡ Some desk → IsKept ⟦<Taken as Defined>⟧.loan desk.windows }
+        requires kept { (desk : _) → self.now.desk ≡ Some desk
+            → IsKeptToolbox ⟦<Taken as Defined>⟧.loan ⟦<TakenMenu as DefinedMenu>⟧.menu_loan desk }
         requires unfailed { (S.output sink.old).has_failed ≡ false }
-        ensures { (slots : List SlotView) → (text : List ℕ)
-            × IsCheckLine (session_of ⟦<Taken as Defined>⟧.loan self.now slots) text
+        ensures { (slots : List SlotView) (kept : List MenuSlot) → (text : List ℕ)
+            × IsCheckLine (session_of ⟦<Taken as Defined>⟧.loan ⟦<TakenMenu as DefinedMenu>⟧.menu_loan self.now slots kept) text
             × Sends (S.output sink.old) (S.output sink.new) result text }
     {
         let count = match &self.desk {
@@ -158,14 +175,17 @@ impl Session {
         write_check(sink, count.ok())
     }
 
-    /// Ends the session: every window's definition is disposed of, and put back Closed into its slot,
-    /// while every other slot stays as it was.
+    /// Ends the session: the definition of every window and of every menu is disposed of, and put back
+    /// Closed into its slot, while every other slot stays as it was.
     pub fn close(self, stock: &mut Stock)
-        requires { IsReady ⟦<Taken as Defined>⟧.loan self (⟦<Stock as Stocked>⟧.slots stock.old) }
+        requires { IsReady ⟦<Taken as Defined>⟧.loan ⟦<TakenMenu as DefinedMenu>⟧.menu_loan self
+            (⟦<Stock as Stocked>⟧.slots stock.old) (⟦<MenuStock as StockedMenus>⟧.menu_slots stock.old.menus) }
         ensures full { All IsFull (⟦<Stock as Stocked>⟧.slots stock.new) }
+        ensures full_menus { All IsMenuFull (⟦<MenuStock as StockedMenus>⟧.menu_slots stock.new.menus) }
         ensures left { LeavesStock
-            (session_of ⟦<Taken as Defined>⟧.loan self (⟦<Stock as Stocked>⟧.slots stock.old))
-            (⟦<Stock as Stocked>⟧.slots stock.new) }
+            (session_of ⟦<Taken as Defined>⟧.loan ⟦<TakenMenu as DefinedMenu>⟧.menu_loan self
+            (⟦<Stock as Stocked>⟧.slots stock.old) (⟦<MenuStock as StockedMenus>⟧.menu_slots stock.old.menus))
+            (⟦<Stock as Stocked>⟧.slots stock.new) (⟦<MenuStock as StockedMenus>⟧.menu_slots stock.new.menus) }
     {
         let Session { desk, .. } = self;
         if let Some(desk) = desk {
@@ -187,12 +207,14 @@ fn first_size(command: &Command<'_>) -> DeskSize
 
 /// Whether the stock has a slot of the kind that a command names, if it names one.
 fn is_known(command: &Command<'_>, stock: &Stock) -> bool
-    ensures { result ≡ is_known command.now (⟦<Stock as Stocked>⟧.slots stock.now) }
+    ensures { result ≡ is_known command.now (⟦<Stock as Stocked>⟧.slots stock.now)
+        (⟦<MenuStock as StockedMenus>⟧.menu_slots stock.now.menus) }
 {
     match command {
         Command::Call(Call::Window(call)) => is_known_call(call, stock),
         Command::Call(Call::Update(_)) => true,
         Command::Call(Call::Frame(_)) => true,
+        Command::Call(Call::Menu(call)) => is_known_menu_call(call, stock),
         Command::Call(Call::Event(_)) => true,
         Command::Desk(_) => true,
         Command::Image => true,
@@ -201,10 +223,22 @@ fn is_known(command: &Command<'_>, stock: &Stock) -> bool
 
 /// Whether the stock has a slot of the kind that a call names, if it names one.
 fn is_known_call(call: &WindowCall<'_>, stock: &Stock) -> bool
-    ensures { result ≡ is_known (Command.Call (asks.Window call.now)) (⟦<Stock as Stocked>⟧.slots stock.now) }
+    ensures { result ≡ is_known (Command.Call (asks.Window call.now)) (⟦<Stock as Stocked>⟧.slots stock.now)
+        (⟦<MenuStock as StockedMenus>⟧.menu_slots stock.now.menus) }
 {
     match call {
         WindowCall::New(window) => stock.windows.has(window.kind.as_slice()),
+        _ => true,
+    }
+}
+
+/// Whether the stock has a slot of the kind of menus, if a call makes one.
+fn is_known_menu_call(call: &MenuCall<'_>, stock: &Stock) -> bool
+    ensures { result ≡ is_known (Command.Call (asks.Menu call.now)) (⟦<Stock as Stocked>⟧.slots stock.now)
+        (⟦<MenuStock as StockedMenus>⟧.menu_slots stock.now.menus) }
+{
+    match call {
+        MenuCall::New(_) => stock.menus.has(MENU_KIND),
         _ => true,
     }
 }
@@ -217,13 +251,17 @@ fn first_answer<S: Sink>(
     sink: &mut S,
     raw: bool,
 ) -> Result<(), Refusal>
-    requires whole { IsWholeToolbox ⟦<Taken as Defined>⟧.loan desk.old (⟦<Stock as Stocked>⟧.slots stock.old) }
+    requires whole { IsWholeToolbox ⟦<Taken as Defined>⟧.loan ⟦<TakenMenu as DefinedMenu>⟧.menu_loan desk.old
+        (⟦<Stock as Stocked>⟧.slots stock.old) (⟦<MenuStock as StockedMenus>⟧.menu_slots stock.old.menus) }
     requires unfailed { (S.output sink.old).has_failed ≡ false }
-    ensures whole { IsWholeToolbox ⟦<Taken as Defined>⟧.loan desk.new (⟦<Stock as Stocked>⟧.slots stock.new) }
+    ensures whole { IsWholeToolbox ⟦<Taken as Defined>⟧.loan ⟦<TakenMenu as DefinedMenu>⟧.menu_loan desk.new
+        (⟦<Stock as Stocked>⟧.slots stock.new) (⟦<MenuStock as StockedMenus>⟧.menu_slots stock.new.menus) }
     ensures quiet { OnOk result ((S.output sink.new).has_failed ≡ false) }
     ensures answered { IsFirstAnswered raw
-        (toolbox_state ⟦<Taken as Defined>⟧.loan desk.old (⟦<Stock as Stocked>⟧.slots stock.old)) command.now
-        (toolbox_state ⟦<Taken as Defined>⟧.loan desk.new (⟦<Stock as Stocked>⟧.slots stock.new))
+        (toolbox_state ⟦<Taken as Defined>⟧.loan ⟦<TakenMenu as DefinedMenu>⟧.menu_loan desk.old
+        (⟦<Stock as Stocked>⟧.slots stock.old) (⟦<MenuStock as StockedMenus>⟧.menu_slots stock.old.menus)) command.now
+        (toolbox_state ⟦<Taken as Defined>⟧.loan ⟦<TakenMenu as DefinedMenu>⟧.menu_loan desk.new
+        (⟦<Stock as Stocked>⟧.slots stock.new) (⟦<MenuStock as StockedMenus>⟧.menu_slots stock.new.menus))
         (S.output sink.old) (S.output sink.new) result }
 {
     match command {
@@ -241,13 +279,17 @@ fn answer_on<S: Sink>(
     sink: &mut S,
     raw: bool,
 ) -> Result<(), Refusal>
-    requires whole { IsWholeToolbox ⟦<Taken as Defined>⟧.loan desk.old (⟦<Stock as Stocked>⟧.slots stock.old) }
+    requires whole { IsWholeToolbox ⟦<Taken as Defined>⟧.loan ⟦<TakenMenu as DefinedMenu>⟧.menu_loan desk.old
+        (⟦<Stock as Stocked>⟧.slots stock.old) (⟦<MenuStock as StockedMenus>⟧.menu_slots stock.old.menus) }
     requires unfailed { (S.output sink.old).has_failed ≡ false }
-    ensures whole { IsWholeToolbox ⟦<Taken as Defined>⟧.loan desk.new (⟦<Stock as Stocked>⟧.slots stock.new) }
+    ensures whole { IsWholeToolbox ⟦<Taken as Defined>⟧.loan ⟦<TakenMenu as DefinedMenu>⟧.menu_loan desk.new
+        (⟦<Stock as Stocked>⟧.slots stock.new) (⟦<MenuStock as StockedMenus>⟧.menu_slots stock.new.menus) }
     ensures quiet { OnOk result ((S.output sink.new).has_failed ≡ false) }
     ensures answered { IsAnswered raw
-        (toolbox_state ⟦<Taken as Defined>⟧.loan desk.old (⟦<Stock as Stocked>⟧.slots stock.old)) command.now
-        (toolbox_state ⟦<Taken as Defined>⟧.loan desk.new (⟦<Stock as Stocked>⟧.slots stock.new))
+        (toolbox_state ⟦<Taken as Defined>⟧.loan ⟦<TakenMenu as DefinedMenu>⟧.menu_loan desk.old
+        (⟦<Stock as Stocked>⟧.slots stock.old) (⟦<MenuStock as StockedMenus>⟧.menu_slots stock.old.menus)) command.now
+        (toolbox_state ⟦<Taken as Defined>⟧.loan ⟦<TakenMenu as DefinedMenu>⟧.menu_loan desk.new
+        (⟦<Stock as Stocked>⟧.slots stock.new) (⟦<MenuStock as StockedMenus>⟧.menu_slots stock.new.menus))
         (S.output sink.old) (S.output sink.new) result }
 {
     match command {

@@ -3,9 +3,9 @@
 //! no script reaches. What a script can show is a row of `tests/rows`.
 //!
 //! `runs` and `chosen` test `script_runner`, and `lines` tests `script_text`; with it `drawings`, `windows`, `updates` and
-//! `frames` test `window_words`, and `events` tests `event_words`. `images` tests `screen_pbm`, and `reading` and `sending`
-//! test `watched_io`. `Script` and `Paper` are a reader and a writer that can be slow or break; they are proved, and no
-//! part of the program.
+//! `frames` test `window_words`, `menus` tests `menu_words`, and `events` tests `event_words`. `images` tests `screen_pbm`,
+//! and `reading` and `sending` test `watched_io`. `Script` and `Paper` are a reader and a writer that can be slow or break;
+//! they are proved, and no part of the program.
 #![tactic(auto)]
 
 #[cfg(test)]
@@ -20,6 +20,8 @@ mod frames;
 mod images;
 #[cfg(test)]
 mod lines;
+#[cfg(test)]
+mod menus;
 pub mod paper;
 #[cfg(test)]
 mod reading;

@@ -19,6 +19,7 @@ use crate::verb::{Verb, verb_of};
 use desk_call::Call;
 use event_words::EventVerb;
 use line_words::Words;
+use menu_words::MenuVerb;
 use tb_geom::Refusal;
 use window_words::{FrameVerb, UpdateVerb, WindowVerb};
 
@@ -67,6 +68,15 @@ fn frame<'a>(verb: FrameVerb, words: Words<'a>) -> Result<Command<'a>, Refusal>
     Ok(Command::Call(Call::Frame(call)))
 }
 
+/// The words after a verb for menus.
+#[tactic(auto, using(line_words::proofs::Mapped::reading_mapped))]
+fn menu<'a>(verb: MenuVerb, words: Words<'a>) -> Result<Command<'a>, Refusal>
+    ensures { result ≡ reading (shape_of (verbs.Menu verb)) words.entry }
+{
+    let call = verb.call(words)?;
+    Ok(Command::Call(Call::Menu(call)))
+}
+
 /// The words after a verb for events.
 #[tactic(auto, using(line_words::proofs::Mapped::reading_mapped))]
 fn event<'a>(verb: EventVerb, words: Words<'a>) -> Result<Command<'a>, Refusal>
@@ -86,6 +96,7 @@ fn command<'a>(verb: Verb, words: Words<'a>) -> Result<Command<'a>, Refusal>
         Verb::Window(verb) => window(verb, words),
         Verb::Update(verb) => update(verb, words),
         Verb::Frame(verb) => frame(verb, words),
+        Verb::Menu(verb) => menu(verb, words),
         Verb::Event(verb) => event(verb, words),
     }
 }

@@ -6,6 +6,7 @@ ghost use Rattle.script_text.specs.Replies.{refused_text, reply_text};
 use desk_call::Reply;
 use event_words::write_event_reply;
 use itoa::Buffer;
+use menu_words::write_menu_reply;
 use tb_geom::Refusal;
 use watched_io::{Sink, send_all};
 use window_words::{write_frame_reply, write_window_reply};
@@ -19,6 +20,7 @@ pub fn write_reply<S: Sink>(sink: &mut S, reply: &Result<Reply, Refusal>) -> Res
     match reply {
         Ok(Reply::Window(reply)) => write_window_reply(sink, reply),
         Ok(Reply::Frame(reply)) => write_frame_reply(sink, *reply),
+        Ok(Reply::Menu(reply)) => write_menu_reply(sink, *reply),
         Ok(Reply::Event(reply)) => write_event_reply(sink, reply),
         Err(refusal) => write_refusal(sink, *refusal),
     }

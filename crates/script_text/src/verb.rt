@@ -5,6 +5,7 @@ ghost use Rattle.script_text.specs.Commands.{verbs};
 
 use event_words::EventVerb;
 use line_words::named;
+use menu_words::MenuVerb;
 use window_words::{FrameVerb, UpdateVerb, WindowVerb};
 
 /// The first word of a command, by what it is about. It says which words follow.
@@ -15,6 +16,7 @@ pub enum Verb {
     Window(WindowVerb),
     Update(UpdateVerb),
     Frame(FrameVerb),
+    Menu(MenuVerb),
     Event(EventVerb),
 }
 
@@ -34,6 +36,9 @@ pub fn verb_of(word: &[u8]) -> Option<Verb>
     }
     if let Some(verb) = FrameVerb::from_word(word) {
         return Some(Verb::Frame(verb));
+    }
+    if let Some(verb) = MenuVerb::from_word(word) {
+        return Some(Verb::Menu(verb));
     }
     if let Some(verb) = EventVerb::from_word(word) {
         return Some(Verb::Event(verb));

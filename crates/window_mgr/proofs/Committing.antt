@@ -108,7 +108,7 @@ not_bar_within w (l ∷ ls) p = by_test (not_bar_within w ls p) (l.extent (layer
     by_test behind true = refl
     by_test behind false = behind
 
-not_bar_among : (ws : List layers.LayeredWindow) (p : Point) → same_owner (owner_among ws p) Bar ≡ false
+pub not_bar_among : (ws : List layers.LayeredWindow) (p : Point) → same_owner (owner_among ws p) Bar ≡ false
 not_bar_among [] p = refl
 not_bar_among (w ∷ ws) p = by_test (not_bar_among ws p) (layers.in_structure w p)
   where
@@ -212,6 +212,7 @@ module _ (t : Touch) (before : FullState) (after : FullDesk) (desktop : Pixels) 
         ∙ parts_elsewhere after.font t (layered_state before) is p after.windows plan.parts.items under R.planned.parts (apart after.windows)
         ∙ under_plain Bar e refl refl
         ∙ plain_was Bar (by_bar (layers.in_bar is p) refl) refl
+        ∙ sym (ap (λ d. d.bar_picture p) R.screen)
       where
         apart : (ws : List WindowRecord) → AreApart after.font t (layered_state before) is p ws
         apart [] = tt

@@ -53,7 +53,7 @@ full_slot slots full k s e = subst IsFull (get_or_from_slice_get slots k s s e) 
 pub record IsBegun {V : Type 0} {H : V → Type 0} (width height bar : ℤ) (font : List ℕ) (t : WindowManager V H) : Type 0 where
   pub screen : is_screen width height bar ≡ true
   pub ground : IsGround width height bar (record { screen = t.screen; gray = t.gray; desktop = t.desktop })
-  pub rows : t.bar ≡ bar
+  pub rows : t.bar ≡ record { rows = bar; titles = [] }
   pub texts : t.font ≡ font
   pub windows : t.windows.records.items ≡ []
   pub areas : t.areas.items ≡ []

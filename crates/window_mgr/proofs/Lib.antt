@@ -46,5 +46,6 @@ pub mod UpdateSteps
 pub mod FrameLemmas
 pub mod FrameSteps
 pub mod FrameTold
+pub mod BarTitles
 pub mod FrameRight
 pub mod ScreenSides

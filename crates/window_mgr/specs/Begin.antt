@@ -15,7 +15,7 @@ abbrev pub empty_desk : ℤ → ℤ → ℤ → List ℕ → List SlotView → F
 empty_desk width height bar font slots = record {
   width = width;
   height = height;
-  bar = bar;
+  bar = record { rows = bar; titles = [] };
   font = font;
   windows = [];
   active = None;

@@ -1,9 +1,10 @@
 -- The whole desk as plain data, and its layers.
-use Rattle.std.specs.Prelude.{ℕ, ◌<◌, ◌≤◌, List, ◌∷◌, [], Option, None, Some, map, ℤ, pos}
-use Rattle.std.specs.Ordering.{int_eq}
+use Rattle.std.specs.Prelude.{ℕ, ◌<◌, ◌≤◌, List, ◌∷◌, [], Option, None, Some, map, ℤ}
 use Rattle.tb_geom.specs.Points.{PixelSet}
 use Rattle.bit_map.specs.Patterns.{pattern_bit}
 use Rattle.desk_ground.specs.Screens.{gray}
+use Rattle.menu_bar.specs.declared.titles.MenuBar.{MenuBar}
+use Rattle.menu_bar.specs.Bars.{bar_picture}
 use Rattle.def_iface.specs.Stocked.{SlotView}
 use Rattle.def_iface.specs.Desk.{LayeredDesk}
 use Rattle.def_iface.specs.Change as plain
@@ -13,8 +14,8 @@ use Rattle.vis_update.specs.Records.{WindowRecord, layered_window}
 pub record FullDesk : Type 0 where
   pub width : ℤ
   pub height : ℤ
-  -- the rows of the menu bar
-  pub bar : ℤ
+  -- the menu bar: how many rows it has, and its titles
+  pub bar : MenuBar
   -- the bytes of the font of all texts
   pub font : List ℕ
   -- from front to back
@@ -31,17 +32,13 @@ pub record FullState : Type 0 where
   pub stale : PixelSet
   pub image : PixelSet
 
--- the menu bar: white, and its last row, 19, black
-abbrev pub bar_picture : PixelSet
-bar_picture p = int_eq p.v (pos 19)
-
 -- the desk as layers
 abbrev pub layered_desk : FullDesk → LayeredDesk
 layered_desk d = record {
   width = d.width;
   height = d.height;
-  bar = d.bar;
-  bar_picture = bar_picture;
+  bar = d.bar.rows;
+  bar_picture = bar_picture d.font d.bar.titles;
   desktop = pattern_bit gray;
   windows = map (layered_window d.font) d.windows;
 }

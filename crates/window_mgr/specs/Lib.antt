@@ -20,6 +20,7 @@ pub mod Updating
 pub mod DeskStates
 pub mod Laying
 pub mod FrameNotices
+pub mod BarShown
 pub mod Without
 pub mod Begin
 pub mod Closing

@@ -35,10 +35,10 @@ sized z (Some w) = Some (record { window = z.window; by = None; to = of_size z.s
 -- the place and the size of a window that is zoomed out: it leaves a column at each side of the screen, 19 rows below the
 -- menu bar, and one at the bottom
 abbrev pub standard_place : FullDesk → Point
-standard_place desk = record { h = pos 1; v = desk.bar +ℤ pos 19 }
+standard_place desk = record { h = pos 1; v = desk.bar.rows +ℤ pos 19 }
 
 abbrev pub standard_size : FullDesk → sizes.Size
-standard_size desk = record { width = desk.width -ℤ pos 2; height = (desk.height -ℤ desk.bar) -ℤ pos 20 }
+standard_size desk = record { width = desk.width -ℤ pos 2; height = (desk.height -ℤ desk.bar.rows) -ℤ pos 20 }
 
 -- zoomed out, the window keeps the place and the size that it had
 abbrev pub zoomed_out : FullDesk → WindowRecord → Placement

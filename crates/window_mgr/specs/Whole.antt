@@ -43,7 +43,7 @@ pub record IsStocked (windows : List WindowRecord) (slots : List SlotView) : Typ
 
 -- the facts on the desk alone
 pub record IsSoundDesk (desk : FullDesk) : Type 0 where
-  pub screen : is_screen desk.width desk.height desk.bar ≡ true
+  pub screen : is_screen desk.width desk.height desk.bar.rows ≡ true
   pub distinct : IsDesk (layered_desk desk)
   pub serials : AreSerials desk.next desk.windows
   pub few : length desk.windows ≤ most_windows

@@ -40,7 +40,7 @@ impl WindowManager {
         if !self.screen.bounds().contains(point) {
             return found_none(WindowPart::InDesk);
         }
-        if point.v < self.bar {
+        if point.v < self.bar.rows {
             return found_none(WindowPart::InMenuBar);
         }
         match self.window_at(point) {

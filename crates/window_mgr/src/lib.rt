@@ -21,7 +21,7 @@
 //! anew among the others, `size` gives one another size and `zoom` zooms it, `new_window` adds one, `dispose_window` takes
 //! one out, `draw` draws in one, `repicture` replaces its picture or scrolls it, `frame` tells a window's definition of a
 //! change and draws the frame anew. `update` is for the crate that redraws windows: it changes an update region, or
-//! draws what is in it.
+//! draws what is in it. `bar` shows other titles in the menu bar, which is drawn whole then.
 //!
 //! `find` reads off the same regions whose a pixel is: its owner is the window whose visible content or frame has it.
 //! There may be 64 windows.
@@ -29,6 +29,7 @@
 
 mod arrange;
 mod arranging;
+mod bar;
 mod close;
 mod commit;
 mod dispose_window;

@@ -7,6 +7,7 @@ ghost use Rattle.desk_ground.specs.Screens as screens;
 use bit_map::BitMap;
 use def_iface::{Defined, Taken};
 use desk_ground::{Ground, empty_ground};
+use menu_bar::{MenuBar, Titles};
 use scan_region::Region;
 use std::alloc::Global;
 use strike_font::Font;
@@ -19,8 +20,8 @@ use window_list::WindowList;
 pub struct WindowManager {
     pub(crate) alloc: Global,
     pub(crate) screen: BitMap,
-    /// The rows of the menu bar.
-    pub(crate) bar: i32,
+    /// The menu bar: its rows and its titles.
+    pub(crate) bar: MenuBar,
     /// The font of all texts.
     pub(crate) font: Font,
     /// The screen without the menu bar.
@@ -49,6 +50,8 @@ pub struct Parts<'a> {
     pub height: i32,
     /// The rows of the menu bar.
     pub bar: i32,
+    /// The titles in it.
+    pub titles: &'a Titles,
     /// The font of all texts.
     pub font: &'a Font,
     /// From front to back.
@@ -77,6 +80,7 @@ impl WindowManager {
         ensures refused { IfErr result (λ e. (e.font ≡ font)
             × (e.refusal ≡ (if screens.is_screen width height bar then Refusal.NoMemory else Refusal.OutOfRange))) }
     {
+        let titles = Titles::new();
         match empty_ground(alloc, width, height, bar) {
             Ok(
                 Ground {
@@ -87,7 +91,7 @@ impl WindowManager {
             ) => Ok(WindowManager {
                 alloc,
                 screen,
-                bar,
+                bar: MenuBar { rows: bar, titles },
                 font,
                 gray,
                 desktop,
@@ -116,7 +120,8 @@ impl WindowManager {
     pub fn parts(&self) -> Parts<'_>
         ensures width { result.width ≡ pos self.now.screen.width }
         ensures height { result.height ≡ pos self.now.screen.height }
-        ensures bar { result.bar ≡ self.now.bar }
+        ensures bar { result.bar ≡ self.now.bar.rows }
+        ensures titles { result.titles.now ≡ self.now.bar.titles }
         ensures font { result.font.now ≡ self.now.font }
         ensures windows { result.windows.now ≡ self.now.windows }
     {
@@ -124,7 +129,8 @@ impl WindowManager {
         Parts {
             width: bounds.right,
             height: bounds.bottom,
-            bar: self.bar,
+            bar: self.bar.rows,
+            titles: &self.bar.titles,
             font: &self.font,
             windows: &self.windows,
         }

@@ -1,6 +1,6 @@
 //! Calls, one by one.
 ghost use Rattle.std.specs.Prelude.{◌≡◌};
-ghost use Rattle.desk_call.specs.declared.window.WindowCall.TheVariants.{Draw, Find, Front, Info};
+ghost use Rattle.desk_call.specs.declared.window.WindowCall.TheVariants.{Draw, Find, Info};
 ghost use Rattle.window_mgr.specs.AnySlots.{IsStepOverAnySlots};
 ghost use Rattle.window_mgr.specs.Kept.{IsKept};
 ghost use Rattle.window_mgr.specs.Records.{state_of};
@@ -56,7 +56,7 @@ impl WindowManager {
             WindowCall::SetPicture(new) => self.set_picture(new),
             WindowCall::Scroll(scroll) => self.scroll(*scroll),
             WindowCall::Find(point) => self.answer_find(*point),
-            WindowCall::Front => self.answer_front(),
+            WindowCall::Front => Ok(WindowReply::Front(self.windows.front())),
             WindowCall::Info(window) => self.answer_info(*window),
             WindowCall::VisibleRegion(window) => self.answer_region(*window, AskedRegion::Visible),
             WindowCall::UpdateRegion(window) => self.answer_region(*window, AskedRegion::Update),
@@ -84,13 +84,6 @@ impl WindowManager {
         ensures { IsStepOverAnySlots ⟦<Taken as Defined>⟧.loan (Find point) result self.now self.now }
     {
         Ok(WindowReply::Found(self.find_window(point)?))
-    }
-
-    /// Answers which window is the first visible one.
-    fn answer_front(&self) -> Result<WindowReply, Refusal>
-        ensures { IsStepOverAnySlots ⟦<Taken as Defined>⟧.loan Front result self.now self.now }
-    {
-        Ok(WindowReply::Front(self.windows.front()))
     }
 
     /// Tells how a window stands.

@@ -49,7 +49,7 @@ impl WindowManager {
                     place: window.place,
                     size: window.size,
                 };
-                let UserState { place, size } = standard_state(self.screen.bounds(), self.bar);
+                let UserState { place, size } = standard_state(self.screen.bounds(), self.bar.rows);
                 Some(Placement {
                     place,
                     size,

@@ -1,5 +1,7 @@
 use Rattle.std.specs.Prelude.{All}
+use Rattle.def_iface.specs.contracts.menu_stock.MenuStockStockedMenus.TheImpl as menu_stock
 use Rattle.def_iface.specs.contracts.window_stock.WindowStockStocked.TheImpl as stock
+use Rattle.def_iface.specs.Slots as slots
 use Rattle.def_iface.specs.Stocked.{IsFull}
 use Rattle.own_kind.proofs.main.OwnLists as own
 use Rattle.own_kind.proofs.main.Given as goal
@@ -9,3 +11,6 @@ invariant-loop l = All IsFull ((stock.slots-value (own.own-1, own.lawful-own-1))
 
 abbrev pub invariant-loop-kind : goal.invariant-loop-kind
 invariant-loop-kind l = All IsFull ((stock.slots-value (own.own-1, own.lawful-own-1)).it l.windows)
+
+abbrev pub invariant-loop-2 : goal.invariant-loop-2
+invariant-loop-2 l = All (slots.IsFull (λ d. d.stage)) ((menu_stock.menu_slots-value (own.own-2, own.lawful-own-2)).it l.menus)

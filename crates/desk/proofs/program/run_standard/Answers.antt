@@ -28,10 +28,10 @@ loop-round-preserved g c =
     round_done _ _ c.loop-round.round _ _ _ _ c.loop-kind.invariant c.loop-kind-test.false c.in-Ok-add.ensures.added
     (means ∙ ap notched_meaning (c.in_ok-notched.ensures.ok ∙ c.new-in-loop-round.ensures.value)) refl
 
-pub run_over-requires-clause-full : goal.run_over-requires-clause-full
-run_over-requires-clause-full g c = subst (All IsFull) (sym c.loop-round.invariant) (so_many_full c.loop-round.round)
+pub run_with_windows-requires-clause-full : goal.run_with_windows-requires-clause-full
+run_with_windows-requires-clause-full g c = subst (All IsFull) (sym c.loop-round.invariant) (so_many_full c.loop-round.round)
 
 pub returns : goal.returns
 returns g c =
     let all : c.loop-round.round ≡ 16 = omega arith in
-    run_over_standard _ _ _ _ _ _ _ _ (c.loop-round.invariant ∙ ap so_many_of_each all) c.run_over.result c.run_over.ensures
+    run_over_standard _ _ _ _ _ _ _ _ (c.loop-round.invariant ∙ ap so_many_of_each all) c.run_with_windows.result c.run_with_windows.ensures

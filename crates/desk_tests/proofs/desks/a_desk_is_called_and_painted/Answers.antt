@@ -1,14 +1,13 @@
-use Rattle.window_mgr.proofs.KeptLemmas.{kept}
 use Rattle.desk_tests.proofs.desks.a_desk_is_called_and_painted.Goals as goal
 
 pub run-requires : goal.run-requires
-run-requires g c = c.in-Ok-new.ensures.whole _ c.loop.invariant
+run-requires g c = c.in-Ok-new.ensures.whole _ _ c.loop.invariant c.new-2.ensures.full
 
 pub paint-requires : goal.paint-requires
-paint-requires g c = kept _ _ _ c.run.ensures.whole.windows
+paint-requires g c = record { slots = _; kept = _; whole = c.run.ensures.whole }
 
 pub pixels_right-stale-requires : goal.pixels_right-stale-requires
-pixels_right-stale-requires g c = record { slots = _; whole = c.pixels_right-right.ensures.whole _ c.run.ensures.whole }
+pixels_right-stale-requires g c = record { slots = _; kept = _; whole = c.pixels_right-right.ensures.whole _ _ c.run.ensures.whole }
 
 pub close-requires : goal.close-requires
-close-requires g c = (c.pixels_right-stale.ensures.whole _ (c.pixels_right-right.ensures.whole _ c.run.ensures.whole)).windows
+close-requires g c = c.pixels_right-stale.ensures.whole _ _ (c.pixels_right-right.ensures.whole _ _ c.run.ensures.whole)

@@ -1,14 +1,29 @@
-use Rattle.std.proofs.Common.{[], refl, ap, ◌∙◌}
-use Rattle.bit_map.specs.Bits.{bit}
+use Rattle.std.proofs.Common.{◌≡◌, [], true, pos, ap, ◌∙◌}
+use Rattle.bit_map.specs.Bits.{on_map}
 use Rattle.def_iface.specs.contracts.taken.TakenDefined.TheImpl as taken
-use Rattle.window_mgr.specs.Records.{state_of}
-use Rattle.scratch_paint.proofs.DifferenceLemmas.{on_both, differs_if}
+use Rattle.def_iface.specs.contracts.taken_menu.TakenMenuDefinedMenu.TheImpl as taken_menu
+use Rattle.vis_update.specs.Areas.{stale_in}
+use Rattle.desk_toolbox.specs.WholeToolbox.{toolbox_state}
+use Rattle.scratch_paint.proofs.DifferenceLemmas.{alike_if, differs_if, on_both}
 use Rattle.scratch_paint.proofs.difference.differs_at.Goals as goal
 
 pub get-requires : goal.get-requires
-get-requires g c = rw c.screen.ensures (on_both _ c.args.painted.now c.args.windows.now.screen c.requires.painted refl refl c.args.point c.requires.point)
+get-requires g c =
+    on_both _ _ c.args.painted.now c.screen.result.now c.requires.painted (ap pos c.screen.ensures.width) (ap pos c.screen.ensures.height) c.args.point c.requires.point
 
 pub returns-then-get : goal.returns-then-get
 returns-then-get g c =
-    differs_if (state_of (taken.loan-value g.dyn-1).it c.args.windows.now []) c.args.painted.now c.args.point c.requires.painted c.requires.point c.get.result c.get-2.result c.is_stale.result
-    (c.get.ensures ∙ ap (λ screen. bit screen c.args.point) c.screen.ensures) c.get-2.ensures c.if-get.true c.is_stale.ensures
+    let there : on_map c.screen.result.now c.args.point ≡ true =
+    on_both _ _ c.args.painted.now c.screen.result.now c.requires.painted (ap pos c.screen.ensures.width) (ap pos c.screen.ensures.height) c.args.point c.requires.point in
+    differs_if (toolbox_state (taken.loan-value g.dyn-1).it (taken_menu.menu_loan-value g.dyn-2).it c.args.toolbox.now [] []) c.args.painted.now c.args.point
+    c.requires.painted c.requires.point c.get.result c.get-2.result c.is_stale.result
+    (c.get.ensures ∙ c.screen.ensures.shown [] [] c.args.point there) c.get-2.ensures c.if-get.true
+    (c.is_stale.ensures ∙ ap (λ w. stale_in w.areas.items c.args.point) c.windows.ensures)
+
+pub returns-else-get : goal.returns-else-get
+returns-else-get g c =
+    let there : on_map c.screen.result.now c.args.point ≡ true =
+    on_both _ _ c.args.painted.now c.screen.result.now c.requires.painted (ap pos c.screen.ensures.width) (ap pos c.screen.ensures.height) c.args.point c.requires.point in
+    alike_if (toolbox_state (taken.loan-value g.dyn-1).it (taken_menu.menu_loan-value g.dyn-2).it c.args.toolbox.now [] []) c.args.painted.now c.args.point
+    c.requires.painted c.requires.point c.get.result c.get-2.result
+    (c.get.ensures ∙ c.screen.ensures.shown [] [] c.args.point there) c.get-2.ensures c.if-get.false

@@ -1,18 +1,19 @@
-use Rattle.std.proofs.Common.{rules, SFits, w32}
-use Rattle.std.proofs.lemmas.Int.{to_z-of_z}
 use Rattle.def_iface.specs.contracts.taken.TakenDefined.TheImpl as taken
-use Rattle.scratch_paint.proofs.PaintLemmas.{kept_painted}
+use Rattle.def_iface.specs.contracts.taken_menu.TakenMenuDefinedMenu.TheImpl as taken_menu
+use Rattle.window_mgr.proofs.KeptLemmas.{kept}
+use Rattle.scratch_paint.proofs.FrontLemmas.{screen_painted}
 use Rattle.scratch_paint.proofs.painting.paint.Goals as goal
 
-pub paint_windows-requires : goal.paint_windows-requires
-paint_windows-requires g c = rw (c.parts-width.ensures.windows, c.windows.ensures) c.requires.whole.sound.settled
+pub paint_base-requires : goal.paint_base-requires
+paint_base-requires g c = rw c.windows-windows.ensures (kept _ _ _ c.requires.whole.windows)
+
+pub paint_pulled-requires-clause-live : goal.paint_pulled-requires-clause-live
+paint_pulled-requires-clause-live g c = rw c.menus.ensures c.requires.whole.menus.live
+
+pub paint_pulled-requires-clause-placed : goal.paint_pulled-requires-clause-placed
+paint_pulled-requires-clause-placed g c = rw c.activity.ensures c.requires.whole.menus.placed
 
 pub returns : goal.returns
 returns g c =
-    let fits_w : SFits w32 c.parts-width.result.width = search rules in
-    let fits_h : SFits w32 c.parts-width.result.height = search rules in
-    let fits_b : SFits w32 c.parts-width.result.bar = search rules in
-    let painted = simp to_z-of_z at c.in-Ok.ensures.painted in
-    kept_painted (taken.loan-value g.dyn-1).it c.args.toolbox.now.windows c.windows.result.now _ _ _ _ c.parts-width.result.windows.now c.in-Ok.ground c.paint_windows.new.image
-    c.windows.ensures c.parts-width.ensures.width c.parts-width.ensures.height c.parts-width.ensures.bar c.parts-width.ensures.font c.parts-width.ensures.windows
-    c.requires painted c.in_ok-paint_windows.ensures
+    screen_painted (taken.loan-value g.dyn-1).it (taken_menu.menu_loan-value g.dyn-2).it c.args.toolbox.now c.windows-windows.result.now c.menus.result.now c.activity.result _ _ c.paint_pulled.new.map
+    c.windows-windows.ensures c.menus.ensures c.activity.ensures c.parts.ensures.font c.in_ok-image.ensures c.paint_pulled.ensures

@@ -1,5 +1,7 @@
 use Rattle.std.proofs.Common.{◌≡◌, false, []}
+use Rattle.def_iface.specs.contracts.menu_stock.MenuStockStockedMenus.TheImpl as menu_stock
 use Rattle.def_iface.specs.contracts.taken.TakenDefined.TheImpl as taken
+use Rattle.def_iface.specs.contracts.taken_menu.TakenMenuDefinedMenu.TheImpl as taken_menu
 use Rattle.def_iface.specs.contracts.window_stock.WindowStockStocked.TheImpl as stock
 use Rattle.script_runner.specs.SessionViews.{session_of, IsReady}
 use Rattle.script_runner.specs.Progress.{SoFar}
@@ -9,9 +11,11 @@ abbrev pub invariant-loop-read : goal.invariant-loop-read
 invariant-loop-read g l =
     let loan = (taken.loan-value g.dyn-1).it in
     let slots = (stock.slots-value g.dyn-1).it in
+    let menu_loan = (taken_menu.menu_loan-value g.dyn-2).it in
+    let kept = (menu_stock.menu_slots-value g.dyn-2).it in
     record {
-      ready : IsReady loan l.session (slots l.stock.windows);
+      ready : IsReady loan menu_loan l.session (slots l.stock.windows) (kept l.stock.menus);
       quiet : (g.W.Sink.output l.sink).has_failed ≡ false;
-      so_far : SoFar l.raw (session_of loan l.fn.session (slots l.fn.stock.windows)) (g.R.Source.input l.fn.source) (g.W.Sink.output l.fn.sink) (g.R.Source.input l.source) (g.W.Sink.output l.sink) (session_of loan l.session (slots l.stock.windows)) l.line [];
+      so_far : SoFar l.raw (session_of loan menu_loan l.fn.session (slots l.fn.stock.windows) (kept l.fn.stock.menus)) (g.R.Source.input l.fn.source) (g.W.Sink.output l.fn.sink) (g.R.Source.input l.source) (g.W.Sink.output l.sink) (session_of loan menu_loan l.session (slots l.stock.windows) (kept l.stock.menus)) l.line [];
       counted : (g.R.Source.input l.source).reads ≡ l.read;
     }

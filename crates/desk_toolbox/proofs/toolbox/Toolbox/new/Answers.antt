@@ -1,15 +1,21 @@
 use Rattle.std.proofs.Common.{rules, SFits, w32}
 use Rattle.std.proofs.lemmas.Int.{to_z-of_z}
+use Rattle.def_iface.specs.contracts.taken_menu.TakenMenuDefinedMenu.TheImpl as taken_menu
 use Rattle.desk_toolbox.proofs.Begun.{begins}
 use Rattle.desk_toolbox.proofs.toolbox.Toolbox.new.Goals as goal
 
-pub returns-in-Ok-Ok-clause-begun : goal.returns-in-Ok-Ok-clause-begun
-returns-in-Ok-Ok-clause-begun g c =
+pub returns-in-Ok-clause-begun : goal.returns-in-Ok-clause-begun
+returns-in-Ok-clause-begun g c =
     let fits_w : SFits w32 c.args.width = search rules in
     let fits_h : SFits w32 c.args.height = search rules in
     let fits_b : SFits w32 c.args.bar = search rules in
     simp to_z-of_z at c.with_parts.ensures.begun
 
-pub returns-in-Ok-Ok-clause-just_begun : goal.returns-in-Ok-Ok-clause-just_begun
-returns-in-Ok-Ok-clause-just_begun g c =
-    begins _ _ _ _ _ _ c.with_parts.result c.with_parts.ensures.begun c.with_parts.ensures.idle c.with_parts.ensures.events c.in-Ok-Ok.ensures'
+pub returns-in-Ok-clause-just_begun : goal.returns-in-Ok-clause-just_begun
+returns-in-Ok-clause-just_begun g c =
+    let fits_w : SFits w32 c.args.width = search rules in
+    let fits_h : SFits w32 c.args.height = search rules in
+    let fits_b : SFits w32 c.args.bar = search rules in
+    let begun = simp to_z-of_z at c.with_parts.ensures.begun in
+    let menus = simp to_z-of_z at c.in-Ok.ensures.menus in
+    begins _ (taken_menu.menu_loan-value g.dyn-2).it c.args.width c.args.height c.args.bar _ _ _ c.with_parts.result begun c.with_parts.ensures.idle c.with_parts.ensures.events c.with_parts.ensures.menus c.in-Ok.ensures.events menus

@@ -1,5 +1,7 @@
 use Rattle.std.proofs.Common.{rules, SFits, w32}
 use Rattle.std.proofs.lemmas.Int.{to_z-of_z}
+use Rattle.menu_mgr.proofs.Stocks.{stocked_by_full}
+use Rattle.desk_toolbox.proofs.MenusBeside.{menus_begin}
 use Rattle.desk_toolbox.proofs.Sides.{begins_sized}
 use Rattle.desk_toolbox.proofs.toolbox.Toolbox.with_parts.Goals as goal
 
@@ -12,7 +14,7 @@ returns-in-Ok-clause-begun g c slots full =
     begun slots full
 
 pub returns-in-Ok-clause-whole : goal.returns-in-Ok-clause-whole
-returns-in-Ok-clause-whole g c slots full =
+returns-in-Ok-clause-whole g c slots kept full full_menus =
     let fits_w : SFits w32 c.args.width = search rules in
     let fits_h : SFits w32 c.args.height = search rules in
     let fits_b : SFits w32 c.args.bar = search rules in
@@ -21,4 +23,5 @@ returns-in-Ok-clause-whole g c slots full =
     record {
       windows = empty.whole;
       updates = begins_sized _ c.args.width c.args.height c.args.bar _ _ _ slots c.requires.width c.requires.height empty;
+      menus = menus_begin _ _ c.args.width c.args.height c.args.bar _ _ _ slots kept c.requires.menus empty (stocked_by_full kept full_menus);
     }

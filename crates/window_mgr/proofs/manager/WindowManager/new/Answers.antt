@@ -13,7 +13,7 @@ returns-in-Ok-clause-begun g c slots full =
     simp to_z-of_z (is_empty_desk _ c.args.width c.args.height c.args.bar c.args.font _ (record {
       screen = in_range;
       ground = painted;
-      rows = refl;
+      rows = λ i. record { rows = c.args.bar; titles = c.new-titles.ensures i };
       texts = refl;
       windows = c.requires.none;
       areas = c.new.ensures.items;

@@ -1,3 +1,6 @@
+use Rattle.std.proofs.Common.{refl, sym, ap, ◌∙◌}
+use Rattle.desk_call.specs.declared.window.WindowReply.TheVariants as reply
+use Rattle.window_mgr.proofs.FindLemmas.{front-records}
 use Rattle.window_mgr.proofs.manager.WindowManager.perform.Goals as goal
 
 pub returns-in-Show : goal.returns-in-Show
@@ -40,7 +43,16 @@ pub returns-in-Find : goal.returns-in-Find
 returns-in-Find g c = let done = c.answer_find.ensures _ c.requires in record { whole = done.0; step = rw c.in-Find.is (done.1) }
 
 pub returns-in-Front : goal.returns-in-Front
-returns-in-Front g c = let done = c.answer_front.ensures _ c.requires in record { whole = done.0; step = rw c.in-Front.is (done.1) }
+returns-in-Front g c = record {
+  whole = c.requires;
+  step = rw c.in-Front.is (
+    refl,
+    (
+      ap reply.Front (c.front.ensures ∙ sym (front-records _ c.args.self.now.windows.records.items)),
+      record { desk = refl; stale = λ p on. refl; image = λ p on. refl },
+    ),
+  );
+}
 
 pub returns-in-Info : goal.returns-in-Info
 returns-in-Info g c = let done = c.answer_info.ensures _ c.requires in record { whole = done.0; step = rw c.in-Info.is (done.1) }

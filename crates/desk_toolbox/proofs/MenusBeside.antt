@@ -1,0 +1,270 @@
+-- The menus of a desk stay whole beside the calls of the other managers: while a menu is pulled down only calls may come that ask.
+use Rattle.std.proofs.Common.{◌≡◌, ◌⊎◌, ⊎_elim, inl, inr, ℕ, ℤ, ◌≤◌, Bool, true, false, ◌&&◌, if◌then◌else◌, nat_abs, List, [], length, Option, None, Some, Result, Ok, Err, refl, sym, ap, ◌∙◌, subst, arith}
+use Rattle.tb_geom.specs.declared.point.Point.{Point}
+use Rattle.tb_geom.specs.declared.refusal.Refusal.{Refusal}
+use Rattle.tb_geom.specs.Points.{PixelSet}
+use Rattle.tb_geom.specs.Rects.{rect_holds}
+use Rattle.bit_map.specs.Bits.{bit, is_below, on_map}
+use Rattle.def_iface.specs.declared.taken.Taken.{Taken}
+use Rattle.def_iface.specs.declared.taken_menu.TakenMenu.{TakenMenu}
+use Rattle.def_iface.specs.Desk.{on_screen}
+use Rattle.def_iface.specs.Meaning.{Loan}
+use Rattle.def_iface.specs.MenuMeaning.{MenuLoan}
+use Rattle.def_iface.specs.Stocked.{SlotView}
+use Rattle.menu_overlay.specs.Overlays.{Pulled, pulled_bit, pulled_rect, shown_bit}
+use Rattle.desk_call.specs.declared.activity.Activity.{Activity}
+use Rattle.desk_call.specs.declared.activity.Activity.TheVariants.{Idle, Updating, Tracking, Pulling}
+use Rattle.desk_call.specs.declared.activity.PulledMenu.{PulledMenu}
+use Rattle.desk_call.specs.declared.activity.Standing.TheVariants.{Asks}
+use Rattle.desk_call.specs.declared.frame.FrameCall.{FrameCall}
+use Rattle.desk_call.specs.declared.frame.FrameCall.TheVariants.{SetTitle, Hilite, TrackGoAway, StepGoAway, EndGoAway}
+use Rattle.desk_call.specs.declared.frame.FrameReply.{FrameReply}
+use Rattle.desk_call.specs.declared.frame.FrameReply.TheVariants.{Done, Tracked}
+use Rattle.desk_call.specs.declared.update.UpdateCall.{UpdateCall}
+use Rattle.desk_call.specs.declared.update.UpdateCall.TheVariants as update
+use Rattle.desk_call.specs.declared.window.WindowCall.{WindowCall}
+use Rattle.desk_call.specs.declared.window.WindowCall.TheVariants as asks
+use Rattle.desk_call.specs.declared.window.WindowReply.{WindowReply}
+use Rattle.desk_call.specs.Gates.{gate, frame_standing, update_standing, window_standing}
+use Rattle.window_mgr.specs.declared.manager.WindowManager.{WindowManager}
+use Rattle.window_mgr.specs.Begin.{IsEmptyDesk}
+use Rattle.window_mgr.specs.DeskStates.{DeskState, Opened, desk_with}
+use Rattle.window_mgr.specs.Effects.{IsEffect, IsUnchanged, effect_of}
+use Rattle.window_mgr.specs.FullDesk.{FullDesk, FullState, layered_desk}
+use Rattle.window_mgr.specs.Records.{state_of}
+use Rattle.window_mgr.specs.Step.{IsWindowStep}
+use Rattle.window_mgr.proofs.Arranged.{between-is_below}
+use Rattle.window_mgr.proofs.ScreenSides.{SameSides, equal_sides}
+use Rattle.window_update.specs.UpdateSteps.{IsUpdateEffect, IsUpdateStep}
+use Rattle.window_frame.specs.Followers.{IsCaughtUpBy}
+use Rattle.window_frame.specs.FrameSteps.{IsBegunAt, IsFrameEffect, IsFrameStep}
+use Rattle.window_frame.proofs.FrameKeeps.{caught_up_keeps, frame_keeps}
+use Rattle.menu_mgr.specs.declared.menus.Menus.{Menus}
+use Rattle.menu_mgr.specs.MenuDesks.{MenuSlot}
+use Rattle.menu_mgr.specs.Pulling.{pulled_of}
+use Rattle.menu_mgr.specs.WholeMenus.{AreLive, AreMenusStocked, AreNoMenus, IsFrontShown, IsPlaced, IsWholeMenus, menus_of}
+use Rattle.desk_toolbox.proofs.Sides.{step_keeps_sides}
+use Rattle.desk_toolbox.proofs.UpdatedDesks.{update_keeps_desk}
+
+-- ---- what is open
+
+-- no menu is pulled down
+abbrev pub PullsNone : Activity → Type 0
+PullsNone (Pulling m) = ⊥
+PullsNone _ = Unit {0}
+
+pulls_or_not : (a : Activity) → PullsNone a ⊎ ((m : PulledMenu) × (a ≡ Pulling m))
+pulls_or_not Idle = inl tt
+pulls_or_not (Updating s) = inl tt
+pulls_or_not (Tracking s) = inl tt
+pulls_or_not (Pulling m) = inr (m, refl)
+
+-- a call on windows comes while a menu is pulled down only if it asks
+window_asks : (call : WindowCall) (m : PulledMenu) → gate (Pulling m) (window_standing call) ≡ None → window_standing call ≡ Asks
+window_asks (asks.Find p) m may = refl
+window_asks asks.Front m may = refl
+window_asks (asks.Info s) m may = refl
+window_asks (asks.VisibleRegion s) m may = refl
+window_asks (asks.UpdateRegion s) m may = refl
+window_asks _ m may = absurd (cc)
+
+-- and one about updates or frames never does
+pub update_comes_then : (call : UpdateCall) (a : Activity) → gate a (update_standing call) ≡ None → PullsNone a
+update_comes_then call Idle may = tt
+update_comes_then call (Updating s) may = tt
+update_comes_then call (Tracking s) may = tt
+update_comes_then (update.Invalidate m) (Pulling p) may = absurd (cc)
+update_comes_then (update.Validate m) (Pulling p) may = absurd (cc)
+update_comes_then (update.Begin s) (Pulling p) may = absurd (cc)
+update_comes_then (update.Draw d) (Pulling p) may = absurd (cc)
+update_comes_then (update.End s) (Pulling p) may = absurd (cc)
+update_comes_then (update.Serve s) (Pulling p) may = absurd (cc)
+
+pub frame_comes_then : (call : FrameCall) (a : Activity) → gate a (frame_standing call) ≡ None → PullsNone a
+frame_comes_then call Idle may = tt
+frame_comes_then call (Updating s) may = tt
+frame_comes_then call (Tracking s) may = tt
+frame_comes_then (SetTitle n) (Pulling p) may = absurd (cc)
+frame_comes_then (Hilite h) (Pulling p) may = absurd (cc)
+frame_comes_then (TrackGoAway g) (Pulling p) may = absurd (cc)
+frame_comes_then (StepGoAway q) (Pulling p) may = absurd (cc)
+frame_comes_then (EndGoAway q) (Pulling p) may = absurd (cc)
+
+update_effect_pulls_none : (call : UpdateCall) (before after : DeskState) → IsUpdateEffect call before after → PullsNone before.activity → PullsNone after.activity
+update_effect_pulls_none (update.Invalidate m) before after (same, marked) was = subst PullsNone (sym same.activity) was
+update_effect_pulls_none (update.Validate m) before after (same, marked) was = subst PullsNone (sym same.activity) was
+update_effect_pulls_none (update.Begin s) before after begun was = subst PullsNone (sym begun.opened) tt
+update_effect_pulls_none (update.Draw d) before after (same, drawn) was = subst PullsNone (sym same.activity) was
+update_effect_pulls_none (update.End s) before after (idle, same) was = subst PullsNone (sym idle) tt
+update_effect_pulls_none (update.Serve s) before after (idle, drawn) was = subst PullsNone (sym idle) tt
+
+pub update_pulls_none : (call : UpdateCall) (answer : Result WindowReply Refusal) (before after : DeskState) → gate before.activity (update_standing call) ≡ None → IsUpdateStep call answer before after → PullsNone after.activity
+update_pulls_none call (Ok answer) before after may step = update_effect_pulls_none call before after step.1.1 (update_comes_then call before.activity may)
+update_pulls_none call (Err e) before after may step = subst PullsNone (sym step.1.activity) (update_comes_then call before.activity may)
+
+begun_pulls_none : (s : ℕ) (inside : Bool) (before after : DeskState) → IsBegunAt s inside before after → PullsNone before.activity → PullsNone after.activity
+begun_pulls_none s true before after (tracked, told) was = subst PullsNone (sym tracked) tt
+begun_pulls_none s false before after same was = subst PullsNone (sym same.activity) was
+
+frame_effect_pulls_none : (call : FrameCall) (answer : FrameReply) (before after : DeskState) → IsFrameEffect call answer before after → PullsNone before.activity → PullsNone after.activity
+frame_effect_pulls_none (SetTitle n) Done before after (same, told) was = subst PullsNone (sym same.activity) was
+frame_effect_pulls_none (Hilite h) Done before after (same, told) was = subst PullsNone (sym same.activity) was
+frame_effect_pulls_none (TrackGoAway g) (Tracked inside) before after (is, begun) was = begun_pulls_none g.window inside before after begun was
+frame_effect_pulls_none (StepGoAway p) (Tracked inside) before after (same, tracked) was = subst PullsNone (sym same.activity) was
+frame_effect_pulls_none (EndGoAway p) (Tracked inside) before after (idle, tracked) was = subst PullsNone (sym idle) tt
+frame_effect_pulls_none (SetTitle n) (Tracked inside) before after wrong was = absurd wrong
+frame_effect_pulls_none (Hilite h) (Tracked inside) before after wrong was = absurd wrong
+frame_effect_pulls_none (TrackGoAway g) Done before after wrong was = absurd wrong
+frame_effect_pulls_none (StepGoAway p) Done before after wrong was = absurd wrong
+frame_effect_pulls_none (EndGoAway p) Done before after wrong was = absurd wrong
+
+pub frame_pulls_none : (call : FrameCall) (answer : Result FrameReply Refusal) (before after : DeskState) → gate before.activity (frame_standing call) ≡ None → IsFrameStep call answer before after → PullsNone after.activity
+frame_pulls_none call (Ok answer) before after may step = frame_effect_pulls_none call answer before after step.1 (frame_comes_then call before.activity may)
+frame_pulls_none call (Err e) before after may step = subst PullsNone (sym step.1.activity) (frame_comes_then call before.activity may)
+
+-- a call that asks changes nothing
+asking_changes_nothing : (call : WindowCall) (answer : WindowReply) (before after : FullState) → IsEffect (effect_of call before.desk) answer before after → window_standing call ≡ Asks → IsUnchanged before after
+asking_changes_nothing (asks.Find p) answer before after done e = done.1
+asking_changes_nothing asks.Front answer before after done e = done.1
+asking_changes_nothing (asks.Info s) answer before after done e = done.1
+asking_changes_nothing (asks.VisibleRegion s) answer before after done e = done.1
+asking_changes_nothing (asks.UpdateRegion s) answer before after done e = done.1
+asking_changes_nothing _ answer before after done e = absurd (cc)
+
+asked_changes_nothing : (call : WindowCall) (answer : Result WindowReply Refusal) (before after : FullState) → IsWindowStep call answer before after → window_standing call ≡ Asks → IsUnchanged before after
+asked_changes_nothing call (Ok answer) before after step e = asking_changes_nothing call answer before after step.1 e
+asked_changes_nothing call (Err e) before after step asked = step.1
+
+same_state : (before after : FullState) → after ≡ before → IsUnchanged before after
+same_state before after same = record {
+  desk = ap (λ (s : FullState). s.desk) same;
+  stale = λ p on. ap (λ (s : FullState). s.stale p) same;
+  image = λ p on. ap (λ (s : FullState). s.image p) same;
+}
+
+-- ---- the map in front
+
+shown_on : (font other : List ℕ) (m : Option Pulled) (a b : PixelSet) (p : Point) → other ≡ font → b p ≡ a p → shown_bit font m a p ≡ shown_bit other m b p
+shown_on font other None a b p same e = sym e
+shown_on font other (Some m) a b p same e = λ i. if rect_holds (pulled_rect m.place m.size) p then pulled_bit (sym same i) m p else sym e i
+
+-- `loan` says what a window's definition that was taken means, and `menu_loan` what a menu's
+module _ {V : Type 0} {H : V → Type 0} (loan : Taken V H → Loan) {W : Type 0} {K : W → Type 0} (menu_loan : TakenMenu W K → MenuLoan) where
+  -- the menus that a desk begins with
+  pub menus_begin : (width height bar : ℤ) (font : List ℕ) (t : WindowManager V H) (m : Menus W K) (slots : List SlotView) (kept : List MenuSlot) → AreNoMenus width height m → IsEmptyDesk loan width height bar font t slots → AreMenusStocked [] kept → IsWholeMenus menu_loan t Idle m kept
+  menus_begin width height bar font t m slots kept none empty stocked = record {
+    few = subst (λ items. length items ≤ 16) (sym none.none) (omega arith);
+    room = none.room;
+    live = subst (λ items. AreLive (menus_of menu_loan items)) (sym none.none) tt;
+    stocked = subst (λ items. AreMenusStocked (menus_of menu_loan items) kept) (sym none.none) stocked;
+    width = ap nat_abs (none.width ∙ sym (ap (λ (d : FullDesk). d.width) empty.desk));
+    height = ap nat_abs (none.height ∙ sym (ap (λ (d : FullDesk). d.height) empty.desk));
+    placed = tt;
+    front = tt;
+  }
+
+  module _ (t new : WindowManager V H) (m : Menus W K) (kept : List MenuSlot) (before after : List SlotView) where
+    abbrev was : FullState
+    was = state_of loan t before
+
+    abbrev now : FullState
+    now = state_of loan new after
+
+    -- ---- no menu is pulled down, and the screen has the same sides
+
+    placed_none : (a : Activity) → PullsNone a → IsPlaced a
+    placed_none (Pulling p) none = absurd none
+    placed_none Idle none = tt
+    placed_none (Updating s) none = tt
+    placed_none (Tracking s) none = tt
+
+    front_none : (a : Activity) → PullsNone a → IsFrontShown menu_loan a new m
+    front_none (Pulling p) none = absurd none
+    front_none Idle none = tt
+    front_none (Updating s) none = tt
+    front_none (Tracking s) none = tt
+
+    whole_unpulled : (a b : Activity) → SameSides was.desk now.desk → PullsNone b → IsWholeMenus menu_loan t a m kept → IsWholeMenus menu_loan new b m kept
+    whole_unpulled a b sides none whole = record {
+      few = whole.few;
+      room = whole.room;
+      live = whole.live;
+      stocked = whole.stocked;
+      width = whole.width ∙ sym (ap nat_abs sides.width);
+      height = whole.height ∙ sym (ap nat_abs sides.height);
+      placed = placed_none b none;
+      front = front_none b none;
+    }
+
+    -- ---- the windows did not change, and the same is open
+
+    on_map_is : (p : Point) → on_screen (layered_desk was.desk) p ≡ on_map t.screen p
+    unfolding on_map
+    on_map_is p = λ i. between-is_below t.screen.width p.h i && between-is_below t.screen.height p.v i
+
+    on_front : (p : Point) → m.overlay.front.width ≡ t.screen.width → m.overlay.front.height ≡ t.screen.height → on_map m.overlay.front p ≡ on_map t.screen p
+    unfolding on_map
+    on_front p width height = λ i. is_below (width i) p.h && is_below (height i) p.v
+
+    module _ (same : IsUnchanged was now) where
+      wide : new.screen.width ≡ t.screen.width
+      wide = ap nat_abs (ap (λ (d : FullDesk). d.width) same.desk)
+
+      high : new.screen.height ≡ t.screen.height
+      high = ap nat_abs (ap (λ (d : FullDesk). d.height) same.desk)
+
+      front_stays : (a : Activity) → IsFrontShown menu_loan a t m → IsFrontShown menu_loan a new m
+      front_stays (Pulling p) shown = record {
+        width = shown.width ∙ sym wide;
+        height = shown.height ∙ sym high;
+        pixels = λ q on.
+            shown.pixels q on
+            ∙ shown_on t.font new.font (pulled_of (Pulling p) (menus_of menu_loan m.list.menus.items)) (bit t.screen) (bit new.screen) q (ap (λ (d : FullDesk). d.font) same.desk)
+            (same.image q (on_map_is q ∙ sym (on_front q shown.width shown.height) ∙ on));
+      }
+      front_stays Idle shown = tt
+      front_stays (Updating s) shown = tt
+      front_stays (Tracking s) shown = tt
+
+      whole_unchanged : (a : Activity) → IsWholeMenus menu_loan t a m kept → IsWholeMenus menu_loan new a m kept
+      whole_unchanged a whole = record {
+        few = whole.few;
+        room = whole.room;
+        live = whole.live;
+        stocked = whole.stocked;
+        width = whole.width ∙ sym wide;
+        height = whole.height ∙ sym high;
+        placed = whole.placed;
+        front = front_stays a whole.front;
+      }
+
+    -- ---- beside the calls of each manager
+
+    pub window_whole : (a : Activity) (call : WindowCall) (answer : Result WindowReply Refusal) → gate a (window_standing call) ≡ None → IsWindowStep call answer was now → IsWholeMenus menu_loan t a m kept → IsWholeMenus menu_loan new a m kept
+    window_whole a call answer may step whole = ⊎_elim
+        (λ none. whole_unpulled a a (step_keeps_sides call answer was now step) none whole)
+        (λ pulled. whole_unchanged (asked_changes_nothing call answer was now step (window_asks call pulled.0 (subst (λ b. gate b (window_standing call) ≡ None) pulled.1 may))) a whole)
+        (pulls_or_not a)
+
+    -- definitions are told how their windows stand
+    pub followed_whole : (a : Activity) (call : WindowCall) → gate a (window_standing call) ≡ None → IsCaughtUpBy (window_standing call) was now → IsWholeMenus menu_loan t a m kept → IsWholeMenus menu_loan new a m kept
+    followed_whole a call may told whole = ⊎_elim
+        (λ none. whole_unpulled a a (record {
+          width = caught_up_keeps (λ d. d.width) (λ d ws. refl) (window_standing call) was now told;
+          height = caught_up_keeps (λ d. d.height) (λ d ws. refl) (window_standing call) was now told;
+        }) none whole)
+        (λ pulled. whole_unchanged (same_state was now (subst (λ s. IsCaughtUpBy s was now) (window_asks call pulled.0 (subst (λ b. gate b (window_standing call) ≡ None) pulled.1 may)) told)) a whole)
+        (pulls_or_not a)
+
+    pub update_whole : (o n : Opened) (call : UpdateCall) (answer : Result WindowReply Refusal) → gate o.activity (update_standing call) ≡ None → IsUpdateStep call answer (desk_with o was) (desk_with n now) → IsWholeMenus menu_loan t o.activity m kept → IsWholeMenus menu_loan new n.activity m kept
+    update_whole o n call answer may step whole =
+        whole_unpulled o.activity n.activity (equal_sides was.desk now.desk (update_keeps_desk call answer (desk_with o was) (desk_with n now) step))
+        (update_pulls_none call answer (desk_with o was) (desk_with n now) may step) whole
+
+    pub frame_whole : (o n : Opened) (call : FrameCall) (answer : Result FrameReply Refusal) → gate o.activity (frame_standing call) ≡ None → IsFrameStep call answer (desk_with o was) (desk_with n now) → IsWholeMenus menu_loan t o.activity m kept → IsWholeMenus menu_loan new n.activity m kept
+    frame_whole o n call answer may step whole =
+        whole_unpulled o.activity n.activity (record {
+          width = frame_keeps (λ d. d.width) (λ d ws. refl) call answer (desk_with o was) (desk_with n now) step;
+          height = frame_keeps (λ d. d.height) (λ d ws. refl) call answer (desk_with o was) (desk_with n now) step;
+        })
+        (frame_pulls_none call answer (desk_with o was) (desk_with n now) may step) whole

@@ -1,0 +1,55 @@
+-- What the screen shows, whose its pixels are, and what painting the desk from nothing gives, with the menu in front that is
+-- pulled down.
+use Rattle.std.specs.Prelude.{◌≡◌, Bool, true, false, not, ◌&&◌, if◌then◌else◌, Option, None, Some}
+use Rattle.tb_geom.specs.declared.point.Point.{Point}
+use Rattle.tb_geom.specs.Points.{PixelSet}
+use Rattle.def_iface.specs.Desk.{on_screen}
+use Rattle.def_iface.specs.Owner.{Owner, own_bit, owner}
+use Rattle.def_iface.specs.Scratch.{scratch}
+use Rattle.menu_overlay.specs.Overlays.{Pulled, pulled_bit, shown_bit}
+use Rattle.window_mgr.specs.FullDesk.{layered_desk}
+use Rattle.menu_mgr.specs.Pulling.{is_in, is_pulled_at, pulled_of}
+use Rattle.menu_mgr.specs.Pulling as menus
+use Rattle.desk_toolbox.specs.ToolboxStates.{ToolboxState, with_menus}
+
+-- the menu that is pulled down, if one is
+abbrev pub pulled : ToolboxState → Option Pulled
+pulled s = pulled_of s.desk.activity s.menus.menus
+
+-- what the screen shows: the pulled menu where it lies, and else the base image
+abbrev pub screen_of : ToolboxState → PixelSet
+screen_of s = menus.screen_of (with_menus s)
+
+-- the point is a pixel of the screen that the pulled menu has
+abbrev pub is_on_menu : ToolboxState → Point → Bool
+is_on_menu s p = is_pulled_at s.desk.windows.desk (pulled s) p
+
+-- whose a pixel of the screen is: the pulled menu's, or the owner's of the base image
+pub data ScreenOwner : Type 0 where
+  PulledMenu : ScreenOwner
+  Base : (owner : Owner) → ScreenOwner
+
+abbrev pub screen_owner : ToolboxState → Point → ScreenOwner
+screen_owner s p = if is_in (pulled s) p then PulledMenu else Base (owner (layered_desk s.desk.windows.desk) p)
+
+-- the value that an owner gives a pixel
+abbrev pub pulled_value : ToolboxState → Option Pulled → PixelSet
+pulled_value s None p = false
+pulled_value s (Some m) p = pulled_bit s.desk.windows.desk.font m p
+
+abbrev pub screen_bit : ToolboxState → ScreenOwner → PixelSet
+screen_bit s PulledMenu p = pulled_value s (pulled s) p
+screen_bit s (Base o) p = own_bit (layered_desk s.desk.windows.desk) o p
+
+-- painting the desk from nothing, back to front: the windows and the menu bar, and the pulled menu last
+abbrev pub screen_scratch : ToolboxState → PixelSet
+screen_scratch s = shown_bit s.desk.windows.desk.font (pulled s) (scratch (layered_desk s.desk.windows.desk))
+
+-- the screen shows that wherever nothing is to be redrawn, and where the pulled menu lies
+abbrev pub IsScreenRight : ToolboxState → Type 0
+IsScreenRight s = (p : Point) → on_screen (layered_desk s.desk.windows.desk) p ≡ true
+    → (s.desk.windows.stale p && not (is_on_menu s p)) ≡ false → screen_of s p ≡ screen_scratch s p
+
+-- the whole screen shows it
+abbrev pub IsScreenAllRight : ToolboxState → Type 0
+IsScreenAllRight s = (p : Point) → on_screen (layered_desk s.desk.windows.desk) p ≡ true → screen_of s p ≡ screen_scratch s p

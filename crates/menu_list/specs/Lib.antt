@@ -1,0 +1,4 @@
+-- What the contracts speak of: the menus of a desk as a list, what changes them, and what others see of them.
+pub mod Editing
+pub mod Lists
+pub mod Seen

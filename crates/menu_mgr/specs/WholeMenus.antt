@@ -1,0 +1,88 @@
+-- What holds of the menus of a desk and of their stock between calls, and their state as plain data.
+use Rattle.std.specs.Prelude.{◌≡◌, ◌⊎◌, ℕ, ℤ, pos, ◌+◌, ◌≤◌, ◌==◌, true, if◌then◌else◌, List, [], ◌∷◌, length, Option, None, Some, slice_get, vec_capacity}
+use Rattle.def_iface.specs.declared.taken.Taken.{Taken}
+use Rattle.def_iface.specs.declared.taken_menu.TakenMenu.{TakenMenu}
+use Rattle.def_iface.specs.declared.window_def.Stage.TheVariants.{Live}
+use Rattle.def_iface.specs.Meaning.{Loan}
+use Rattle.def_iface.specs.MenuMeaning.{MenuLoan, is_menu_size}
+use Rattle.def_iface.specs.Stocked.{SlotView}
+use Rattle.menu_list.specs.declared.listed.Listed.{Listed}
+use Rattle.menu_list.specs.Seen.{all_seen}
+use Rattle.menu_overlay.specs.Overlays.{IsShown, is_menu_place}
+use Rattle.desk_call.specs.declared.activity.Activity.{Activity}
+use Rattle.desk_call.specs.declared.activity.Activity.TheVariants.{Pulling}
+use Rattle.window_mgr.specs.declared.manager.WindowManager.{WindowManager}
+use Rattle.window_mgr.specs.DeskStates.{Opened, desk_state}
+use Rattle.menu_mgr.specs.declared.menus.Menus.{Menus}
+use Rattle.menu_mgr.specs.MenuDesks.{IsMenuFull, MenuDesk, MenuRecord, MenuSlot, MenusState}
+use Rattle.menu_mgr.specs.Pulling.{pulled_of}
+
+-- how many of the menus have their definition from this slot
+abbrev pub uses : ℕ → List MenuRecord → ℕ
+uses k [] = 0
+uses k (l ∷ ls) = (if l.definition.slot == k then 1 else 0) + uses k ls
+
+-- so many menus have their definition from a slot: none, where it has a definition that no desk uses or there is no such
+-- slot, and one, where it is empty
+abbrev pub IsUsedBy : ℕ → Option MenuSlot → Type 0
+IsUsedBy n None = n ≡ 0
+IsUsedBy n (Some s) = ((n ≡ 0) × IsMenuFull s) ⊎ ((n ≡ 1) × (s.held ≡ None))
+
+-- the empty slots of the stock are those of the menus' definitions, each of another, and the definitions in the other slots
+-- are fresh or closed
+abbrev pub AreMenusStocked : List MenuRecord → List MenuSlot → Type 0
+AreMenusStocked menus slots = (k : ℕ) → IsUsedBy (uses k menus) (slice_get slots k)
+
+-- the menus' definitions are live
+abbrev pub AreLive : List MenuRecord → Type 0
+AreLive [] = Unit {0}
+AreLive (l ∷ ls) = (l.definition.definition.stage ≡ Live) × AreLive ls
+
+-- a menu that is pulled down has its corner on a screen, and a size that a menu may have
+abbrev pub IsPlaced : Activity → Type 0
+IsPlaced (Pulling m) = (is_menu_place m.place ≡ true) × (is_menu_size m.size ≡ true)
+IsPlaced _ = Unit {0}
+
+-- no menus, with room for 16, before a screen of these sides
+pub record AreNoMenus {W : Type 0} {K : W → Type 0} (wide high : ℤ) (m : Menus W K) : Type 0 where
+  pub none : m.list.menus.items ≡ []
+  pub highlighted : m.list.highlighted ≡ None
+  pub room : 16 ≤ vec_capacity m.list.menus
+  pub width : pos m.overlay.front.width ≡ wide
+  pub height : pos m.overlay.front.height ≡ high
+
+-- `menu_loan` says what a menu's definition that was taken means
+module _ {W : Type 0} {K : W → Type 0} (menu_loan : TakenMenu W K → MenuLoan) where
+  -- the menus as plain data
+  abbrev pub menus_of : List (Listed (TakenMenu W K)) → List MenuRecord
+  menus_of menus = all_seen menu_loan menus
+
+  abbrev pub menus_state : Menus W K → List MenuSlot → MenusState
+  menus_state m slots = record {
+    menus = menus_of m.list.menus.items;
+    highlighted = m.list.highlighted;
+    stock = slots;
+  }
+
+  module _ {V : Type 0} {H : V → Type 0} where
+    -- while a menu is pulled down the map in front shows it over the base image
+    abbrev pub IsFrontShown : Activity → WindowManager V H → Menus W K → Type 0
+    IsFrontShown (Pulling p) t m = IsShown t.font (pulled_of (Pulling p) (menus_of m.list.menus.items)) t.screen m.overlay.front
+    IsFrontShown _ t m = Unit {0}
+
+    -- the menus beside windows, with what is open and the slots of the menus' stock, between calls
+    pub record IsWholeMenus (t : WindowManager V H) (activity : Activity) (m : Menus W K) (slots : List MenuSlot) : Type 0 where
+      pub few : length m.list.menus.items ≤ 16
+      pub room : 16 ≤ vec_capacity m.list.menus
+      pub live : AreLive (menus_of m.list.menus.items)
+      pub stocked : AreMenusStocked (menus_of m.list.menus.items) slots
+      pub width : m.overlay.front.width ≡ t.screen.width
+      pub height : m.overlay.front.height ≡ t.screen.height
+      pub placed : IsPlaced activity
+      pub front : IsFrontShown activity t m
+
+    -- `loan` says what a window's definition that was taken means
+    module _ (loan : Taken V H → Loan) where
+      -- windows and menus with what is open, as a desk
+      abbrev pub menu_desk : WindowManager V H → Opened → List SlotView → Menus W K → List MenuSlot → MenuDesk
+      menu_desk t o slots m kept = record { desk = desk_state loan t o slots; menus = menus_state m kept }

@@ -1,0 +1,126 @@
+//! Calls, one by one.
+ghost use Rattle.std.specs.Prelude.{◌≡◌, ◌≤◌, List, None, length, true};
+ghost use Rattle.tb_geom.specs.Points.{PixelSet};
+ghost use Rattle.desk_call.specs.Gates.{gate, menu_standing};
+ghost use Rattle.desk_call.specs.declared.activity.Activity.TheVariants.{Idle};
+ghost use Rattle.window_mgr.specs.Kept.{IsKept};
+ghost use Rattle.menu_mgr.specs.Leaving.{LeavesDeskOver, opened};
+ghost use Rattle.desk_call.specs.declared.menu.MenuCall.TheVariants as asks;
+ghost use Rattle.menu_mgr.specs.MenuDesks.{MenuSlot};
+ghost use Rattle.menu_mgr.specs.MenuSteps.{IsMenuStep, is_edit};
+ghost use Rattle.menu_mgr.specs.WholeMenus.{IsWholeMenus};
+
+use crate::{MenuCall, MenuReply, Menus, NewMenu};
+use def_iface::{Defined, DefinedMenu, MenuStock, StockedMenus, Taken, TakenMenu};
+use desk_call::Activity;
+use menu_edits::edit;
+use tb_geom::Refusal;
+use window_mgr::WindowManager;
+
+impl Menus {
+    /// Performs one call on these menus beside these windows, which may come while this is open, and gives its answer. A
+    /// refused call changes nothing; which refusal comes first where several would do stands with the call.
+    pub fn perform(
+        &mut self,
+        windows: &mut WindowManager,
+        activity: &mut Activity,
+        call: &MenuCall<'_>,
+        stock: &mut MenuStock,
+    ) -> Result<MenuReply, Refusal>
+        requires kept { IsKept ⟦<Taken as Defined>⟧.loan windows.old }
+        requires menus { IsWholeMenus ⟦<TakenMenu as DefinedMenu>⟧.menu_loan windows.old activity.old self.old
+            (⟦<MenuStock as StockedMenus>⟧.menu_slots stock.old) }
+        requires admitted { gate activity.old (menu_standing call.now) ≡ None }
+        ensures { (begun : PixelSet) → LeavesDeskOver ⟦<Taken as Defined>⟧.loan ⟦<TakenMenu as DefinedMenu>⟧.menu_loan
+            (⟦<MenuStock as StockedMenus>⟧.menu_slots stock.old) (⟦<MenuStock as StockedMenus>⟧.menu_slots stock.new)
+            (IsMenuStep call.now result)
+            windows.old (opened activity.old begun) self.old windows.new (opened activity.new begun) self.new }
+    {
+        match call {
+            MenuCall::New(new) => self.make_and_show(windows, new, stock),
+            MenuCall::Dispose(menu) => self.end_and_show(windows, *menu, stock),
+            MenuCall::Down(point) => self.press_at(windows, activity, *point),
+            MenuCall::Move(point) => match *activity {
+                Activity::Pulling(pulled) => self.move_to(windows, activity, pulled, *point),
+                _ => unreachable!(),
+            },
+            MenuCall::Up(point) => match *activity {
+                Activity::Pulling(pulled) => self.release_at(windows, activity, pulled, *point),
+                _ => unreachable!(),
+            },
+            _ => self.edit_and_show(windows, call),
+        }
+    }
+
+    /// Makes a menu.
+    fn make_and_show(
+        &mut self,
+        windows: &mut WindowManager,
+        new: &NewMenu<'_>,
+        stock: &mut MenuStock,
+    ) -> Result<MenuReply, Refusal>
+        requires kept { IsKept ⟦<Taken as Defined>⟧.loan windows.old }
+        requires menus { IsWholeMenus ⟦<TakenMenu as DefinedMenu>⟧.menu_loan windows.old Idle self.old
+            (⟦<MenuStock as StockedMenus>⟧.menu_slots stock.old) }
+        ensures { (begun : PixelSet) → LeavesDeskOver ⟦<Taken as Defined>⟧.loan ⟦<TakenMenu as DefinedMenu>⟧.menu_loan
+            (⟦<MenuStock as StockedMenus>⟧.menu_slots stock.old) (⟦<MenuStock as StockedMenus>⟧.menu_slots stock.new)
+            (IsMenuStep (asks.New new.now) result)
+            windows.old (opened Idle begun) self.old windows.new (opened Idle begun) self.new }
+    {
+        match self.make(new, stock) {
+            Ok(reply) => {
+                self.show_titles(windows);
+                Ok(reply)
+            }
+            Err(refusal) => Err(refusal),
+        }
+    }
+
+    /// Ends a menu.
+    fn end_and_show(
+        &mut self,
+        windows: &mut WindowManager,
+        menu: i32,
+        stock: &mut MenuStock,
+    ) -> Result<MenuReply, Refusal>
+        requires kept { IsKept ⟦<Taken as Defined>⟧.loan windows.old }
+        requires menus { IsWholeMenus ⟦<TakenMenu as DefinedMenu>⟧.menu_loan windows.old Idle self.old
+            (⟦<MenuStock as StockedMenus>⟧.menu_slots stock.old) }
+        ensures { (begun : PixelSet) → LeavesDeskOver ⟦<Taken as Defined>⟧.loan ⟦<TakenMenu as DefinedMenu>⟧.menu_loan
+            (⟦<MenuStock as StockedMenus>⟧.menu_slots stock.old) (⟦<MenuStock as StockedMenus>⟧.menu_slots stock.new)
+            (IsMenuStep (asks.Dispose menu) result)
+            windows.old (opened Idle begun) self.old windows.new (opened Idle begun) self.new }
+    {
+        match self.end(menu, stock) {
+            Ok(reply) => {
+                self.show_titles(windows);
+                Ok(reply)
+            }
+            Err(refusal) => Err(refusal),
+        }
+    }
+
+    /// Changes menus as data.
+    fn edit_and_show(
+        &mut self,
+        windows: &mut WindowManager,
+        call: &MenuCall<'_>,
+    ) -> Result<MenuReply, Refusal>
+        requires kept { IsKept ⟦<Taken as Defined>⟧.loan windows.old }
+        requires edits { is_edit call.now ≡ true }
+        requires few { length self.old.list.menus.items ≤ 16 }
+        ensures { (begun : PixelSet) (kept : List MenuSlot)
+            → IsWholeMenus ⟦<TakenMenu as DefinedMenu>⟧.menu_loan windows.old Idle self.old kept
+            → LeavesDeskOver ⟦<Taken as Defined>⟧.loan ⟦<TakenMenu as DefinedMenu>⟧.menu_loan kept kept
+            (IsMenuStep call.now result)
+            windows.old (opened Idle begun) self.old windows.new (opened Idle begun) self.new }
+    {
+        match edit(&mut self.list, call) {
+            Ok(reply) => {
+                self.show_titles(windows);
+                Ok(reply)
+            }
+            Err(refusal) => Err(refusal),
+        }
+    }
+}

@@ -1,0 +1,380 @@
+//! The menu that is pulled down.
+ghost use Rattle.std.specs.Prelude.{◌≡◌, ◌<◌, ◌≤◌, [], length, vec_capacity, Some, None, IfSome, true, List, ℕ, pos, ◌≤ℤ◌, slice_get, is_none, if◌then◌else◌};
+ghost use Rattle.std.specs.Option.{option_map};
+ghost use Rattle.tb_geom.specs.Points.{PixelSet, minus};
+ghost use Rattle.tb_geom.specs.Rects.{in_plane};
+ghost use Rattle.bit_map.specs.Bits.{Bits};
+ghost use Rattle.def_iface.specs.MenuMeaning.{is_menu_size};
+ghost use Rattle.desk_call.specs.declared.activity.Activity.TheVariants.{Idle, Pulling};
+ghost use Rattle.desk_call.specs.declared.menu.MenuCall.TheVariants as asks;
+ghost use Rattle.menu_list.specs.Lists.{menu_index, titles_of};
+ghost use Rattle.menu_list.specs.Seen.{seen};
+ghost use Rattle.menu_overlay.specs.Overlays.{IsShown, is_menu_place};
+ghost use Rattle.window_mgr.specs.BarShown.{IsBarShown};
+ghost use Rattle.window_mgr.specs.Kept.{IsKept};
+ghost use Rattle.window_mgr.specs.Records.{desk_of};
+ghost use Rattle.window_mgr.specs.Updating.{LeavesState};
+ghost use Rattle.menu_mgr.specs.Leaving.{AreKeptMenus, LeavesMenus, indexed, of_another, opened};
+ghost use Rattle.menu_mgr.specs.MenuSteps.{IsMenuStep, IsTold, IsToldAt, choice_of};
+ghost use Rattle.menu_mgr.specs.Pulling.{as_pulled, is_pulled_at, item_under, pulled_below, pulled_of, title_under};
+ghost use Rattle.menu_mgr.specs.WholeMenus.{AreLive, IsPlaced, menus_of};
+
+use crate::{Choice, MenuReply, Menus};
+use def_iface::{Defined, DefinedMenu, MenuChange, Taken, TakenMenu};
+use desk_call::{Activity, PulledMenu};
+use menu_bar::{TitleHit, title_at};
+use menu_overlay::{pulled_place, pulled_rect, shown_size};
+use strike_font::Font;
+use tb_geom::{Point, Refusal};
+use window_mgr::{Parts, WindowManager};
+
+/// A title of the menu bar that a point is on.
+#[derive(Clone, Copy)]
+pub(crate) struct Titled {
+    /// The index of its menu.
+    pub at: usize,
+    pub hit: TitleHit,
+}
+
+/// A point of the screen, seen from the corner of a menu.
+fn seen_from(place: Point, point: Point) -> Point
+    requires place { is_menu_place place ≡ true }
+    requires point { in_plane point ≡ true }
+    ensures { result ≡ minus point place }
+{
+    Point {
+        h: point.h - place.h,
+        v: point.v - place.v,
+    }
+}
+
+/// What is chosen where the pulled menu has this item.
+fn chosen(pulled: PulledMenu, item: Option<u8>) -> Option<Choice>
+    ensures { result ≡ choice_of pulled item }
+{
+    match item {
+        Some(item) => Some(Choice {
+            menu: pulled.menu,
+            item,
+        }),
+        None => None,
+    }
+}
+
+impl Menus {
+    /// Where the first menu of this number stands in the list, if there is one.
+    fn index_of(&self, menu: u16) -> Option<usize>
+        ensures first { result ≡ menu_index (pos menu) self.now.list.menus.items }
+        ensures within { IfSome result (λ at. at < length self.now.list.menus.items) }
+    {
+        self.list.find(i32::from(menu))
+    }
+
+    /// The title of the menu bar that a point of the screen is on, if it is on one.
+    fn title_under(&self, windows: &WindowManager, point: Point) -> Option<Titled>
+        ensures value { result ≡ indexed self.now.list.menus.items
+            (title_under (desk_of ⟦<Taken as Defined>⟧.loan windows.now []) point) }
+        ensures within { IfSome result (λ t. t.at < length self.now.list.menus.items) }
+        ensures near { IfSome result (λ t. (pos 0 ≤ℤ t.hit.left) × (t.hit.left ≤ℤ pos 1200000)) }
+    {
+        let Parts {
+            bar,
+            titles,
+            font,
+            ..
+        } = windows.parts();
+        if bar == 0 || !windows.screen().bounds().contains(point) {
+            return None;
+        }
+        let hit = title_at(font, titles, point)?;
+        let at = self.index_of(hit.menu)?;
+        Some(Titled { at, hit })
+    }
+
+    /// The title that a point of the screen is on, if it is that of another menu than the pulled one.
+    fn other_title(
+        &self,
+        windows: &WindowManager,
+        pulled: PulledMenu,
+        point: Point,
+    ) -> Option<Titled>
+        ensures value { result ≡ of_another pulled (indexed self.now.list.menus.items
+            (title_under (desk_of ⟦<Taken as Defined>⟧.loan windows.now []) point)) }
+        ensures within { IfSome result (λ t. t.at < length self.now.list.menus.items) }
+        ensures near { IfSome result (λ t. (pos 0 ≤ℤ t.hit.left) × (t.hit.left ≤ℤ pos 1200000)) }
+    {
+        match self.title_under(windows, point) {
+            Some(title) if title.hit.menu != pulled.menu => Some(title),
+            _ => None,
+        }
+    }
+
+    /// The item of the pulled menu that a point of the screen is over, if it is one that can be chosen.
+    fn item_under(&self, windows: &WindowManager, pulled: PulledMenu, point: Point) -> Option<u8>
+        requires place { is_menu_place pulled.place ≡ true }
+        requires size { is_menu_size pulled.size ≡ true }
+        requires point { in_plane point ≡ true }
+        ensures { result ≡ item_under (desk_of ⟦<Taken as Defined>⟧.loan windows.now []) pulled
+            (menus_of ⟦<TakenMenu as DefinedMenu>⟧.menu_loan self.now.list.menus.items) point }
+    {
+        let at = self.index_of(pulled.menu)?;
+        let area = pulled_rect(pulled.place, pulled.size);
+        if !windows.screen().bounds().contains(point) || !area.contains(point) {
+            return None;
+        }
+        let listed = &self.list.menus[at];
+        let font = windows.parts().font;
+        listed
+            .definition
+            .choose(&listed.menu, font, seen_from(pulled.place, point))
+    }
+
+    /// Whether a point is a pixel of the screen that the menu has which is pulled down, if one is.
+    pub fn has_point(&self, windows: &WindowManager, activity: Activity, point: Point) -> bool
+        requires { IsPlaced activity }
+        ensures { result ≡ is_pulled_at (desk_of ⟦<Taken as Defined>⟧.loan windows.now [])
+            (pulled_of activity (menus_of ⟦<TakenMenu as DefinedMenu>⟧.menu_loan self.now.list.menus.items)) point }
+    {
+        match activity {
+            Activity::Pulling(pulled) => self.is_over(windows, pulled, point),
+            _ => false,
+        }
+    }
+
+    /// Whether it is one of the pulled menu.
+    fn is_over(&self, windows: &WindowManager, pulled: PulledMenu, point: Point) -> bool
+        requires place { is_menu_place pulled.place ≡ true }
+        requires size { is_menu_size pulled.size ≡ true }
+        ensures { result ≡ is_pulled_at (desk_of ⟦<Taken as Defined>⟧.loan windows.now [])
+            (pulled_of (Pulling pulled) (menus_of ⟦<TakenMenu as DefinedMenu>⟧.menu_loan self.now.list.menus.items)) point }
+    {
+        match self.index_of(pulled.menu) {
+            Some(_) => {
+                windows.screen().bounds().contains(point)
+                    && pulled_rect(pulled.place, pulled.size).contains(point)
+            }
+            None => false,
+        }
+    }
+
+    /// Pulls a menu down below its title, which alone is highlighted then. No item is. Takes no memory.
+    fn pull(&mut self, windows: &mut WindowManager, title: Titled) -> PulledMenu
+        requires kept { IsKept ⟦<Taken as Defined>⟧.loan windows.old }
+        requires few { length self.old.list.menus.items ≤ 16 }
+        requires at { title.at < length self.old.list.menus.items }
+        requires near { (pos 0 ≤ℤ title.hit.left) × (title.hit.left ≤ℤ pos 1200000) }
+        requires live { AreLive (menus_of ⟦<TakenMenu as DefinedMenu>⟧.menu_loan self.old.list.menus.items) }
+        requires width { self.old.overlay.front.width ≡ windows.old.screen.width }
+        requires height { self.old.overlay.front.height ≡ windows.old.screen.height }
+        ensures menus { self.new.list.menus ≡ self.old.list.menus }
+        ensures highlighted { self.new.list.highlighted ≡ Some title.hit.menu }
+        ensures alloc { self.new.alloc ≡ self.old.alloc }
+        ensures bar { LeavesState ⟦<Taken as Defined>⟧.loan
+            (IsBarShown (titles_of (Some title.hit.menu) self.old.list.menus.items)) windows.old windows.new }
+        ensures pulled { IfSome (slice_get self.old.list.menus.items title.at) (λ l.
+            let listed = seen ⟦<TakenMenu as DefinedMenu>⟧.menu_loan l in
+            (result ≡ pulled_below (desk_of ⟦<Taken as Defined>⟧.loan windows.old []) (record { hit = title.hit; record_of = listed }))
+            × IsShown windows.new.font (Some (as_pulled result listed)) windows.new.screen self.new.overlay.front) }
+        ensures placed { (is_menu_place result.place ≡ true) × (is_menu_size result.size ≡ true) }
+    {
+        let pulled = self.below(windows, title);
+        self.list.highlight(Some(title.hit.menu));
+        self.show_titles(windows);
+        self.show_pulled(windows, title.at, pulled);
+        pulled
+    }
+
+    /// The menu of a title, where it lies below that.
+    fn below(&self, windows: &WindowManager, title: Titled) -> PulledMenu
+        requires kept { IsKept ⟦<Taken as Defined>⟧.loan windows.now }
+        requires at { title.at < length self.now.list.menus.items }
+        requires near { (pos 0 ≤ℤ title.hit.left) × (title.hit.left ≤ℤ pos 1200000) }
+        ensures pulled { IfSome (slice_get self.now.list.menus.items title.at) (λ l. result
+            ≡ pulled_below (desk_of ⟦<Taken as Defined>⟧.loan windows.now [])
+            (record { hit = title.hit; record_of = seen ⟦<TakenMenu as DefinedMenu>⟧.menu_loan l })) }
+        ensures placed { (is_menu_place result.place ≡ true) × (is_menu_size result.size ≡ true) }
+    {
+        let Parts { width, font, .. } = windows.parts();
+        let listed = &self.list.menus[title.at];
+        let size = shown_size(&listed.menu, listed.definition.size(&listed.menu, font));
+        PulledMenu {
+            menu: title.hit.menu,
+            place: pulled_place(width, title.hit.left, size),
+            size,
+            item: None,
+        }
+    }
+
+    /// Shows the menu at an index over the base image, where it lies.
+    fn show_pulled(&mut self, windows: &WindowManager, at: usize, pulled: PulledMenu)
+        requires at { at < length self.old.list.menus.items }
+        requires live { AreLive (menus_of ⟦<TakenMenu as DefinedMenu>⟧.menu_loan self.old.list.menus.items) }
+        requires place { is_menu_place pulled.place ≡ true }
+        requires size { is_menu_size pulled.size ≡ true }
+        requires width { self.old.overlay.front.width ≡ windows.now.screen.width }
+        requires height { self.old.overlay.front.height ≡ windows.now.screen.height }
+        ensures list { self.new.list ≡ self.old.list }
+        ensures alloc { self.new.alloc ≡ self.old.alloc }
+        ensures front { IfSome (slice_get self.old.list.menus.items at) (λ l. IsShown windows.now.font
+            (Some (as_pulled pulled (seen ⟦<TakenMenu as DefinedMenu>⟧.menu_loan l))) windows.now.screen self.new.overlay.front) }
+    {
+        self.overlay.show(windows.screen());
+        let listed = &self.list.menus[at];
+        self.overlay.pull(
+            &listed.definition,
+            &listed.menu,
+            pulled.place,
+            pulled.size,
+            windows.parts().font,
+        );
+    }
+
+    /// Tells the definition of the pulled menu which item is highlighted, and shows the menu so. Takes no memory.
+    fn tell(&mut self, font: &Font, pulled: PulledMenu, item: Option<u8>)
+        requires live { AreLive (menus_of ⟦<TakenMenu as DefinedMenu>⟧.menu_loan self.old.list.menus.items) }
+        requires place { is_menu_place pulled.place ≡ true }
+        requires size { is_menu_size pulled.size ≡ true }
+        requires screen { (self.old.overlay.front.width ≤ 1024) × (self.old.overlay.front.height ≤ 1024) }
+        ensures told { IsTold pulled item (menus_of ⟦<TakenMenu as DefinedMenu>⟧.menu_loan self.old.list.menus.items)
+            (menus_of ⟦<TakenMenu as DefinedMenu>⟧.menu_loan self.new.list.menus.items) }
+        ensures highlighted { self.new.list.highlighted ≡ self.old.list.highlighted }
+        ensures room { vec_capacity self.old.list.menus ≤ vec_capacity self.new.list.menus }
+        ensures alloc { self.new.alloc ≡ self.old.alloc }
+        ensures front { (base : Bits)
+            → IsShown font.now (pulled_of (Pulling pulled) (menus_of ⟦<TakenMenu as DefinedMenu>⟧.menu_loan self.old.list.menus.items))
+            base self.old.overlay.front
+            → IsShown font.now (pulled_of (Pulling pulled) (menus_of ⟦<TakenMenu as DefinedMenu>⟧.menu_loan self.new.list.menus.items))
+            base self.new.overlay.front }
+    {
+        if let Some(at) = self.index_of(pulled.menu) {
+            self.tell_at(font, at, pulled, item);
+        }
+    }
+
+    /// Tells it where its menu stands at this index.
+    fn tell_at(&mut self, font: &Font, at: usize, pulled: PulledMenu, item: Option<u8>)
+        requires at { at < length self.old.list.menus.items }
+        requires live { AreLive (menus_of ⟦<TakenMenu as DefinedMenu>⟧.menu_loan self.old.list.menus.items) }
+        requires place { is_menu_place pulled.place ≡ true }
+        requires size { is_menu_size pulled.size ≡ true }
+        requires screen { (self.old.overlay.front.width ≤ 1024) × (self.old.overlay.front.height ≤ 1024) }
+        ensures told { IsToldAt (Some at) item (menus_of ⟦<TakenMenu as DefinedMenu>⟧.menu_loan self.old.list.menus.items)
+            (menus_of ⟦<TakenMenu as DefinedMenu>⟧.menu_loan self.new.list.menus.items) }
+        ensures highlighted { self.new.list.highlighted ≡ self.old.list.highlighted }
+        ensures room { vec_capacity self.old.list.menus ≤ vec_capacity self.new.list.menus }
+        ensures alloc { self.new.alloc ≡ self.old.alloc }
+        ensures front { (base : Bits)
+            → IsShown font.now (option_map (as_pulled pulled)
+            (slice_get (menus_of ⟦<TakenMenu as DefinedMenu>⟧.menu_loan self.old.list.menus.items) at)) base self.old.overlay.front
+            → IsShown font.now (option_map (as_pulled pulled)
+            (slice_get (menus_of ⟦<TakenMenu as DefinedMenu>⟧.menu_loan self.new.list.menus.items) at)) base self.new.overlay.front }
+    {
+        let listed = &mut self.list.menus[at];
+        let damage = listed.definition.told(MenuChange::Highlighted(item));
+        self.overlay.redraw(
+            &listed.definition,
+            &listed.menu,
+            pulled.place,
+            pulled.size,
+            damage,
+            font,
+        );
+    }
+
+    /// Takes the highlighting from every title where nothing was chosen.
+    fn dim_unless(&mut self, choice: Option<Choice>)
+        ensures menus { self.new.list.menus ≡ self.old.list.menus }
+        ensures highlighted { self.new.list.highlighted ≡ (if is_none choice then None else self.old.list.highlighted) }
+        ensures alloc { self.new.alloc ≡ self.old.alloc }
+        ensures overlay { self.new.overlay ≡ self.old.overlay }
+    {
+        if choice.is_none() {
+            self.list.highlight(None);
+        }
+    }
+
+    /// The mouse button was pressed at a point of the screen.
+    pub(crate) fn press_at(
+        &mut self,
+        windows: &mut WindowManager,
+        activity: &mut Activity,
+        point: Point,
+    ) -> Result<MenuReply, Refusal>
+        requires kept { IsKept ⟦<Taken as Defined>⟧.loan windows.old }
+        requires menus { AreKeptMenus ⟦<Taken as Defined>⟧.loan ⟦<TakenMenu as DefinedMenu>⟧.menu_loan windows.old activity.old self.old }
+        requires idle { activity.old ≡ Idle }
+        ensures { (begun : PixelSet) → LeavesMenus ⟦<Taken as Defined>⟧.loan ⟦<TakenMenu as DefinedMenu>⟧.menu_loan
+            (IsMenuStep (asks.Down point) result)
+            windows.old (opened activity.old begun) self.old windows.new (opened activity.new begun) self.new }
+    {
+        if !point.is_in_range() {
+            return Err(Refusal::OutOfRange);
+        }
+        match self.title_under(windows, point) {
+            Some(title) => {
+                *activity = Activity::Pulling(self.pull(windows, title));
+                Ok(MenuReply::Pulled(Some(title.hit.menu)))
+            }
+            None => Ok(MenuReply::Pulled(None)),
+        }
+    }
+
+    /// The mouse is at a point of the screen while a menu is pulled down.
+    pub(crate) fn move_to(
+        &mut self,
+        windows: &mut WindowManager,
+        activity: &mut Activity,
+        pulled: PulledMenu,
+        point: Point,
+    ) -> Result<MenuReply, Refusal>
+        requires kept { IsKept ⟦<Taken as Defined>⟧.loan windows.old }
+        requires menus { AreKeptMenus ⟦<Taken as Defined>⟧.loan ⟦<TakenMenu as DefinedMenu>⟧.menu_loan windows.old activity.old self.old }
+        requires pulling { activity.old ≡ Pulling pulled }
+        ensures { (begun : PixelSet) → LeavesMenus ⟦<Taken as Defined>⟧.loan ⟦<TakenMenu as DefinedMenu>⟧.menu_loan
+            (IsMenuStep (asks.Move point) result)
+            windows.old (opened activity.old begun) self.old windows.new (opened activity.new begun) self.new }
+    {
+        if !point.is_in_range() {
+            return Err(Refusal::OutOfRange);
+        }
+        match self.other_title(windows, pulled, point) {
+            Some(title) => {
+                self.tell(windows.parts().font, pulled, None);
+                *activity = Activity::Pulling(self.pull(windows, title));
+                Ok(MenuReply::Item(None))
+            }
+            None => {
+                let item = self.item_under(windows, pulled, point);
+                self.tell(windows.parts().font, pulled, item);
+                *activity = Activity::Pulling(PulledMenu { item, ..pulled });
+                Ok(MenuReply::Item(item))
+            }
+        }
+    }
+
+    /// The mouse button was released at a point of the screen while a menu is pulled down.
+    pub(crate) fn release_at(
+        &mut self,
+        windows: &mut WindowManager,
+        activity: &mut Activity,
+        pulled: PulledMenu,
+        point: Point,
+    ) -> Result<MenuReply, Refusal>
+        requires kept { IsKept ⟦<Taken as Defined>⟧.loan windows.old }
+        requires menus { AreKeptMenus ⟦<Taken as Defined>⟧.loan ⟦<TakenMenu as DefinedMenu>⟧.menu_loan windows.old activity.old self.old }
+        requires pulling { activity.old ≡ Pulling pulled }
+        ensures { (begun : PixelSet) → LeavesMenus ⟦<Taken as Defined>⟧.loan ⟦<TakenMenu as DefinedMenu>⟧.menu_loan
+            (IsMenuStep (asks.Up point) result)
+            windows.old (opened activity.old begun) self.old windows.new (opened activity.new begun) self.new }
+    {
+        if !point.is_in_range() {
+            return Err(Refusal::OutOfRange);
+        }
+        let choice = chosen(pulled, self.item_under(windows, pulled, point));
+        self.tell(windows.parts().font, pulled, None);
+        self.dim_unless(choice);
+        self.show_titles(windows);
+        *activity = Activity::Idle;
+        Ok(MenuReply::Chosen(choice))
+    }
+}

@@ -1,0 +1,2 @@
+pub mod MenuLines
+pub mod MenuWords

@@ -1,0 +1,5 @@
+use Rattle.script_runner.proofs.MenuStocks.{all_full}
+use Rattle.script_runner.proofs.session.Session.close.Goals as goal
+
+pub returns-in-Some-clause-full_menus : goal.returns-in-Some-clause-full_menus
+returns-in-Some-clause-full_menus g c = all_full _ c.close.ensures.menus.full
