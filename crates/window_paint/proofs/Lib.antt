@@ -1,0 +1,7 @@
+-- Lemmas on drawing: cuts, pictures, the color white, all of a window's content, frames, and pixels that move.
+pub mod CutLemmas
+pub mod PictureLemmas
+pub mod WhiteLemmas
+pub mod ContentLemmas
+pub mod FrameLemmas
+pub mod MoveLemmas
