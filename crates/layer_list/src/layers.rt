@@ -9,7 +9,7 @@ ghost use Rattle.layer_list.specs.Holders.{is_covered, belongs_to, part_at, fits
 ghost use Rattle.layer_list.specs.Changes.{with_shape, is_gained, reshaped};
 
 use crate::layer::{Layer, Shape};
-use crate::moves::{move_all, move_by, way};
+use crate::moves::{local, move_all, move_by};
 use def_iface::Part;
 use scan_region::Region;
 use std::alloc::{AllocError, Global};
@@ -128,7 +128,7 @@ impl Layers {
         requires fit { list_all (fits_at place) self.old.layers ≡ true }
         ensures { self.new ≡ record self.old { place = place } }
     {
-        let by = way(place, self.place);
+        let by = local(place, self.place);
         move_all(self.owned.as_mut_slice(), by);
         move_by(&mut self.covered, by);
         self.place = place;
@@ -139,7 +139,6 @@ impl Layers {
     pub fn with(&self, alloc: Global, at: usize, layer: Layer) -> Result<Relaid, AllocError>
         requires at { at ≤ length self.now.layers }
         requires lies { IsLayerAt self.now.place layer }
-        requires apart { ArePartsApart (insert self.now.layers at layer) }
         ensures layers { IfOk result (λ r. r.layers ≡ record self.now { layers = insert self.now.layers at layer }) }
         ensures gained { IfOk result (λ r. (p : Point) → holds r.gained p
             ≡ is_gained (Some layer.part) self.now.layers r.layers.layers (minus p self.now.place)) }

@@ -6,6 +6,8 @@
 //! a window shows of a layer is what the layer owns, less what lies in front of the window: no call on windows changes the
 //! first, and no change of layers the second.
 //!
+//! `local` and `move_by` are the step between a window's own coordinates and those of the screen, for points and for regions.
+//!
 //! A change answers the whole new `Layers`, or that there is no memory, and leaves the old ones as they are until the caller
 //! puts the new ones in their place.
 #![tactic(auto)]
@@ -16,3 +18,4 @@ mod moves;
 
 pub use layer::{Layer, Shape};
 pub use layers::{Layers, Relaid};
+pub use moves::{local, move_by};

@@ -1,4 +1,4 @@
-//! Regions moved on the screen.
+//! Points seen from a window, and regions moved on the screen.
 ghost use Rattle.std.specs.Prelude.{◌≡◌, ◌-ℤ◌, true, All};
 ghost use Rattle.tb_geom.specs.declared.point.Point.{Point};
 ghost use Rattle.tb_geom.specs.Points.{minus};
@@ -10,15 +10,15 @@ ghost use Rattle.layer_list.specs.Owned.{AreMoved};
 use scan_region::Region;
 use tb_geom::Point;
 
-/// The way from one point to another, in the coordinate space of both.
-pub fn way(to: Point, from: Point) -> Point
-    requires to { in_plane to ≡ true }
-    requires from { in_plane from ≡ true }
-    ensures { result ≡ minus to from }
+/// The point of the screen in the coordinates of a window at this place; so also the way from the place to the point.
+pub fn local(point: Point, place: Point) -> Point
+    requires point { in_plane point ≡ true }
+    requires place { in_plane place ≡ true }
+    ensures { result ≡ minus point place }
 {
     Point {
-        h: difference(to.h, from.h),
-        v: difference(to.v, from.v),
+        h: difference(point.h, place.h),
+        v: difference(point.v, place.v),
     }
 }
 

@@ -1,6 +1,7 @@
 //! The tests: steps in a row, after each of which the library and the model agree.
 
-use crate::model::{Painting, Step};
+use crate::plain_desk::Painting;
+use crate::plain_steps::Step;
 use crate::steps::Desk;
 use def_iface::{Part, Size};
 use std::alloc::Global;

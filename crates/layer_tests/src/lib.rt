@@ -3,7 +3,8 @@
 //! every region that is kept is what a slow model says. No script reaches this, since no call of the Toolbox makes controls or
 //! lists yet.
 //!
-//! `model` is the model, by single pixels; it uses no region. `stripes` says what the controls and lists of these tests show,
+//! The model goes by single pixels and uses no region: `plain_desk` says whose a pixel is, `plain_steps` what calls change of
+//! the desk, and `plain_pixels` what each pixel shows after them. `stripes` says what the controls and lists of these tests show,
 //! `relaying` changes the layers of a window, `updating` updates one, `steps` carries out each call by the library and by the
 //! model and compares them, and `followed` has the tests.
 #![tactic(auto)]
@@ -32,7 +33,11 @@ macro_rules! point {
 #[cfg(test)]
 mod followed;
 #[cfg(test)]
-mod model;
+mod plain_desk;
+#[cfg(test)]
+mod plain_pixels;
+#[cfg(test)]
+mod plain_steps;
 pub mod relaying;
 #[cfg(test)]
 mod steps;

@@ -3,7 +3,9 @@ ghost use Rattle.std.specs.Prelude.{IfOk};
 ghost use Rattle.window_mgr.specs.Whole.{IsWholeManager};
 ghost use Rattle.window_update.specs.WholeUpdates.{IsWholeUpdates};
 
-use crate::model::{Effect, Owner, Painting, Plain, PlainDesk, PlainLayer, PlainWindow, Step};
+use crate::plain_desk::{Owner, Painting, PlainDesk, PlainLayer, PlainWindow};
+use crate::plain_pixels::Plain;
+use crate::plain_steps::{Effect, Step};
 use crate::relaying::{put, take_out};
 use crate::updating::{update, updates_for};
 use bit_map::{BitMap, Mode, Pattern};

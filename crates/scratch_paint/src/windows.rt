@@ -4,7 +4,6 @@ ghost use Rattle.tb_geom.specs.declared.point.Point.{Point};
 ghost use Rattle.tb_geom.specs.Points.{minus};
 ghost use Rattle.tb_geom.specs.Pixels.{holds};
 ghost use Rattle.tb_geom.specs.Rects.{in_plane};
-ghost use Rattle.scan_region.specs.Cuts.{cut_meeting};
 ghost use Rattle.scan_region.specs.Moves.{StaysInRange};
 ghost use Rattle.bit_blit.specs.Draws.{Draws};
 ghost use Rattle.draw_port.specs.Ops.{picture_bit};
@@ -16,15 +15,15 @@ ghost use Rattle.scratch_paint.specs.Paints.{IsLocalContent, layers_value, look_
 
 use bit_map::BitMap;
 use def_iface::{Defined, Part, Taken, WindowRegions};
-use draw_port::{Canvas, Cut};
-use layer_list::Layer;
+use draw_port::Canvas;
+use layer_list::{Layer, move_by};
 use scan_region::Region;
 use std::alloc::{AllocError, Global};
 use strike_font::Font;
 use tb_geom::Point;
 use vis_update::regions_of;
 use window_list::{Window, picture_place};
-use window_paint::Showing;
+use window_paint::{Showing, meeting};
 
 /// Paints a window, if it is visible, on the gray region: its frame, and its content over that.
 pub(crate) fn paint_window<S: Showing>(
@@ -147,16 +146,8 @@ fn layer_region(
         return Ok(Region::empty(alloc));
     }
     let mut region = content.sect(alloc, &layer.region)?;
-    move_to(&mut region, place);
+    move_by(&mut region, place);
     Ok(region)
-}
-
-/// Moves a region from a window's own coordinates to those of the screen.
-fn move_to(region: &mut Region, place: Point)
-    requires { StaysInRange region.old place }
-    ensures { (p : Point) → holds region.new p ≡ holds region.old (minus p place) }
-{
-    region.offset(place.h, place.v).unwrap();
 }
 
 /// Paints what a control or list of a window at this place shows on what of a region of the screen lies in the gray one.
@@ -185,14 +176,4 @@ fn paint_layer<'a, S: Showing>(
         font,
     };
     layers.draw(part, &mut canvas);
-}
-
-/// The cut that leaves the pixels of both regions.
-fn meeting<'a>(gray: &'a Region, part: &'a Region) -> Cut<'a>
-    ensures { result ≡ cut_meeting gray.entry part.entry }
-{
-    Cut {
-        inside: [Some(gray), Some(part), None],
-        outside: None,
-    }
 }

@@ -29,7 +29,8 @@ use Rattle.window_mgr.specs.Edits.{IsWindowAt}
 use Rattle.window_mgr.specs.FullDesk.{FullDesk, layered_desk, look_of}
 use Rattle.window_mgr.specs.Records.{desk_of, desk_showing}
 use Rattle.window_paint.specs.Hidden.{is_hidden}
-use Rattle.window_mgr.specs.Updating.{is_of, is_of_kind}
+use Rattle.window_paint.specs.Kinds.{is_of}
+use Rattle.window_mgr.specs.Updating.{is_of_kind}
 use Rattle.window_mgr.specs.Whole.{IsWholeManager}
 use Rattle.window_mgr.proofs.Covered.{layer_there, parts_at, record_there}
 use Rattle.window_mgr.proofs.FindLemmas.{record_at}

@@ -22,7 +22,8 @@ use Rattle.window_mgr.specs.declared.manager.WindowManager.{WindowManager}
 use Rattle.window_mgr.specs.Edits.{IsWindowAt}
 use Rattle.window_mgr.specs.Records.{state_of, state_showing}
 use Rattle.window_paint.specs.Hidden.{is_hidden}
-use Rattle.window_mgr.specs.Updating.{IsRefreshed, is_kind_there, is_of_kind}
+use Rattle.window_paint.specs.Kinds.{is_kind_there}
+use Rattle.window_mgr.specs.Updating.{IsRefreshed, is_of_kind}
 use Rattle.window_mgr.specs.Whole.{IsWholeManager}
 use Rattle.window_mgr.proofs.Contents.{no_kind, kind_content, kind_is, picture_there, picture_shown_is, content_right}
 use Rattle.window_mgr.proofs.EditSeats.{same_at}

@@ -52,7 +52,6 @@ pub mod Remarked
 pub mod Contents
 pub mod ScrollSteps
 pub mod Refreshed
-pub mod KindLayers
 pub mod KindsRefreshed
 pub mod UpdateSteps
 pub mod FrameSteps

@@ -2,23 +2,20 @@
 use Rattle.std.specs.Prelude.{◌≡◌, ℕ, Bool, true, false, ◌==◌, ◌&&◌, if◌then◌else◌, List, slice_index_or}
 use Rattle.std.specs.Vec.{with_item}
 use Rattle.tb_geom.specs.declared.point.Point.{Point}
-use Rattle.tb_geom.specs.Points.{PixelSet, minus}
-use Rattle.layer_list.specs.Holders.{part_at}
-use Rattle.window_list.specs.declared.window.Window.{Window}
+use Rattle.tb_geom.specs.Points.{PixelSet}
 use Rattle.tb_geom.specs.Pixels.{Pixels, holds}
 use Rattle.def_iface.specs.declared.taken.Taken.{Taken}
 use Rattle.def_iface.specs.Meaning.{Loan}
 use Rattle.def_iface.specs.Stocked.{SlotView}
 use Rattle.def_iface.specs.Desk.{on_screen}
 use Rattle.def_iface.specs.declared.part.Part.{Part}
-use Rattle.def_iface.specs.declared.part.Part.TheVariants as part
 use Rattle.def_iface.specs.Owner.{Owner, owner}
 use Rattle.def_iface.specs.Owner.Owner.{Content}
 use Rattle.def_iface.specs.Change.{Change, no_change, IsChanged}
 use Rattle.desk_call.specs.declared.update.Layers.{Layers}
-use Rattle.desk_call.specs.declared.update.Layers.TheVariants.{Picture, Lists, Controls}
 use Rattle.vis_update.specs.declared.area.Area.{Area}
 use Rattle.vis_update.specs.Areas.{is_content_of}
+use Rattle.window_paint.specs.Kinds.{is_of}
 use Rattle.window_mgr.specs.declared.manager.WindowManager.{WindowManager}
 use Rattle.window_mgr.specs.FullDesk.{FullState, layered_desk, layered_state}
 use Rattle.window_mgr.specs.Records.{state_of, state_showing}
@@ -30,13 +27,6 @@ pub record IsRemarked (s : ℕ) (update : Pixels) (before after : FullState) : T
   pub image : after.image ≡ before.image
   pub stale : (p : Point) → on_screen (layered_desk before.desk) p ≡ true
       → after.stale p ≡ (if is_content_of s (owner (layered_desk before.desk) p) then holds update p else before.stale p)
-
--- the part is of these layers
-abbrev pub is_of : Layers → Part → Bool
-is_of Picture part.Picture = true
-is_of Lists (part.List n) = true
-is_of Controls (part.Control n) = true
-is_of _ _ = false
 
 -- the owner is a content layer of this window, one of these
 abbrev pub is_of_kind : Layers → ℕ → Owner → Bool
@@ -63,10 +53,6 @@ module _ {V : Type 0} {H : V → Type 0} (loan : Taken V H → Loan) where
   abbrev pub LeavesShowing : (List ℕ → Part → PixelSet) → (FullState → FullState → Type 0)
       → WindowManager V H → WindowManager V H → Type 0
   LeavesShowing shows after = LeavesState (λ s u. after (state_showing shows s) (state_showing shows u))
-
--- the layer that the window has at the pixel of the screen is of this kind
-abbrev pub is_kind_there : {V : Type 0} {H : V → Type 0} → Layers → Window V H → PixelSet
-is_kind_there kind w p = is_of kind (part_at w.layers.layers (minus p w.layers.place))
 
 -- the update region of the window at an index is this one, and nothing else changed
 pub record IsUpdatePut {V : Type 0} {H : V → Type 0} (at : ℕ) (update : Pixels) (old new : WindowManager V H) : Type 0 where

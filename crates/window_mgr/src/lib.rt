@@ -58,5 +58,3 @@ pub use desk_call::{
 };
 pub use forms::form_refusal;
 pub use manager::{NotBegun, Parts, WindowManager};
-pub use tell::move_by;
-pub use update::is_of;

@@ -3,30 +3,24 @@ ghost use Rattle.std.specs.Prelude.{◌≡◌, ◌<◌, ◌&&◌, not, length, t
 ghost use Rattle.tb_geom.specs.declared.point.Point.{Point};
 ghost use Rattle.tb_geom.specs.Points.{PixelSet};
 ghost use Rattle.tb_geom.specs.Pixels.{holds};
-ghost use Rattle.tb_geom.specs.Rects.{in_plane};
-ghost use Rattle.bit_blit.specs.Draws.{Draws};
 ghost use Rattle.vis_update.specs.Areas.{is_content_of, stale_in};
 ghost use Rattle.vis_update.specs.declared.area.Area.{Area};
 ghost use Rattle.def_iface.specs.declared.part.Part.TheVariants as part;
-ghost use Rattle.layer_list.specs.Holders.{ArePartsApart};
-ghost use Rattle.window_paint.specs.Shown.{content_shown};
 ghost use Rattle.window_mgr.specs.Edits.{IsWindowAt};
 ghost use Rattle.window_mgr.specs.Kept.{IsKept};
 ghost use Rattle.def_iface.specs.declared.part.Part.{Part};
 ghost use Rattle.desk_call.specs.declared.update.Layers.TheVariants.{Picture};
-ghost use Rattle.window_mgr.specs.Updating.{LeavesState, LeavesShowing, IsRemarked, IsRefreshed, IsUpdatePut, is_kind_there, is_of, is_of_kind};
+ghost use Rattle.window_paint.specs.Kinds.{is_kind_there, is_of};
+ghost use Rattle.window_mgr.specs.Updating.{LeavesState, LeavesShowing, IsRemarked, IsRefreshed, IsUpdatePut, is_of_kind};
 ghost use Rattle.window_paint.specs.Hidden.{is_hidden};
 
 use crate::WindowManager;
-use bit_map::BitMap;
-use def_iface::{Defined, Part, Taken};
+use def_iface::{Defined, Taken};
 use desk_call::Layers;
 use scan_region::Region;
-use strike_font::Font;
 use tb_geom::Point;
 use vis_update::Area;
-use window_list::Window;
-use window_paint::{Showing, paint_content, paint_layer, paint_picture};
+use window_paint::{Showing, paint_content, paint_kind, paint_picture};
 
 impl WindowManager {
     /// What the window at this index owns of the screen.
@@ -41,7 +35,12 @@ impl WindowManager {
     pub fn is_stale(&self, point: Point) -> bool
         ensures { result ≡ stale_in self.now.areas.items point }
     {
-        self.areas.iter().any(|area| area.update.contains(point))
+        for area in self.areas.as_slice() {
+            if area.update.contains(point) {
+                return true;
+            }
+        }
+        false
     }
 
     /// Makes these pixels of a window's visible content its update region, and draws nothing.
@@ -128,41 +127,5 @@ impl WindowManager {
         );
         let nothing = Region::empty(self.alloc);
         self.put_update(at, nothing);
-    }
-}
-
-/// Whether a part of a window's content is of these layers.
-pub fn is_of(kind: Layers, part: Part) -> bool
-    ensures { result ≡ is_of kind part }
-{
-    match (kind, part) {
-        (Layers::Picture, Part::Picture) => true,
-        (Layers::Lists, Part::List(_)) => true,
-        (Layers::Controls, Part::Control(_)) => true,
-        _ => false,
-    }
-}
-
-/// Draws a window's lists, or its controls, on the pixels of a region of the screen that they own.
-fn paint_kind<S: Showing>(
-    map: &mut BitMap,
-    region: &Region,
-    window: &Window,
-    kind: Layers,
-    layers: &S,
-    font: &Font,
-)
-    requires placed { in_plane window.now.place ≡ true }
-    requires kind { is_of kind part.Picture ≡ false }
-    requires apart { ArePartsApart window.now.layers.layers }
-    requires whole { S.is_whole layers.now }
-    ensures { Draws (λ p. holds region.now p && is_kind_there kind window.now p)
-        (λ p _. content_shown font.now (S.shows layers.now font.now) window.now p)
-        map.old map.new }
-{
-    for at in 0..window.layers.len() {
-        if is_of(kind, window.layers.at(at).part) {
-            paint_layer(map, region, window, at, layers, font);
-        }
     }
 }

@@ -70,11 +70,11 @@ pub fn paint_content<S: Showing>(
 }
 
 /// The pixels that two regions share.
-fn meeting<'a>(region: &'a Region, owned: &'a Region) -> Cut<'a>
-    ensures { result ≡ cut_meeting region.entry owned.entry }
+pub fn meeting<'a>(region: &'a Region, other: &'a Region) -> Cut<'a>
+    ensures { result ≡ cut_meeting region.entry other.entry }
 {
     Cut {
-        inside: [Some(region), Some(owned), None],
+        inside: [Some(region), Some(other), None],
         outside: None,
     }
 }

@@ -14,7 +14,8 @@ use Rattle.desk_call.specs.declared.update.Layers.TheVariants.{Picture, Lists, C
 use Rattle.layer_list.specs.Holders.{part_at, is_covered, ArePartsApart}
 use Rattle.layer_list.proofs.Parts.{covered_is}
 use Rattle.window_list.specs.declared.window.Window.{Window}
-use Rattle.window_mgr.specs.Updating.{is_of, is_of_kind, is_kind_there}
+use Rattle.window_paint.specs.Kinds.{is_of, is_kind_there}
+use Rattle.window_mgr.specs.Updating.{is_of_kind}
 use Rattle.window_mgr.proofs.Contents.{picture_kind}
 use Rattle.window_update.specs.declared.choices.Kinds.{Kinds}
 use Rattle.window_update.specs.declared.choices.Split.{Split}

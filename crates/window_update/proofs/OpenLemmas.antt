@@ -26,7 +26,8 @@ use Rattle.window_mgr.specs.Kept.{IsKept}
 use Rattle.window_mgr.specs.Records.{desk_of, desk_showing, state_of, state_showing}
 use Rattle.window_paint.specs.White.{all_white}
 use Rattle.window_paint.specs.Hidden.{is_hidden}
-use Rattle.window_mgr.specs.Updating.{LeavesShowing, IsRefreshed, refresh_change, is_of_kind, is_kind_there}
+use Rattle.window_paint.specs.Kinds.{is_kind_there}
+use Rattle.window_mgr.specs.Updating.{LeavesShowing, IsRefreshed, refresh_change, is_of_kind}
 use Rattle.window_mgr.proofs.Contents.{owner_there, layers_there, kind_is, picture_there}
 use Rattle.window_mgr.proofs.Showing.{owner_showing}
 use Rattle.window_update.specs.declared.choices.Kinds.{Kinds}

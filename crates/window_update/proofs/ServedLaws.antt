@@ -21,7 +21,8 @@ use Rattle.window_mgr.specs.Effects.{IsUnchanged}
 use Rattle.window_mgr.specs.Finding.{record_with}
 use Rattle.window_mgr.specs.FullDesk.{FullDesk, FullState, IsRightState, layered_desk, layered_state, look_of}
 use Rattle.window_mgr.specs.Telling.{seen_from, update_of}
-use Rattle.window_mgr.specs.Updating.{IsRefreshed, refresh_change, is_of, is_of_kind}
+use Rattle.window_paint.specs.Kinds.{is_of}
+use Rattle.window_mgr.specs.Updating.{IsRefreshed, refresh_change, is_of_kind}
 use Rattle.window_mgr.proofs.Remarked.{unless}
 use Rattle.window_mgr.proofs.TellLemmas.{again_there}
 use Rattle.window_mgr.specs.DeskStates.{DeskState}

@@ -4,7 +4,7 @@ ghost use Rattle.tb_geom.specs.declared.point.Point.{Point};
 ghost use Rattle.tb_geom.specs.Pixels.{holds};
 ghost use Rattle.def_iface.specs.declared.part.Part.TheVariants as part;
 ghost use Rattle.layer_list.specs.Holders.{ArePartsApart};
-ghost use Rattle.window_mgr.specs.Updating.{is_of, is_kind_there};
+ghost use Rattle.window_paint.specs.Kinds.{is_of, is_kind_there};
 ghost use Rattle.window_update.specs.Choosing.{has_kind, no_kinds, with_kind, left_for, IsFurther, AreChoicesOf};
 
 use crate::Layers;
@@ -12,7 +12,7 @@ use scan_region::Region;
 use std::alloc::{AllocError, Global};
 use std::mem;
 use window_list::Window;
-use window_mgr::is_of;
+use window_paint::is_of;
 
 /// A choice of kinds of layers.
 #[derive(Clone, Copy)]

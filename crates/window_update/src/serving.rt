@@ -18,11 +18,11 @@ use crate::choices::Choices;
 use crate::{LayerDraw, Layers, Updates};
 use def_iface::{Defined, Taken};
 use desk_call::{Activity, WindowReply};
+use layer_list::{local, move_by};
 use scan_region::Region;
 use std::alloc::{AllocError, Global};
 use tb_geom::{Point, Refusal};
-use window_list::local;
-use window_mgr::{WindowManager, move_by};
+use window_mgr::WindowManager;
 use window_paint::Showing;
 
 impl Updates {

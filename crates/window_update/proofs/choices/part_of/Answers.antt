@@ -4,7 +4,7 @@ use Rattle.tb_geom.specs.Points.{minus}
 use Rattle.tb_geom.specs.Pixels.{holds}
 use Rattle.def_iface.specs.Desk.{same_part}
 use Rattle.layer_list.specs.Holders.{part_at}
-use Rattle.window_mgr.proofs.KindLayers.{is_among, among_more, all_among}
+use Rattle.window_paint.proofs.KindLayers.{is_among, among_more, all_among}
 use Rattle.window_update.proofs.MarkLemmas.{if_ok}
 use Rattle.window_update.proofs.choices.part_of.Goals as goal
 use Rattle.window_update.proofs.choices.part_of.Goals.{then-is_of+in_ok-owned, else-is_of}

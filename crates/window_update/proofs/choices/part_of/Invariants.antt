@@ -3,7 +3,7 @@ use Rattle.tb_geom.specs.declared.point.Point.{Point}
 use Rattle.tb_geom.specs.Points.{minus}
 use Rattle.tb_geom.specs.Pixels.{holds}
 use Rattle.layer_list.specs.Holders.{part_at}
-use Rattle.window_mgr.proofs.KindLayers.{is_among}
+use Rattle.window_paint.proofs.KindLayers.{is_among}
 use Rattle.window_update.proofs.choices.part_of.Given as goal
 
 abbrev pub invariant-loop-at : goal.invariant-loop-at

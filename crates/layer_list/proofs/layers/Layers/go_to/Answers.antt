@@ -12,21 +12,21 @@ use Rattle.layer_list.proofs.layers.Layers.go_to.Goals as goal
 pub move_all-requires : goal.move_all-requires
 move_all-requires c =
     let fit : list_all (fits_at c.args.place) c.self.inside.layers.items ≡ true = subst (λ (s : PlacedLayers). list_all (fits_at c.args.place) s.layers ≡ true) (sym c.self.view_is) c.requires.fit in
-    subst (λ rs. All (λ r. StaysInRange r c.way-by.result) rs) (sym c.as_mut_slice.ensures.value)
-    (subst (λ d. All (λ r. StaysInRange r d) c.self.inside.owned.items) (sym c.way-by.ensures)
+    subst (λ rs. All (λ r. StaysInRange r c.local-by.result) rs) (sym c.as_mut_slice.ensures.value)
+    (subst (λ d. All (λ r. StaysInRange r d) c.self.inside.owned.items) (sym c.local-by.ensures)
     (owned_move c.self.inside.place c.args.place nothing c.self.inside.layers.items c.self.inside.owned.items c.self.invariant.lie fit c.self.invariant.owned))
 
 pub move_by-requires : goal.move_by-requires
 move_by-requires c =
     let fit : list_all (fits_at c.args.place) c.self.inside.layers.items ≡ true = subst (λ (s : PlacedLayers). list_all (fits_at c.args.place) s.layers ≡ true) (sym c.self.view_is) c.requires.fit in
-    subst (λ d. StaysInRange c.self.inside.covered d) (sym c.way-by.ensures)
+    subst (λ d. StaysInRange c.self.inside.covered d) (sym c.local-by.ensures)
     (covered_move c.self.inside.place c.args.place c.self.inside.layers.items c.self.inside.covered c.self.invariant.lie fit c.self.invariant.covered)
 
 pub invariant_of-self : goal.invariant_of-self
 invariant_of-self c =
     let fit : list_all (fits_at c.args.place) c.self.inside.layers.items ≡ true = subst (λ (s : PlacedLayers). list_all (fits_at c.args.place) s.layers ≡ true) (sym c.self.view_is) c.requires.fit in
     let moved : AreMoved (minus c.args.place c.self.inside.place) c.self.inside.owned.items c.move_all.new.regions =
-    subst (λ d. AreMoved d c.self.inside.owned.items c.move_all.new.regions) c.way-by.ensures (subst (λ rs. AreMoved c.way-by.result rs c.move_all.new.regions) c.as_mut_slice.ensures.value c.move_all.ensures) in
+    subst (λ d. AreMoved d c.self.inside.owned.items c.move_all.new.regions) c.local-by.ensures (subst (λ rs. AreMoved c.local-by.result rs c.move_all.new.regions) c.as_mut_slice.ensures.value c.move_all.ensures) in
     let long : length c.move_all.new.regions ≡ c.self.inside.owned.len = search rules in
     record {
       placed = c.requires.placed;
@@ -35,5 +35,5 @@ invariant_of-self c =
           (owned_moved c.self.inside.place c.args.place nothing c.self.inside.layers.items c.self.inside.owned.items c.move_all.new.regions c.self.invariant.owned moved);
       many = c.self.invariant.many;
       covered = covered_moved c.self.inside.place c.args.place c.self.inside.layers.items c.self.inside.covered c.move_by.new.region c.self.invariant.covered
-          (λ p. c.move_by.ensures p ∙ ap (λ d. holds c.self.inside.covered (minus p d)) c.way-by.ensures);
+          (λ p. c.move_by.ensures p ∙ ap (λ d. holds c.self.inside.covered (minus p d)) c.local-by.ensures);
     }

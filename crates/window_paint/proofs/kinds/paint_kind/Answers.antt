@@ -1,8 +1,8 @@
 use Rattle.std.proofs.Common.{◌<◌, ◌+◌, sym, ◌∙◌, subst, take, length, rules}
 use Rattle.tb_geom.specs.Pixels.{holds}
-use Rattle.window_mgr.proofs.KindLayers.{AreKindDrawn, this_kind, other_kind, all_of_kind}
-use Rattle.window_mgr.proofs.update.paint_kind.Goals as goal
-use Rattle.window_mgr.proofs.update.paint_kind.Goals.{then-is_of, else-is_of}
+use Rattle.window_paint.proofs.KindLayers.{AreKindDrawn, this_kind, other_kind, all_of_kind}
+use Rattle.window_paint.proofs.kinds.paint_kind.Goals as goal
+use Rattle.window_paint.proofs.kinds.paint_kind.Goals.{then-is_of, else-is_of}
 
 pub loop-at-preserved : goal.loop-at-preserved
 loop-at-preserved g c =

@@ -16,7 +16,7 @@ use Rattle.layer_list.specs.declared.layer.Layer.{Layer}
 use Rattle.layer_list.specs.Holders.{layer_has, part_at, belongs_to, ArePartsApart}
 use Rattle.window_list.specs.declared.window.Window.{Window}
 use Rattle.window_paint.specs.Shown.{part_shown, content_shown}
-use Rattle.window_mgr.specs.Updating.{is_of, is_kind_there}
+use Rattle.window_paint.specs.Kinds.{is_of, is_kind_there}
 
 -- the part is one of these layers, and of this kind
 abbrev pub is_among : Layers → List Layer → Part → Bool
