@@ -167,3 +167,13 @@ fn updates_draw_layer_by_layer(rt: HostRuntime) -> Result<(), Fail> {
     assert!(rt; follow(rt.alloc(), &steps)?);
     Ok(())
 }
+
+#[test]
+fn hidden_layers_stay_in_range(rt: HostRuntime) -> Result<(), Fail> {
+    let mut desk = Desk::new(rt.alloc())?;
+    let far = Step::Put(1, BUTTON, false, rect!(16000, 0, 16010, 5));
+    assert!(rt; desk.follows(far)?);
+    assert!(rt; desk.refuses(Step::Move(1, point!(400, 2))));
+    assert!(rt; desk.follows(Step::Move(1, point!(300, 2)))?);
+    Ok(())
+}

@@ -129,7 +129,7 @@ fn with_shape(alloc: Global, layers: &Layers, at: usize, layer: Layer) -> Result
     Ok(Relaying { relaid, afresh })
 }
 
-/// The layers without the one of this part. NoControl where there is none.
+/// The layers without the one of this part. OutOfRange where there is none.
 fn without(alloc: Global, layers: &Layers, part: Part) -> Result<Relaying, Refusal>
     requires apart { ArePartsApart layers.now.layers }
     ensures { IfOk result (IsRelaying layers.now) }

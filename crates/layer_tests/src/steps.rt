@@ -16,7 +16,7 @@ use op_ref::{BytesRef, OpRef, ShapeRef};
 use std::alloc::Global;
 use std_wdef::{StdWindow, Variation};
 use strike_font::Font;
-use tb_geom::{Point, Rect, Refusal};
+use tb_geom::{Point, Refusal};
 use window_list::{Ranks, WindowList};
 use window_mgr::{
     Drawing, MoveWindow, NewPicture, NewWindow, ScrollPicture, SendBehind, SizeWindow, WindowCall,
@@ -192,6 +192,17 @@ impl Desk {
         let (desk, effect) = self.plain.desk.after(step);
         self.plain = self.plain.after(self.alloc, desk, effect)?;
         Ok(self.agrees())
+    }
+
+    /// Whether the library refuses a step as out of range, and stays as it was.
+    pub fn refuses(&mut self, step: Step) -> bool
+        requires { IsWholeManager ⟦<Taken as Defined>⟧.loan self.old.windows (⟦<WindowStock as Stocked>⟧.slots self.old.stock) }
+        ensures { IsWholeManager ⟦<Taken as Defined>⟧.loan self.new.windows (⟦<WindowStock as Stocked>⟧.slots self.new.stock) }
+    {
+        match self.perform(step) {
+            Err(Refusal::OutOfRange) => self.agrees(),
+            _ => false,
+        }
     }
 
     /// Carries out a step that is no update by the library.

@@ -1,5 +1,5 @@
 //! Updates of windows of the library, layer by layer.
-ghost use Rattle.std.specs.Prelude.{◌≡◌, List, IfOk};
+ghost use Rattle.std.specs.Prelude.{List, IfOk};
 ghost use Rattle.def_iface.specs.Stocked.{SlotView};
 ghost use Rattle.desk_call.specs.declared.activity.Activity.TheVariants.{Idle};
 ghost use Rattle.window_mgr.specs.Kept.{IsKept};

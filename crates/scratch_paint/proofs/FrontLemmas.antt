@@ -22,7 +22,7 @@ use Rattle.desk_toolbox.specs.Fronts.{pulled}
 use Rattle.desk_toolbox.specs.ToolboxStates.{ToolboxState}
 use Rattle.desk_toolbox.specs.WholeToolbox.{toolbox_state}
 use Rattle.scratch_paint.specs.Paints.{IsPaintedDesk}
-use Rattle.scratch_paint.specs.Screens.{IsPaintedScreen, with_layers}
+use Rattle.scratch_paint.specs.Screens.{IsPaintedScreen, toolbox_showing}
 use Rattle.scratch_paint.proofs.DifferenceLemmas.{on_its_screen, shown_alike}
 
 -- the menu was drawn over the base image that was painted from nothing
@@ -42,9 +42,9 @@ pub screen_painted : {V : Type 0} {H : V → Type 0} (loan : Taken V H → Loan)
     → windows ≡ t.windows → menus ≡ t.menus → activity ≡ t.activity → font ≡ windows.font
     → IsPaintedDesk (desk_showing shows (desk_of loan windows [])) base
     → IsShown font (pulled_of activity (menus_of menu_loan menus.list.menus.items)) base new
-    → IsPaintedScreen (with_layers shows (toolbox_state loan menu_loan t [] [])) new
+    → IsPaintedScreen (toolbox_showing shows (toolbox_state loan menu_loan t [] [])) new
 screen_painted loan menu_loan shows t windows menus activity font base new same_windows same_menus same_activity letters painted shown =
-    over_base (with_layers shows (toolbox_state loan menu_loan t [] [])) base new
+    over_base (toolbox_showing shows (toolbox_state loan menu_loan t [] [])) base new
     (subst (λ w. IsPaintedDesk (desk_showing shows (desk_of loan w [])) base) same_windows painted)
     (subst (λ (x : List ℕ × Option Pulled). IsShown x.0 x.1 base new)
     (λ i. ((letters ∙ ap (λ w. w.font) same_windows) i, pulled_of (same_activity i) (menus_of menu_loan (same_menus i).list.menus.items))) shown)

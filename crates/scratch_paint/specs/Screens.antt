@@ -9,8 +9,8 @@ use Rattle.desk_toolbox.specs.ToolboxStates.{ToolboxState}
 use Rattle.scratch_paint.specs.Paints.{IsPaintedSo}
 
 -- the state of a Toolbox, with what controls and lists show in its desk's font
-abbrev pub with_layers : (List ℕ → Part → PixelSet) → ToolboxState → ToolboxState
-with_layers shows s = record s { desk = record s.desk { windows = state_showing shows s.desk.windows } }
+abbrev pub toolbox_showing : (List ℕ → Part → PixelSet) → ToolboxState → ToolboxState
+toolbox_showing shows s = record s { desk = record s.desk { windows = state_showing shows s.desk.windows } }
 
 -- the map has the size of the screen
 pub record IsAsLarge (s : ToolboxState) (m : Bits) : Type 0 where

@@ -3,7 +3,7 @@ ghost use Rattle.std.specs.Prelude.{◌≡◌, ◌≤◌, ◌<◌, [], true, IfO
 ghost use Rattle.bit_map.specs.Bits.{bit, on_map};
 ghost use Rattle.desk_toolbox.specs.WholeToolbox.{IsKeptToolbox, toolbox_state};
 ghost use Rattle.scratch_paint.specs.Differences.{differs, row_differences, differences_of, difference_count};
-ghost use Rattle.scratch_paint.specs.Screens.{IsAsLarge, with_layers};
+ghost use Rattle.scratch_paint.specs.Screens.{IsAsLarge, toolbox_showing};
 
 use crate::paint;
 use bit_map::BitMap;
@@ -22,7 +22,7 @@ pub fn differences<S: Showing>(
 ) -> Result<usize, AllocError>
     requires kept { IsKeptToolbox ⟦<Taken as Defined>⟧.loan ⟦<TakenMenu as DefinedMenu>⟧.menu_loan toolbox.now }
     requires layers { S.is_whole layers.now }
-    ensures { IfOk result (λ n. n ≡ difference_count (with_layers (S.shows layers.now)
+    ensures { IfOk result (λ n. n ≡ difference_count (toolbox_showing (S.shows layers.now)
         (toolbox_state ⟦<Taken as Defined>⟧.loan ⟦<TakenMenu as DefinedMenu>⟧.menu_loan toolbox.now [] []))) }
 {
     let painted = paint(alloc, toolbox, layers)?;

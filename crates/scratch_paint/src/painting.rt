@@ -1,5 +1,5 @@
 //! Painting back to front.
-ghost use Rattle.std.specs.Prelude.{◌≡◌, [], map, All, IfOk, OnOk};
+ghost use Rattle.std.specs.Prelude.{[], map, All, IfOk, OnOk};
 ghost use Rattle.tb_geom.specs.Pixels.{holds};
 ghost use Rattle.bit_blit.specs.Draws.{Draws};
 ghost use Rattle.vis_update.specs.Records.{record_of};
@@ -8,7 +8,7 @@ ghost use Rattle.window_mgr.specs.Records.{desk_of, desk_showing};
 ghost use Rattle.window_mgr.specs.Whole.{IsSettled};
 ghost use Rattle.desk_toolbox.specs.WholeToolbox.{IsKeptToolbox, toolbox_state};
 ghost use Rattle.scratch_paint.specs.Paints.{IsPaintedDesk, look_in, windows_value};
-ghost use Rattle.scratch_paint.specs.Screens.{IsPaintedScreen, with_layers};
+ghost use Rattle.scratch_paint.specs.Screens.{IsPaintedScreen, toolbox_showing};
 
 use crate::windows::paint_window;
 use bit_map::BitMap;
@@ -30,7 +30,7 @@ use window_paint::Showing;
 pub fn paint<S: Showing>(alloc: Global, toolbox: &Toolbox, layers: &S) -> Result<BitMap, AllocError>
     requires kept { IsKeptToolbox ⟦<Taken as Defined>⟧.loan ⟦<TakenMenu as DefinedMenu>⟧.menu_loan toolbox.now }
     requires layers { S.is_whole layers.now }
-    ensures { IfOk result (IsPaintedScreen (with_layers (S.shows layers.now)
+    ensures { IfOk result (IsPaintedScreen (toolbox_showing (S.shows layers.now)
         (toolbox_state ⟦<Taken as Defined>⟧.loan ⟦<TakenMenu as DefinedMenu>⟧.menu_loan toolbox.now [] []))) }
 {
     let windows = toolbox.windows();

@@ -1,6 +1,6 @@
 -- What the contracts speak of: the pixels of an area, which of them are right, a desk of which one window may be in an
--- update, what its draws leave, why a call about updates refuses, what it does, one step, which window is to be updated first, and updates that
--- were served.
+-- update, what its draws leave, why a call about updates refuses, what it does, one step, which window is to be updated
+-- first, and updates that were served.
 pub mod Sets
 pub mod Rightness
 pub mod Choosing

@@ -5,7 +5,7 @@ ghost use Rattle.tb_geom.specs.Pixels.{holds};
 ghost use Rattle.def_iface.specs.declared.part.Part.TheVariants as part;
 ghost use Rattle.layer_list.specs.Holders.{ArePartsApart};
 ghost use Rattle.window_paint.specs.Kinds.{is_of, is_kind_there};
-ghost use Rattle.window_update.specs.Choosing.{has_kind, no_kinds, with_kind, left_for, IsFurther, AreChoicesOf};
+ghost use Rattle.window_update.specs.Choosing.{has_kind, with_kind, left_for, IsFurther, AreChoicesOf};
 
 use crate::Layers;
 use scan_region::Region;

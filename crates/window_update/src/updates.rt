@@ -58,8 +58,8 @@ impl Updates {
         }
     }
 
-    /// Performs one call on these windows, whose controls and lists show what `layers` says, while this is open, and gives
-    /// its answer. A refused call changes nothing; which refusal comes first where several would do stands with the call.
+    /// Performs one call, which may come while this is open, on these windows, whose controls and lists show what `layers`
+    /// says, and gives its answer. A refused call changes nothing; which refusal comes first where several would do stands with the call.
     pub fn perform<S: Showing>(
         &mut self,
         windows: &mut WindowManager,
