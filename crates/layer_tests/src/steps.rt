@@ -1,9 +1,9 @@
 //! Calls, carried out by the library and by the model, and what both then have.
-ghost use Rattle.std.specs.Prelude.{IfOk};
+ghost use Rattle.std.specs.Prelude.{◌<◌, IfOk, length};
 ghost use Rattle.window_mgr.specs.Whole.{IsWholeManager};
 ghost use Rattle.window_update.specs.WholeUpdates.{IsWholeUpdates};
 
-use crate::plain_desk::{Owner, Painting, PlainDesk, PlainLayer, PlainWindow};
+use crate::plain_desk::{Owner, Painting, PlainDesk, PlainLayer, PlainWindow, seen_from};
 use crate::plain_pixels::Plain;
 use crate::plain_steps::{Effect, Step};
 use crate::relaying::{put, take_out};
@@ -167,6 +167,9 @@ impl Desk {
                 Owner::Content(of, _) => of == serial,
                 _ => false,
             };
+            if is_content && !self.has_part_at(at, owner, point) {
+                return false;
+            }
             if area.visible.contains(point) != is_content
                 || area.update.contains(point) != (is_content && stale)
                 || area.frame.contains(point) != (owner == Owner::Frame(serial))
@@ -179,6 +182,20 @@ impl Desk {
 }
 
 impl Desk {
+    /// Whether the library says of a pixel of the window at this index that its part is the owner's.
+    fn has_part_at(&self, at: usize, owner: Owner, point: Point) -> bool
+        requires { at < length self.now.windows.windows.records.items }
+    {
+        let window = self.windows.list().at(at);
+        match owner {
+            Owner::Content(_, part) => window
+                .layers
+                .part_at(seen_from(point, window.place))
+                .is(part),
+            _ => false,
+        }
+    }
+
     /// Carries out a step, and answers whether the library and the model then agree.
     pub fn follows(&mut self, step: Step) -> Result<bool, Refusal>
         requires { IsWholeManager ⟦<Taken as Defined>⟧.loan self.old.windows (⟦<WindowStock as Stocked>⟧.slots self.old.stock) }

@@ -1,6 +1,6 @@
 //! A window's layers changed, by whoever keeps its controls and lists: planned, which asks for memory, and then put in
 //! their place, which does not.
-ghost use Rattle.std.specs.Prelude.{◌≡◌, ◌<◌, ℕ, List, length, Option, IfOk, IfSome};
+ghost use Rattle.std.specs.Prelude.{◌<◌, ℕ, List, length, Option, IfOk, IfSome};
 ghost use Rattle.tb_geom.specs.Points.{PixelSet};
 ghost use Rattle.def_iface.specs.declared.part.Part.{Part};
 ghost use Rattle.def_iface.specs.Stocked.{SlotView};

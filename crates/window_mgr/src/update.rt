@@ -35,12 +35,7 @@ impl WindowManager {
     pub fn is_stale(&self, point: Point) -> bool
         ensures { result ≡ stale_in self.now.areas.items point }
     {
-        for area in self.areas.as_slice() {
-            if area.update.contains(point) {
-                return true;
-            }
-        }
-        false
+        self.areas.iter().any(|area| area.update.contains(point))
     }
 
     /// Makes these pixels of a window's visible content its update region, and draws nothing.
