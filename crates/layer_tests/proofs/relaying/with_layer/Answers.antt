@@ -2,9 +2,6 @@ use Rattle.std.proofs.Common.{sym}
 use Rattle.layer_tests.proofs.Changed.{insert_apart, put_in}
 use Rattle.layer_tests.proofs.relaying.with_layer.Goals as goal
 
-pub with-requires-clause-apart : goal.with-requires-clause-apart
-with-requires-clause-apart c = insert_apart c.args.layers.now.layers c.rank_among-at.result c.args.layer (sym c.if-is.ensures) c.in-None.ensures.none c.requires.apart
-
 pub returns-in_ok-relaid-in-None : goal.returns-in_ok-relaid-in-None
 returns-in_ok-relaid-in-None c =
     put_in c.args.layers.now c.rank_among-at.result c.args.layer c.in_ok-relaid-in-None.relaid c.rank_among-at.ensures
