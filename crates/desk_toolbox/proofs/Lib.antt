@@ -6,7 +6,6 @@ pub mod KeptDesks
 pub mod Sides
 pub mod EachManager
 pub mod Runs
-pub mod Followed
 pub mod Totals
 pub mod Recounts
 pub mod StepCounts
@@ -27,7 +26,7 @@ pub mod Shown
 pub mod FrontLaws
 pub mod LeftByMenus
 pub mod MenusBeside
+pub mod UpdatesBeside
 pub mod Lent
 pub mod Asked
-pub mod MenuSides
 pub mod Begun

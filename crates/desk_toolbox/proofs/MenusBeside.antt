@@ -131,11 +131,11 @@ asking_changes_nothing (asks.VisibleRegion s) answer before after done e = done.
 asking_changes_nothing (asks.UpdateRegion s) answer before after done e = done.1
 asking_changes_nothing _ answer before after done e = absurd (cc)
 
-asked_changes_nothing : (call : WindowCall) (answer : Result WindowReply Refusal) (before after : FullState) → IsWindowStep call answer before after → window_standing call ≡ Asks → IsUnchanged before after
+pub asked_changes_nothing : (call : WindowCall) (answer : Result WindowReply Refusal) (before after : FullState) → IsWindowStep call answer before after → window_standing call ≡ Asks → IsUnchanged before after
 asked_changes_nothing call (Ok answer) before after step e = asking_changes_nothing call answer before after step.1 e
 asked_changes_nothing call (Err e) before after step asked = step.1
 
-same_state : (before after : FullState) → after ≡ before → IsUnchanged before after
+pub same_state : (before after : FullState) → after ≡ before → IsUnchanged before after
 same_state before after same = record {
   desk = ap (λ (s : FullState). s.desk) same;
   stale = λ p on. ap (λ (s : FullState). s.stale p) same;

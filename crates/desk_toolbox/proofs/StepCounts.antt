@@ -23,7 +23,7 @@ use Rattle.vis_update.specs.Touches.{is_this}
 use Rattle.window_mgr.specs.Effects.{effect_of, places}
 use Rattle.window_mgr.specs.Finding.{record_with}
 use Rattle.window_mgr.specs.FrameNotices.{IsFrameNotified}
-use Rattle.window_mgr.specs.FullDesk.{FullDesk, FullState, IsGiven, IsRightState}
+use Rattle.window_mgr.specs.FullDesk.{FullDesk, FullState, IsGiven, IsRightState, look_of}
 use Rattle.window_mgr.specs.Placings.{Placing, sized, zoomed}
 use Rattle.window_mgr.specs.Refused.{is_missing}
 use Rattle.window_mgr.specs.DeskStates.{DeskState, narrowed}
@@ -216,7 +216,7 @@ pub disposed_is_gone : (d : ℕ) (before after : FullState) → IsRightState bef
 disposed_is_gone d before after right less = record {
   none =
       let all : copies d before.desk.windows ≡ (if d == d then 1 else 0) + copies d after.desk.windows = less.count d in
-      let most : copies d before.desk.windows ≤ 1 = distinct_counts before.desk.font d before.desk.windows right.plain.desk in
+      let most : copies d before.desk.windows ≤ 1 = distinct_counts (look_of before.desk) d before.desk.windows right.plain.desk in
       let itself : (d == d) ≡ true = grind (arith, nat_tests) in
       let is : copies d before.desk.windows ≡ 1 + copies d after.desk.windows = subst (λ (b : Bool). copies d before.desk.windows ≡ (if b then 1 else 0) + copies d after.desk.windows) itself all in
       omega arith;

@@ -5,7 +5,7 @@ use Rattle.std.proofs.lemmas.Bool.Decides.{nat_tests}
 use Rattle.std.specs.Prelude.{is_none}
 use Rattle.def_iface.specs.Desk as layers
 use Rattle.desk_call.specs.declared.window.SendBehind.{SendBehind}
-use Rattle.vis_update.specs.Records.{WindowRecord, layered_window}
+use Rattle.vis_update.specs.Records.{WindowRecord, Look, layered_window}
 use Rattle.vis_update.specs.Touches.{is_this}
 use Rattle.window_mgr.specs.declared.arrange.Activation.{Activation}
 use Rattle.window_mgr.specs.declared.arrange.Activation.TheVariants.{Stays, Becomes}
@@ -137,22 +137,22 @@ front_is_present (w ∷ ws) = by_shown w.shown (front_is_present ws)
     by_shown false rest = behind (front_of ws) rest
 
 -- a serial that no window has
-free_counts : (font : List ℕ) (s : ℕ) (ws : List WindowRecord) → layers.window_of s (map (layered_window font) ws) ≡ None → copies s ws ≡ 0
-free_counts font s [] h = refl
-free_counts font s (w ∷ ws) h = by_this (w.serial == s) h (free_counts font s ws)
+free_counts : (look : Look) (s : ℕ) (ws : List WindowRecord) → layers.window_of s (map (layered_window look) ws) ≡ None → copies s ws ≡ 0
+free_counts look s [] h = refl
+free_counts look s (w ∷ ws) h = by_this (w.serial == s) h (free_counts look s ws)
   where
-    by_this : (b : Bool) → (if b then Some (layered_window font w) else layers.window_of s (map (layered_window font) ws)) ≡ None → (layers.window_of s (map (layered_window font) ws) ≡ None → copies s ws ≡ 0) → (if b then 1 else 0) + copies s ws ≡ 0
+    by_this : (b : Bool) → (if b then Some (layered_window look w) else layers.window_of s (map (layered_window look) ws)) ≡ None → (layers.window_of s (map (layered_window look) ws) ≡ None → copies s ws ≡ 0) → (if b then 1 else 0) + copies s ws ≡ 0
     by_this true h rest = absurd (cc)
     by_this false h rest = let none = rest h in omega arith
 
 -- the windows of a desk have each another serial
-pub distinct_counts : (font : List ℕ) (s : ℕ) (ws : List WindowRecord) → layers.AreWindows (map (layered_window font) ws) → copies s ws ≤ 1
-distinct_counts font s [] h = omega arith
-distinct_counts font s (w ∷ ws) h = by_this (w.serial == s) refl (distinct_counts font s ws h.1.1)
+pub distinct_counts : (look : Look) (s : ℕ) (ws : List WindowRecord) → layers.AreWindows (map (layered_window look) ws) → copies s ws ≤ 1
+distinct_counts look s [] h = omega arith
+distinct_counts look s (w ∷ ws) h = by_this (w.serial == s) refl (distinct_counts look s ws h.1.1)
   where
     by_this : (b : Bool) → (w.serial == s) ≡ b → copies s ws ≤ 1 → (if b then 1 else 0) + copies s ws ≤ 1
     by_this true same rest =
-        let none : copies s ws ≡ 0 = subst (λ n. copies n ws ≡ 0) (eqb-true w.serial s same) (free_counts font w.serial ws h.0) in
+        let none : copies s ws ≡ 0 = subst (λ n. copies n ws ≡ 0) (eqb-true w.serial s same) (free_counts look w.serial ws h.0) in
         omega arith
     by_this false same rest = omega arith
 

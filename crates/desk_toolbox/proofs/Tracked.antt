@@ -11,7 +11,7 @@ use Rattle.vis_update.specs.Records.{WindowRecord}
 use Rattle.window_mgr.specs.Arrange.{changed}
 use Rattle.window_mgr.specs.Effects.{Effect}
 use Rattle.window_mgr.specs.Effects.Effect.{Makes, Disposes, Draws, Pictures, Scrolls, Arranges, Places, Tells, Describes}
-use Rattle.window_mgr.specs.FullDesk.{FullDesk, FullState, IsRightState}
+use Rattle.window_mgr.specs.FullDesk.{FullDesk, FullState, IsRightState, look_of}
 use Rattle.window_frame.specs.FrameSteps.{IsTrackingNotified, with_tracked}
 use Rattle.desk_toolbox.specs.Reached.{IsTrackedIfHeard}
 use Rattle.desk_toolbox.proofs.Totals.{Weight, total, counting, copies, missing_counts, distinct_counts}
@@ -153,4 +153,4 @@ tracking_ends s before after right (inl (missing, same)) none =
     omega arith
 tracking_ends s before after right (inr told) none =
     ap (λ (d : FullDesk). total (misled Idle) d.windows) told.desk
-    ∙ one_is_told s (λ w. record (with_tracked false w) { definition = told.definition }) (λ w. refl) before.desk.windows (distinct_counts before.desk.font s before.desk.windows right.plain.desk) none
+    ∙ one_is_told s (λ w. record (with_tracked false w) { definition = told.definition }) (λ w. refl) before.desk.windows (distinct_counts (look_of before.desk) s before.desk.windows right.plain.desk) none

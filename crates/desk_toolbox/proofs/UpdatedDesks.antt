@@ -1,25 +1,17 @@
 -- Calls about updates, and the desk.
 use Rattle.std.proofs.Common.{◌≡◌, Result, Ok, Err}
 use Rattle.tb_geom.specs.declared.refusal.Refusal.{Refusal}
-use Rattle.desk_call.specs.declared.update.Layers.{Layers}
-use Rattle.desk_call.specs.declared.update.Layers.TheVariants.{Picture, Lists, Controls}
 use Rattle.desk_call.specs.declared.update.UpdateCall.{UpdateCall}
 use Rattle.desk_call.specs.declared.update.UpdateCall.TheVariants.{Invalidate, Validate, Begin, Draw, End, Serve}
 use Rattle.desk_call.specs.declared.window.WindowReply.{WindowReply}
-use Rattle.window_mgr.specs.FullDesk.{FullState}
 use Rattle.window_mgr.specs.DeskStates.{DeskState}
-use Rattle.window_update.specs.UpdateSteps.{AreDrawn, IsUpdateEffect, IsUpdateStep}
-
-drawn_keeps_desk : (layers : Layers) (s : _) (before after : FullState) → AreDrawn layers s before after → after.desk ≡ before.desk
-drawn_keeps_desk Picture s before after drawn = drawn.desk
-drawn_keeps_desk Lists s before after same = same.desk
-drawn_keeps_desk Controls s before after same = same.desk
+use Rattle.window_update.specs.UpdateSteps.{IsUpdateEffect, IsUpdateStep}
 
 effect_keeps_desk : (call : UpdateCall) (before after : DeskState) → IsUpdateEffect call before after → after.windows.desk ≡ before.windows.desk
 effect_keeps_desk (Invalidate m) before after (same, (set, is, marked)) = marked.desk
 effect_keeps_desk (Validate m) before after (same, (set, is, marked)) = marked.desk
 effect_keeps_desk (Begin s) before after begun = begun.windows.desk
-effect_keeps_desk (Draw d) before after (same, drawn) = drawn_keeps_desk d.layers d.window before.windows after.windows drawn
+effect_keeps_desk (Draw d) before after (same, drawn) = drawn.desk
 effect_keeps_desk (End s) before after (idle, same) = same.desk
 effect_keeps_desk (Serve s) before after (idle, drawn) = drawn.desk
 

@@ -18,7 +18,7 @@ module _ {V : Type 0} {H : V → Type 0} (loan : Taken V H → Loan) {W : Type 0
   -- a Toolbox and the slots of its stocks, of windows and of menus, between calls: each of its managers is whole
   pub record IsWholeToolbox (t : Toolbox V W H K) (slots : List SlotView) (kept : List MenuSlot) : Type 0 where
     pub windows : IsWholeManager loan t.windows slots
-    pub updates : IsWholeUpdates t.windows t.updates
+    pub updates : IsWholeUpdates loan t.activity t.windows t.updates
     pub menus : IsWholeMenus menu_loan t.windows t.activity t.menus kept
 
   -- a Toolbox by itself: it is whole over some slots

@@ -14,6 +14,7 @@ use def_iface::{Defined, DefinedMenu, MenuStock, Stock, Stocked, StockedMenus, T
 use tb_geom::Refusal;
 use window_frame::follow;
 use window_mgr::form_refusal;
+use window_paint::NothingShown;
 use window_update::{first_to_update, update_form_refusal};
 
 impl Toolbox {
@@ -38,7 +39,7 @@ impl Toolbox {
             Call::Update(call) => {
                 match self
                     .updates
-                    .perform(&mut self.windows, &mut self.activity, call)
+                    .perform(&mut self.windows, &mut self.activity, call, &NothingShown)
                 {
                     Ok(reply) => Ok(Reply::Window(reply)),
                     Err(refusal) => Err(refusal),

@@ -35,6 +35,7 @@ use strike_font::Font;
 use tb_geom::{Rect, Refusal};
 use window_list::{Ranks, WindowList};
 use window_mgr::{NotBegun, WindowManager};
+use window_paint::NothingShown;
 use window_update::Updates;
 
 /// A desk: its screen, its windows, what of them has to be drawn, its menus, what is open, and the events that are to be told.
@@ -264,7 +265,8 @@ impl Toolbox {
             (λ right. (is_missing window state.desk.windows ≡ false) × IsJudgement window (rect_holds rect) state right)
             (λ e. (is_missing window state.desk.windows ≡ true) × (e ≡ Refusal.NoSuchWindow)) }
     {
-        self.updates.pixels_right(&self.windows, window, rect)
+        self.updates
+            .pixels_right(&self.windows, window, rect, &NothingShown)
     }
 
     /// Ends the desk: the definition of every window and of every menu is disposed of, and put back Closed into its slot, while

@@ -8,19 +8,21 @@ use Rattle.window_mgr.specs.FullDesk.{layered_desk}
 use Rattle.desk_toolbox.specs.Fronts.{screen_of, screen_scratch}
 use Rattle.desk_toolbox.specs.ToolboxStates.{ToolboxState}
 
--- the pixel is one of the screen's, is in no update set, and has not the value that painting from nothing gives
-abbrev pub differs : ToolboxState → PixelSet
-differs s p = on_screen (layered_desk s.desk.windows.desk) p
-    && (not (s.desk.windows.stale p) && differ (screen_of s p) (screen_scratch s p))
+-- the pixel is one of the screen's, is in no update set, and shows another value than this
+abbrev pub differs : ToolboxState → PixelSet → PixelSet
+differs s value p = on_screen (layered_desk s.desk.windows.desk) p
+    && (not (s.desk.windows.stale p) && differ (screen_of s p) (value p))
 
 -- how many pixels of row v do so, of this many from the left
-unfoldable pub row_differences : ToolboxState → ℕ → ℕ → ℕ
-row_differences s width v = count_by (differs s) (map (λ h. record { h = pos h; v = pos v }) (range_with_len 0 width))
+unfoldable pub row_differences : ToolboxState → PixelSet → ℕ → ℕ → ℕ
+row_differences s value width v =
+    count_by (differs s value) (map (λ h. record { h = pos h; v = pos v }) (range_with_len 0 width))
 
 -- how many pixels do so of this many rows
-unfoldable pub differences_of : ToolboxState → ℕ → ℕ → ℕ
-differences_of s width height = sum (map (row_differences s width) (range_with_len 0 height))
+unfoldable pub differences_of : ToolboxState → PixelSet → ℕ → ℕ → ℕ
+differences_of s value width height = sum (map (row_differences s value width) (range_with_len 0 height))
 
--- how many pixels of the screen do so
+-- how many pixels of the screen show another value than painting from nothing gives
 abbrev pub difference_count : ToolboxState → ℕ
-difference_count s = differences_of s (nat_abs s.desk.windows.desk.width) (nat_abs s.desk.windows.desk.height)
+difference_count s =
+    differences_of s (screen_scratch s) (nat_abs s.desk.windows.desk.width) (nat_abs s.desk.windows.desk.height)

@@ -1,9 +1,9 @@
 //! How far the screen is from the desk painted from nothing.
 ghost use Rattle.std.specs.Prelude.{◌≡◌, ◌≤◌, ◌<◌, [], true, IfOk};
-ghost use Rattle.bit_map.specs.Bits.{on_map};
+ghost use Rattle.bit_map.specs.Bits.{bit, on_map};
 ghost use Rattle.desk_toolbox.specs.WholeToolbox.{IsKeptToolbox, toolbox_state};
-ghost use Rattle.scratch_paint.specs.Differences.{differs, row_differences, difference_count};
-ghost use Rattle.scratch_paint.specs.Paints.{IsPaintedScreen};
+ghost use Rattle.scratch_paint.specs.Differences.{differs, row_differences, differences_of, difference_count};
+ghost use Rattle.scratch_paint.specs.Screens.{IsAsLarge, toolbox_showing};
 
 use crate::paint;
 use bit_map::BitMap;
@@ -11,24 +11,32 @@ use def_iface::{Defined, DefinedMenu, Taken, TakenMenu};
 use desk_toolbox::Toolbox;
 use std::alloc::{AllocError, Global};
 use tb_geom::Point;
+use window_paint::Showing;
 
-/// How many pixels of the screen in no update region differ from the desk painted from nothing.
-pub fn differences(alloc: Global, toolbox: &Toolbox) -> Result<usize, AllocError>
-    requires { IsKeptToolbox ⟦<Taken as Defined>⟧.loan ⟦<TakenMenu as DefinedMenu>⟧.menu_loan toolbox.now }
-    ensures { IfOk result (λ n. n ≡ difference_count
-        (toolbox_state ⟦<Taken as Defined>⟧.loan ⟦<TakenMenu as DefinedMenu>⟧.menu_loan toolbox.now [] [])) }
+/// How many pixels of the screen in no update region differ from the desk painted from nothing, where controls and lists
+/// show what `layers` says.
+pub fn differences<S: Showing>(
+    alloc: Global,
+    toolbox: &Toolbox,
+    layers: &S,
+) -> Result<usize, AllocError>
+    requires kept { IsKeptToolbox ⟦<Taken as Defined>⟧.loan ⟦<TakenMenu as DefinedMenu>⟧.menu_loan toolbox.now }
+    requires layers { S.is_whole layers.now }
+    ensures { IfOk result (λ n. n ≡ difference_count (toolbox_showing (S.shows layers.now)
+        (toolbox_state ⟦<Taken as Defined>⟧.loan ⟦<TakenMenu as DefinedMenu>⟧.menu_loan toolbox.now [] []))) }
 {
-    let painted = paint(alloc, toolbox)?;
+    let painted = paint(alloc, toolbox, layers)?;
     Ok(differences_from(toolbox, &painted))
 }
 
 /// How many differ from this map.
 fn differences_from(toolbox: &Toolbox, painted: &BitMap) -> usize
     requires kept { IsKeptToolbox ⟦<Taken as Defined>⟧.loan ⟦<TakenMenu as DefinedMenu>⟧.menu_loan toolbox.now }
-    requires painted { IsPaintedScreen
+    requires large { IsAsLarge
         (toolbox_state ⟦<Taken as Defined>⟧.loan ⟦<TakenMenu as DefinedMenu>⟧.menu_loan toolbox.now [] []) painted.now }
-    ensures { result ≡ difference_count
-        (toolbox_state ⟦<Taken as Defined>⟧.loan ⟦<TakenMenu as DefinedMenu>⟧.menu_loan toolbox.now [] []) }
+    ensures { result ≡ differences_of
+        (toolbox_state ⟦<Taken as Defined>⟧.loan ⟦<TakenMenu as DefinedMenu>⟧.menu_loan toolbox.now [] [])
+        (bit painted.now) painted.now.width painted.now.height }
 {
     let rows = painted.bounds().bottom as u16;
     let mut count = 0;
@@ -41,12 +49,12 @@ fn differences_from(toolbox: &Toolbox, painted: &BitMap) -> usize
 /// The same of a row.
 fn differences_in_row(toolbox: &Toolbox, painted: &BitMap, row: u16) -> usize
     requires kept { IsKeptToolbox ⟦<Taken as Defined>⟧.loan ⟦<TakenMenu as DefinedMenu>⟧.menu_loan toolbox.now }
-    requires painted { IsPaintedScreen
+    requires large { IsAsLarge
         (toolbox_state ⟦<Taken as Defined>⟧.loan ⟦<TakenMenu as DefinedMenu>⟧.menu_loan toolbox.now [] []) painted.now }
     requires row { row < painted.now.height }
     ensures count { result ≡ row_differences
         (toolbox_state ⟦<Taken as Defined>⟧.loan ⟦<TakenMenu as DefinedMenu>⟧.menu_loan toolbox.now [] [])
-        painted.now.width row }
+        (bit painted.now) painted.now.width row }
     ensures few { result ≤ painted.now.width }
 {
     let columns = painted.bounds().right as u16;
@@ -66,11 +74,12 @@ fn differences_in_row(toolbox: &Toolbox, painted: &BitMap, row: u16) -> usize
 /// Whether a pixel of the screen differs, and is in no update region.
 fn differs_at(toolbox: &Toolbox, painted: &BitMap, point: Point) -> bool
     requires kept { IsKeptToolbox ⟦<Taken as Defined>⟧.loan ⟦<TakenMenu as DefinedMenu>⟧.menu_loan toolbox.now }
-    requires painted { IsPaintedScreen
+    requires large { IsAsLarge
         (toolbox_state ⟦<Taken as Defined>⟧.loan ⟦<TakenMenu as DefinedMenu>⟧.menu_loan toolbox.now [] []) painted.now }
     requires point { on_map painted.now point ≡ true }
     ensures { result ≡ differs
-        (toolbox_state ⟦<Taken as Defined>⟧.loan ⟦<TakenMenu as DefinedMenu>⟧.menu_loan toolbox.now [] []) point }
+        (toolbox_state ⟦<Taken as Defined>⟧.loan ⟦<TakenMenu as DefinedMenu>⟧.menu_loan toolbox.now [] [])
+        (bit painted.now) point }
 {
     toolbox.screen().get(point) != painted.get(point) && !toolbox.windows().is_stale(point)
 }

@@ -20,6 +20,7 @@ use std::alloc::Global;
 use strike_font::Font;
 use tb_geom::Refusal;
 use watched_io::Sink;
+use window_paint::NothingShown;
 
 /// The desk that is made where the first command asks for no other.
 const USUAL_DESK: DeskSize = DeskSize {
@@ -169,7 +170,7 @@ impl Session {
             × Sends (S.output sink.old) (S.output sink.new) result text }
     {
         let count = match &self.desk {
-            Some(desk) => differences(self.alloc, desk),
+            Some(desk) => differences(self.alloc, desk, &NothingShown),
             None => Ok(0),
         };
         write_check(sink, count.ok())

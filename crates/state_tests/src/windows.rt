@@ -1,10 +1,11 @@
 //! Lists of windows, and of values in an order of their own.
-ghost use Rattle.std.specs.Prelude.{◌≡◌, ◌<◌, length, true, IfOk, OnOk};
+ghost use Rattle.std.specs.Prelude.{◌≡◌, ◌<◌, [], length, true, IfOk, OnOk};
 ghost use Rattle.def_iface.specs.Meaning.{is_fitting};
 
 use crate::titled_window::Titled;
 use def_iface::{Defined, Size, Stage, Taken, WindowChange, WindowDef, WindowStock};
 use draw_port::{Op, Picture, Shape};
+use layer_list::Layers;
 use std::alloc::Global;
 use std::test::Fail;
 use tb_geom::Refusal;
@@ -43,7 +44,8 @@ const WIDE: Size = Size {
 
 /// A window of this serial, highlighted where it is visible, with a white picture.
 fn window(alloc: Global, serial: u64, shown: bool, taken: Taken) -> Window
-    ensures { result.taken ≡ taken }
+    ensures taken { result.taken ≡ taken }
+    ensures layers { result.layers.layers ≡ [] }
 {
     Window {
         serial,
@@ -61,6 +63,7 @@ fn window(alloc: Global, serial: u64, shown: bool, taken: Taken) -> Window
         },
         picture: Picture::new(alloc),
         origin: point!(0, 0),
+        layers: Layers::new(alloc, point!(0, 0)),
         taken,
     }
 }
@@ -93,6 +96,9 @@ fn there(windows: &WindowList, at: usize) -> Result<(), Refusal>
 /// Changes all of the window at this index that can be changed by itself.
 fn change(windows: &mut WindowList, at: usize) -> Result<(), Refusal> {
     there(windows, at)?;
+    if !windows.at(at).layers.fit_at(point!(7, -8)) {
+        return Err(Refusal::OutOfRange);
+    }
     windows.set_stand(at, point!(7, -8), true, None);
     there(windows, at)?;
     let operation = Op {

@@ -7,16 +7,17 @@ use Rattle.tb_geom.specs.Points.{PixelSet, minus}
 use Rattle.tb_geom.specs.Pixels.{holds}
 use Rattle.def_iface.specs.Desk as layers
 use Rattle.def_iface.specs.Desk.{LayeredDesk}
-use Rattle.def_iface.specs.declared.part.Part.TheVariants.{Picture}
 use Rattle.def_iface.specs.Owner.{Owner, owner, owner_among, is_content}
 use Rattle.def_iface.specs.Owner.Owner.{Desktop, Bar, Frame, Content}
 use Rattle.def_iface.specs.Change.{Change, State, stale_by}
 use Rattle.def_iface.proofs.Owning.{same_number}
 use Rattle.vis_update.specs.declared.area.Area.{Area}
-use Rattle.vis_update.specs.Records.{WindowRecord, layered_window}
+use Rattle.layer_list.specs.Holders.{part_at}
+use Rattle.vis_update.specs.Records.{WindowRecord, Look, layered_window}
 use Rattle.vis_update.specs.Areas.{stale_in}
 use Rattle.vis_update.specs.Areas.{AreAreas, is_content_of}
 use Rattle.vis_update.specs.Plans.{AreAreasAfter}
+use Rattle.vis_update.proofs.LayerOwners.{owner_first}
 
 -- the owner is content of one of these windows
 abbrev pub is_content_among : List WindowRecord → Owner → Bool
@@ -33,9 +34,12 @@ no_content_among (w ∷ ws) o e = λ i. not_its o e i || no_content_among ws o e
     not_its (Content s part) f = absurd (cc)
 
 -- content that owns a pixel is that of one of the windows
-content_among : (font : List ℕ) (ws : List WindowRecord) (p : Point) → is_content_among ws (owner_among (map (layered_window font) ws) p) ≡ is_content (owner_among (map (layered_window font) ws) p)
-content_among font [] p = refl
-content_among font (w ∷ ws) p = by_structure (content_among font ws p) (layers.in_structure (layered_window font w) p) (w.definition.content w.size (minus p w.place))
+content_among : (look : Look) (ws : List WindowRecord) (p : Point) → is_content_among ws (owner_among (map (layered_window look) ws) p) ≡ is_content (owner_among (map (layered_window look) ws) p)
+content_among look [] p = refl
+content_among look (w ∷ ws) p =
+    ap (is_content_among (w ∷ ws)) (owner_first look w ws p)
+    ∙ by_structure (content_among look ws p) (layers.in_structure (layered_window look w) p) (w.definition.content w.size (minus p w.place))
+    ∙ sym (ap is_content (owner_first look w ws p))
   where
     first_or : (n : ℕ) (u : Owner) (b : Bool) → b ≡ is_content u → (is_content_of n u || b) ≡ is_content u
     first_or n Desktop b e = e
@@ -47,18 +51,18 @@ content_among font (w ∷ ws) p = by_structure (content_among font ws p) (layers
         or_true true = refl
         or_true false = refl
 
-    by_structure : is_content_among ws (owner_among (map (layered_window font) ws) p) ≡ is_content (owner_among (map (layered_window font) ws) p) → (b c : Bool) → is_content_among (w ∷ ws) (if b then (if c then Content w.serial Picture else Frame w.serial) else owner_among (map (layered_window font) ws) p) ≡ is_content (if b then (if c then Content w.serial Picture else Frame w.serial) else owner_among (map (layered_window font) ws) p)
-    by_structure rest true true = ap (λ b. b || is_content_among ws (Content w.serial Picture)) (same_number w.serial)
+    by_structure : is_content_among ws (owner_among (map (layered_window look) ws) p) ≡ is_content (owner_among (map (layered_window look) ws) p) → (b c : Bool) → is_content_among (w ∷ ws) (if b then (if c then Content w.serial (part_at w.layers (minus p w.place)) else Frame w.serial) else owner_among (map (layered_window look) ws) p) ≡ is_content (if b then (if c then Content w.serial (part_at w.layers (minus p w.place)) else Frame w.serial) else owner_among (map (layered_window look) ws) p)
+    by_structure rest true true = ap (λ b. b || is_content_among ws (Content w.serial (part_at w.layers (minus p w.place)))) (same_number w.serial)
     by_structure rest true false = no_content_among ws (Frame w.serial) refl
-    by_structure rest false c = first_or w.serial (owner_among (map (layered_window font) ws) p) _ rest
+    by_structure rest false c = first_or w.serial (owner_among (map (layered_window look) ws) p) _ rest
 
 -- content that owns a pixel of a desk is that of one of its windows
-pub content_is_among : (font : List ℕ) (after : LayeredDesk) (ws : List WindowRecord) (p : Point) → after.windows ≡ map (layered_window font) ws → is_content_among ws (owner after p) ≡ is_content (owner after p)
-content_is_among font after ws p windows = among (layers.in_bar after p)
+pub content_is_among : (look : Look) (after : LayeredDesk) (ws : List WindowRecord) (p : Point) → after.windows ≡ map (layered_window look) ws → is_content_among ws (owner after p) ≡ is_content (owner after p)
+content_is_among look after ws p windows = among (layers.in_bar after p)
   where
     among : (b : Bool) → is_content_among ws (if b then Bar else owner_among after.windows p) ≡ is_content (if b then Bar else owner_among after.windows p)
     among true = no_content_among ws Bar refl
-    among false = subst (λ vs. is_content_among ws (owner_among vs p) ≡ is_content (owner_among vs p)) (sym windows) (content_among font ws p)
+    among false = subst (λ vs. is_content_among ws (owner_among vs p) ≡ is_content (owner_among vs p)) (sym windows) (content_among look ws p)
 
 stale_among : (c : Change) (before : State) (after : LayeredDesk) (ws : List WindowRecord) (areas : List Area) (p : Point) → AreAreasAfter c before after ws areas → layers.on_screen after p ≡ true → stale_in areas p ≡ (is_content_among ws (owner after p) && stale_by c before (owner after p) p)
 stale_among c before after [] [] p its on = refl
@@ -76,10 +80,10 @@ stale_among c before after [] (a ∷ areas) p its on = absurd its
 stale_among c before after (w ∷ ws) [] p its on = absurd its
 
 -- the update regions are what a change makes stale
-pub updated_is_stale : (font : List ℕ) (c : Change) (before : State) (after : LayeredDesk) (ws : List WindowRecord) (areas : List Area) (p : Point) → after.windows ≡ map (layered_window font) ws → AreAreasAfter c before after ws areas → layers.on_screen after p ≡ true → stale_in areas p ≡ stale_by c before (owner after p) p
-updated_is_stale font c before after ws areas p windows its on =
+pub updated_is_stale : (look : Look) (c : Change) (before : State) (after : LayeredDesk) (ws : List WindowRecord) (areas : List Area) (p : Point) → after.windows ≡ map (layered_window look) ws → AreAreasAfter c before after ws areas → layers.on_screen after p ≡ true → stale_in areas p ≡ stale_by c before (owner after p) p
+updated_is_stale look c before after ws areas p windows its on =
     stale_among c before after ws areas p its on
-    ∙ ap (λ b. b && stale_by c before (owner after p) p) (content_is_among font after ws p windows)
+    ∙ ap (λ b. b && stale_by c before (owner after p) p) (content_is_among look after ws p windows)
     ∙ content_only (is_content (owner after p)) _
   where
     content_only : (c t : Bool) → (c && (if not c then false else t)) ≡ (if not c then false else t)
@@ -104,5 +108,5 @@ areas_right c before after stale (w ∷ ws) (a ∷ areas) same its = (
 areas_right c before after stale [] (a ∷ areas) same its = absurd its
 areas_right c before after stale (w ∷ ws) [] same its = absurd its
 
-pub areas_are : (font : List ℕ) (c : Change) (before : State) (after : LayeredDesk) (ws : List WindowRecord) (areas : List Area) → after.windows ≡ map (layered_window font) ws → AreAreasAfter c before after ws areas → AreAreas after (stale_in areas) ws areas
-areas_are font c before after ws areas windows its = areas_right c before after (stale_in areas) ws areas (λ p on. updated_is_stale font c before after ws areas p windows its on) its
+pub areas_are : (look : Look) (c : Change) (before : State) (after : LayeredDesk) (ws : List WindowRecord) (areas : List Area) → after.windows ≡ map (layered_window look) ws → AreAreasAfter c before after ws areas → AreAreas after (stale_in areas) ws areas
+areas_are look c before after ws areas windows its = areas_right c before after (stale_in areas) ws areas (λ p on. updated_is_stale look c before after ws areas p windows its on) its

@@ -5,8 +5,7 @@ use Rattle.tb_geom.specs.declared.point.Point.{Point}
 use Rattle.tb_geom.specs.Points.{PixelSet}
 use Rattle.tb_geom.specs.Pixels.{Pixels, holds}
 use Rattle.tb_geom.specs.Rects.{between}
-use Rattle.def_iface.specs.declared.part.Part.TheVariants.{Picture}
-use Rattle.def_iface.specs.Desk.{LayeredDesk, on_screen, in_bar, same_part}
+use Rattle.def_iface.specs.Desk.{LayeredDesk, on_screen, in_bar}
 use Rattle.def_iface.specs.Owner.{Owner, owner, same_owner}
 use Rattle.def_iface.specs.Owner.Owner.{Desktop, Frame, Content}
 use Rattle.vis_update.specs.declared.area.Area.{Area}
@@ -16,15 +15,6 @@ use Rattle.vis_update.specs.Records.{WindowRecord}
 abbrev pub is_content_of : ℕ → Owner → Bool
 is_content_of s (Content t part) = t == s
 is_content_of s _ = false
-
--- the owner, where it is a layer of a window's content, is the picture
-abbrev pub is_pictured : Owner → Bool
-is_pictured (Content s part) = same_part part Picture
-is_pictured _ = true
-
--- all content that owns a pixel is a window's picture
-abbrev pub ArePictures : LayeredDesk → Type 0
-ArePictures desk = (p : Point) → is_pictured (owner desk p) ≡ true
 
 -- the regions of the window of this serial: what of the screen its content owns, what of that is stale, and what its
 -- frame owns

@@ -1,7 +1,7 @@
 -- A window's record as plain data, and as layers.
-use Rattle.std.specs.Prelude.{ℕ, Bool, List, [], ◌∷◌, Option}
+use Rattle.std.specs.Prelude.{ℕ, Bool, ◌&&◌, List, [], ◌∷◌, ◌++◌, map, Option}
 use Rattle.tb_geom.specs.declared.point.Point.{Point}
-use Rattle.tb_geom.specs.Points.{minus}
+use Rattle.tb_geom.specs.Points.{PixelSet, minus}
 use Rattle.draw_port.specs.declared.shapes.Op.{Op}
 use Rattle.draw_port.specs.Ops.{picture_bit}
 use Rattle.def_iface.specs.declared.size.Size.{Size}
@@ -9,7 +9,10 @@ use Rattle.def_iface.specs.declared.taken.Taken.{Taken}
 use Rattle.def_iface.specs.Meaning.{Definition, Loan}
 use Rattle.def_iface.specs.News.{AllNews, no_news}
 use Rattle.def_iface.specs.Desk as layers
+use Rattle.def_iface.specs.declared.part.Part.{Part}
 use Rattle.def_iface.specs.declared.part.Part.TheVariants.{Picture}
+use Rattle.layer_list.specs.declared.layer.Layer.{Layer}
+use Rattle.layer_list.specs.Holders.{layer_has}
 use Rattle.window_list.specs.declared.window.Heard.{Heard}
 use Rattle.window_list.specs.declared.window.UserState.{UserState}
 use Rattle.window_list.specs.declared.window.Window.{Window}
@@ -31,6 +34,8 @@ pub record WindowRecord : Type 0 where
   pub picture : List Op
   -- where the picture's own 0 0 lies in the window
   pub origin : Point
+  -- its controls and lists, from front to back, in its own coordinates
+  pub layers : List Layer
   pub definition : Definition
   -- the slot of the stock that the definition came from
   pub slot : ℕ
@@ -46,15 +51,36 @@ news_of w = record {
   tracked = w.heard.tracked;
 }
 
--- a window as layers, in this font: its picture over its frame
-abbrev pub layered_window : List ℕ → WindowRecord → layers.LayeredWindow
-layered_window font w = record {
+-- how a desk looks: the font of all texts, and what a control or list shows, in its window's own coordinates
+pub record Look : Type 0 where
+  pub font : List ℕ
+  pub shows : Part → PixelSet
+
+-- a control or list as a layer of its window's content, which it is cut to
+abbrev pub content_layer : Look → PixelSet → Layer → layers.ContentLayer
+content_layer look content l = record {
+  part = l.part;
+  extent = λ p. content p && layer_has l p;
+  picture = look.shows l.part;
+}
+
+-- a window's picture, which lies in all of the content
+abbrev pub picture_layer : Look → WindowRecord → layers.ContentLayer
+picture_layer look w = record {
+  part = Picture;
+  extent = w.definition.content w.size;
+  picture = λ p. picture_bit look.font w.picture (minus p w.origin);
+}
+
+-- a window as layers: its controls and lists, its picture behind them, and its frame
+abbrev pub layered_window : Look → WindowRecord → layers.LayeredWindow
+layered_window look w = record {
   serial = w.serial;
   place = w.place;
   shown = w.shown;
   structure = w.definition.structure w.size;
-  frame = w.definition.picture no_news font;
-  layers = record { part = Picture; extent = w.definition.content w.size; picture = λ p. picture_bit font w.picture (minus p w.origin) } ∷ [];
+  frame = w.definition.picture no_news look.font;
+  layers = map (content_layer look (w.definition.content w.size)) w.layers ++ picture_layer look w ∷ [];
 }
 
 -- `loan` says what a definition that was taken means
@@ -72,6 +98,7 @@ module _ {V : Type 0} {H : V → Type 0} (loan : Taken V H → Loan) where
     heard = w.heard;
     picture = w.picture;
     origin = w.origin;
+    layers = w.layers.layers;
     definition = (loan w.taken).definition;
     slot = (loan w.taken).slot;
   }

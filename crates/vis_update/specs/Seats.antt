@@ -10,9 +10,9 @@ use Rattle.def_iface.specs.Change.{State}
 use Rattle.window_list.specs.declared.window.Window.{Window}
 use Rattle.vis_update.specs.declared.area.Area.{Area}
 use Rattle.vis_update.specs.declared.plan.Seat.{Seat}
-use Rattle.vis_update.specs.Records.{WindowRecord, layered_window}
+use Rattle.vis_update.specs.Records.{WindowRecord, Look, layered_window}
 use Rattle.vis_update.specs.Places.{is_placed}
-use Rattle.vis_update.specs.Areas.{IsArea, ArePictures, IsGray, IsNear}
+use Rattle.vis_update.specs.Areas.{IsArea, IsGray, IsNear}
 
 -- where a window stands; structure and content are in its own coordinates
 pub record Stand : Type 0 where
@@ -60,11 +60,10 @@ module _ {V : Type 0} {H : V → Type 0} (loan : Taken V H → Loan) where
   abbrev pub IsPlacedSeat : Seat V H → Type 0
   IsPlacedSeat s = is_placed (Some (loan s.taken.now).definition) s.place s.size ≡ true
 
-  -- the seats of the windows of a desk in this font, as a call leaves it, each with the area that its window had before
-  pub record IsArranged (font : List ℕ) (before : State) (after : LayeredDesk) (windows : List WindowRecord) (gray : Pixels) (seats : List (Seat V H)) : Type 0 where
-    pub desk : after.windows ≡ map (layered_window font) windows
+  -- the seats of the windows of a desk of this look, as a call leaves it, each with the area that its window had before
+  pub record IsArranged (look : Look) (before : State) (after : LayeredDesk) (windows : List WindowRecord) (gray : Pixels) (seats : List (Seat V H)) : Type 0 where
+    pub desk : after.windows ≡ map (layered_window look) windows
     pub distinct : IsDesk after
     pub gray_is : IsGray after gray
     pub stands : map seat_stand seats ≡ map stand_of windows
     pub areas : All (λ s. IsArea before.desk before.stale s.serial s.area.now) seats
-    pub pictures : ArePictures before.desk

@@ -1,11 +1,13 @@
 -- What a call does with the windows that it arranges.
-use Rattle.std.specs.Prelude.{ℕ, Bool, false, ◌==◌, ◌&&◌, ◌||◌, if◌then◌else◌, Option, None, Some, is_some}
+use Rattle.std.specs.Prelude.{◌≡◌, ℕ, Bool, true, false, ◌==◌, ◌&&◌, ◌||◌, if◌then◌else◌, Option, None, Some, is_some}
 use Rattle.tb_geom.specs.declared.point.Point.{Point}
 use Rattle.tb_geom.specs.Points.{minus}
-use Rattle.def_iface.specs.Owner.{Owner}
+use Rattle.def_iface.specs.Desk.{LayeredDesk}
+use Rattle.def_iface.specs.Owner.{Owner, owner}
 use Rattle.def_iface.specs.Owner.Owner.{Desktop, Bar, Frame, Content}
 use Rattle.def_iface.specs.Change.{Change, no_change}
 use Rattle.vis_update.specs.declared.plan.Touch.{Touch}
+use Rattle.vis_update.specs.Areas.{is_content_of}
 
 -- where the content of this window came from, if it moved by this; all else stays where it is
 abbrev pub moved_from : ℕ → Option Point → Owner → Point → Point
@@ -45,3 +47,9 @@ draws_whole t s = s == t.window || is_this t.also s
 abbrev pub moves : Touch → Owner → Bool
 moves t (Content s part) = s == t.window && is_some t.by
 moves t _ = false
+
+-- a pixel of a window's content belongs to the same layer as the pixel that was there before, as far away as the content
+-- moves, if that was the window's content too
+abbrev pub KeepsLayers : Touch → LayeredDesk → LayeredDesk → Type 0
+KeepsLayers t before after = (s : ℕ) (p : Point) → let q = came_from (way_of t s) p in
+    is_content_of s (owner after p) ≡ true → is_content_of s (owner before q) ≡ true → owner before q ≡ owner after p

@@ -6,16 +6,24 @@
 //! all that changes on the screen: what content becomes white, which frames are drawn, what of the desktop appears, and
 //! where pixels arrive that move. A plan has all the memory that the call needs, so what comes after it can't be refused.
 //!
+//! A scroll moves the picture of one window and no window, so it has a plan of its own, without a sweep (`scroll_of`).
+//! A call that changes the layers of one window moves no window: `relaying_of` answers what of its content becomes white,
+//! what is stale afterwards, and what is drawn afresh.
+//!
 //! The contracts ask no region: they say of each pixel whose it was and whose it is, by the words of `def_iface`
-//! (`IsPlan`). Which call it is, they do not know.
+//! (`IsPlan`, `IsScrollPlan`). Which call it is, they do not know.
 #![tactic(auto)]
 
 mod area;
 mod place;
 mod plan;
+mod relaying;
+mod scrolling;
 mod sweep;
 
 pub use area::Area;
 pub use place::{is_placed_alone, is_placed_with, regions_of};
 pub use plan::{Part, Plan, Seat, Touch, seat_of};
+pub use relaying::{Relaying, relaying_of};
+pub use scrolling::{Scrolled, scroll_of};
 pub use sweep::plan_of;

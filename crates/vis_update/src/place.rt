@@ -1,15 +1,11 @@
 //! Where a window may be.
 ghost use Rattle.std.specs.Prelude.{◌≡◌, ◌&&◌, true, Some, None, IfOk};
-ghost use Rattle.tb_geom.specs.declared.point.Point.{Point};
-ghost use Rattle.tb_geom.specs.Points.{minus};
-ghost use Rattle.tb_geom.specs.Pixels.{holds};
 ghost use Rattle.tb_geom.specs.Rects.{is_in_range, moved_rect, rect_holds};
 ghost use Rattle.def_iface.specs.Meaning.{IsWithin};
-ghost use Rattle.scan_region.specs.Moves.{StaysInRange};
 ghost use Rattle.vis_update.specs.Places.{IsRegionsAt, is_placed};
 
 use def_iface::{Defined, Size, Taken, WindowRegions};
-use scan_region::Region;
+use layer_list::move_by;
 use std::alloc::{AllocError, Global};
 use tb_geom::{Point, Rect};
 
@@ -51,15 +47,7 @@ pub fn regions_of(
     ensures { IfOk result (IsRegionsAt place size (⟦<Taken as Defined>⟧.loan taken.now).definition) }
 {
     let mut regions = taken.regions_for(alloc, size)?;
-    move_to(&mut regions.structure, place);
-    move_to(&mut regions.content, place);
+    move_by(&mut regions.structure, place);
+    move_by(&mut regions.content, place);
     Ok(regions)
-}
-
-/// Moves a region from a window's own coordinates to those of the screen.
-fn move_to(region: &mut Region, place: Point)
-    requires { StaysInRange region.old place }
-    ensures { (p : Point) → holds region.new p ≡ holds region.old (minus p place) }
-{
-    region.offset(place.h, place.v).unwrap();
 }

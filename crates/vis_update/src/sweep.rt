@@ -3,15 +3,15 @@
 //! It begins with the gray region. Each window in its turn takes what is left of its content and of its frame, and
 //! leaves what its structure does not cover. A pixel that its content had before, moved as far as the window's content
 //! moves, and that was drawn then, stays drawn; all else that it takes is to be drawn.
-ghost use Rattle.std.specs.Prelude.{◌≡◌, ◌&&◌, ◌||◌, not, is_some, ℕ, All, List, length, vec_len, IfOk};
+ghost use Rattle.std.specs.Prelude.{◌≡◌, ◌&&◌, ◌||◌, not, is_some, All, List, length, vec_len, IfOk};
 ghost use Rattle.tb_geom.specs.declared.point.Point.{Point};
 ghost use Rattle.tb_geom.specs.Points.{minus};
 ghost use Rattle.tb_geom.specs.Pixels.{holds};
 ghost use Rattle.def_iface.specs.Desk.{LayeredDesk};
 ghost use Rattle.def_iface.specs.Change.{State};
-ghost use Rattle.vis_update.specs.Records.{WindowRecord};
+ghost use Rattle.vis_update.specs.Records.{WindowRecord, Look};
 ghost use Rattle.vis_update.specs.Areas.{IsNear};
-ghost use Rattle.vis_update.specs.Touches.{came_from};
+ghost use Rattle.vis_update.specs.Touches.{came_from, KeepsLayers};
 ghost use Rattle.vis_update.specs.Seats.{IsPlacedSeat, IsNearSeat, IsArranged};
 ghost use Rattle.vis_update.specs.Plans.{IsSwept, IsPlan};
 
@@ -43,8 +43,9 @@ pub fn plan_of(
     requires placed { All (IsPlacedSeat ⟦<Taken as Defined>⟧.loan) seats.now }
     requires near { All IsNearSeat seats.now }
     requires near_gray { IsNear gray.now }
-    ensures plan { IfOk result (λ plan. (font : List ℕ) (before : State) (after : LayeredDesk) (windows : List WindowRecord)
-        → IsArranged ⟦<Taken as Defined>⟧.loan font before after windows gray.now seats.now
+    ensures plan { IfOk result (λ plan. (look : Look) (before : State) (after : LayeredDesk) (windows : List WindowRecord)
+        → IsArranged ⟦<Taken as Defined>⟧.loan look before after windows gray.now seats.now
+        → KeepsLayers touch before.desk after
         → IsPlan touch before after desktop.now windows plan) }
     ensures length { IfOk result (λ plan. vec_len plan.parts ≡ length seats.now) }
 {
@@ -105,7 +106,7 @@ fn carried(
 }
 
 /// The pixels of `within` that the region has so far away.
-fn carried_by(
+pub(crate) fn carried_by(
     alloc: Global,
     region: &Region,
     by: Point,

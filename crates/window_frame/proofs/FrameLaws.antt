@@ -19,17 +19,17 @@ use Rattle.window_frame.specs.FrameSteps.{IsFrameStep, IsFrameEffect, IsBegunAt,
 -- ---- what is right stays so
 
 keeps_tracked : (inside : Bool) → KeepsLayers (with_tracked inside)
-keeps_tracked inside = record { serial = λ w. refl; place = λ w. refl; size = λ w. refl; shown = λ w. refl; picture = λ w. refl; origin = λ w. refl }
+keeps_tracked inside = record { serial = λ w. refl; place = λ w. refl; size = λ w. refl; shown = λ w. refl; picture = λ w. refl; origin = λ w. refl; layers = λ w. refl }
 
 keeps_titled : (title : List ℕ) → KeepsLayers (with_title title)
-keeps_titled title = record { serial = λ w. refl; place = λ w. refl; size = λ w. refl; shown = λ w. refl; picture = λ w. refl; origin = λ w. refl }
+keeps_titled title = record { serial = λ w. refl; place = λ w. refl; size = λ w. refl; shown = λ w. refl; picture = λ w. refl; origin = λ w. refl; layers = λ w. refl }
 
 keeps_flagged : (on : Bool) → KeepsLayers (with_flag on)
-keeps_flagged on = record { serial = λ w. refl; place = λ w. refl; size = λ w. refl; shown = λ w. refl; picture = λ w. refl; origin = λ w. refl }
+keeps_flagged on = record { serial = λ w. refl; place = λ w. refl; size = λ w. refl; shown = λ w. refl; picture = λ w. refl; origin = λ w. refl; layers = λ w. refl }
 
 keeps_heard : (flag : Flag) → KeepsLayers (with_heard flag)
-keeps_heard Highlighting = record { serial = λ w. refl; place = λ w. refl; size = λ w. refl; shown = λ w. refl; picture = λ w. refl; origin = λ w. refl }
-keeps_heard Zooming = record { serial = λ w. refl; place = λ w. refl; size = λ w. refl; shown = λ w. refl; picture = λ w. refl; origin = λ w. refl }
+keeps_heard Highlighting = record { serial = λ w. refl; place = λ w. refl; size = λ w. refl; shown = λ w. refl; picture = λ w. refl; origin = λ w. refl; layers = λ w. refl }
+keeps_heard Zooming = record { serial = λ w. refl; place = λ w. refl; size = λ w. refl; shown = λ w. refl; picture = λ w. refl; origin = λ w. refl; layers = λ w. refl }
 
 tracking_stays_right : (inside : Bool) (s : ℕ) (before after : FullState) → IsRightState before → IsTrackingNotified inside s before after → IsRightState after
 tracking_stays_right inside s before after right (inl (missing, same)) = subst IsRightState (sym same) right

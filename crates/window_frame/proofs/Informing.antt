@@ -11,7 +11,7 @@ use Rattle.def_iface.specs.Desk as layers
 use Rattle.def_iface.proofs.Owning.{same_number}
 use Rattle.desk_call.specs.declared.activity.Standing.{Standing}
 use Rattle.desk_call.specs.declared.activity.Standing.TheVariants as standings
-use Rattle.vis_update.specs.Records.{WindowRecord, layered_window, record_of}
+use Rattle.vis_update.specs.Records.{WindowRecord, Look, layered_window, record_of}
 use Rattle.window_list.specs.declared.window.Window.{Window}
 use Rattle.window_mgr.specs.declared.manager.WindowManager.{WindowManager}
 use Rattle.window_mgr.specs.Arrange.{changed}
@@ -19,7 +19,7 @@ use Rattle.window_mgr.specs.Edits.{IsWindowAt}
 use Rattle.window_mgr.specs.Finding.{record_with}
 use Rattle.window_mgr.specs.FullDesk.{FullState}
 use Rattle.window_mgr.specs.Kept.{IsKept}
-use Rattle.window_mgr.specs.Records.{state_of}
+use Rattle.window_mgr.specs.Records.{look_on, state_of}
 use Rattle.window_mgr.specs.Updating.{LeavesState}
 use Rattle.window_mgr.proofs.EditSeats.{there_is}
 use Rattle.window_mgr.proofs.FindLemmas.{not_among, record_at}
@@ -69,12 +69,12 @@ got (y ∷ ys) zero w d e = cc
 got (y ∷ ys) (suc i) w d e = got ys i w d e
 
 -- the one of the number at a place is changed there
-changed_at : (font : List ℕ) (f : WindowRecord → WindowRecord) (ws : List WindowRecord) (i : ℕ) (w d : WindowRecord) → layers.AreWindows (map (layered_window font) ws) → slice_get ws i ≡ Some w → get_or (changed w.serial f ws) i d ≡ f w
-changed_at font f [] i w d distinct e = absurd (cc)
-changed_at font f (y ∷ ys) zero w d distinct e =
+changed_at : (look : Look) (f : WindowRecord → WindowRecord) (ws : List WindowRecord) (i : ℕ) (w d : WindowRecord) → layers.AreWindows (map (layered_window look) ws) → slice_get ws i ≡ Some w → get_or (changed w.serial f ws) i d ≡ f w
+changed_at look f [] i w d distinct e = absurd (cc)
+changed_at look f (y ∷ ys) zero w d distinct e =
     let same : y ≡ w = cc in
     rw (ap (λ (x : WindowRecord). x.serial == w.serial) same ∙ same_number w.serial) (ap f same)
-changed_at font f (y ∷ ys) (suc i) w d distinct e = rw (not_among font y.serial ys i w distinct.0 e) (changed_at font f ys i w d distinct.1.1 e)
+changed_at look f (y ∷ ys) (suc i) w d distinct e = rw (not_among look y.serial ys i w distinct.0 e) (changed_at look f ys i w d distinct.1.1 e)
 
 -- ---- what a definition that was told knows
 
@@ -138,7 +138,7 @@ module _ {V : Type 0} {H : V → Type 0} (loan : Taken V H → Loan) where
             (changed_each (Knows g) x.serial (λ w. record (with_heard flag w) { definition = one.told.definition }) (λ w knows. knows_still flag g w one.told.definition knows) (records t) j d knew)
 
     found_so : record_with x.serial (records t) ≡ Some (record_of loan x)
-    found_so = record_at t.font (records t) at (record_of loan x) kept.whole.sound.distinct in_place
+    found_so = record_at (look_on t) (records t) at (record_of loan x) kept.whole.sound.distinct in_place
 
     -- and it is known here
     pub known_here : (d : WindowRecord) → Knows flag (get_or (records new) at d)
@@ -151,7 +151,7 @@ module _ {V : Type 0} {H : V → Type 0} (loan : Taken V H → Loan) where
         by_telling (inr one) =
             let f : WindowRecord → WindowRecord = λ w. record (with_heard flag w) { definition = one.told.definition } in
             subst (λ ws. Knows flag (get_or ws at d)) (sym (ap (λ d. d.windows) one.told.desk))
-            (subst (Knows flag) (sym (changed_at t.font f (records t) at (record_of loan x) d kept.whole.sound.distinct in_place)) (knows_told flag (record_of loan x) one.told.definition))
+            (subst (Knows flag) (sym (changed_at (look_on t) f (records t) at (record_of loan x) d kept.whole.sound.distinct in_place)) (knows_told flag (record_of loan x) one.told.definition))
 
   -- ---- all windows, one after another
 

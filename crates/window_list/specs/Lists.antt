@@ -5,6 +5,7 @@ use Rattle.draw_port.specs.declared.shapes.Op.{Op}
 use Rattle.def_iface.specs.declared.taken.Taken.{Taken}
 use Rattle.def_iface.specs.declared.window_def.Stage.TheVariants.{Live}
 use Rattle.def_iface.specs.Meaning.{Loan, SameRegions, Hears}
+use Rattle.layer_list.specs.Holders.{PlacedLayers}
 use Rattle.window_list.specs.Ranks.{Ranked}
 use Rattle.window_list.specs.declared.window.Placement.{Placement}
 use Rattle.window_list.specs.declared.window.UserState.{UserState}
@@ -44,8 +45,14 @@ module _ {V : Type 0} {H : V → Type 0} where
   first_shown [] = None
   first_shown (w ∷ ws) = if w.shown then Some w.serial else first_shown ws
 
+  -- the window at this place, with its layers, visible or not, and with this user state
   abbrev pub with_stand : Point → Bool → Option UserState → Window V H → Window V H
-  with_stand place shown user_state w = record w { place = place; shown = shown; user_state = user_state }
+  with_stand place shown user_state w = record w {
+    place = place;
+    shown = shown;
+    user_state = user_state;
+    layers = record w.layers { place = place };
+  }
 
   -- the window, highlighted if it is the one of this serial
   abbrev pub lit : Option ℕ → Window V H → Window V H
@@ -59,6 +66,10 @@ module _ {V : Type 0} {H : V → Type 0} where
   -- the window with this picture, whose 0 0 lies there
   abbrev pub with_picture : List Op → Point → Window V H → Window V H
   with_picture picture origin w = record w { picture = picture; origin = origin }
+
+  -- the window with these layers in front of its picture
+  abbrev pub with_layers : PlacedLayers → Window V H → Window V H
+  with_layers layers w = record w { layers = layers }
 
   abbrev pub with_origin : Point → Window V H → Window V H
   with_origin origin w = record w { origin = origin }
@@ -74,6 +85,7 @@ module _ {V : Type 0} {H : V → Type 0} where
     size = to.size;
     user_state = to.user_state;
     heard = record w.heard { zoomed = is_some to.user_state };
+    layers = record w.layers { place = to.place };
   }
 
   -- the i-th window, which is w, has this place and size, and its definition, which is live as before, was told the size

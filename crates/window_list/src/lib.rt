@@ -16,7 +16,7 @@
 //! and so is the order of the serials. Each call that changes one window says which, by its index from the
 //! front; `find` gives the index of a serial.
 //!
-//! `local` and `picture_place` go from points of the screen to those of a window, and of its picture.
+//! `picture_place` is where the 0 0 of a window's picture lies on the screen.
 #![tactic(auto)]
 
 mod list;
@@ -25,6 +25,6 @@ mod ranks;
 mod window;
 
 pub use list::WindowList;
-pub use places::{local, picture_place};
+pub use places::picture_place;
 pub use ranks::Ranks;
 pub use window::{Heard, Placement, Title, UserState, Window};

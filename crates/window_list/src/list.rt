@@ -1,15 +1,18 @@
 //! The windows of a desk, which of them is active, and the serial of the next.
 ghost use Rattle.std.specs.Prelude.{◌≡◌, true, ◌<◌, nat_lt, ◌==◌, [], ◌∷◌, length, map, if◌then◌else◌, position, slice_index_or, slice_get, Some, None, OnOk, OnErr, IfErr, IfNone, IfSome};
-ghost use Rattle.std.specs.List.{remove};
+ghost use Rattle.std.specs.List.{remove, list_all};
 ghost use Rattle.std.specs.Option.{option_map};
+ghost use Rattle.tb_geom.specs.Rects.{in_plane};
 ghost use Rattle.def_iface.specs.Meaning.{is_fitting};
+ghost use Rattle.layer_list.specs.Holders.{fits_at};
 ghost use Rattle.window_list.specs.Ranks.{moved_item};
-ghost use Rattle.window_list.specs.Lists.{has_serial, first_shown, dimmed, relit, serial_after, map_ranked, edit_at, IsLastBox, with_stand, with_picture, with_origin, with_operation, IsPlacedAt};
+ghost use Rattle.window_list.specs.Lists.{has_serial, first_shown, dimmed, relit, serial_after, map_ranked, edit_at, IsLastBox, with_stand, with_picture, with_layers, with_origin, with_operation, IsPlacedAt};
 ghost use Rattle.window_list.specs.Changes.{keeps_size, has_short_title, IsNotifiedAt};
 
 use crate::{Placement, Ranks, UserState, Window};
 use def_iface::{Defined, Stage, Taken, WindowChange};
 use draw_port::{Op, Picture};
+use layer_list::Layers;
 use std::alloc::{AllocError, Global};
 use tb_geom::{Point, Rect, Refusal};
 
@@ -155,10 +158,13 @@ impl WindowList {
 
     /// Sets where the window at this index stands, whether it is visible, and what it goes back to where it is zoomed.
     pub fn set_stand(&mut self, at: usize, place: Point, shown: bool, user_state: Option<UserState>)
-        requires { at < length self.old.records.items }
+        requires within { at < length self.old.records.items }
+        requires placed { in_plane place ≡ true }
+        requires fit { IfSome (slice_get self.old.records.items at) (λ w. list_all (fits_at place) w.layers.layers ≡ true) }
         ensures { self.new ≡ record self.old { records = edit_at (with_stand place shown user_state) at self.old.records } }
     {
         let window = self.records.at_mut(at);
+        window.layers.go_to(place);
         window.place = place;
         window.shown = shown;
         window.user_state = user_state;
@@ -171,6 +177,9 @@ impl WindowList {
             (λ w. (⟦<Taken as Defined>⟧.loan w.taken).definition.stage ≡ Stage.Live) }
         requires fits { IfSome (slice_get self.old.records.items at)
             (λ w. is_fitting (⟦<Taken as Defined>⟧.loan w.taken).definition placement.size ≡ true) }
+        requires placed { in_plane placement.place ≡ true }
+        requires fit { IfSome (slice_get self.old.records.items at)
+            (λ w. list_all (fits_at placement.place) w.layers.layers ≡ true) }
         ensures placed { IfSome (slice_get self.old.records.items at) (λ w. IsPlacedAt ⟦<Taken as Defined>⟧.loan
             at placement w self.old.records.items self.new.records.items) }
         ensures others { self.new ≡ record self.old { records = self.new.records } }
@@ -179,6 +188,7 @@ impl WindowList {
         let window = self.records.at_mut(at);
         let _damage = window.taken.told(WindowChange::Resized(placement.size));
         let _damage = window.taken.told(WindowChange::Zoomed(is_zoomed));
+        window.layers.go_to(placement.place);
         window.place = placement.place;
         window.size = placement.size;
         window.user_state = placement.user_state;
@@ -193,6 +203,15 @@ impl WindowList {
         let window = self.records.at_mut(at);
         window.picture = picture;
         window.origin = origin;
+    }
+
+    /// Gives the window at this index other layers in front of its picture, which lie where it does.
+    pub fn set_layers(&mut self, at: usize, layers: Layers)
+        requires within { at < length self.old.records.items }
+        ensures { self.new ≡ record self.old { records = edit_at (with_layers layers) at self.old.records } }
+    {
+        let window = self.records.at_mut(at);
+        window.layers = layers;
     }
 
     /// Puts the 0 0 of the picture of the window at this index elsewhere in the window.

@@ -7,6 +7,7 @@ ghost use Rattle.window_list.specs.Changes.{has_short_title, with_change};
 use arrayvec::ArrayVec;
 use def_iface::{Size, Taken, WindowChange};
 use draw_port::Picture;
+use layer_list::Layers;
 use tb_geom::Point;
 
 /// A title: at most 255 bytes.
@@ -58,6 +59,8 @@ pub struct Window {
     pub picture: Picture,
     /// Where the picture's own 0 0 lies in the window.
     pub origin: Point,
+    /// What lies in front of the picture in the window's content.
+    pub layers: Layers,
     pub taken: Taken,
 }
 

@@ -1,5 +1,6 @@
 -- A call that arranges windows: what its plan, drawn, leaves.
 use Rattle.std.proofs.Common.{◌≡◌, ℕ, true, false, List, ℤ, pos, negsuc, refl, sym, ap, ◌∙◌, subst, arith, ◌&&◌}
+use Rattle.std.specs.Prelude.{All}
 use Rattle.std.proofs.lemmas.Bool.Decides.{nat_tests}
 use Rattle.std.proofs.lemmas.Int.{ints}
 use Rattle.tb_geom.specs.declared.point.Point.{Point}
@@ -18,13 +19,13 @@ use Rattle.window_mgr.specs.declared.manager.WindowManager.{WindowManager}
 use Rattle.vis_update.specs.declared.area.Area.{Area}
 use Rattle.vis_update.specs.declared.plan.Plan.{Plan}
 use Rattle.vis_update.specs.declared.plan.Touch.{Touch}
-use Rattle.window_mgr.specs.FullDesk.{FullDesk, layered_desk, layered_state}
+use Rattle.window_mgr.specs.FullDesk.{FullDesk, layered_desk, layered_state, look_of}
 use Rattle.window_mgr.specs.Records.{desk_of, state_of}
 use Rattle.vis_update.specs.Areas.{stale_in}
 use Rattle.window_mgr.specs.Commits.{IsPlanDrawn}
 use Rattle.vis_update.specs.Touches.{change_of, draws_whole}
 use Rattle.vis_update.specs.Plans.{IsPlan}
-use Rattle.window_mgr.specs.Whole.{IsWholeManager, IsSoundDesk}
+use Rattle.window_mgr.specs.Whole.{IsWholeManager, IsSoundDesk, LieThere}
 use Rattle.vis_update.specs.Areas.{IsGray, IsDesktop, AreAreas}
 use Rattle.window_mgr.proofs.Committing.{IsReady, plain_is, image_is, on_same}
 use Rattle.vis_update.proofs.UpdateLemmas.{areas_are, updated_is_stale}
@@ -47,6 +48,7 @@ module _ {V : Type 0} {H : V → Type 0} (loan : Taken V H → Loan) where
     pub areas : new.areas.items ≡ plan.areas.items
     pub desktop : new.desktop ≡ plan.desktop
     pub gray : new.gray ≡ t.gray
+    pub lie : All LieThere new.windows.records.items
 
   module _ (touch : Touch) (t new : WindowManager V H) (slots left : List SlotView) (after : FullDesk) (plan : Plan) (N : IsArrangedCall touch t new slots left after plan) where
     on_before : (p : Point) → layers.on_screen (layered_desk (desk_of loan t slots)) p ≡ on_map t.screen p
@@ -74,7 +76,7 @@ module _ {V : Type 0} {H : V → Type 0} (loan : Taken V H → Loan) where
       N.desk_is,
       record {
         stale = subst (λ (d : LayeredDesk). (p : Point) → layers.on_screen d p ≡ true → stale_in new.areas.items p ≡ plain.stale_by (change_of touch) (layered_state (state_of loan t slots)) (owner d p) p) (sym (ap layered_desk N.desk_is))
-            (λ p on. ap (λ a. stale_in a p) N.areas ∙ updated_is_stale after.font (change_of touch) (layered_state (state_of loan t slots)) (layered_desk after) after.windows plan.areas.items p refl N.planned.areas on);
+            (λ p on. ap (λ a. stale_in a p) N.areas ∙ updated_is_stale (look_of after) (change_of touch) (layered_state (state_of loan t slots)) (layered_desk after) after.windows plan.areas.items p refl N.planned.areas on);
         image = subst (λ (d : LayeredDesk). (p : Point) → layers.on_screen d p ≡ true → bit new.screen p ≡ plain.image_by (change_of touch) (layered_state (state_of loan t slots)) d (owner d p) p) (sym (ap layered_desk N.desk_is))
             (λ p on. image_is touch (state_of loan t slots) after t.desktop plan t.screen new.screen ready p (on_too p on));
       },
@@ -85,7 +87,8 @@ module _ {V : Type 0} {H : V → Type 0} (loan : Taken V H → Loan) where
       sound = subst IsSoundDesk (sym N.desk_is) N.sound;
       gray = subst (λ (x : FullDesk × Pixels). IsGray (layered_desk x.0) x.1) (λ i. (sym N.desk_is i, sym N.gray i)) (subst (λ (d : LayeredDesk). IsGray d t.gray) (sym N.screen) N.whole.gray);
       desktop = subst (λ (x : FullDesk × Pixels). IsDesktop (layered_desk x.0) x.1) (λ i. (sym N.desk_is i, sym N.desktop i)) N.planned.desktop_is;
-      areas = subst (λ (x : FullDesk × List Area). AreAreas (layered_desk x.0) (stale_in x.1) x.0.windows x.1) (λ i. (sym N.desk_is i, sym N.areas i)) (areas_are after.font (change_of touch) (layered_state (state_of loan t slots)) (layered_desk after) after.windows plan.areas.items refl N.planned.areas);
+      areas = subst (λ (x : FullDesk × List Area). AreAreas (layered_desk x.0) (stale_in x.1) x.0.windows x.1) (λ i. (sym N.desk_is i, sym N.areas i)) (areas_are (look_of after) (change_of touch) (layered_state (state_of loan t slots)) (layered_desk after) after.windows plan.areas.items refl N.planned.areas);
       frames = subst (λ (d : LayeredDesk). (p : Point) → layers.on_screen d p ≡ true → is_content (owner d p) ≡ false → bit new.screen p ≡ own_bit d (owner d p) p) (sym (ap layered_desk N.desk_is))
           (λ p on. plain_is touch (state_of loan t slots) after t.desktop plan t.screen new.screen ready p (on_too p on));
+      layers = N.lie;
     }

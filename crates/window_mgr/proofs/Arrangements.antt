@@ -6,21 +6,19 @@ use Rattle.tb_geom.specs.declared.point.Point.{Point}
 use Rattle.tb_geom.specs.declared.refusal.Refusal.{Refusal}
 use Rattle.tb_geom.specs.declared.refusal.Refusal.TheVariants.{NoSuchWindow}
 use Rattle.tb_geom.specs.Points.{minus}
-use Rattle.draw_port.specs.Ops.{picture_bit}
 use Rattle.def_iface.specs.declared.part.Part.{Part}
 use Rattle.def_iface.specs.Desk as layers
-use Rattle.def_iface.specs.declared.part.Part.TheVariants.{Picture}
 use Rattle.def_iface.specs.Owner.{content_bit, layer_bit}
 use Rattle.def_iface.specs.Owner.Owner.{Content}
 use Rattle.def_iface.proofs.Owning.{same_number}
-use Rattle.vis_update.specs.Records.{WindowRecord, layered_window}
+use Rattle.vis_update.specs.Records.{WindowRecord, Look, layered_window}
 use Rattle.vis_update.specs.Touches.{moved_from, came_from, is_this}
 use Rattle.desk_call.specs.declared.window.WindowCall.{WindowCall}
 use Rattle.desk_call.specs.declared.window.WindowCall.TheVariants.{New, Dispose, Show, Hide, ShowHide, Select, BringToFront, SendBehind, Move, Size, Zoom, Draw, SetPicture, Scroll, Find, Front, Info, VisibleRegion, UpdateRegion}
 use Rattle.desk_call.specs.declared.window.MoveWindow.{MoveWindow}
 use Rattle.desk_call.specs.declared.window.SendBehind as sending
 use Rattle.def_iface.specs.Meaning.{Definition}
-use Rattle.window_mgr.specs.FullDesk.{FullDesk, FullState, layered_desk}
+use Rattle.window_mgr.specs.FullDesk.{FullDesk, FullState, layered_desk, look_of}
 use Rattle.window_mgr.specs.Finding.{record_with}
 use Rattle.window_mgr.specs.Arrange.{Arrangement, put_behind, behind_this, in_front, without, brought, changed, at_place, with_shown, with_placement, way_to, moved, placed}
 use Rattle.desk_call.specs.declared.window.Zoom as directions
@@ -29,14 +27,15 @@ use Rattle.window_mgr.specs.Placings.{Placing, sized, zoomed_by, gone, zoom_targ
 use Rattle.window_mgr.specs.Effects.{Effect, effect_of, places}
 use Rattle.window_mgr.specs.Effects.Effect.{Makes, Disposes, Draws, Pictures, Scrolls, Arranges, Places, Tells, Describes}
 use Rattle.window_mgr.specs.Refused.{IsRefusal}
+use Rattle.window_mgr.proofs.LayerParts.{shown_alike}
 use Rattle.window_mgr.proofs.PutIn.{put_in, IsFree, IsPut, is_put, IsTakenOut, out_of, distinct_out}
 use Rattle.window_mgr.proofs.Rearranged.{IsEdit}
 
 -- ---- the words of the order, of a window that stands among others
 
-module _ (font : List ℕ) (s i : ℕ) (w : WindowRecord) (rest : List WindowRecord) (its : w.serial ≡ s) (free : IsFree font s rest) where
-  put : IsPut font s i w rest
-  put = is_put font s i w rest its free
+module _ (look : Look) (s i : ℕ) (w : WindowRecord) (rest : List WindowRecord) (its : w.serial ≡ s) (free : IsFree look s rest) where
+  put : IsPut look s i w rest
+  put = is_put look s i w rest its free
 
   pub found_is : record_with s (put_in i w rest) ≡ Some w
   found_is = put.found
@@ -78,7 +77,7 @@ pub record IsSoundArrangement (a : Arrangement) (desk : FullDesk) : Type 0 where
   pub rest : List WindowRecord
   pub edit : IsEdit desk a.window place to old new rest
   pub windows : a.windows ≡ put_in to new rest
-  pub moves : (part : Part) (p : Point) → content_bit (Some (layered_window desk.font old)) part (moved_from a.window a.by (Content a.window part) p) ≡ content_bit (Some (layered_window desk.font new)) part p
+  pub moves : (part : Part) (p : Point) → content_bit (Some (layered_window (look_of desk) old)) part (moved_from a.window a.by (Content a.window part) p) ≡ content_bit (Some (layered_window (look_of desk) new)) part p
 
 -- the content of a window that is put elsewhere moves as it does
 abbrev IsWay : Placing → WindowRecord → Type 0
@@ -116,31 +115,31 @@ module _ (desk : FullDesk) (distinct : layers.IsDesk (layered_desk desk)) (s : �
   out : IsTakenOut s desk.windows w
   out = out_of s desk.windows w found
 
-  free : IsFree desk.font s out.rest
-  free = subst (λ n. IsFree desk.font n out.rest) out.serial (distinct_out desk.font out.place w out.rest (subst (λ ws. layers.AreWindows (map (layered_window desk.font) ws)) out.is distinct)).0
+  free : IsFree (look_of desk) s out.rest
+  free = subst (λ n. IsFree (look_of desk) n out.rest) out.serial (distinct_out (look_of desk) out.place w out.rest (subst (λ ws. layers.AreWindows (map (layered_window (look_of desk)) ws)) out.is distinct)).0
 
-  edit : (j : ℕ) (v : WindowRecord) → v.serial ≡ w.serial → IsEdit desk s out.place j w v out.rest
-  edit j v same = record { windows = out.is; serial = out.serial; same_serial = same }
+  edit : (j : ℕ) (v : WindowRecord) → v.serial ≡ w.serial → v.layers ≡ w.layers → IsEdit desk s out.place j w v out.rest
+  edit j v same alike = record { windows = out.is; serial = out.serial; same_serial = same; same_layers = alike }
 
   -- a window that keeps its content where it is
-  stays : (a : Arrangement) (j : ℕ) (v : WindowRecord) → a.window ≡ s → a.by ≡ None → v.serial ≡ w.serial → a.windows ≡ put_in j v out.rest
-      → ((part : Part) (p : Point) → content_bit (Some (layered_window desk.font w)) part p ≡ content_bit (Some (layered_window desk.font v)) part p) → IsSoundArrangement a desk
-  stays a j v its still same windows content = record {
+  stays : (a : Arrangement) (j : ℕ) (v : WindowRecord) → a.window ≡ s → a.by ≡ None → v.serial ≡ w.serial → v.layers ≡ w.layers → a.windows ≡ put_in j v out.rest
+      → ((part : Part) (p : Point) → content_bit (Some (layered_window (look_of desk) w)) part p ≡ content_bit (Some (layered_window (look_of desk) v)) part p) → IsSoundArrangement a desk
+  stays a j v its still same alike windows content = record {
     old = w;
     new = v;
     place = out.place;
     to = j;
     rest = out.rest;
-    edit = subst (λ n. IsEdit desk n out.place j w v out.rest) (sym its) (edit j v same);
+    edit = subst (λ n. IsEdit desk n out.place j w v out.rest) (sym its) (edit j v same alike);
     windows = windows;
-    moves = λ part p. ap (λ by. content_bit (Some (layered_window desk.font w)) part (moved_from a.window by (Content a.window part) p)) still ∙ content part p;
+    moves = λ part p. ap (λ by. content_bit (Some (layered_window (look_of desk) w)) part (moved_from a.window by (Content a.window part) p)) still ∙ content part p;
   }
 
   pub brought_sound : (a : Arrangement) → a.window ≡ s → a.by ≡ None → a.windows ≡ brought s desk.windows → IsSoundArrangement a desk
-  brought_sound a its still windows = stays a 0 w its still refl (windows ∙ ap (brought s) out.is ∙ brought_is desk.font s out.place w out.rest out.serial free) (λ part p. refl)
+  brought_sound a its still windows = stays a 0 w its still refl refl (windows ∙ ap (brought s) out.is ∙ brought_is (look_of desk) s out.place w out.rest out.serial free) (λ part p. refl)
 
   pub shown_sound : (a : Arrangement) (shown : Bool) → a.window ≡ s → a.by ≡ None → a.windows ≡ changed s (with_shown shown) desk.windows → IsSoundArrangement a desk
-  shown_sound a shown its still windows = stays a out.place (with_shown shown w) its still refl (windows ∙ ap (changed s (with_shown shown)) out.is ∙ changed_is desk.font s out.place w out.rest out.serial free (with_shown shown)) (λ part p. refl)
+  shown_sound a shown its still windows = stays a out.place (with_shown shown w) its still refl refl (windows ∙ ap (changed s (with_shown shown)) out.is ∙ changed_is (look_of desk) s out.place w out.rest out.serial free (with_shown shown)) (λ part p. refl)
 
   -- wherever it lies and whatever its size, the window's content has the same picture
   pub placed_sound : (p : Placing) (d : Definition) → p.window ≡ s → IsWay p w → IsSoundArrangement (placed p d desk.windows) desk
@@ -150,8 +149,8 @@ module _ (desk : FullDesk) (distinct : layers.IsDesk (layered_desk desk)) (s : �
     place = out.place;
     to = out.place;
     rest = out.rest;
-    edit = subst (λ n. IsEdit desk n out.place out.place w (with_placement p.to d w) out.rest) (sym named) (edit out.place (with_placement p.to d w) refl);
-    windows = ap (λ n. changed n (with_placement p.to d) desk.windows) named ∙ ap (changed s (with_placement p.to d)) out.is ∙ changed_is desk.font s out.place w out.rest out.serial free (with_placement p.to d);
+    edit = subst (λ n. IsEdit desk n out.place out.place w (with_placement p.to d w) out.rest) (sym named) (edit out.place (with_placement p.to d w) refl refl);
+    windows = ap (λ n. changed n (with_placement p.to d) desk.windows) named ∙ ap (changed s (with_placement p.to d)) out.is ∙ changed_is (look_of desk) s out.place w out.rest out.serial free (with_placement p.to d);
     moves = came;
   }
     where
@@ -159,22 +158,15 @@ module _ (desk : FullDesk) (distinct : layers.IsDesk (layered_desk desk)) (s : �
       from None part q = refl
       from (Some by) part q = ap (λ b. if b then minus q by else q) (same_number p.window)
 
-      came : (part : Part) (q : Point) → content_bit (Some (layered_window desk.font w)) part (moved_from p.window p.by (Content p.window part) q) ≡ content_bit (Some (layered_window desk.font (with_placement p.to d w))) part q
+      came : (part : Part) (q : Point) → content_bit (Some (layered_window (look_of desk) w)) part (moved_from p.window p.by (Content p.window part) q) ≡ content_bit (Some (layered_window (look_of desk) (with_placement p.to d w))) part q
       came part q =
-          ap (content_bit (Some (layered_window desk.font w)) part) (from p.by part q)
-          ∙ ap (λ local. layer_bit (layers.layer_of part (layered_window desk.font w).layers) local) (way q)
-          ∙ either (layers.same_part Picture part)
-        where
-          layer : WindowRecord → layers.ContentLayer
-          layer x = record { part = Picture; extent = x.definition.content x.size; picture = λ k. picture_bit desk.font x.picture (minus k x.origin) }
-
-          either : (b : Bool) → layer_bit (if b then Some (layer w) else None) (minus q p.to.place) ≡ layer_bit (if b then Some (layer (with_placement p.to d w)) else None) (minus q p.to.place)
-          either true = refl
-          either false = refl
+          ap (content_bit (Some (layered_window (look_of desk) w)) part) (from p.by part q)
+          ∙ ap (λ local. layer_bit (layers.layer_of part (layered_window (look_of desk) w).layers) local) (way q)
+          ∙ shown_alike (look_of desk) w (with_placement p.to d w) part (minus q p.to.place) (minus q p.to.place) refl (λ other. refl) (λ e. refl)
 
   pub sent_sound : (a : Arrangement) (b : sending.SendBehind) → b.window ≡ s → a.window ≡ s → a.by ≡ None → a.windows ≡ behind_this b.behind (record_with s desk.windows) (without s desk.windows) → IsSoundArrangement a desk
-  sent_sound a b named its still windows = stays a (place_after b.behind out.rest) w its still refl
-      (windows ∙ ap (λ ws. behind_this b.behind (record_with s ws) (without s ws)) out.is ∙ behind_is desk.font s out.place w out.rest out.serial free b.behind ∙ put_behind_is b.behind w out.rest)
+  sent_sound a b named its still windows = stays a (place_after b.behind out.rest) w its still refl refl
+      (windows ∙ ap (λ ws. behind_this b.behind (record_with s ws) (without s ws)) out.is ∙ behind_is (look_of desk) s out.place w out.rest out.serial free b.behind ∙ put_behind_is b.behind w out.rest)
       (λ part p. refl)
 
   pub moved_sound : (m : MoveWindow) → m.window ≡ s → IsSoundArrangement (moved m desk.windows) desk
@@ -184,22 +176,22 @@ module _ (desk : FullDesk) (distinct : layers.IsDesk (layered_desk desk)) (s : �
       there = changed m.window (at_place m.place) desk.windows
 
       there_is : there ≡ put_in out.place (at_place m.place w) out.rest
-      there_is = ap (λ n. changed n (at_place m.place) desk.windows) named ∙ ap (changed s (at_place m.place)) out.is ∙ changed_is desk.font s out.place w out.rest out.serial free (at_place m.place)
+      there_is = ap (λ n. changed n (at_place m.place) desk.windows) named ∙ ap (changed s (at_place m.place)) out.is ∙ changed_is (look_of desk) s out.place w out.rest out.serial free (at_place m.place)
 
       way : (moved m desk.windows).by ≡ Some (minus m.place w.place)
       way = ap (λ n. way_to m.place (record_with n desk.windows)) named ∙ ap (way_to m.place) found
 
-      came : (part : Part) (p : Point) → content_bit (Some (layered_window desk.font w)) part (moved_from m.window (moved m desk.windows).by (Content m.window part) p) ≡ content_bit (Some (layered_window desk.font (at_place m.place w))) part p
+      came : (part : Part) (p : Point) → content_bit (Some (layered_window (look_of desk) w)) part (moved_from m.window (moved m desk.windows).by (Content m.window part) p) ≡ content_bit (Some (layered_window (look_of desk) (at_place m.place w))) part p
       came part p =
-          ap (λ by. content_bit (Some (layered_window desk.font w)) part (moved_from m.window by (Content m.window part) p)) way
-          ∙ ap (λ b. content_bit (Some (layered_window desk.font w)) part (if b then minus p (minus m.place w.place) else p)) (same_number m.window)
+          ap (λ by. content_bit (Some (layered_window (look_of desk) w)) part (moved_from m.window by (Content m.window part) p)) way
+          ∙ ap (λ b. content_bit (Some (layered_window (look_of desk) w)) part (if b then minus p (minus m.place w.place) else p)) (same_number m.window)
           ∙ (λ k. layers_at part (record { h = same_way p.h m.place.h w.place.h k; v = same_way p.v m.place.v w.place.v k }))
         where
           layers_at : Part → Point → Bool
-          layers_at q local = layer_bit (layers.layer_of q (layered_window desk.font w).layers) local
+          layers_at q local = layer_bit (layers.layer_of q (layered_window (look_of desk) w).layers) local
 
       windows_are : (b : Bool) → m.select ≡ b → (j : ℕ) × ((moved m desk.windows).windows ≡ put_in j (at_place m.place w) out.rest)
-      windows_are true e = (0, ap (λ c. if c then brought m.window there else there) e ∙ (λ k. brought (named k) (there_is k)) ∙ brought_is desk.font s out.place (at_place m.place w) out.rest out.serial free)
+      windows_are true e = (0, ap (λ c. if c then brought m.window there else there) e ∙ (λ k. brought (named k) (there_is k)) ∙ brought_is (look_of desk) s out.place (at_place m.place w) out.rest out.serial free)
       windows_are false e = (out.place, ap (λ c. if c then brought m.window there else there) e ∙ there_is)
 
       by_select : (b : Bool) → m.select ≡ b → IsSoundArrangement (moved m desk.windows) desk
@@ -209,7 +201,7 @@ module _ (desk : FullDesk) (distinct : layers.IsDesk (layered_desk desk)) (s : �
         place = out.place;
         to = (windows_are b e).0;
         rest = out.rest;
-        edit = subst (λ n. IsEdit desk n out.place (windows_are b e).0 w (at_place m.place w) out.rest) (sym named) (edit (windows_are b e).0 (at_place m.place w) refl);
+        edit = subst (λ n. IsEdit desk n out.place (windows_are b e).0 w (at_place m.place w) out.rest) (sym named) (edit (windows_are b e).0 (at_place m.place w) refl refl);
         windows = (windows_are b e).1;
         moves = came;
       }

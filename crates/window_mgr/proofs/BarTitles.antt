@@ -1,5 +1,5 @@
 -- A window manager whose menu bar has other titles.
-use Rattle.std.proofs.Common.{◌≡◌, ℕ, Bool, true, false, not, ◌&&◌, if◌then◌else◌, List, [], ◌∷◌, map, pos, refl, sym, ap, ◌∙◌, subst}
+use Rattle.std.proofs.Common.{◌≡◌, Bool, true, false, not, ◌&&◌, if◌then◌else◌, List, [], ◌∷◌, pos, refl, sym, ap, ◌∙◌, subst}
 use Rattle.std.specs.Prelude.{int_lt}
 use Rattle.std.proofs.lemmas.Bool.{false≢true}
 use Rattle.tb_geom.specs.declared.point.Point.{Point}
@@ -20,9 +20,9 @@ use Rattle.menu_bar.specs.declared.titles.BarTitle.{BarTitle}
 use Rattle.menu_bar.specs.Bars.{bar_picture}
 use Rattle.vis_update.specs.Areas.{IsGray, IsDesktop, AreAreas, stale_in}
 use Rattle.vis_update.specs.declared.area.Area.{Area}
-use Rattle.vis_update.specs.Records.{WindowRecord, record_of}
+use Rattle.vis_update.specs.Records.{WindowRecord}
 use Rattle.window_mgr.specs.declared.manager.WindowManager.{WindowManager}
-use Rattle.window_mgr.specs.FullDesk.{FullDesk, FullState, layered_desk, layered_state}
+use Rattle.window_mgr.specs.FullDesk.{FullDesk, layered_desk, layered_state}
 use Rattle.window_mgr.specs.BarShown.{IsBarShown}
 use Rattle.window_mgr.specs.Records.{desk_of, state_of}
 use Rattle.window_mgr.specs.Whole.{IsWholeManager, IsSoundDesk}
@@ -133,6 +133,7 @@ module _ {V : Type 0} {H : V → Type 0} (loan : Taken V H → Loan) (t : Window
     desktop = subst (λ (y : FullDesk). IsDesktop (layered_desk y) t.desktop) (sym desk_is) whole.desktop;
     areas = subst (λ (y : FullDesk). AreAreas (layered_desk y) (stale_in t.areas.items) y.windows t.areas.items) (sym desk_is) (areas_now before.windows t.areas.items whole.areas);
     frames = subst (λ (k : LayeredDesk). (p : Point) → layers.on_screen k p ≡ true → is_content (owner k p) ≡ false → bit screen p ≡ own_bit k (owner k p) p) (sym (ap layered_desk desk_is)) frames_now;
+    layers = whole.layers;
   }
 
   pub titles_shown : IsBarShown titles (state_of loan t slots) (state_of loan with_titles slots)

@@ -20,10 +20,11 @@ use Rattle.def_iface.proofs.Painting.{scratch_is_owners}
 use Rattle.vis_update.specs.declared.plan.Part.{Part}
 use Rattle.vis_update.specs.declared.plan.Plan.{Plan}
 use Rattle.vis_update.specs.declared.plan.Touch.{Touch}
-use Rattle.vis_update.specs.Records.{WindowRecord, layered_window}
-use Rattle.window_mgr.specs.FullDesk.{FullDesk, FullState, layered_desk, layered_state}
+use Rattle.vis_update.specs.Records.{WindowRecord, Look, layered_window}
+use Rattle.window_mgr.specs.FullDesk.{FullDesk, FullState, layered_desk, layered_state, look_of}
 use Rattle.desk_ground.specs.Screens.{gray}
-use Rattle.window_mgr.specs.Commits.{painted_part, painted_parts, moved_bit, uncovered_bit, IsPlanDrawn}
+use Rattle.window_mgr.specs.Commits.{painted_part, painted_parts, uncovered_bit, IsPlanDrawn}
+use Rattle.window_paint.specs.Moves.{moved_bit}
 use Rattle.vis_update.specs.Touches.{change_of, draws_whole, moves}
 use Rattle.vis_update.specs.Plans.{IsPart, ArePlanParts, IsPlan}
 use Rattle.vis_update.specs.Touches.{moved_from}
@@ -33,11 +34,11 @@ use Rattle.vis_update.proofs.Others.{not_content, not_same_frame}
 
 -- ---- the parts of windows, at one pixel
 
-module _ (font : List ℕ) (t : Touch) (before : plain.State) (after : LayeredDesk) (p : Point) where
+module _ (look : Look) (t : Touch) (before : plain.State) (after : LayeredDesk) (p : Point) where
   -- a part whose window has not the pixel changes nothing
-  part_elsewhere : (w : WindowRecord) (part : Part) (value : Bool) → IsPart t before after w.serial part → is_other w.serial (owner after p) ≡ true → painted_part font w.definition w.place part p value ≡ value
+  part_elsewhere : (w : WindowRecord) (part : Part) (value : Bool) → IsPart t before after w.serial part → is_other w.serial (owner after p) ≡ true → painted_part look.font w.definition w.place part p value ≡ value
   part_elsewhere w part value its other =
-      (λ i. if (its.redraw p ∙ ap (λ b. (layers.on_screen after p && b) && (draws_whole t w.serial || not (layers.on_screen before.desk p && same_owner (owner before.desk p) (Frame w.serial)))) (not_same_frame w.serial (owner after p) other)) i then w.definition.picture no_news font (minus p w.place)
+      (λ i. if (its.redraw p ∙ ap (λ b. (layers.on_screen after p && b) && (draws_whole t w.serial || not (layers.on_screen before.desk p && same_owner (owner before.desk p) (Frame w.serial)))) (not_same_frame w.serial (owner after p) other)) i then w.definition.picture no_news look.font (minus p w.place)
       else (if (its.erase p ∙ ap (λ b. (layers.on_screen after p && b) && not (plain.had (change_of t) before.desk (owner after p) p)) (not_content w.serial (owner after p) other)) i then false else value))
       ∙ nowhere (layers.on_screen after p) _ _ _
     where
@@ -50,33 +51,33 @@ module _ (font : List ℕ) (t : Touch) (before : plain.State) (after : LayeredDe
   AreApart [] = Unit {0}
   AreApart (w ∷ ws) = (is_other w.serial (owner after p) ≡ true) × AreApart ws
 
-  pub parts_elsewhere : (ws : List WindowRecord) (parts : List Part) (value : Bool) → ArePlanParts t before after ws parts → AreApart ws → painted_parts font ws parts p value ≡ value
+  pub parts_elsewhere : (ws : List WindowRecord) (parts : List Part) (value : Bool) → ArePlanParts t before after ws parts → AreApart ws → painted_parts look.font ws parts p value ≡ value
   parts_elsewhere [] [] value its apart = refl
   parts_elsewhere (w ∷ ws) (part ∷ parts) value its apart =
-      ap (λ b. painted_parts font ws parts p b) (part_elsewhere w part value its.0 apart.0) ∙ parts_elsewhere ws parts value its.1 apart.1
+      ap (λ b. painted_parts look.font ws parts p b) (part_elsewhere w part value its.0 apart.0) ∙ parts_elsewhere ws parts value its.1 apart.1
   parts_elsewhere [] (part ∷ parts) value its apart = absurd its
   parts_elsewhere (w ∷ ws) [] value its apart = absurd its
 
   -- the windows of another serial than this one have not the pixel that is its
-  apart_from : (s : ℕ) (ws : List WindowRecord) → ((n : ℕ) → (n == s) ≡ false → is_other n (owner after p) ≡ true) → layers.window_of s (map (layered_window font) ws) ≡ None → AreApart ws
+  apart_from : (s : ℕ) (ws : List WindowRecord) → ((n : ℕ) → (n == s) ≡ false → is_other n (owner after p) ≡ true) → layers.window_of s (map (layered_window look) ws) ≡ None → AreApart ws
   apart_from s [] of none = tt
   apart_from s (w ∷ ws) of none =
-      let first = not_first (w.serial == s) (layered_window font w) (layers.window_of s (map (layered_window font) ws)) none in
+      let first = not_first (w.serial == s) (layered_window look w) (layers.window_of s (map (layered_window look) ws)) none in
       (of w.serial first.0, apart_from s ws of first.1)
 
   -- the window of this serial has the pixel: its part alone tells
   pub record IsAlone (s : ℕ) (found : layers.LayeredWindow) (ws : List WindowRecord) (parts : List Part) (value : Bool) : Type 0 where
     pub window : WindowRecord
     pub part : Part
-    pub is : layered_window font window ≡ found
+    pub is : layered_window look window ≡ found
     pub its : IsPart t before after s part
-    pub tells : painted_parts font ws parts p value ≡ painted_part font window.definition window.place part p value
+    pub tells : painted_parts look.font ws parts p value ≡ painted_part look.font window.definition window.place part p value
 
-  pub alone : (s : ℕ) (found : layers.LayeredWindow) (ws : List WindowRecord) (parts : List Part) (value : Bool) → ((n : ℕ) → (n == s) ≡ false → is_other n (owner after p) ≡ true) → ArePlanParts t before after ws parts → layers.AreWindows (map (layered_window font) ws) → layers.window_of s (map (layered_window font) ws) ≡ Some found → IsAlone s found ws parts value
+  pub alone : (s : ℕ) (found : layers.LayeredWindow) (ws : List WindowRecord) (parts : List Part) (value : Bool) → ((n : ℕ) → (n == s) ≡ false → is_other n (owner after p) ≡ true) → ArePlanParts t before after ws parts → layers.AreWindows (map (layered_window look) ws) → layers.window_of s (map (layered_window look) ws) ≡ Some found → IsAlone s found ws parts value
   alone s found [] [] value of its distinct e = absurd (cc)
   alone s found (w ∷ ws) (part ∷ parts) value of its distinct e = by_test (λ f. alone s found ws parts value of its.1 distinct.1.1 f) (w.serial == s) refl e
     where
-      by_test : (layers.window_of s (map (layered_window font) ws) ≡ Some found → IsAlone s found ws parts value) → (b : Bool) → (w.serial == s) ≡ b → (if b then Some (layered_window font w) else layers.window_of s (map (layered_window font) ws)) ≡ Some found → IsAlone s found (w ∷ ws) (part ∷ parts) value
+      by_test : (layers.window_of s (map (layered_window look) ws) ≡ Some found → IsAlone s found ws parts value) → (b : Bool) → (w.serial == s) ≡ b → (if b then Some (layered_window look w) else layers.window_of s (map (layered_window look) ws)) ≡ Some found → IsAlone s found (w ∷ ws) (part ∷ parts) value
       by_test behind true here f =
           let serial : w.serial ≡ s = eqb-true w.serial s here in
           record {
@@ -84,7 +85,7 @@ module _ (font : List ℕ) (t : Touch) (before : plain.State) (after : LayeredDe
             part = part;
             is = cc;
             its = subst (λ n. IsPart t before after n part) serial its.0;
-            tells = parts_elsewhere ws parts (painted_part font w.definition w.place part p value) its.1 (apart_from s ws of (subst (λ n. layers.window_of n (map (layered_window font) ws) ≡ None) serial distinct.0));
+            tells = parts_elsewhere ws parts (painted_part look.font w.definition w.place part p value) its.1 (apart_from s ws of (subst (λ n. layers.window_of n (map (layered_window look) ws) ≡ None) serial distinct.0));
           }
       by_test behind false away f =
           let rest = behind f in
@@ -93,7 +94,7 @@ module _ (font : List ℕ) (t : Touch) (before : plain.State) (after : LayeredDe
             part = rest.part;
             is = rest.is;
             its = rest.its;
-            tells = ap (λ b. painted_parts font ws parts p b) (part_elsewhere w part value its.0 (of w.serial away)) ∙ rest.tells;
+            tells = ap (λ b. painted_parts look.font ws parts p b) (part_elsewhere w part value its.0 (of w.serial away)) ∙ rest.tells;
           }
   alone s found [] (part ∷ parts) value of its distinct e = absurd its
   alone s found (w ∷ ws) [] value of its distinct e = absurd its
@@ -194,11 +195,11 @@ module _ (t : Touch) (before : FullState) (after : FullDesk) (desktop : Pixels) 
     desktop_bit : owner is p ≡ Desktop → bit new p ≡ own_bit is Desktop p
     desktop_bit e =
         painted
-        ∙ parts_elsewhere after.font t (layered_state before) is p after.windows plan.parts.items under R.planned.parts (apart after.windows)
+        ∙ parts_elsewhere (look_of after) t (layered_state before) is p after.windows plan.parts.items under R.planned.parts (apart after.windows)
         ∙ ap (λ b. if b then pattern_bit gray p else moved_bit plan.copied t.by old p) (uncovered_by Desktop e)
         ∙ by_test (same_owner (owner was p) Desktop) refl
       where
-        apart : (ws : List WindowRecord) → AreApart after.font t (layered_state before) is p ws
+        apart : (ws : List WindowRecord) → AreApart (look_of after) t (layered_state before) is p ws
         apart [] = tt
         apart (w ∷ ws) = (ap (is_other w.serial) e, apart ws)
 
@@ -209,12 +210,12 @@ module _ (t : Touch) (before : FullState) (after : FullDesk) (desktop : Pixels) 
     bar_bit : owner is p ≡ Bar → bit new p ≡ own_bit is Bar p
     bar_bit e =
         painted
-        ∙ parts_elsewhere after.font t (layered_state before) is p after.windows plan.parts.items under R.planned.parts (apart after.windows)
+        ∙ parts_elsewhere (look_of after) t (layered_state before) is p after.windows plan.parts.items under R.planned.parts (apart after.windows)
         ∙ under_plain Bar e refl refl
         ∙ plain_was Bar (by_bar (layers.in_bar is p) refl) refl
         ∙ sym (ap (λ d. d.bar_picture p) R.screen)
       where
-        apart : (ws : List WindowRecord) → AreApart after.font t (layered_state before) is p ws
+        apart : (ws : List WindowRecord) → AreApart (look_of after) t (layered_state before) is p ws
         apart [] = tt
         apart (w ∷ ws) = (ap (is_other w.serial) e, apart ws)
 
@@ -245,8 +246,8 @@ module _ (t : Touch) (before : FullState) (after : FullDesk) (desktop : Pixels) 
         there : (v : layers.LayeredWindow) × (layers.window_of s is.windows ≡ Some v)
         there = found s (ap (is_other s) e ∙ ap not (same_number s))
 
-        one : IsAlone after.font t (layered_state before) is p s there.0 after.windows plan.parts.items under
-        one = alone after.font t (layered_state before) is p s there.0 after.windows plan.parts.items under (λ n away. ap (is_other n) e ∙ of_frame s n away) R.planned.parts R.distinct there.1
+        one : IsAlone (look_of after) t (layered_state before) is p s there.0 after.windows plan.parts.items under
+        one = alone (look_of after) t (layered_state before) is p s there.0 after.windows plan.parts.items under (λ n away. ap (is_other n) e ∙ of_frame s n away) R.planned.parts R.distinct there.1
 
         redraw : holds one.part.redraw p ≡ (draws_whole t s || not (same_owner (owner was p) (Frame s)))
         redraw = one.its.redraw p ∙ (λ i. (on_now i && same_owner (e i) (Frame s)) && (draws_whole t s || not (on i && same_owner (owner was p) (Frame s)))) ∙ ap (λ b. (true && b) && (draws_whole t s || not (same_owner (owner was p) (Frame s)))) (same_number s)
@@ -273,8 +274,8 @@ module _ (t : Touch) (before : FullState) (after : FullDesk) (desktop : Pixels) 
         there : (v : layers.LayeredWindow) × (layers.window_of s is.windows ≡ Some v)
         there = found s (ap (is_other s) e ∙ ap not (same_number s))
 
-        one : IsAlone after.font t (layered_state before) is p s there.0 after.windows plan.parts.items under
-        one = alone after.font t (layered_state before) is p s there.0 after.windows plan.parts.items under (λ n away. ap (is_other n) e ∙ of_content s n part away) R.planned.parts R.distinct there.1
+        one : IsAlone (look_of after) t (layered_state before) is p s there.0 after.windows plan.parts.items under
+        one = alone (look_of after) t (layered_state before) is p s there.0 after.windows plan.parts.items under (λ n away. ap (is_other n) e ∙ of_content s n part away) R.planned.parts R.distinct there.1
 
         redraw : holds one.part.redraw p ≡ false
         redraw = one.its.redraw p ∙ (λ i. (on_now i && same_owner (e i) (Frame s)) && (draws_whole t s || not (layers.on_screen was p && same_owner (owner was p) (Frame s))))

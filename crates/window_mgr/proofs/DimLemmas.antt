@@ -30,7 +30,7 @@ module _ (active : Option ℕ) where
   windows_behind b ws = if b then map (with_highlighting false active) ws else ws
 
   pub settled_behind : (b : Bool) (ws : List WindowRecord) → All IsSettled ws → All IsSettled (windows_behind b ws)
-  settled_behind true ws h = settled_map (with_highlighting false active) (λ w its. either false active IsSettled w its (record { origin = its.origin; placed = its.placed; live = its.live; told = its.told; fits = its.fits; inside = its.inside; within = its.within; goes_by = its.goes_by })) ws h
+  settled_behind true ws h = settled_map (with_highlighting false active) (λ w its. either false active IsSettled w its (record { origin = its.origin; placed = its.placed; live = its.live; told = its.told; fits = its.fits; inside = its.inside; within = its.within; layers = its.layers; goes_by = its.goes_by })) ws h
   settled_behind false ws h = h
 
   pub stocked_behind : (b : Bool) (ws : List WindowRecord) (slots : List SlotView) → IsStocked ws slots → IsStocked (windows_behind b ws) slots

@@ -26,10 +26,13 @@ use Rattle.window_mgr.specs.Closing.{IsShut}
 use Rattle.window_mgr.specs.Commits.{IsPlanDrawn}
 use Rattle.window_mgr.specs.Edits.{IsWindowAt, relit_all}
 use Rattle.window_mgr.specs.Effects.{IsWindowDisposed}
-use Rattle.window_mgr.specs.Records.{desk_of, state_of}
+use Rattle.window_mgr.specs.Records.{desk_of, state_of, look_on}
+use Rattle.window_paint.specs.White.{all_white}
 use Rattle.window_mgr.specs.Step.{IsWindowStep}
-use Rattle.window_mgr.specs.Whole.{IsWholeManager, IsSettled}
+use Rattle.window_mgr.specs.Whole.{IsWholeManager, IsSettled, LieThere}
 use Rattle.window_mgr.specs.Without.{records_without, IsDeskWithout, IsPlanWithout, IsActivationWithout, IsTakenOff}
+use Rattle.window_mgr.proofs.LyingThere.{relit_lie, rest_lie}
+use Rattle.window_mgr.proofs.KeptWindows.{layers_relit}
 use Rattle.window_mgr.proofs.PutIn.{put_in, taken_out, map-put, All-out, IsFree, is_put}
 use Rattle.window_mgr.proofs.Rearranged.{stands_lit}
 use Rattle.window_mgr.proofs.Disposed.{IsOneOf, left, distinct_left, others_found, sound_left, settled_left, free_of}
@@ -118,6 +121,7 @@ module _ {V : Type 0} {H : V → Type 0} (loan : Taken V H → Loan) where
       distinct = distinct_left (desk_of loan t slots) s at (record_of loan w) rest one activation now N.whole.sound.distinct;
       screen = refl;
       stands = stands_lit t.windows.active activation rest;
+      layers = layers_relit activation t.windows.active rest;
     }
 
     dispose_arranged : IsArrangedCall loan touch t new slots now after plan
@@ -133,6 +137,7 @@ module _ {V : Type 0} {H : V → Type 0} (loan : Taken V H → Loan) where
         height = pos (drawn.height i);
         bar = N.off.bar i;
         font = N.off.font i;
+        shows = all_white;
         windows = windows_are i;
         active = N.off.active i;
         next = N.off.next i;
@@ -141,6 +146,7 @@ module _ {V : Type 0} {H : V → Type 0} (loan : Taken V H → Loan) where
       areas = N.off.areas;
       desktop = N.off.desktop;
       gray = N.off.gray;
+      lie = subst (All LieThere) (sym N.off.windows) (relit_lie activation t.windows.active (remove t.windows.records.items at) (rest_lie t.windows.records.items at w N.low N.off.there N.whole.layers));
     }
       where
         first_is : (x y : Bool) → (x || y) ≡ false → x ≡ false
@@ -160,11 +166,11 @@ module _ {V : Type 0} {H : V → Type 0} (loan : Taken V H → Loan) where
         left_is : (desk_of loan new now ≡ after) × IsChanged no_change (layered_state (state_of loan t slots)) (layered_state (state_of loan new now))
         left_is = arranged_is_left loan touch t new slots now after plan dispose_arranged
 
-        free : IsFree t.font s rest
+        free : IsFree (look_on t) s rest
         free = free_of (desk_of loan t slots) s at (record_of loan w) rest one activation now N.whole.sound.distinct
 
         rest_is : without s (desk_of loan t slots).windows ≡ rest
-        rest_is = ap (without s) one.windows ∙ (is_put t.font s at (record_of loan w) rest serial free).others
+        rest_is = ap (without s) one.windows ∙ (is_put (look_on t) s at (record_of loan w) rest serial free).others
 
         after_is : after ≡ record (desk_arranged (without s (desk_of loan t slots).windows) FrontInItsPlace s (desk_of loan t slots)) { stock = now }
         after_is =

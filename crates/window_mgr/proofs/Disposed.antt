@@ -19,7 +19,7 @@ use Rattle.window_mgr.specs.Arrange.{activated, activation_of, desk_activated, d
 use Rattle.window_mgr.specs.Closing.{IsShut, loan_of}
 use Rattle.window_mgr.specs.Effects.{IsWindowDisposed}
 use Rattle.window_mgr.specs.Finding.{front_of}
-use Rattle.window_mgr.specs.FullDesk.{FullDesk, FullState, IsRightState, AreSerials, layered_desk, layered_state, IsGiven}
+use Rattle.window_mgr.specs.FullDesk.{FullDesk, FullState, IsRightState, AreSerials, layered_desk, layered_state, IsGiven, look_of}
 use Rattle.window_mgr.specs.Whole.{IsSoundDesk, IsSettled, IsStocked}
 use Rattle.window_mgr.proofs.PutIn.{put_in, put_permutes, put_last, IsFree, found_put, distinct_out, serials_out, All-out, is_put, IsTakenOut, out_of}
 use Rattle.window_mgr.proofs.Rearranged.{layers_lit, length_lit, numbered_lit, settled_all, stocked_lit, stocked_put}
@@ -44,27 +44,27 @@ module _ (before : FullDesk) (s i : ℕ) (w : WindowRecord) (rest : List WindowR
   settled_left all = settled_all before.active a rest (All-tail IsSettled w rest (All-out IsSettled i w rest (subst (All IsSettled) O.windows all)))
 
   module _ (distinct : layers.IsDesk (layered_desk before)) where
-    was_distinct : IsFree before.font w.serial rest × layers.AreWindows (map (layered_window before.font) rest)
-    was_distinct = distinct_out before.font i w rest (subst (λ ws. layers.AreWindows (map (layered_window before.font) ws)) O.windows distinct)
+    was_distinct : IsFree (look_of before) w.serial rest × layers.AreWindows (map (layered_window (look_of before)) rest)
+    was_distinct = distinct_out (look_of before) i w rest (subst (λ ws. layers.AreWindows (map (layered_window (look_of before)) ws)) O.windows distinct)
 
     pub distinct_left : layers.IsDesk (layered_desk left)
-    distinct_left = subst layers.AreWindows (sym (layers_lit before.active before.font a rest)) was_distinct.1
+    distinct_left = subst layers.AreWindows (sym (layers_lit before.active (look_of before) a rest)) was_distinct.1
 
-    pub free_of : IsFree before.font s rest
-    free_of = subst (λ n. IsFree before.font n rest) O.serial was_distinct.0
+    pub free_of : IsFree (look_of before) s rest
+    free_of = subst (λ n. IsFree (look_of before) n rest) O.serial was_distinct.0
 
     -- it is not found any more
     gone : layers.window_of s (layered_desk left).windows ≡ None
-    gone = ap (layers.window_of s) (layers_lit before.active before.font a rest) ∙ free_of
+    gone = ap (layers.window_of s) (layers_lit before.active (look_of before) a rest) ∙ free_of
 
     -- and other windows are found as they were
     pub others_found : (n : ℕ) → (s == n) ≡ false → layers.window_of n (layered_desk before).windows ≡ layers.window_of n (layered_desk left).windows
     others_found n away =
-        ap (λ ws. layers.window_of n (map (layered_window before.font) ws)) O.windows
-        ∙ found_put before.font n i w rest was_distinct.0
-        ∙ ap (λ k. if k == n then Some (layered_window before.font w) else layers.window_of n (map (layered_window before.font) rest)) O.serial
-        ∙ (λ k. if away k then Some (layered_window before.font w) else layers.window_of n (map (layered_window before.font) rest))
-        ∙ ap (layers.window_of n) (sym (layers_lit before.active before.font a rest))
+        ap (λ ws. layers.window_of n (map (layered_window (look_of before)) ws)) O.windows
+        ∙ found_put (look_of before) n i w rest was_distinct.0
+        ∙ ap (λ k. if k == n then Some (layered_window (look_of before) w) else layers.window_of n (map (layered_window (look_of before)) rest)) O.serial
+        ∙ (λ k. if away k then Some (layered_window (look_of before) w) else layers.window_of n (map (layered_window (look_of before)) rest))
+        ∙ ap (layers.window_of n) (sym (layers_lit before.active (look_of before) a rest))
 
     -- no pixel is its
     other_owner : (p : Point) → is_other s (owner (layered_desk left) p) ≡ true
@@ -123,11 +123,11 @@ disposed_stays_right s before after right closed =
     activation : Activation
     activation = activation_of FrontInItsPlace s before.desk.active (front_of out.rest)
 
-    free : IsFree before.desk.font s out.rest
+    free : IsFree (look_of before.desk) s out.rest
     free = free_of before.desk s out.place closed.window out.rest one activation after.desk.stock right.plain.desk
 
     rest_is : without s before.desk.windows ≡ out.rest
-    rest_is = ap (without s) out.is ∙ (is_put before.desk.font s out.place closed.window out.rest out.serial free).others
+    rest_is = ap (without s) out.is ∙ (is_put (look_of before.desk) s out.place closed.window out.rest out.serial free).others
 
     desk_is : after.desk ≡ left before.desk s out.place closed.window out.rest one activation after.desk.stock
     desk_is = closed.desk ∙ ap (λ ws. record (desk_arranged ws FrontInItsPlace s before.desk) { stock = after.desk.stock }) rest_is

@@ -19,7 +19,7 @@ use Rattle.window_mgr.specs.Finding.{record_with}
 use Rattle.window_mgr.specs.Kept.{IsKept}
 use Rattle.window_mgr.specs.Planned.{MayDraw}
 use Rattle.vis_update.specs.Records.{record_of}
-use Rattle.window_mgr.specs.Records.{desk_of, state_of}
+use Rattle.window_mgr.specs.Records.{desk_of, state_of, look_on}
 use Rattle.window_mgr.specs.Refused.{IsRefusal, is_formal, most_operations}
 use Rattle.window_mgr.proofs.FindLemmas.{record_at}
 
@@ -29,7 +29,7 @@ module _ {V : Type 0} {H : V → Type 0} (loan : Taken V H → Loan) (t : Window
   pub record_there : (at n : ℕ) (x : code.Window V H) → slice_get t.windows.records.items at ≡ Some x → x.serial ≡ n → record_with n (desk_of loan t []).windows ≡ Some (record_of loan x)
   record_there at n x there number =
       ap (λ k. record_with k (desk_of loan t []).windows) (sym number)
-      ∙ record_at t.font (desk_of loan t []).windows at (record_of loan x) kept.whole.sound.distinct (slice_get-map (record_of loan) t.windows.records.items at ∙ ap (option_map (record_of loan)) there)
+      ∙ record_at (look_on t) (desk_of loan t []).windows at (record_of loan x) kept.whole.sound.distinct (slice_get-map (record_of loan) t.windows.records.items at ∙ ap (option_map (record_of loan)) there)
 
   -- the window that was found at this place
   pub found_there : (at n : ℕ) → IsSomeAnd (slice_get t.windows.records.items at) (λ w. w.serial ≡ n) → (x : code.Window V H) × (slice_get t.windows.records.items at ≡ Some x) × (x.serial ≡ n)

@@ -1,5 +1,5 @@
 -- The step of an operation that is drawn.
-use Rattle.std.proofs.Common.{◌≡◌, inr, ℕ, ◌&&◌, Bool, true, if◌then◌else◌, List, [], ◌∷◌, ◌++◌, None, Some, Ok, Err, refl, sym, ap, ◌∙◌, subst}
+use Rattle.std.proofs.Common.{◌≡◌, inr, ℕ, ◌&&◌, Bool, true, if◌then◌else◌, List, [], ◌∷◌, ◌++◌, None, Some, Ok, Err, refl, sym, ap, ◌∙◌, subst, not}
 use Rattle.std.specs.Prelude.{slice_get, IsSomeAnd}
 use Rattle.tb_geom.specs.declared.point.Point.{Point}
 use Rattle.tb_geom.specs.declared.refusal.Refusal.TheVariants.{NoMemory}
@@ -21,7 +21,6 @@ use Rattle.desk_call.specs.declared.window.WindowCall.TheVariants.{Draw}
 use Rattle.desk_call.specs.declared.window.WindowReply.TheVariants.{Done}
 use Rattle.window_mgr.specs.declared.manager.WindowManager.{WindowManager}
 use Rattle.vis_update.specs.declared.area.Area.{Area}
-use Rattle.vis_update.proofs.Others.{content_is_picture}
 use Rattle.window_list.specs.declared.window.Window.{Window}
 use Rattle.vis_update.specs.Records.{record_of}
 use Rattle.vis_update.specs.Areas.{stale_in, IsArea, AreAreas, is_content_of}
@@ -37,8 +36,10 @@ use Rattle.window_mgr.proofs.KeptLemmas.{kept}
 use Rattle.window_mgr.proofs.Arranged.{between-is_below}
 use Rattle.window_mgr.proofs.Repicturing as anew
 use Rattle.window_mgr.proofs.Repicturing.{IsRepictured, no_layer}
-use Rattle.window_mgr.proofs.Pictured.{pictured}
 use Rattle.window_mgr.proofs.SameDeskLemmas.{stays_refused}
+use Rattle.window_mgr.proofs.Covered.{picture_is}
+use Rattle.window_paint.specs.Hidden.{is_hidden}
+use Rattle.std.proofs.lemmas.Option.{slice_get_within, get_or_from_slice_get}
 
 -- ---- the desk before and after
 
@@ -54,12 +55,12 @@ module _ {V : Type 0} {H : V → Type 0} (loan : Taken V H → Loan) (t new : Wi
 
   -- the area of the window, and what was drawn there
   abbrev IsShown : Area → Type 0
-  IsShown a = IsArea (layered_desk before) (stale_in t.areas.items) d.window a × Draws (holds a.visible) (λ p value. op_value t.font D.operation (minus (minus p D.window.place) D.window.origin) value) t.screen new.screen
+  IsShown a = IsArea (layered_desk before) (stale_in t.areas.items) d.window a × Draws (λ p. holds a.visible p && not (is_hidden D.window p)) (λ p value. op_value t.font D.operation (minus (minus p D.window.place) D.window.origin) value) t.screen new.screen
 
   shown : (a : Area) × IsShown a
   shown = by_get (slice_get t.areas.items at) refl D.pixels
     where
-      by_get : (o : _) → slice_get t.areas.items at ≡ o → IsSomeAnd o (λ area. Draws (holds area.visible) (λ p value. op_value t.font D.operation (minus (minus p D.window.place) D.window.origin) value) t.screen new.screen) → (a : Area) × IsShown a
+      by_get : (o : _) → slice_get t.areas.items at ≡ o → IsSomeAnd o (λ area. Draws (λ p. holds area.visible p && not (is_hidden D.window p)) (λ p value. op_value t.font D.operation (minus (minus p D.window.place) D.window.origin) value) t.screen new.screen) → (a : Area) × IsShown a
       by_get None e h = absurd h
       by_get (Some a) e h = (a, (anew.area_is loan t slots whole at d.window D.window D.there number a e, h))
 
@@ -69,6 +70,11 @@ module _ {V : Type 0} {H : V → Type 0} (loan : Taken V H → Loan) (t new : Wi
 
   -- ---- the pixels
 
+  -- what it shows and what no layer hides is its picture
+  its_picture : (p : Point) → (is_content_of d.window (owner (layered_desk before) p) && not (is_hidden D.window p)) ≡ same_owner (owner (layered_desk before) p) (Content d.window Picture)
+  its_picture p = subst (λ k. (is_content_of k (owner (layered_desk before) p) && not (is_hidden D.window p)) ≡ same_owner (owner (layered_desk before) p) (Content k Picture)) number
+      (picture_is loan t slots whole at (slice_get_within t.windows.records.items at D.window D.there) D.window (sym (get_or_from_slice_get t.windows.records.items at D.window D.window D.there)) p)
+
   abbrev value : Point → Bool → Bool
   value p old = op_value t.font D.operation (minus (minus p D.window.place) D.window.origin) old
 
@@ -76,7 +82,7 @@ module _ {V : Type 0} {H : V → Type 0} (loan : Taken V H → Loan) (t new : Wi
   bit_is p on =
       let its = owner (layered_desk before) p in
       shown.1.1.pixels p (sym (on_before p) ∙ on)
-      ∙ ap (λ b. if b then value p (bit t.screen p) else bit t.screen p) (shown.1.0.visible p ∙ ap (λ b. b && is_content_of d.window its) on ∙ content_is_picture d.window its (pictured before p))
+      ∙ ap (λ b. if b then value p (bit t.screen p) else bit t.screen p) (ap (λ b. b && not (is_hidden D.window p)) (shown.1.0.visible p ∙ ap (λ b. b && is_content_of d.window its) on) ∙ its_picture p)
 
   repictured : IsRepictured loan d.window (λ w. w.picture ++ D.operation ∷ []) (λ w. w.origin) at t new
   repictured = record {

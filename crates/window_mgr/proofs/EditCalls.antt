@@ -2,6 +2,7 @@
 use Rattle.std.proofs.Common.{◌≡◌, ℕ, ◌<◌, ◌==◌, ◌||◌, Bool, true, false, if◌then◌else◌, List, [], ◌∷◌, length, map, Option, None, Some, Ok, pos, refl, sym, ap, ◌∙◌, subst}
 use Rattle.std.specs.Prelude.{All}
 use Rattle.std.specs.List.{insert, remove}
+use Rattle.std.proofs.lemmas.Bool.{and_parts}
 use Rattle.std.proofs.lemmas.List.Elements.{All-head, All-tail}
 use Rattle.tb_geom.specs.declared.point.Point.{Point}
 use Rattle.tb_geom.specs.Rects.{rect_holds}
@@ -14,6 +15,7 @@ use Rattle.window_list.specs.Lists.{relit, lit as lit_window, dimmed}
 use Rattle.vis_update.specs.declared.plan.Plan.{Plan}
 use Rattle.vis_update.specs.declared.plan.Touch.{Touch}
 use Rattle.vis_update.specs.Records.{WindowRecord, news_of, record_of}
+use Rattle.vis_update.specs.Places.{is_placed}
 use Rattle.vis_update.specs.Seats.{stand_of}
 use Rattle.vis_update.specs.Touches.{is_this, moving}
 use Rattle.def_iface.specs.Change.{IsChanged}
@@ -30,8 +32,11 @@ use Rattle.window_mgr.specs.Commits.{IsPlanDrawn}
 use Rattle.window_mgr.specs.Edits.{put_record, put_window, records_put, relit_all, IsWindowAt, IsPlanOfEdit, IsDeskOfEdit, IsPlaceable, SameSize, IsActivation, AreSettledAfter, IsCommitted, IsRearranged}
 use Rattle.window_mgr.specs.Effects.{IsArrangement}
 use Rattle.window_mgr.specs.Records.{desk_of, state_of}
-use Rattle.window_mgr.specs.Whole.{IsWholeManager, IsSettled}
+use Rattle.window_paint.specs.White.{all_white}
+use Rattle.window_mgr.specs.Whole.{IsWholeManager, IsSettled, LieThere}
 use Rattle.window_mgr.proofs.PutIn.{put_in, put_is_insert, taken_out, All-out, All-put, map-put}
+use Rattle.window_mgr.proofs.LyingThere.{relit_lie, put_lie}
+use Rattle.window_mgr.proofs.KeptWindows.{layers_relit}
 use Rattle.window_mgr.proofs.DimLemmas.{dimmed_record}
 use Rattle.window_mgr.proofs.Rearranged.{IsEdit, edited, sound_now, distinct_now, others_found, stands_lit, settled_all, relit_record}
 use Rattle.window_mgr.proofs.EditSeats.{map-insert, same_at}
@@ -73,7 +78,7 @@ module _ {V : Type 0} {H : V → Type 0} (loan : Taken V H → Loan) where
     windows_were = ap (map (record_of loan)) (taken_out t.windows.records.items e.at w low w_is) ∙ map-put (record_of loan) e.at w (remove t.windows.records.items e.at)
 
     pub edit_is : IsEdit (desk_of loan t slots) w.serial e.at e.to (record_of loan w) (put_record e (record_of loan w)) rest
-    edit_is = record { windows = windows_were; serial = refl; same_serial = refl }
+    edit_is = record { windows = windows_were; serial = refl; same_serial = refl; same_layers = refl }
 
     abbrev pub after : FullDesk
     after = edited (desk_of loan t slots) w.serial e.at e.to (record_of loan w) (put_record e (record_of loan w)) rest edit_is a
@@ -90,7 +95,8 @@ module _ {V : Type 0} {H : V → Type 0} (loan : Taken V H → Loan) where
     put_settled : IsPlaceable loan e t.windows.records.items → e.size ≡ w.size → All IsSettled (desk_of loan t slots).windows → IsSettled (put_record e (record_of loan w))
     put_settled may size_is all =
         let was = All-head IsSettled (record_of loan w) rest (All-out IsSettled e.at (record_of loan w) rest (subst (All IsSettled) windows_were all)) in
-        let its = placed_parts (loan w.taken).definition e.place e.size (may w w_is) in
+        let fit = and_parts (is_placed (Some (loan w.taken).definition) e.place e.size) _ (may w w_is) in
+        let its = placed_parts (loan w.taken).definition e.place e.size fit.0 in
         record {
           origin = was.origin;
           placed = its.place_in;
@@ -98,6 +104,7 @@ module _ {V : Type 0} {H : V → Type 0} (loan : Taken V H → Loan) where
           told = was.told ∙ sym size_is;
           fits = its.fits;
           inside = its.moved;
+          layers = fit.1;
           within = subst (λ s. IsWithin ((loan w.taken).definition.content s) (rect_holds ((loan w.taken).definition.bounds s))) (sym size_is) was.within;
           goes_by = subst (λ s. GoesBy (record (news_of (record_of loan w)) { size = s }) (loan w.taken).definition) (sym size_is) was.goes_by;
         }
@@ -145,6 +152,7 @@ module _ {V : Type 0} {H : V → Type 0} (loan : Taken V H → Loan) where
       distinct = distinct_now (desk_of loan t slots) w.serial e.at e.to (record_of loan w) _ _ edit activation N.whole.sound.distinct;
       screen = refl;
       stands = stands_lit t.windows.active activation _ ∙ ap (map stand_of) (put_is_insert e.to (put_record e (record_of loan w)) (rest t slots e activation w w_is N.low));
+      layers = layers_relit activation t.windows.active _ ∙ ap (map (λ (v : WindowRecord). v.layers)) (put_is_insert e.to (put_record e (record_of loan w)) (rest t slots e activation w w_is N.low));
     }
 
     edit_arranged : IsArrangedCall loan touch t new slots slots left plan
@@ -160,6 +168,7 @@ module _ {V : Type 0} {H : V → Type 0} (loan : Taken V H → Loan) where
         height = pos (drawn.height i);
         bar = N.committed.bar i;
         font = N.committed.font i;
+        shows = all_white;
         windows = windows_are i;
         active = N.committed.active i;
         next = N.committed.next i;
@@ -168,6 +177,8 @@ module _ {V : Type 0} {H : V → Type 0} (loan : Taken V H → Loan) where
       areas = N.committed.areas;
       desktop = N.committed.desktop;
       gray = N.committed.gray;
+      lie = subst (All LieThere) (ap (relit_all activation t.windows.active) (put_is_insert e.to (put_window e w) (remove t.windows.records.items e.at)) ∙ sym N.committed.windows)
+          (relit_lie activation t.windows.active _ (put_lie t.windows.records.items e.at e.to w (put_window e w) N.low w_is N.whole.layers refl));
     }
       where
         first_is : (x y : Bool) → (x || y) ≡ false → x ≡ false

@@ -1,10 +1,13 @@
 -- The seats of windows of which one is put anew.
-use Rattle.std.proofs.Common.{◌≡◌, ℕ, zero, suc, ◌+◌, ◌<◌, ◌≤◌, if◌then◌else◌, List, [], ◌∷◌, length, get_or, map, Option, Some, refl, sym, ap, ◌∙◌, subst, arith}
-use Rattle.std.specs.Prelude.{All}
+use Rattle.std.proofs.Common.{◌≡◌, ℕ, zero, suc, ◌+◌, ◌<◌, ◌≤◌, ◌&&◌, if◌then◌else◌, List, [], ◌∷◌, length, get_or, map, Option, None, Some, refl, sym, ap, ◌∙◌, subst, arith}
+use Rattle.std.specs.Prelude.{All, slice_get}
 use Rattle.std.specs.List.{insert, remove}
+use Rattle.std.proofs.lemmas.Bool.{and_parts}
 use Rattle.std.proofs.lemmas.Option.{slice_get_read}
 use Rattle.std.proofs.lemmas.List.Elements.{All-head, All-tail}
 use Rattle.std.proofs.lemmas.List.Sorted.{length_permutation}
+use Rattle.tb_geom.specs.declared.point.Point.{Point}
+use Rattle.tb_geom.specs.Points.{minus}
 use Rattle.def_iface.specs.declared.taken.Taken.{Taken}
 use Rattle.def_iface.specs.Meaning.{Loan}
 use Rattle.def_iface.specs.Desk.{LayeredDesk}
@@ -19,14 +22,14 @@ use Rattle.vis_update.specs.Areas.{IsArea, IsGray}
 use Rattle.vis_update.specs.Seats.{stand_of, seat_stand, IsPlacedSeat, IsNearSeat, IsArranged}
 use Rattle.window_mgr.specs.declared.arrange.Edit.{Edit}
 use Rattle.window_mgr.specs.declared.manager.WindowManager.{WindowManager}
-use Rattle.window_mgr.specs.FullDesk.{FullDesk, layered_desk, layered_state}
-use Rattle.window_mgr.specs.Edits.{put_record, records_put, IsWindowAt, AreSeatsAfter, IsDeskOfEdit, IsPlaceable, SameSize}
+use Rattle.window_mgr.specs.FullDesk.{FullDesk, layered_desk, layered_state, look_of}
+use Rattle.window_mgr.specs.Edits.{put_record, records_put, IsWindowAt, AreSeatsAfter, IsDeskOfEdit, IsPlaceable, IsOnItsWay, SameSize}
 use Rattle.window_mgr.specs.Finding.{front_of}
 use Rattle.window_mgr.specs.Kept.{IsKept}
-use Rattle.window_mgr.specs.Records.{desk_of, state_of}
+use Rattle.window_mgr.specs.Records.{state_of}
+use Rattle.window_mgr.specs.Refused.{may_stand}
 use Rattle.window_mgr.specs.Seats.{first_seated}
 use Rattle.window_mgr.specs.Whole.{IsSettled}
-use Rattle.window_mgr.proofs.Pictured.{pictured}
 use Rattle.window_mgr.proofs.PaintLemmas.{settled_in}
 use Rattle.vis_update.proofs.PlaceLemmas.{placed_from}
 use Rattle.window_mgr.proofs.PutIn.{put_in, put_is_insert, taken_out, All-out, All-put, map-put, put_permutes}
@@ -69,15 +72,33 @@ edit_put f zero x xs low = refl
 edit_put f (suc i) x [] low = absurd (omega arith)
 edit_put f (suc i) x (y ∷ ys) low = ap (λ zs. y ∷ zs) (edit_put f i x ys (omega arith))
 
--- an element that was moved to another place, and changed there, was put anew
-pub moved_anew : {X : Type 0} (f : X → X) (xs : List X) (i j : ℕ) (x : X) → i < length xs → j < length xs → x ≡ get_or xs i x → edit f j (moved_item xs i j) ≡ insert (remove xs i) j (f x)
-moved_anew f xs i j x low to x_is =
-    let rest = length-put i x (remove xs i) in
-    let all = ap length (taken_out xs i x low x_is) in
-    ap (λ (o : Option _). edit f j (insert_option (remove xs i) j o)) (slice_get_read xs (length xs) i x refl low x_is)
-    ∙ ap (edit f j) (sym (put_is_insert j x (remove xs i)))
-    ∙ edit_put f j x (remove xs i) (omega arith)
-    ∙ put_is_insert j (f x) (remove xs i)
+-- an element is read where it was put in
+pub read_put : {X : Type 0} (i : ℕ) (x : X) (xs : List X) → i ≤ length xs → slice_get (put_in i x xs) i ≡ Some x
+read_put zero x xs low = refl
+read_put (suc i) x [] low = absurd (omega arith)
+read_put (suc i) x (y ∷ ys) low = read_put i x ys (omega arith)
+
+module _ {X : Type 0} (xs : List X) (i j : ℕ) (x : X) (low : i < length xs) (x_is : x ≡ get_or xs i x) where
+  -- an element that was moved to another place was put in there
+  moved_put : moved_item xs i j ≡ put_in j x (remove xs i)
+  moved_put = ap (λ (o : Option _). insert_option (remove xs i) j o) (slice_get_read xs (length xs) i x refl low x_is) ∙ sym (put_is_insert j x (remove xs i))
+
+  pub length-moved : length (moved_item xs i j) ≡ length xs
+  length-moved = ap length (moved_put ∙ put_is_insert j x (remove xs i)) ∙ length-anew xs i j x low
+
+  room : j < length xs → j ≤ length (remove xs i)
+  room to =
+      let rest = length-put i x (remove xs i) in
+      let all = ap length (taken_out xs i x low x_is) in
+      omega arith
+
+  -- it is read there
+  pub read_moved : j < length xs → slice_get (moved_item xs i j) j ≡ Some x
+  read_moved to = ap (λ ys. slice_get ys j) moved_put ∙ read_put j x (remove xs i) (room to)
+
+  -- and where it is changed, it was put anew
+  pub moved_anew : (f : X → X) → j < length xs → edit f j (moved_item xs i j) ≡ insert (remove xs i) j (f x)
+  moved_anew f to = ap (edit f j) moved_put ∙ edit_put f j x (remove xs i) (room to) ∙ put_is_insert j (f x) (remove xs i)
 
 -- seats that stand as windows do have the same first visible one
 pub first_stand : {V : Type 0} {H : V → Type 0} (loan : Taken V H → Loan) (ss : List (Seat V H)) (ws : List WindowRecord) → map (seat_stand loan) ss ≡ map stand_of ws → first_seated ss ≡ front_of ws
@@ -121,7 +142,7 @@ module _ {V : Type 0} {H : V → Type 0} (loan : Taken V H → Loan) (t : Window
       let w = there_is t.windows.records.items e.at low in
       let its = seat_at t.windows.records.items t.areas.items S.all e.at w.0 S.seat S.are low w.1 S.at in
       all_anew (IsPlacedSeat loan) (seats_placed loan t.windows.records.items t.areas.items S.all S.are kept.whole.sound.settled)
-      ((λ i. is_placed (Some (loan (its.1.taken i)).definition) e.place e.size) ∙ may w.0 w.1)
+      ((λ i. is_placed (Some (loan (its.1.taken i)).definition) e.place e.size) ∙ (and_parts (is_placed (Some (loan w.0.taken).definition) e.place e.size) _ (may w.0 w.1)).0)
 
   module _ (w : Window V H) (w_is : IsWindowAt t.windows.records.items e.at w) where
     seat_put : seat_stand loan (record S.seat { place = e.place; size = e.size; shown = e.shown }) ≡ stand_of (put_record e (record_of loan w))
@@ -143,14 +164,13 @@ module _ {V : Type 0} {H : V → Type 0} (loan : Taken V H → Loan) (t : Window
         ∙ (λ i. put_in e.to (seat_put i) ((map-remove (seat_stand loan) S.all e.at ∙ ap (λ xs. remove xs e.at) (seats_stand loan t.windows.records.items t.areas.items S.all S.are) ∙ sym (map-remove stand_of (map (record_of loan) t.windows.records.items) e.at) ∙ ap (map stand_of) (sym (map-remove (record_of loan) t.windows.records.items e.at))) i))
         ∙ sym (map-insert stand_of e.to (put_record e (record_of loan w)) (map (record_of loan) (remove t.windows.records.items e.at)))
 
-    pub arranged_edit : (after : FullDesk) → IsDeskOfEdit loan e t w after → IsArranged loan after.font before (layered_desk after) after.windows t.gray seats
+    pub arranged_edit : (after : FullDesk) → IsDeskOfEdit loan e t w after → IsArranged loan (look_of after) before (layered_desk after) after.windows t.gray seats
     arranged_edit after D = record {
       desk = refl;
       distinct = D.distinct;
       gray_is = subst (λ (d : LayeredDesk). IsGray d t.gray) (sym D.screen) kept.whole.gray;
       stands = seats_put ∙ sym D.stands;
       areas = had;
-      pictures = pictured (desk_of loan t []);
     }
 
     -- and the first visible one is the same
@@ -162,8 +182,8 @@ pub may_stay : {V : Type 0} {H : V → Type 0} (loan : Taken V H → Loan) (e : 
 may_stay loan e ws x low x_is place_is size_is settled w w_is =
     let same : x ≡ w = same_at ws e.at x w low x_is w_is in
     let its = settled_in loan ws e.at w low w_is settled in
-    (λ i. is_placed (Some (loan w.taken).definition) ((place_is ∙ ap (λ (z : Window _ _). z.place) same) i) ((size_is ∙ ap (λ (z : Window _ _). z.size) same) i))
-    ∙ placed_from (loan w.taken).definition w.place w.size its.placed its.fits its.inside
+    (λ i. may_stand ((place_is ∙ ap (λ (z : Window _ _). z.place) same) i) ((size_is ∙ ap (λ (z : Window _ _). z.size) same) i) (record_of loan w))
+    ∙ (λ i. placed_from (loan w.taken).definition w.place w.size its.placed its.fits its.inside i && its.layers i)
 
 pub may_stay_as : {V : Type 0} {H : V → Type 0} (loan : Taken V H → Loan) (e f : Edit) (ws : List (Window V H)) (x : Window V H) → e ≡ f → f.at < length ws → IsWindowAt ws f.at x → f.place ≡ x.place → f.size ≡ x.size → All IsSettled (map (record_of loan) ws) → IsPlaceable loan e ws
 may_stay_as loan e f ws x same low x_is place_is size_is settled = subst (λ (y : Edit). IsPlaceable loan y ws) (sym same) (may_stay loan f ws x low x_is place_is size_is settled)
@@ -171,3 +191,13 @@ may_stay_as loan e f ws x same low x_is place_is size_is settled = subst (λ (y 
 -- and has its size
 pub same_size : {V : Type 0} {H : V → Type 0} (e : Edit) (ws : List (Window V H)) (x : Window V H) → e.at < length ws → IsWindowAt ws e.at x → e.size ≡ x.size → SameSize e ws
 same_size e ws x low x_is size_is w w_is = size_is ∙ ap (λ (z : Window _ _). z.size) (same_at ws e.at x w low x_is w_is)
+
+-- ---- how far its pixels move
+
+-- a window that stays where it is moves no pixels
+pub stays_as : {V : Type 0} {H : V → Type 0} (e f : Edit) (ws : List (Window V H)) (x : Window V H) → e ≡ f → f.at < length ws → IsWindowAt ws f.at x → f.place ≡ x.place → IsOnItsWay e None ws
+stays_as e f ws x same low x_is place_is = subst (λ (y : Edit). IsOnItsWay y None ws) (sym same) (λ w w_is. place_is ∙ ap (λ (z : Window _ _). z.place) (same_at ws f.at x w low x_is w_is))
+
+-- one that is put elsewhere moves them as far
+pub goes_as_far : {V : Type 0} {H : V → Type 0} (e : Edit) (i : ℕ) (by : Point) (ws : List (Window V H)) (x : Window V H) → e.at ≡ i → i < length ws → IsWindowAt ws i x → by ≡ minus e.place x.place → IsOnItsWay e (Some by) ws
+goes_as_far e i by ws x at low x_is far w w_is = far ∙ ap (λ (z : Window _ _). minus e.place z.place) (same_at ws i x w low x_is (subst (λ n. IsWindowAt ws n w) at w_is))

@@ -25,10 +25,11 @@ use Rattle.window_mgr.specs.FullDesk.{FullDesk, layered_desk}
 use Rattle.desk_ground.specs.Screens.{gray}
 use Rattle.vis_update.specs.Records.{record_of}
 use Rattle.window_mgr.specs.Records.{desk_of}
+use Rattle.window_paint.specs.White.{all_white}
 use Rattle.vis_update.specs.Areas.{stale_in}
 use Rattle.window_mgr.specs.Begin.{IsEmptyDesk, empty_desk}
 use Rattle.desk_ground.specs.Grounds.{IsGround}
-use Rattle.window_mgr.specs.Whole.{IsWholeManager, IsSoundDesk}
+use Rattle.window_mgr.specs.Whole.{IsWholeManager, IsSoundDesk, LieThere}
 use Rattle.desk_ground.specs.Screens.{is_bar, is_screen, is_screen_side}
 use Rattle.vis_update.specs.Areas.{IsGray, IsDesktop, AreAreas}
 use Rattle.window_mgr.proofs.Arranged.{between-is_below}
@@ -70,6 +71,7 @@ module _ {V : Type 0} {H : V → Type 0} (loan : Taken V H → Loan) (width heig
     height = B.ground.high i;
     bar = B.rows i;
     font = B.texts i;
+    shows = all_white;
     windows = map (record_of loan) (B.windows i);
     active = B.active i;
     next = B.next i;
@@ -141,6 +143,7 @@ module _ {V : Type 0} {H : V → Type 0} (loan : Taken V H → Loan) (width heig
     areas = subst (λ (x : FullDesk × List Area). AreAreas (layered_desk x.0) (stale_in x.1) x.0.windows x.1) (λ i. (sym desk_is i, sym B.areas i)) tt;
     frames = subst (λ (d : FullDesk). (p : Point) → layers.on_screen (layered_desk d) p ≡ true → is_content (owner (layered_desk d) p) ≡ false → bit t.screen p ≡ own_bit (layered_desk d) (owner (layered_desk d) p) p) (sym desk_is)
         (λ p on content. plain_is p on);
+    layers = subst (All LieThere) (sym B.windows) (All-nil _);
   }
 
   pub is_empty_desk : IsEmptyDesk loan width height bar font t slots

@@ -18,18 +18,19 @@ use Rattle.def_iface.specs.declared.taken.Taken.{Taken}
 use Rattle.def_iface.specs.Meaning.{Loan}
 use Rattle.def_iface.specs.Desk as layers
 use Rattle.def_iface.specs.Desk.{LayeredDesk}
-use Rattle.def_iface.specs.declared.part.Part.TheVariants.{Picture}
 use Rattle.def_iface.specs.Owner.{Owner, owner, owner_among, same_owner}
 use Rattle.def_iface.specs.Owner.Owner.{Desktop, Bar, Frame, Content}
 use Rattle.def_iface.proofs.Owning.{same_number, same_owner-true, not_first}
 use Rattle.vis_update.specs.declared.area.Area.{Area}
+use Rattle.layer_list.specs.Holders.{part_at as layer_at}
+use Rattle.vis_update.proofs.LayerOwners.{first_owner, owner_first}
 use Rattle.window_mgr.specs.declared.manager.WindowManager.{WindowManager}
 use Rattle.window_list.specs.declared.window.Window.{Window}
 use Rattle.window_list.specs.Lists.{first_shown, has_serial}
-use Rattle.vis_update.specs.Records.{WindowRecord, layered_window}
+use Rattle.vis_update.specs.Records.{WindowRecord, Look, layered_window}
 use Rattle.window_mgr.specs.FullDesk.{layered_desk}
 use Rattle.vis_update.specs.Records.{record_of}
-use Rattle.window_mgr.specs.Records.{desk_of}
+use Rattle.window_mgr.specs.Records.{desk_of, look_on}
 use Rattle.vis_update.specs.Areas.{stale_in}
 use Rattle.window_mgr.specs.Kept.{IsKept}
 use Rattle.vis_update.specs.Areas.{area_has}
@@ -57,22 +58,22 @@ area_at desk stale [] (a ∷ areas) i d h within = absurd h
 area_at desk stale (w ∷ ws) [] i d h within = absurd h
 
 -- a number that no window has is not this window's
-pub not_among : (font : List ℕ) (s : ℕ) (ws : List WindowRecord) (i : ℕ) (v : WindowRecord) → layers.window_of s (map (layered_window font) ws) ≡ None → slice_get ws i ≡ Some v → (s == v.serial) ≡ false
-not_among font s [] i v none e = absurd (cc)
-not_among font s (w ∷ ws) zero v none e =
+pub not_among : (look : Look) (s : ℕ) (ws : List WindowRecord) (i : ℕ) (v : WindowRecord) → layers.window_of s (map (layered_window look) ws) ≡ None → slice_get ws i ≡ Some v → (s == v.serial) ≡ false
+not_among look s [] i v none e = absurd (cc)
+not_among look s (w ∷ ws) zero v none e =
     let same : w ≡ v = cc in
     let away : (w.serial == s) ≡ false = (not_first (w.serial == s) _ _ none).0 in
     let other : (v.serial == s) ≡ false = sym (ap (λ (x : WindowRecord). x.serial == s) same) ∙ away in
     grind (arith, nat_tests)
-not_among font s (w ∷ ws) (suc i) v none e = not_among font s ws i v (not_first (w.serial == s) _ _ none).1 e
+not_among look s (w ∷ ws) (suc i) v none e = not_among look s ws i v (not_first (w.serial == s) _ _ none).1 e
 
 -- the window at a place is the one of its number
-pub record_at : (font : List ℕ) (ws : List WindowRecord) (i : ℕ) (v : WindowRecord) → layers.AreWindows (map (layered_window font) ws) → slice_get ws i ≡ Some v → record_with v.serial ws ≡ Some v
-record_at font [] i v distinct e = absurd (cc)
-record_at font (w ∷ ws) zero v distinct e =
+pub record_at : (look : Look) (ws : List WindowRecord) (i : ℕ) (v : WindowRecord) → layers.AreWindows (map (layered_window look) ws) → slice_get ws i ≡ Some v → record_with v.serial ws ≡ Some v
+record_at look [] i v distinct e = absurd (cc)
+record_at look (w ∷ ws) zero v distinct e =
     let same : w ≡ v = cc in
     rw (ap (λ (x : WindowRecord). x.serial == v.serial) same ∙ same_number v.serial) (ap Some same)
-record_at font (w ∷ ws) (suc i) v distinct e = rw (not_among font w.serial ws i v distinct.0 e) (record_at font ws i v distinct.1.1 e)
+record_at look (w ∷ ws) (suc i) v distinct e = rw (not_among look w.serial ws i v distinct.0 e) (record_at look ws i v distinct.1.1 e)
 
 -- ---- whose the pixel is
 
@@ -97,20 +98,20 @@ abbrev NoneHas : List WindowRecord → Owner → Type 0
 NoneHas [] o = Unit {0}
 NoneHas (w ∷ ws) o = ((is_content_of w.serial o ≡ false) × (same_owner o (Frame w.serial) ≡ false)) × NoneHas ws o
 
-nowhere : (font : List ℕ) (ws : List WindowRecord) (p : Point) → NoneHas ws (owner_among (map (layered_window font) ws) p) → owner_among (map (layered_window font) ws) p ≡ Desktop
-nowhere font [] p none = refl
-nowhere font (w ∷ ws) p none = by_structure (nowhere font ws p) (layers.in_structure (layered_window font w) p) refl
+nowhere : (look : Look) (ws : List WindowRecord) (p : Point) → NoneHas ws (owner_among (map (layered_window look) ws) p) → owner_among (map (layered_window look) ws) p ≡ Desktop
+nowhere look [] p none = refl
+nowhere look (w ∷ ws) p none = by_structure (nowhere look ws p) (layers.in_structure (layered_window look w) p) refl
   where
-    within : (c : Bool) → ((is_content_of w.serial (if c then Content w.serial Picture else Frame w.serial) ≡ false) × (same_owner (if c then Content w.serial Picture else Frame w.serial) (Frame w.serial) ≡ false)) → ⊥
+    within : (c : Bool) → ((is_content_of w.serial (if c then Content w.serial (layer_at w.layers (minus p w.place)) else Frame w.serial) ≡ false) × (same_owner (if c then Content w.serial (layer_at w.layers (minus p w.place)) else Frame w.serial) (Frame w.serial) ≡ false)) → ⊥
     within true h = false≢true (sym h.0 ∙ same_number w.serial)
     within false h = false≢true (sym h.1 ∙ same_number w.serial)
 
-    by_structure : (NoneHas ws (owner_among (map (layered_window font) ws) p) → owner_among (map (layered_window font) ws) p ≡ Desktop) → (b : Bool) → layers.in_structure (layered_window font w) p ≡ b → owner_among (map (layered_window font) (w ∷ ws)) p ≡ Desktop
+    by_structure : (NoneHas ws (owner_among (map (layered_window look) ws) p) → owner_among (map (layered_window look) ws) p ≡ Desktop) → (b : Bool) → layers.in_structure (layered_window look w) p ≡ b → owner_among (map (layered_window look) (w ∷ ws)) p ≡ Desktop
     by_structure rest true e =
-        let its : owner_among (map (layered_window font) (w ∷ ws)) p ≡ (if w.definition.content w.size (minus p w.place) then Content w.serial Picture else Frame w.serial) = rw e refl in
+        let its : owner_among (map (layered_window look) (w ∷ ws)) p ≡ (if w.definition.content w.size (minus p w.place) then Content w.serial (layer_at w.layers (minus p w.place)) else Frame w.serial) = owner_first look w ws p ∙ ap (λ b. first_owner w p b (owner_among (map (layered_window look) ws) p)) e in
         absurd (within (w.definition.content w.size (minus p w.place)) (subst (λ o. (is_content_of w.serial o ≡ false) × (same_owner o (Frame w.serial) ≡ false)) its none.0))
     by_structure rest false e =
-        let behind : owner_among (map (layered_window font) (w ∷ ws)) p ≡ owner_among (map (layered_window font) ws) p = rw e refl in
+        let behind : owner_among (map (layered_window look) (w ∷ ws)) p ≡ owner_among (map (layered_window look) ws) p = owner_first look w ws p ∙ ap (λ b. first_owner w p b (owner_among (map (layered_window look) ws) p)) e in
         behind ∙ rest (subst (λ o. NoneHas ws o) behind none.1)
 
 -- where no area has a pixel of the screen, no window has it
@@ -174,15 +175,15 @@ module _ {V : Type 0} {H : V → Type 0} (loan : Taken V H → Loan) (t : Window
           let found = area_at desk (stale_in t.areas.items) windows (a ∷ areas) i a its first.0 in
           let same : found.0 ≡ record_of loan x = let both : Some found.0 ≡ Some (record_of loan x) = sym found.1 ∙ there in cc in
           let owned : found_by windows (owner desk p) p ≡ found_window found.0.serial windows p = found_there desk (stale_in t.areas.items) windows found.0 _ p found.2 first.1 in
-          let its_record : record_with x.serial windows ≡ Some (record_of loan x) = record_at t.font windows i (record_of loan x) A.whole.sound.distinct there in
+          let its_record : record_with x.serial windows ≡ Some (record_of loan x) = record_at (look_on t) windows i (record_of loan x) A.whole.sound.distinct there in
           rw on (owned ∙ ap (λ (v : WindowRecord). found_window v.serial windows p) same ∙ ap (λ r. record { part = part_at r p; window = Some x.serial }) its_record)
 
   -- where no area has it, it is the desktop's
   pub found_desk_is : layers.on_screen desk p ≡ true → layers.in_bar desk p ≡ false → position (area_has p) t.areas.items ≡ None → found_at (desk_of loan t []) p ≡ found_none part.InDesk
   found_desk_is on low e =
       let none = none_has desk (stale_in t.areas.items) windows t.areas.items p on A.whole.areas (λ i d within. position-None (area_has p) t.areas.items e i d within) in
-      let among : owner desk p ≡ owner_among (map (layered_window t.font) windows) p = rw low refl in
-      let its : owner desk p ≡ Desktop = among ∙ nowhere t.font windows p (subst (λ o. NoneHas windows o) among none) in
+      let among : owner desk p ≡ owner_among (map (layered_window (look_on t)) windows) p = rw low refl in
+      let its : owner desk p ≡ Desktop = among ∙ nowhere (look_on t) windows p (subst (λ o. NoneHas windows o) among none) in
       rw on (ap (λ o. found_by windows o p) its)
 
 -- the first visible window, of the list and of its records

@@ -8,8 +8,7 @@ use Rattle.def_iface.specs.Meaning.{Hears}
 use Rattle.def_iface.specs.declared.window_def.WindowChange.{WindowChange}
 use Rattle.def_iface.specs.declared.part.Part.{Part}
 use Rattle.def_iface.specs.Desk as layers
-use Rattle.def_iface.specs.declared.part.Part.TheVariants as part
-use Rattle.def_iface.specs.Owner.{content_bit}
+use Rattle.def_iface.specs.Owner.{layer_bit, content_bit}
 use Rattle.def_iface.specs.Change as plain
 use Rattle.def_iface.proofs.Changing.{stays_right}
 use Rattle.vis_update.specs.Records.{WindowRecord, layered_window}
@@ -17,8 +16,9 @@ use Rattle.window_mgr.specs.declared.arrange.Activation.TheVariants.{Stays}
 use Rattle.window_mgr.specs.Arrange.{changed}
 use Rattle.window_mgr.specs.FrameNotices.{IsFrameNotified, notified_record}
 use Rattle.window_mgr.specs.Finding.{record_with}
-use Rattle.window_mgr.specs.FullDesk.{FullDesk, FullState, IsRightState, AreSerials, layered_desk, layered_state}
+use Rattle.window_mgr.specs.FullDesk.{FullDesk, FullState, IsRightState, AreSerials, layered_desk, layered_state, look_of}
 use Rattle.window_mgr.proofs.FrameSteps.{told_keeps}
+use Rattle.window_mgr.proofs.LayerParts.{shown_alike}
 use Rattle.window_mgr.proofs.PutIn.{IsFree, is_put, IsTakenOut, out_of, distinct_out}
 use Rattle.window_mgr.proofs.Rearranged.{IsEdit, edited, edit_is_sound, numbered_now}
 
@@ -30,6 +30,7 @@ pub record KeepsLayers (kept : WindowRecord → WindowRecord) : Type 0 where
   pub shown : (w : WindowRecord) → (kept w).shown ≡ w.shown
   pub picture : (w : WindowRecord) → (kept w).picture ≡ w.picture
   pub origin : (w : WindowRecord) → (kept w).origin ≡ w.origin
+  pub layers : (w : WindowRecord) → (kept w).layers ≡ w.layers
 
 pub told_keeps_layers : (change : WindowChange) → KeepsLayers (notified_record change)
 told_keeps_layers change = record {
@@ -39,6 +40,7 @@ told_keeps_layers change = record {
   shown = λ w. ap (λ (v : WindowRecord). v.shown) (told_keeps change w);
   picture = λ w. ap (λ (v : WindowRecord). v.picture) (told_keeps change w);
   origin = λ w. ap (λ (v : WindowRecord). v.origin) (told_keeps change w);
+  layers = λ w. ap (λ (v : WindowRecord). v.layers) (told_keeps change w);
 }
 
 -- ---- a right state stays right
@@ -53,24 +55,25 @@ module _ (s : ℕ) (news : WindowRecord → News → News) (kept : WindowRecord 
   out : IsTakenOut s before.desk.windows w
   out = out_of s before.desk.windows w done.found
 
-  free : IsFree before.desk.font s out.rest
-  free = subst (λ n. IsFree before.desk.font n out.rest) out.serial (distinct_out before.desk.font out.place w out.rest (subst (λ ws. layers.AreWindows (map (layered_window before.desk.font) ws)) out.is right.plain.desk)).0
+  free : IsFree (look_of before.desk) s out.rest
+  free = subst (λ n. IsFree (look_of before.desk) n out.rest) out.serial (distinct_out (look_of before.desk) out.place w out.rest (subst (λ ws. layers.AreWindows (map (layered_window (look_of before.desk)) ws)) out.is right.plain.desk)).0
 
   edit : IsEdit before.desk w.serial out.place out.place w v out.rest
-  edit = record { windows = out.is; serial = refl; same_serial = keeps.serial w }
+  edit = record { windows = out.is; serial = refl; same_serial = keeps.serial w; same_layers = keeps.layers w }
 
   desk_is : after.desk ≡ edited before.desk w.serial out.place out.place w v out.rest edit Stays
   desk_is =
       done.desk
       ∙ ap (λ ws. record before.desk { windows = ws })
       (ap (changed s (λ x. record (kept x) { definition = done.definition })) out.is
-      ∙ (is_put before.desk.font s out.place w out.rest out.serial free).changed_is (λ x. record (kept x) { definition = done.definition }))
+      ∙ (is_put (look_of before.desk) s out.place w out.rest out.serial free).changed_is (λ x. record (kept x) { definition = done.definition }))
 
   -- its content shows what it showed
-  same_content : (part : Part) (p : Point) → content_bit (Some (layered_window before.desk.font w)) part p ≡ content_bit (Some (layered_window before.desk.font v)) part p
-  same_content part.Picture p = λ k. picture_bit before.desk.font (sym (keeps.picture w) k) (minus (minus p (sym (keeps.place w) k)) (sym (keeps.origin w) k))
-  same_content (part.Control n) p = refl
-  same_content (part.List n) p = refl
+  same_content : (part : Part) (p : Point) → content_bit (Some (layered_window (look_of before.desk) w)) part p ≡ content_bit (Some (layered_window (look_of before.desk) v)) part p
+  same_content part p =
+      ap (λ place. layer_bit (layers.layer_of part (layered_window (look_of before.desk) w).layers) (minus p place)) (sym (keeps.place w))
+      ∙ shown_alike (look_of before.desk) w v part (minus p v.place) (minus p v.place) (keeps.layers w) (λ other. refl)
+      (λ e k. picture_bit before.desk.font (sym (keeps.picture w) k) (minus (minus p v.place) (sym (keeps.origin w) k)))
 
   told_right : IsRightState after
   told_right = record {

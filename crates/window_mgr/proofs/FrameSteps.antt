@@ -1,5 +1,5 @@
 -- A desk of which one window's definition was told something that leaves where the window stands.
-use Rattle.std.proofs.Common.{◌≡◌, ℕ, zero, suc, ◌==◌, true, false, if◌then◌else◌, List, [], ◌∷◌, map, Some, refl, sym, ap, ◌∙◌}
+use Rattle.std.proofs.Common.{◌≡◌, ℕ, zero, suc, ◌==◌, true, false, if◌then◌else◌, List, [], ◌∷◌, ◌++◌, map, Some, refl, sym, ap, ◌∙◌}
 use Rattle.tb_geom.specs.declared.point.Point.{Point}
 use Rattle.tb_geom.specs.Points.{minus}
 use Rattle.draw_port.specs.Ops.{picture_bit}
@@ -14,10 +14,10 @@ use Rattle.def_iface.specs.Owner.Owner.{Bar, Frame}
 use Rattle.def_iface.proofs.Hearing.{goes_by_news}
 use Rattle.def_iface.proofs.Owning.{same_number}
 use Rattle.window_list.specs.Changes.{keeps_size}
-use Rattle.vis_update.specs.Records.{WindowRecord, layered_window, news_of}
+use Rattle.vis_update.specs.Records.{WindowRecord, Look, content_layer, layered_window, news_of}
 use Rattle.window_mgr.specs.declared.arrange.Activation.TheVariants.{Stays}
 use Rattle.window_mgr.specs.FrameNotices.{notified_record}
-use Rattle.window_mgr.specs.FullDesk.{FullDesk, layered_desk}
+use Rattle.window_mgr.specs.FullDesk.{FullDesk, layered_desk, look_of}
 use Rattle.window_mgr.proofs.Committing.{turned}
 use Rattle.window_mgr.proofs.PutIn.{put_in, found_put}
 use Rattle.window_mgr.proofs.Rearranged.{IsEdit, free, free_now, others_found}
@@ -58,22 +58,22 @@ told_goes_by (Tracked b) w d keeps goes heard = goes_by_news (told_change (Track
 
 -- ---- whose the pixels are
 
-module _ (font : List ℕ) (w : WindowRecord) (said : WindowRecord) (d : Definition) (regions : SameRegions w.definition d) where
+module _ (look : Look) (w : WindowRecord) (said : WindowRecord) (d : Definition) (regions : SameRegions w.definition d) where
   -- as layers the window has another frame alone
-  same_layers : layered_window font (noted said d w) ≡ record (layered_window font w) { frame = d.picture no_news font }
+  same_layers : layered_window look (noted said d w) ≡ record (layered_window look w) { frame = d.picture no_news look.font }
   same_layers = λ k. record {
     serial = w.serial;
     place = w.place;
     shown = w.shown;
     structure = regions.structure k w.size;
-    frame = d.picture no_news font;
-    layers = record { part = Picture; extent = regions.content k w.size; picture = λ p. picture_bit font w.picture (minus p w.origin) } ∷ [];
+    frame = d.picture no_news look.font;
+    layers = map (content_layer look (regions.content k w.size)) w.layers ++ record { part = Picture; extent = regions.content k w.size; picture = λ p. picture_bit look.font w.picture (minus p w.origin) } ∷ [];
   }
 
-  among_same : (i : ℕ) (rest : List WindowRecord) (p : Point) → owner_among (map (layered_window font) (put_in i (noted said d w) rest)) p ≡ owner_among (map (layered_window font) (put_in i w rest)) p
-  among_same zero rest p = ap (λ l. owner_among (l ∷ map (layered_window font) rest) p) same_layers
+  among_same : (i : ℕ) (rest : List WindowRecord) (p : Point) → owner_among (map (layered_window look) (put_in i (noted said d w) rest)) p ≡ owner_among (map (layered_window look) (put_in i w rest)) p
+  among_same zero rest p = ap (λ l. owner_among (l ∷ map (layered_window look) rest) p) same_layers
   among_same (suc i) [] p = ap (λ l. owner_among (l ∷ []) p) same_layers
-  among_same (suc i) (y ∷ ys) p = ap (λ o. if layers.in_structure (layered_window font y) p then owner_within (layered_window font y) (layered_window font y).layers p else o) (among_same i ys p)
+  among_same (suc i) (y ∷ ys) p = ap (λ o. if layers.in_structure (layered_window look y) p then owner_within (layered_window look y) (layered_window look y).layers p else o) (among_same i ys p)
 
 -- ---- the desk
 
@@ -82,7 +82,7 @@ module _ (before : FullDesk) (distinct : layers.IsDesk (layered_desk before)) (i
   v = noted said d w
 
   pub noted_edit : IsEdit before w.serial i i w v rest
-  noted_edit = record { windows = windows; serial = refl; same_serial = refl }
+  noted_edit = record { windows = windows; serial = refl; same_serial = refl; same_layers = refl }
 
   -- the desk with that window
   abbrev pub desk_noted : FullDesk
@@ -92,17 +92,17 @@ module _ (before : FullDesk) (distinct : layers.IsDesk (layered_desk before)) (i
   pub owner_same : (p : Point) → owner (layered_desk desk_noted) p ≡ owner (layered_desk before) p
   owner_same p =
       ap (λ o. if layers.in_bar (layered_desk before) p then Bar else o)
-      (among_same before.font w said d regions i rest p ∙ ap (λ ws. owner_among (map (layered_window before.font) ws) p) (sym windows))
+      (among_same (look_of before) w said d regions i rest p ∙ ap (λ ws. owner_among (map (layered_window (look_of before)) ws) p) (sym windows))
 
   -- what the window's frame shows, and what it showed
   pub frame_now : (p : Point) → own_bit (layered_desk desk_noted) (Frame w.serial) p ≡ d.picture no_news before.font (minus p w.place)
   frame_now p =
-      ap (λ o. frame_bit o p) (found_put before.font w.serial i v rest (free_now before w.serial i i w v rest noted_edit Stays distinct) ∙ ap (λ b. if b then Some (layered_window before.font v) else layers.window_of w.serial (map (layered_window before.font) rest)) (same_number w.serial))
+      ap (λ o. frame_bit o p) (found_put (look_of before) w.serial i v rest (free_now before w.serial i i w v rest noted_edit Stays distinct) ∙ ap (λ b. if b then Some (layered_window (look_of before) v) else layers.window_of w.serial (map (layered_window (look_of before)) rest)) (same_number w.serial))
 
   pub frame_was : (p : Point) → own_bit (layered_desk before) (Frame w.serial) p ≡ w.definition.picture no_news before.font (minus p w.place)
   frame_was p =
       ap (λ o. frame_bit o p)
-      (ap (λ ws. layers.window_of w.serial (map (layered_window before.font) ws)) windows ∙ found_put before.font w.serial i w rest (free before w.serial i i w v rest noted_edit Stays distinct) ∙ ap (λ b. if b then Some (layered_window before.font w) else layers.window_of w.serial (map (layered_window before.font) rest)) (same_number w.serial))
+      (ap (λ ws. layers.window_of w.serial (map (layered_window (look_of before)) ws)) windows ∙ found_put (look_of before) w.serial i w rest (free before w.serial i i w v rest noted_edit Stays distinct) ∙ ap (λ b. if b then Some (layered_window (look_of before) w) else layers.window_of w.serial (map (layered_window (look_of before)) rest)) (same_number w.serial))
 
   -- another window's frame shows what it showed
   pub others_same : (n : ℕ) (p : Point) → (n == w.serial) ≡ false → own_bit (layered_desk before) (Frame n) p ≡ own_bit (layered_desk desk_noted) (Frame n) p

@@ -1,6 +1,6 @@
 -- A window manager that told a window's definition something, and drew the window's frame.
 use Rattle.std.proofs.Common.{◌≡◌, ℕ, zero, suc, ◌==◌, ◌<◌, ◌&&◌, not, Bool, true, false, if◌then◌else◌, List, [], ◌∷◌, length, get_or, map, Some, pos, refl, sym, ap, ◌∙◌, subst, arith}
-use Rattle.std.specs.Prelude.{slice_get}
+use Rattle.std.specs.Prelude.{slice_get, All}
 use Rattle.std.specs.List.{remove}
 use Rattle.std.proofs.lemmas.Bool.{and_parts, eqb-true, false≢true}
 use Rattle.std.proofs.lemmas.List.{get_or-set_same, length-set}
@@ -21,7 +21,6 @@ use Rattle.def_iface.specs.Sizes.{is_size}
 use Rattle.def_iface.specs.Stocked.{SlotView}
 use Rattle.def_iface.specs.Desk as layers
 use Rattle.def_iface.specs.Desk.{LayeredDesk}
-use Rattle.def_iface.specs.declared.part.Part.TheVariants.{Picture}
 use Rattle.def_iface.specs.Owner.{Owner, owner, owner_among, owner_within, own_bit, same_owner, is_content}
 use Rattle.def_iface.specs.Owner.Owner.{Desktop, Bar, Frame, Content}
 use Rattle.def_iface.specs.Scratch.{scratch}
@@ -30,28 +29,32 @@ use Rattle.def_iface.proofs.Owning.{same_number, same_owner-self, is_other, owne
 use Rattle.def_iface.proofs.Painting.{scratch_is_owners}
 use Rattle.vis_update.specs.declared.area.Area.{Area}
 use Rattle.vis_update.specs.Areas.{IsArea, AreAreas, IsGray, IsDesktop, is_content_of, stale_in}
-use Rattle.vis_update.specs.Records.{WindowRecord, layered_window, record_of}
+use Rattle.vis_update.specs.Records.{WindowRecord, Look, layered_window, record_of}
 use Rattle.window_list.specs.declared.window.Window.{Window}
 use Rattle.window_list.specs.declared.list.WindowList.{WindowList}
 use Rattle.window_list.specs.Changes.{keeps_size, with_change, IsNotifiedAt}
+use Rattle.layer_list.specs.Holders.{part_at}
+use Rattle.vis_update.proofs.LayerOwners.{owner_first}
 use Rattle.window_mgr.specs.declared.arrange.Activation.TheVariants.{Stays}
 use Rattle.window_mgr.specs.declared.manager.WindowManager.{WindowManager}
 use Rattle.window_mgr.specs.Arrange.{changed}
 use Rattle.window_mgr.specs.Edits.{IsWindowAt}
 use Rattle.window_mgr.specs.FrameNotices.{IsFrameNotified, notified_record}
 use Rattle.window_mgr.specs.FullDesk.{FullDesk, layered_desk, layered_state}
-use Rattle.window_mgr.specs.Records.{desk_of, state_of}
-use Rattle.window_mgr.specs.Whole.{IsWholeManager, IsSoundDesk, IsSettled}
+use Rattle.window_mgr.specs.Records.{desk_of, state_of, look_on}
+use Rattle.window_paint.specs.White.{all_white}
+use Rattle.window_mgr.specs.Whole.{IsWholeManager, IsSoundDesk, IsSettled, LieThere}
 use Rattle.window_mgr.proofs.Arranged.{between-is_below}
 use Rattle.window_mgr.proofs.FindLemmas.{not_among, record_at}
 use Rattle.window_mgr.proofs.FrameSteps.{noted, told_keeps, told_goes_by, noted_edit, desk_noted, owner_same, frame_now, frame_was, others_same}
 use Rattle.window_mgr.proofs.PaintLemmas.{settled_in}
-use Rattle.window_mgr.proofs.PutIn.{put_in, taken_out, map-put, is_put}
+use Rattle.window_mgr.proofs.PutIn.{put_in, taken_out, map-put, is_put, All-anew}
 use Rattle.window_mgr.proofs.Rearranged.{free, sound_now}
 use Rattle.window_mgr.proofs.Remarked as remarked
 use Rattle.window_mgr.proofs.Remarked.{unless}
 use Rattle.window_mgr.proofs.Repicturing.{not_stale}
 use Rattle.window_mgr.proofs.PlacementCalls.{set_is_put}
+use Rattle.window_mgr.proofs.LayerParts.{lies_in}
 
 -- ---- whose the frame's pixels are
 
@@ -60,13 +63,13 @@ no_bar s true o e = absurd (cc)
 no_bar s false o e = e
 
 -- none of them lies outside the window's structure
-frame_in : (font : List ℕ) (ws : List WindowRecord) (i : ℕ) (w : WindowRecord) (p : Point) → layers.AreWindows (map (layered_window font) ws) → slice_get ws i ≡ Some w
-    → same_owner (owner_among (map (layered_window font) ws) p) (Frame w.serial) ≡ true → w.definition.structure w.size (minus p w.place) ≡ true
-frame_in font [] i w p distinct e its = absurd (cc)
-frame_in font (y ∷ ys) zero w p distinct e its =
+frame_in : (look : Look) (ws : List WindowRecord) (i : ℕ) (w : WindowRecord) (p : Point) → layers.AreWindows (map (layered_window look) ws) → slice_get ws i ≡ Some w
+    → same_owner (owner_among (map (layered_window look) ws) p) (Frame w.serial) ≡ true → w.definition.structure w.size (minus p w.place) ≡ true
+frame_in look [] i w p distinct e its = absurd (cc)
+frame_in look (y ∷ ys) zero w p distinct e its =
     let first : y ≡ w = cc in
     ap (λ (z : WindowRecord). z.definition.structure z.size (minus p z.place)) (sym first)
-    ∙ by_structure (layers.in_structure (layered_window font y) p) refl (ap (λ (z : WindowRecord). same_owner (owner_among (map (layered_window font) (y ∷ ys)) p) (Frame z.serial)) first ∙ its)
+    ∙ by_structure (layers.in_structure (layered_window look y) p) refl (ap (λ (z : WindowRecord). same_owner (owner_among (map (layered_window look) (y ∷ ys)) p) (Frame z.serial)) first ∙ its)
   where
     apart : (o : Owner) → is_other y.serial o ≡ true → same_owner o (Frame y.serial) ≡ true → ⊥
     apart Desktop other same = absurd (cc)
@@ -74,18 +77,18 @@ frame_in font (y ∷ ys) zero w p distinct e its =
     apart (Frame n) other same = false≢true (sym (ap not (ap (λ k. y.serial == k) (eqb-true n y.serial same) ∙ same_number y.serial)) ∙ other)
     apart (Content n part) other same = absurd (cc)
 
-    by_structure : (b : Bool) → layers.in_structure (layered_window font y) p ≡ b → same_owner (owner_among (map (layered_window font) (y ∷ ys)) p) (Frame y.serial) ≡ true → y.definition.structure y.size (minus p y.place) ≡ true
+    by_structure : (b : Bool) → layers.in_structure (layered_window look y) p ≡ b → same_owner (owner_among (map (layered_window look) (y ∷ ys)) p) (Frame y.serial) ≡ true → y.definition.structure y.size (minus p y.place) ≡ true
     by_structure true f same = (and_parts y.shown _ f).1
     by_structure false f same =
-        absurd (apart (owner_among (map (layered_window font) ys) p) (owner_is_other (map (layered_window font) ys) p y.serial distinct.0)
-        (ap (λ b. same_owner (if b then owner_within (layered_window font y) (layered_window font y).layers p else owner_among (map (layered_window font) ys) p) (Frame y.serial)) (sym f) ∙ same))
-frame_in font (y ∷ ys) (suc i) w p distinct e its =
-    frame_in font ys i w p distinct.1.1 e (by_tests (layers.in_structure (layered_window font y) p) (y.definition.content y.size (minus p y.place)) its)
+        absurd (apart (owner_among (map (layered_window look) ys) p) (owner_is_other (map (layered_window look) ys) p y.serial distinct.0)
+        (ap (λ b. same_owner (if b then owner_within (layered_window look y) (layered_window look y).layers p else owner_among (map (layered_window look) ys) p) (Frame y.serial)) (sym f) ∙ same))
+frame_in look (y ∷ ys) (suc i) w p distinct e its =
+    frame_in look ys i w p distinct.1.1 e (by_tests (layers.in_structure (layered_window look y) p) (y.definition.content y.size (minus p y.place)) (sym (ap (λ o. same_owner o (Frame w.serial)) (owner_first look y ys p)) ∙ its))
   where
     away : (y.serial == w.serial) ≡ false
-    away = not_among font y.serial ys i w distinct.0 e
+    away = not_among look y.serial ys i w distinct.0 e
 
-    by_tests : (a b : Bool) → same_owner (if a then (if b then Content y.serial Picture else Frame y.serial) else owner_among (map (layered_window font) ys) p) (Frame w.serial) ≡ true → same_owner (owner_among (map (layered_window font) ys) p) (Frame w.serial) ≡ true
+    by_tests : (a b : Bool) → same_owner (if a then (if b then Content y.serial (part_at y.layers (minus p y.place)) else Frame y.serial) else owner_among (map (layered_window look) ys) p) (Frame w.serial) ≡ true → same_owner (owner_among (map (layered_window look) ys) p) (Frame w.serial) ≡ true
     by_tests true true same = absurd (cc)
     by_tests true false same = absurd (false≢true (sym away ∙ same))
     by_tests false b same = same
@@ -93,6 +96,15 @@ frame_in font (y ∷ ys) (suc i) w p distinct e its =
 -- ---- the window's record, in the list
 
 module _ {V : Type 0} {H : V → Type 0} (loan : Taken V H → Loan) where
+  -- its layers lie where they did
+  told_lies : (change : WindowChange) (x : Window V H) (taken : Taken V H) → LieThere x → LieThere (record (with_change change x) { taken = taken })
+  told_lies (Resized s) x taken its = its
+  told_lies (Titled t) x taken its = its
+  told_lies (Highlighted b) x taken its = its
+  told_lies (Closable b) x taken its = its
+  told_lies (Zoomed b) x taken its = its
+  told_lies (Tracked b) x taken its = its
+
   -- the record is what it is to be
   record_told : (change : WindowChange) (x : Window V H) (taken : Taken V H) → (loan taken).slot ≡ (loan x.taken).slot
       → record_of loan (record (with_change change x) { taken = taken }) ≡ record (notified_record change (record_of loan x)) { definition = (loan taken).definition }
@@ -153,6 +165,7 @@ module _ {V : Type 0} {H : V → Type 0} (loan : Taken V H → Loan) where
           fits = (λ k. is_size x.size && is_in_range (T.regions.bounds k x.size)) ∙ its.fits;
           inside = (λ k. is_in_range (moved_rect (T.regions.bounds k x.size) x.place.h x.place.v)) ∙ its.inside;
           within = subst (λ (y : (Size → PixelSet) × (Size → Rect)). IsWithin (y.0 x.size) (rect_holds (y.1 x.size))) (λ k. (sym T.regions.content k, sym T.regions.bounds k)) its.within;
+          layers = its.layers;
           goes_by = told_goes_by change w d keeps its.goes_by T.heard;
         }
 
@@ -178,7 +191,7 @@ module _ {V : Type 0} {H : V → Type 0} (loan : Taken V H → Loan) where
       pub frame_within : (p : Point) → holds a.frame p ≡ true → (loan x.taken).definition.structure x.size (minus p x.place) ≡ true
       frame_within p e =
           let its = (and_parts (layers.on_screen was p) (same_owner (owner was p) (Frame x.serial)) (sym (area_is.frame p) ∙ e)).1 in
-          frame_in t.font before.windows at w p whole.sound.distinct (remarked.record_there loan t slots whole at low x there a read) (no_bar x.serial (layers.in_bar was p) (owner_among was.windows p) its)
+          frame_in (look_on t) before.windows at w p whole.sound.distinct (remarked.record_there loan t slots whole at low x there a read) (no_bar x.serial (layers.in_bar was p) (owner_among was.windows p) its)
 
       -- ---- the screen
 
@@ -284,6 +297,7 @@ module _ {V : Type 0} {H : V → Type 0} (loan : Taken V H → Loan) where
           height = pos (drawn.height i);
           bar = t.bar;
           font = t.font;
+          shows = all_white;
           windows = windows_are i;
           active = (others i).active;
           next = (others i).next;
@@ -329,12 +343,15 @@ module _ {V : Type 0} {H : V → Type 0} (loan : Taken V H → Loan) where
           areas = subst (λ (y : FullDesk). AreAreas (layered_desk y) (stale_in t.areas.items) y.windows t.areas.items) (sym desk_is) (areas_same before.windows after.windows t.areas.items serials_same whole.areas);
           frames = subst (λ (k : LayeredDesk). (p : Point) → layers.on_screen k p ≡ true → is_content (owner k p) ≡ false → bit screen p ≡ own_bit k (owner k p) p) (sym (ap layered_desk desk_is))
               (λ p on c. frame_shown screen drawn near p on c);
+          layers =
+              subst (All LieThere) (sym (T.items ∙ set_is_put t.windows.records.items at (record (with_change change x) { taken = T.taken }) low))
+              (All-anew LieThere at x (record (with_change change x) { taken = T.taken }) t.windows.records.items low there (told_lies change x T.taken (lies_in t.windows.records.items at x low there whole.layers)) whole.layers);
         }
 
         changed_so : changed x.serial (λ y. record (notified_record change y) { definition = d }) before.windows ≡ after.windows
         changed_so =
             ap (changed x.serial (λ y. record (notified_record change y) { definition = d })) windows_were
-            ∙ (is_put t.font x.serial at w rest refl (free before x.serial at at w v rest (noted_edit before whole.sound.distinct at w rest windows_were (notified_record change w) d T.regions) Stays whole.sound.distinct)).changed_is (λ y. record (notified_record change y) { definition = d })
+            ∙ (is_put (look_on t) x.serial at w rest refl (free before x.serial at at w v rest (noted_edit before whole.sound.distinct at w rest windows_were (notified_record change w) d T.regions) Stays whole.sound.distinct)).changed_is (λ y. record (notified_record change y) { definition = d })
             ∙ ap (λ y. put_in at y rest) told_is
 
         -- it is whole again, the definition was told, and the frame drawn
@@ -344,7 +361,7 @@ module _ {V : Type 0} {H : V → Type 0} (loan : Taken V H → Loan) where
           record {
             window = w;
             definition = d;
-            found = record_at t.font before.windows at w whole.sound.distinct (remarked.record_there loan t slots whole at low x there a read);
+            found = record_at (look_on t) before.windows at w whole.sound.distinct (remarked.record_there loan t slots whole at low x there a read);
             told = record { live = T.live; told = T.size ∙ was_settled.told; regions = T.regions; heard = T.heard };
             desk = desk_is ∙ ap (λ ws. record before { windows = ws }) (sym changed_so);
             pixels = record {

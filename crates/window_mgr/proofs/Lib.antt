@@ -1,5 +1,4 @@
 -- Lemmas on steps.
-pub mod Pictured
 pub mod EachChanged
 pub mod DimLemmas
 pub mod PaintLemmas
@@ -9,8 +8,18 @@ pub mod SameDeskLemmas
 pub mod Committing
 pub mod Arranged
 pub mod Seating
+pub mod LayerParts
+pub mod Showing
+pub mod OtherLayers
+pub mod LayersPlanned
+pub mod LayersPut
+pub mod LayersDrawn
+pub mod LayersSet
 pub mod PutIn
 pub mod Rearranged
+pub mod LyingThere
+pub mod KeptWindows
+pub mod KeptEdits
 pub mod EditSeats
 pub mod RestSeats
 pub mod EditCalls
@@ -32,18 +41,19 @@ pub mod Sending
 pub mod Steps
 pub mod Marking
 pub mod PictureSteps
-pub mod ScrollSteps
 pub mod PlacementCalls
 pub mod ZoomLemmas
 pub mod DisposeCalls
 pub mod Running
 pub mod KeptKinds
 pub mod RefusedForms
-pub mod PictureLemmas
+pub mod Covered
 pub mod Remarked
+pub mod Contents
+pub mod ScrollSteps
 pub mod Refreshed
+pub mod KindsRefreshed
 pub mod UpdateSteps
-pub mod FrameLemmas
 pub mod FrameSteps
 pub mod FrameTold
 pub mod BarTitles

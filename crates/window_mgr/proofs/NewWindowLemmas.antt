@@ -33,7 +33,8 @@ use Rattle.window_list.specs.declared.window.Window.{Window}
 use Rattle.vis_update.specs.Records.{WindowRecord, layered_window}
 use Rattle.window_mgr.specs.FullDesk.{FullDesk, AreSerials, layered_desk, layered_state}
 use Rattle.vis_update.specs.Records.{record_of}
-use Rattle.window_mgr.specs.Records.{desk_of, state_of}
+use Rattle.window_mgr.specs.Records.{desk_of, state_of, look_on}
+use Rattle.window_paint.specs.White.{all_white}
 use Rattle.tb_geom.specs.Refusals.{first_refusal}
 use Rattle.window_mgr.specs.Refused.{judged_refusals, is_full, longest_text, most_windows}
 use Rattle.vis_update.specs.Places.{is_placed}
@@ -44,8 +45,9 @@ use Rattle.window_mgr.specs.Planned.{IsPlanWith, IsAdded, IsUnplanned, SameDesk,
 use Rattle.window_list.specs.Lists.{dimmed}
 use Rattle.vis_update.specs.Plans.{IsPlan}
 use Rattle.vis_update.specs.Touches.{change_of, draws_whole, is_this}
-use Rattle.window_mgr.specs.Whole.{IsWholeManager, IsSoundDesk, IsSettled}
+use Rattle.window_mgr.specs.Whole.{IsWholeManager, IsSoundDesk, IsSettled, LieThere}
 use Rattle.window_mgr.specs.Commits.{IsPlanDrawn}
+use Rattle.window_mgr.proofs.LyingThere.{dimmed_lie}
 use Rattle.window_mgr.proofs.SlotLemmas.{stocked_with, put_back_is_old}
 use Rattle.window_mgr.proofs.RefusalLemmas.{refusal_is, refusal_without, unplanned_is_refused}
 use Rattle.window_mgr.proofs.SameDeskLemmas.{plan_stays, stays_unchanged}
@@ -120,6 +122,7 @@ settled_new w n slot d begun live placed within =
       fits = ap (λ (b : Size → Rect). is_size w.size && is_in_range (b w.size)) live.regions.bounds ∙ its.fits;
       inside = ap (λ (b : Size → Rect). is_in_range (moved_rect (b w.size) w.place.h w.place.v)) live.regions.bounds ∙ its.moved;
       within = begun_within w.size d begun live within;
+      layers = refl;
       goes_by = goes_by_all (first_news w) d begun live.heard;
     }
 
@@ -157,10 +160,10 @@ module _ {V : Type 0} {H : V → Type 0} (loan : Taken V H → Loan) where
     below = subst (λ (k : Option ℕ). AreSerials k before.windows) next_is N.whole.sound.serials
 
     free : layers.window_of n (layered_desk before).windows ≡ None
-    free = next_is_free t.font n before.windows below.1
+    free = next_is_free (look_on t) n before.windows below.1
 
     -- as layers, the desk after is the desk before with one more window
-    layers_are : layered_desk after ≡ record (layered_desk before) { windows = layered_window t.font (new_record w n taken.slot N.added.begun) ∷ (layered_desk before).windows }
+    layers_are : layered_desk after ≡ record (layered_desk before) { windows = layered_window (look_on t) (new_record w n taken.slot N.added.begun) ∷ (layered_desk before).windows }
     layers_are = layered_desk-with w n taken.slot N.added.begun before left
 
     -- the plan, said of the desk before the call
@@ -184,6 +187,7 @@ module _ {V : Type 0} {H : V → Type 0} (loan : Taken V H → Loan) where
       height = pos (drawn.height i);
       bar = (N.added.bar ∙ N.same.bar) i;
       font = (N.added.font ∙ N.same.font) i;
+      shows = all_white;
       windows = windows_are i;
       active = (N.added.active ∙ ap (λ a. if w.shown then Some n else a) N.same.active) i;
       next = N.added.next i;
@@ -193,7 +197,7 @@ module _ {V : Type 0} {H : V → Type 0} (loan : Taken V H → Loan) where
     -- the frames of other windows stay
     frames : (s : ℕ) (p : Point) → draws_whole touch s ≡ false → own_bit (layered_desk before) (Frame s) p ≡ own_bit (layered_desk after) (Frame s) p
     frames s p e =
-        sym (own_bit-behind (layered_desk before) (layered_window t.font (new_record w n taken.slot N.added.begun)) (layered_desk before).windows p (Frame s) (ap not (turned s n (first_is (s == n) (is_this touch.also s) (ap (λ (x : Touch). s == x.window || is_this touch.also s) (sym N.touch_is) ∙ e)))))
+        sym (own_bit-behind (layered_desk before) (layered_window (look_on t) (new_record w n taken.slot N.added.begun)) (layered_desk before).windows p (Frame s) (ap not (turned s n (first_is (s == n) (is_this touch.also s) (ap (λ (x : Touch). s == x.window || is_this touch.also s) (sym N.touch_is) ∙ e)))))
         ∙ sym (ap (λ d. own_bit d (Frame s) p) layers_are)
       where
         first_is : (a b : Bool) → (a || b) ≡ false → a ≡ false
@@ -209,6 +213,7 @@ module _ {V : Type 0} {H : V → Type 0} (loan : Taken V H → Loan) where
       fits = ap (λ (b : Size → Rect). is_size w.size && is_in_range (b w.size)) N.added.live.regions.bounds ∙ unrefused_fits w _ _ _ N.unrefused_is;
       inside = ap (λ (b : Size → Rect). is_in_range (moved_rect (b w.size) w.place.h w.place.v)) N.added.live.regions.bounds ∙ unrefused_inside w _ _ _ N.unrefused_is;
       within = begun_within w.size taken.definition N.added.begun N.added.live N.within;
+      layers = refl;
       goes_by = goes_by_all (first_news w) taken.definition N.added.begun N.added.live.heard;
     }
 
@@ -241,6 +246,7 @@ module _ {V : Type 0} {H : V → Type 0} (loan : Taken V H → Loan) where
       areas = N.added.areas;
       desktop = N.added.desktop;
       gray = N.added.gray ∙ N.same.gray;
+      lie = subst (All LieThere) (sym N.added.windows) (All-cons LieThere N.added.record_is _ N.added.there (dimmed_lie planned.windows.active w.shown planned.windows.records.items (subst (All LieThere) (sym N.same.windows) N.whole.layers)));
     }
 
     pub is_whole : IsWholeManager loan new left

@@ -3,6 +3,7 @@ use Rattle.std.proofs.Common.{◌≡◌, inr, ℕ, zero, suc, ◌<◌, ◌==◌,
 use Rattle.std.specs.Prelude.{All, slice_set, slice_get, is_none}
 use Rattle.std.specs.Option.{is_some}
 use Rattle.std.specs.List.{remove}
+use Rattle.std.proofs.lemmas.Bool.{and_parts}
 use Rattle.std.proofs.lemmas.List.{length-set}
 use Rattle.std.proofs.lemmas.List.Elements.{All-head, All-tail}
 use Rattle.std.proofs.lemmas.Option.{slice_get_read}
@@ -51,15 +52,18 @@ use Rattle.window_mgr.specs.Commits.{IsPlanDrawn}
 use Rattle.window_mgr.specs.Effects.{Effect, IsEffect, IsWindowPlaced, effect_of, places}
 use Rattle.window_mgr.specs.Effects.Effect.{Places}
 use Rattle.window_mgr.specs.Placings.{of_size, sized, zoom_target, zoomed_by, gone}
-use Rattle.window_mgr.specs.Edits.{IsWindowAt, put_record, stays_put, IsPlanOfEdit, IsDeskOfEdit, IsPlaceable}
+use Rattle.window_mgr.specs.Edits.{IsWindowAt, put_record, stays_put, IsPlanOfEdit, IsDeskOfEdit, IsPlaceable, IsOnItsWay}
 use Rattle.window_mgr.specs.Finding.{record_with}
 use Rattle.window_mgr.specs.Kept.{IsKept}
 use Rattle.window_mgr.specs.Records.{desk_of, state_of}
+use Rattle.window_paint.specs.White.{all_white}
 use Rattle.tb_geom.specs.Refusals.{first_refusal}
+use Rattle.window_mgr.specs.Refused as refused
 use Rattle.window_mgr.specs.Refused.{IsRefusal, may_grow, may_lie, size_refusals, zoom_refusals}
-use Rattle.window_mgr.specs.Laying.{MayHave, IsPlaceableAt, IsPlacementCommitted, IsLaid, IsLaidOverAnySlots}
+use Rattle.window_mgr.specs.Laying.{MayHave, IsPlaceableAt, IsOnItsWayTo, IsPlacementCommitted, IsLaid, IsLaidOverAnySlots}
 use Rattle.window_mgr.specs.Step.{IsWindowStep}
-use Rattle.window_mgr.specs.Whole.{IsWholeManager, IsSettled}
+use Rattle.window_mgr.specs.Whole.{IsWholeManager, IsSettled, LieThere}
+use Rattle.window_mgr.proofs.LyingThere.{put_lie}
 use Rattle.window_mgr.proofs.PutIn.{put_in, put_is_insert, taken_out, map-put, All-out, All-put}
 use Rattle.window_mgr.proofs.Rearranged.{IsEdit, edited, sound_now, distinct_now, others_found}
 use Rattle.window_mgr.proofs.EditSeats.{same_at}
@@ -88,7 +92,7 @@ module _ {V : Type 0} {H : V → Type 0} (loan : Taken V H → Loan) where
     laid = with_placement to (loan R.taken).definition (record_of loan w)
 
     -- the window in the list
-    abbrev laid_window : Window V H
+    abbrev pub laid_window : Window V H
     laid_window = record (with_place_and_size to w) { taken = R.taken }
 
     records_were : map (record_of loan) old ≡ put_in i (record_of loan w) rest
@@ -119,7 +123,8 @@ module _ {V : Type 0} {H : V → Type 0} (loan : Taken V H → Loan) where
     laid_settled : MayHave loan to w → All IsSettled (map (record_of loan) old) → IsSettled laid
     laid_settled may all =
         let was = All-head IsSettled (record_of loan w) rest (was_settled all) in
-        let its = placed_parts (loan w.taken).definition to.place to.size may.0 in
+        let fit = and_parts (is_placed (Some (loan w.taken).definition) to.place to.size) _ may.0 in
+        let its = placed_parts (loan w.taken).definition to.place to.size fit.0 in
         record {
           origin = was.origin;
           placed = its.place_in;
@@ -127,6 +132,7 @@ module _ {V : Type 0} {H : V → Type 0} (loan : Taken V H → Loan) where
           told = R.told;
           fits = (λ k. is_size to.size && is_in_range (R.regions.bounds k to.size)) ∙ its.fits;
           inside = (λ k. is_in_range (moved_rect (R.regions.bounds k to.size) to.place.h to.place.v)) ∙ its.moved;
+          layers = fit.1;
           within = subst (λ (x : (Size → PixelSet) × (Size → Rect)). IsWithin (x.0 to.size) (rect_holds (x.1 to.size))) (λ k. (sym R.regions.content k, sym R.regions.bounds k)) may.1;
           goes_by = goes_by_news (told_placed to.size (is_some to.user_state)) (news_of (record_of loan w)) (news_of laid) (loan w.taken).definition (loan R.taken).definition
               (λ n. refl) (λ n. refl) was.goes_by R.heard;
@@ -162,7 +168,7 @@ module _ {V : Type 0} {H : V → Type 0} (loan : Taken V H → Loan) where
     others = rest N.low w_is R
 
     edit : IsEdit (desk_of loan t slots) w.serial i i (record_of loan w) v others
-    edit = record { windows = records_were N.low w_is R; serial = refl; same_serial = refl }
+    edit = record { windows = records_were N.low w_is R; serial = refl; same_serial = refl; same_layers = refl }
 
     abbrev left : FullDesk
     left = edited (desk_of loan t slots) w.serial i i (record_of loan w) v others edit Stays
@@ -188,6 +194,10 @@ module _ {V : Type 0} {H : V → Type 0} (loan : Taken V H → Loan) where
           ∙ (λ k. put_in i (stands N.low w_is R k) (map stand_of others))
           ∙ sym (map-put stand_of i (put_record planned_edit (record_of loan w)) others)
           ∙ ap (map stand_of) (put_is_insert i (put_record planned_edit (record_of loan w)) others);
+      layers =
+          map-put (λ (u : WindowRecord). u.layers) i v others
+          ∙ sym (map-put (λ (u : WindowRecord). u.layers) i (put_record planned_edit (record_of loan w)) others)
+          ∙ ap (map (λ (u : WindowRecord). u.layers)) (put_is_insert i (put_record planned_edit (record_of loan w)) others);
     }
 
     placement_arranged : IsArrangedCall loan touch t new slots slots left plan
@@ -204,6 +214,7 @@ module _ {V : Type 0} {H : V → Type 0} (loan : Taken V H → Loan) where
         height = pos (N.committed.drawn.height k);
         bar = N.committed.bar k;
         font = N.committed.font k;
+        shows = all_white;
         windows = windows_are k;
         active = N.committed.active k;
         next = N.committed.next k;
@@ -212,6 +223,8 @@ module _ {V : Type 0} {H : V → Type 0} (loan : Taken V H → Loan) where
       areas = N.committed.areas;
       desktop = N.committed.desktop;
       gray = N.committed.gray;
+      lie = subst (All LieThere) (sym (R.items ∙ set_is_put t.windows.records.items i (laid_window N.low w_is R) N.low))
+          (put_lie t.windows.records.items i i w (laid_window N.low w_is R) N.low w_is N.whole.layers refl);
     }
       where
         first_is : (x y : Bool) → (x || y) ≡ false → x ≡ false
@@ -247,8 +260,8 @@ module _ {V : Type 0} {H : V → Type 0} (loan : Taken V H → Loan) where
 
   module _ (t : WindowManager V H) (kept : IsKept loan t) (i : ℕ) (to : Placement) (low : i < length t.windows.records.items) (x : Window V H) (x_is : IsWindowAt t.windows.records.items i x) where
     -- it is put at a point
-    pub arrives : is_placed (Some (loan x.taken).definition) to.place to.size ≡ true → in_plane to.place ≡ true
-    arrives placed = (placed_parts (loan x.taken).definition to.place to.size placed).place_in
+    pub arrives : refused.may_stand to.place to.size (record_of loan x) ≡ true → in_plane to.place ≡ true
+    arrives stands = (placed_parts (loan x.taken).definition to.place to.size (and_parts (is_placed (Some (loan x.taken).definition) to.place to.size) _ stands).0).place_in
 
     -- one that may lie there
     pub is_placeable_at : MayHave loan to x → IsPlaceableAt loan i to t.windows.records.items
@@ -256,6 +269,18 @@ module _ {V : Type 0} {H : V → Type 0} (loan : Taken V H → Loan) where
 
     pub is_placeable : IsPlaceableAt loan i to t.windows.records.items → (e : Edit) → e ≡ stays_put i x → IsPlaceable loan (record e { place = to.place; size = to.size }) t.windows.records.items
     is_placeable may e e_is = subst (λ (y : Edit). IsPlaceable loan (record y { place = to.place; size = to.size }) t.windows.records.items) (sym e_is) (λ w w_is. (may w w_is).0)
+
+    -- one that stays there
+    pub stays_there : to.place ≡ x.place → IsOnItsWayTo i to None t.windows.records.items
+    stays_there place_is w w_is = place_is ∙ ap (λ (z : Window V H). z.place) (same_at t.windows.records.items i x w low x_is w_is)
+
+    -- and one whose pixels go as far as it does
+    pub goes_there : (by : Point) → by ≡ minus to.place x.place → IsOnItsWayTo i to (Some by) t.windows.records.items
+    goes_there by far w w_is = far ∙ ap (λ (z : Window V H). minus to.place z.place) (same_at t.windows.records.items i x w low x_is w_is)
+
+    pub is_on_its_way : (by : Option Point) → IsOnItsWayTo i to by t.windows.records.items → (e : Edit) → e ≡ stays_put i x → IsOnItsWay (record e { place = to.place; size = to.size }) by t.windows.records.items
+    is_on_its_way None way e e_is = subst (λ (y : Edit). IsOnItsWay (record y { place = to.place; size = to.size }) None t.windows.records.items) (sym e_is) way
+    is_on_its_way (Some by) way e e_is = subst (λ (y : Edit). IsOnItsWay (record y { place = to.place; size = to.size }) (Some by) t.windows.records.items) (sym e_is) way
 
     pub placement_call : (by : Option Point) (activation : Activation) (plan : Plan) (new : WindowManager V H) (slots : List SlotView) (e : Edit) → IsWholeManager loan t slots → IsPlaceableAt loan i to t.windows.records.items → e ≡ stays_put i x → IsPlanOfEdit loan (record e { place = to.place; size = to.size }) activation by t plan → IsPlacementCommitted loan i to plan by t new → IsPlacementCall i to by activation plan t new slots
     placement_call by activation plan new slots e whole may e_is planned committed = record {
@@ -300,10 +325,10 @@ module _ {V : Type 0} {H : V → Type 0} (loan : Taken V H → Loan) where
     -- ---- sizing
 
     module _ (z : SizeWindow) (named : s ≡ z.window) where
-      pub may_size : (b : Bool) → b ≡ is_placed (Some (loan x.taken).definition) x.place z.size → first_refusal (size_refusals z desk) ≡ (if b then None else Some OutOfRange)
+      pub may_size : (b : Bool) → b ≡ refused.may_stand x.place z.size (record_of loan x) → first_refusal (size_refusals z desk) ≡ (if b then None else Some OutOfRange)
       may_size b fits = steps.may_stand loan t new slots whole i z.window x low x_is (serial ∙ named) (λ o. may_lie (sized z o) o) b fits
 
-      pub size_step : (to : Placement) (result : Result WindowReply Refusal) → to ≡ of_size z.size (record_of loan x) → is_placed (Some (loan x.taken).definition) x.place z.size ≡ true → IsLaidOverAnySlots loan i to None result t new → IsStep (asks.Size z) result
+      pub size_step : (to : Placement) (result : Result WindowReply Refusal) → to ≡ of_size z.size (record_of loan x) → refused.may_stand x.place z.size (record_of loan x) ≡ true → IsLaidOverAnySlots loan i to None result t new → IsStep (asks.Size z) result
       size_step to result to_is fits done =
           placement_step (asks.Size z) to None result
           (ap (λ o. places (sized z o)) (ap (λ n. record_with n desk.windows) (sym named) ∙ found) ∙ (λ k. Places (record { window = sym named k; by = None; to = sym to_is k })))
@@ -348,14 +373,14 @@ module _ {V : Type 0} {H : V → Type 0} (loan : Taken V H → Loan) where
         )
 
         module _ (to : Placement) (to_is : Some to ≡ zoom_target zoom x.user_state (desk_of loan t []) (record_of loan x)) where
-          pub may_zoom : (b : Bool) → b ≡ is_placed (Some (loan x.taken).definition) to.place to.size → first_refusal (zoom_refusals z desk) ≡ (if b then None else Some OutOfRange)
+          pub may_zoom : (b : Bool) → b ≡ refused.may_stand to.place to.size (record_of loan x) → first_refusal (zoom_refusals z desk) ≡ (if b then None else Some OutOfRange)
           may_zoom b fits = zoom_refused (Some to) to_is ∙ ap (λ c. if not c then Some OutOfRange else None) (sym fits) ∙ by_test b
             where
               by_test : (c : Bool) → (if not c then Some OutOfRange else None) ≡ (if c then None else Some OutOfRange)
               by_test true = refl
               by_test false = refl
 
-          pub zoom_step : (by : Point) (result : Result WindowReply Refusal) → by ≡ minus to.place x.place → is_placed (Some (loan x.taken).definition) to.place to.size ≡ true → IsLaidOverAnySlots loan i to (Some by) result t new → IsStep (asks.Zoom z) result
+          pub zoom_step : (by : Point) (result : Result WindowReply Refusal) → by ≡ minus to.place x.place → refused.may_stand to.place to.size (record_of loan x) ≡ true → IsLaidOverAnySlots loan i to (Some by) result t new → IsStep (asks.Zoom z) result
           zoom_step by result by_is fits done =
               placement_step (asks.Zoom z) to (Some by) result
               (effect_is (Some to) to_is ∙ (λ k. Places (record { window = sym named k; by = Some (sym by_is k); to = to })))

@@ -9,7 +9,7 @@ use Rattle.std.proofs.lemmas.List.Sorted.{IsPermutation-insert, IsPermutation-sy
 use Rattle.std.proofs.lemmas.List.Kept.{AllPairs-cons}
 use Rattle.def_iface.specs.Desk as layers
 use Rattle.def_iface.proofs.Owning.{same_number, not_first}
-use Rattle.vis_update.specs.Records.{WindowRecord, layered_window}
+use Rattle.vis_update.specs.Records.{WindowRecord, Look, layered_window}
 use Rattle.window_mgr.specs.FullDesk.{HaveSerials}
 use Rattle.window_mgr.specs.Finding.{record_with}
 use Rattle.window_mgr.specs.Arrange.{without, changed}
@@ -52,6 +52,11 @@ module _ {X : Type 0} where
   pub All-put : (P : X → Type 0) (i : ℕ) (x : X) (xs : List X) → P x → All P xs → All P (put_in i x xs)
   All-put P i x xs one all = All-permutation P (x ∷ xs) (put_in i x xs) (put_permutes i x xs) (All-cons P x xs one all)
 
+  -- what holds of all of them, and of what one of them is replaced by
+  pub All-anew : (P : X → Type 0) (i : ℕ) (x y : X) (xs : List X) → i < length xs → x ≡ get_or xs i x → P y → All P xs → All P (put_in i y (remove xs i))
+  All-anew P i x y xs low read one all =
+      All-put P i y (remove xs i) one (All-tail P x (remove xs i) (All-out P i x (remove xs i) (subst (All P) (taken_out xs i x low read) all)))
+
   -- what holds of each two of them
   module _ (R : X → X → Type 0) (turns : (x y : X) → R x y → R y x) where
     pub AllPairs-put : (i : ℕ) (x : X) (xs : List X) → All (R x) xs → AllPairs R xs → AllPairs R (put_in i x xs)
@@ -92,49 +97,55 @@ serials_out P zero w rest all = (all.0, all.1)
 serials_out P (suc i) w [] all = (all.0, tt)
 serials_out P (suc i) w (y ∷ ys) all = let behind = serials_out P i w ys all.1 in (behind.0, (all.0, behind.1))
 
-module _ (font : List ℕ) where
+module _ (look : Look) where
   abbrev pub IsFree : ℕ → List WindowRecord → Type 0
-  IsFree s ws = layers.window_of s (map (layered_window font) ws) ≡ None
+  IsFree s ws = layers.window_of s (map (layered_window look) ws) ≡ None
 
   -- a window that is put among others is found by its serial, and others are found as they were
-  pub found_put : (s : ℕ) (i : ℕ) (w : WindowRecord) (rest : List WindowRecord) → IsFree w.serial rest → layers.window_of s (map (layered_window font) (put_in i w rest)) ≡ (if w.serial == s then Some (layered_window font w) else layers.window_of s (map (layered_window font) rest))
+  pub found_put : (s : ℕ) (i : ℕ) (w : WindowRecord) (rest : List WindowRecord) → IsFree w.serial rest → layers.window_of s (map (layered_window look) (put_in i w rest)) ≡ (if w.serial == s then Some (layered_window look w) else layers.window_of s (map (layered_window look) rest))
   found_put s zero w rest free = refl
   found_put s (suc i) w [] free = refl
   found_put s (suc i) w (y ∷ ys) free =
-      let first = not_first (y.serial == w.serial) (layered_window font y) (layers.window_of w.serial (map (layered_window font) ys)) free in
+      let first = not_first (y.serial == w.serial) (layered_window look y) (layers.window_of w.serial (map (layered_window look) ys)) free in
       by_test (y.serial == s) (w.serial == s) refl refl (found_put s i w ys first.1) first.0
     where
-      by_test : (a b : Bool) → (y.serial == s) ≡ a → (w.serial == s) ≡ b → layers.window_of s (map (layered_window font) (put_in i w ys)) ≡ (if w.serial == s then Some (layered_window font w) else layers.window_of s (map (layered_window font) ys)) → (y.serial == w.serial) ≡ false
-          → (if a then Some (layered_window font y) else layers.window_of s (map (layered_window font) (put_in i w ys))) ≡ (if b then Some (layered_window font w) else (if a then Some (layered_window font y) else layers.window_of s (map (layered_window font) ys)))
+      by_test : (a b : Bool) → (y.serial == s) ≡ a → (w.serial == s) ≡ b → layers.window_of s (map (layered_window look) (put_in i w ys)) ≡ (if w.serial == s then Some (layered_window look w) else layers.window_of s (map (layered_window look) ys)) → (y.serial == w.serial) ≡ false
+          → (if a then Some (layered_window look y) else layers.window_of s (map (layered_window look) (put_in i w ys))) ≡ (if b then Some (layered_window look w) else (if a then Some (layered_window look y) else layers.window_of s (map (layered_window look) ys)))
       by_test true true ea eb rest away = absurd (false≢true (sym away ∙ ap (λ n. n == w.serial) (eqb-true y.serial s ea ∙ sym (eqb-true w.serial s eb)) ∙ same_number w.serial))
       by_test true false ea eb rest away = refl
-      by_test false b ea eb rest away = rest ∙ ap (λ c. if c then Some (layered_window font w) else layers.window_of s (map (layered_window font) ys)) eb
+      by_test false b ea eb rest away = rest ∙ ap (λ c. if c then Some (layered_window look w) else layers.window_of s (map (layered_window look) ys)) eb
 
-  pub distinct_put : (i : ℕ) (w : WindowRecord) (rest : List WindowRecord) → IsFree w.serial rest → layers.AreWindows (map (layered_window font) rest) → layers.AreWindows (map (layered_window font) (put_in i w rest))
-  distinct_put zero w rest free distinct = (free, ((refl, tt), distinct))
-  distinct_put (suc i) w [] free distinct = (refl, ((refl, tt), tt))
-  distinct_put (suc i) w (y ∷ ys) free distinct =
-      let first = not_first (y.serial == w.serial) (layered_window font y) (layers.window_of w.serial (map (layered_window font) ys)) free in
-      (found_put y.serial i w ys first.1 ∙ (λ k. if turned y.serial w.serial first.0 k then Some (layered_window font w) else distinct.0 k), (distinct.1.0, distinct_put i w ys first.1 distinct.1.1))
+  pub distinct_put : (i : ℕ) (w : WindowRecord) (rest : List WindowRecord) → IsFree w.serial rest → layers.AreParts (layered_window look w).layers → layers.AreWindows (map (layered_window look) rest) → layers.AreWindows (map (layered_window look) (put_in i w rest))
+  distinct_put zero w rest free apart distinct = (free, (apart, distinct))
+  distinct_put (suc i) w [] free apart distinct = (refl, (apart, tt))
+  distinct_put (suc i) w (y ∷ ys) free apart distinct =
+      let first = not_first (y.serial == w.serial) (layered_window look y) (layers.window_of w.serial (map (layered_window look) ys)) free in
+      (found_put y.serial i w ys first.1 ∙ (λ k. if turned y.serial w.serial first.0 k then Some (layered_window look w) else distinct.0 k), (distinct.1.0, distinct_put i w ys first.1 apart distinct.1.1))
 
-  pub distinct_out : (i : ℕ) (w : WindowRecord) (rest : List WindowRecord) → layers.AreWindows (map (layered_window font) (put_in i w rest)) → IsFree w.serial rest × layers.AreWindows (map (layered_window font) rest)
+  -- its layers are apart
+  pub parts_out : (i : ℕ) (w : WindowRecord) (rest : List WindowRecord) → layers.AreWindows (map (layered_window look) (put_in i w rest)) → layers.AreParts (layered_window look w).layers
+  parts_out zero w rest distinct = distinct.1.0
+  parts_out (suc i) w [] distinct = distinct.1.0
+  parts_out (suc i) w (y ∷ ys) distinct = parts_out i w ys distinct.1.1
+
+  pub distinct_out : (i : ℕ) (w : WindowRecord) (rest : List WindowRecord) → layers.AreWindows (map (layered_window look) (put_in i w rest)) → IsFree w.serial rest × layers.AreWindows (map (layered_window look) rest)
   distinct_out zero w rest distinct = (distinct.0, distinct.1.1)
   distinct_out (suc i) w [] distinct = (refl, tt)
   distinct_out (suc i) w (y ∷ ys) distinct =
       let behind = distinct_out i w ys distinct.1.1 in
-      let apart = by_test (w.serial == y.serial) (layers.window_of y.serial (map (layered_window font) ys)) (sym (found_put y.serial i w ys behind.0) ∙ distinct.0) in
-      ((λ k. if turned w.serial y.serial apart.0 k then Some (layered_window font y) else behind.0 k), (apart.1, (distinct.1.0, behind.1)))
+      let apart = by_test (w.serial == y.serial) (layers.window_of y.serial (map (layered_window look) ys)) (sym (found_put y.serial i w ys behind.0) ∙ distinct.0) in
+      ((λ k. if turned w.serial y.serial apart.0 k then Some (layered_window look y) else behind.0 k), (apart.1, (distinct.1.0, behind.1)))
     where
-      by_test : (b : Bool) (o : Option layers.LayeredWindow) → (if b then Some (layered_window font w) else o) ≡ None → (b ≡ false) × (o ≡ None)
-      by_test b o e = not_first b (layered_window font w) o e
+      by_test : (b : Bool) (o : Option layers.LayeredWindow) → (if b then Some (layered_window look w) else o) ≡ None → (b ≡ false) × (o ≡ None)
+      by_test b o e = not_first b (layered_window look w) o e
 
   -- ---- the window of a serial, taken out
 
   -- the records and the layers find the same
-  none_with : (s : ℕ) (ws : List WindowRecord) → IsFree s ws → record_with s ws ≡ None
+  pub none_with : (s : ℕ) (ws : List WindowRecord) → IsFree s ws → record_with s ws ≡ None
   none_with s [] e = refl
   none_with s (w ∷ ws) e =
-      let first = not_first (w.serial == s) (layered_window font w) (layers.window_of s (map (layered_window font) ws)) e in
+      let first = not_first (w.serial == s) (layered_window look w) (layers.window_of s (map (layered_window look) ws)) e in
       (λ k. if first.0 k then Some w else none_with s ws first.1 k)
 
   -- what the words of steps say of a window that is put among others
@@ -159,7 +170,7 @@ module _ (font : List ℕ) where
         changed_is = λ f. λ k. if here k then f w ∷ [] else w ∷ [];
       }
   is_put s (suc i) w (y ∷ ys) its free =
-      let first = not_first (y.serial == s) (layered_window font y) (layers.window_of s (map (layered_window font) ys)) free in
+      let first = not_first (y.serial == s) (layered_window look y) (layers.window_of s (map (layered_window look) ys)) free in
       let behind = is_put s i w ys its first.1 in
       record {
         found = (λ k. if first.0 k then Some y else record_with s (put_in i w ys)) ∙ behind.found;

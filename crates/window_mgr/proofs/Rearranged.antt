@@ -13,15 +13,16 @@ use Rattle.def_iface.specs.Desk as layers
 use Rattle.def_iface.specs.Owner.{Owner, owner, own_bit, content_bit, is_content}
 use Rattle.def_iface.specs.Owner.Owner.{Desktop, Bar, Frame, Content}
 use Rattle.def_iface.specs.Change as plain
-use Rattle.vis_update.specs.Records.{WindowRecord, layered_window}
+use Rattle.vis_update.specs.Records.{WindowRecord, Look, layered_window}
 use Rattle.vis_update.specs.Seats.{stand_of}
 use Rattle.vis_update.specs.Touches.{moved_from, moving}
 use Rattle.window_mgr.specs.declared.arrange.Activation.{Activation}
 use Rattle.window_mgr.specs.declared.arrange.Activation.TheVariants.{Stays, Becomes}
-use Rattle.window_mgr.specs.FullDesk.{FullDesk, AreSerials, layered_desk, IsGiven}
+use Rattle.window_mgr.specs.FullDesk.{FullDesk, AreSerials, layered_desk, IsGiven, look_of}
 use Rattle.window_mgr.specs.Arrange.{with_highlighting, activated, desk_activated}
 use Rattle.window_mgr.specs.Whole.{IsSoundDesk, IsSettled, IsStocked}
-use Rattle.window_mgr.proofs.PutIn.{put_in, IsFree, found_put, distinct_put, distinct_out, serials_put, serials_out, put_permutes, All-out, All-put, AllPairs-put, AllPairs-out, Contains-put}
+use Rattle.window_mgr.proofs.LayerParts.{parts_alike}
+use Rattle.window_mgr.proofs.PutIn.{put_in, IsFree, found_put, distinct_put, parts_out, distinct_out, serials_put, serials_out, put_permutes, All-out, All-put, AllPairs-put, AllPairs-out, Contains-put}
 use Rattle.window_mgr.proofs.EachChanged.{map-map, settled_map, stocked_map, numbered_map}
 use Rattle.window_mgr.proofs.DimLemmas.{either}
 
@@ -34,8 +35,8 @@ module _ (s former : Option ℕ) where
   relit_either : (P : WindowRecord → Type 0) (w : WindowRecord) → P w → P (record w { highlighted = true }) → P (record w { highlighted = false }) → P (relit_record w)
   relit_either P w h on off = either false former (λ v. P (with_highlighting true s v)) w (either true s P w h on) (either true s P (record w { highlighted = false }) off on)
 
-  same_layers : (font : List ℕ) (w : WindowRecord) → layered_window font (relit_record w) ≡ layered_window font w
-  same_layers font w = relit_either (λ v. layered_window font v ≡ layered_window font w) w refl refl refl
+  same_layers : (look : Look) (w : WindowRecord) → layered_window look (relit_record w) ≡ layered_window look w
+  same_layers look w = relit_either (λ v. layered_window look v ≡ layered_window look w) w refl refl refl
 
   same_stand : (w : WindowRecord) → stand_of (relit_record w) ≡ stand_of w
   same_stand w = relit_either (λ v. stand_of v ≡ stand_of w) w refl refl refl
@@ -47,13 +48,13 @@ module _ (s former : Option ℕ) where
   same_serial w = relit_either (λ v. v.serial ≡ w.serial) w refl refl refl
 
   settled_lit : (w : WindowRecord) → IsSettled w → IsSettled (relit_record w)
-  settled_lit w its = relit_either IsSettled w its (record { origin = its.origin; placed = its.placed; live = its.live; told = its.told; fits = its.fits; inside = its.inside; within = its.within; goes_by = its.goes_by }) (record { origin = its.origin; placed = its.placed; live = its.live; told = its.told; fits = its.fits; inside = its.inside; within = its.within; goes_by = its.goes_by })
+  settled_lit w its = relit_either IsSettled w its (record { origin = its.origin; placed = its.placed; live = its.live; told = its.told; fits = its.fits; inside = its.inside; within = its.within; layers = its.layers; goes_by = its.goes_by }) (record { origin = its.origin; placed = its.placed; live = its.live; told = its.told; fits = its.fits; inside = its.inside; within = its.within; layers = its.layers; goes_by = its.goes_by })
 
 -- all windows, after an activation
 module _ (former : Option ℕ) where
-  pub layers_lit : (font : List ℕ) (a : Activation) (ws : List WindowRecord) → map (layered_window font) (activated a former ws) ≡ map (layered_window font) ws
-  layers_lit font (Becomes s) ws = map-map (layered_window font) (relit_record s former) (layered_window font) (same_layers s former font) ws
-  layers_lit font Stays ws = refl
+  pub layers_lit : (look : Look) (a : Activation) (ws : List WindowRecord) → map (layered_window look) (activated a former ws) ≡ map (layered_window look) ws
+  layers_lit look (Becomes s) ws = map-map (layered_window look) (relit_record s former) (layered_window look) (same_layers s former look) ws
+  layers_lit look Stays ws = refl
 
   pub stands_lit : (a : Activation) (ws : List WindowRecord) → map stand_of (activated a former ws) ≡ map stand_of ws
   stands_lit (Becomes s) ws = map-map stand_of (relit_record s former) stand_of (same_stand s former) ws
@@ -99,6 +100,7 @@ pub record IsEdit (before : FullDesk) (s i j : ℕ) (w v : WindowRecord) (rest :
   pub windows : before.windows ≡ put_in i w rest
   pub serial : w.serial ≡ s
   pub same_serial : v.serial ≡ w.serial
+  pub same_layers : v.layers ≡ w.layers
 
 module _ (before : FullDesk) (s i j : ℕ) (w v : WindowRecord) (rest : List WindowRecord) (E : IsEdit before s i j w v rest) (b : Activation) where
   -- the desk after it
@@ -106,32 +108,32 @@ module _ (before : FullDesk) (s i j : ℕ) (w v : WindowRecord) (rest : List Win
   edited = desk_activated (put_in j v rest) b before
 
   module _ (distinct : layers.IsDesk (layered_desk before)) where
-    was_distinct : layers.AreWindows (map (layered_window before.font) (put_in i w rest))
-    was_distinct = subst (λ ws. layers.AreWindows (map (layered_window before.font) ws)) E.windows distinct
+    was_distinct : layers.AreWindows (map (layered_window (look_of before)) (put_in i w rest))
+    was_distinct = subst (λ ws. layers.AreWindows (map (layered_window (look_of before)) ws)) E.windows distinct
 
-    pub free : IsFree before.font w.serial rest
-    free = (distinct_out before.font i w rest was_distinct).0
+    pub free : IsFree (look_of before) w.serial rest
+    free = (distinct_out (look_of before) i w rest was_distinct).0
 
-    pub free_now : IsFree before.font v.serial rest
-    free_now = subst (λ n. IsFree before.font n rest) (sym E.same_serial) free
+    pub free_now : IsFree (look_of before) v.serial rest
+    free_now = subst (λ n. IsFree (look_of before) n rest) (sym E.same_serial) free
 
     pub distinct_now : layers.IsDesk (layered_desk edited)
-    distinct_now = subst layers.AreWindows (sym (layers_lit before.active before.font b (put_in j v rest))) (distinct_put before.font j v rest free_now (distinct_out before.font i w rest was_distinct).1)
+    distinct_now = subst layers.AreWindows (sym (layers_lit before.active (look_of before) b (put_in j v rest))) (distinct_put (look_of before) j v rest free_now (parts_alike (look_of before) (look_of before) w v E.same_layers (parts_out (look_of before) i w rest was_distinct)) (distinct_out (look_of before) i w rest was_distinct).1)
 
     -- how a window is found before and after
-    found_before : (n : ℕ) → layers.window_of n (layered_desk before).windows ≡ (if s == n then Some (layered_window before.font w) else layers.window_of n (map (layered_window before.font) rest))
-    found_before n = ap (λ ws. layers.window_of n (map (layered_window before.font) ws)) E.windows ∙ found_put before.font n i w rest free ∙ ap (λ k. if k == n then Some (layered_window before.font w) else layers.window_of n (map (layered_window before.font) rest)) E.serial
+    found_before : (n : ℕ) → layers.window_of n (layered_desk before).windows ≡ (if s == n then Some (layered_window (look_of before) w) else layers.window_of n (map (layered_window (look_of before)) rest))
+    found_before n = ap (λ ws. layers.window_of n (map (layered_window (look_of before)) ws)) E.windows ∙ found_put (look_of before) n i w rest free ∙ ap (λ k. if k == n then Some (layered_window (look_of before) w) else layers.window_of n (map (layered_window (look_of before)) rest)) E.serial
 
-    found_after : (n : ℕ) → layers.window_of n (layered_desk edited).windows ≡ (if s == n then Some (layered_window before.font v) else layers.window_of n (map (layered_window before.font) rest))
-    found_after n = ap (layers.window_of n) (layers_lit before.active before.font b (put_in j v rest)) ∙ found_put before.font n j v rest free_now ∙ ap (λ k. if k == n then Some (layered_window before.font v) else layers.window_of n (map (layered_window before.font) rest)) (E.same_serial ∙ E.serial)
+    found_after : (n : ℕ) → layers.window_of n (layered_desk edited).windows ≡ (if s == n then Some (layered_window (look_of before) v) else layers.window_of n (map (layered_window (look_of before)) rest))
+    found_after n = ap (layers.window_of n) (layers_lit before.active (look_of before) b (put_in j v rest)) ∙ found_put (look_of before) n j v rest free_now ∙ ap (λ k. if k == n then Some (layered_window (look_of before) v) else layers.window_of n (map (layered_window (look_of before)) rest)) (E.same_serial ∙ E.serial)
 
     -- other windows are found as they were
     pub others_found : (n : ℕ) → (s == n) ≡ false → layers.window_of n (layered_desk before).windows ≡ layers.window_of n (layered_desk edited).windows
-    others_found n away = found_before n ∙ (λ k. if away k then Some (layered_window before.font w) else layers.window_of n (map (layered_window before.font) rest)) ∙ (λ k. if sym away k then Some (layered_window before.font v) else layers.window_of n (map (layered_window before.font) rest)) ∙ sym (found_after n)
+    others_found n away = found_before n ∙ (λ k. if away k then Some (layered_window (look_of before) w) else layers.window_of n (map (layered_window (look_of before)) rest)) ∙ (λ k. if sym away k then Some (layered_window (look_of before) v) else layers.window_of n (map (layered_window (look_of before)) rest)) ∙ sym (found_after n)
 
     -- the call is a sound change, where the window's content moves as it does
     pub edit_is_sound : (stale : Point → Bool) (image : Point → Bool) (by : Option Point)
-        → ((part : Part) (p : Point) → content_bit (Some (layered_window before.font w)) part (moved_from s by (Content s part) p) ≡ content_bit (Some (layered_window before.font v)) part p)
+        → ((part : Part) (p : Point) → content_bit (Some (layered_window (look_of before) w)) part (moved_from s by (Content s part) p) ≡ content_bit (Some (layered_window (look_of before) v)) part p)
         → plain.IsSound (moving s by) (record { desk = layered_desk before; stale = stale; image = image }) (layered_desk edited)
     edit_is_sound stale image by moves = record {
       desk = distinct_now;
@@ -163,9 +165,9 @@ module _ (before : FullDesk) (s i j : ℕ) (w v : WindowRecord) (rest : List Win
             by_test true here =
                 let same : n ≡ s = eqb-true n s here in
                 let self : (s == n) ≡ true = ap (λ k. k == n) (sym same) ∙ ap (λ k. n == k) same ∙ here in
-                (λ k. content_bit ((found_before n ∙ (λ m. if self m then Some (layered_window before.font w) else layers.window_of n (map (layered_window before.font) rest))) k) part (moved_from s by (Content (same k) part) p))
+                (λ k. content_bit ((found_before n ∙ (λ m. if self m then Some (layered_window (look_of before) w) else layers.window_of n (map (layered_window (look_of before)) rest))) k) part (moved_from s by (Content (same k) part) p))
                 ∙ moves part p
-                ∙ (λ k. content_bit (sym (found_after n ∙ (λ m. if self m then Some (layered_window before.font v) else layers.window_of n (map (layered_window before.font) rest))) k) part p)
+                ∙ (λ k. content_bit (sym (found_after n ∙ (λ m. if self m then Some (layered_window (look_of before) v) else layers.window_of n (map (layered_window (look_of before)) rest))) k) part p)
             by_test false away =
                 (λ k. content_bit (others_found n (turned away) k) part (still by away k))
 

@@ -20,14 +20,14 @@ use Rattle.def_iface.proofs.Owning.{same_number, same_owner-self, not_first}
 use Rattle.vis_update.specs.declared.area.Area.{Area}
 use Rattle.vis_update.specs.Areas.{IsGray, IsDesktop, IsArea, AreAreas, is_content_of, stale_in}
 use Rattle.vis_update.specs.Plans.{stale_after, AreAreasAfter}
-use Rattle.vis_update.specs.Records.{WindowRecord, layered_window, record_of}
+use Rattle.vis_update.specs.Records.{WindowRecord, Look, layered_window, record_of}
 use Rattle.vis_update.proofs.UpdateLemmas.{areas_are, updated_is_stale}
 use Rattle.window_list.specs.declared.window.Window.{Window}
 use Rattle.window_mgr.specs.declared.manager.WindowManager.{WindowManager}
 use Rattle.window_mgr.specs.Edits.{IsWindowAt}
 use Rattle.window_mgr.specs.FullDesk.{FullDesk, layered_desk, layered_state}
 use Rattle.window_mgr.specs.Kept.{IsKept}
-use Rattle.window_mgr.specs.Records.{desk_of, state_of}
+use Rattle.window_mgr.specs.Records.{desk_of, state_of, look_on}
 use Rattle.window_mgr.specs.Updating.{IsRemarked}
 use Rattle.window_mgr.specs.Whole.{IsWholeManager, IsSoundDesk, IsSettled}
 use Rattle.window_mgr.proofs.Repicturing.{no_content, its_layer, not_stale}
@@ -49,12 +49,12 @@ pub settled_there : {V : Type 0} {H : V → Type 0} (loan : Taken V H → Loan) 
 settled_there loan t whole at w low there = settled_at loan t whole (record { h = pos 0; v = pos 0 }) at w low there
 
 -- as layers, it is the one of its number
-pub window_at : (font : List ℕ) (ws : List WindowRecord) (i : ℕ) (v : WindowRecord) → layers.AreWindows (map (layered_window font) ws) → slice_get ws i ≡ Some v → layers.window_of v.serial (map (layered_window font) ws) ≡ Some (layered_window font v)
-window_at font [] i v distinct e = absurd (cc)
-window_at font (w ∷ ws) zero v distinct e =
+pub window_at : (look : Look) (ws : List WindowRecord) (i : ℕ) (v : WindowRecord) → layers.AreWindows (map (layered_window look) ws) → slice_get ws i ≡ Some v → layers.window_of v.serial (map (layered_window look) ws) ≡ Some (layered_window look v)
+window_at look [] i v distinct e = absurd (cc)
+window_at look (w ∷ ws) zero v distinct e =
     let same : w ≡ v = cc in
-    rw (ap (λ (x : WindowRecord). x.serial == v.serial) same ∙ same_number v.serial) (ap (λ x. Some (layered_window font x)) same)
-window_at font (w ∷ ws) (suc i) v distinct e = rw (not_among font w.serial ws i v distinct.0 e) (window_at font ws i v distinct.1.1 e)
+    rw (ap (λ (x : WindowRecord). x.serial == v.serial) same ∙ same_number v.serial) (ap (λ x. Some (layered_window look x)) same)
+window_at look (w ∷ ws) (suc i) v distinct e = rw (not_among look w.serial ws i v distinct.0 e) (window_at look ws i v distinct.1.1 e)
 
 -- a choice that is made by a test that fails
 pub unless : (b x y : Bool) → b ≡ false → (if not b then x else y) ≡ x
@@ -118,28 +118,28 @@ module _ (desk : LayeredDesk) (image stale : PixelSet) (s : ℕ) (update : Pixel
       by_visible p false e = by_update p (holds update p) refl e
 
   -- windows of other numbers
-  other_areas : (font : List ℕ) (ws : List WindowRecord) (areas : List Area) → layers.window_of s (map (layered_window font) ws) ≡ None → AreAreas desk stale ws areas → AreAreas desk stale_now ws areas
-  other_areas font [] [] none its = tt
-  other_areas font (w ∷ ws) (a ∷ areas) none its =
-      let first = not_first (w.serial == s) (layered_window font w) (layers.window_of s (map (layered_window font) ws)) none in
-      (other_area w.serial a first.0 its.0, other_areas font ws areas first.1 its.1)
-  other_areas font [] (a ∷ areas) none its = absurd its
-  other_areas font (w ∷ ws) [] none its = absurd its
+  other_areas : (look : Look) (ws : List WindowRecord) (areas : List Area) → layers.window_of s (map (layered_window look) ws) ≡ None → AreAreas desk stale ws areas → AreAreas desk stale_now ws areas
+  other_areas look [] [] none its = tt
+  other_areas look (w ∷ ws) (a ∷ areas) none its =
+      let first = not_first (w.serial == s) (layered_window look w) (layers.window_of s (map (layered_window look) ws)) none in
+      (other_area w.serial a first.0 its.0, other_areas look ws areas first.1 its.1)
+  other_areas look [] (a ∷ areas) none its = absurd its
+  other_areas look (w ∷ ws) [] none its = absurd its
 
   -- all windows, one of which gets its region
-  areas_now : (font : List ℕ) (ws : List WindowRecord) (areas : List Area) (i : ℕ) (v : WindowRecord) (a : Area) → layers.AreWindows (map (layered_window font) ws) → slice_get ws i ≡ Some v → v.serial ≡ s → a ≡ get_or areas i a
+  areas_now : (look : Look) (ws : List WindowRecord) (areas : List Area) (i : ℕ) (v : WindowRecord) (a : Area) → layers.AreWindows (map (layered_window look) ws) → slice_get ws i ≡ Some v → v.serial ≡ s → a ≡ get_or areas i a
       → ((p : Point) → holds update p ≡ true → holds a.visible p ≡ true) → AreAreas desk stale ws areas → AreAreas desk stale_now ws (slice_set areas i (record a { update = update }))
-  areas_now font [] [] i v a distinct e number read within its = absurd (cc)
-  areas_now font (w ∷ ws) (x ∷ areas) zero v a distinct e number read within its =
+  areas_now look [] [] i v a distinct e number read within its = absurd (cc)
+  areas_now look (w ∷ ws) (x ∷ areas) zero v a distinct e number read within its =
       let same : w ≡ v = cc in
       let serial : w.serial ≡ s = ap (λ (y : WindowRecord). y.serial) same ∙ number in (
         subst (λ n. IsArea desk stale_now n (record a { update = update })) (sym serial) (its_area a within (subst (λ (k : ℕ × Area). IsArea desk stale k.0 k.1) (λ i. (serial i, sym read i)) its.0)),
-        other_areas font ws areas (subst (λ n. layers.window_of n (map (layered_window font) ws) ≡ None) serial distinct.0) its.1,
+        other_areas look ws areas (subst (λ n. layers.window_of n (map (layered_window look) ws) ≡ None) serial distinct.0) its.1,
       )
-  areas_now font (w ∷ ws) (x ∷ areas) (suc i) v a distinct e number read within its =
-      (other_area w.serial x (ap (λ n. w.serial == n) (sym number) ∙ not_among font w.serial ws i v distinct.0 e) its.0, areas_now font ws areas i v a distinct.1.1 e number read within its.1)
-  areas_now font [] (x ∷ areas) i v a distinct e number read within its = absurd its
-  areas_now font (w ∷ ws) [] i v a distinct e number read within its = absurd its
+  areas_now look (w ∷ ws) (x ∷ areas) (suc i) v a distinct e number read within its =
+      (other_area w.serial x (ap (λ n. w.serial == n) (sym number) ∙ not_among look w.serial ws i v distinct.0 e) its.0, areas_now look ws areas i v a distinct.1.1 e number read within its.1)
+  areas_now look [] (x ∷ areas) i v a distinct e number read within its = absurd its
+  areas_now look (w ∷ ws) [] i v a distinct e number read within its = absurd its
 
 -- ---- the window manager
 
@@ -170,11 +170,11 @@ module _ {V : Type 0} {H : V → Type 0} (loan : Taken V H → Loan) (t : Window
     areas = slice_set t.areas.items at (record a { update = update })
 
     areas_after : AreAreasAfter (remarking w.serial update) (layered_state (state_of loan t slots)) desk before.windows areas
-    areas_after = areas_now desk (bit t.screen) (stale_in t.areas.items) w.serial update t.font before.windows t.areas.items at (record_of loan w) a whole.sound.distinct record_there refl read within whole.areas
+    areas_after = areas_now desk (bit t.screen) (stale_in t.areas.items) w.serial update (look_on t) before.windows t.areas.items at (record_of loan w) a whole.sound.distinct record_there refl read within whole.areas
 
     -- what is then stale
     pub stale_is : (p : Point) → layers.on_screen desk p ≡ true → stale_in areas p ≡ (if is_content_of w.serial (owner desk p) then holds update p else stale_in t.areas.items p)
-    stale_is p on = updated_is_stale t.font (remarking w.serial update) (layered_state (state_of loan t slots)) desk before.windows areas p refl areas_after on ∙ by_content (is_content (owner desk p)) refl
+    stale_is p on = updated_is_stale (look_on t) (remarking w.serial update) (layered_state (state_of loan t slots)) desk before.windows areas p refl areas_after on ∙ by_content (is_content (owner desk p)) refl
       where
         by_content : (b : Bool) → is_content (owner desk p) ≡ b → plain.stale_by (remarking w.serial update) (layered_state (state_of loan t slots)) (owner desk p) p ≡ (if is_content_of w.serial (owner desk p) then holds update p else stale_in t.areas.items p)
         by_content true c = content_stale desk (bit t.screen) (stale_in t.areas.items) w.serial update p on c
@@ -193,9 +193,10 @@ module _ {V : Type 0} {H : V → Type 0} (loan : Taken V H → Loan) (t : Window
         gray = subst (λ (x : FullDesk). IsGray (layered_desk x) t.gray) (sym desk_is) whole.gray;
         desktop = subst (λ (x : FullDesk). IsDesktop (layered_desk x) t.desktop) (sym desk_is) whole.desktop;
         areas = subst (λ (x : FullDesk). AreAreas (layered_desk x) (stale_in areas) x.windows areas) (sym desk_is)
-            (areas_are t.font (remarking w.serial update) (layered_state (state_of loan t slots)) desk before.windows areas refl areas_after);
+            (areas_are (look_on t) (remarking w.serial update) (layered_state (state_of loan t slots)) desk before.windows areas refl areas_after);
         frames = subst (λ (k : LayeredDesk). (p : Point) → layers.on_screen k p ≡ true → is_content (owner k p) ≡ false → bit screen p ≡ own_bit k (owner k p) p) (sym (ap layered_desk desk_is))
             (λ p on c. still p on (no_content w.serial (owner desk p) c) ∙ whole.frames p on c);
+        layers = whole.layers;
       }
 
     -- nothing is drawn

@@ -26,20 +26,22 @@ use Rattle.def_iface.specs.Change as plain
 use Rattle.def_iface.proofs.Owning.{same_number, not_first, same_owner-self}
 use Rattle.def_iface.proofs.Painting.{scratch_is_owners}
 use Rattle.vis_update.specs.declared.area.Area.{Area}
-use Rattle.vis_update.specs.Records.{WindowRecord, layered_window, record_of}
+use Rattle.vis_update.specs.Records.{WindowRecord, Look, layered_window, record_of}
 use Rattle.vis_update.specs.Areas.{stale_in, IsGray, IsDesktop, IsArea, AreAreas, is_content_of}
 use Rattle.window_list.specs.declared.window.Window.{Window}
 use Rattle.window_mgr.specs.declared.manager.WindowManager.{WindowManager}
 use Rattle.window_mgr.specs.FullDesk.{FullDesk, layered_desk, layered_state}
 use Rattle.window_mgr.specs.Finding.{record_with}
-use Rattle.window_mgr.specs.Records.{desk_of, state_of}
-use Rattle.window_mgr.specs.Whole.{IsWholeManager, IsSoundDesk, IsSettled}
+use Rattle.window_mgr.specs.Records.{desk_of, state_of, look_on}
+use Rattle.window_paint.specs.White.{all_white}
+use Rattle.window_mgr.specs.Whole.{IsWholeManager, IsSoundDesk, IsSettled, LieThere}
 use Rattle.window_mgr.proofs.DrawRefusals.{record_there}
 use Rattle.window_mgr.proofs.EachChanged.{stocked_map, numbered_map}
 use Rattle.window_mgr.proofs.FindLemmas.{area_at, not_among}
 use Rattle.window_mgr.proofs.KeptLemmas.{kept}
 use Rattle.window_mgr.proofs.Repictured as layered
 use Rattle.window_mgr.proofs.Repictured.{repictured, repictured_serial, repictured_slot}
+use Rattle.window_mgr.proofs.LayerParts.{lies_set}
 
 -- ---- owners that are content or not
 
@@ -76,32 +78,32 @@ not_stale desk stale (w ∷ ws) [] p its e = absurd its
 
 -- ---- a window that is put into its place
 
-module _ (font : List ℕ) (s : ℕ) (picture : WindowRecord → List Op) (origin : WindowRecord → Point) where
+module _ (look : Look) (s : ℕ) (picture : WindowRecord → List Op) (origin : WindowRecord → Point) where
   abbrev one : Bool → WindowRecord → WindowRecord
   one b w = if b then record w { picture = picture w; origin = origin w } else w
 
   -- a window of another number is as it was
-  untouched : (ws : List WindowRecord) → layers.window_of s (map (layered_window font) ws) ≡ None → map (repictured s picture origin) ws ≡ ws
+  untouched : (ws : List WindowRecord) → layers.window_of s (map (layered_window look) ws) ≡ None → map (repictured s picture origin) ws ≡ ws
   untouched [] none = refl
   untouched (w ∷ ws) none =
-      let first = not_first (w.serial == s) (layered_window font w) (layers.window_of s (map (layered_window font) ws)) none in
+      let first = not_first (w.serial == s) (layered_window look w) (layers.window_of s (map (layered_window look) ws)) none in
       λ i. one (first.0 i) w ∷ untouched ws first.1 i
 
   module _ {V : Type 0} {H : V → Type 0} (loan : Taken V H → Loan) where
     abbrev pub put_anew : Window V H → Window V H
     put_anew x = record x { picture = picture (record_of loan x); origin = origin (record_of loan x) }
 
-    put_is_map : (ws : List (Window V H)) (i : ℕ) (x : Window V H) → layers.AreWindows (map (layered_window font) (map (record_of loan) ws)) → slice_get ws i ≡ Some x → x.serial ≡ s
+    put_is_map : (ws : List (Window V H)) (i : ℕ) (x : Window V H) → layers.AreWindows (map (layered_window look) (map (record_of loan) ws)) → slice_get ws i ≡ Some x → x.serial ≡ s
         → map (record_of loan) (set ws i (put_anew x)) ≡ map (repictured s picture origin) (map (record_of loan) ws)
     put_is_map [] i x distinct there number = absurd (cc)
     put_is_map (w ∷ ws) zero x distinct there number =
         let same : w ≡ x = cc in
         let its : w.serial ≡ s = ap (λ (y : Window V H). y.serial) same ∙ number in
         let test : (w.serial == s) ≡ true = ap (λ n. n == s) its ∙ same_number s in
-        let none : layers.window_of s (map (layered_window font) (map (record_of loan) ws)) ≡ None = subst (λ n. layers.window_of n (map (layered_window font) (map (record_of loan) ws)) ≡ None) its distinct.0 in
+        let none : layers.window_of s (map (layered_window look) (map (record_of loan) ws)) ≡ None = subst (λ n. layers.window_of n (map (layered_window look) (map (record_of loan) ws)) ≡ None) its distinct.0 in
         λ i. (ap (λ (y : Window V H). record_of loan (put_anew y)) (sym same) ∙ ap (λ b. one b (record_of loan w)) (sym test)) i ∷ sym (untouched (map (record_of loan) ws) none) i
     put_is_map (w ∷ ws) (suc i) x distinct there number =
-        let other : (w.serial == x.serial) ≡ false = not_among font w.serial (map (record_of loan) ws) i (record_of loan x) distinct.0 (slice_get-map (record_of loan) ws i ∙ ap (option_map (record_of loan)) there) in
+        let other : (w.serial == x.serial) ≡ false = not_among look w.serial (map (record_of loan) ws) i (record_of loan x) distinct.0 (slice_get-map (record_of loan) ws i ∙ ap (option_map (record_of loan)) there) in
         let test : (w.serial == s) ≡ false = ap (λ n. w.serial == n) (sym number) ∙ other in
         λ k. one (sym test k) (record_of loan w) ∷ put_is_map ws i x distinct.1.1 there number k
 
@@ -112,7 +114,7 @@ module _ (font : List ℕ) (s : ℕ) (picture : WindowRecord → List Op) (origi
         let same : w ≡ x = cc in
         let its = subst (λ (y : Window V H). IsSettled (record_of loan y)) same (All-head IsSettled (record_of loan w) (map (record_of loan) ws) all) in
         All-cons IsSettled (record_of loan (put_anew x)) (map (record_of loan) ws)
-        (record { origin = placed; placed = its.placed; live = its.live; told = its.told; fits = its.fits; inside = its.inside; within = its.within; goes_by = its.goes_by })
+        (record { origin = placed; placed = its.placed; live = its.live; told = its.told; fits = its.fits; inside = its.inside; within = its.within; layers = its.layers; goes_by = its.goes_by })
         (All-tail IsSettled (record_of loan w) (map (record_of loan) ws) all)
     put_settled (w ∷ ws) (suc i) x there placed all =
         All-cons IsSettled (record_of loan w) (map (record_of loan) (set ws i (put_anew x)))
@@ -143,7 +145,7 @@ module _ {V : Type 0} {H : V → Type 0} (loan : Taken V H → Loan) (s : ℕ) (
     pub there : slice_get t.windows.records.items at ≡ Some window
     pub number : window.serial ≡ s
     pub placed : in_plane (origin (record_of loan window)) ≡ true
-    pub windows : new.windows.records.items ≡ set t.windows.records.items at (put_anew t.font s picture origin loan window)
+    pub windows : new.windows.records.items ≡ set t.windows.records.items at (put_anew (look_on t) s picture origin loan window)
     pub width : new.screen.width ≡ t.screen.width
     pub height : new.screen.height ≡ t.screen.height
     pub bar : new.bar ≡ t.bar
@@ -168,7 +170,7 @@ module _ {V : Type 0} {H : V → Type 0} (loan : Taken V H → Loan) (s : ℕ) (
     found = record_there loan t (kept loan t slots whole) at s D.window D.there D.number
 
     windows_are : map (record_of loan) new.windows.records.items ≡ after.windows
-    windows_are = ap (map (record_of loan)) D.windows ∙ put_is_map t.font s picture origin loan t.windows.records.items at D.window whole.sound.distinct D.there D.number
+    windows_are = ap (map (record_of loan)) D.windows ∙ put_is_map (look_on t) s picture origin loan t.windows.records.items at D.window whole.sound.distinct D.there D.number
 
     pub desk_is : desk_of loan new slots ≡ after
     desk_is = λ i. record {
@@ -176,6 +178,7 @@ module _ {V : Type 0} {H : V → Type 0} (loan : Taken V H → Loan) (s : ℕ) (
       height = pos (D.height i);
       bar = D.bar i;
       font = D.font i;
+      shows = all_white;
       windows = windows_are i;
       active = D.active i;
       next = D.next i;
@@ -246,7 +249,7 @@ module _ {V : Type 0} {H : V → Type 0} (loan : Taken V H → Loan) (s : ℕ) (
           distinct = after_distinct;
           serials = numbered_map (repictured s picture origin) (repictured_serial s picture origin) before.next before.windows whole.sound.serials;
           few = omega arith;
-          settled = subst (All IsSettled) (ap (map (record_of loan)) (sym D.windows) ∙ windows_are) (put_settled t.font s picture origin loan t.windows.records.items at D.window D.there D.placed whole.sound.settled);
+          settled = subst (All IsSettled) (ap (map (record_of loan)) (sym D.windows) ∙ windows_are) (put_settled (look_on t) s picture origin loan t.windows.records.items at D.window D.there D.placed whole.sound.settled);
           stocked = stocked_map (repictured s picture origin) (repictured_slot s picture origin) before.windows slots whole.sound.stocked;
         }
 
@@ -271,4 +274,5 @@ module _ {V : Type 0} {H : V → Type 0} (loan : Taken V H → Loan) (s : ℕ) (
       areas = subst (λ (x : FullDesk). AreAreas (layered_desk x) (stale_in new.areas.items) x.windows new.areas.items) (sym desk_is) (areas_same (stale_in new.areas.items) before.windows new.areas.items D.areas);
       frames = subst (λ (k : LayeredDesk). (p : Point) → layers.on_screen k p ≡ true → is_content (owner k p) ≡ false → bit new.screen p ≡ own_bit k (owner k p) p) (sym (ap layered_desk desk_is))
           (λ p on e. plain_is p on (ap is_content (sym (owner_same p)) ∙ e) ∙ ap (λ o. own_bit (layered_desk after) o p) (sym (owner_same p)));
+      layers = subst (All LieThere) (sym D.windows) (lies_set t.windows.records.items at D.window (put_anew (look_on t) s picture origin loan D.window) D.there (λ lies. lies) whole.layers);
     }

@@ -20,12 +20,11 @@ use Rattle.window_mgr.specs.declared.arrange.Activation.TheVariants.{Stays, Beco
 use Rattle.window_mgr.specs.declared.manager.WindowManager.{WindowManager}
 use Rattle.window_mgr.specs.Edits.{IsWindowAt, relit_all}
 use Rattle.window_mgr.specs.Finding.{front_of}
-use Rattle.window_mgr.specs.FullDesk.{FullDesk, layered_desk, layered_state}
+use Rattle.window_mgr.specs.FullDesk.{FullDesk, layered_desk, layered_state, look_of}
 use Rattle.window_mgr.specs.Kept.{IsKept}
-use Rattle.window_mgr.specs.Records.{desk_of, state_of}
+use Rattle.window_mgr.specs.Records.{state_of}
 use Rattle.window_mgr.specs.Seats.{first_seated}
 use Rattle.window_mgr.specs.Without.{AreSeatsWithout, IsDeskWithout, records_without}
-use Rattle.window_mgr.proofs.Pictured.{pictured}
 use Rattle.window_mgr.proofs.PutIn.{taken_out, All-out}
 use Rattle.window_mgr.proofs.Seating.{lengths_of, seats_stand, seats_had, seats_placed, sides}
 use Rattle.window_mgr.proofs.EditSeats.{map-remove, there_is, length-put, first_stand}
@@ -117,14 +116,13 @@ module _ {V : Type 0} {H : V → Type 0} (loan : Taken V H → Loan) (t : Window
       ∙ sym (map-remove stand_of (map (record_of loan) t.windows.records.items) at)
       ∙ ap (map stand_of) (sym (map-remove (record_of loan) t.windows.records.items at))
 
-  pub arranged_rest : (after : FullDesk) → IsDeskWithout loan at t after → IsArranged loan after.font before (layered_desk after) after.windows t.gray seats
+  pub arranged_rest : (after : FullDesk) → IsDeskWithout loan at t after → IsArranged loan (look_of after) before (layered_desk after) after.windows t.gray seats
   arranged_rest after D = record {
     desk = refl;
     distinct = D.distinct;
     gray_is = subst (λ (d : LayeredDesk). IsGray d t.gray) (sym D.screen) kept.whole.gray;
     stands = seats_rest ∙ sym D.stands;
     areas = had;
-    pictures = pictured (desk_of loan t []);
   }
 
   -- and the first visible one is the same

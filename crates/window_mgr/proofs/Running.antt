@@ -19,10 +19,11 @@ use Rattle.desk_call.specs.declared.window.NewPicture.{NewPicture}
 use Rattle.desk_call.specs.declared.window.NewWindow.{NewWindow}
 use Rattle.desk_call.specs.declared.window.ScrollPicture.{ScrollPicture}
 use Rattle.desk_call.specs.declared.window.WindowReply.{WindowReply}
-use Rattle.vis_update.specs.Records.{WindowRecord, layered_window}
-use Rattle.window_mgr.specs.FullDesk.{FullDesk, FullState, IsRightState, IsGiven, HaveSerials, AreSerials, layered_desk, layered_state}
+use Rattle.vis_update.specs.Contents.{scroll_change}
+use Rattle.vis_update.specs.Records.{WindowRecord, Look, layered_window}
+use Rattle.window_mgr.specs.FullDesk.{FullDesk, FullState, IsRightState, IsGiven, HaveSerials, AreSerials, layered_desk, layered_state, look_of}
 use Rattle.window_mgr.specs.Step.{IsWindowStep}
-use Rattle.window_mgr.specs.Effects.{IsNewWindow, IsDrawn, IsPictureSet, IsScrolled, IsUnchanged, IsArrangement, Effect, IsEffect, effect_of, new_record, desk_with, with_drawn, with_new_picture, with_scrolled, draw_change, picture_change, scroll_change}
+use Rattle.window_mgr.specs.Effects.{IsNewWindow, IsDrawn, IsPictureSet, IsScrolled, IsUnchanged, IsArrangement, Effect, IsEffect, effect_of, new_record, desk_with, with_drawn, with_new_picture, with_scrolled, draw_change, picture_change}
 use Rattle.window_mgr.specs.Effects.Effect.{Makes, Disposes, Draws, Pictures, Scrolls, Arranges, Places, Tells, Describes}
 use Rattle.window_mgr.specs.Arrange.{with_highlighting, Arrangement, activation_of, desk_activated, placed}
 use Rattle.window_mgr.specs.Finding.{front_of, record_with}
@@ -38,12 +39,12 @@ use Rattle.window_mgr.proofs.Disposed.{disposed_stays_right}
 -- ---- a window in front of others
 
 -- as layers, a desk with a new window has just one window more
-pub layered_desk-with : (w : NewWindow) (serial slot : ℕ) (d : Definition) (desk : FullDesk) (stock : _) → layered_desk (record (desk_with w serial slot d desk) { stock = stock }) ≡ record (layered_desk desk) { windows = layered_window desk.font (new_record w serial slot d) ∷ map (layered_window desk.font) desk.windows }
+pub layered_desk-with : (w : NewWindow) (serial slot : ℕ) (d : Definition) (desk : FullDesk) (stock : _) → layered_desk (record (desk_with w serial slot d desk) { stock = stock }) ≡ record (layered_desk desk) { windows = layered_window (look_of desk) (new_record w serial slot d) ∷ map (layered_window (look_of desk)) desk.windows }
 layered_desk-with w serial slot d desk stock =
-    ap (λ ws. record (layered_desk desk) { windows = layered_window desk.font (new_record w serial slot d) ∷ ws }) (by_shown w.shown)
+    ap (λ ws. record (layered_desk desk) { windows = layered_window (look_of desk) (new_record w serial slot d) ∷ ws }) (by_shown w.shown)
   where
-    by_shown : (b : Bool) → map (layered_window desk.font) (if b then map (with_highlighting false desk.active) desk.windows else desk.windows) ≡ map (layered_window desk.font) desk.windows
-    by_shown true = map-map (layered_window desk.font) (with_highlighting false desk.active) (layered_window desk.font) (λ v. either false desk.active (λ u. layered_window desk.font u ≡ layered_window desk.font v) v refl refl) desk.windows
+    by_shown : (b : Bool) → map (layered_window (look_of desk)) (if b then map (with_highlighting false desk.active) desk.windows else desk.windows) ≡ map (layered_window (look_of desk)) desk.windows
+    by_shown true = map-map (layered_window (look_of desk)) (with_highlighting false desk.active) (layered_window (look_of desk)) (λ v. either false desk.active (λ u. layered_window (look_of desk) u ≡ layered_window (look_of desk) v) v refl refl) desk.windows
     by_shown false = refl
 
 same_serial : (active : Option ℕ) (w : WindowRecord) → (with_highlighting false active w).serial ≡ w.serial
@@ -59,12 +60,12 @@ given-all next [] h = tt
 given-all next (w ∷ ws) h = (h.0.0, given-all next ws h.1)
 
 -- the number of the next window is no window's
-pub next_is_free : (font : List ℕ) (next : ℕ) (ws : List WindowRecord) → HaveSerials (IsGiven (Some next)) ws → layers.window_of next (map (layered_window font) ws) ≡ None
-next_is_free font next [] h = refl
-next_is_free font next (w ∷ ws) h =
+pub next_is_free : (look : Look) (next : ℕ) (ws : List WindowRecord) → HaveSerials (IsGiven (Some next)) ws → layers.window_of next (map (layered_window look) ws) ≡ None
+next_is_free look next [] h = refl
+next_is_free look next (w ∷ ws) h =
     let below = h.0.1 in
     let other : (w.serial == next) ≡ false = grind (arith, nat_tests) in
-    rw other (next_is_free font next ws h.1)
+    rw other (next_is_free look next ws h.1)
 
 -- ---- a new window is a sound change
 
@@ -98,11 +99,11 @@ numbered_with w serial slot d desk serials = let first = serials.0 in after_numb
 
 new_stays_right : (w : NewWindow) (serial : ℕ) (before after : FullState) → IsRightState before → IsNewWindow w serial before after → IsRightState after
 new_stays_right w serial before after right new =
-    let new_window = layered_window before.desk.font (new_record w serial new.loan.slot new.begun) in
+    let new_window = layered_window (look_of before.desk) (new_record w serial new.loan.slot new.begun) in
     let below : AreSerials (Some serial) before.desk.windows = subst (λ (n : Option ℕ). AreSerials n before.desk.windows) new.serials right.serials in
-    let desk : layered_desk after.desk ≡ record (layered_desk before.desk) { windows = new_window ∷ map (layered_window before.desk.font) before.desk.windows } =
+    let desk : layered_desk after.desk ≡ record (layered_desk before.desk) { windows = new_window ∷ map (layered_window (look_of before.desk)) before.desk.windows } =
     ap layered_desk new.desk ∙ layered_desk-with w serial new.loan.slot new.begun before.desk after.desk.stock in
-    let sound = new_is_sound (layered_state before) new_window right.plain.desk (next_is_free before.desk.font serial before.desk.windows below.1) (refl, tt) in
+    let sound = new_is_sound (layered_state before) new_window right.plain.desk (next_is_free (look_of before.desk) serial before.desk.windows below.1) (refl, tt) in
     record {
       plain = stays_right plain.no_change (layered_state before) (layered_state after) right.plain (subst (plain.IsSound plain.no_change (layered_state before)) (sym desk) sound) new.pixels;
       serials = subst (λ (d : FullDesk). AreSerials d.next d.windows) (sym new.desk) (numbered_with w serial new.loan.slot new.begun before.desk below);

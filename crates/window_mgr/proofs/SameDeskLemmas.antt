@@ -17,10 +17,11 @@ use Rattle.window_mgr.specs.AnySlots.{IsStepOverAnySlots}
 use Rattle.window_mgr.specs.FullDesk.{FullDesk, FullState, layered_desk, layered_state}
 use Rattle.vis_update.specs.Records.{record_of}
 use Rattle.window_mgr.specs.Records.{desk_of, state_of}
+use Rattle.window_paint.specs.White.{all_white}
 use Rattle.vis_update.specs.Areas.{stale_in}
 use Rattle.window_mgr.specs.Effects.{IsUnchanged, desk_with}
 use Rattle.window_mgr.specs.Step.{IsCallRefused}
-use Rattle.window_mgr.specs.Whole.{IsWholeManager, IsSettled, IsSoundDesk, AreFramesShown}
+use Rattle.window_mgr.specs.Whole.{IsWholeManager, IsSettled, IsSoundDesk, AreFramesShown, LieThere}
 use Rattle.vis_update.specs.Areas.{IsGray, IsDesktop, AreAreas}
 use Rattle.window_mgr.specs.Planned.{SameDesk, IsPlanWith}
 use Rattle.vis_update.specs.Plans.{IsPlan}
@@ -36,6 +37,7 @@ module _ {V : Type 0} {H : V → Type 0} (loan : Taken V H → Loan) (t u : Wind
     height = pos (ap (λ (s : Bits). s.height) same.screen i);
     bar = same.bar i;
     font = same.font i;
+    shows = all_white;
     windows = map (record_of loan) (same.windows i);
     active = same.active i;
     next = same.next i;
@@ -61,6 +63,7 @@ module _ {V : Type 0} {H : V → Type 0} (loan : Taken V H → Loan) (t u : Wind
     desktop = subst (λ (x : FullDesk × Pixels). IsDesktop (layered_desk x.0) x.1) (λ i. (sym desk_stays i, sym same.desktop i)) whole.desktop;
     areas = subst (λ (x : FullDesk × List Area). AreAreas (layered_desk x.0) (stale_in x.1) x.0.windows x.1) (λ i. (sym desk_stays i, sym same.areas i)) whole.areas;
     frames = subst AreFramesShown (sym state_stays) whole.frames;
+    layers = subst (All LieThere) (sym same.windows) whole.layers;
   }
 
   -- what was planned is still right

@@ -1,173 +1,202 @@
 -- The step of a picture that is moved in its window.
-use Rattle.std.proofs.Common.{◌≡◌, inl, inr, ℕ, ◌<◌, ◌==◌, ◌&&◌, Bool, true, false, if◌then◌else◌, List, length, map, set, get_or, None, Some, Ok, Err, refl, sym, ap, ◌∙◌, subst, arith}
-use Rattle.std.specs.Prelude.{slice_get}
-use Rattle.std.specs.List.{remove}
-use Rattle.std.specs.Option.{option_map}
-use Rattle.std.proofs.lemmas.List.{length-map}
-use Rattle.std.proofs.lemmas.Option.{slice_get-map, slice_get-get_or}
+use Rattle.std.proofs.Common.{◌≡◌, inl, inr, ℕ, ◌<◌, not, ◌&&◌, Bool, true, false, if◌then◌else◌, List, [], length, map, get_or, None, Some, Result, Ok, Err, refl, sym, ap, ◌∙◌, subst}
+use Rattle.std.specs.Prelude.{IfOk, slice_set}
+use Rattle.std.specs.declared.alloc.AllocError.{AllocError}
+use Rattle.std.proofs.lemmas.Bool.{and_parts}
+use Rattle.std.proofs.lemmas.Option.{slice_get-get_or}
+use Rattle.std.proofs.lemmas.Result.{IfOk-weaker}
 use Rattle.tb_geom.specs.declared.point.Point.{Point}
-use Rattle.tb_geom.specs.declared.refusal.Refusal.{Refusal}
 use Rattle.tb_geom.specs.declared.refusal.Refusal.TheVariants.{OutOfRange, NoMemory}
 use Rattle.tb_geom.specs.Points.{plus, minus}
+use Rattle.tb_geom.specs.Pixels.{Pixels, holds}
 use Rattle.tb_geom.specs.Rects.{in_plane}
-use Rattle.bit_map.specs.Bits.{bit}
+use Rattle.tb_geom.specs.Refusals.{first_refusal}
+use Rattle.bit_map.specs.Bits.{Bits, on_map, bit}
 use Rattle.def_iface.specs.declared.taken.Taken.{Taken}
+use Rattle.def_iface.specs.declared.part.Part.TheVariants.{Picture}
 use Rattle.def_iface.specs.Meaning.{Loan}
 use Rattle.def_iface.specs.Stocked.{SlotView}
-use Rattle.def_iface.specs.Owner.{Owner, owner, is_content}
-use Rattle.def_iface.specs.Owner.Owner.{Desktop, Bar, Frame, Content}
+use Rattle.def_iface.specs.Desk as layers
+use Rattle.def_iface.specs.Desk.{LayeredDesk}
+use Rattle.def_iface.specs.Owner.{Owner, owner, same_owner, is_content}
+use Rattle.def_iface.specs.Owner.Owner.{Content}
+use Rattle.def_iface.specs.Scratch.{scratch}
 use Rattle.def_iface.specs.Change as plain
+use Rattle.def_iface.proofs.Owning.{same_owner-self}
 use Rattle.desk_call.specs.declared.window.ScrollPicture.{ScrollPicture}
 use Rattle.desk_call.specs.declared.window.WindowCall.TheVariants.{Scroll}
-use Rattle.desk_call.specs.declared.window.WindowReply.{WindowReply}
-use Rattle.vis_update.specs.Records.{WindowRecord, record_of}
-use Rattle.vis_update.specs.Areas.{stale_in, AreAreas, is_pictured, ArePictures}
-use Rattle.vis_update.specs.Touches.{moving, moved_from}
+use Rattle.desk_call.specs.declared.window.WindowReply.TheVariants.{Done}
+use Rattle.vis_update.specs.declared.area.Area.{Area}
+use Rattle.vis_update.specs.declared.scrolling.Scrolled.{Scrolled}
+use Rattle.vis_update.specs.Areas.{IsArea, AreAreas, IsNear, is_content_of, stale_in}
+use Rattle.vis_update.specs.Contents.{scroll_change, scrolled_from, IsCovered, IsScrollPlan}
+use Rattle.vis_update.proofs.ScrollLemmas.{no_picture, other_stale}
+use Rattle.vis_update.proofs.SeatLemmas as seats
 use Rattle.window_list.specs.declared.window.Window.{Window}
 use Rattle.window_list.specs.Lists.{edit_at, with_origin}
 use Rattle.window_list.proofs.ListLemmas.{set_is_edit}
-use Rattle.window_mgr.specs.declared.arrange.Activates.TheVariants.{Nothing}
-use Rattle.window_mgr.specs.declared.arrange.Edit.{Edit}
 use Rattle.window_mgr.specs.declared.manager.WindowManager.{WindowManager}
-use Rattle.window_mgr.specs.AnySlots.{IsStepOverAnySlots, IsRearrangedOverAnySlots}
-use Rattle.window_mgr.specs.Edits.{StandsAt, IsWindowAt, stays_put, records_put}
-use Rattle.window_mgr.specs.Effects.{IsScrolled, with_scrolled, IsArrangement, scroll_change, scrolled_from}
+use Rattle.window_mgr.specs.AnySlots.{IsStepOverAnySlots}
+use Rattle.window_paint.specs.Moves.{moved_bit}
+use Rattle.window_mgr.specs.Edits.{StandsAt, IsWindowAt}
+use Rattle.window_mgr.specs.Effects.{IsScrolled, with_scrolled}
 use Rattle.window_mgr.specs.FullDesk.{FullDesk, layered_desk, layered_state}
 use Rattle.window_mgr.specs.Kept.{IsKept}
 use Rattle.window_mgr.specs.Records.{desk_of, state_of}
-use Rattle.tb_geom.specs.Refusals.{first_refusal}
 use Rattle.window_mgr.specs.Refused.{scroll_refusals, may_scroll}
+use Rattle.window_mgr.specs.Scrolls.{IsPlanOfScroll, IsScrollDrawn}
+use Rattle.window_paint.specs.Moves.{IsScrollPainted}
 use Rattle.window_mgr.specs.Whole.{IsWholeManager}
-use Rattle.window_mgr.proofs.Pictured.{pictured}
-use Rattle.window_mgr.proofs.EditSeats.{there_is}
-use Rattle.window_mgr.proofs.PutIn.{put_is_insert, taken_out, map-put}
+use Rattle.window_mgr.proofs.Arranged.{between-is_below}
+use Rattle.window_mgr.proofs.EditSeats.{there_is, same_at}
+use Rattle.window_mgr.proofs.Remarked as remarked
 use Rattle.window_mgr.proofs.Repicturing as anew
 use Rattle.window_mgr.proofs.Repicturing.{IsRepictured}
 use Rattle.window_mgr.proofs.SameDeskLemmas.{is_refused}
+use Rattle.window_mgr.proofs.Seating.{sides}
 use Rattle.window_mgr.proofs.Steps as steps
+use Rattle.window_mgr.proofs.Covered.{covered_so}
+use Rattle.window_paint.specs.Hidden.{is_hidden}
 
--- ---- what moves
+module _ {V : Type 0} {H : V → Type 0} (loan : Taken V H → Loan) (t : WindowManager V H) (slots : List SlotView) (whole : IsWholeManager loan t slots) (m : ScrollPicture) (at : ℕ) (low : at < length t.windows.records.items) (x : Window V H) (x_is : IsWindowAt t.windows.records.items at x)
+    (a : Area) (read : a ≡ get_or t.areas.items at a) (s : Scrolled) (plan : IsScrollPlan x.serial m.by (layered_state (state_of loan t slots)) s) (screen : Bits) (painted : IsScrollPainted s.copied s.erase m.by t.screen screen) where
+  abbrev before : plain.State
+  before = layered_state (state_of loan t slots)
 
--- a window's content is its picture, so that both move alike
-moves_alike : (s : ℕ) (by : Point) (o : Owner) (p : Point) → is_pictured o ≡ true → moved_from s (Some by) o p ≡ scrolled_from s by o p
-moves_alike s by Desktop p e = refl
-moves_alike s by Bar p e = refl
-moves_alike s by (Frame t) p e = refl
-moves_alike s by (Content t part) p e = rw e (by_test (t == s))
-  where
-    by_test : (b : Bool) → (if b then minus p by else p) ≡ (if b && true then minus p by else p)
-    by_test true = refl
-    by_test false = refl
+  abbrev desk : LayeredDesk
+  desk = before.desk
 
--- what moves a window's content scrolls it
-scrolls_so : (s : ℕ) (by : Point) (before after : plain.State) → ArePictures after.desk → plain.IsChanged (moving s (Some by)) before after → plain.IsChanged (scroll_change s by) before after
-scrolls_so s by before after pictures done = record {
-  stale = λ p on. done.stale p on ∙ ap (λ q. plain.stale_by (record plain.no_change { source = λ o r. q }) before (owner after.desk p) p) (moves_alike s by (owner after.desk p) p (pictures p));
-  image = λ p on. done.image p on ∙ ap (λ q. plain.image_by (record plain.no_change { source = λ o r. q }) before after.desk (owner after.desk p) p) (moves_alike s by (owner after.desk p) p (pictures p));
-}
+  abbrev change : plain.Change
+  change = scroll_change x.serial m.by
 
--- ---- the desk in between: its pixels moved, and its picture lies where it lay
+  -- ---- the pixels, once the scroll is drawn
 
-module _ {V : Type 0} {H : V → Type 0} (loan : Taken V H → Loan) (t mid : WindowManager V H) (slots : List SlotView) (m : ScrollPicture) (at : ℕ) (x : Window V H) (low : at < length t.windows.records.items) (x_is : IsWindowAt t.windows.records.items at x) where
-  -- a window that stays as it stands leaves all windows as they are
-  windows_stay : records_put loan (stays_put at x) x t ≡ (desk_of loan t slots).windows
-  windows_stay = sym (
-      ap (map (record_of loan)) (taken_out t.windows.records.items at x low x_is)
-      ∙ map-put (record_of loan) at x (remove t.windows.records.items at)
-      ∙ put_is_insert at (record_of loan x) (map (record_of loan) (remove t.windows.records.items at)))
+  on_map_is : (p : Point) → layers.on_screen desk p ≡ on_map t.screen p
+  unfolding on_map
+  on_map_is p = λ i. between-is_below t.screen.width p.h i && between-is_below t.screen.height p.v i
 
-  abbrev IsMid : Type 0
-  IsMid = IsArrangement (record { window = x.serial; by = Some m.by; windows = records_put loan (stays_put at x) x t; activates = Nothing }) (state_of loan t slots) (state_of loan mid slots)
+  -- what is to be redrawn is content of the window
+  within : (p : Point) → holds s.update p ≡ true → holds a.visible p ≡ true
+  within p e =
+      (remarked.area_is loan t slots whole at low x x_is a read).visible p
+      ∙ (and_parts (layers.on_screen desk p && is_content_of x.serial (owner desk p)) _ (sym (plan.update p) ∙ e)).0
 
-  pub desk_stays : IsMid → desk_of loan mid slots ≡ desk_of loan t slots
-  desk_stays done = done.desk ∙ ap (λ ws. record (desk_of loan t slots) { windows = ws }) windows_stay
+  module _ (p : Point) (on : layers.on_screen desk p ≡ true) where
+    abbrev its : Owner
+    its = owner desk p
 
-  records_stay : IsMid → map (record_of loan) mid.windows.records.items ≡ map (record_of loan) t.windows.records.items
-  records_stay done = ap (λ (d : FullDesk). d.windows) (desk_stays done)
+    abbrev is_picture : Bool
+    is_picture = same_owner its (Content x.serial Picture)
 
-  pub length_stays : IsMid → length mid.windows.records.items ≡ length t.windows.records.items
-  length_stays done =
-      let were = length-map t.windows.records.items (record_of loan) in
-      let are = length-map mid.windows.records.items (record_of loan) in
-      let same = ap length (records_stay done) in
-      omega arith
+    abbrev source : Point
+    source = minus p m.by
 
-  -- the window has the record that it had
-  record_stays : IsMid → (y : Window V H) → slice_get mid.windows.records.items at ≡ Some y → record_of loan y ≡ record_of loan x
-  record_stays done y there =
-      let both : Some (record_of loan y) ≡ Some (record_of loan x) =
-      ap (option_map (record_of loan)) (sym there)
-      ∙ sym (slice_get-map (record_of loan) mid.windows.records.items at)
-      ∙ ap (λ ws. slice_get ws at) (records_stay done)
-      ∙ slice_get-map (record_of loan) t.windows.records.items at
-      ∙ ap (option_map (record_of loan)) (slice_get-get_or t.windows.records.items at x low ∙ ap Some (sym x_is)) in
-      cc
+    bit_is : bit screen p ≡ (if holds s.erase p then false else moved_bit s.copied (Some m.by) t.screen p)
+    bit_is = painted.pixels p (sym (on_map_is p) ∙ on)
 
--- ---- the desk before and after
+    erase_is : (b : Bool) → is_picture ≡ b → holds s.erase p ≡ ((true && b) && not (plain.had change desk its p))
+    erase_is b e = plan.erase p ∙ (λ i. (on i && e i) && not (plain.had change desk its p))
 
-module _ {V : Type 0} {H : V → Type 0} (loan : Taken V H → Loan) (t mid new : WindowManager V H) (slots : List SlotView) (m : ScrollPicture) (at : ℕ) (x : Window V H) (low : at < length t.windows.records.items) (x_is : IsWindowAt t.windows.records.items at x) (serial : x.serial ≡ m.window)
-    (whole : IsWholeManager loan mid slots) (done : IsMid loan t mid slots m at x low x_is) (placed : in_plane (plus x.origin m.by) ≡ true)
-    (windows : new.windows ≡ record mid.windows { records = edit_at (with_origin (plus x.origin m.by)) at mid.windows.records }) (others : new ≡ record mid { windows = new.windows }) where
-  there : (y : Window V H) × (y ≡ get_or mid.windows.records.items at y)
-  there =
-      let long = length_stays loan t mid slots m at x low x_is done in
-      there_is mid.windows.records.items at (omega arith)
+    copied_is : (b : Bool) → is_picture ≡ b → holds s.copied p ≡ ((true && b) && plain.had change desk its p)
+    copied_is b e = plan.copied p ∙ (λ i. (on i && e i) && plain.had change desk its p)
 
-  is_there : slice_get mid.windows.records.items at ≡ Some there.0
-  is_there =
-      let long = length_stays loan t mid slots m at x low x_is done in
-      slice_get-get_or mid.windows.records.items at there.0 (omega arith) ∙ ap Some (sym there.1)
+    -- what is not the picture stays as it was
+    still : is_picture ≡ false → bit screen p ≡ bit t.screen p
+    still e =
+        bit_is
+        ∙ (λ i. if erase_is false e i then false else (if copied_is false e i && on_map t.screen source then bit t.screen source else bit t.screen p))
 
-  same : record_of loan there.0 ≡ record_of loan x
-  same = record_stays loan t mid slots m at x low x_is done there.0 is_there
+    -- each pixel of content has its value, whatever the desk is then
+    image_is : (after : LayeredDesk) → is_content its ≡ true → bit screen p ≡ plain.image_by change before after its p
+    image_is after c = by_picture is_picture refl
+      where
+        by_had : is_picture ≡ true → (h : Bool) → plain.had change desk its p ≡ h → bit screen p ≡ plain.image_by change before after its p
+        by_had e true f =
+            let there : on_map t.screen source ≡ true =
+            sym (on_map_is source) ∙ (λ i. layers.on_screen desk (if sym e i then source else p)) ∙ (and_parts (layers.on_screen desk (scrolled_from x.serial m.by its p)) _ f).0 in
+            bit_is
+            ∙ (λ i. if (erase_is true e ∙ ap not f) i then false else (if (copied_is true e ∙ f) i && there i then bit t.screen source else bit t.screen p))
+            ∙ sym (λ i. if not (c i) then scratch after p else (if not (f i) then false else bit t.screen (if e i then source else p)))
+        by_had e false f =
+            bit_is
+            ∙ (λ i. if (erase_is true e ∙ ap not f) i then false else moved_bit s.copied (Some m.by) t.screen p)
+            ∙ sym (λ i. if not (c i) then scratch after p else (if not (f i) then false else bit t.screen (scrolled_from x.serial m.by its p)))
 
-  origin_is : plus x.origin m.by ≡ plus there.0.origin m.by
-  origin_is = ap (λ (w : WindowRecord). plus w.origin m.by) (sym same)
+        by_picture : (b : Bool) → is_picture ≡ b → bit screen p ≡ plain.image_by change before after its p
+        by_picture true e = by_had e (plain.had change desk its p) refl
+        by_picture false e =
+            still e
+            ∙ sym (
+            (λ i. if not (c i) then scratch after p
+            else (let q = if e i then source else p in if not (layers.on_screen desk q && same_owner (owner desk q) its) then false else bit t.screen q))
+            ∙ (λ i. if not (on i && same_owner-self its i) then false else bit t.screen p))
 
-  repictured : IsRepictured loan m.window (λ w. w.picture) (λ w. plus w.origin m.by) at mid new
-  repictured = record {
-    window = there.0;
-    there = is_there;
-    number = ap (λ (w : WindowRecord). w.serial) same ∙ serial;
-    placed = ap in_plane (sym origin_is) ∙ placed;
-    windows =
-        ap (λ l. l.records.items) windows
-        ∙ sym (set_is_edit (with_origin (plus x.origin m.by)) mid.windows.records.items at there.0 there.1)
-        ∙ ap (λ o. set mid.windows.records.items at (record there.0 { origin = o })) origin_is;
-    width = ap (λ (u : WindowManager V H). u.screen.width) others;
-    height = ap (λ (u : WindowManager V H). u.screen.height) others;
-    bar = ap (λ (u : WindowManager V H). u.bar) others;
-    font = ap (λ (u : WindowManager V H). u.font) others;
-    gray = ap (λ (u : WindowManager V H). u.gray) others;
-    desktop = ap (λ (u : WindowManager V H). u.desktop) others;
-    active = ap (λ l. l.active) windows;
-    next = ap (λ l. l.next) windows;
-    frames = λ p on e. ap (λ (u : WindowManager V H). bit u.screen p) others;
-    areas = subst (λ areas. AreAreas (layered_desk (desk_of loan mid slots)) (stale_in areas) (desk_of loan mid slots).windows areas) (sym (ap (λ (u : WindowManager V H). u.areas.items) others)) whole.areas;
-  }
+    abbrev areas : List Area
+    areas = slice_set t.areas.items at (record a { update = s.update })
 
-  is_whole : IsWholeManager loan new slots
-  is_whole = anew.is_whole loan m.window (λ w. w.picture) (λ w. plus w.origin m.by) at mid new slots whole repictured
+    -- and is stale where it is to be
+    stale_is : is_content its ≡ true → stale_in areas p ≡ plain.stale_by change before its p
+    stale_is c = remarked.stale_is loan t slots whole at low x x_is a read s.update within p on ∙ by_window (is_content_of x.serial its) refl
+      where
+        by_window : (b : Bool) → is_content_of x.serial its ≡ b → (if is_content_of x.serial its then holds s.update p else stale_in t.areas.items p) ≡ plain.stale_by change before its p
+        by_window true e = (λ i. if e i then holds s.update p else stale_in t.areas.items p) ∙ plan.update p ∙ (λ i. (on i && e i) && plain.stale_by change before its p)
+        by_window false e = (λ i. if e i then holds s.update p else stale_in t.areas.items p) ∙ sym (other_stale before x.serial m.by p on c (no_picture x.serial its e))
 
-  -- the pixels that came from elsewhere stay where they came
-  changed : plain.IsChanged (moving x.serial (Some m.by)) (layered_state (state_of loan t slots)) (layered_state (state_of loan new slots))
-  changed = anew.changed loan m.window (λ w. w.picture) (λ w. plus w.origin m.by) at mid new slots whole repictured (moving x.serial (Some m.by)) (layered_state (state_of loan t slots))
-      (λ p on e. ap (λ (u : WindowManager V H). stale_in u.areas.items p) others ∙ done.pixels.stale p on)
-      (λ p on e. ap (λ (u : WindowManager V H). bit u.screen p) others ∙ done.pixels.image p on ∙ same_image p e)
-    where
-      same_image : (p : Point) → is_content (owner (layered_desk (desk_of loan mid slots)) p) ≡ true
-          → plain.image_by (moving x.serial (Some m.by)) (layered_state (state_of loan t slots)) (layered_desk (desk_of loan mid slots)) (owner (layered_desk (desk_of loan mid slots)) p) p
-          ≡ plain.image_by (moving x.serial (Some m.by)) (layered_state (state_of loan t slots)) (layered_desk (anew.after loan m.window (λ w. w.picture) (λ w. plus w.origin m.by) at mid new slots whole repictured)) (owner (layered_desk (desk_of loan mid slots)) p) p
-      same_image p e = rw e refl
+  -- ---- the window manager in between: the scroll is drawn, and the picture lies where it lay
 
-  is_scrolled : IsScrolled m (state_of loan t slots) (state_of loan new slots)
-  is_scrolled = record {
-    desk =
-        anew.desk_is loan m.window (λ w. w.picture) (λ w. plus w.origin m.by) at mid new slots whole repictured
-        ∙ ap (λ (d : FullDesk). record d { windows = map (with_scrolled m) d.windows }) (desk_stays loan t mid slots m at x low x_is done);
-    pixels = scrolls_so m.window m.by (layered_state (state_of loan t slots)) (layered_state (state_of loan new slots)) (pictured (desk_of loan new slots))
-        (subst (λ (s : ℕ). plain.IsChanged (moving s (Some m.by)) (layered_state (state_of loan t slots)) (layered_state (state_of loan new slots))) serial changed);
-  }
+  abbrev drawn : WindowManager V H
+  drawn = remarked.with_update loan t slots whole at low x x_is a read s.update screen
+
+  outside : (p : Point) → layers.on_screen desk p ≡ true → is_content_of x.serial (owner desk p) ≡ false → bit screen p ≡ bit t.screen p
+  outside p on e = still p on (no_picture x.serial (owner desk p) e)
+
+  drawn_whole : IsWholeManager loan drawn slots
+  drawn_whole = remarked.is_whole loan t slots whole at low x x_is a read s.update within screen painted.width painted.height outside
+
+  same_desk : desk_of loan drawn slots ≡ desk_of loan t slots
+  same_desk = remarked.desk_is loan t slots whole at low x x_is a read s.update within screen painted.width painted.height outside
+
+  -- ---- the window manager afterwards
+
+  module _ (serial : x.serial ≡ m.window) (placed : in_plane (plus x.origin m.by) ≡ true) (new : WindowManager V H)
+      (windows : new.windows ≡ record t.windows { records = edit_at (with_origin (plus x.origin m.by)) at t.windows.records }) (others : new ≡ record drawn { windows = new.windows }) where
+    repictured : IsRepictured loan m.window (λ w. w.picture) (λ w. plus w.origin m.by) at drawn new
+    repictured = record {
+      window = x;
+      there = slice_get-get_or t.windows.records.items at x low ∙ ap Some (sym x_is);
+      number = serial;
+      placed = placed;
+      windows = ap (λ l. l.records.items) windows ∙ sym (set_is_edit (with_origin (plus x.origin m.by)) t.windows.records.items at x x_is);
+      width = ap (λ (u : WindowManager V H). u.screen.width) others;
+      height = ap (λ (u : WindowManager V H). u.screen.height) others;
+      bar = ap (λ (u : WindowManager V H). u.bar) others;
+      font = ap (λ (u : WindowManager V H). u.font) others;
+      gray = ap (λ (u : WindowManager V H). u.gray) others;
+      desktop = ap (λ (u : WindowManager V H). u.desktop) others;
+      active = ap (λ l. l.active) windows;
+      next = ap (λ l. l.next) windows;
+      frames = λ p on e. ap (λ (u : WindowManager V H). bit u.screen p) others;
+      areas = subst (λ areas. AreAreas (layered_desk (desk_of loan drawn slots)) (stale_in areas) (desk_of loan drawn slots).windows areas) (sym (ap (λ (u : WindowManager V H). u.areas.items) others)) drawn_whole.areas;
+    }
+
+    pub is_whole : IsWholeManager loan new slots
+    is_whole = anew.is_whole loan m.window (λ w. w.picture) (λ w. plus w.origin m.by) at drawn new slots drawn_whole repictured
+
+    on_before : (p : Point) → layers.on_screen (layered_desk (desk_of loan drawn slots)) p ≡ true → layers.on_screen desk p ≡ true
+    on_before p on = ap (λ (d : FullDesk). layers.on_screen (layered_desk d) p) (sym same_desk) ∙ on
+
+    changed : plain.IsChanged change before (layered_state (state_of loan new slots))
+    changed = anew.changed loan m.window (λ w. w.picture) (λ w. plus w.origin m.by) at drawn new slots drawn_whole repictured change before
+        (λ p on e. ap (λ (u : WindowManager V H). stale_in u.areas.items p) others ∙ stale_is p (on_before p on) e)
+        (λ p on e. ap (λ (u : WindowManager V H). bit u.screen p) others ∙ image_is p (on_before p on) (layered_desk (anew.after loan m.window (λ w. w.picture) (λ w. plus w.origin m.by) at drawn new slots drawn_whole repictured)) e)
+
+    pub is_scrolled : IsScrolled m (state_of loan t slots) (state_of loan new slots)
+    is_scrolled = record {
+      desk =
+          anew.desk_is loan m.window (λ w. w.picture) (λ w. plus w.origin m.by) at drawn new slots drawn_whole repictured
+          ∙ ap (λ (d : FullDesk). record d { windows = map (with_scrolled m) d.windows }) same_desk;
+      pixels = subst (λ (n : ℕ). plain.IsChanged (scroll_change n m.by) before (layered_state (state_of loan new slots))) serial changed;
+    }
 
 -- ---- the call
 
@@ -179,31 +208,39 @@ module _ {V : Type 0} {H : V → Type 0} (loan : Taken V H → Loan) (t : Window
   pub out_of_range : in_plane (plus x.origin m.by) ≡ false → IsStepOverAnySlots loan (Scroll m) (Err OutOfRange) t t
   out_of_range e = is_refused loan t (Scroll m) OutOfRange (λ slots whole. inl (refusal_is slots whole false (sym e)))
 
-  -- where nothing but want of memory can refuse it: the window stays as it stands, and its pixels move
-  module _ (placed : in_plane (plus x.origin m.by) ≡ true) (e : Edit) (e_is : e ≡ stays_put at x) (mid : WindowManager V H) where
-    pub no_memory : (refusal : Refusal) → IsRearrangedOverAnySlots loan e Nothing (Some m.by) (Err refusal) t mid → IsStepOverAnySlots loan (Scroll m) (Err NoMemory) t mid
-    no_memory refusal done slots whole =
-        let left = done slots whole in
-        (left.0, (inr (refusal_is slots whole true (sym placed), (refl, refl)), left.1.1))
+  -- where nothing but want of memory can refuse it
+  module _ (placed : in_plane (plus x.origin m.by) ≡ true) where
+    pub no_memory : IsStepOverAnySlots loan (Scroll m) (Err NoMemory) t t
+    no_memory = is_refused loan t (Scroll m) NoMemory (λ slots whole. inr (refusal_is slots whole true (sym placed), (refl, refl)))
 
-    module _ (answer : WindowReply) (done : IsRearrangedOverAnySlots loan e Nothing (Some m.by) (Ok answer) t mid) where
-      moved : (slots : List SlotView) → IsWholeManager loan t slots → IsMid loan t mid slots m at x stands.0 x_is
-      moved slots whole =
-          let stays : IsRearrangedOverAnySlots loan (stays_put at x) Nothing (Some m.by) (Ok answer) t mid = subst (λ (f : Edit). IsRearrangedOverAnySlots loan f Nothing (Some m.by) (Ok answer) t mid) e_is done in
-          (stays slots whole).1.1 x x_is
+    pub scrolls : (s : Scrolled) (u new : WindowManager V H) → IsPlanOfScroll loan at m.by t s → IsScrollDrawn at m.by s t u
+        → new.windows ≡ record u.windows { records = edit_at (with_origin (plus x.origin m.by)) at u.windows.records } → new ≡ record u { windows = new.windows }
+        → IsStepOverAnySlots loan (Scroll m) (Ok Done) t new
+    scrolls s u new plan done windows others slots whole =
+        let its_windows : new.windows ≡ record t.windows { records = edit_at (with_origin (plus x.origin m.by)) at t.windows.records } =
+        subst (λ (v : WindowManager V H). new.windows ≡ record v.windows { records = edit_at (with_origin (plus x.origin m.by)) at v.windows.records }) done.state windows in
+        let its_others = subst (λ (v : WindowManager V H). new ≡ record v { windows = new.windows }) done.state others in (
+          is_whole loan t slots whole m at stands.0 x x_is done.area done.there s (plan x x_is) u.screen done.painted (stands.1 x x_is) placed new its_windows its_others,
+          (refusal_is slots whole true (sym placed), (refl, is_scrolled loan t slots whole m at stands.0 x x_is done.area done.there s (plan x x_is) u.screen done.painted (stands.1 x x_is) placed new its_windows its_others)),
+        )
 
-      -- the window is still there
-      pub still_low : IsKept loan t → at < length mid.windows.records.items
-      still_low held =
-          let long = length_stays loan t mid held.slots m at x stands.0 x_is (moved held.slots held.whole) in
-          let low = stands.0 in
-          omega arith
+-- ---- the plan
 
-      pub scrolls : (new : WindowManager V H) → new.windows ≡ record mid.windows { records = edit_at (with_origin (plus x.origin m.by)) at mid.windows.records } → new ≡ record mid { windows = new.windows }
-          → IsStepOverAnySlots loan (Scroll m) (Ok answer) t new
-      scrolls new windows others slots whole =
-          let left = done slots whole in
-          let at_rest = moved slots whole in (
-            is_whole loan t mid new slots m at x stands.0 x_is (stands.1 x x_is) left.0 at_rest placed windows others,
-            (refusal_is slots whole true (sym placed), (left.1.0, is_scrolled loan t mid new slots m at x stands.0 x_is (stands.1 x x_is) left.0 at_rest placed windows others)),
-          )
+module _ {V : Type 0} {H : V → Type 0} (loan : Taken V H → Loan) (t : WindowManager V H) (held : IsKept loan t) (at : ℕ) (low : at < length t.windows.records.items) (a : Area) (read : a ≡ get_or t.areas.items at a) where
+  area_is : (w : Window V H) → IsWindowAt t.windows.records.items at w → IsArea (layered_desk (desk_of loan t [])) (stale_in t.areas.items) w.serial a
+  area_is w w_is = remarked.area_is loan t held.slots held.whole at low w w_is a read
+
+  -- the pixels of the window's area are near
+  pub area_near : IsNear a.visible × IsNear a.update
+  area_near =
+      let w = there_is t.windows.records.items at low in
+      let side = sides loan t held in
+      seats.area_near (layered_desk (desk_of loan t [])) (stale_in t.areas.items) w.0.serial a side.0 side.1 (area_is w.0 w.1)
+
+  -- the plan of a picture that the window's layers cover is one of the window
+  pub plan_is : (by : Point) (x : Window V H) (covered : Pixels) (result : Result Scrolled AllocError) → x ≡ get_or t.windows.records.items at x → ((p : Point) → holds covered p ≡ is_hidden x p)
+      → IfOk result (λ s. (before : plain.State) (serial : ℕ) → IsArea before.desk before.stale serial a → IsCovered before.desk serial covered → IsScrollPlan serial by before s)
+      → IfOk result (IsPlanOfScroll loan at by t)
+  plan_is by x covered result read covers planned =
+      IfOk-weaker result _ (IsPlanOfScroll loan at by t)
+      (λ s its w w_is. its (layered_state (state_of loan t [])) w.serial (area_is w w_is) (covered_so loan t held.slots held.whole at low w w_is covered (λ p. covers p ∙ ap (λ (y : Window V H). is_hidden y p) (same_at t.windows.records.items at x w low read w_is)))) planned

@@ -19,7 +19,7 @@ use Rattle.vis_update.specs.Records.{WindowRecord}
 use Rattle.window_mgr.specs.FullDesk.{FullDesk, AreSerials, layered_desk, layered_state}
 use Rattle.window_mgr.specs.Kept.{IsKept}
 use Rattle.vis_update.specs.Records.{record_of}
-use Rattle.window_mgr.specs.Records.{desk_of, state_of}
+use Rattle.window_mgr.specs.Records.{desk_of, state_of, look_on}
 use Rattle.vis_update.specs.Areas.{stale_in}
 use Rattle.vis_update.specs.Seats.{stand_of, seat_stand, IsPlacedSeat, IsNearSeat, IsSeatOf, IsArranged}
 use Rattle.vis_update.specs.Areas.{IsNowhere, IsNear}
@@ -30,7 +30,6 @@ use Rattle.vis_update.specs.Areas.{IsArea, AreAreas}
 use Rattle.window_mgr.specs.Whole.{IsSettled}
 use Rattle.desk_ground.specs.Screens.{is_screen_side}
 use Rattle.vis_update.proofs.PlaceLemmas.{placed_from}
-use Rattle.window_mgr.proofs.Pictured.{pictured}
 use Rattle.window_mgr.proofs.EachChanged.{map-map}
 use Rattle.window_mgr.proofs.DimLemmas.{either, windows_behind}
 use Rattle.window_mgr.proofs.Running.{layered_desk-with, next_is_free}
@@ -97,6 +96,10 @@ module _ {V : Type 0} {H : V → Type 0} (loan : Taken V H → Loan) (t : Window
   pub gray_near : IsNear t.gray
   gray_near = seat.gray_near (layered_desk (desk_of loan t [])) t.gray sides.0 sides.1 kept.whole.gray
 
+  -- a serial that is to be given next is no window's
+  pub number_is_free : (n : ℕ) → t.windows.next ≡ Some n → layers.window_of n (layered_desk (desk_of loan t [])).windows ≡ None
+  number_is_free n next = next_is_free (look_on t) n (desk_of loan t []).windows (subst (λ (k : Option ℕ). AreSerials k (desk_of loan t []).windows) next kept.whole.sound.serials).1
+
   -- there are as many areas as windows
   pub as_many : length t.areas.items ≡ length t.windows.records.items
   as_many = seat.as_many (layered_desk (desk_of loan t [])) (stale_in t.areas.items) (desk_of loan t []).windows t.areas.items kept.whole.areas ∙ length-map t.windows.records.items (record_of loan)
@@ -160,7 +163,7 @@ module _ {V : Type 0} {H : V → Type 0} (loan : Taken V H → Loan) where
     after = desk_with w n slot begun (desk_of loan t [])
 
     free : layers.window_of n before.desk.windows ≡ None
-    free = next_is_free t.font n (desk_of loan t []).windows (subst (λ (k : Option ℕ). AreSerials k (desk_of loan t []).windows) next kept.whole.sound.serials).1
+    free = number_is_free loan t kept n next
 
     distinct : layers.IsDesk (layered_desk after)
     distinct = subst layers.IsDesk (sym (layered_desk-with w n slot begun (desk_of loan t []) [])) (free, ((refl, tt), kept.whole.sound.distinct))
@@ -180,12 +183,11 @@ module _ {V : Type 0} {H : V → Type 0} (loan : Taken V H → Loan) where
     front_had : IsArea before.desk before.stale front.serial front.area.now
     front_had = subst (λ k. IsArea before.desk before.stale k front.area.now) (sym new.serial) (seat.absent_area before.desk before.stale n front.area.now free new.nowhere)
 
-    pub arranged : (seats : List (Seat V H)) → AreSeatsBehind front t.windows.records.items t.areas.items seats → IsArranged loan t.font before (layered_desk after) after.windows t.gray seats
+    pub arranged : (seats : List (Seat V H)) → AreSeatsBehind front t.windows.records.items t.areas.items seats → IsArranged loan (look_on t) before (layered_desk after) after.windows t.gray seats
     arranged (s ∷ seats) its = record {
       desk = refl;
       distinct = distinct;
       gray_is = kept.whole.gray;
-      pictures = pictured (desk_of loan t []);
       stands = (λ i. (ap (seat_stand loan) its.0 ∙ front_stand) i ∷ (seats_stand t.windows.records.items t.areas.items seats its.1 ∙ sym (stands-behind t.windows.active w.shown (desk_of loan t []).windows)) i);
       areas = All-cons (λ s. IsArea before.desk before.stale s.serial s.area.now) s seats
           (subst (λ (x : Seat V H). IsArea before.desk before.stale x.serial x.area.now) (sym its.0) front_had)

@@ -13,7 +13,7 @@ use Rattle.def_iface.specs.Meaning.{Loan}
 use Rattle.def_iface.specs.Desk as layers
 use Rattle.def_iface.proofs.Owning.{same_number}
 use Rattle.window_list.specs.declared.window.Window.{Window}
-use Rattle.vis_update.specs.Records.{WindowRecord, layered_window, record_of}
+use Rattle.vis_update.specs.Records.{WindowRecord, Look, layered_window, record_of}
 use Rattle.vis_update.specs.Touches.{is_this}
 use Rattle.desk_call.specs.declared.window.SendBehind.{SendBehind}
 use Rattle.window_mgr.specs.declared.manager.WindowManager.{WindowManager}
@@ -22,7 +22,7 @@ use Rattle.window_mgr.specs.Arrange.{put_behind}
 use Rattle.window_mgr.specs.Edits.{StandsAt, IsPlaceBehind}
 use Rattle.window_mgr.specs.Finding.{record_with}
 use Rattle.window_mgr.specs.Kept.{IsKept}
-use Rattle.window_mgr.specs.Records.{desk_of}
+use Rattle.window_mgr.specs.Records.{desk_of, look_on}
 use Rattle.tb_geom.specs.Refusals.{first_refusal}
 use Rattle.window_mgr.specs.Refused.{behind_refusals, is_named_missing}
 use Rattle.window_mgr.proofs.Arrangements.{place_after, put_behind_is}
@@ -40,13 +40,13 @@ behind_all (w ∷ ws) = ap suc (behind_all ws)
 is_here : (x : ℕ) (r v : WindowRecord) (n : ℕ) → r ≡ v → v.serial ≡ x → (if r.serial == x then 1 else n) ≡ 1
 is_here x r v n same its = ap (λ b. if b then 1 else n) (ap (λ k. k == x) (ap (λ (z : WindowRecord). z.serial) same ∙ its) ∙ same_number x)
 
-module _ (font : List ℕ) (x : ℕ) where
+module _ (look : Look) (x : ℕ) where
   -- the place behind the window of this number
-  first_place : (ws : List WindowRecord) (k : ℕ) (v : WindowRecord) → layers.AreWindows (map (layered_window font) ws) → slice_get ws k ≡ Some v → v.serial ≡ x → place_after (Some x) ws ≡ suc k
+  first_place : (ws : List WindowRecord) (k : ℕ) (v : WindowRecord) → layers.AreWindows (map (layered_window look) ws) → slice_get ws k ≡ Some v → v.serial ≡ x → place_after (Some x) ws ≡ suc k
   first_place [] k v distinct e its = absurd (cc)
   first_place (r ∷ ws) zero v distinct e its = let same : r ≡ v = cc in is_here x r v _ same its
   first_place (r ∷ ws) (suc k) v distinct e its =
-      ap (λ b. if b then 1 else suc (place_after (Some x) ws)) (ap (λ n. r.serial == n) (sym its) ∙ not_among font r.serial ws k v distinct.0 e) ∙ ap suc (first_place ws k v distinct.1.1 e its)
+      ap (λ b. if b then 1 else suc (place_after (Some x) ws)) (ap (λ n. r.serial == n) (sym its) ∙ not_among look r.serial ws k v distinct.0 e) ∙ ap suc (first_place ws k v distinct.1.1 e its)
 
   suc_place : (k i : ℕ) → suc (if nat_lt k i then k + 1 else k) ≡ (if nat_lt (suc k) (suc i) then suc k + 1 else suc k)
   suc_place k i = by_test (nat_lt k i) (nat_lt (suc k) (suc i)) refl refl
@@ -64,7 +64,7 @@ module _ (font : List ℕ) (x : ℕ) where
   all_before k = grind (arith, nat_tests)
 
   -- the same among the windows but the one at a place
-  place_is : (ws : List WindowRecord) (i k : ℕ) (w v : WindowRecord) → layers.AreWindows (map (layered_window font) ws) → slice_get ws i ≡ Some w → (w.serial == x) ≡ false → slice_get ws k ≡ Some v → v.serial ≡ x
+  place_is : (ws : List WindowRecord) (i k : ℕ) (w v : WindowRecord) → layers.AreWindows (map (layered_window look) ws) → slice_get ws i ≡ Some w → (w.serial == x) ≡ false → slice_get ws k ≡ Some v → v.serial ≡ x
       → place_after (Some x) (remove ws i) ≡ (if nat_lt k i then k + 1 else k)
   place_is [] i k w v distinct ew away ev its = absurd (cc)
   place_is (r ∷ ws) zero zero w v distinct ew away ev its =
@@ -73,7 +73,7 @@ module _ (font : List ℕ) (x : ℕ) where
   place_is (r ∷ ws) zero (suc k) w v distinct ew away ev its = first_place ws k v distinct.1.1 ev its ∙ sym (ap (λ c. if c then suc k + 1 else suc k) (none_before k))
   place_is (r ∷ ws) (suc i) zero w v distinct ew away ev its = let same : r ≡ v = cc in is_here x r v _ same its ∙ sym (ap (λ c. if c then zero + 1 else zero) (all_before i))
   place_is (r ∷ ws) (suc i) (suc k) w v distinct ew away ev its =
-      ap (λ b. if b then 1 else suc (place_after (Some x) (remove ws i))) (ap (λ n. r.serial == n) (sym its) ∙ not_among font r.serial ws k v distinct.0 ev)
+      ap (λ b. if b then 1 else suc (place_after (Some x) (remove ws i))) (ap (λ n. r.serial == n) (sym its) ∙ not_among look r.serial ws k v distinct.0 ev)
       ∙ ap suc (place_is ws i k w v distinct.1.1 ew away ev its)
       ∙ suc_place k i
 
@@ -155,7 +155,7 @@ module _ {V : Type 0} {H : V → Type 0} (loan : Taken V H → Loan) (t : Window
         wb = w b.window at stands
 
         place : place_after (Some x) (remove desk.windows at) ≡ (if nat_lt i at then i + 1 else i)
-        place = place_is t.font x desk.windows at i (record_of loan wb.0) (record_of loan wx.0) kept.whole.sound.distinct (record_at b.window at stands) (ap (λ n. n == x) (stands.1 wb.0 wb.1) ∙ away) (record_at x i its) (its.1 wx.0 wx.1)
+        place = place_is (look_on t) x desk.windows at i (record_of loan wb.0) (record_of loan wx.0) kept.whole.sound.distinct (record_at b.window at stands) (ap (λ n. n == x) (stands.1 wb.0 wb.1) ∙ away) (record_at x i its) (its.1 wx.0 wx.1)
 
         by_test : (c : Bool) → nat_lt i at ≡ c → to ≡ (if c then i + 1 else i) → to < length t.windows.records.items
         by_test true e f = let low = stands.0 in grind (arith, nat_tests)

@@ -2,6 +2,7 @@
 use Rattle.std.proofs.Common.{◌≡◌, inr, ℕ, ◌<◌, not, Bool, true, false, if◌then◌else◌, List, [], ◌∷◌, length, map, Option, None, Some, Result, Ok, Err, refl, sym, ap, ◌∙◌, subst}
 use Rattle.std.specs.Prelude.{is_none}
 use Rattle.std.specs.List.{insert, remove}
+use Rattle.std.proofs.lemmas.Bool.{and_parts}
 use Rattle.tb_geom.specs.declared.point.Point.{Point}
 use Rattle.tb_geom.specs.declared.refusal.Refusal.{Refusal}
 use Rattle.tb_geom.specs.declared.refusal.Refusal.TheVariants.{NoSuchWindow, OutOfRange}
@@ -30,8 +31,9 @@ use Rattle.window_mgr.specs.Edits.{records_put, stays_put, IsWindowAt, IsPlaceBe
 use Rattle.window_mgr.specs.Effects.{Effect, IsEffect, IsArrangement, effect_of}
 use Rattle.window_mgr.specs.Effects.Effect.{Arranges}
 use Rattle.window_mgr.specs.Finding.{record_with}
-use Rattle.window_mgr.specs.Records.{desk_of, state_of}
+use Rattle.window_mgr.specs.Records.{desk_of, state_of, look_on}
 use Rattle.tb_geom.specs.Refusals.{first_refusal}
+use Rattle.window_mgr.specs.Refused as refused
 use Rattle.window_mgr.specs.Refused.{IsRefusal, may_grow, may_be_at, is_missing, move_refusals}
 use Rattle.window_mgr.specs.Step.{IsWindowStep}
 use Rattle.window_mgr.specs.Whole.{IsWholeManager}
@@ -50,11 +52,11 @@ module _ {V : Type 0} {H : V → Type 0} (loan : Taken V H → Loan) (t new : Wi
   windows : desk.windows ≡ put_in i (record_of loan x) others
   windows = ap (map (record_of loan)) (taken_out t.windows.records.items i x low x_is) ∙ map-put (record_of loan) i x (remove t.windows.records.items i)
 
-  free : IsFree t.font s others
-  free = subst (λ n. IsFree t.font n others) serial (distinct_out t.font i (record_of loan x) others (subst (λ ws. layers.AreWindows (map (layered_window t.font) ws)) windows whole.sound.distinct)).0
+  free : IsFree (look_on t) s others
+  free = subst (λ n. IsFree (look_on t) n others) serial (distinct_out (look_on t) i (record_of loan x) others (subst (λ ws. layers.AreWindows (map (layered_window (look_on t)) ws)) windows whole.sound.distinct)).0
 
   pub found : record_with s desk.windows ≡ Some (record_of loan x)
-  found = ap (record_with s) windows ∙ found_is t.font s i (record_of loan x) others serial free
+  found = ap (record_with s) windows ∙ found_is (look_on t) s i (record_of loan x) others serial free
 
   -- the window is there, so that it refuses nothing
   pub not_missing : first_refusal ((is_missing s desk.windows, NoSuchWindow) ∷ []) ≡ None
@@ -83,10 +85,10 @@ module _ {V : Type 0} {H : V → Type 0} (loan : Taken V H → Loan) (t new : Wi
 
   -- the windows, this one put elsewhere or changed
   brought_so : brought s desk.windows ≡ insert others 0 (record_of loan x)
-  brought_so = ap (brought s) windows ∙ brought_is t.font s i (record_of loan x) others serial free ∙ put_is_insert 0 (record_of loan x) others
+  brought_so = ap (brought s) windows ∙ brought_is (look_on t) s i (record_of loan x) others serial free ∙ put_is_insert 0 (record_of loan x) others
 
   pub changed_so : (f : WindowRecord → WindowRecord) → changed s f desk.windows ≡ insert others i (f (record_of loan x))
-  changed_so f = ap (changed s f) windows ∙ changed_is t.font s i (record_of loan x) others serial free f ∙ put_is_insert i (f (record_of loan x)) others
+  changed_so f = ap (changed s f) windows ∙ changed_is (look_on t) s i (record_of loan x) others serial free f ∙ put_is_insert i (f (record_of loan x)) others
 
   -- ---- one by one
 
@@ -131,7 +133,7 @@ module _ {V : Type 0} {H : V → Type 0} (loan : Taken V H → Loan) (t new : Wi
       sent_so =
           ap (λ n. behind_this b.behind (record_with n desk.windows) (without n desk.windows)) (sym named)
           ∙ ap (λ ws. behind_this b.behind (record_with s ws) (without s ws)) windows
-          ∙ behind_is t.font s i (record_of loan x) others serial free b.behind
+          ∙ behind_is (look_on t) s i (record_of loan x) others serial free b.behind
           ∙ place.is (record_of loan x)
 
   -- where nothing but this refuses a call about a window that is there, it says whether the call is refused
@@ -147,18 +149,18 @@ module _ {V : Type 0} {H : V → Type 0} (loan : Taken V H → Loan) (t new : Wi
 
   -- ---- and a window that moves
 
-  pub may_move : (m : MoveWindow) (b : Bool) → s ≡ m.window → b ≡ is_placed (Some (loan x.taken).definition) m.place x.size → first_refusal (move_refusals m desk) ≡ (if b then None else Some OutOfRange)
+  pub may_move : (m : MoveWindow) (b : Bool) → s ≡ m.window → b ≡ refused.may_stand m.place x.size (record_of loan x) → first_refusal (move_refusals m desk) ≡ (if b then None else Some OutOfRange)
   may_move m b named placed =
       ap (λ n. first_refusal (move_refusals (record m { window = n }) desk)) (sym named) ∙ may_stand (may_be_at m.place) b placed
 
   -- a window that may move
-  module _ (m : MoveWindow) (placed : is_placed (Some (loan x.taken).definition) m.place x.size ≡ true) where
+  module _ (m : MoveWindow) (stands : refused.may_stand m.place x.size (record_of loan x) ≡ true) where
     pub arrives : in_plane m.place ≡ true
-    arrives = (placed_parts (loan x.taken).definition m.place x.size placed).place_in
+    arrives = (placed_parts (loan x.taken).definition m.place x.size (and_parts (is_placed (Some (loan x.taken).definition) m.place x.size) _ stands).0).place_in
 
     pub may_arrive : (e : Edit) → e.at ≡ i → e.place ≡ m.place → e.size ≡ x.size → IsPlaceable loan e t.windows.records.items
     may_arrive e at place size w w_is =
-        (λ k. is_placed (Some (loan (same_at t.windows.records.items i w x low (subst (λ n. IsWindowAt t.windows.records.items n w) at w_is) x_is k).taken).definition) (place k) (size k)) ∙ placed
+        (λ k. refused.may_stand (place k) (size k) (record_of loan (same_at t.windows.records.items i w x low (subst (λ n. IsWindowAt t.windows.records.items n w) at w_is) x_is k))) ∙ stands
 
   pub move_step : (m : MoveWindow) (e : Edit) (activates : Activates) (by : Point) (result : Result WindowReply Refusal) → s ≡ m.window → first_refusal (move_refusals m desk) ≡ None
       → e ≡ record { at = i; to = if m.select then 0 else i; place = m.place; size = x.size; user_state = None; shown = x.shown } → activates ≡ (if m.select then (if x.shown then Itself else Nothing) else Nothing) → by ≡ minus m.place x.place
@@ -177,8 +179,8 @@ module _ {V : Type 0} {H : V → Type 0} (loan : Taken V H → Loan) (t new : Wi
       here = ap (λ n. record_with n desk.windows) (sym named) ∙ found
 
       there : changed m.window (at_place m.place) desk.windows ≡ put_in i (at_place m.place (record_of loan x)) others
-      there = ap (λ n. changed n (at_place m.place) desk.windows) (sym named) ∙ ap (changed s (at_place m.place)) windows ∙ changed_is t.font s i (record_of loan x) others serial free (at_place m.place)
+      there = ap (λ n. changed n (at_place m.place) desk.windows) (sym named) ∙ ap (changed s (at_place m.place)) windows ∙ changed_is (look_on t) s i (record_of loan x) others serial free (at_place m.place)
 
       by_select : (b : Bool) → (if b then brought m.window (changed m.window (at_place m.place) desk.windows) else changed m.window (at_place m.place) desk.windows) ≡ insert others (if b then 0 else i) (at_place m.place (record_of loan x))
-      by_select true = (λ k. brought (sym named k) (there k)) ∙ brought_is t.font s i (at_place m.place (record_of loan x)) others serial free ∙ put_is_insert 0 (at_place m.place (record_of loan x)) others
+      by_select true = (λ k. brought (sym named k) (there k)) ∙ brought_is (look_on t) s i (at_place m.place (record_of loan x)) others serial free ∙ put_is_insert 0 (at_place m.place (record_of loan x)) others
       by_select false = there ∙ put_is_insert i (at_place m.place (record_of loan x)) others

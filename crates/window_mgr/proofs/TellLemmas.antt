@@ -28,21 +28,22 @@ use Rattle.def_iface.specs.declared.taken.Taken.{Taken}
 use Rattle.def_iface.specs.Meaning.{Loan}
 use Rattle.def_iface.specs.Sizes.{is_size}
 use Rattle.def_iface.specs.Desk as layers
-use Rattle.def_iface.specs.declared.part.Part.TheVariants.{Picture}
 use Rattle.def_iface.specs.Owner.{Owner, owner, owner_among}
 use Rattle.def_iface.specs.Owner.Owner.{Desktop, Bar, Frame, Content}
 use Rattle.def_iface.proofs.Owning.{is_other, owner_is_other}
 use Rattle.window_list.specs.declared.window.Window.{Window}
 use Rattle.vis_update.specs.declared.area.Area.{Area}
-use Rattle.vis_update.specs.Records.{WindowRecord, layered_window, record_of}
+use Rattle.vis_update.specs.Records.{WindowRecord, Look, layered_window, record_of}
 use Rattle.vis_update.specs.Areas.{IsArea, is_content_of, stale_in}
 use Rattle.desk_call.specs.declared.window.WindowCall.TheVariants.{VisibleRegion, UpdateRegion}
 use Rattle.desk_call.specs.declared.window.WindowReply.{WindowReply}
+use Rattle.layer_list.specs.Holders.{part_at}
+use Rattle.vis_update.proofs.LayerOwners.{owner_first}
 use Rattle.window_mgr.specs.declared.manager.WindowManager.{WindowManager}
 use Rattle.window_mgr.specs.declared.tell.AskedRegion.{AskedRegion}
 use Rattle.window_mgr.specs.declared.tell.AskedRegion.TheVariants.{Visible, Update}
 use Rattle.window_mgr.specs.FullDesk.{FullDesk, layered_desk}
-use Rattle.window_mgr.specs.Records.{desk_of, state_of}
+use Rattle.window_mgr.specs.Records.{desk_of, state_of, look_on}
 use Rattle.window_mgr.specs.Finding.{record_with}
 use Rattle.window_mgr.specs.Telling.{IsRegionOf, IsMeasured, AreRegionBytes, IsNotTold, seen_from, visible_of, update_of, asked_region, kept_region, asking, IsRegionTold}
 use Rattle.tb_geom.specs.Refusals.{first_refusal}
@@ -163,19 +164,19 @@ abbrev LiesIn : WindowRecord → Point → Type 0
 LiesIn w p = w.definition.content w.size (minus p w.place) ≡ true
 
 -- the content of the window of this serial owns the pixel, among these windows
-abbrev Owns : List ℕ → List WindowRecord → ℕ → Point → Type 0
-Owns font ws s p = is_content_of s (owner_among (map (layered_window font) ws) p) ≡ true
+abbrev Owns : Look → List WindowRecord → ℕ → Point → Type 0
+Owns look ws s p = is_content_of s (owner_among (map (layered_window look) ws) p) ≡ true
 
 -- what the content of a window owns lies in its content
-content_has : (font : List ℕ) (ws : List WindowRecord) (s : ℕ) (w : WindowRecord) (p : Point) → layers.AreWindows (map (layered_window font) ws) → record_with s ws ≡ Some w → Owns font ws s p → LiesIn w p
-content_has font [] s w p distinct e its = absurd (cc)
-content_has font (v ∷ ws) s w p distinct e its = by_tests (λ k owned. content_has font ws s w p distinct.1.1 k owned) (layers.in_structure (layered_window font v) p) (v.definition.content v.size (minus p v.place)) refl its
+content_has : (look : Look) (ws : List WindowRecord) (s : ℕ) (w : WindowRecord) (p : Point) → layers.AreWindows (map (layered_window look) ws) → record_with s ws ≡ Some w → Owns look ws s p → LiesIn w p
+content_has look [] s w p distinct e its = absurd (cc)
+content_has look (v ∷ ws) s w p distinct e its = by_tests (λ k owned. content_has look ws s w p distinct.1.1 k owned) (layers.in_structure (layered_window look v) p) (v.definition.content v.size (minus p v.place)) refl (sym (ap (is_content_of s) (owner_first look v ws p)) ∙ its)
   where
-    behind : (record_with s ws ≡ Some w → Owns font ws s p → LiesIn w p) → (b : Bool) → (v.serial == s) ≡ b → Owns font ws s p → LiesIn w p
-    behind rest true n owned = absurd (not_both s v.serial _ n (owner_is_other (map (layered_window font) ws) p v.serial distinct.0) owned)
+    behind : (record_with s ws ≡ Some w → Owns look ws s p → LiesIn w p) → (b : Bool) → (v.serial == s) ≡ b → Owns look ws s p → LiesIn w p
+    behind rest true n owned = absurd (not_both s v.serial _ n (owner_is_other (map (layered_window look) ws) p v.serial distinct.0) owned)
     behind rest false n owned = rest (sym (ap (λ b. if b then Some v else record_with s ws) n) ∙ e) owned
 
-    by_tests : (record_with s ws ≡ Some w → Owns font ws s p → LiesIn w p) → (a b : Bool) → v.definition.content v.size (minus p v.place) ≡ b → is_content_of s (if a then (if b then Content v.serial Picture else Frame v.serial) else owner_among (map (layered_window font) ws) p) ≡ true → LiesIn w p
+    by_tests : (record_with s ws ≡ Some w → Owns look ws s p → LiesIn w p) → (a b : Bool) → v.definition.content v.size (minus p v.place) ≡ b → is_content_of s (if a then (if b then Content v.serial (part_at v.layers (minus p v.place)) else Frame v.serial) else owner_among (map (layered_window look) ws) p) ≡ true → LiesIn w p
     by_tests rest true true c owned =
         let first : v ≡ w = let both : Some v ≡ Some w = sym (ap (λ b. if b then Some v else record_with s ws) owned) ∙ e in cc in
         sym (ap (λ (x : WindowRecord). x.definition.content x.size (minus p x.place)) first) ∙ c
@@ -232,7 +233,7 @@ module _ {V : Type 0} {H : V → Type 0} (loan : Taken V H → Loan) (t : Window
     pub local_in : (p : Point) → own (plus p x.place) ≡ true → is_pixel_in_range p ≡ true
     local_in p e =
         let its = (and_parts (layers.on_screen (layered_desk desk) (plus p x.place)) _ e).1 in
-        let held = content_has t.font desk.windows s (record_of loan x) (plus p x.place) kept.whole.sound.distinct found (not_bar s _ _ its) in
+        let held = content_has (look_on t) desk.windows s (record_of loan x) (plus p x.place) kept.whole.sound.distinct found (not_bar s _ _ its) in
         let boxed = settled.within p (sym (ap ((loan x.taken).definition.content x.size) (again_here p x.place)) ∙ held) in
         box_in ((loan x.taken).definition.bounds x.size) p (and_parts (is_size x.size) _ settled.fits).1 boxed
 

@@ -2,7 +2,9 @@
 use Rattle.std.proofs.Common.{◌≡◌, ℕ, ◌&&◌, ◌||◌, not, Bool, true, false, if◌then◌else◌, List, refl, sym, ap, ◌∙◌, subst}
 use Rattle.std.proofs.lemmas.Bool.{false≢true}
 use Rattle.tb_geom.specs.declared.point.Point.{Point}
+use Rattle.tb_geom.specs.Points.{PixelSet}
 use Rattle.tb_geom.specs.Pixels.{Pixels, holds}
+use Rattle.def_iface.specs.declared.part.Part.{Part}
 use Rattle.def_iface.specs.declared.taken.Taken.{Taken}
 use Rattle.def_iface.specs.Meaning.{Loan}
 use Rattle.def_iface.specs.Stocked.{SlotView}
@@ -17,11 +19,12 @@ use Rattle.def_iface.proofs.Painting.{scratch_is_owners}
 use Rattle.vis_update.specs.Areas.{is_content_of, stale_in}
 use Rattle.window_mgr.specs.declared.manager.WindowManager.{WindowManager}
 use Rattle.window_mgr.specs.FullDesk.{FullDesk, FullState, IsRightState, AreSerials, layered_desk, layered_state}
-use Rattle.window_mgr.specs.Records.{desk_of, state_of}
+use Rattle.window_mgr.specs.Records.{desk_of, desk_showing, state_of, state_showing}
 use Rattle.window_mgr.specs.Updating.{IsRemarked, IsRefreshed, refresh_change}
 use Rattle.window_mgr.specs.Whole.{IsWholeManager, AreFramesShown}
 use Rattle.window_mgr.proofs.Repicturing.{no_content, not_stale}
 use Rattle.window_mgr.proofs.Remarked.{unless}
+use Rattle.window_mgr.proofs.Showing.{owner_showing, distinct_showing, frames_showing}
 
 -- a change of these pixels alone: they are put into the update sets, or taken out
 abbrev pub adding : (Owner → Point → Bool) → plain.Change
@@ -43,8 +46,8 @@ module _ (before : FullState) (distinct : layers.IsDesk (layered_desk before.des
   abbrev desk : LayeredDesk
   desk = layered_desk before.desk
 
-  pub refreshed_is_sound : (s : ℕ) → plain.IsSound (refresh_change s before) (layered_state before) desk
-  refreshed_is_sound s = record { desk = distinct; kept = λ p on content afresh taken put drawn there. refl; right = λ p on taken. absurd (false≢true taken) }
+  pub refreshed_is_sound : (these : Owner → Bool) → plain.IsSound (refresh_change these before) (layered_state before) desk
+  refreshed_is_sound these = record { desk = distinct; kept = λ p on content afresh taken put drawn there. refl; right = λ p on taken. absurd (false≢true taken) }
 
   pub added_is_sound : (these : Owner → Point → Bool) → plain.IsSound (adding these) (layered_state before) desk
   added_is_sound these = record { desk = distinct; kept = λ p on content afresh taken put drawn there. refl; right = λ p on taken. absurd (false≢true taken) }
@@ -62,9 +65,9 @@ module _ (before : FullState) (distinct : layers.IsDesk (layered_desk before.des
 
 -- ---- a right state stays right
 
--- where what was stale of a window's picture was drawn
-pub refreshed_stays_right : (s : ℕ) (before after : FullState) → IsRightState before → IsRefreshed s before after → IsRightState after
-refreshed_stays_right s before after right done = same_desk_stays_right (refresh_change s before) before after done.desk right (refreshed_is_sound before right.plain.desk s) done.pixels
+-- where what was stale of content layers was drawn
+pub refreshed_stays_right : (these : Owner → Bool) (before after : FullState) → IsRightState before → IsRefreshed these before after → IsRightState after
+refreshed_stays_right these before after right done = same_desk_stays_right (refresh_change these before) before after done.desk right (refreshed_is_sound before right.plain.desk these) done.pixels
 
 -- where pixels were put into update sets
 pub added_stays_right : (these : Owner → Point → Bool) (before after : FullState) → after.desk ≡ before.desk → plain.IsChanged (adding these) (layered_state before) (layered_state after) → IsRightState before → IsRightState after
@@ -84,11 +87,47 @@ record IsOrdered (before : FullState) : Type 0 where
   frames : AreFramesShown before
   fresh : (p : Point) → layers.on_screen (layered_desk before.desk) p ≡ true → is_content (owner (layered_desk before.desk) p) ≡ false → before.stale p ≡ false
 
-ordered : {V : Type 0} {H : V → Type 0} (loan : Taken V H → Loan) (t : WindowManager V H) (slots : List SlotView) → IsWholeManager loan t slots → IsOrdered (state_of loan t slots)
-ordered loan t slots whole = record {
-  distinct = whole.sound.distinct;
-  frames = whole.frames;
-  fresh = λ p on c. not_stale (layered_desk (desk_of loan t slots)) (stale_in t.areas.items) (desk_of loan t slots).windows t.areas.items p whole.areas c;
+ordered : {V : Type 0} {H : V → Type 0} (loan : Taken V H → Loan) (t : WindowManager V H) (slots : List SlotView) → IsWholeManager loan t slots → (shows : List ℕ → Part → PixelSet) → IsOrdered (state_showing shows (state_of loan t slots))
+ordered loan t slots whole shows = record {
+  distinct = distinct_showing shows (desk_of loan t slots) whole.sound.distinct;
+  frames = frames_showing shows (state_of loan t slots) whole.frames;
+  fresh = λ p on c. not_stale (layered_desk (desk_of loan t slots)) (stale_in t.areas.items) (desk_of loan t slots).windows t.areas.items p whole.areas (ap is_content (sym (owner_showing shows (desk_of loan t slots) p)) ∙ c);
+}
+
+-- where nothing is stale of layers, drawing what is changes nothing
+nothing_refreshed : (before : FullState) → IsOrdered before → (these : Owner → Bool) → ((p : Point) → layers.on_screen (layered_desk before.desk) p ≡ true → these (owner (layered_desk before.desk) p) ≡ true → before.stale p ≡ false) → IsRefreshed these before before
+nothing_refreshed before is these none = record { desk = refl; pixels = record { stale = λ p on. stale_is p on (is_content (its p)) refl; image = λ p on. image_is p on (is_content (its p)) refl } }
+  where
+    its : Point → Owner
+    its p = owner (layered_desk before.desk) p
+
+    had_is : (p : Point) → layers.on_screen (layered_desk before.desk) p ≡ true → plain.had (refresh_change these before) (layered_desk before.desk) (its p) p ≡ true
+    had_is p on = λ i. on i && same_owner-self (its p) i
+
+    not_drawn : (p : Point) → layers.on_screen (layered_desk before.desk) p ≡ true → (b : Bool) → these (its p) ≡ b → (b && before.stale p) ≡ false
+    not_drawn p on true e = none p on e
+    not_drawn p on false e = refl
+
+    stale_is : (p : Point) → layers.on_screen (layered_desk before.desk) p ≡ true → (b : Bool) → is_content (its p) ≡ b → before.stale p ≡ plain.stale_by (refresh_change these before) (layered_state before) (its p) p
+    stale_is p on false c = is.fresh p on c ∙ sym (unless (is_content (its p)) false _ c)
+    stale_is p on true c = sym (λ i. if not (c i) then false else (if not_drawn p on (these (its p)) refl i then false else (if had_is p on i then before.stale p else true)))
+
+    image_is : (p : Point) → layers.on_screen (layered_desk before.desk) p ≡ true → (b : Bool) → is_content (its p) ≡ b → before.image p ≡ plain.image_by (refresh_change these before) (layered_state before) (layered_desk before.desk) (its p) p
+    image_is p on false c = is.frames p on c ∙ sym (scratch_is_owners (layered_desk before.desk) p is.distinct) ∙ sym (unless (is_content (its p)) (scratch (layered_desk before.desk) p) _ c)
+    image_is p on true c = sym (λ i. if not (c i) then scratch (layered_desk before.desk) p else (if not_drawn p on (these (its p)) refl i then scratch (layered_desk before.desk) p else (if not (had_is p on i) then false else before.image p)))
+
+-- so a window manager none of whose layers of these is stale
+pub stays_refreshed : {V : Type 0} {H : V → Type 0} (loan : Taken V H → Loan) (t : WindowManager V H) (slots : List SlotView) → IsWholeManager loan t slots → (shows : List ℕ → Part → PixelSet) (these : Owner → Bool)
+    → ((p : Point) → layers.on_screen (layered_desk (desk_of loan t slots)) p ≡ true → these (owner (layered_desk (desk_of loan t slots)) p) ≡ true → stale_in t.areas.items p ≡ false)
+    → IsRefreshed these (state_showing shows (state_of loan t slots)) (state_showing shows (state_of loan t slots))
+stays_refreshed loan t slots whole shows these none = nothing_refreshed (state_showing shows (state_of loan t slots)) (ordered loan t slots whole shows) these (λ p on e. none p on (ap these (sym (owner_showing shows (desk_of loan t slots) p)) ∙ e))
+
+-- a window whose update region was made another was so whatever its controls and lists show
+pub remarked_showing : (shows : List ℕ → Part → PixelSet) (s : ℕ) (update : Pixels) (before after : FullState) → IsRemarked s update before after → IsRemarked s update (state_showing shows before) (state_showing shows after)
+remarked_showing shows s update before after done = record {
+  desk = ap (desk_showing shows) done.desk;
+  image = done.image;
+  stale = λ p on. done.stale p on ∙ ap (λ o. if is_content_of s o then holds update p else before.stale p) (sym (owner_showing shows before.desk p));
 }
 
 module _ (s : ℕ) (update : Pixels) (before after : FullState) (is : IsOrdered before) (done : IsRemarked s update before after) where
@@ -172,20 +211,23 @@ module _ (s : ℕ) (update : Pixels) (before after : FullState) (is : IsOrdered 
         by_window true e = (λ i. if e i then holds update p else before.stale p) ∙ region p on e ∙ without (before.stale p) (these its p)
         by_window false e = (λ i. if e i then holds update p else before.stale p) ∙ sym (ap (λ b. if b then false else before.stale p) (away these of e))
 
-module _ {V : Type 0} {H : V → Type 0} (loan : Taken V H → Loan) (t : WindowManager V H) (slots : List SlotView) (whole : IsWholeManager loan t slots) (s : ℕ) (update : Pixels) (after : FullState) (done : IsRemarked s update (state_of loan t slots) after) (these : Owner → Point → Bool) (of : (o : Owner) (p : Point) → these o p ≡ true → is_content_of s o ≡ true) where
+module _ {V : Type 0} {H : V → Type 0} (loan : Taken V H → Loan) (t : WindowManager V H) (slots : List SlotView) (whole : IsWholeManager loan t slots) (shows : List ℕ → Part → PixelSet) (s : ℕ) (update : Pixels) (after : FullState) (done : IsRemarked s update (state_showing shows (state_of loan t slots)) after) (these : Owner → Point → Bool) (of : (o : Owner) (p : Point) → these o p ≡ true → is_content_of s o ≡ true) where
+  abbrev was_so : FullState
+  was_so = state_showing shows (state_of loan t slots)
+
   abbrev now : LayeredDesk
-  now = layered_desk (desk_of loan t slots)
+  now = layered_desk was_so.desk
 
   -- pixels of the window's content were put into its update region
-  pub added_is_changed : ((p : Point) → layers.on_screen now p ≡ true → is_content_of s (owner now p) ≡ true → holds update p ≡ (stale_in t.areas.items p || these (owner now p) p)) → plain.IsChanged (adding these) (layered_state (state_of loan t slots)) (layered_state after)
+  pub added_is_changed : ((p : Point) → layers.on_screen now p ≡ true → is_content_of s (owner now p) ≡ true → holds update p ≡ (stale_in t.areas.items p || these (owner now p) p)) → plain.IsChanged (adding these) (layered_state was_so) (layered_state after)
   added_is_changed region =
-      let is = ordered loan t slots whole in
-      image_stays s update (state_of loan t slots) after is done (adding these) (λ p on. image_is s update (state_of loan t slots) after is done p on (is_content (owner now p)) refl)
-      (λ p on. added_is s update (state_of loan t slots) after is done p on these of region (is_content (owner now p)) refl)
+      let is = ordered loan t slots whole shows in
+      image_stays s update was_so after is done (adding these) (λ p on. image_is s update was_so after is done p on (is_content (owner now p)) refl)
+      (λ p on. added_is s update was_so after is done p on these of region (is_content (owner now p)) refl)
 
   -- pixels of the window's content were taken out of its update region
-  pub taken_is_changed : ((p : Point) → layers.on_screen now p ≡ true → is_content_of s (owner now p) ≡ true → holds update p ≡ (stale_in t.areas.items p && not (these (owner now p) p))) → plain.IsChanged (taking these) (layered_state (state_of loan t slots)) (layered_state after)
+  pub taken_is_changed : ((p : Point) → layers.on_screen now p ≡ true → is_content_of s (owner now p) ≡ true → holds update p ≡ (stale_in t.areas.items p && not (these (owner now p) p))) → plain.IsChanged (taking these) (layered_state was_so) (layered_state after)
   taken_is_changed region =
-      let is = ordered loan t slots whole in
-      image_stays s update (state_of loan t slots) after is done (taking these) (λ p on. image_is s update (state_of loan t slots) after is done p on (is_content (owner now p)) refl)
-      (λ p on. taken_is s update (state_of loan t slots) after is done p on these of region (is_content (owner now p)) refl)
+      let is = ordered loan t slots whole shows in
+      image_stays s update was_so after is done (taking these) (λ p on. image_is s update was_so after is done p on (is_content (owner now p)) refl)
+      (λ p on. taken_is s update was_so after is done p on these of region (is_content (owner now p)) refl)

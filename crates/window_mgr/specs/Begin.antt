@@ -7,6 +7,7 @@ use Rattle.def_iface.specs.Stocked.{SlotView}
 use Rattle.window_mgr.specs.declared.manager.WindowManager.{WindowManager}
 use Rattle.window_mgr.specs.FullDesk.{FullDesk, IsRightState}
 use Rattle.window_mgr.specs.Records.{desk_of, state_of}
+use Rattle.window_paint.specs.White.{all_white}
 use Rattle.vis_update.specs.Areas.{stale_in}
 use Rattle.window_mgr.specs.Whole.{IsWholeManager}
 
@@ -17,6 +18,7 @@ empty_desk width height bar font slots = record {
   height = height;
   bar = record { rows = bar; titles = [] };
   font = font;
+  shows = all_white;
   windows = [];
   active = None;
   next = Some 1;

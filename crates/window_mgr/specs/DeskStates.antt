@@ -1,6 +1,7 @@
 -- A desk at which something may be open between its begin and its end.
 use Rattle.std.specs.Prelude.{◌≡◌, ℕ, ◌==◌, Bool, false, if◌then◌else◌, Option, None, Some, List}
 use Rattle.tb_geom.specs.Points.{PixelSet}
+use Rattle.def_iface.specs.declared.part.Part.{Part}
 use Rattle.def_iface.specs.declared.taken.Taken.{Taken}
 use Rattle.def_iface.specs.Meaning.{Loan}
 use Rattle.def_iface.specs.Stocked.{SlotView}
@@ -12,7 +13,7 @@ use Rattle.window_mgr.specs.declared.manager.WindowManager.{WindowManager}
 use Rattle.window_mgr.specs.FullDesk.{FullState}
 use Rattle.window_mgr.specs.Effects as windows
 use Rattle.window_mgr.specs.Records.{state_of}
-use Rattle.window_mgr.specs.Updating.{LeavesState}
+use Rattle.window_mgr.specs.Updating.{LeavesState, LeavesShowing}
 
 -- what is open, and, while that is an update, what was to be redrawn when it began, as its window sees it
 pub record Opened : Type 0 where
@@ -61,3 +62,9 @@ module _ {V : Type 0} {H : V → Type 0} (loan : Taken V H → Loan) where
   -- a step of the desk
   abbrev pub LeavesDesk : (DeskState → DeskState → Type 0) → WindowManager V H → Opened → WindowManager V H → Opened → Type 0
   LeavesDesk step old before new after = LeavesState loan (λ s u. step (desk_with before s) (desk_with after u)) old new
+
+  -- the same, where controls and lists show this
+  abbrev pub LeavesDeskShowing : (List ℕ → Part → PixelSet) → (DeskState → DeskState → Type 0)
+      → WindowManager V H → Opened → WindowManager V H → Opened → Type 0
+  LeavesDeskShowing shows step old before new after =
+      LeavesShowing loan shows (λ s u. step (desk_with before s) (desk_with after u)) old new

@@ -1,6 +1,7 @@
 -- One window put anew among the others, as the code does it.
 use Rattle.std.specs.Prelude.{◌≡◌, ℕ, ◌<◌, true, List, [], length, map, Option, None, Some, All, Result, Ok, Err, slice_index_or}
 use Rattle.std.specs.List.{insert, remove}
+use Rattle.tb_geom.specs.Points.{minus}
 use Rattle.tb_geom.specs.declared.point.Point.{Point}
 use Rattle.tb_geom.specs.declared.refusal.Refusal.{Refusal}
 use Rattle.tb_geom.specs.declared.refusal.Refusal.TheVariants.{NoMemory}
@@ -15,7 +16,6 @@ use Rattle.vis_update.specs.declared.plan.Plan.{Plan}
 use Rattle.vis_update.specs.declared.plan.Seat.{Seat}
 use Rattle.vis_update.specs.declared.plan.Touch.{Touch}
 use Rattle.vis_update.specs.Records.{WindowRecord, record_of}
-use Rattle.vis_update.specs.Places.{is_placed}
 use Rattle.vis_update.specs.Seats.{stand_of}
 use Rattle.vis_update.specs.Plans.{IsPlan}
 use Rattle.window_mgr.specs.declared.arrange.Activates.{Activates}
@@ -29,7 +29,7 @@ use Rattle.window_mgr.specs.FullDesk.{FullDesk, layered_desk, layered_state}
 use Rattle.window_mgr.specs.Records.{desk_of, state_of}
 use Rattle.window_mgr.specs.Arrange.{Arrangement, activation_of, active_after, also_of, put_behind}
 use Rattle.tb_geom.specs.Refusals.{first_refusal}
-use Rattle.window_mgr.specs.Refused.{behind_refusals}
+use Rattle.window_mgr.specs.Refused.{behind_refusals, may_stand}
 use Rattle.desk_call.specs.declared.window.SendBehind.{SendBehind}
 use Rattle.window_mgr.specs.Finding.{front_of}
 use Rattle.window_mgr.specs.Commits.{IsPlanDrawn}
@@ -56,7 +56,12 @@ module _ {V : Type 0} {H : V → Type 0} where
 
   -- the window, at the place, with the user state and as visible as the edit says
   abbrev pub put_window : Edit → Window V H → Window V H
-  put_window e w = record w { place = e.place; user_state = e.user_state; shown = e.shown }
+  put_window e w = record w {
+    place = e.place;
+    user_state = e.user_state;
+    shown = e.shown;
+    layers = record w.layers { place = e.place };
+  }
 
   -- one of the windows was put anew
   pub record IsPutAnew (e : Edit) (old new : List (Window V H)) : Type 0 where
@@ -67,6 +72,11 @@ module _ {V : Type 0} {H : V → Type 0} where
   -- the edit leaves the size
   abbrev pub SameSize : Edit → List (Window V H) → Type 0
   SameSize e ws = (w : Window V H) → IsWindowAt ws e.at w → e.size ≡ w.size
+
+  -- its pixels move as far as it does, if they move, and else it stays where it is
+  abbrev pub IsOnItsWay : Edit → Option Point → List (Window V H) → Type 0
+  IsOnItsWay e None ws = (w : Window V H) → IsWindowAt ws e.at w → e.place ≡ w.place
+  IsOnItsWay e (Some by) ws = (w : Window V H) → IsWindowAt ws e.at w → by ≡ minus e.place w.place
 
   -- the seats of the windows, one put anew
   pub record AreSeatsAfter (e : Edit) (ws : List (Window V H)) (areas : List Area) (seats : List (Seat V H)) : Type 0 where
@@ -85,7 +95,7 @@ module _ {V : Type 0} {H : V → Type 0} where
 module _ {V : Type 0} {H : V → Type 0} (loan : Taken V H → Loan) where
   -- the window at the place of an edit may be where it is to be
   abbrev pub IsPlaceable : Edit → List (Window V H) → Type 0
-  IsPlaceable e ws = (w : Window V H) → IsWindowAt ws e.at w → is_placed (Some (loan w.taken).definition) e.place e.size ≡ true
+  IsPlaceable e ws = (w : Window V H) → IsWindowAt ws e.at w → may_stand e.place e.size (record_of loan w) ≡ true
 
   -- all windows will be settled
   abbrev pub AreSettledAfter : Edit → Activation → Option ℕ → List (Window V H) → Type 0
@@ -101,6 +111,7 @@ module _ {V : Type 0} {H : V → Type 0} (loan : Taken V H → Loan) where
     pub distinct : IsDesk (layered_desk after)
     pub screen : layered_desk after ≡ record (layered_desk (desk_of loan t [])) { windows = (layered_desk after).windows }
     pub stands : map stand_of after.windows ≡ map stand_of (records_put e w t)
+    pub layers : map (λ v. v.layers) after.windows ≡ map (λ v. v.layers) (records_put e w t)
 
   -- the plan is right for each such desk, where pixels move so far; the frame of a window whose highlighting may change
   -- by this activation is drawn whole

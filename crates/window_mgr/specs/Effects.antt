@@ -13,12 +13,13 @@ use Rattle.def_iface.specs.Meaning.{Definition, Loan, SameRegions, Hears, IsBegu
 use Rattle.def_iface.specs.Stocked.{IsTaken, is_left}
 use Rattle.def_iface.specs.Desk.{on_screen}
 use Rattle.def_iface.specs.declared.part.Part.TheVariants.{Picture}
-use Rattle.def_iface.specs.Owner.{Owner, same_owner}
+use Rattle.def_iface.specs.Owner.{same_owner}
 use Rattle.def_iface.specs.Owner.Owner.{Content}
 use Rattle.def_iface.specs.Change.{Change, no_change, IsChanged}
 use Rattle.window_list.specs.Lists.{serial_after}
 use Rattle.vis_update.specs.Records.{WindowRecord}
 use Rattle.vis_update.specs.Touches.{moving}
+use Rattle.vis_update.specs.Contents.{scroll_change}
 use Rattle.desk_call.specs.declared.window.WindowCall.{WindowCall}
 use Rattle.desk_call.specs.declared.window.WindowCall.TheVariants.{New, Dispose, Show, Hide, ShowHide, Select, BringToFront, SendBehind, Move, Size, Zoom, Draw, SetPicture, Scroll, Find, Front, Info, VisibleRegion, UpdateRegion}
 use Rattle.desk_call.specs.declared.window.Drawing.{Drawing}
@@ -53,6 +54,7 @@ new_record w serial slot d = record {
   heard = record { highlighted = w.shown; zoomed = false; tracked = false };
   picture = [];
   origin = record { h = pos 0; v = pos 0 };
+  layers = [];
   definition = d;
   slot = slot;
 }
@@ -113,14 +115,6 @@ pub record IsPictureSet (n : NewPicture) (before after : FullState) : Type 0 whe
 -- the window's picture lies elsewhere in it, if it is the one that was scrolled
 abbrev pub with_scrolled : ScrollPicture → WindowRecord → WindowRecord
 with_scrolled m w = if w.serial == m.window then record w { origin = plus w.origin m.by } else w
-
--- where the picture of this window came from, which was moved by this; all else stays where it is
-abbrev pub scrolled_from : ℕ → Point → Owner → Point → Point
-scrolled_from s by o p = if same_owner o (Content s Picture) then minus p by else p
-
--- the change of a call that moves the picture of this window
-abbrev pub scroll_change : ℕ → Point → Change
-scroll_change s by = record no_change { source = scrolled_from s by }
 
 -- the window's picture was scrolled
 pub record IsScrolled (m : ScrollPicture) (before after : FullState) : Type 0 where

@@ -6,9 +6,10 @@ use Rattle.desk_ground.specs.Screens.{gray}
 use Rattle.menu_bar.specs.declared.titles.MenuBar.{MenuBar}
 use Rattle.menu_bar.specs.Bars.{bar_picture}
 use Rattle.def_iface.specs.Stocked.{SlotView}
+use Rattle.def_iface.specs.declared.part.Part.{Part}
 use Rattle.def_iface.specs.Desk.{LayeredDesk}
 use Rattle.def_iface.specs.Change as plain
-use Rattle.vis_update.specs.Records.{WindowRecord, layered_window}
+use Rattle.vis_update.specs.Records.{WindowRecord, Look, layered_window}
 
 -- the desk: no region and no saved pixel
 pub record FullDesk : Type 0 where
@@ -18,6 +19,8 @@ pub record FullDesk : Type 0 where
   pub bar : MenuBar
   -- the bytes of the font of all texts
   pub font : List ℕ
+  -- what controls and lists show, each in its window's own coordinates
+  pub shows : Part → PixelSet
   -- from front to back
   pub windows : List WindowRecord
   pub active : Option ℕ
@@ -32,6 +35,10 @@ pub record FullState : Type 0 where
   pub stale : PixelSet
   pub image : PixelSet
 
+-- how the desk looks
+abbrev pub look_of : FullDesk → Look
+look_of d = record { font = d.font; shows = d.shows }
+
 -- the desk as layers
 abbrev pub layered_desk : FullDesk → LayeredDesk
 layered_desk d = record {
@@ -40,7 +47,7 @@ layered_desk d = record {
   bar = d.bar.rows;
   bar_picture = bar_picture d.font d.bar.titles;
   desktop = pattern_bit gray;
-  windows = map (layered_window d.font) d.windows;
+  windows = map (layered_window (look_of d)) d.windows;
 }
 
 abbrev pub layered_state : FullState → plain.State

@@ -1,6 +1,7 @@
 -- One window put elsewhere or given another size, as the code does it.
-use Rattle.std.specs.Prelude.{◌≡◌, ℕ, true, List, map, Option, Some, Result, Ok, Err}
+use Rattle.std.specs.Prelude.{◌≡◌, ℕ, true, List, map, Option, None, Some, Result, Ok, Err}
 use Rattle.tb_geom.specs.declared.point.Point.{Point}
+use Rattle.tb_geom.specs.Points.{minus}
 use Rattle.tb_geom.specs.declared.refusal.Refusal.{Refusal}
 use Rattle.tb_geom.specs.declared.refusal.Refusal.TheVariants.{NoMemory}
 use Rattle.tb_geom.specs.Rects.{rect_holds}
@@ -14,20 +15,26 @@ use Rattle.window_list.specs.declared.window.Window.{Window}
 use Rattle.window_list.specs.Lists.{IsPlacedAt}
 use Rattle.vis_update.specs.declared.plan.Plan.{Plan}
 use Rattle.vis_update.specs.Records.{record_of}
-use Rattle.vis_update.specs.Places.{is_placed}
 use Rattle.window_mgr.specs.declared.manager.WindowManager.{WindowManager}
 use Rattle.window_mgr.specs.Commits.{IsPlanDrawn}
 use Rattle.window_mgr.specs.Edits.{IsWindowAt}
 use Rattle.window_mgr.specs.Effects.{IsWindowPlaced, IsUnchanged}
 use Rattle.window_mgr.specs.Records.{state_of}
+use Rattle.window_mgr.specs.Refused.{may_stand}
 use Rattle.window_mgr.specs.Whole.{IsWholeManager}
+
+module _ {V : Type 0} {H : V → Type 0} where
+  -- its pixels move as far as it does, if they move, and else it stays where it is
+  abbrev pub IsOnItsWayTo : ℕ → Placement → Option Point → List (Window V H) → Type 0
+  IsOnItsWayTo i to None ws = (w : Window V H) → IsWindowAt ws i w → to.place ≡ w.place
+  IsOnItsWayTo i to (Some by) ws = (w : Window V H) → IsWindowAt ws i w → by ≡ minus to.place w.place
 
 -- `loan` says what a definition that was taken means
 module _ {V : Type 0} {H : V → Type 0} (loan : Taken V H → Loan) where
   -- the window may lie so, and its content then lies in the box of its structure
   abbrev pub MayHave : Placement → Window V H → Type 0
   MayHave to w = let d = (loan w.taken).definition in
-      (is_placed (Some d) to.place to.size ≡ true) × IsWithin (d.content to.size) (rect_holds (d.bounds to.size))
+      (may_stand to.place to.size (record_of loan w) ≡ true) × IsWithin (d.content to.size) (rect_holds (d.bounds to.size))
 
   -- so may the window at this place of the list
   abbrev pub IsPlaceableAt : ℕ → Placement → List (Window V H) → Type 0

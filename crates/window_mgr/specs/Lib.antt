@@ -15,6 +15,7 @@ pub mod Seats
 pub mod Commits
 pub mod Planned
 pub mod Edits
+pub mod Scrolls
 pub mod AnySlots
 pub mod Updating
 pub mod DeskStates
@@ -24,3 +25,4 @@ pub mod BarShown
 pub mod Without
 pub mod Begin
 pub mod Closing
+pub mod Relayered

@@ -1,10 +1,10 @@
 -- A window that is planned, and one that was added; an operation that may be drawn, and one that was; a window that got
 -- another picture.
-use Rattle.std.specs.Prelude.{◌≡◌, ◌⊎◌, ℕ, ◌+◌, ◌<◌, Bool, if◌then◌else◌, [], ◌∷◌, ◌++◌, length, map, set, Option, None, Some, IsSomeAnd, slice_get, vec_len}
+use Rattle.std.specs.Prelude.{◌≡◌, ◌⊎◌, ℕ, ◌+◌, ◌<◌, Bool, if◌then◌else◌, [], ◌∷◌, ◌++◌, length, map, set, Option, None, Some, IsSomeAnd, slice_get, vec_len, ◌&&◌, ◌||◌, not}
 use Rattle.tb_geom.specs.declared.refusal.Refusal.{Refusal}
 use Rattle.tb_geom.specs.declared.refusal.Refusal.TheVariants.{NoMemory}
 use Rattle.tb_geom.specs.Points.{minus}
-use Rattle.tb_geom.specs.Pixels.{holds}
+use Rattle.tb_geom.specs.Pixels.{holds, Pixels}
 use Rattle.tb_geom.specs.Rects.{rect_holds}
 use Rattle.bit_blit.specs.Draws.{Draws}
 use Rattle.draw_port.specs.declared.shapes.Op.{Op}
@@ -31,6 +31,9 @@ use Rattle.tb_geom.specs.Refusals.{first_refusal}
 use Rattle.window_mgr.specs.Refused.{judged_refusals, most_operations}
 use Rattle.window_mgr.specs.Commits.{IsPlanDrawn}
 use Rattle.window_mgr.specs.Effects.{first_news, new_record, desk_with}
+use Rattle.window_mgr.specs.Whole.{LieThere}
+use Rattle.tb_geom.specs.declared.point.Point.{Point}
+use Rattle.window_paint.specs.Hidden.{is_hidden}
 
 -- why a window is not planned: a refusal by its place, its title or the count of windows, or want of memory
 abbrev pub IsUnplanned : NewWindow → Bool → ℕ → Option ℕ → Refusal → Type 0
@@ -67,7 +70,7 @@ module _ {V : Type 0} {H : V → Type 0} where
     pub serial : window.serial ≡ d.window
     pub room : length window.picture < most_operations
 
-  -- the window at this place has the operation, which was drawn on the pixels that its content owns
+  -- the window at this place has the operation, which was drawn on the pixels that its picture owns
   pub record IsDrawnAt (at : ℕ) (d : Drawing) (old new : WindowManager V H) : Type 0 where
     pub window : Window V H
     pub operation : Op
@@ -75,7 +78,7 @@ module _ {V : Type 0} {H : V → Type 0} where
     pub meant : IsMeant d.operation operation
     pub windows : new.windows.records.items
         ≡ set old.windows.records.items at (record window { picture = window.picture ++ operation ∷ [] })
-    pub pixels : IsSomeAnd (slice_get old.areas.items at) (λ area. Draws (holds area.visible)
+    pub pixels : IsSomeAnd (slice_get old.areas.items at) (λ area. Draws (λ p. holds area.visible p && not (is_hidden window p))
         (λ p value. op_value old.font operation (minus (minus p window.place) window.origin) value) old.screen new.screen)
     pub areas : new.areas.items ≡ old.areas.items
     pub bar : new.bar ≡ old.bar
@@ -85,14 +88,15 @@ module _ {V : Type 0} {H : V → Type 0} where
     pub active : new.windows.active ≡ old.windows.active
     pub next : new.windows.next ≡ old.windows.next
 
-  -- the window at this place has the picture, and all of its content that shows is to be redrawn
+  -- the window at this place has the picture, all of which that shows is to be redrawn
   pub record IsPictureAt (at : ℕ) (n : NewPicture) (old new : WindowManager V H) : Type 0 where
     pub window : Window V H
     pub there : slice_get old.windows.records.items at ≡ Some window
     pub windows : new.windows.records.items
         ≡ set old.windows.records.items at (record window { picture = n.picture; origin = n.origin })
-    pub areas : IsSomeAnd (slice_get old.areas.items at)
-        (λ area. new.areas.items ≡ set old.areas.items at (record area { update = area.visible }))
+    pub areas : IsSomeAnd (slice_get old.areas.items at) (λ area. (update : Pixels)
+        × ((p : Point) → holds update p ≡ (holds area.update p || (holds area.visible p && not (is_hidden window p))))
+        × (new.areas.items ≡ set old.areas.items at (record area { update = update })))
     pub screen : new.screen ≡ old.screen
     pub bar : new.bar ≡ old.bar
     pub font : new.font ≡ old.font
@@ -130,6 +134,7 @@ module _ {V : Type 0} {H : V → Type 0} (loan : Taken V H → Loan) where
     pub begun : Definition
     pub live : IsBegun (first_news w) taken.definition begun
     pub seen : record_of loan record_is ≡ new_record w serial taken.slot begun
+    pub there : LieThere record_is
     pub windows : new.windows.records.items ≡ record_is
         ∷ (if w.shown then map (dimmed old.windows.active) old.windows.records.items else old.windows.records.items)
     pub areas : new.areas.items ≡ plan.areas.items

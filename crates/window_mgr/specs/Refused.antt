@@ -1,5 +1,6 @@
 -- Why a call refuses: the first refusal of the written order whose condition holds.
-use Rattle.std.specs.Prelude.{◌≡◌, ℕ, Bool, true, false, not, ◌==◌, ◌||◌, List, [], ◌∷◌, ◌++◌, length, Option, None, Some, is_none, nat_le, nat_lt}
+use Rattle.std.specs.Prelude.{◌≡◌, ℕ, Bool, true, false, not, ◌==◌, ◌&&◌, ◌||◌, List, [], ◌∷◌, ◌++◌, length, Option, None, Some, is_none, nat_le, nat_lt}
+use Rattle.std.specs.List.{list_all}
 use Rattle.tb_geom.specs.declared.point.Point.{Point}
 use Rattle.tb_geom.specs.declared.refusal.Refusal.{Refusal}
 use Rattle.tb_geom.specs.Points.{PixelSet, plus}
@@ -9,7 +10,9 @@ use Rattle.tb_geom.specs.Rects.{in_plane}
 use Rattle.draw_port.specs.declared.shapes.Op.{Op}
 use Rattle.op_ref.specs.declared.op_ref.OpRef.{OpRef}
 use Rattle.op_ref.specs.OpRefs.{IsGood, IsRefused}
+use Rattle.def_iface.specs.declared.size.Size as sizes
 use Rattle.def_iface.specs.Stocked.{has_kind, offered}
+use Rattle.layer_list.specs.Holders.{fits_at}
 use Rattle.vis_update.specs.Records.{WindowRecord}
 use Rattle.vis_update.specs.Places.{is_placed}
 use Rattle.vis_update.specs.Touches.{is_this}
@@ -93,10 +96,14 @@ draw_refusals judged window =
     ∷ (is_found OutOfRange judged, OutOfRange) ∷ (is_found TooLong judged, TooLong)
     ∷ (nat_le most_operations (length (picture_of window)), TooMany) ∷ []
 
+-- the window may be at this place with this size, and all its layers with it, shown or not
+abbrev pub may_stand : Point → sizes.Size → WindowRecord → Bool
+may_stand place size w = is_placed (Some w.definition) place size && list_all (fits_at place) w.layers
+
 -- the window may be at this place, if there is one
 abbrev pub may_be_at : Point → Option WindowRecord → Bool
 may_be_at place None = true
-may_be_at place (Some w) = is_placed (Some w.definition) place w.size
+may_be_at place (Some w) = may_stand place w.size w
 
 -- there is no such window
 abbrev pub is_missing : ℕ → List WindowRecord → Bool
@@ -123,7 +130,7 @@ move_refusals m desk =
 abbrev pub may_lie : Option Placing → Option WindowRecord → Bool
 may_lie None o = true
 may_lie (Some p) None = true
-may_lie (Some p) (Some w) = is_placed (Some w.definition) p.to.place p.to.size
+may_lie (Some p) (Some w) = may_stand p.to.place p.to.size w
 
 -- why a window may not get a size: it is missing, or may not have it
 abbrev pub size_refusals : SizeWindow → FullDesk → List (Bool × Refusal)

@@ -1,21 +1,24 @@
 -- The update region of one window: another set of pixels, or drawn.
-use Rattle.std.specs.Prelude.{◌≡◌, ℕ, true, ◌&&◌, if◌then◌else◌, List, slice_index_or}
+use Rattle.std.specs.Prelude.{◌≡◌, ℕ, Bool, true, false, ◌==◌, ◌&&◌, if◌then◌else◌, List, slice_index_or}
 use Rattle.std.specs.Vec.{with_item}
 use Rattle.tb_geom.specs.declared.point.Point.{Point}
+use Rattle.tb_geom.specs.Points.{PixelSet}
 use Rattle.tb_geom.specs.Pixels.{Pixels, holds}
 use Rattle.def_iface.specs.declared.taken.Taken.{Taken}
 use Rattle.def_iface.specs.Meaning.{Loan}
 use Rattle.def_iface.specs.Stocked.{SlotView}
 use Rattle.def_iface.specs.Desk.{on_screen}
-use Rattle.def_iface.specs.declared.part.Part.TheVariants.{Picture}
-use Rattle.def_iface.specs.Owner.{owner, same_owner}
+use Rattle.def_iface.specs.declared.part.Part.{Part}
+use Rattle.def_iface.specs.Owner.{Owner, owner}
 use Rattle.def_iface.specs.Owner.Owner.{Content}
 use Rattle.def_iface.specs.Change.{Change, no_change, IsChanged}
+use Rattle.desk_call.specs.declared.update.Layers.{Layers}
 use Rattle.vis_update.specs.declared.area.Area.{Area}
 use Rattle.vis_update.specs.Areas.{is_content_of}
+use Rattle.window_paint.specs.Kinds.{is_of}
 use Rattle.window_mgr.specs.declared.manager.WindowManager.{WindowManager}
 use Rattle.window_mgr.specs.FullDesk.{FullState, layered_desk, layered_state}
-use Rattle.window_mgr.specs.Records.{state_of}
+use Rattle.window_mgr.specs.Records.{state_of, state_showing}
 use Rattle.window_mgr.specs.Whole.{IsWholeManager}
 
 -- of the window of this serial just these pixels are to be redrawn; all else is as it was
@@ -25,14 +28,19 @@ pub record IsRemarked (s : ℕ) (update : Pixels) (before after : FullState) : T
   pub stale : (p : Point) → on_screen (layered_desk before.desk) p ≡ true
       → after.stale p ≡ (if is_content_of s (owner (layered_desk before.desk) p) then holds update p else before.stale p)
 
--- the change of a call that draws what is stale of the picture of this window
-abbrev pub refresh_change : ℕ → FullState → Change
-refresh_change s before = record no_change { afresh = λ o p. same_owner o (Content s Picture) && before.stale p }
+-- the owner is a content layer of this window, one of these
+abbrev pub is_of_kind : Layers → ℕ → Owner → Bool
+is_of_kind kind s (Content t part) = t == s && is_of kind part
+is_of_kind kind s _ = false
 
--- what was stale of the window's picture was drawn
-pub record IsRefreshed (s : ℕ) (before after : FullState) : Type 0 where
+-- the change of a call that draws what is stale of these layers
+abbrev pub refresh_change : (Owner → Bool) → FullState → Change
+refresh_change these before = record no_change { afresh = λ o p. these o && before.stale p }
+
+-- what was stale of these layers was drawn
+pub record IsRefreshed (these : Owner → Bool) (before after : FullState) : Type 0 where
   pub desk : after.desk ≡ before.desk
-  pub pixels : IsChanged (refresh_change s before) (layered_state before) (layered_state after)
+  pub pixels : IsChanged (refresh_change these before) (layered_state before) (layered_state after)
 
 -- `loan` says what a definition that was taken means
 module _ {V : Type 0} {H : V → Type 0} (loan : Taken V H → Loan) where
@@ -40,6 +48,11 @@ module _ {V : Type 0} {H : V → Type 0} (loan : Taken V H → Loan) where
   abbrev pub LeavesState : (FullState → FullState → Type 0) → WindowManager V H → WindowManager V H → Type 0
   LeavesState after old new = (slots : List SlotView) → IsWholeManager loan old slots
       → IsWholeManager loan new slots × after (state_of loan old slots) (state_of loan new slots)
+
+  -- the same, where controls and lists show this
+  abbrev pub LeavesShowing : (List ℕ → Part → PixelSet) → (FullState → FullState → Type 0)
+      → WindowManager V H → WindowManager V H → Type 0
+  LeavesShowing shows after = LeavesState (λ s u. after (state_showing shows s) (state_showing shows u))
 
 -- the update region of the window at an index is this one, and nothing else changed
 pub record IsUpdatePut {V : Type 0} {H : V → Type 0} (at : ℕ) (update : Pixels) (old new : WindowManager V H) : Type 0 where

@@ -1,4 +1,5 @@
 -- What holds of a window manager and its stock between calls.
+use Rattle.std.specs.List.{list_all}
 use Rattle.std.specs.Prelude.{◌≡◌, ◌⊎◌, ℕ, ◌≤◌, true, false, List, length, map, None, Some, All, AllPairs, Contains, slice_get}
 use Rattle.tb_geom.specs.declared.point.Point.{Point}
 use Rattle.tb_geom.specs.Rects.{in_plane, is_in_range, moved_rect, rect_holds}
@@ -8,6 +9,8 @@ use Rattle.def_iface.specs.Meaning.{Loan, IsWithin, GoesBy, is_fitting}
 use Rattle.def_iface.specs.Stocked.{SlotView, IsFull, is_left}
 use Rattle.def_iface.specs.Desk.{IsDesk, on_screen}
 use Rattle.def_iface.specs.Owner.{owner, own_bit, is_content}
+use Rattle.layer_list.specs.Holders.{fits_at}
+use Rattle.window_list.specs.declared.window.Window.{Window}
 use Rattle.vis_update.specs.Records.{WindowRecord, news_of}
 use Rattle.vis_update.specs.Areas.{AreAreas, IsGray, IsDesktop, stale_in}
 use Rattle.window_mgr.specs.declared.manager.WindowManager.{WindowManager}
@@ -17,8 +20,8 @@ use Rattle.window_mgr.specs.Refused.{most_windows}
 use Rattle.desk_ground.specs.Screens.{is_screen}
 
 -- the window's definition is live, and was told the window's size, which fits it; its place and its picture's origin
--- are points, its structure lies in the range of coordinates there, and its content in the box of its structure; the
--- definition goes by what the record says that it was told
+-- are points, its structure and its layers lie in the range of coordinates there, and its content in the box of its
+-- structure; the definition goes by what the record says that it was told
 pub record IsSettled (w : WindowRecord) : Type 0 where
   pub origin : in_plane w.origin ≡ true
   pub placed : in_plane w.place ≡ true
@@ -27,6 +30,7 @@ pub record IsSettled (w : WindowRecord) : Type 0 where
   pub fits : is_fitting w.definition w.size ≡ true
   pub inside : is_in_range (moved_rect (w.definition.bounds w.size) w.place.h w.place.v) ≡ true
   pub within : IsWithin (w.definition.content w.size) (rect_holds (w.definition.bounds w.size))
+  pub layers : list_all (fits_at w.place) w.layers ≡ true
   pub goes_by : GoesBy (news_of w) w.definition
 
 -- a slot has its definition back, or belongs to one of these windows and is empty
@@ -55,6 +59,10 @@ abbrev pub AreFramesShown : FullState → Type 0
 AreFramesShown s = let desk = layered_desk s.desk in
     (p : Point) → on_screen desk p ≡ true → is_content (owner desk p) ≡ false → s.image p ≡ own_bit desk (owner desk p) p
 
+-- the layers of a window lie where it does
+abbrev pub LieThere : {V : Type 0} {H : V → Type 0} → Window V H → Type 0
+LieThere w = w.layers.place ≡ w.place
+
 -- `loan` says what a definition that was taken means
 module _ {V : Type 0} {H : V → Type 0} (loan : Taken V H → Loan) where
   -- a window manager and the slots of its stock, between calls
@@ -65,3 +73,4 @@ module _ {V : Type 0} {H : V → Type 0} (loan : Taken V H → Loan) where
     pub areas : AreAreas (layered_desk (desk_of loan t slots)) (stale_in t.areas.items) (desk_of loan t slots).windows
         t.areas.items
     pub frames : AreFramesShown (state_of loan t slots)
+    pub layers : All LieThere t.windows.records.items

@@ -36,11 +36,12 @@ module _ {V : Type 0} {H : V → Type 0} (loan : Taken V H → Loan) where
   abbrev pub records_without : ℕ → WindowManager V H → List WindowRecord
   records_without at t = map (record_of loan) (remove t.windows.records.items at)
 
-  -- a desk on which the windows but the one at this place stand as they do
+  -- a desk on which the windows but the one at this place stand as they do, with their layers
   pub record IsDeskWithout (at : ℕ) (t : WindowManager V H) (after : FullDesk) : Type 0 where
     pub distinct : IsDesk (layered_desk after)
     pub screen : layered_desk after ≡ record (layered_desk (desk_of loan t [])) { windows = (layered_desk after).windows }
     pub stands : map stand_of after.windows ≡ map stand_of (records_without at t)
+    pub layers : map (λ v. v.layers) after.windows ≡ map (λ v. v.layers) (records_without at t)
 
   -- the plan is right for each such desk, where this window is the one that is gone; the frame of one whose highlighting
   -- may change by this activation is drawn whole

@@ -3,7 +3,7 @@ ghost use Rattle.std.specs.Prelude.{◌≡◌, ◌<◌, Some, None, All, MatchOp
 ghost use Rattle.vis_update.specs.Records.{record_of};
 ghost use Rattle.window_mgr.specs.AnySlots.{IsRearrangedOverAnySlots};
 ghost use Rattle.window_mgr.specs.Arrange.{activation_of, active_after, also_of, if_active};
-ghost use Rattle.window_mgr.specs.Edits.{relit_all, IsPutAnew, StandsAt, IsPlaceable, SameSize, AreSeatsAfter, AreSettledAfter, IsActivation, IsPlanOfEdit, IsCommitted, stays_put};
+ghost use Rattle.window_mgr.specs.Edits.{relit_all, IsPutAnew, StandsAt, IsPlaceable, SameSize, IsOnItsWay, AreSeatsAfter, AreSettledAfter, IsActivation, IsPlanOfEdit, IsCommitted, stays_put};
 ghost use Rattle.window_mgr.specs.Finding.{record_with};
 ghost use Rattle.window_mgr.specs.Kept.{IsKept};
 ghost use Rattle.window_mgr.specs.Seats.{AreSeatsOf, first_seated};
@@ -148,6 +148,7 @@ impl WindowManager {
         requires to { edit.to < length self.old.windows.records.items }
         requires placed { IsPlaceable ⟦<Taken as Defined>⟧.loan edit self.old.windows.records.items }
         requires size { SameSize edit self.old.windows.records.items }
+        requires way { IsOnItsWay edit by self.old.windows.records.items }
         ensures { IsRearrangedOverAnySlots ⟦<Taken as Defined>⟧.loan edit activates by result self.old self.new }
     {
         let Ok(Rearrangement { plan, activation }) = self.plan_edit(edit, activates, by) else {
@@ -168,6 +169,7 @@ impl WindowManager {
         requires at { edit.at < length self.now.windows.records.items }
         requires to { edit.to < length self.now.windows.records.items }
         requires placed { IsPlaceable ⟦<Taken as Defined>⟧.loan edit self.now.windows.records.items }
+        requires way { IsOnItsWay edit by self.now.windows.records.items }
         ensures plan { IfOk result (λ r. IsPlanOfEdit ⟦<Taken as Defined>⟧.loan edit r.activation by self.now r.plan) }
         ensures activation { IfOk result (λ r. IsActivation ⟦<Taken as Defined>⟧.loan edit activates self.now r.activation) }
         ensures length { IfOk result (λ r. vec_len r.plan.parts ≡ length self.now.windows.records.items) }
@@ -220,6 +222,7 @@ impl WindowManager {
     fn put_anew(&mut self, edit: Edit)
         requires at { edit.at < length self.old.windows.records.items }
         requires to { edit.to < length self.old.windows.records.items }
+        requires placed { IsPlaceable ⟦<Taken as Defined>⟧.loan edit self.old.windows.records.items }
         ensures put { IsPutAnew edit self.old.windows.records.items self.new.windows.records.items }
         ensures len { length self.new.windows.records.items ≡ length self.old.windows.records.items }
         ensures active { self.new.windows.active ≡ self.old.windows.active }
@@ -254,6 +257,7 @@ impl WindowManager {
         requires to { edit.to < length self.old.windows.records.items }
         requires settled { AreSettledAfter ⟦<Taken as Defined>⟧.loan edit activation self.old.windows.active
             self.old.windows.records.items }
+        requires placed { IsPlaceable ⟦<Taken as Defined>⟧.loan edit self.old.windows.records.items }
         requires parts { vec_len plan.parts ≡ length self.old.windows.records.items }
         ensures { IsCommitted ⟦<Taken as Defined>⟧.loan edit activation plan by self.old self.new }
     {

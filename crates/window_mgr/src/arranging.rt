@@ -10,11 +10,11 @@ ghost use Rattle.tb_geom.specs.Refusals.{first_refusal};
 ghost use Rattle.window_mgr.specs.Refused.{behind_refusals};
 
 use crate::arrange::{Activates, Edit};
+use crate::standing::may_stand;
 use crate::{MoveWindow, SendBehind, ShowHide, WindowManager, WindowReply};
 use def_iface::{Defined, Taken};
+use layer_list::local;
 use tb_geom::Refusal;
-use vis_update::is_placed_with;
-use window_list::local;
 
 impl WindowManager {
     /// Brings a window to the front; a visible one becomes active where it is selected.
@@ -83,7 +83,7 @@ impl WindowManager {
             return Err(Refusal::NoSuchWindow);
         };
         let found = self.windows.at(at);
-        if !is_placed_with(moved.place, found.size, &found.taken) {
+        if !may_stand(found, moved.place, found.size) {
             return Err(Refusal::OutOfRange);
         }
         let activates = if_so(moved.select, if_so(found.shown, Activates::Itself));

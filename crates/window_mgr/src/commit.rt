@@ -1,21 +1,18 @@
 //! What a plan says, drawn on the screen.
-ghost use Rattle.std.specs.Prelude.{◌≡◌, true, map, All, length};
-ghost use Rattle.tb_geom.specs.Rects.{in_plane};
-ghost use Rattle.def_iface.specs.Meaning.{is_fitting};
+ghost use Rattle.std.specs.Prelude.{◌≡◌, map, All, length};
 ghost use Rattle.vis_update.specs.Records.{record_of};
-ghost use Rattle.window_mgr.specs.Commits.{IsPainted, ArePainted, IsMoved, IsPlanDrawn};
+ghost use Rattle.window_mgr.specs.Commits.{ArePainted, IsPlanDrawn};
 ghost use Rattle.window_mgr.specs.Whole.{IsSettled};
 
 use crate::WindowManager;
-use bit_blit::{cut_inside, fill, shift};
+use bit_blit::fill;
 use bit_map::{BitMap, Mode, Pattern};
-use def_iface::{Defined, Stage, Taken};
-use draw_port::Canvas;
-use scan_region::Region;
+use def_iface::{Defined, Taken};
 use strike_font::Font;
 use tb_geom::Point;
 use vis_update::{Part, Plan};
 use window_list::WindowList;
+use window_paint::{move_content, paint_anew};
 
 impl WindowManager {
     /// Draws what a plan says, once the windows are as they are to be, and keeps their areas.
@@ -47,17 +44,7 @@ impl WindowManager {
     }
 }
 
-/// Moves the pixels that arrive in a region from so far away, if any do.
-fn move_content(screen: &mut BitMap, copied: &Region, by: Option<Point>)
-    ensures { IsMoved copied.now by screen.old screen.new }
-{
-    match by {
-        Some(by) => shift(screen, copied, by),
-        None => {}
-    }
-}
-
-/// Paints the parts of windows.
+/// Paints the parts of windows: makes what of their content is new white, and draws their frames.
 fn paint_parts(screen: &mut BitMap, windows: &WindowList, parts: &[Part], font: &Font)
     requires settled { All IsSettled (map (record_of ⟦<Taken as Defined>⟧.loan) windows.now.records.items) }
     requires parts { length parts.now ≡ length windows.now.records.items }
@@ -65,29 +52,7 @@ fn paint_parts(screen: &mut BitMap, windows: &WindowList, parts: &[Part], font: 
         screen.old screen.new }
 {
     for at in 0..windows.len() {
-        let window = windows.at(at);
-        paint(screen, &parts[at], &window.taken, window.place, font);
+        let part = &parts[at];
+        paint_anew(screen, &part.erase, &part.redraw, windows.at(at), font);
     }
-}
-
-/// Makes what of a window's content is new white, and draws its frame.
-fn paint(screen: &mut BitMap, part: &Part, taken: &Taken, place: Point, font: &Font)
-    requires placed { in_plane place ≡ true }
-    requires live { (⟦<Taken as Defined>⟧.loan taken.now).definition.stage ≡ Stage.Live }
-    requires told { is_fitting (⟦<Taken as Defined>⟧.loan taken.now).definition
-        (⟦<Taken as Defined>⟧.loan taken.now).definition.size ≡ true }
-    ensures { IsPainted part.now place (⟦<Taken as Defined>⟧.loan taken.now).definition font.now screen.old screen.new }
-{
-    let origin = Point { h: 0, v: 0 };
-    fill(screen, &part.erase, origin, Pattern::WHITE, Mode::Copy);
-    let cut = cut_inside(&part.redraw);
-    let clip = part.redraw.bbox();
-    let mut canvas = Canvas {
-        map: screen,
-        clip,
-        origin: place,
-        cut: &cut,
-        font,
-    };
-    taken.draw(&mut canvas);
 }

@@ -1,12 +1,5 @@
 //! The call that draws.
-ghost use Rattle.std.specs.Prelude.{◌≡◌, ◌++◌, ◌∷◌, [], List, OnOk, OnErr, Some, None, MatchResult, true};
-ghost use Rattle.tb_geom.specs.declared.point.Point.{Point};
-ghost use Rattle.tb_geom.specs.Points.{minus};
-ghost use Rattle.tb_geom.specs.Rects.{in_plane};
-ghost use Rattle.tb_geom.specs.Pixels.{holds};
-ghost use Rattle.bit_blit.specs.Draws.{Draws};
-ghost use Rattle.draw_port.specs.declared.shapes.Op.{Op};
-ghost use Rattle.draw_port.specs.Ops.{op_value};
+ghost use Rattle.std.specs.Prelude.{◌≡◌, [], OnOk, OnErr, Some, MatchResult};
 ghost use Rattle.desk_call.specs.declared.window.WindowCall.TheVariants.{Draw};
 ghost use Rattle.window_mgr.specs.Kept.{IsKept};
 ghost use Rattle.window_mgr.specs.Planned.{SameDesk, MayDraw, IsDrawnAt};
@@ -14,15 +7,11 @@ ghost use Rattle.window_mgr.specs.Records.{state_of};
 ghost use Rattle.window_mgr.specs.Refused.{IsRefusal, is_formal};
 
 use crate::{Drawing, WindowManager};
-use bit_blit::cut_inside;
-use bit_map::BitMap;
 use def_iface::{Defined, Taken};
-use draw_port::{Canvas, MOST_OPERATIONS};
+use draw_port::MOST_OPERATIONS;
 use std::alloc::AllocError;
-use strike_font::Font;
-use tb_geom::{Point, Refusal};
-use vis_update::Area;
-use window_list::{Window, picture_place};
+use tb_geom::Refusal;
+use window_paint::paint_last_operation;
 
 impl WindowManager {
     /// The index of the window that is drawn in, where nothing but memory can refuse that.
@@ -63,9 +52,9 @@ impl WindowManager {
         if self.windows.push_operation(at, operation).is_err() {
             return Err(AllocError);
         }
-        show_last(
+        paint_last_operation(
             &mut self.screen,
-            &self.areas[at],
+            &self.areas[at].visible,
             self.windows.at(at),
             &self.font,
         );
@@ -82,29 +71,4 @@ pub(crate) fn is_formal(refusal: Refusal) -> bool
         Refusal::BadSyntax | Refusal::BadRegion => true,
         _ => false,
     }
-}
-
-/// Draws the last operation of a window's picture, if there is one, on the pixels of its content that
-/// show.
-fn show_last(screen: &mut BitMap, area: &Area, window: &Window, font: &Font)
-    requires placed { in_plane window.now.place ≡ true }
-    requires origin { in_plane window.now.origin ≡ true }
-    ensures { (before : List Op) (op : Op) → window.now.picture ≡ before ++ op ∷ []
-        → Draws (holds area.now.visible)
-        (λ p value. op_value font.now op (minus (minus p window.now.place) window.now.origin) value)
-        screen.old screen.new }
-{
-    let Some(operation) = window.picture.ops().last() else {
-        return;
-    };
-    let cut = cut_inside(&area.visible);
-    let clip = area.visible.bbox();
-    let mut canvas = Canvas {
-        map: screen,
-        clip,
-        origin: picture_place(window.place, window.origin),
-        cut: &cut,
-        font,
-    };
-    canvas.paint(operation);
 }

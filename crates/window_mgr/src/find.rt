@@ -13,8 +13,9 @@ ghost use Rattle.window_mgr.specs.Whole.{IsSettled};
 
 use crate::{Found, WindowManager, WindowPart};
 use def_iface::{Defined, Hit, Taken};
+use layer_list::local;
 use tb_geom::{Point, Refusal};
-use window_list::{Window, local};
+use window_list::Window;
 
 impl WindowManager {
     /// Whose the point of the screen is. OutOfRange where it lies outside the range of coordinates.

@@ -16,12 +16,15 @@
 //! with the number of the slot that it came from. Where the window or the desk ends, the definition goes back there, Closed.
 //! A call that leaves the stock alone is a step over any slots with which the windows are whole (`AnySlots`).
 //!
-//! A call is judged and takes all its memory before the first change: its plan (`vis_update`) says what each window will
-//! own and what changes on the screen, and `commit` draws it, whichever call it was made for. `arrange` puts one window
-//! anew among the others, `size` gives one another size and `zoom` zooms it, `new_window` adds one, `dispose_window` takes
-//! one out, `draw` draws in one, `repicture` replaces its picture or scrolls it, `frame` tells a window's definition of a
-//! change and draws the frame anew. `update` is for the crate that redraws windows: it changes an update region, or
-//! draws what is in it. `bar` shows other titles in the menu bar, which is drawn whole then.
+//! A call is judged and takes all its memory before the first change: its plan (`vis_update`) says what each window
+//! will own and what changes on the screen, and `commit` draws it, whichever call it was made for. `arrange` puts one
+//! window anew among the others, `size` gives one another size and `zoom` zooms it, `new_window` adds one,
+//! `dispose_window` takes one out, `draw` draws in one, `repicture` replaces its picture or scrolls it, `frame` tells a
+//! window's definition of a change and draws the frame anew. A scroll moves no window, so it has a plan of its own,
+//! which `scrolling` draws. `update` is for the crate that redraws windows: it changes an update region, or draws what
+//! is in it. `bar` shows other titles in the menu bar, which is drawn whole then. `relayering` gives a window other layers in
+//! front of its picture, for whoever keeps its controls and lists. What a window shows is drawn by `window_paint`; which
+//! pixels it is drawn on is said here.
 //!
 //! `find` reads off the same regions whose a pixel is: its owner is the window whose visible content or frame has it.
 //! There may be 64 windows.
@@ -40,8 +43,11 @@ mod frame;
 mod manager;
 mod new_window;
 mod perform;
+mod relayering;
 mod repicture;
+mod scrolling;
 mod size;
+mod standing;
 mod tell;
 mod update;
 mod zoom;
@@ -52,5 +58,3 @@ pub use desk_call::{
 };
 pub use forms::form_refusal;
 pub use manager::{NotBegun, Parts, WindowManager};
-pub use tell::move_by;
-pub use update::paint_picture;

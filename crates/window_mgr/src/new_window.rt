@@ -1,5 +1,6 @@
 //! The call that makes a window.
 ghost use Rattle.std.specs.Prelude.{◌≡◌, ◌+◌, ◌++◌, ◌∷◌, [], true, map, if◌then◌else◌, Some, None, All, IfOk, IfErr, MatchResult, length, vec_len};
+ghost use Rattle.tb_geom.specs.Rects.{in_plane};
 ghost use Rattle.def_iface.specs.Meaning.{is_fitting};
 ghost use Rattle.desk_call.specs.declared.window.WindowCall.TheVariants.{New};
 ghost use Rattle.vis_update.specs.Records.{record_of};
@@ -13,12 +14,13 @@ ghost use Rattle.window_mgr.specs.Planned.{IsPlanWith, IsUnplanned, SameDesk, Is
 ghost use Rattle.window_mgr.specs.Seats.{AreSeatsBehind};
 ghost use Rattle.window_mgr.specs.Effects.{new_record};
 ghost use Rattle.window_mgr.specs.Step.{IsWindowStep};
-ghost use Rattle.window_mgr.specs.Whole.{IsWholeManager, IsSettled};
+ghost use Rattle.window_mgr.specs.Whole.{IsWholeManager, IsSettled, LieThere};
 
 use crate::arrange::if_active;
 use crate::{NewWindow, WindowManager, WindowReply};
 use def_iface::{Defined, Stage, Stocked, Taken, WindowStock};
 use draw_port::Picture;
+use layer_list::Layers;
 use std::alloc::{AllocError, Global};
 use tb_geom::{Point, Refusal};
 use vis_update::{Area, Plan, Seat, Touch, is_placed_alone, is_placed_with, plan_of};
@@ -225,11 +227,13 @@ fn record_for(
     title: Title,
     taken: Taken,
 ) -> Window
-    requires { title.items ≡ window.now.title }
+    requires title { title.items ≡ window.now.title }
+    requires placed { in_plane window.now.place ≡ true }
     ensures seen { record_of ⟦<Taken as Defined>⟧.loan result ≡ new_record window.now serial
         (⟦<Taken as Defined>⟧.loan taken).slot (⟦<Taken as Defined>⟧.loan taken).definition }
     ensures serial { result.serial ≡ serial }
     ensures shown { result.shown ≡ window.now.shown }
+    ensures there { LieThere result }
 {
     Window {
         serial,
@@ -247,6 +251,7 @@ fn record_for(
         },
         picture: Picture::new(alloc),
         origin: Point { h: 0, v: 0 },
+        layers: Layers::new(alloc, window.place),
         taken,
     }
 }

@@ -8,7 +8,6 @@ ghost use Rattle.window_mgr.specs.Edits.{StandsAt};
 ghost use Rattle.window_mgr.specs.Kept.{IsKept};
 ghost use Rattle.window_mgr.specs.Planned.{SameDesk, IsPictureAt};
 
-use crate::arrange::{Activates, Edit};
 use crate::{NewPicture, ScrollPicture, WindowManager, WindowReply};
 use def_iface::{Defined, Taken};
 use std::alloc::AllocError;
@@ -40,7 +39,11 @@ impl WindowManager {
         ensures same { OnErr result (SameDesk self.old self.new) }
     {
         let picture = new.picture.copy(self.alloc)?;
-        let update = self.areas[at].visible.copy(self.alloc)?;
+        let area = &self.areas[at];
+        let shown = area
+            .visible
+            .diff(self.alloc, self.windows.at(at).layers.covered())?;
+        let update = area.update.union(self.alloc, &shown)?;
         self.windows.set_picture(at, picture, new.origin);
         self.put_update(at, update);
         Ok(())
@@ -58,12 +61,12 @@ impl WindowManager {
         let Some(origin) = moved_origin(found.origin, scroll.by) else {
             return Err(Refusal::OutOfRange);
         };
-        let edit = Edit::of(at, found);
-        let Ok(answer) = self.rearrange(edit, Activates::Nothing, Some(scroll.by)) else {
+        let Ok(scrolled) = self.plan_scroll(at, scroll.by) else {
             return Err(Refusal::NoMemory);
         };
+        self.commit_scroll(at, scrolled, scroll.by);
         self.windows.set_origin(at, origin);
-        Ok(answer)
+        Ok(WindowReply::Done)
     }
 }
 

@@ -4,14 +4,15 @@ ghost use Rattle.desk_call.specs.declared.window.WindowCall.TheVariants as asks;
 ghost use Rattle.vis_update.specs.Records.{record_of};
 ghost use Rattle.window_mgr.specs.AnySlots.{IsStepOverAnySlots};
 ghost use Rattle.window_mgr.specs.Kept.{IsKept};
-ghost use Rattle.window_mgr.specs.Laying.{IsPlaceableAt, IsPlacementCommitted, IsLaidOverAnySlots};
+ghost use Rattle.window_mgr.specs.Laying.{IsPlaceableAt, IsOnItsWayTo, IsPlacementCommitted, IsLaidOverAnySlots};
 ghost use Rattle.window_mgr.specs.Whole.{IsSettled};
 
 use crate::arrange::{Activates, Edit, Rearrangement};
+use crate::standing::may_stand;
 use crate::{SizeWindow, WindowManager, WindowReply};
 use def_iface::{Defined, Taken};
 use tb_geom::{Point, Refusal};
-use vis_update::{Plan, is_placed_with};
+use vis_update::Plan;
 use window_list::Placement;
 
 impl WindowManager {
@@ -24,7 +25,7 @@ impl WindowManager {
             return Err(Refusal::NoSuchWindow);
         };
         let found = self.windows.at(at);
-        if !is_placed_with(found.place, sized.size, &found.taken) {
+        if !may_stand(found, found.place, sized.size) {
             return Err(Refusal::OutOfRange);
         }
         let placement = Placement {
@@ -46,6 +47,7 @@ impl WindowManager {
         requires kept { IsKept ⟦<Taken as Defined>⟧.loan self.old }
         requires at { at < length self.old.windows.records.items }
         requires placeable { IsPlaceableAt ⟦<Taken as Defined>⟧.loan at placement self.old.windows.records.items }
+        requires way { IsOnItsWayTo at placement by self.old.windows.records.items }
         ensures { IsLaidOverAnySlots ⟦<Taken as Defined>⟧.loan at placement by result self.old self.new }
     {
         let mut edit = Edit::of(at, self.windows.at(at));

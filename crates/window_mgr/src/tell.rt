@@ -1,21 +1,21 @@
 //! The calls that tell a window's regions.
 ghost use Rattle.std.specs.Prelude.{◌≡◌, true, MatchResult};
 ghost use Rattle.tb_geom.specs.declared.point.Point.{Point};
-ghost use Rattle.tb_geom.specs.Points.{plus, minus};
+ghost use Rattle.tb_geom.specs.Points.{plus};
 ghost use Rattle.tb_geom.specs.Rects.{in_plane};
 ghost use Rattle.tb_geom.specs.Pixels.{holds};
-ghost use Rattle.scan_region.specs.Moves.{StaysInRange, is_pixel_in_range};
+ghost use Rattle.scan_region.specs.Moves.{is_pixel_in_range};
 ghost use Rattle.window_mgr.specs.AnySlots.{IsStepOverAnySlots};
 ghost use Rattle.window_mgr.specs.Kept.{IsKept};
 ghost use Rattle.window_mgr.specs.Telling.{AreRegionBytes, IsNotTold, kept_region, asking};
 
 use crate::{WindowManager, WindowReply};
 use def_iface::{Defined, Taken};
+use layer_list::{local, move_by};
 use scan_region::Region;
 use std::alloc::Global;
 use tb_geom::{Point, Refusal};
 use vis_update::Area;
-use window_list::local;
 
 /// Which of a window's regions is told.
 #[derive(Clone, Copy)]
@@ -82,12 +82,4 @@ fn bytes_from(region: &mut Region, alloc: Global, origin: Point) -> Result<Vec<u
     let bytes = region.to_bytes(alloc);
     move_by(region, origin);
     bytes
-}
-
-/// Moves a region, which stays in range.
-pub fn move_by(region: &mut Region, by: Point)
-    requires { StaysInRange region.old by }
-    ensures { (p : Point) → holds region.new p ≡ holds region.old (minus p by) }
-{
-    region.offset(by.h, by.v).unwrap();
 }

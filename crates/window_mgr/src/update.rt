@@ -1,27 +1,26 @@
 //! What the calls of updates read and change of a window: its area on the screen.
-ghost use Rattle.std.specs.Prelude.{◌≡◌, ◌<◌, length, true, slice_index_or};
+ghost use Rattle.std.specs.Prelude.{◌≡◌, ◌<◌, ◌&&◌, not, length, true, false, slice_index_or, ℕ, List};
 ghost use Rattle.tb_geom.specs.declared.point.Point.{Point};
-ghost use Rattle.tb_geom.specs.Points.{minus};
+ghost use Rattle.tb_geom.specs.Points.{PixelSet};
 ghost use Rattle.tb_geom.specs.Pixels.{holds};
-ghost use Rattle.tb_geom.specs.Rects.{in_plane};
-ghost use Rattle.bit_blit.specs.Draws.{Draws};
-ghost use Rattle.draw_port.specs.Ops.{picture_bit};
-ghost use Rattle.vis_update.specs.Areas.{stale_in};
+ghost use Rattle.vis_update.specs.Areas.{is_content_of, stale_in};
 ghost use Rattle.vis_update.specs.declared.area.Area.{Area};
+ghost use Rattle.def_iface.specs.declared.part.Part.TheVariants as part;
 ghost use Rattle.window_mgr.specs.Edits.{IsWindowAt};
 ghost use Rattle.window_mgr.specs.Kept.{IsKept};
-ghost use Rattle.window_mgr.specs.Updating.{LeavesState, IsRemarked, IsRefreshed, IsUpdatePut};
+ghost use Rattle.def_iface.specs.declared.part.Part.{Part};
+ghost use Rattle.desk_call.specs.declared.update.Layers.TheVariants.{Picture};
+ghost use Rattle.window_paint.specs.Kinds.{is_kind_there, is_of};
+ghost use Rattle.window_mgr.specs.Updating.{LeavesState, LeavesShowing, IsRemarked, IsRefreshed, IsUpdatePut, is_of_kind};
+ghost use Rattle.window_paint.specs.Hidden.{is_hidden};
 
 use crate::WindowManager;
-use bit_blit::cut_inside;
-use bit_map::BitMap;
 use def_iface::{Defined, Taken};
-use draw_port::Canvas;
+use desk_call::Layers;
 use scan_region::Region;
-use strike_font::Font;
 use tb_geom::Point;
 use vis_update::Area;
-use window_list::{Window, picture_place};
+use window_paint::{Showing, paint_content, paint_kind, paint_picture};
 
 impl WindowManager {
     /// What the window at this index owns of the screen.
@@ -60,12 +59,16 @@ impl WindowManager {
         self.areas[at].update = update;
     }
 
-    /// Draws what is to be redrawn of a window's picture, which is then no longer to be.
-    pub fn refresh(&mut self, at: usize)
+    /// Draws what is to be redrawn of a window's picture, which is then no longer to be; what is left of the update
+    /// region is given: what of it layers in front of the picture have.
+    pub fn refresh(&mut self, at: usize, left: Region)
         requires kept { IsKept ⟦<Taken as Defined>⟧.loan self.old }
         requires at { at < length self.old.windows.records.items }
-        ensures { (w : _) → IsWindowAt self.old.windows.records.items at w
-            → LeavesState ⟦<Taken as Defined>⟧.loan (IsRefreshed w.serial) self.old self.new }
+        requires left { (a : Area) → a ≡ slice_index_or self.old.areas.items at a
+            → (w : _) → IsWindowAt self.old.windows.records.items at w
+            → (p : Point) → holds left p ≡ (holds a.update p && is_hidden w p) }
+        ensures { (shows : List ℕ → Part → PixelSet) (w : _) → IsWindowAt self.old.windows.records.items at w
+            → LeavesShowing ⟦<Taken as Defined>⟧.loan shows (IsRefreshed (is_of_kind Picture w.serial)) self.old self.new }
     {
         paint_picture(
             &mut self.screen,
@@ -73,26 +76,51 @@ impl WindowManager {
             self.windows.at(at),
             &self.font,
         );
-        self.put_update(at, Region::empty(self.alloc));
+        self.put_update(at, left);
     }
-}
 
-/// Draws a window's picture, over white, on the pixels of a region of the screen.
-pub fn paint_picture(map: &mut BitMap, region: &Region, window: &Window, font: &Font)
-    requires placed { in_plane window.now.place ≡ true }
-    requires origin { in_plane window.now.origin ≡ true }
-    ensures { Draws (holds region.now)
-        (λ p _. picture_bit font.now window.now.picture (minus (minus p window.now.place) window.now.origin))
-        map.old map.new }
-{
-    let cut = cut_inside(region);
-    let clip = region.bbox();
-    let mut canvas = Canvas {
-        map,
-        clip,
-        origin: picture_place(window.place, window.origin),
-        cut: &cut,
-        font,
-    };
-    canvas.paint_picture(&window.picture);
+    /// Draws what is to be redrawn of a window's lists, or of its controls, which is then no longer to be; what is left of
+    /// the update region is given: what of it other layers have.
+    pub fn refresh_layers<S: Showing>(&mut self, at: usize, kind: Layers, rest: Region, layers: &S)
+        requires kept { IsKept ⟦<Taken as Defined>⟧.loan self.old }
+        requires at { at < length self.old.windows.records.items }
+        requires kind { is_of kind part.Picture ≡ false }
+        requires whole { S.is_whole layers.now }
+        requires rest { (a : Area) → a ≡ slice_index_or self.old.areas.items at a
+            → (w : _) → IsWindowAt self.old.windows.records.items at w
+            → (p : Point) → holds rest p ≡ (holds a.update p && not (is_kind_there kind w p)) }
+        ensures { (w : _) → IsWindowAt self.old.windows.records.items at w
+            → LeavesShowing ⟦<Taken as Defined>⟧.loan (S.shows layers.now) (IsRefreshed (is_of_kind kind w.serial)) self.old self.new }
+    {
+        let stale = &self.areas[at].update;
+        paint_kind(
+            &mut self.screen,
+            stale,
+            self.windows.at(at),
+            kind,
+            layers,
+            &self.font,
+        );
+        self.put_update(at, rest);
+    }
+
+    /// Draws all that is to be redrawn of a window's content, of which nothing is then to be.
+    pub fn refresh_content<S: Showing>(&mut self, at: usize, layers: &S)
+        requires kept { IsKept ⟦<Taken as Defined>⟧.loan self.old }
+        requires at { at < length self.old.windows.records.items }
+        requires whole { S.is_whole layers.now }
+        ensures { (w : _) → IsWindowAt self.old.windows.records.items at w
+            → LeavesShowing ⟦<Taken as Defined>⟧.loan (S.shows layers.now) (IsRefreshed (is_content_of w.serial)) self.old self.new }
+    {
+        let stale = &self.areas[at].update;
+        paint_content(
+            &mut self.screen,
+            stale,
+            self.windows.at(at),
+            layers,
+            &self.font,
+        );
+        let nothing = Region::empty(self.alloc);
+        self.put_update(at, nothing);
+    }
 }

@@ -8,11 +8,12 @@ ghost use Rattle.window_mgr.specs.Kept.{IsKept};
 ghost use Rattle.window_mgr.specs.Placings.{zoom_target};
 ghost use Rattle.window_mgr.specs.Records.{desk_of};
 
+use crate::standing::may_stand;
 use crate::{WindowManager, WindowReply, Zoom, ZoomWindow};
 use def_iface::{Defined, Size, Taken};
+use layer_list::local;
 use tb_geom::{Point, Rect, Refusal};
-use vis_update::is_placed_with;
-use window_list::{Placement, UserState, Window, local};
+use window_list::{Placement, UserState, Window};
 
 impl WindowManager {
     /// Zooms a window, and tells its definition. One that is zoomed so already stays.
@@ -30,7 +31,7 @@ impl WindowManager {
         let Some(placement) = self.zoom_target(direction, found) else {
             return Ok(WindowReply::Done);
         };
-        if !is_placed_with(placement.place, placement.size, &found.taken) {
+        if !may_stand(found, placement.place, placement.size) {
             return Err(Refusal::OutOfRange);
         }
         let by = local(placement.place, found.place);

@@ -1,5 +1,5 @@
 -- What the content of a window is to show, and whether it does.
-use Rattle.std.proofs.Common.{◌≡◌, ℕ, ◌<◌, ◌==◌, Bool, true, false, ◌&&◌, if◌then◌else◌, List, [], ◌∷◌, length, map, Some, refl, sym, ap, ◌∙◌, subst}
+use Rattle.std.proofs.Common.{◌≡◌, ℕ, ◌<◌, Bool, true, false, ◌&&◌, if◌then◌else◌, List, [], length, Some, refl, sym, ap, ◌∙◌, subst}
 use Rattle.std.specs.Prelude.{slice_index_or}
 use Rattle.std.proofs.lemmas.Bool.{and_parts}
 use Rattle.tb_geom.specs.declared.point.Point.{Point}
@@ -7,73 +7,58 @@ use Rattle.tb_geom.specs.Points.{PixelSet, minus}
 use Rattle.tb_geom.specs.Pixels.{holds}
 use Rattle.bit_map.specs.Bits.{Bits, on_map, bit}
 use Rattle.bit_blit.specs.Draws.{Draws}
-use Rattle.draw_port.specs.Ops.{picture_bit}
+use Rattle.def_iface.specs.declared.part.Part.{Part}
 use Rattle.def_iface.specs.declared.taken.Taken.{Taken}
 use Rattle.def_iface.specs.Meaning.{Loan}
 use Rattle.def_iface.specs.Desk as layers
-use Rattle.def_iface.specs.declared.part.Part.TheVariants.{Picture}
-use Rattle.def_iface.specs.Owner.{Owner, owner, own_bit, content_bit}
-use Rattle.def_iface.specs.Owner.Owner.{Content}
+use Rattle.def_iface.specs.Owner.{Owner, owner}
 use Rattle.def_iface.specs.Scratch.{scratch}
-use Rattle.def_iface.proofs.Owning.{same_owner-true}
-use Rattle.def_iface.proofs.Painting.{scratch_is_owners}
 use Rattle.window_list.specs.declared.window.Window.{Window}
+use Rattle.window_paint.specs.Shown.{content_shown}
 use Rattle.vis_update.specs.declared.area.Area.{Area}
-use Rattle.vis_update.specs.Areas.{IsArea, stale_in, is_content_of}
-use Rattle.vis_update.specs.Records.{WindowRecord, layered_window, record_of}
-use Rattle.vis_update.proofs.Others.{content_is_picture}
+use Rattle.vis_update.specs.Areas.{is_content_of}
+use Rattle.vis_update.specs.Records.{record_of}
 use Rattle.window_mgr.specs.declared.manager.WindowManager.{WindowManager}
 use Rattle.window_mgr.specs.Edits.{IsWindowAt}
 use Rattle.window_mgr.specs.Finding.{record_with}
 use Rattle.window_mgr.specs.FullDesk.{FullDesk, layered_desk}
 use Rattle.window_mgr.specs.Kept.{IsKept}
-use Rattle.window_mgr.specs.Records.{desk_of, state_of}
+use Rattle.window_mgr.specs.Records.{desk_of, desk_showing, state_of, state_showing}
 use Rattle.window_mgr.proofs.Arranged.{between-is_below}
+use Rattle.window_mgr.proofs.Contents.{content_right}
 use Rattle.window_mgr.proofs.EditSeats.{same_at}
-use Rattle.window_mgr.proofs.Pictured.{pictured}
+use Rattle.window_mgr.proofs.Showing.{owner_showing}
 use Rattle.window_mgr.proofs.TellLemmas as telling
 use Rattle.window_update.specs.Sets.{marked_in, on_place}
 use Rattle.window_update.specs.Rightness.{IsAgreement, IsJudgement}
 use Rattle.window_update.proofs.MarkLemmas.{its_area}
 
--- the window of a record, as layers
-window_found : (font : List ℕ) (s : ℕ) (ws : List WindowRecord) (w : WindowRecord) → record_with s ws ≡ Some w → layers.window_of s (map (layered_window font) ws) ≡ Some (layered_window font w)
-window_found font s [] w e = absurd (cc)
-window_found font s (v ∷ ws) w e = by_test (v.serial == s) e (λ k. window_found font s ws w k)
-  where
-    by_test : (b : Bool) → (if b then Some v else record_with s ws) ≡ Some w → (record_with s ws ≡ Some w → layers.window_of s (map (layered_window font) ws) ≡ Some (layered_window font w)) → (if b then Some (layered_window font v) else layers.window_of s (map (layered_window font) ws)) ≡ Some (layered_window font w)
-    by_test true h rest =
-        let same : v ≡ w = cc in
-        ap (λ (x : WindowRecord). Some (layered_window font x)) same
-    by_test false h rest = rest h
-
-module _ {V : Type 0} {H : V → Type 0} (loan : Taken V H → Loan) (t : WindowManager V H) (kept : IsKept loan t) (at : ℕ) (low : at < length t.windows.records.items)
+module _ {V : Type 0} {H : V → Type 0} (loan : Taken V H → Loan) (shows : List ℕ → Part → PixelSet) (t : WindowManager V H) (kept : IsKept loan t) (at : ℕ) (low : at < length t.windows.records.items)
     (x : Window V H) (x_is : IsWindowAt t.windows.records.items at x) where
   abbrev desk : FullDesk
-  desk = desk_of loan t []
+  desk = desk_showing shows (desk_of loan t [])
 
   found : record_with x.serial desk.windows ≡ Some (record_of loan x)
   found = telling.found loan t kept x.serial at x low x_is refl
 
   -- what painting from nothing gives a pixel that the window's content owns
-  shows : (p : Point) → is_content_of x.serial (owner (layered_desk desk) p) ≡ true → scratch (layered_desk desk) p ≡ picture_bit t.font x.picture (minus (minus p x.place) x.origin)
-  shows p its =
-      scratch_is_owners (layered_desk desk) p kept.whole.sound.distinct
-      ∙ ap (λ o. own_bit (layered_desk desk) o p) (same_owner-true (owner (layered_desk desk) p) (Content x.serial Picture) (sym (content_is_picture x.serial (owner (layered_desk desk) p) (pictured desk p)) ∙ its))
-      ∙ ap (λ w. content_bit w Picture p) (window_found t.font x.serial desk.windows (record_of loan x) found)
+  right_is : (p : Point) → is_content_of x.serial (owner (layered_desk desk) p) ≡ true → content_shown t.font (shows t.font) x p ≡ scratch (layered_desk desk) p
+  right_is = content_right loan t kept.slots kept.whole at low x x_is shows
 
   pub on_map_is : (p : Point) → layers.on_screen (layered_desk desk) p ≡ on_map t.screen p
   unfolding on_map
   on_map_is p = λ i. between-is_below t.screen.width p.h i && between-is_below t.screen.height p.v i
 
   module _ (a : Area) (a_is : a ≡ slice_index_or t.areas.items at a) (buffer image : Bits) (width : buffer.width ≡ t.screen.width) (height : buffer.height ≡ t.screen.height)
-      (drawn : Draws (holds a.visible) (λ p value. picture_bit t.font x.picture (minus (minus p x.place) x.origin)) buffer image) where
-    its : IsArea (layered_desk desk) (stale_in t.areas.items) x.serial a
-    its = its_area loan t kept at low x a x_is a_is
+      (drawn : Draws (holds a.visible) (λ p _. content_shown t.font (shows t.font) x p) buffer image) where
+    visible_is : (p : Point) → holds a.visible p ≡ (layers.on_screen (layered_desk desk) p && is_content_of x.serial (owner (layered_desk desk) p))
+    visible_is p =
+        (its_area loan t kept at low x a x_is a_is).visible p
+        ∙ ap (λ o. layers.on_screen (layered_desk desk) p && is_content_of x.serial o) (sym (owner_showing shows (desk_of loan t []) p))
 
     -- what shows of the content lies on the screen, and on the map for comparing
     pub shows_on : (p : Point) → holds a.visible p ≡ true → on_map t.screen p ≡ true
-    shows_on p e = sym (on_map_is p) ∙ (and_parts (layers.on_screen (layered_desk desk) p) _ (sym (its.visible p) ∙ e)).0
+    shows_on p e = sym (on_map_is p) ∙ (and_parts (layers.on_screen (layered_desk desk) p) _ (sym (visible_is p) ∙ e)).0
 
     pub on_buffer : (p : Point) → on_map t.screen p ≡ true → on_map buffer p ≡ true
     unfolding on_map
@@ -87,23 +72,23 @@ module _ {V : Type 0} {H : V → Type 0} (loan : Taken V H → Loan) (t : Window
     image_is : (p : Point) → holds a.visible p ≡ true → is_content_of x.serial (owner (layered_desk desk) p) ≡ true → bit image p ≡ scratch (layered_desk desk) p
     image_is p e own =
         drawn.pixels p (on_buffer p (shows_on p e))
-        ∙ ap (λ b. if b then picture_bit t.font x.picture (minus (minus p x.place) x.origin) else bit buffer p) e
-        ∙ sym (shows p own)
+        ∙ ap (λ b. if b then content_shown t.font (shows t.font) x p else bit buffer p) e
+        ∙ right_is p own
 
     module _ (set : PixelSet) where
       marked_is : (o : Owner) (p : Point) → marked_in x.serial set desk o p ≡ (is_content_of x.serial o && set (minus p x.place))
       marked_is o p = ap (λ w. is_content_of x.serial o && on_place w set p) found
 
-      pub judged : (result : Bool) → IsAgreement (λ p. holds a.visible p && set (minus p x.place)) t.screen image result → IsJudgement x.serial set (state_of loan t []) result
+      pub judged : (result : Bool) → IsAgreement (λ p. holds a.visible p && set (minus p x.place)) t.screen image result → IsJudgement x.serial set (state_showing shows (state_of loan t [])) result
       judged true agree = λ p on marked.
           let parts = and_parts (is_content_of x.serial (owner (layered_desk desk) p)) (set (minus p x.place)) (sym (marked_is (owner (layered_desk desk) p) p) ∙ marked) in
-          let shown : holds a.visible p ≡ true = its.visible p ∙ (λ i. on i && parts.0 i) in
+          let shown : holds a.visible p ≡ true = visible_is p ∙ (λ i. on i && parts.0 i) in
           agree p (λ i. shown i && parts.1 i) ∙ image_is p shown parts.0
       judged false (p, within, apart) = λ right.
           let parts = and_parts (holds a.visible p) (set (minus p x.place)) within in
-          let own = and_parts (layers.on_screen (layered_desk desk) p) _ (sym (its.visible p) ∙ parts.0) in
+          let own = and_parts (layers.on_screen (layered_desk desk) p) _ (sym (visible_is p) ∙ parts.0) in
           apart (right p own.0 (marked_is (owner (layered_desk desk) p) p ∙ (λ i. own.1 i && parts.1 i)) ∙ sym (image_is p parts.0 own.1))
 
       -- the same, where the window goes by another name
-      pub judged_as : (w : Window V H) → IsWindowAt t.windows.records.items at w → (result : Bool) → IsAgreement (λ p. holds a.visible p && set (minus p x.place)) t.screen image result → IsJudgement w.serial set (state_of loan t []) result
-      judged_as w w_is result agree = subst (λ (v : Window V H). IsJudgement v.serial set (state_of loan t []) result) (same_at t.windows.records.items at x w low x_is w_is) (judged result agree)
+      pub judged_as : (w : Window V H) → IsWindowAt t.windows.records.items at w → (result : Bool) → IsAgreement (λ p. holds a.visible p && set (minus p x.place)) t.screen image result → IsJudgement w.serial set (state_showing shows (state_of loan t [])) result
+      judged_as w w_is result agree = subst (λ (v : Window V H). IsJudgement v.serial set (state_showing shows (state_of loan t [])) result) (same_at t.windows.records.items at x w low x_is w_is) (judged result agree)

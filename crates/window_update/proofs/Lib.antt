@@ -3,7 +3,10 @@
 pub mod AreaLemmas
 pub mod RightLemmas
 pub mod MarkLemmas
+pub mod ChoiceLemmas
+pub mod Admitted
 pub mod Sides
+pub mod OpenLemmas
 pub mod ServeLemmas
 pub mod Judging
 pub mod StepLemmas

@@ -1,27 +1,29 @@
 -- A window whose update was served has nothing to be redrawn, and a desk on which no window has is right.
-use Rattle.std.proofs.Common.{◌≡◌, ℕ, ◌==◌, Bool, true, false, not, ◌&&◌, if◌then◌else◌, List, [], ◌∷◌, map, Option, None, Some, Ok, refl, sym, ap, ◌∙◌, subst}
+use Rattle.std.proofs.Common.{◌≡◌, ℕ, ◌==◌, Bool, true, false, not, ◌&&◌, ◌||◌, if◌then◌else◌, List, [], ◌∷◌, map, Option, None, Some, Ok, refl, sym, ap, ◌∙◌, subst}
 use Rattle.std.proofs.lemmas.Bool.{false≢true, and_parts, eqb-true}
 use Rattle.tb_geom.specs.declared.point.Point.{Point}
 use Rattle.tb_geom.specs.Points.{PixelSet, plus, minus}
 use Rattle.def_iface.specs.Desk as layers
 use Rattle.def_iface.specs.Desk.{LayeredDesk, on_screen}
-use Rattle.def_iface.specs.declared.part.Part.TheVariants.{Picture}
-use Rattle.def_iface.specs.Owner.{Owner, owner, owner_among, same_owner, is_content}
+use Rattle.def_iface.specs.declared.part.Part.{Part}
+use Rattle.def_iface.specs.declared.part.Part.TheVariants as part
+use Rattle.def_iface.specs.Owner.{Owner, owner, owner_among, is_content}
 use Rattle.def_iface.specs.Owner.Owner.{Desktop, Bar, Frame, Content}
 use Rattle.def_iface.specs.Change.{stale_by, image_by}
 use Rattle.def_iface.specs.Scratch.{scratch}
 use Rattle.def_iface.proofs.Owning.{is_other, owner_is_other, same_number, same_owner-self}
+use Rattle.desk_call.specs.declared.update.Layers.TheVariants.{Picture, Lists, Controls}
 use Rattle.desk_call.specs.declared.update.UpdateCall.TheVariants.{Serve}
 use Rattle.desk_call.specs.declared.window.WindowReply.TheVariants.{Done}
 use Rattle.vis_update.specs.Areas.{is_content_of}
-use Rattle.vis_update.specs.Records.{WindowRecord, layered_window}
-use Rattle.vis_update.proofs.Others.{content_is_picture}
+use Rattle.vis_update.specs.Records.{WindowRecord, Look, layered_window}
 use Rattle.window_mgr.specs.Effects.{IsUnchanged}
 use Rattle.window_mgr.specs.Finding.{record_with}
-use Rattle.window_mgr.specs.FullDesk.{FullDesk, FullState, IsRightState, layered_desk, layered_state}
+use Rattle.window_mgr.specs.FullDesk.{FullDesk, FullState, IsRightState, layered_desk, layered_state, look_of}
 use Rattle.window_mgr.specs.Telling.{seen_from, update_of}
-use Rattle.window_mgr.specs.Updating.{IsRefreshed, refresh_change}
-use Rattle.window_mgr.proofs.Pictured.{pictured}
+use Rattle.window_paint.specs.Kinds.{is_of}
+use Rattle.window_mgr.specs.Updating.{IsRefreshed, refresh_change, is_of_kind}
+use Rattle.window_mgr.proofs.Remarked.{unless}
 use Rattle.window_mgr.proofs.TellLemmas.{again_there}
 use Rattle.window_mgr.specs.DeskStates.{DeskState}
 use Rattle.window_update.specs.Served.{AreDone, AreAllServed, IsAllRight, layer_by_layer}
@@ -80,7 +82,7 @@ never_within : (within : Bool) → (within && false) ≡ false
 never_within true = refl
 never_within false = refl
 
-module _ (s : ℕ) (before after : FullState) (done : IsRefreshed s before after) where
+module _ (s : ℕ) (before after : FullState) (done : IsRefreshed (is_content_of s) before after) where
   abbrev was : LayeredDesk
   was = layered_desk before.desk
 
@@ -88,16 +90,15 @@ module _ (s : ℕ) (before after : FullState) (done : IsRefreshed s before after
   abbrev shown : ℕ → PixelSet
   shown t q = on_screen was q && is_content_of t (owner was q)
 
-  stale_after : (q : Point) → on_screen was q ≡ true → after.stale q ≡ stale_by (refresh_change s before) (layered_state before) (owner was q) q
-  stale_after = subst (λ (d : FullDesk). (q : Point) → on_screen (layered_desk d) q ≡ true → after.stale q ≡ stale_by (refresh_change s before) (layered_state before) (owner (layered_desk d) q) q) done.desk done.pixels.stale
+  stale_after : (q : Point) → on_screen was q ≡ true → after.stale q ≡ stale_by (refresh_change (is_content_of s) before) (layered_state before) (owner was q) q
+  stale_after = subst (λ (d : FullDesk). (q : Point) → on_screen (layered_desk d) q ≡ true → after.stale q ≡ stale_by (refresh_change (is_content_of s) before) (layered_state before) (owner (layered_desk d) q) q) done.desk done.pixels.stale
 
   -- of the content that shows, what was drawn is not stale any more, and the rest is stale where it was
   stale_is : (t : ℕ) (b : Bool) (q : Point) → on_screen was q ≡ true → is_content_of t (owner was q) ≡ true → is_content_of s (owner was q) ≡ b → after.stale q ≡ (if b && before.stale q then false else before.stale q)
   stale_is t b q on its served =
-      let picture : same_owner (owner was q) (Content s Picture) ≡ b = sym (content_is_picture s (owner was q) (pictured before.desk q)) ∙ served in
       let content : is_content (owner was q) ≡ true = is_its t (owner was q) its in
       stale_after q on
-      ∙ (λ i. if not (content i) then false else (if picture i && before.stale q then false else (if on i && same_owner-self (owner was q) i then before.stale q else true)))
+      ∙ (λ i. if not (content i) then false else (if served i && before.stale q then false else (if on i && same_owner-self (owner was q) i then before.stale q else true)))
 
   update_is : (t : ℕ) (p : Point) → update_of t after p ≡ seen_from (record_with t before.desk.windows) (λ q. shown t q && after.stale q) p
   update_is t p = ap (λ (d : FullDesk). seen_from (record_with t d.windows) (λ q. (on_screen (layered_desk d) q && is_content_of t (owner (layered_desk d) q)) && after.stale q) p) done.desk
@@ -137,24 +138,14 @@ served_leaves_others s t before after (free, (done, (idle, drawn))) = others_sta
 
 -- ---- an update drawn layer by layer
 
-unchanged_on : (a b c : FullState) → IsUnchanged a b → IsUnchanged b c → IsUnchanged a c
-unchanged_on a b c first next = record {
-  desk = next.desk ∙ first.desk;
-  stale = λ p on. next.stale p (still p on) ∙ first.stale p on;
-  image = λ p on. next.image p (still p on) ∙ first.image p on;
-}
-  where
-    still : (p : Point) → on_screen (layered_desk a.desk) p ≡ true → on_screen (layered_desk b.desk) p ≡ true
-    still p on = ap (λ (d : FullDesk). on_screen (layered_desk d) p) first.desk ∙ on
-
 -- what was drawn stays so
-refreshed_stays : (s : ℕ) (a b c : FullState) → IsRefreshed s a b → IsUnchanged b c → IsRefreshed s a c
-refreshed_stays s a b c done same = record {
+refreshed_stays : (these : Owner → Bool) (a b c : FullState) → IsRefreshed these a b → IsUnchanged b c → IsRefreshed these a c
+refreshed_stays these a b c done same = record {
   desk = same.desk ∙ done.desk;
   pixels = record {
-    stale = subst (λ (d : FullDesk). (p : Point) → on_screen (layered_desk d) p ≡ true → c.stale p ≡ stale_by (refresh_change s a) (layered_state a) (owner (layered_desk d) p) p) (sym same.desk)
+    stale = subst (λ (d : FullDesk). (p : Point) → on_screen (layered_desk d) p ≡ true → c.stale p ≡ stale_by (refresh_change these a) (layered_state a) (owner (layered_desk d) p) p) (sym same.desk)
         (λ p on. same.stale p on ∙ done.pixels.stale p on);
-    image = subst (λ (d : FullDesk). (p : Point) → on_screen (layered_desk d) p ≡ true → c.image p ≡ image_by (refresh_change s a) (layered_state a) (layered_desk d) (owner (layered_desk d) p) p) (sym same.desk)
+    image = subst (λ (d : FullDesk). (p : Point) → on_screen (layered_desk d) p ≡ true → c.image p ≡ image_by (refresh_change these a) (layered_state a) (layered_desk d) (owner (layered_desk d) p) p) (sym same.desk)
         (λ p on. same.image p on ∙ done.pixels.image p on);
   };
 }
@@ -164,12 +155,12 @@ abbrev at : FullState → Point → FullState
 at x p = record { desk = x.desk; stale = λ q. x.stale p; image = λ q. x.image p }
 
 -- and is what it was when the update began
-refreshed_since : (s : ℕ) (a b c : FullState) → IsUnchanged a b → IsRefreshed s b c → IsRefreshed s a c
-refreshed_since s a b c same done = record {
+refreshed_since : (these : Owner → Bool) (a b c : FullState) → IsUnchanged a b → IsRefreshed these b c → IsRefreshed these a c
+refreshed_since these a b c same done = record {
   desk = done.desk ∙ same.desk;
   pixels = record {
-    stale = λ p on. done.pixels.stale p on ∙ ap (λ (x : FullState). stale_by (refresh_change s x) (layered_state x) (owner (layered_desk c.desk) p) p) (as_was p on);
-    image = λ p on. done.pixels.image p on ∙ ap (λ (x : FullState). image_by (refresh_change s x) (layered_state x) (layered_desk c.desk) (owner (layered_desk c.desk) p) p) (as_was p on);
+    stale = λ p on. done.pixels.stale p on ∙ ap (λ (x : FullState). stale_by (refresh_change these x) (layered_state x) (owner (layered_desk c.desk) p) p) (as_was p on);
+    image = λ p on. done.pixels.image p on ∙ ap (λ (x : FullState). image_by (refresh_change these x) (layered_state x) (layered_desk c.desk) (owner (layered_desk c.desk) p) p) (as_was p on);
   };
 }
   where
@@ -179,20 +170,112 @@ refreshed_since s a b c same done = record {
     as_was : (p : Point) → on_screen (layered_desk c.desk) p ≡ true → at b p ≡ at a p
     as_was p on = λ i. record { desk = same.desk i; stale = λ q. same.stale p (on_before p on) i; image = λ q. same.image p (on_before p on) i }
 
+-- what is stale of content, and what it shows, once these layers are drawn
+module _ (these : Owner → Bool) (x : FullState) (p : Point) (on : on_screen (layered_desk x.desk) p ≡ true) (content : is_content (owner (layered_desk x.desk) p) ≡ true) where
+  abbrev its : Owner
+  its = owner (layered_desk x.desk) p
+
+  stale_drawn : stale_by (refresh_change these x) (layered_state x) its p ≡ (if these its && x.stale p then false else x.stale p)
+  stale_drawn = λ i. if not (content i) then false else (if these its && x.stale p then false else (if on i && same_owner-self its i then x.stale p else true))
+
+  image_drawn : image_by (refresh_change these x) (layered_state x) (layered_desk x.desk) its p ≡ (if these its && x.stale p then scratch (layered_desk x.desk) p else x.image p)
+  image_drawn = λ i. if not (content i) then scratch (layered_desk x.desk) p else (if these its && x.stale p then scratch (layered_desk x.desk) p else (if not (on i && same_owner-self its i) then false else x.image p))
+
+-- layers drawn and then others, on one desk, are both drawn
+module _ (these others : Owner → Bool) (desk : FullDesk) (stale mid rest image half whole : PixelSet)
+    (first : IsRefreshed these (record { desk = desk; stale = stale; image = image }) (record { desk = desk; stale = mid; image = half }))
+    (second : IsRefreshed others (record { desk = desk; stale = mid; image = half }) (record { desk = desk; stale = rest; image = whole })) where
+  abbrev before : FullState
+  before = record { desk = desk; stale = stale; image = image }
+
+  abbrev between : FullState
+  between = record { desk = desk; stale = mid; image = half }
+
+  abbrev both : Owner → Bool
+  both o = these o || others o
+
+  abbrev now : LayeredDesk
+  now = layered_desk desk
+
+  twice : (f g old : Bool) → (if g && (if f && old then false else old) then false else (if f && old then false else old)) ≡ (if (f || g) && old then false else old)
+  twice true true true = refl
+  twice true false true = refl
+  twice false true true = refl
+  twice false false true = refl
+  twice true true false = refl
+  twice true false false = refl
+  twice false true false = refl
+  twice false false false = refl
+
+  twice_shown : (f g old : Bool) (drawn left : Bool) → (if g && (if f && old then false else old) then drawn else (if f && old then drawn else left)) ≡ (if (f || g) && old then drawn else left)
+  twice_shown true true true drawn left = refl
+  twice_shown true false true drawn left = refl
+  twice_shown false true true drawn left = refl
+  twice_shown false false true drawn left = refl
+  twice_shown true true false drawn left = refl
+  twice_shown true false false drawn left = refl
+  twice_shown false true false drawn left = refl
+  twice_shown false false false drawn left = refl
+
+  stale_both : (p : Point) → on_screen now p ≡ true → (b : Bool) → is_content (owner now p) ≡ b → rest p ≡ stale_by (refresh_change both before) (layered_state before) (owner now p) p
+  stale_both p on false c = second.pixels.stale p on ∙ unless (is_content (owner now p)) false _ c ∙ sym (unless (is_content (owner now p)) false _ c)
+  stale_both p on true c =
+      second.pixels.stale p on
+      ∙ stale_drawn others between p on c
+      ∙ ap (λ b. if others (owner now p) && b then false else b) (first.pixels.stale p on ∙ stale_drawn these before p on c)
+      ∙ twice (these (owner now p)) (others (owner now p)) (stale p)
+      ∙ sym (stale_drawn both before p on c)
+
+  image_both : (p : Point) → on_screen now p ≡ true → (b : Bool) → is_content (owner now p) ≡ b → whole p ≡ image_by (refresh_change both before) (layered_state before) now (owner now p) p
+  image_both p on false c = second.pixels.image p on ∙ unless (is_content (owner now p)) (scratch now p) _ c ∙ sym (unless (is_content (owner now p)) (scratch now p) _ c)
+  image_both p on true c =
+      second.pixels.image p on
+      ∙ image_drawn others between p on c
+      ∙ (λ i. if others (owner now p) && (first.pixels.stale p on ∙ stale_drawn these before p on c) i then scratch now p else (first.pixels.image p on ∙ image_drawn these before p on c) i)
+      ∙ twice_shown (these (owner now p)) (others (owner now p)) (stale p) (scratch now p) (image p)
+      ∙ sym (image_drawn both before p on c)
+
+  both_drawn : IsRefreshed both before (record { desk = desk; stale = rest; image = whole })
+  both_drawn = record { desk = refl; pixels = record { stale = λ p on. stale_both p on (is_content (owner now p)) refl; image = λ p on. image_both p on (is_content (owner now p)) refl } }
+
+-- so on any desks
+drawn_then : (these others : Owner → Bool) (a b c : FullState) → IsRefreshed these a b → IsRefreshed others b c → IsRefreshed (λ o. these o || others o) a c
+drawn_then these others a b c first second =
+    subst (λ (d : FullDesk). IsRefreshed (λ o. these o || others o) a (record c { desk = d })) (sym (second.desk ∙ first.desk))
+    (both_drawn these others a.desk a.stale b.stale c.stale a.image b.image c.image
+    (subst (λ (d : FullDesk). IsRefreshed these a (record b { desk = d })) first.desk first)
+    (subst (λ (d : FullDesk). IsRefreshed others (record b { desk = d }) (record c { desk = d })) first.desk
+    (subst (λ (d : FullDesk). IsRefreshed others b (record c { desk = d })) second.desk second)))
+
+-- the three kinds are all of a window's content
+all_kinds : (s : ℕ) (o : Owner) → ((is_of_kind Picture s o || is_of_kind Lists s o) || is_of_kind Controls s o) ≡ is_content_of s o
+all_kinds s Desktop = refl
+all_kinds s Bar = refl
+all_kinds s (Frame t) = refl
+all_kinds s (Content t a) = by_test (t == s) a
+  where
+    by_test : (b : Bool) (a : Part) → (((b && is_of Picture a) || (b && is_of Lists a)) || (b && is_of Controls a)) ≡ b
+    by_test true part.Picture = refl
+    by_test true (part.Control n) = refl
+    by_test true (part.List n) = refl
+    by_test false a = refl
+
 pub drawn_by_layers_is_served : (s : ℕ) (before after : DeskState) → AreDone (layer_by_layer s) before after → IsUpdateStep (Serve s) (Ok Done) before after
 drawn_by_layers_is_served s before after (a, begun, (b, painted, (c, listed, (d, controlled, (e, ended, same))))) =
-    let still = unchanged_on b.windows c.windows e.windows listed.1.1.1 (unchanged_on c.windows d.windows e.windows controlled.1.1.1 ended.1.1.1) in
-    let drawn = refreshed_stays s before.windows b.windows e.windows (refreshed_since s before.windows a.windows b.windows begun.1.1.windows painted.1.1.1) still in
+    let layers = drawn_then (λ o. is_of_kind Picture s o || is_of_kind Lists s o) (is_of_kind Controls s) a.windows c.windows d.windows
+    (drawn_then (is_of_kind Picture s) (is_of_kind Lists s) a.windows b.windows c.windows painted.1.1.1 listed.1.1.1) controlled.1.1.1 in
+    let content = subst (λ these. IsRefreshed these a.windows d.windows) (λ i o. all_kinds s o i) layers in
+    let drawn = refreshed_stays (is_content_of s) before.windows d.windows e.windows (refreshed_since (is_content_of s) before.windows a.windows d.windows begun.1.1.windows content) ended.1.1.1 in
     subst (λ (x : DeskState). IsUpdateStep (Serve s) (Ok Done) before x) (sym same) (begun.0, (refl, (ended.1.1.0, drawn)))
 
 -- ---- a desk with nothing to be redrawn
 
 -- the window whose content has a pixel is there
-missing : (font : List ℕ) (s : ℕ) (ws : List WindowRecord) → record_with s ws ≡ None → layers.window_of s (map (layered_window font) ws) ≡ None
-missing font s [] e = refl
-missing font s (w ∷ ws) e = by_test (w.serial == s) e (λ k. missing font s ws k)
+missing : (look : Look) (s : ℕ) (ws : List WindowRecord) → record_with s ws ≡ None → layers.window_of s (map (layered_window look) ws) ≡ None
+missing look s [] e = refl
+missing look s (w ∷ ws) e = by_test (w.serial == s) e (λ k. missing look s ws k)
   where
-    by_test : (b : Bool) → (if b then Some w else record_with s ws) ≡ None → (record_with s ws ≡ None → layers.window_of s (map (layered_window font) ws) ≡ None) → (if b then Some (layered_window font w) else layers.window_of s (map (layered_window font) ws)) ≡ None
+    by_test : (b : Bool) → (if b then Some w else record_with s ws) ≡ None → (record_with s ws ≡ None → layers.window_of s (map (layered_window look) ws) ≡ None) → (if b then Some (layered_window look w) else layers.window_of s (map (layered_window look) ws)) ≡ None
     by_test true h rest = absurd (cc)
     by_test false h rest = rest h
 
@@ -200,7 +283,7 @@ is_there : (desk : FullDesk) (s : ℕ) (p : Point) → is_content_of s (owner (l
 is_there desk s p its = by_bar (layers.in_bar (layered_desk desk) p) its
   where
     by_found : (o : Option WindowRecord) → record_with s desk.windows ≡ o → is_content_of s (owner_among (layered_desk desk).windows p) ≡ true → (w : WindowRecord) × (record_with s desk.windows ≡ Some w)
-    by_found None none e = absurd (not_other s (owner_among (layered_desk desk).windows p) e (owner_is_other (layered_desk desk).windows p s (missing desk.font s desk.windows none)))
+    by_found None none e = absurd (not_other s (owner_among (layered_desk desk).windows p) e (owner_is_other (layered_desk desk).windows p s (missing (look_of desk) s desk.windows none)))
     by_found (Some w) found e = (w, found)
 
     by_bar : (b : Bool) → is_content_of s (if b then Bar else owner_among (layered_desk desk).windows p) ≡ true → (w : WindowRecord) × (record_with s desk.windows ≡ Some w)

@@ -1,27 +1,28 @@
 -- One step of a call about updates: what it leaves, and what it answers.
-use Rattle.std.specs.Prelude.{◌≡◌, ℕ, Result, Ok, Err}
+use Rattle.std.specs.Prelude.{◌≡◌, ℕ, List, Result, Ok, Err}
 use Rattle.tb_geom.specs.declared.point.Point.{Point}
 use Rattle.tb_geom.specs.declared.refusal.Refusal.{Refusal}
 use Rattle.tb_geom.specs.Points.{PixelSet}
+use Rattle.def_iface.specs.declared.part.Part.{Part}
 use Rattle.def_iface.specs.declared.taken.Taken.{Taken}
 use Rattle.def_iface.specs.Meaning.{Loan}
 use Rattle.def_iface.specs.Change.{Change, no_change, IsChanged}
 use Rattle.desk_call.specs.declared.activity.Activity.TheVariants.{Idle, Updating}
 use Rattle.desk_call.specs.declared.update.Layers.{Layers}
-use Rattle.desk_call.specs.declared.update.Layers.TheVariants.{Picture, Lists, Controls}
 use Rattle.desk_call.specs.declared.update.UpdateCall.{UpdateCall}
 use Rattle.desk_call.specs.declared.update.UpdateCall.TheVariants.{Invalidate, Validate, Begin, Draw, End, Serve}
 use Rattle.desk_call.specs.declared.update.WindowArea.{WindowArea}
 use Rattle.desk_call.specs.declared.window.WindowReply.{WindowReply}
 use Rattle.desk_call.specs.declared.window.WindowReply.TheVariants.{Done}
+use Rattle.vis_update.specs.Areas.{is_content_of}
 use Rattle.window_mgr.specs.declared.manager.WindowManager.{WindowManager}
 use Rattle.window_mgr.specs.FullDesk.{FullState, layered_state}
 use Rattle.window_mgr.specs.Effects.{IsUnchanged}
 use Rattle.desk_call.specs.Steps.{IsRefusedFor, IsStepOf}
 use Rattle.window_mgr.specs.Telling.{IsRegionTold, IsNotTold, update_of}
-use Rattle.window_mgr.specs.Updating.{IsRefreshed}
+use Rattle.window_mgr.specs.Updating.{IsRefreshed, is_of_kind}
 use Rattle.window_update.specs.Sets.{IsAreaOf, marked_in}
-use Rattle.window_mgr.specs.DeskStates.{Opened, DeskState, IsDeskUnchanged, SameActivity, LeavesDesk}
+use Rattle.window_mgr.specs.DeskStates.{Opened, DeskState, IsDeskUnchanged, SameActivity, LeavesDeskShowing}
 use Rattle.window_update.specs.UpdateRefusals.{IsUpdateRefusal, may_update_grow}
 
 -- the change of a call that puts pixels of a window into the update set
@@ -48,11 +49,9 @@ pub record IsUpdateBegun (s : ℕ) (before after : DeskState) : Type 0 where
   pub opened : after.activity ≡ Updating s
   pub begun : (p : Point) → after.begun p ≡ update_of s before.windows p
 
--- these layers of the window were drawn where they were to be; lists and controls there are none yet
+-- these layers of the window were drawn where they were to be
 abbrev pub AreDrawn : Layers → ℕ → FullState → FullState → Type 0
-AreDrawn Picture s before after = IsRefreshed s before after
-AreDrawn Lists s before after = IsUnchanged before after
-AreDrawn Controls s before after = IsUnchanged before after
+AreDrawn kind s before after = IsRefreshed (is_of_kind kind s) before after
 
 -- what a call that nothing refuses leaves
 abbrev pub IsUpdateEffect : UpdateCall → DeskState → DeskState → Type 0
@@ -62,7 +61,7 @@ IsUpdateEffect (Begin s) before after = IsUpdateBegun s before after
 IsUpdateEffect (Draw d) before after = SameActivity before after × AreDrawn d.layers d.window before.windows after.windows
 IsUpdateEffect (End s) before after = (after.activity ≡ Idle) × IsUnchanged before.windows after.windows
 -- begun, all layers drawn, and ended
-IsUpdateEffect (Serve s) before after = (after.activity ≡ Idle) × IsRefreshed s before.windows after.windows
+IsUpdateEffect (Serve s) before after = (after.activity ≡ Idle) × IsRefreshed (is_content_of s) before.windows after.windows
 
 -- the call is refused for this
 abbrev pub IsUpdateRefused : UpdateCall → Refusal → FullState → Type 0
@@ -78,9 +77,9 @@ abbrev pub IsToldOf : PixelSet → Result WindowReply Refusal → Type 0
 IsToldOf set (Ok answer) = IsRegionTold set answer
 IsToldOf set (Err e) = IsNotTold set e
 
--- `loan` says what a definition that was taken means
-module _ {V : Type 0} {H : V → Type 0} (loan : Taken V H → Loan) where
+-- `loan` says what a definition that was taken means, and `shows` what controls and lists show in a font
+module _ {V : Type 0} {H : V → Type 0} (loan : Taken V H → Loan) (shows : List ℕ → Part → PixelSet) where
   -- over any slots over which the window manager is whole, it is whole after the call, which is one step
   abbrev pub IsUpdateStepOverAnySlots : UpdateCall → Result WindowReply Refusal
       → WindowManager V H → Opened → WindowManager V H → Opened → Type 0
-  IsUpdateStepOverAnySlots call result = LeavesDesk loan (IsUpdateStep call result)
+  IsUpdateStepOverAnySlots call result = LeavesDeskShowing loan shows (IsUpdateStep call result)

@@ -6,15 +6,18 @@
 //! was to be redrawn when the open update began, which is the window's visible region until its end.
 //!
 //! What is right, `Rightness` says: a pixel of the content that shows and has the value that painting the desk from
-//! nothing gives. `Validate` is refused where a pixel is not; to know, the window's picture is drawn into a map that
-//! `Updates::new` made, so that asking takes no memory.
+//! nothing gives. `Validate` is refused where a pixel is not; to know, the window's content is drawn into a map that
+//! `Updates::new` made, so that asking takes no memory. What controls and lists show is known to whoever keeps them
+//! (`Showing`, of window_paint), and is handed in with each call.
 //!
 //! Between begin and end nothing but the activity changes: what is to be redrawn stays in one set, the update set, in
-//! which a pixel is pending while the update is open. So a layer draw only takes pixels out of it, and takes no memory;
-//! what was not drawn is stale again after the end.
+//! which a pixel is pending while the update is open. So a layer draw only takes pixels out of it, and takes no memory: the
+//! begin made a region for each choice of kinds of layers that may be drawn (`Choices`), and a draw takes the one of those
+//! drawn so far for the update region. What was not drawn is stale again after the end.
 #![tactic(auto)]
 
 mod areas;
+mod choices;
 pub mod laws;
 mod marking;
 mod right;

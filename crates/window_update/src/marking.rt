@@ -1,7 +1,8 @@
 //! Pixels of a window that are to be redrawn, or are right as they are.
-ghost use Rattle.std.specs.Prelude.{◌≡◌, ◌&&◌, true, length, ◌<◌, IfOk, MatchResult, [], None, Some};
+ghost use Rattle.std.specs.Prelude.{◌≡◌, ◌&&◌, ℕ, List, true, length, ◌<◌, IfOk, MatchResult, [], None, Some};
 ghost use Rattle.tb_geom.specs.declared.point.Point.{Point};
-ghost use Rattle.tb_geom.specs.Points.{minus, plus};
+ghost use Rattle.tb_geom.specs.Points.{PixelSet, minus, plus};
+ghost use Rattle.def_iface.specs.declared.part.Part.{Part};
 ghost use Rattle.tb_geom.specs.Pixels.{holds};
 ghost use Rattle.tb_geom.specs.Rects.{in_plane};
 ghost use Rattle.scan_region.specs.Moves.{is_pixel_in_range};
@@ -9,8 +10,7 @@ ghost use Rattle.desk_call.specs.declared.update.UpdateCall.TheVariants as asks;
 ghost use Rattle.window_mgr.specs.DeskStates.{Opened};
 ghost use Rattle.window_mgr.specs.Edits.{IsWindowAt, StandsAt};
 ghost use Rattle.window_mgr.specs.Kept.{IsKept};
-ghost use Rattle.window_mgr.specs.Records.{state_of};
-ghost use Rattle.window_update.specs.WholeUpdates.{IsWholeUpdates};
+ghost use Rattle.window_mgr.specs.Records.{state_of, state_showing};
 ghost use Rattle.window_update.specs.Marks.{IsMarkedBy, IsUpdateAfter, marked_by};
 ghost use Rattle.window_update.specs.Rightness.{IsJudgement};
 ghost use Rattle.window_update.specs.Sets.{IsAreaOf, judged_set};
@@ -22,12 +22,13 @@ use crate::right::agree;
 use crate::{AreaRef, Updates, WindowArea};
 use def_iface::{Defined, Taken};
 use desk_call::WindowReply;
+use layer_list::{local, move_by};
 use scan_region::Region;
 use std::alloc::{AllocError, Global};
 use tb_geom::{Point, Refusal};
 use vis_update::Area;
-use window_list::local;
-use window_mgr::{WindowManager, move_by, paint_picture};
+use window_mgr::WindowManager;
+use window_paint::{Showing, paint_content};
 
 impl Updates {
     /// Puts what lies in an area of a window's visible content into its update region.
@@ -37,7 +38,8 @@ impl Updates {
         marking: &WindowArea<'_>,
     ) -> Result<WindowReply, Refusal>
         requires kept { IsKept ⟦<Taken as Defined>⟧.loan windows.old }
-        ensures step { (o : Opened) → IsUpdateStepOverAnySlots ⟦<Taken as Defined>⟧.loan (asks.Invalidate marking.now) result
+        ensures step { (shows : List ℕ → Part → PixelSet) (o : Opened)
+            → IsUpdateStepOverAnySlots ⟦<Taken as Defined>⟧.loan shows (asks.Invalidate marking.now) result
             windows.old o windows.new o }
         ensures width { windows.new.screen.width ≡ windows.old.screen.width }
         ensures height { windows.new.screen.height ≡ windows.old.screen.height }
@@ -56,23 +58,27 @@ impl Updates {
     }
 
     /// Takes what lies in an area of a window's visible content out of its update region, where its pixels are right.
-    pub(crate) fn validate(
+    pub(crate) fn validate<S: Showing>(
         &mut self,
         windows: &mut WindowManager,
         marking: &WindowArea<'_>,
+        layers: &S,
     ) -> Result<WindowReply, Refusal>
         requires kept { IsKept ⟦<Taken as Defined>⟧.loan windows.old }
-        requires whole { IsWholeUpdates windows.old self.old }
-        ensures step { (o : Opened) → IsUpdateStepOverAnySlots ⟦<Taken as Defined>⟧.loan (asks.Validate marking.now) result
-            windows.old o windows.new o }
+        requires width { self.old.buffer.width ≡ windows.old.screen.width }
+        requires height { self.old.buffer.height ≡ windows.old.screen.height }
+        requires layers { S.is_whole layers.now }
+        ensures step { (o : Opened) → IsUpdateStepOverAnySlots ⟦<Taken as Defined>⟧.loan (S.shows layers.now)
+            (asks.Validate marking.now) result windows.old o windows.new o }
         ensures same { self.new.begun ≡ self.old.begun }
-        ensures whole { IsWholeUpdates windows.new self.new }
+        ensures width { self.new.buffer.width ≡ windows.new.screen.width }
+        ensures height { self.new.buffer.height ≡ windows.new.screen.height }
     {
         let target = match target_of(windows, marking) {
             Ok(target) => target,
             Err(refusal) => return Err(refusal),
         };
-        if !self.is_right(windows, target.at, &target.area) {
+        if !self.is_right(windows, target.at, &target.area, layers) {
             return Err(Refusal::StalePixels);
         }
         mark(
@@ -85,24 +91,29 @@ impl Updates {
     }
 
     /// Whether what shows of a window's content in an area is right.
-    pub(crate) fn is_right(
+    pub(crate) fn is_right<S: Showing>(
         &mut self,
         windows: &WindowManager,
         at: usize,
         area: &JudgedArea<'_>,
+        layers: &S,
     ) -> bool
         requires kept { IsKept ⟦<Taken as Defined>⟧.loan windows.now }
-        requires whole { IsWholeUpdates windows.now self.old }
+        requires width { self.old.buffer.width ≡ windows.now.screen.width }
+        requires height { self.old.buffer.height ≡ windows.now.screen.height }
         requires at { at < length windows.now.windows.records.items }
-        ensures whole { IsWholeUpdates windows.now self.new }
-        ensures same { self.new.begun ≡ self.old.begun }
+        requires layers { S.is_whole layers.now }
+        ensures width { self.new.buffer.width ≡ windows.now.screen.width }
+        ensures height { self.new.buffer.height ≡ windows.now.screen.height }
+        ensures same { self.new ≡ record self.old { buffer = self.new.buffer } }
         ensures right { (w : _) → IsWindowAt windows.now.windows.records.items at w
-            → IsJudgement w.serial (judged_set area.now) (state_of ⟦<Taken as Defined>⟧.loan windows.now []) result }
+            → IsJudgement w.serial (judged_set area.now)
+            (state_showing (S.shows layers.now) (state_of ⟦<Taken as Defined>⟧.loan windows.now [])) result }
     {
         let parts = windows.parts();
         let window = parts.windows.at(at);
         let visible = &windows.area(at).visible;
-        paint_picture(&mut self.buffer, visible, window, parts.font);
+        paint_content(&mut self.buffer, visible, window, layers, parts.font);
         agree(windows.screen(), &self.buffer, visible, window.place, area)
     }
 }

@@ -1,6 +1,7 @@
 //! An update: begun, drawn and ended.
-ghost use Rattle.std.specs.Prelude.{◌≡◌, true, IfOk, Ok};
-ghost use Rattle.desk_call.specs.declared.activity.Activity.TheVariants.{Idle};
+ghost use Rattle.std.specs.Prelude.{◌≡◌, ℕ, List, true, IfOk, Ok};
+ghost use Rattle.def_iface.specs.declared.part.Part.{Part};
+ghost use Rattle.desk_call.specs.declared.activity.Activity.TheVariants.{Idle, Updating};
 ghost use Rattle.desk_call.specs.declared.window.WindowReply.TheVariants.{Done};
 ghost use Rattle.tb_geom.specs.declared.point.Point.{Point};
 ghost use Rattle.tb_geom.specs.Points.{PixelSet, plus};
@@ -10,17 +11,19 @@ ghost use Rattle.scan_region.specs.Moves.{is_pixel_in_range};
 ghost use Rattle.desk_call.specs.declared.update.UpdateCall.TheVariants as asks;
 ghost use Rattle.window_mgr.specs.Kept.{IsKept};
 ghost use Rattle.window_mgr.specs.DeskStates.{Opened};
-ghost use Rattle.window_update.specs.WholeUpdates.{opened};
+ghost use Rattle.window_update.specs.WholeUpdates.{IsWholeUpdates, opened};
 ghost use Rattle.window_update.specs.UpdateSteps.{IsUpdateStepOverAnySlots};
 
+use crate::choices::Choices;
 use crate::{LayerDraw, Layers, Updates};
 use def_iface::{Defined, Taken};
 use desk_call::{Activity, WindowReply};
+use layer_list::{local, move_by};
 use scan_region::Region;
 use std::alloc::{AllocError, Global};
 use tb_geom::{Point, Refusal};
-use window_list::local;
-use window_mgr::{WindowManager, move_by};
+use window_mgr::WindowManager;
+use window_paint::Showing;
 
 impl Updates {
     /// Begins the update of a window, which is open then.
@@ -31,19 +34,56 @@ impl Updates {
         window: u64,
     ) -> Result<WindowReply, Refusal>
         requires kept { IsKept ⟦<Taken as Defined>⟧.loan windows.now }
-        ensures step { IsUpdateStepOverAnySlots ⟦<Taken as Defined>⟧.loan (asks.Begin window) result
+        requires whole { IsWholeUpdates ⟦<Taken as Defined>⟧.loan activity.old windows.now self.old }
+        ensures step { (shows : List ℕ → Part → PixelSet)
+            → IsUpdateStepOverAnySlots ⟦<Taken as Defined>⟧.loan shows (asks.Begin window) result
             windows.now (opened activity.old self.old) windows.now (opened activity.new self.new) }
-        ensures buffer { self.new.buffer ≡ self.old.buffer }
+        ensures whole { IsWholeUpdates ⟦<Taken as Defined>⟧.loan activity.new windows.now self.new }
     {
         let Some(at) = windows.find(window) else {
             return Err(Refusal::NoSuchWindow);
         };
-        let place = windows.list().at(at).place;
-        let Ok(begun) = seen_from(self.alloc, &windows.area(at).update, place) else {
+        let record = windows.list().at(at);
+        let update = &windows.area(at).update;
+        let Ok(begun) = seen_from(self.alloc, update, record.place) else {
+            return Err(Refusal::NoMemory);
+        };
+        let Ok(choices) = Choices::of(self.alloc, record, update) else {
             return Err(Refusal::NoMemory);
         };
         self.begun = begun;
+        self.choices = choices;
         *activity = Activity::Updating(window);
+        Ok(WindowReply::Done)
+    }
+
+    /// Draws what is to be redrawn of a window's picture, of its lists or of its controls, in its update. What was drawn
+    /// in it is not drawn again.
+    pub(crate) fn draw<S: Showing>(
+        &mut self,
+        windows: &mut WindowManager,
+        draw: LayerDraw,
+        layers: &S,
+    ) -> Result<WindowReply, Refusal>
+        requires kept { IsKept ⟦<Taken as Defined>⟧.loan windows.old }
+        requires whole { IsWholeUpdates ⟦<Taken as Defined>⟧.loan (Updating draw.window) windows.old self.old }
+        requires layers { S.is_whole layers.now }
+        ensures step { (o : Opened) → IsUpdateStepOverAnySlots ⟦<Taken as Defined>⟧.loan (S.shows layers.now) (asks.Draw draw)
+            result windows.old o windows.new o }
+        ensures whole { IsWholeUpdates ⟦<Taken as Defined>⟧.loan (Updating draw.window) windows.new self.new }
+        ensures same { self.new.begun ≡ self.old.begun }
+    {
+        let Some(at) = windows.find(draw.window) else {
+            return Err(Refusal::NoSuchWindow);
+        };
+        if self.choices.has_drawn(draw.layers) {
+            return Ok(WindowReply::Done);
+        }
+        let left = self.choices.draw(draw.layers);
+        match draw.layers {
+            Layers::Picture => windows.refresh(at, left),
+            kind => windows.refresh_layers(at, kind, left, layers),
+        }
         Ok(WindowReply::Done)
     }
 
@@ -54,50 +94,34 @@ impl Updates {
         ensures done { result ≡ Ok Done }
     {
         self.begun = Region::empty(self.alloc);
+        self.choices = Choices::none(self.alloc);
         *activity = Activity::Idle;
         Ok(WindowReply::Done)
     }
 }
 
-/// Draws what is to be redrawn of a window's picture, of its lists or of its controls. Lists and controls there are none
-/// yet.
-pub(crate) fn draw(windows: &mut WindowManager, draw: LayerDraw) -> Result<WindowReply, Refusal>
-    requires kept { IsKept ⟦<Taken as Defined>⟧.loan windows.old }
-    ensures step { (o : Opened) → IsUpdateStepOverAnySlots ⟦<Taken as Defined>⟧.loan (asks.Draw draw) result
-        windows.old o windows.new o }
-    ensures width { windows.new.screen.width ≡ windows.old.screen.width }
-    ensures height { windows.new.screen.height ≡ windows.old.screen.height }
-{
-    let Some(at) = windows.find(draw.window) else {
-        return Err(Refusal::NoSuchWindow);
-    };
-    match draw.layers {
-        Layers::Picture => {
-            windows.refresh(at);
-            Ok(WindowReply::Done)
-        }
-        Layers::Lists => Ok(WindowReply::Done),
-        Layers::Controls => Ok(WindowReply::Done),
-    }
-}
-
-/// Begins the update of a window, draws its layers, and ends it. Of the layers only the picture has pixels, since there
-/// are no lists and no controls yet; and nothing comes between, so that what was to be redrawn is not kept.
-pub(crate) fn serve(
+/// Begins the update of a window, draws its layers, and ends it. Nothing comes between, so that what was to be redrawn is not
+/// kept.
+pub(crate) fn serve<S: Showing>(
     windows: &mut WindowManager,
     activity: &mut Activity,
     window: u64,
+    layers: &S,
 ) -> Result<WindowReply, Refusal>
     requires kept { IsKept ⟦<Taken as Defined>⟧.loan windows.old }
-    ensures step { (begun : PixelSet) → IsUpdateStepOverAnySlots ⟦<Taken as Defined>⟧.loan (asks.Serve window) result
+    requires idle { activity.old ≡ Idle }
+    requires layers { S.is_whole layers.now }
+    ensures step { (begun : PixelSet)
+        → IsUpdateStepOverAnySlots ⟦<Taken as Defined>⟧.loan (S.shows layers.now) (asks.Serve window) result
         windows.old (record { activity = activity.old; begun = begun }) windows.new (record { activity = activity.new; begun = begun }) }
+    ensures idle { activity.new ≡ Idle }
     ensures width { windows.new.screen.width ≡ windows.old.screen.width }
     ensures height { windows.new.screen.height ≡ windows.old.screen.height }
 {
     let Some(at) = windows.find(window) else {
         return Err(Refusal::NoSuchWindow);
     };
-    windows.refresh(at);
+    windows.refresh_content(at, layers);
     *activity = Activity::Idle;
     Ok(WindowReply::Done)
 }

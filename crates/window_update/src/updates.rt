@@ -6,7 +6,9 @@ ghost use Rattle.tb_geom.specs.Pixels.{holds};
 ghost use Rattle.tb_geom.specs.Rects.{rect_holds};
 ghost use Rattle.desk_ground.specs.Screens as screens;
 ghost use Rattle.window_mgr.specs.Kept.{IsKept};
-ghost use Rattle.window_mgr.specs.Records.{state_of};
+ghost use Rattle.desk_call.specs.declared.activity.Activity.{Activity};
+ghost use Rattle.desk_call.specs.Gates.{gate, update_standing};
+ghost use Rattle.window_mgr.specs.Records.{state_of, state_showing};
 ghost use Rattle.window_mgr.specs.Refused.{is_missing};
 ghost use Rattle.window_mgr.specs.DeskStates.{narrowed};
 ghost use Rattle.window_update.specs.WholeUpdates.{IsWholeUpdates, opened};
@@ -15,7 +17,8 @@ ghost use Rattle.window_update.specs.UpdateSteps.{IsUpdateStepOverAnySlots, IsTo
 
 use crate::UpdateCall;
 use crate::areas::JudgedArea;
-use crate::serving::{draw, serve};
+use crate::choices::Choices;
+use crate::serving::serve;
 use bit_map::BitMap;
 use def_iface::{Defined, Taken};
 use desk_call::{Activity, WindowCall, WindowReply};
@@ -23,6 +26,7 @@ use scan_region::Region;
 use std::alloc::{AllocError, Global};
 use tb_geom::{Rect, Refusal};
 use window_mgr::WindowManager;
+use window_paint::Showing;
 
 /// What calls about updates keep from one to the next.
 #[derive(Drop)]
@@ -30,6 +34,8 @@ pub struct Updates {
     pub(crate) alloc: Global,
     /// While an update is open, what was to be redrawn when it began, in the window's own coordinates.
     pub(crate) begun: Region,
+    /// While an update is open, what its draws leave of the update region.
+    pub(crate) choices: Choices,
     /// A map to compare the screen with, as wide and high as the screen.
     pub(crate) buffer: BitMap,
 }
@@ -45,33 +51,37 @@ impl Updates {
             Ok(buffer) => Ok(Updates {
                 alloc,
                 begun: Region::empty(alloc),
+                choices: Choices::none(alloc),
                 buffer,
             }),
             Err(_) => Err(AllocError),
         }
     }
 
-    /// Performs one call on these windows, while this is open, and gives its answer. A refused call changes nothing; which
-    /// refusal comes first where several would do stands with the call. It does not ask what is open.
-    pub fn perform(
+    /// Performs one call, which may come while this is open, on these windows, whose controls and lists show what `layers`
+    /// says, and gives its answer. A refused call changes nothing; which refusal comes first where several would do stands with the call.
+    pub fn perform<S: Showing>(
         &mut self,
         windows: &mut WindowManager,
         activity: &mut Activity,
         call: &UpdateCall<'_>,
+        layers: &S,
     ) -> Result<WindowReply, Refusal>
         requires kept { IsKept ⟦<Taken as Defined>⟧.loan windows.old }
-        requires whole { IsWholeUpdates windows.old self.old }
-        ensures whole { IsWholeUpdates windows.new self.new }
-        ensures step { IsUpdateStepOverAnySlots ⟦<Taken as Defined>⟧.loan call.now result
+        requires whole { IsWholeUpdates ⟦<Taken as Defined>⟧.loan activity.old windows.old self.old }
+        requires layers { S.is_whole layers.now }
+        requires admitted { gate activity.old (update_standing call.now) ≡ None }
+        ensures whole { IsWholeUpdates ⟦<Taken as Defined>⟧.loan activity.new windows.new self.new }
+        ensures step { IsUpdateStepOverAnySlots ⟦<Taken as Defined>⟧.loan (S.shows layers.now) call.now result
             windows.old (opened activity.old self.old) windows.new (opened activity.new self.new) }
     {
         match call {
             UpdateCall::Invalidate(marking) => self.invalidate(windows, marking),
-            UpdateCall::Validate(marking) => self.validate(windows, marking),
+            UpdateCall::Validate(marking) => self.validate(windows, marking, layers),
             UpdateCall::Begin(window) => self.begin(windows, activity, *window),
-            UpdateCall::Draw(layers) => draw(windows, *layers),
+            UpdateCall::Draw(drawing) => self.draw(windows, *drawing, layers),
             UpdateCall::End(_) => self.end(activity),
-            UpdateCall::Serve(window) => serve(windows, activity, *window),
+            UpdateCall::Serve(window) => serve(windows, activity, *window, layers),
         }
     }
 
@@ -101,22 +111,27 @@ impl Updates {
 
     /// Whether the pixels of a window's content that show in a rectangle, which is in the window's own coordinates and may
     /// be any, are right. Takes no memory. NoSuchWindow is the only refusal.
-    pub fn pixels_right(
+    pub fn pixels_right<S: Showing>(
         &mut self,
         windows: &WindowManager,
         window: u64,
         rect: Rect,
+        layers: &S,
     ) -> Result<bool, Refusal>
         requires kept { IsKept ⟦<Taken as Defined>⟧.loan windows.now }
-        requires whole { IsWholeUpdates windows.now self.old }
-        ensures whole { IsWholeUpdates windows.now self.new }
+        requires width { self.old.buffer.width ≡ windows.now.screen.width }
+        requires height { self.old.buffer.height ≡ windows.now.screen.height }
+        requires layers { S.is_whole layers.now }
+        ensures whole { (activity : Activity) → IsWholeUpdates ⟦<Taken as Defined>⟧.loan activity windows.now self.old
+            → IsWholeUpdates ⟦<Taken as Defined>⟧.loan activity windows.now self.new }
         ensures same { self.new.begun ≡ self.old.begun }
-        ensures right { let state = state_of ⟦<Taken as Defined>⟧.loan windows.now [] in MatchResult result
+        ensures right { let state = state_showing (S.shows layers.now) (state_of ⟦<Taken as Defined>⟧.loan windows.now []) in
+            MatchResult result
             (λ right. (is_missing window state.desk.windows ≡ false) × IsJudgement window (rect_holds rect) state right)
             (λ e. (is_missing window state.desk.windows ≡ true) × (e ≡ Refusal.NoSuchWindow)) }
     {
         match windows.find(window) {
-            Some(at) => Ok(self.is_right(windows, at, &JudgedArea::Rect(rect))),
+            Some(at) => Ok(self.is_right(windows, at, &JudgedArea::Rect(rect), layers)),
             None => Err(Refusal::NoSuchWindow),
         }
     }

@@ -5,7 +5,7 @@ use Rattle.scratch_paint.proofs.difference.differences_in_row.Goals.{then-differ
 use Rattle.scratch_paint.proofs.difference.differences_in_row.Goals as goal
 
 pub loop-column-init : goal.loop-column-init
-loop-column-init g c = record { counted = sym (row_start _ c.args.row); few = omega arith }
+loop-column-init g c = record { counted = sym (row_start _ _ c.args.row); few = omega arith }
 
 pub loop-column-preserved : goal.loop-column-preserved
 loop-column-preserved g c =
@@ -18,7 +18,7 @@ loop-column-preserved g c =
       | else-differs_at w ↦ w.count-is ∙ omega arith ∙ ap (λ b. old + cond b 1 0) (sym w.if-differs_at.false)
     ] in
     record {
-      counted = counted_pixel _ c.args.row c.loop-column.column old c.if-differs_at.count c.differs_at.result _ _
+      counted = counted_pixel _ _ c.args.row c.loop-column.column old c.if-differs_at.count c.differs_at.result _ _
           c.loop-column.invariant.counted c.differs_at.ensures
           (to_z-of_z w32 c.from.result fits_h ∙ c.from.ensures) (to_z-of_z w32 c.from-in-loop-column.result fits_v ∙ c.from-in-loop-column.ensures) counted;
       few = elim c.if-differs_at.branch [

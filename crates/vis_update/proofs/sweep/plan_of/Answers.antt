@@ -24,5 +24,5 @@ loop-seat-preserved g c = record {
 }
 
 pub returns-clause-plan : goal.returns-clause-plan
-returns-clause-plan g c font before after windows arranged =
-    swept_plan _ c.args.touch font before after windows c.args.gray.now c.args.desktop.now c.loop-seat.rest c.in_ok-uncovered.uncovered c.loop-seat.copied _ c.args.seats.now c.loop-seat.areas c.loop-seat.parts c.loop-seat.seat-index arranged (search rules) c.loop-seat.invariant.empty c.loop-seat.invariant.swept c.in_ok-uncovered.ensures
+returns-clause-plan g c look before after windows arranged keeps =
+    swept_plan _ c.args.touch look before after windows c.args.gray.now c.args.desktop.now c.loop-seat.rest c.in_ok-uncovered.uncovered c.loop-seat.copied _ c.args.seats.now c.loop-seat.areas c.loop-seat.parts c.loop-seat.seat-index arranged keeps (search rules) c.loop-seat.invariant.empty c.loop-seat.invariant.swept c.in_ok-uncovered.ensures

@@ -1,6 +1,5 @@
 use Rattle.std.proofs.Common.{sym, subst}
 use Rattle.desk_call.specs.declared.activity.Activity.{Activity}
-use Rattle.desk_call.specs.declared.activity.Activity.TheVariants.{Tracking}
 use Rattle.desk_call.specs.declared.frame.FrameCall.TheVariants as asks
 use Rattle.window_mgr.specs.DeskStates.{Opened}
 use Rattle.window_frame.specs.FrameSteps.{IsFrameStepOverAnySlots}

@@ -4,8 +4,7 @@ use Rattle.desk_call.specs.Gates.{gate, standing_of}
 use Rattle.window_mgr.specs.DeskStates.{Opened}
 use Rattle.window_update.specs.WholeUpdates.{opened}
 use Rattle.desk_toolbox.proofs.MenusBeside.{frame_whole, update_whole}
-use Rattle.desk_toolbox.proofs.MenuSides.{menu_sized}
-use Rattle.desk_toolbox.proofs.Sides.{still_sized}
+use Rattle.desk_toolbox.proofs.UpdatesBeside.{updates_after_frame, updates_after_menu}
 use Rattle.desk_toolbox.proofs.toolbox.Toolbox.perform.Goals as goal
 
 pub returns-in-Ok-perform-clause-whole : goal.returns-in-Ok-perform-clause-whole
@@ -46,7 +45,7 @@ returns-in-Ok-perform-2-clause-whole g c =
     let after : Opened = record { activity = c.perform-in-Frame.new.activity; begun = λ p. false } in
     record {
       windows = done.0;
-      updates = still_sized c.requires.whole.updates c.in-Ok-perform-2.ensures.width c.in-Ok-perform-2.ensures.height;
+      updates = updates_after_frame _ c.args.self.now.windows c.perform-in-Frame.new.windows c.args.self.now.updates _ _ before after c.in-Frame.call (Ok c.in-Ok-perform-2.reply) may done.1 c.requires.whole.updates;
       menus = frame_whole _ _ c.args.self.now.windows c.perform-in-Frame.new.windows _ _ _ _ before after c.in-Frame.call (Ok c.in-Ok-perform-2.reply) may done.1 c.requires.whole.menus;
     }
 
@@ -63,7 +62,7 @@ returns-in-Err-perform-2-clause-whole g c =
     let after : Opened = record { activity = c.perform-in-Frame.new.activity; begun = λ p. false } in
     record {
       windows = done.0;
-      updates = still_sized c.requires.whole.updates c.in-Err-perform-2.ensures.width c.in-Err-perform-2.ensures.height;
+      updates = updates_after_frame _ c.args.self.now.windows c.perform-in-Frame.new.windows c.args.self.now.updates _ _ before after c.in-Frame.call (Err c.in-Err-perform-2.refusal) may done.1 c.requires.whole.updates;
       menus = frame_whole _ _ c.args.self.now.windows c.perform-in-Frame.new.windows _ _ _ _ before after c.in-Frame.call (Err c.in-Err-perform-2.refusal) may done.1 c.requires.whole.menus;
     }
 
@@ -75,9 +74,12 @@ returns-in-Err-perform-2-clause-step g c =
 pub returns-in-Ok-perform-3-clause-whole : goal.returns-in-Ok-perform-3-clause-whole
 returns-in-Ok-perform-3-clause-whole g c =
     let done = c.in-Ok-perform-3.ensures (λ p. holds c.args.self.now.updates.begun p) _ c.requires.whole.windows in
+    let may = subst (λ call. gate c.args.self.now.activity (standing_of call) ≡ None) c.in-Menu.is c.requires.admitted in
+    let before : Opened = record { activity = c.args.self.now.activity; begun = λ p. holds c.args.self.now.updates.begun p } in
+    let after : Opened = record { activity = c.perform-in-Menu.new.activity; begun = λ p. holds c.args.self.now.updates.begun p } in
     record {
       windows = done.0;
-      updates = menu_sized _ c.args.self.now.windows c.perform-in-Menu.new.windows _ _ _ _ _ _ c.in-Menu.call (Ok c.in-Ok-perform-3.reply) done.2 c.requires.whole.updates;
+      updates = updates_after_menu _ c.args.self.now.windows c.perform-in-Menu.new.windows c.args.self.now.updates _ _ before after _ _ c.in-Menu.call (Ok c.in-Ok-perform-3.reply) may done.2 c.requires.whole.updates;
       menus = done.1;
     }
 
@@ -89,9 +91,12 @@ returns-in-Ok-perform-3-clause-step g c =
 pub returns-in-Err-perform-3-clause-whole : goal.returns-in-Err-perform-3-clause-whole
 returns-in-Err-perform-3-clause-whole g c =
     let done = c.in-Err-perform-3.ensures (λ p. holds c.args.self.now.updates.begun p) _ c.requires.whole.windows in
+    let may = subst (λ call. gate c.args.self.now.activity (standing_of call) ≡ None) c.in-Menu.is c.requires.admitted in
+    let before : Opened = record { activity = c.args.self.now.activity; begun = λ p. holds c.args.self.now.updates.begun p } in
+    let after : Opened = record { activity = c.perform-in-Menu.new.activity; begun = λ p. holds c.args.self.now.updates.begun p } in
     record {
       windows = done.0;
-      updates = menu_sized _ c.args.self.now.windows c.perform-in-Menu.new.windows _ _ _ _ _ _ c.in-Menu.call (Err c.in-Err-perform-3.refusal) done.2 c.requires.whole.updates;
+      updates = updates_after_menu _ c.args.self.now.windows c.perform-in-Menu.new.windows c.args.self.now.updates _ _ before after _ _ c.in-Menu.call (Err c.in-Err-perform-3.refusal) may done.2 c.requires.whole.updates;
       menus = done.1;
     }
 

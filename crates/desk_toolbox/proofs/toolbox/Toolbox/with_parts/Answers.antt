@@ -2,7 +2,7 @@ use Rattle.std.proofs.Common.{rules, SFits, w32}
 use Rattle.std.proofs.lemmas.Int.{to_z-of_z}
 use Rattle.menu_mgr.proofs.Stocks.{stocked_by_full}
 use Rattle.desk_toolbox.proofs.MenusBeside.{menus_begin}
-use Rattle.desk_toolbox.proofs.Sides.{begins_sized}
+use Rattle.desk_toolbox.proofs.UpdatesBeside.{updates_begin}
 use Rattle.desk_toolbox.proofs.toolbox.Toolbox.with_parts.Goals as goal
 
 pub returns-in-Ok-clause-begun : goal.returns-in-Ok-clause-begun
@@ -22,6 +22,6 @@ returns-in-Ok-clause-whole g c slots kept full full_menus =
     let empty = begun slots full in
     record {
       windows = empty.whole;
-      updates = begins_sized _ c.args.width c.args.height c.args.bar _ _ _ slots c.requires.width c.requires.height empty;
+      updates = updates_begin _ c.args.width c.args.height c.args.bar _ _ _ slots c.requires.width c.requires.height empty;
       menus = menus_begin _ _ c.args.width c.args.height c.args.bar _ _ _ slots kept c.requires.menus empty (stocked_by_full kept full_menus);
     }

@@ -8,8 +8,8 @@ use Rattle.script_runner.proofs.Checked.{line_of_desk, line_of_none}
 use Rattle.script_runner.proofs.session.Session.check.Goals.{in-Some, in-None}
 use Rattle.script_runner.proofs.session.Session.check.Goals as goal
 
-pub differences-count-requires : goal.differences-count-requires
-differences-count-requires g c = c.requires.kept c.in-Some.desk c.in-Some.is
+pub differences-count-requires-clause-kept : goal.differences-count-requires-clause-kept
+differences-count-requires-clause-kept g c = c.requires.kept c.in-Some.desk c.in-Some.is
 
 pub returns : goal.returns
 returns g c = λ slots kept.

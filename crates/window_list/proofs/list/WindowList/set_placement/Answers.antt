@@ -1,4 +1,4 @@
-use Rattle.std.proofs.Common.{◌≡◌, Bool, Some, sym, ap, ◌∙◌}
+use Rattle.std.proofs.Common.{◌≡◌, Some, sym, ap, ◌∙◌}
 use Rattle.window_list.proofs.ChangeLemmas.{heard_placed}
 use Rattle.std.specs.Prelude.{slice_get, slice_set}
 use Rattle.std.proofs.lemmas.Option.{slice_get-get_or}
@@ -9,13 +9,14 @@ returns-clause-placed g c =
     let there : slice_get c.args.self.now.records.items c.args.at ≡ Some c.at_mut-window.result.now = slice_get-get_or _ _ _ c.requires.within ∙ ap Some (sym c.at_mut-window.ensures.value) in
     rw there (record {
       taken = c.told-damage-2.new.self;
-      items = ap (λ (z : Bool). slice_set c.args.self.now.records.items c.args.at (record c.at_mut-window.result.now {
+      items = (λ i. slice_set c.args.self.now.records.items c.args.at (record c.at_mut-window.result.now {
         place = c.args.placement.place;
         size = c.args.placement.size;
         user_state = c.args.placement.user_state;
-        heard = record c.at_mut-window.result.now.heard { zoomed = z };
+        heard = record c.at_mut-window.result.now.heard { zoomed = c.is_some-is_zoomed.ensures i };
+        layers = c.go_to.ensures i;
         taken = c.told-damage-2.new.self;
-      })) c.is_some-is_zoomed.ensures;
+      }));
       live = c.told-damage-2.ensures.stays;
       told = c.told-damage-2.ensures.size ∙ c.told-damage.ensures.size;
       regions = record {

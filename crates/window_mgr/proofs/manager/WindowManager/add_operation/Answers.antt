@@ -20,14 +20,14 @@ at-requires g c =
     let low = drawing.still_low _ c.args.self.now c.requires.kept c.args.at c.requires.may.window c.requires.may.there (with_operation c.in-Ok.operation) in
     omega arith
 
-pub show_last-requires-clause-placed : goal.show_last-requires-clause-placed
-show_last-requires-clause-placed g c =
+pub paint_last_operation-requires-clause-placed : goal.paint_last_operation-requires-clause-placed
+paint_last_operation-requires-clause-placed g c =
     let pushed = drawing.when_ok c.push_operation.result (sym c.is_err.ensures.value ∙ c.if-is_err.false) c.push_operation.ensures.added in
     let changed = drawing.changed_there _ c.args.self.now c.requires.kept c.args.at c.requires.may.window c.requires.may.there (with_operation c.in-Ok.operation) c.at.result.now (c.at.ensures ∙ ap (λ l. get_or l.records.items c.args.at c.at.result.now) pushed) in
     ap (λ w. in_plane w.place) changed ∙ (drawing.window_settled _ c.args.self.now c.requires.kept c.args.at c.requires.may.window c.requires.may.there).placed
 
-pub show_last-requires-clause-origin : goal.show_last-requires-clause-origin
-show_last-requires-clause-origin g c =
+pub paint_last_operation-requires-clause-origin : goal.paint_last_operation-requires-clause-origin
+paint_last_operation-requires-clause-origin g c =
     let pushed = drawing.when_ok c.push_operation.result (sym c.is_err.ensures.value ∙ c.if-is_err.false) c.push_operation.ensures.added in
     let changed = drawing.changed_there _ c.args.self.now c.requires.kept c.args.at c.requires.may.window c.requires.may.there (with_operation c.in-Ok.operation) c.at.result.now (c.at.ensures ∙ ap (λ l. get_or l.records.items c.args.at c.at.result.now) pushed) in
     ap (λ w. in_plane w.origin) changed ∙ (drawing.window_settled _ c.args.self.now c.requires.kept c.args.at c.requires.may.window c.requires.may.there).origin
@@ -36,6 +36,6 @@ pub returns-clause-drawn : goal.returns-clause-drawn
 returns-clause-drawn g c =
     let pushed = drawing.when_ok c.push_operation.result (sym c.is_err.ensures.value ∙ c.if-is_err.false) c.push_operation.ensures.added in
     drawing.is_drawn_at _ c.args.self.now c.requires.kept c.args.at c.requires.may.window c.requires.may.there
-    c.args.drawing.now c.in-Ok.operation c.at.result.now c.index.result.now c.show_last.new.screen
-    (c.at.ensures ∙ ap (λ l. get_or l.records.items c.args.at c.at.result.now) pushed) c.index.ensures c.in-Ok.ensures.1 c.show_last.ensures
-    _ (ap (λ l. record c.args.self.now { windows = l; screen = c.show_last.new.screen }) pushed)
+    c.args.drawing.now c.in-Ok.operation c.at.result.now c.index.result.now c.paint_last_operation.new.map
+    (c.at.ensures ∙ ap (λ l. get_or l.records.items c.args.at c.at.result.now) pushed) c.index.ensures c.in-Ok.ensures.1 c.paint_last_operation.ensures
+    _ (ap (λ l. record c.args.self.now { windows = l; screen = c.paint_last_operation.new.map }) pushed)

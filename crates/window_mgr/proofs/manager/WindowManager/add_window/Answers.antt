@@ -1,6 +1,7 @@
 use Rattle.std.proofs.Common.{◌≡◌, ◌+◌, ◌∷◌, Bool, true, false, List, length, if◌then◌else◌, map, ap, ◌∙◌, Some, refl, arith}
 use Rattle.std.proofs.lemmas.List.{length-map}
 use Rattle.window_list.specs.Lists.{dimmed, serial_after}
+use Rattle.vis_update.proofs.PlaceLemmas.{placed_parts}
 use Rattle.window_mgr.specs.Effects.{new_record}
 use Rattle.window_mgr.proofs.NewWindowLemmas.{settled_added, begun_as}
 use Rattle.window_mgr.proofs.manager.WindowManager.add_window.Goals as goal
@@ -9,6 +10,9 @@ use Rattle.window_mgr.proofs.manager.WindowManager.add_window.Goals as goal
 counted : {X : Type 0} (b : Bool) (x : X) (xs : List X) (f : X → X) → length (x ∷ (if b then map f xs else xs)) ≡ length xs + 1
 counted true x xs f = let e = length-map xs f in omega arith
 counted false x xs f = omega arith
+
+pub record_for-added-requires-clause-placed : goal.record_for-added-requires-clause-placed
+record_for-added-requires-clause-placed g c = (placed_parts _ c.args.window.now.place c.args.window.now.size c.requires.may_stand).place_in
 
 pub commit-requires-clause-settled : goal.commit-requires-clause-settled
 commit-requires-clause-settled g c =
@@ -33,6 +37,7 @@ returns g c =
       begun = begun;
       live = begun_as c.as_slice.ensures c.begin.ensures.begun;
       seen = c.record_for-added.ensures.seen ∙ ap (λ s. new_record c.args.window.now c.args.addition.ticket.serial s begun) c.begin.ensures.slot;
+      there = c.record_for-added.ensures.there;
       windows = ap (λ t. t.windows.records.items) c.commit.ensures.others ∙ ap (λ l. l.records.items) c.add.ensures ∙ ap (λ b. c.record_for-added.result ∷ (if b then map (dimmed c.args.self.now.windows.active) c.args.self.now.windows.records.items else c.args.self.now.windows.records.items)) c.record_for-added.ensures.shown;
       areas = c.commit.ensures.areas;
       desktop = c.commit.ensures.desktop;

@@ -1,4 +1,5 @@
 use Rattle.std.proofs.Common.{ap, ◌∙◌, refl, arith}
+use Rattle.std.proofs.lemmas.Bool.{and_parts}
 use Rattle.window_mgr.proofs.EditSeats.{there_is}
 use Rattle.window_mgr.proofs.PaintLemmas.{settled_in}
 use Rattle.window_mgr.proofs.PlacementCalls as placing
@@ -15,7 +16,18 @@ pub set_placement-requires-clause-fits : goal.set_placement-requires-clause-fits
 set_placement-requires-clause-fits g c =
     let found = there_is c.args.self.now.windows.records.items c.args.at c.requires.at in
     rw (placing.read_at c.args.self.now.windows.records.items c.args.at found.0 c.requires.at found.1)
-    (placed_parts _ c.args.placement.place c.args.placement.size (c.requires.placeable found.0 found.1).0).fits
+    (placed_parts _ c.args.placement.place c.args.placement.size (and_parts _ _ (c.requires.placeable found.0 found.1).0).0).fits
+
+pub set_placement-requires-clause-placed : goal.set_placement-requires-clause-placed
+set_placement-requires-clause-placed g c =
+    let found = there_is c.args.self.now.windows.records.items c.args.at c.requires.at in
+    (placed_parts _ c.args.placement.place c.args.placement.size (and_parts _ _ (c.requires.placeable found.0 found.1).0).0).place_in
+
+pub set_placement-requires-clause-fit : goal.set_placement-requires-clause-fit
+set_placement-requires-clause-fit g c =
+    let found = there_is c.args.self.now.windows.records.items c.args.at c.requires.at in
+    rw (placing.read_at c.args.self.now.windows.records.items c.args.at found.0 c.requires.at found.1)
+    (and_parts _ _ (c.requires.placeable found.0 found.1).0).1
 
 pub commit-requires-clause-settled : goal.commit-requires-clause-settled
 commit-requires-clause-settled g c =

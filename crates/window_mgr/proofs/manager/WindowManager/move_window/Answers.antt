@@ -4,11 +4,12 @@ use Rattle.window_mgr.specs.declared.arrange.Activates.TheVariants.{Nothing}
 use Rattle.window_mgr.specs.declared.arrange.Edit.{Edit}
 use Rattle.window_mgr.proofs.PaintLemmas.{settled_in}
 use Rattle.window_mgr.proofs.SameDeskLemmas.{is_refused}
+use Rattle.window_mgr.proofs.EditSeats as seating
 use Rattle.window_mgr.proofs.Steps as steps
 use Rattle.window_mgr.proofs.manager.WindowManager.move_window.Goals as goal
 
-pub returns-then-not-is_placed_with : goal.returns-then-not-is_placed_with
-returns-then-not-is_placed_with g c =
+pub returns-then-not-may_stand : goal.returns-then-not-may_stand
+returns-then-not-may_stand g c =
     is_refused _ c.args.self.now (Move c.args.moved) _ (λ slots whole.
     inl (steps.may_move _ c.args.self.now c.args.self.now slots whole c.in-Some.at c.args.moved.window c.at-found.result.now c.in-Some.ensures.0 (search rules) (c.in-Some.ensures.1 c.at-found.result.now (search rules)) c.args.moved false refl (search rules)))
 
@@ -23,6 +24,10 @@ pub rearrange-requires-clause-placed : goal.rearrange-requires-clause-placed
 rearrange-requires-clause-placed g c =
     steps.may_arrive _ c.args.self.now c.args.self.now _ c.requires.whole c.in-Some.at c.args.moved.window c.at-found.result.now c.in-Some.ensures.0 (search rules) (c.in-Some.ensures.1 c.at-found.result.now (search rules)) c.args.moved (search rules) (record c.of-edit.result { place = c.args.moved.place; user_state = None; to = c.place_in.result })
     (ap (λ (e : Edit). e.at) c.of-edit.ensures) refl (ap (λ (e : Edit). e.size) c.of-edit.ensures)
+
+pub rearrange-requires-clause-way : goal.rearrange-requires-clause-way
+rearrange-requires-clause-way g c =
+    seating.goes_as_far (record c.of-edit.result { place = c.args.moved.place; user_state = None; to = c.place_in.result }) c.in-Some.at c.local-by.result c.args.self.now.windows.records.items c.at-found.result.now (ap (λ (e : Edit). e.at) c.of-edit.ensures) c.in-Some.ensures.0 (search rules) c.local-by.ensures
 
 pub returns : goal.returns
 returns g c slots whole =

@@ -1,6 +1,7 @@
 use Rattle.std.proofs.Common.{arith}
 use Rattle.window_mgr.proofs.EditSeats.{there_is}
 use Rattle.window_mgr.proofs.FrameTold as telling
+use Rattle.window_mgr.proofs.PaintLemmas.{settled_placed}
 use Rattle.window_mgr.proofs.Remarked.{area_there, settled_there}
 use Rattle.window_mgr.proofs.PlacementCalls.{read_at}
 use Rattle.window_mgr.proofs.manager.WindowManager.notify.Goals as goal
@@ -29,14 +30,14 @@ at-requires g c =
     let told = rw (read_at c.args.self.now.windows.records.items c.args.at found.0 c.requires.at found.1) at c.notify-damage.ensures.told in
     telling.still_low _ c.requires.at told
 
-pub draw_frame-requires-clause-settled : goal.draw_frame-requires-clause-settled
-draw_frame-requires-clause-settled g c =
+pub paint_frame-requires-clause-placed : goal.paint_frame-requires-clause-placed
+paint_frame-requires-clause-placed g c =
     let found = there_is c.args.self.now.windows.records.items c.args.at c.requires.at in
     let told = rw (read_at c.args.self.now.windows.records.items c.args.at found.0 c.requires.at found.1) at c.notify-damage.ensures.told in
-    telling.drawn_settled _ c.args.self.now c.requires.kept.slots c.requires.kept.whole c.args.at c.requires.at found.0 found.1 c.args.change c.requires.size c.notify-damage.result c.notify-damage.new.self told c.at.result.now c.at.ensures
+    settled_placed _ (telling.drawn_settled _ c.args.self.now c.requires.kept.slots c.requires.kept.whole c.args.at c.requires.at found.0 found.1 c.args.change c.requires.size c.notify-damage.result c.notify-damage.new.self told c.at.result.now c.at.ensures)
 
-pub draw_frame-requires-clause-inside : goal.draw_frame-requires-clause-inside
-draw_frame-requires-clause-inside g c =
+pub paint_frame-requires-clause-inside : goal.paint_frame-requires-clause-inside
+paint_frame-requires-clause-inside g c =
     let found = there_is c.args.self.now.windows.records.items c.args.at c.requires.at in
     let told = rw (read_at c.args.self.now.windows.records.items c.args.at found.0 c.requires.at found.1) at c.notify-damage.ensures.told in
     telling.drawn_within _ c.args.self.now c.requires.kept.slots c.requires.kept.whole c.args.at c.requires.at found.0 found.1 c.args.change c.requires.size c.notify-damage.result c.notify-damage.new.self told c.at.result.now c.at.ensures c.index.result.now c.index.ensures
@@ -45,4 +46,4 @@ pub returns : goal.returns
 returns g c w there slots whole =
     let told = rw (read_at c.args.self.now.windows.records.items c.args.at w c.requires.at there) at c.notify-damage.ensures.told in
     telling.frame_told_by _ c.args.self.now slots whole c.args.at c.requires.at w there c.args.change c.requires.size c.notify-damage.result c.notify-damage.new.self told c.at.result.now c.at.ensures c.index.result.now c.index.ensures
-    c.draw_frame.new.map c.draw_frame.ensures.drawn c.draw_frame.ensures.near c.notify-damage.ensures.others
+    c.paint_frame.new.map c.paint_frame.ensures.drawn c.paint_frame.ensures.near c.notify-damage.ensures.others

@@ -6,6 +6,10 @@ pub plan_edit-requires-clause-placed : goal.plan_edit-requires-clause-placed
 plan_edit-requires-clause-placed g c =
     placing.is_placeable _ c.args.self.now c.requires.kept c.args.at c.args.placement c.requires.at c.at.result.now (search rules) c.requires.placeable c.of-edit.result c.of-edit.ensures
 
+pub plan_edit-requires-clause-way : goal.plan_edit-requires-clause-way
+plan_edit-requires-clause-way g c =
+    placing.is_on_its_way _ c.args.self.now c.requires.kept c.args.at c.args.placement c.requires.at c.at.result.now (search rules) c.args.by c.requires.way c.of-edit.result c.of-edit.ensures
+
 pub returns : goal.returns
 returns g c slots whole =
     placing.placement_done _ c.args.at c.args.placement c.args.by _ _ c.args.self.now c.commit_placement.new.self slots

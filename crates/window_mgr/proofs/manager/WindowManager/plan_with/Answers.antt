@@ -1,4 +1,5 @@
 use Rattle.std.proofs.Common.{refl, arith}
+use Rattle.window_mgr.proofs.KeptEdits.{new_keeps}
 use Rattle.window_mgr.proofs.Seating as arranging
 use Rattle.window_mgr.proofs.manager.WindowManager.plan_with.Goals as goal
 
@@ -21,6 +22,7 @@ returns-clause-plan g c slot begun regions =
     (arranging.arranged _ c.args.window.now c.args.touch.window slot _ begun c.args.self.now c.requires.kept c.requires.number regions _
     (record { serial = refl; place = refl; size = refl; shown = refl; definition = refl; nowhere = c.empty-nothing.ensures })
     c.in_ok-seats.seats.items c.in_ok-seats.ensures)
+    (new_keeps _ c.args.self.now c.requires.kept.whole.sound.distinct c.args.window.now c.args.touch.window slot begun c.args.touch refl (arranging.number_is_free _ c.args.self.now c.requires.kept c.args.touch.window c.requires.number))
 
 pub returns-clause-some : goal.returns-clause-some
 returns-clause-some g c =

@@ -1,6 +1,8 @@
-use Rattle.std.proofs.Common.{arith, ◌∙◌}
+use Rattle.std.proofs.Common.{None, refl, arith, ◌∙◌}
 use Rattle.window_mgr.specs.declared.arrange.Activates.TheVariants.{FrontInItsPlace}
 use Rattle.window_mgr.specs.Arrange.{activation_of}
+use Rattle.window_mgr.proofs.EditSeats.{there_is}
+use Rattle.window_mgr.proofs.KeptEdits.{rest_keeps}
 use Rattle.window_mgr.proofs.Seating as arranging
 use Rattle.window_mgr.proofs.RestSeats as resting
 use Rattle.window_mgr.proofs.manager.WindowManager.plan_without.Goals as goal
@@ -22,8 +24,10 @@ plan_of-requires-clause-near_gray g c = arranging.gray_near _ c.args.self.now c.
 pub returns-clause-plan : goal.returns-clause-plan
 returns-clause-plan g c after desk =
     let plan = rw c.deref-2.ensures.value at c.in_ok-plan.ensures.plan in
+    let w = there_is c.args.self.now.windows.records.items c.args.at c.requires.at in
     rw (c.also.ensures, c.active-active.ensures) at
-    (plan _ _ _ _ (resting.arranged_rest _ c.args.self.now c.requires.kept c.args.at c.in_ok-seats.seats.items c.in_ok-seats.ensures c.requires.at after desk))
+    (plan _ _ _ _ (resting.arranged_rest _ c.args.self.now c.requires.kept c.args.at c.in_ok-seats.seats.items c.in_ok-seats.ensures c.requires.at after desk)
+    (rest_keeps _ c.args.self.now c.requires.kept.whole.sound.distinct c.args.at w.0 w.1 c.requires.at (record { window = c.args.window; also = c.also.result; by = None }) refl after desk))
 
 pub returns-clause-activation : goal.returns-clause-activation
 returns-clause-activation g c =

@@ -1,7 +1,30 @@
-use Rattle.std.proofs.Common.{ap, ◌∙◌, length}
+use Rattle.std.proofs.Common.{◌≡◌, ◌<◌, true, sym, ap, ◌∙◌, length, subst}
+use Rattle.std.specs.Prelude.{IfSome, slice_get}
+use Rattle.std.specs.List.{list_all}
+use Rattle.std.proofs.lemmas.Bool.{and_parts}
+use Rattle.layer_list.specs.Holders.{fits_at}
 use Rattle.window_list.specs.Lists.{edit, with_stand}
-use Rattle.window_mgr.proofs.EditSeats.{there_is, moved_anew, length-anew}
+use Rattle.vis_update.proofs.PlaceLemmas.{placed_parts}
+use Rattle.window_mgr.proofs.EditSeats.{there_is, moved_anew, length-moved, read_moved, length-anew}
 use Rattle.window_mgr.proofs.manager.WindowManager.put_anew.Goals as goal
+
+pub set_stand-requires-clause-within : goal.set_stand-requires-clause-within
+set_stand-requires-clause-within g c =
+    let found = there_is c.args.self.now.windows.records.items c.args.edit.at c.requires.at in
+    subst (λ n. c.args.edit.to < n) (sym (ap length c.move_to.ensures.items ∙ length-moved c.args.self.now.windows.records.items c.args.edit.at c.args.edit.to found.0 c.requires.at found.1)) c.requires.to
+
+pub set_stand-requires-clause-placed : goal.set_stand-requires-clause-placed
+set_stand-requires-clause-placed g c =
+    let found = there_is c.args.self.now.windows.records.items c.args.edit.at c.requires.at in
+    (placed_parts _ c.args.edit.place c.args.edit.size (and_parts _ _ (c.requires.placed found.0 found.1)).0).place_in
+
+pub set_stand-requires-clause-fit : goal.set_stand-requires-clause-fit
+set_stand-requires-clause-fit g c =
+    let found = there_is c.args.self.now.windows.records.items c.args.edit.at c.requires.at in
+    let fits = and_parts _ _ (c.requires.placed found.0 found.1) in
+    subst (λ o. IfSome o (λ w. list_all (fits_at c.args.edit.place) w.layers.layers ≡ true))
+    (sym (ap (λ ws. slice_get ws c.args.edit.to) c.move_to.ensures.items ∙ read_moved c.args.self.now.windows.records.items c.args.edit.at c.args.edit.to found.0 c.requires.at found.1 c.requires.to))
+    fits.1
 
 pub returns-clause-put : goal.returns-clause-put
 returns-clause-put g c =
@@ -12,7 +35,7 @@ returns-clause-put g c =
       is =
           ap (λ l. l.records.items) c.set_stand.ensures
           ∙ ap (edit (with_stand c.args.edit.place c.args.edit.shown c.args.edit.user_state) c.args.edit.to) c.move_to.ensures.items
-          ∙ moved_anew (with_stand c.args.edit.place c.args.edit.shown c.args.edit.user_state) c.args.self.now.windows.records.items c.args.edit.at c.args.edit.to found.0 c.requires.at c.requires.to found.1;
+          ∙ moved_anew c.args.self.now.windows.records.items c.args.edit.at c.args.edit.to found.0 c.requires.at found.1 (with_stand c.args.edit.place c.args.edit.shown c.args.edit.user_state) c.requires.to;
     }
 
 pub returns-clause-len : goal.returns-clause-len
@@ -21,6 +44,6 @@ returns-clause-len g c =
     ap (λ l. length l.records.items) c.set_stand.ensures
     ∙ ap length (
     ap (edit (with_stand c.args.edit.place c.args.edit.shown c.args.edit.user_state) c.args.edit.to) c.move_to.ensures.items
-    ∙ moved_anew (with_stand c.args.edit.place c.args.edit.shown c.args.edit.user_state) c.args.self.now.windows.records.items c.args.edit.at c.args.edit.to found.0 c.requires.at c.requires.to found.1
+    ∙ moved_anew c.args.self.now.windows.records.items c.args.edit.at c.args.edit.to found.0 c.requires.at found.1 (with_stand c.args.edit.place c.args.edit.shown c.args.edit.user_state) c.requires.to
     )
     ∙ length-anew c.args.self.now.windows.records.items c.args.edit.at c.args.edit.to (with_stand c.args.edit.place c.args.edit.shown c.args.edit.user_state found.0) c.requires.at

@@ -1,5 +1,5 @@
 use Rattle.std.proofs.Common.{arith}
-use Rattle.window_mgr.proofs.Refreshed.{refreshed}
+use Rattle.window_mgr.proofs.KindsRefreshed.{picture_refreshed}
 use Rattle.window_mgr.proofs.Remarked.{area_there, settled_there}
 use Rattle.window_mgr.proofs.manager.WindowManager.refresh.Goals as goal
 
@@ -19,7 +19,7 @@ pub put_update-requires : goal.put_update-requires
 put_update-requires g c = area_there _ c.args.self.now c.requires.kept c.args.at c.requires.at
 
 pub returns : goal.returns
-returns g c w there slots whole =
+returns g c shows w there slots whole =
     rw c.put_update.ensures.state (
-    refreshed _ c.args.self.now slots whole c.args.at c.requires.at w there c.put_update.ensures.area c.put_update.ensures.there c.empty.result c.empty.ensures
+    picture_refreshed _ c.args.self.now slots whole c.args.at c.requires.at w there c.put_update.ensures.area c.put_update.ensures.there shows c.args.left (c.requires.left c.put_update.ensures.area c.put_update.ensures.there w there)
     c.paint_picture.new.map c.index.result.now c.index.ensures c.at.result.now c.at.ensures c.paint_picture.ensures)

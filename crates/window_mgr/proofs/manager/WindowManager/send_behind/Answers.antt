@@ -14,6 +14,10 @@ pub rearrange-requires-clause-placed : goal.rearrange-requires-clause-placed
 rearrange-requires-clause-placed g c =
     seating.may_stay_as _ _ (record (stays_put c.in-Some.at c.at-found.result.now) { to = c.in-Ok.to }) c.args.self.now.windows.records.items c.at-found.result.now (ap (λ (e : Edit). record e { to = c.in-Ok.to }) c.of-edit.ensures) c.in-Some.ensures.0 (search rules) refl refl c.requires.whole.sound.settled
 
+pub rearrange-requires-clause-way : goal.rearrange-requires-clause-way
+rearrange-requires-clause-way g c =
+    seating.stays_as _ (record (stays_put c.in-Some.at c.at-found.result.now) { to = c.in-Ok.to }) c.args.self.now.windows.records.items c.at-found.result.now (ap (λ (e : Edit). record e { to = c.in-Ok.to }) c.of-edit.ensures) c.in-Some.ensures.0 (search rules) refl
+
 pub returns : goal.returns
 returns g c slots whole =
     steps.send_step _ c.args.self.now c.rearrange.new.self slots whole c.in-Some.at c.args.sent.window c.at-found.result.now c.in-Some.ensures.0 (search rules) (c.in-Some.ensures.1 c.at-found.result.now (search rules)) c.args.sent _ _ _ refl c.in-Ok.ensures (ap (λ (e : Edit). record e { to = c.in-Ok.to }) c.of-edit.ensures) c.rearrange.ensures

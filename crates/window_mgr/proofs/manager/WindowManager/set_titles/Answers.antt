@@ -1,4 +1,4 @@
-use Rattle.std.proofs.Common.{pos, arith, rules, SFits, w32}
+use Rattle.std.proofs.Common.{pos, SFits, w32}
 use Rattle.std.proofs.lemmas.Int.{to_z-of_z}
 use Rattle.window_mgr.proofs.BarTitles.{titles_whole, titles_shown}
 use Rattle.window_mgr.proofs.ZoomLemmas.{screen_fits}

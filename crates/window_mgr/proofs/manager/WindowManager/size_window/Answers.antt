@@ -4,14 +4,18 @@ use Rattle.window_mgr.proofs.SameDeskLemmas.{is_refused}
 use Rattle.window_mgr.proofs.PlacementCalls as placing
 use Rattle.window_mgr.proofs.manager.WindowManager.size_window.Goals as goal
 
-pub returns-then-not-is_placed_with : goal.returns-then-not-is_placed_with
-returns-then-not-is_placed_with g c =
+pub returns-then-not-may_stand : goal.returns-then-not-may_stand
+returns-then-not-may_stand g c =
     is_refused _ c.args.self.now (Size c.args.sized) _ (λ slots whole.
     inl (placing.may_size _ c.args.self.now c.args.self.now slots whole c.in-Some.at c.args.sized.window c.at-found.result.now c.in-Some.ensures.0 (search rules) (c.in-Some.ensures.1 c.at-found.result.now (search rules)) c.args.sized refl false (search rules)))
 
 pub place_window-requires-clause-placeable : goal.place_window-requires-clause-placeable
 place_window-requires-clause-placeable g c =
-    placing.is_placeable_at _ c.args.self.now c.requires c.in-Some.at (record { place = c.at-found.result.now.place; size = c.args.sized.size; user_state = None }) c.in-Some.ensures.0 c.at-found.result.now (search rules) (search rules, c.is_placed_with.ensures.within (search rules))
+    placing.is_placeable_at _ c.args.self.now c.requires c.in-Some.at (record { place = c.at-found.result.now.place; size = c.args.sized.size; user_state = None }) c.in-Some.ensures.0 c.at-found.result.now (search rules) (search rules, c.may_stand.ensures.within (search rules))
+
+pub place_window-requires-clause-way : goal.place_window-requires-clause-way
+place_window-requires-clause-way g c =
+    placing.stays_there _ c.args.self.now c.requires c.in-Some.at (record { place = c.at-found.result.now.place; size = c.args.sized.size; user_state = None }) c.in-Some.ensures.0 c.at-found.result.now (search rules) refl
 
 pub returns : goal.returns
 returns g c slots whole =

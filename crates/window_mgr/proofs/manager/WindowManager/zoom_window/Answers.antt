@@ -16,8 +16,8 @@ pub returns-in_default-zoom_target : goal.returns-in_default-zoom_target
 returns-in_default-zoom_target g c slots whole =
     (whole, placing.stays_zoomed _ c.args.self.now c.args.self.now slots whole c.in-Some.at c.args.zoom.window c.at-found.result.now c.in-Some.ensures.0 (search rules) (c.in-Some.ensures.1 c.at-found.result.now (search rules)) c.args.zoom refl c.in-Some-direction.direction (search rules) (search rules))
 
-pub returns-then-not-is_placed_with : goal.returns-then-not-is_placed_with
-returns-then-not-is_placed_with g c =
+pub returns-then-not-may_stand : goal.returns-then-not-may_stand
+returns-then-not-may_stand g c =
     is_refused _ c.args.self.now (Zoom c.args.zoom) _ (λ slots whole.
     inl (placing.may_zoom _ c.args.self.now c.args.self.now slots whole c.in-Some.at c.args.zoom.window c.at-found.result.now c.in-Some.ensures.0 (search rules) (c.in-Some.ensures.1 c.at-found.result.now (search rules)) c.args.zoom refl c.in-Some-direction.direction (search rules) c.in-Some-zoom_target.placement (search rules) false (search rules)))
 
@@ -30,7 +30,11 @@ local-by-requires-clause-place g c = (settled_in _ c.args.self.now.windows.recor
 
 pub place_window-requires-clause-placeable : goal.place_window-requires-clause-placeable
 place_window-requires-clause-placeable g c =
-    placing.is_placeable_at _ c.args.self.now c.requires c.in-Some.at c.in-Some-zoom_target.placement c.in-Some.ensures.0 c.at-found.result.now (search rules) (search rules, c.is_placed_with.ensures.within (search rules))
+    placing.is_placeable_at _ c.args.self.now c.requires c.in-Some.at c.in-Some-zoom_target.placement c.in-Some.ensures.0 c.at-found.result.now (search rules) (search rules, c.may_stand.ensures.within (search rules))
+
+pub place_window-requires-clause-way : goal.place_window-requires-clause-way
+place_window-requires-clause-way g c =
+    placing.goes_there _ c.args.self.now c.requires c.in-Some.at c.in-Some-zoom_target.placement c.in-Some.ensures.0 c.at-found.result.now (search rules) c.local-by.result c.local-by.ensures
 
 pub returns : goal.returns
 returns g c slots whole =

@@ -1,0 +1,8 @@
+use Rattle.desk_toolbox.proofs.toolbox.Toolbox.pixels_right.Goals as goal
+
+pub returns-clause-whole : goal.returns-clause-whole
+returns-clause-whole g c slots kept whole = record {
+  windows = whole.windows;
+  updates = c.pixels_right.ensures.whole _ whole.updates;
+  menus = whole.menus;
+}

@@ -1,0 +1,2 @@
+-- Lemmas on layers that are changed.
+pub mod Changed

@@ -1,0 +1,45 @@
+//! The layers of a window's content, followed on the screen: a window with a picture, controls and a list, and one that covers
+//! a part of it, are changed by calls of `window_mgr` and `window_update`, and after each call every pixel of the screen and
+//! every region that is kept is what a slow model says. No script reaches this, since no call of the Toolbox makes controls or
+//! lists yet.
+//!
+//! The model goes by single pixels and uses no region: `plain_desk` says whose a pixel is, `plain_steps` what calls change of
+//! the desk, and `plain_pixels` what each pixel shows after them. `stripes` says what the controls and lists of these tests show,
+//! `relaying` changes the layers of a window, `updating` updates one, `steps` carries out each call by the library and by the
+//! model and compares them, and `followed` has the tests.
+#![tactic(auto)]
+
+/// A rectangle, by its left side, its top, its right side and its bottom.
+#[cfg(test)]
+macro_rules! rect {
+    ($left:expr, $top:expr, $right:expr, $bottom:expr) => {
+        tb_geom::Rect {
+            left: $left,
+            top: $top,
+            right: $right,
+            bottom: $bottom,
+        }
+    };
+}
+
+/// A point, by its column and its row.
+#[cfg(test)]
+macro_rules! point {
+    ($h:expr, $v:expr) => {
+        tb_geom::Point { h: $h, v: $v }
+    };
+}
+
+#[cfg(test)]
+mod followed;
+#[cfg(test)]
+mod plain_desk;
+#[cfg(test)]
+mod plain_pixels;
+#[cfg(test)]
+mod plain_steps;
+pub mod relaying;
+#[cfg(test)]
+mod steps;
+pub mod stripes;
+pub mod updating;

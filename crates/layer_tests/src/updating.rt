@@ -1,0 +1,42 @@
+//! Updates of windows of the library, layer by layer.
+ghost use Rattle.std.specs.Prelude.{List, IfOk};
+ghost use Rattle.def_iface.specs.Stocked.{SlotView};
+ghost use Rattle.desk_call.specs.declared.activity.Activity.TheVariants.{Idle};
+ghost use Rattle.window_mgr.specs.Kept.{IsKept};
+ghost use Rattle.window_mgr.specs.Whole.{IsWholeManager};
+ghost use Rattle.window_update.specs.WholeUpdates.{IsWholeUpdates};
+
+use crate::stripes::Stripes;
+use def_iface::{Defined, Taken};
+use desk_call::Activity;
+use std::alloc::Global;
+use tb_geom::Refusal;
+use window_mgr::WindowManager;
+use window_update::{UpdateCall, Updates};
+
+/// What is kept for updates of these windows, with none open.
+pub fn updates_for(alloc: Global, windows: &WindowManager) -> Result<Updates, Refusal>
+    requires { IsKept ⟦<Taken as Defined>⟧.loan windows.now }
+    ensures { IfOk result (IsWholeUpdates ⟦<Taken as Defined>⟧.loan Idle windows.now) }
+{
+    let sides = windows.screen().bounds();
+    Ok(Updates::new(alloc, sides.right, sides.bottom)?)
+}
+
+/// Performs a call, if it may come.
+pub fn update(
+    windows: &mut WindowManager,
+    updates: &mut Updates,
+    activity: &mut Activity,
+    call: &UpdateCall<'_>,
+) -> Result<(), Refusal>
+    requires kept { IsKept ⟦<Taken as Defined>⟧.loan windows.old }
+    requires whole { IsWholeUpdates ⟦<Taken as Defined>⟧.loan activity.old windows.old updates.old }
+    ensures updates { IsWholeUpdates ⟦<Taken as Defined>⟧.loan activity.new windows.new updates.new }
+    ensures windows { (slots : List SlotView) → IsWholeManager ⟦<Taken as Defined>⟧.loan windows.old slots
+        → IsWholeManager ⟦<Taken as Defined>⟧.loan windows.new slots }
+{
+    activity.admit(call.standing())?;
+    let _done = updates.perform(windows, activity, call, &Stripes)?;
+    Ok(())
+}

@@ -1,0 +1,13 @@
+use Rattle.std.proofs.Common.{[]}
+use Rattle.def_iface.specs.contracts.taken.TakenDefined.TheImpl as taken
+use Rattle.def_iface.specs.contracts.taken_menu.TakenMenuDefinedMenu.TheImpl as taken_menu
+use Rattle.desk_toolbox.specs.WholeToolbox.{toolbox_state}
+use Rattle.scratch_paint.proofs.DifferenceLemmas.{as_many_differ}
+use Rattle.scratch_paint.proofs.difference.differences.Goals as goal
+
+pub differences_from-requires-clause-large : goal.differences_from-requires-clause-large
+differences_from-requires-clause-large g c = record { wide = c.in_ok-painted.ensures.wide; high = c.in_ok-painted.ensures.high }
+
+pub returns : goal.returns
+returns g c =
+    as_many_differ (g.S.Showing.shows c.args.layers.now) (toolbox_state (taken.loan-value g.dyn-1).it (taken_menu.menu_loan-value g.dyn-2).it c.args.toolbox.now [] []) c.in_ok-painted.painted c.in_ok-painted.ensures c.differences_from.result c.differences_from.ensures

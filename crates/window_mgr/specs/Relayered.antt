@@ -1,0 +1,51 @@
+-- The layers of one window changed, planned and drawn.
+use Rattle.std.specs.Prelude.{◌≡◌, ℕ, true, List, [], map, Option, None, Some, slice_index_or}
+use Rattle.std.specs.List.{list_all}
+use Rattle.def_iface.specs.declared.part.Part.{Part}
+use Rattle.def_iface.specs.declared.taken.Taken.{Taken}
+use Rattle.def_iface.specs.Meaning.{Loan}
+use Rattle.def_iface.specs.Desk.{LayeredDesk}
+use Rattle.def_iface.specs.Change.{IsChanged}
+use Rattle.layer_list.specs.declared.layer.Layer.{Layer}
+use Rattle.layer_list.specs.declared.layers.Relaid.{Relaid}
+use Rattle.layer_list.specs.Holders.{PlacedLayers, ArePartsApart, fits_at}
+use Rattle.window_list.specs.declared.window.Window.{Window}
+use Rattle.vis_update.specs.declared.relaying.Relaying.{Relaying}
+use Rattle.vis_update.specs.Relayings.{IsRelayered, IsRelaid, IsGained, afresh_change, with_layers_of}
+use Rattle.window_mgr.specs.declared.manager.WindowManager.{WindowManager}
+use Rattle.window_mgr.specs.Edits.{IsWindowAt}
+use Rattle.window_mgr.specs.FullDesk.{FullState, layered_desk, layered_state}
+use Rattle.window_mgr.specs.Records.{state_of}
+
+-- the part of the layer at this index, if one is given
+abbrev pub IsPartAt : List Layer → Option ℕ → Option Part → Type 0
+IsPartAt ls None part = part ≡ None
+IsPartAt ls (Some i) part = (l : Layer) → l ≡ slice_index_or ls i l → part ≡ Some l.part
+
+-- the window of this serial has these layers, and the part that is to be drawn afresh was; nothing else of the desk changed
+-- but what layers show
+pub record AreLayersSet (s : ℕ) (ls : List Layer) (afresh : Option Part) (before after : FullState) : Type 0 where
+  pub desk : after.desk
+      ≡ record before.desk { windows = map (with_layers_of s ls) before.desk.windows; shows = after.desk.shows }
+  pub pixels : IsChanged (afresh_change s afresh) (layered_state before) (layered_state after)
+
+module _ {V : Type 0} {H : V → Type 0} where
+  -- the window at this place of the list may have these layers: they are apart, and lie in the range of coordinates where
+  -- the window does
+  pub record MayHaveLayers (at : ℕ) (t : WindowManager V H) (layers : PlacedLayers) : Type 0 where
+    pub apart : ArePartsApart layers.layers
+    pub there : (w : Window V H) → IsWindowAt t.windows.records.items at w → layers.place ≡ w.place
+    pub fit : list_all (fits_at layers.place) layers.layers ≡ true
+
+  -- the new layers gain this, where the part that is to be drawn afresh is this one
+  abbrev pub IsGainedAt : ℕ → Option Part → WindowManager V H → Relaid → Type 0
+  IsGainedAt at afresh t relaid = (w : Window V H) → IsWindowAt t.windows.records.items at w
+      → IsGained w.place afresh w.layers.layers relaid.layers.layers relaid.gained
+
+-- `loan` says what a definition that was taken means
+module _ {V : Type 0} {H : V → Type 0} (loan : Taken V H → Loan) where
+  -- the plan is right for each desk on which the window at this place has the new layers
+  abbrev pub IsPlanOfLayers : ℕ → List Layer → Option Part → WindowManager V H → Relaying → Type 0
+  IsPlanOfLayers at new afresh t r = (w : Window V H) → IsWindowAt t.windows.records.items at w → (after : LayeredDesk)
+      → IsRelayered w.serial w.place w.layers.layers new (layered_desk (state_of loan t []).desk) after
+      → IsRelaid w.serial afresh (layered_state (state_of loan t [])) after r

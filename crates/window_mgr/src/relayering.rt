@@ -1,0 +1,94 @@
+//! A window's layers changed, by whoever keeps its controls and lists: planned, which asks for memory, and then put in
+//! their place, which does not.
+ghost use Rattle.std.specs.Prelude.{◌<◌, ℕ, List, length, Option, IfOk, IfSome};
+ghost use Rattle.tb_geom.specs.Points.{PixelSet};
+ghost use Rattle.def_iface.specs.declared.part.Part.{Part};
+ghost use Rattle.def_iface.specs.Stocked.{SlotView};
+ghost use Rattle.window_mgr.specs.Edits.{IsWindowAt};
+ghost use Rattle.window_mgr.specs.Kept.{IsKept};
+ghost use Rattle.window_mgr.specs.Records.{state_of, state_showing};
+ghost use Rattle.window_mgr.specs.Whole.{IsWholeManager};
+ghost use Rattle.window_mgr.specs.Relayered.{IsPartAt, MayHaveLayers, IsGainedAt, IsPlanOfLayers, AreLayersSet};
+
+use crate::WindowManager;
+use bit_blit::fill;
+use bit_map::{Mode, Pattern};
+use def_iface::{Defined, Taken};
+use layer_list::{Layers, Relaid};
+use std::alloc::AllocError;
+use tb_geom::Point;
+use vis_update::{Relaying, relaying_of};
+use window_paint::{Showing, paint_layer};
+
+impl WindowManager {
+    /// What changes on the screen where the window at this index gets these layers, of which the one at the index `afresh`,
+    /// if there is one, is to be drawn afresh. It changes nothing.
+    pub fn plan_layers(
+        &self,
+        at: usize,
+        relaid: &Relaid,
+        afresh: Option<usize>,
+    ) -> Result<Relaying, AllocError>
+        requires kept { IsKept ⟦<Taken as Defined>⟧.loan self.now }
+        requires at { at < length self.now.windows.records.items }
+        requires may { MayHaveLayers at self.now relaid.now.layers }
+        requires afresh { IfSome afresh (λ i. i < length relaid.now.layers.layers) }
+        requires gained { (part : Option Part) → IsPartAt relaid.now.layers.layers afresh part
+            → IsGainedAt at part self.now relaid.now }
+        ensures { IfOk result (λ r. (part : Option Part) → IsPartAt relaid.now.layers.layers afresh part
+            → IsPlanOfLayers ⟦<Taken as Defined>⟧.loan at relaid.now.layers.layers part self.now r) }
+    {
+        let drawn = match afresh {
+            Some(index) => Some(relaid.layers.owned(index)),
+            None => None,
+        };
+        relaying_of(self.alloc, self.area(at), &relaid.gained, drawn)
+    }
+
+    /// Gives the window at this index these layers, as planned: what others gain becomes white and is to be redrawn, and the
+    /// one at the index `afresh`, if there is one, is drawn afresh. It takes no memory.
+    pub fn commit_layers<S: Showing>(
+        &mut self,
+        at: usize,
+        layers: Layers,
+        relaying: Relaying,
+        afresh: Option<usize>,
+        showing: &S,
+    )
+        requires kept { IsKept ⟦<Taken as Defined>⟧.loan self.old }
+        requires at { at < length self.old.windows.records.items }
+        requires may { MayHaveLayers at self.old layers }
+        requires afresh { IfSome afresh (λ i. i < length layers.layers) }
+        requires planned { (part : Option Part) → IsPartAt layers.layers afresh part
+            → IsPlanOfLayers ⟦<Taken as Defined>⟧.loan at layers.layers part self.old relaying }
+        requires whole { S.is_whole showing.now }
+        ensures { (w : _) → IsWindowAt self.old.windows.records.items at w
+            → (part : Option Part) → IsPartAt layers.layers afresh part
+            → (was : List ℕ → Part → PixelSet) (slots : List SlotView)
+            → IsWholeManager ⟦<Taken as Defined>⟧.loan self.old slots
+            → IsWholeManager ⟦<Taken as Defined>⟧.loan self.new slots
+            × AreLayersSet w.serial layers.layers part (state_showing was (state_of ⟦<Taken as Defined>⟧.loan self.old slots))
+            (state_showing (S.shows showing.now) (state_of ⟦<Taken as Defined>⟧.loan self.new slots)) }
+    {
+        self.windows.set_layers(at, layers);
+        let origin = Point { h: 0, v: 0 };
+        fill(
+            &mut self.screen,
+            &relaying.erase,
+            origin,
+            Pattern::WHITE,
+            Mode::Copy,
+        );
+        if let Some(index) = afresh {
+            paint_layer(
+                &mut self.screen,
+                &relaying.draw,
+                self.windows.at(at),
+                index,
+                showing,
+                &self.font,
+            );
+        }
+        self.put_update(at, relaying.update);
+    }
+}

@@ -1,0 +1,7 @@
+use Rattle.std.proofs.Common.{take}
+use Rattle.tb_geom.specs.Pixels.{holds}
+use Rattle.window_paint.proofs.KindLayers.{AreKindDrawn}
+use Rattle.window_paint.proofs.kinds.paint_kind.Given as goal
+
+abbrev pub invariant-loop-at : goal.invariant-loop-at
+invariant-loop-at g l = AreKindDrawn l.kind l.font (g.S.Showing.shows l.layers l.font) l.window (holds l.region) (take l.at l.window.layers.layers) l.fn.map l.map

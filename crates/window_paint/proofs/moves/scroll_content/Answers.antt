@@ -1,0 +1,5 @@
+use Rattle.window_paint.proofs.MoveLemmas.{scroll_painted}
+use Rattle.window_paint.proofs.moves.scroll_content.Goals as goal
+
+pub returns : goal.returns
+returns c = scroll_painted c.args.arriving.now c.args.exposed.now c.args.by c.args.map.now c.shift.new.map c.fill.new.map c.shift.ensures c.fill.ensures

@@ -1,0 +1,8 @@
+-- Controls and lists that show nothing.
+use Rattle.std.specs.Prelude.{false}
+use Rattle.tb_geom.specs.Points.{PixelSet}
+use Rattle.def_iface.specs.declared.part.Part.{Part}
+
+-- whatever the control or list, it is white
+abbrev pub all_white : Part → PixelSet
+all_white part p = false

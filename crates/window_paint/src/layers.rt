@@ -1,0 +1,80 @@
+//! The layers of a window's content, drawn where they own the pixels, and the whole content.
+ghost use Rattle.std.specs.Prelude.{◌≡◌, ◌<◌, ◌&&◌, true, length, slice_index_or};
+ghost use Rattle.tb_geom.specs.Points.{minus};
+ghost use Rattle.tb_geom.specs.Pixels.{holds};
+ghost use Rattle.tb_geom.specs.Rects.{in_plane};
+ghost use Rattle.scan_region.specs.Cuts.{cut_meeting};
+ghost use Rattle.bit_blit.specs.Draws.{Draws};
+ghost use Rattle.layer_list.specs.declared.layer.Layer.{Layer};
+ghost use Rattle.layer_list.specs.Holders.{belongs_to, ArePartsApart};
+ghost use Rattle.window_paint.specs.Shown.{content_shown};
+
+use crate::pictures::paint_picture;
+use crate::showing::Showing;
+use bit_map::BitMap;
+use draw_port::Canvas;
+use scan_region::{Cut, Region};
+use strike_font::Font;
+use window_list::Window;
+
+/// Draws the layer at this index of a window on the pixels of a region of the screen that it owns.
+pub fn paint_layer<S: Showing>(
+    map: &mut BitMap,
+    region: &Region,
+    window: &Window,
+    at: usize,
+    layers: &S,
+    font: &Font,
+)
+    requires placed { in_plane window.now.place ≡ true }
+    requires at { at < length window.now.layers.layers }
+    requires apart { ArePartsApart window.now.layers.layers }
+    requires whole { S.is_whole layers.now }
+    ensures { (l : Layer) → l ≡ slice_index_or window.now.layers.layers at l
+        → Draws (λ p. holds region.now p && belongs_to l.part window.now.layers.layers (minus p window.now.layers.place))
+        (λ p _. S.shows layers.now font.now l.part (minus p window.now.place))
+        map.old map.new }
+{
+    let layer = window.layers.at(at);
+    let cut = meeting(region, window.layers.owned(at));
+    let clip = region.bbox();
+    let mut canvas = Canvas {
+        map,
+        clip,
+        origin: window.place,
+        cut: &cut,
+        font,
+    };
+    layers.draw(layer.part, &mut canvas);
+}
+
+/// Draws all that a window's content shows on a region of the screen: its picture, over white, and each layer.
+pub fn paint_content<S: Showing>(
+    map: &mut BitMap,
+    region: &Region,
+    window: &Window,
+    layers: &S,
+    font: &Font,
+)
+    requires placed { in_plane window.now.place ≡ true }
+    requires origin { in_plane window.now.origin ≡ true }
+    requires apart { ArePartsApart window.now.layers.layers }
+    requires whole { S.is_whole layers.now }
+    ensures { Draws (holds region.now) (λ p _. content_shown font.now (S.shows layers.now font.now) window.now p)
+        map.old map.new }
+{
+    paint_picture(map, region, window, font);
+    for at in 0..window.layers.len() {
+        paint_layer(map, region, window, at, layers, font);
+    }
+}
+
+/// The pixels that two regions share.
+pub fn meeting<'a>(region: &'a Region, other: &'a Region) -> Cut<'a>
+    ensures { result ≡ cut_meeting region.entry other.entry }
+{
+    Cut {
+        inside: [Some(region), Some(other), None],
+        outside: None,
+    }
+}

@@ -1,0 +1,44 @@
+//! What controls and lists show.
+ghost use Rattle.std.specs.Prelude.{◌≡◌, ℕ, List};
+ghost use Rattle.tb_geom.specs.Points.{PixelSet};
+ghost use Rattle.bit_blit.specs.Draws.{Draws};
+ghost use Rattle.draw_port.specs.Canvases.{canvas_holds, canvas_point, SameFrame};
+ghost use Rattle.def_iface.specs.declared.part.Part.{Part};
+ghost use Rattle.window_paint.specs.White.{all_white};
+
+use bit_map::{Mode, Pattern};
+use def_iface::Part;
+use draw_port::Canvas;
+
+/// Whoever keeps the controls and lists of windows, and so can draw them.
+pub trait Showing {
+    /// They are as they are between calls.
+    ghost is_whole: { Self → Type 0 };
+
+    /// What a control or a list shows in a font, in its window's own coordinates.
+    ghost shows: { Self → List ℕ → Part → PixelSet };
+
+    /// Gives each pixel of the canvas the value that this control or list has there in the canvas's font. The canvas's
+    /// origin is the window's 0 0.
+    fn draw(&self, part: Part, canvas: &mut Canvas<'_>)
+        requires whole { is_whole self.now }
+        ensures same_map { canvas.new.map.ghost_name ≡ canvas.old.map.ghost_name }
+        ensures same_frame { SameFrame canvas.old canvas.new }
+        ensures drawn { Draws (canvas_holds canvas.old)
+            (λ p _. shows self.now canvas.old.font.now part (canvas_point canvas.old p))
+            canvas.old.map.now canvas.new.map.now };
+}
+
+/// Controls and lists that nobody keeps: they show white.
+#[derive(Clone, Copy, Debug, PartialEq, Eq)]
+pub struct NothingShown;
+
+impl Showing for NothingShown {
+    ghost is_whole = { λ _. Unit {0} };
+
+    ghost shows = { λ _ _. all_white };
+
+    fn draw(&self, _part: Part, canvas: &mut Canvas<'_>) {
+        canvas.fill_all(Pattern::WHITE, Mode::Copy);
+    }
+}

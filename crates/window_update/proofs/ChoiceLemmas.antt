@@ -1,0 +1,211 @@
+-- Kinds of layers that are chosen, and what is kept as left once they are drawn.
+use Rattle.std.proofs.Common.{◌≡◌, ℕ, ◌==◌, Bool, true, false, ◌&&◌, ◌||◌, not, refl, sym, ap, ◌∙◌, subst}
+use Rattle.std.proofs.lemmas.Bool.{false≢true, and_parts}
+use Rattle.tb_geom.specs.declared.point.Point.{Point}
+use Rattle.tb_geom.specs.Points.{PixelSet, minus}
+use Rattle.tb_geom.specs.Pixels.{Pixels, holds}
+use Rattle.def_iface.specs.declared.part.Part.{Part}
+use Rattle.def_iface.specs.declared.part.Part.TheVariants as part
+use Rattle.def_iface.specs.Desk.{same_part}
+use Rattle.def_iface.specs.Owner.{Owner}
+use Rattle.def_iface.specs.Owner.Owner.{Desktop, Bar, Frame, Content}
+use Rattle.desk_call.specs.declared.update.Layers.{Layers}
+use Rattle.desk_call.specs.declared.update.Layers.TheVariants.{Picture, Lists, Controls}
+use Rattle.layer_list.specs.Holders.{part_at, is_covered, ArePartsApart}
+use Rattle.layer_list.proofs.Parts.{covered_is}
+use Rattle.window_list.specs.declared.window.Window.{Window}
+use Rattle.window_paint.specs.Kinds.{is_of, is_kind_there}
+use Rattle.window_mgr.specs.Updating.{is_of_kind}
+use Rattle.window_mgr.proofs.Contents.{picture_kind}
+use Rattle.window_update.specs.declared.choices.Kinds.{Kinds}
+use Rattle.window_update.specs.declared.choices.Split.{Split}
+use Rattle.window_update.specs.declared.choices.Choices.{Choices}
+use Rattle.window_update.specs.Choosing.{no_kinds, has_kind, with_kind, if_there, IsFurther, is_chosen, is_chosen_of, left_by, left_for, AreChoicesOf}
+
+-- ---- choices
+
+there_itself : (b : Bool) → if_there b b ≡ true
+there_itself true = refl
+there_itself false = refl
+
+there_true : (b : Bool) → if_there b true ≡ true
+there_true true = refl
+there_true false = refl
+
+-- one kind more is further
+pub further_with : (kind : Layers) (d : Kinds) → has_kind d kind ≡ false → IsFurther d (with_kind kind d)
+further_with Picture d lacks = (λ i. there_true d.picture i && (there_itself d.lists i && there_itself d.controls i), λ same. false≢true (sym (ap (λ (k : Kinds). k.picture) same ∙ lacks)))
+further_with Lists d lacks = (λ i. there_itself d.picture i && (there_true d.lists i && there_itself d.controls i), λ same. false≢true (sym (ap (λ (k : Kinds). k.lists) same ∙ lacks)))
+further_with Controls d lacks = (λ i. there_itself d.picture i && (there_itself d.lists i && there_true d.controls i), λ same. false≢true (sym (ap (λ (k : Kinds). k.controls) same ∙ lacks)))
+
+-- what is further than that has the kind
+pub further_has : (kind : Layers) (d k : Kinds) → IsFurther (with_kind kind d) k → has_kind k kind ≡ true
+further_has Picture d k further = (and_parts k.picture _ further.0).0
+further_has Lists d k further = (and_parts k.lists _ (and_parts (if_there d.picture k.picture) _ further.0).1).0
+further_has Controls d k further = (and_parts (if_there d.lists k.lists) k.controls (and_parts (if_there d.picture k.picture) _ further.0).1).1
+
+-- and is further than the rest
+pub further_still : (kind : Layers) (d k : Kinds) → has_kind d kind ≡ false → IsFurther (with_kind kind d) k → IsFurther d k
+further_still kind d k lacks further = (covers kind further.0, λ same. false≢true (sym lacks ∙ ap (λ x. has_kind x kind) (sym same) ∙ further_has kind d k further))
+  where
+    covers : (kind : Layers) → (if_there (with_kind kind d).picture k.picture && (if_there (with_kind kind d).lists k.lists && if_there (with_kind kind d).controls k.controls)) ≡ true
+        → (if_there d.picture k.picture && (if_there d.lists k.lists && if_there d.controls k.controls)) ≡ true
+    covers Picture e =
+        let parts = and_parts k.picture _ e in
+        λ i. (ap (if_there d.picture) parts.0 ∙ there_true d.picture) i && parts.1 i
+    covers Lists e =
+        let parts = and_parts (if_there d.picture k.picture) _ e in
+        let more = and_parts k.lists _ parts.1 in
+        λ i. parts.0 i && ((ap (if_there d.lists) more.0 ∙ there_true d.lists) i && more.1 i)
+    covers Controls e =
+        let parts = and_parts (if_there d.picture k.picture) _ e in
+        let more = and_parts (if_there d.lists k.lists) k.controls parts.1 in
+        λ i. parts.0 i && (more.0 i && (ap (if_there d.controls) more.1 ∙ there_true d.controls) i)
+
+-- a kind that is not the picture's has no picture
+pub no_picture : (kind which : Layers) → kind ≡ which → (which ≡ Picture → ⊥) → is_of kind part.Picture ≡ false
+no_picture Picture which is not_picture = absurd (not_picture (sym is))
+no_picture Lists which is not_picture = refl
+no_picture Controls which is not_picture = refl
+
+-- ---- owners of chosen kinds
+
+chosen_with : (kind : Layers) (d : Kinds) (a : Part) → is_chosen (with_kind kind d) a ≡ (is_of kind a || is_chosen d a)
+chosen_with Picture d part.Picture = refl
+chosen_with Picture d (part.Control n) = refl
+chosen_with Picture d (part.List n) = refl
+chosen_with Lists d part.Picture = refl
+chosen_with Lists d (part.Control n) = refl
+chosen_with Lists d (part.List n) = refl
+chosen_with Controls d part.Picture = refl
+chosen_with Controls d (part.Control n) = refl
+chosen_with Controls d (part.List n) = refl
+
+pub chosen_of_with : (kind : Layers) (d : Kinds) (s : ℕ) (o : Owner) → is_chosen_of (with_kind kind d) s o ≡ (is_of_kind kind s o || is_chosen_of d s o)
+chosen_of_with kind d s Desktop = refl
+chosen_of_with kind d s Bar = refl
+chosen_of_with kind d s (Frame t) = refl
+chosen_of_with kind d s (Content t a) = by_test (t == s)
+  where
+    by_test : (b : Bool) → (b && is_chosen (with_kind kind d) a) ≡ ((b && is_of kind a) || (b && is_chosen d a))
+    by_test true = chosen_with kind d a
+    by_test false = refl
+
+-- where nothing is chosen
+pub none_chosen : (s : ℕ) (o : Owner) → is_chosen_of no_kinds s o ≡ false
+none_chosen s Desktop = refl
+none_chosen s Bar = refl
+none_chosen s (Frame t) = refl
+none_chosen s (Content t a) = ap (λ b. t == s && b) (none a) ∙ never (t == s)
+  where
+    none : (a : Part) → is_chosen no_kinds a ≡ false
+    none part.Picture = refl
+    none (part.Control n) = refl
+    none (part.List n) = refl
+
+    never : (b : Bool) → (b && false) ≡ false
+    never true = refl
+    never false = refl
+
+-- a layer of a kind that a choice has is chosen
+pub kind_chosen : (kind : Layers) (k : Kinds) (s : ℕ) (o : Owner) → has_kind k kind ≡ true → is_of_kind kind s o ≡ true → is_chosen_of k s o ≡ true
+kind_chosen kind k s Desktop has e = absurd (false≢true e)
+kind_chosen kind k s Bar has e = absurd (false≢true e)
+kind_chosen kind k s (Frame t) has e = absurd (false≢true e)
+kind_chosen kind k s (Content t a) has e =
+    let parts = and_parts (t == s) (is_of kind a) e in
+    λ i. parts.0 i && its kind a has parts.1 i
+  where
+    its : (kind : Layers) (a : Part) → has_kind k kind ≡ true → is_of kind a ≡ true → is_chosen k a ≡ true
+    its Picture part.Picture has of = has
+    its Picture (part.Control n) has of = absurd (false≢true of)
+    its Picture (part.List n) has of = absurd (false≢true of)
+    its Lists part.Picture has of = absurd (false≢true of)
+    its Lists (part.Control n) has of = absurd (false≢true of)
+    its Lists (part.List n) has of = has
+    its Controls part.Picture has of = absurd (false≢true of)
+    its Controls (part.Control n) has of = has
+    its Controls (part.List n) has of = absurd (false≢true of)
+
+-- ---- what is kept
+
+-- what was drawn is not asked
+left_drawn : (c : Choices) (d : Kinds) (a b e : Bool) (p : Point) → left_by (record c { drawn = d }) a b e p ≡ left_by c a b e p
+left_drawn c d true true true p = refl
+left_drawn c d true true false p = refl
+left_drawn c d true false true p = refl
+left_drawn c d true false false p = refl
+left_drawn c d false true true p = refl
+left_drawn c d false true false p = refl
+left_drawn c d false false true p = refl
+left_drawn c d false false false p = refl
+
+pub others_kept : (kind which : Layers) (old mid new : Choices) → kind ≡ which → mid ≡ record old { drawn = with_kind which old.drawn } → ((k : Kinds) → IsFurther mid.drawn k → left_for new k ≡ left_for mid k)
+    → (k : Kinds) → IsFurther (with_kind kind old.drawn) k → left_for new k ≡ left_for old k
+others_kept kind which old mid new is changed others k further =
+    others k (subst (λ d. IsFurther d k) (ap (λ x. with_kind x old.drawn) is ∙ sym (ap (λ (c : Choices). c.drawn) changed)) further)
+    ∙ ap (λ (c : Choices). left_for c k) changed
+    ∙ λ i p. left_drawn old (with_kind which old.drawn) k.picture k.lists k.controls p i
+
+-- a region cut in what a kind of layers has and the rest
+abbrev pub IsSplit : Pixels → PixelSet → Split → Type 0
+IsSplit update own s = ((p : Point) → holds s.own p ≡ (holds update p && own p)) × ((p : Point) → holds s.rest p ≡ (holds update p && not (holds s.own p)))
+
+module _ {V : Type 0} {H : V → Type 0} (w : Window V H) (update : Pixels) (apart : ArePartsApart w.layers.layers) (c : Choices)
+    (picture : ((p : Point) → holds c.picture.own p ≡ (holds update p && not (is_covered w.layers.layers (minus p w.layers.place)))) × ((p : Point) → holds c.picture.rest p ≡ (holds update p && not (holds c.picture.own p))))
+    (lists : IsSplit update (is_kind_there Lists w) c.lists) (controls : IsSplit update (is_kind_there Controls w) c.controls) where
+  abbrev its : Point → Part
+  its p = part_at w.layers.layers (minus p w.layers.place)
+
+  picture_own : (p : Point) → holds c.picture.own p ≡ (holds update p && is_of Picture (its p))
+  picture_own p = picture.0 p ∙ ap (λ b. holds update p && not b) (covered_is w.layers.layers (minus p w.layers.place) apart) ∙ ap (λ b. holds update p && b) (twice (same_part (its p) part.Picture) ∙ sym (picture_kind (its p)))
+    where
+      twice : (b : Bool) → not (not b) ≡ b
+      twice true = refl
+      twice false = refl
+
+  rest_is : (u x : Bool) → (u && not (u && x)) ≡ (u && not x)
+  rest_is true x = refl
+  rest_is false x = refl
+
+  never : (u : Bool) → false ≡ (u && false)
+  never true = refl
+  never false = refl
+
+  -- of a pixel that belongs to this part, by what a choice has
+  by_choice : (a b e : Bool) → (record { picture = a; lists = b; controls = e } ≡ no_kinds → ⊥) → (p : Point) → (q : Part) → its p ≡ q → left_by c a b e p ≡ (holds update p && not (is_chosen (record { picture = a; lists = b; controls = e }) q))
+  by_choice true true true some p part.Picture is = never (holds update p)
+  by_choice true true true some p (part.Control n) is = never (holds update p)
+  by_choice true true true some p (part.List n) is = never (holds update p)
+  by_choice true true false some p part.Picture is = controls.0 p ∙ ap (λ q. holds update p && is_of Controls q) is
+  by_choice true true false some p (part.Control n) is = controls.0 p ∙ ap (λ q. holds update p && is_of Controls q) is
+  by_choice true true false some p (part.List n) is = controls.0 p ∙ ap (λ q. holds update p && is_of Controls q) is
+  by_choice true false true some p part.Picture is = lists.0 p ∙ ap (λ q. holds update p && is_of Lists q) is
+  by_choice true false true some p (part.Control n) is = lists.0 p ∙ ap (λ q. holds update p && is_of Lists q) is
+  by_choice true false true some p (part.List n) is = lists.0 p ∙ ap (λ q. holds update p && is_of Lists q) is
+  by_choice false true true some p part.Picture is = picture_own p ∙ ap (λ q. holds update p && is_of Picture q) is
+  by_choice false true true some p (part.Control n) is = picture_own p ∙ ap (λ q. holds update p && is_of Picture q) is
+  by_choice false true true some p (part.List n) is = picture_own p ∙ ap (λ q. holds update p && is_of Picture q) is
+  by_choice true false false some p q is = picture.1 p ∙ ap (λ x. holds update p && not x) (picture_own p) ∙ rest_is (holds update p) (is_of Picture (its p)) ∙ ap (λ x. holds update p && not x) (ap (is_of Picture) is ∙ one q)
+    where
+      one : (q : Part) → is_of Picture q ≡ is_chosen (record { picture = true; lists = false; controls = false }) q
+      one part.Picture = refl
+      one (part.Control n) = refl
+      one (part.List n) = refl
+  by_choice false true false some p q is = lists.1 p ∙ ap (λ x. holds update p && not x) (lists.0 p) ∙ rest_is (holds update p) (is_of Lists (its p)) ∙ ap (λ x. holds update p && not x) (ap (is_of Lists) is ∙ one q)
+    where
+      one : (q : Part) → is_of Lists q ≡ is_chosen (record { picture = false; lists = true; controls = false }) q
+      one part.Picture = refl
+      one (part.Control n) = refl
+      one (part.List n) = refl
+  by_choice false false true some p q is = controls.1 p ∙ ap (λ x. holds update p && not x) (controls.0 p) ∙ rest_is (holds update p) (is_of Controls (its p)) ∙ ap (λ x. holds update p && not x) (ap (is_of Controls) is ∙ one q)
+    where
+      one : (q : Part) → is_of Controls q ≡ is_chosen (record { picture = false; lists = false; controls = true }) q
+      one part.Picture = refl
+      one (part.Control n) = refl
+      one (part.List n) = refl
+  by_choice false false false some p q is = absurd (some refl)
+
+  -- the regions are those of an update that begins
+  pub choices_of : c.drawn ≡ no_kinds → AreChoicesOf w update c
+  choices_of none = record { drawn = none; left = λ k further p. by_choice k.picture k.lists k.controls further.1 p (its p) refl }
