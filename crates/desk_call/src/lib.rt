@@ -3,10 +3,13 @@
 //! A `Call` says what it is about, and a `Reply` of which kind the answer is. What a call does, the crate says that performs
 //! it: `window_mgr` for windows, `window_update` for updates, `window_frame` for frames, `menu_mgr` for menus, `desk_toolbox`
 //! for events. A program that only reads or writes calls needs no more than this.
+//!
+//! A `ControlCall` is no `Call` yet: no crate performs one.
 #![tactic(auto)]
 
 mod activity;
 mod call;
+mod control;
 mod event;
 mod frame;
 mod menu;
@@ -15,6 +18,10 @@ mod window;
 
 pub use activity::{Activity, PulledMenu, Standing};
 pub use call::{Call, Reply};
+pub use control::{
+    ControlCall, ControlInfo, ControlNumber, ControlOf, ControlReply, ControlTitle, FoundControl,
+    MoveControl, NewControl, PointAtControl, PointInWindow, SizeControl,
+};
 pub use event::{EventCall, EventReply, FlushEvents, PostEvent};
 pub use frame::{FrameCall, FrameReply, GoAwayPoint, HiliteWindow, NewTitle};
 pub use menu::{

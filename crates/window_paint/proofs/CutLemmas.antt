@@ -40,6 +40,16 @@ cut_holds-both r s p = by_test (holds r.now p) (holds s.now p)
     by_test true false = refl
     by_test false c = refl
 
+-- a cut of two regions, less another
+pub cut_holds-both_less : (r s b : Bor Pixels) (p : Point) → cut_holds (record { inside = Some r ∷ Some s ∷ None ∷ []; outside = Some b }) p ≡ ((holds r.now p && holds s.now p) && not (holds b.now p))
+unfolding cut_holds
+cut_holds-both_less r s b p = by_test (holds r.now p) (holds s.now p) (not (holds b.now p))
+  where
+    by_test : (b c n : Bool) → ((b && (c && (true && true))) && n) ≡ ((b && c) && n)
+    by_test true true n = refl
+    by_test true false n = refl
+    by_test false c n = refl
+
 -- a clip around a set takes nothing away
 pub clipped : (b clip : Bool) → (b ≡ true → clip ≡ true) → (clip && b) ≡ b
 clipped b true e = refl

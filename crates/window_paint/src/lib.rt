@@ -28,7 +28,7 @@ mod showing;
 
 pub use frames::{paint_anew, paint_frame};
 pub use kinds::{is_of, paint_kind};
-pub use layers::{meeting, paint_content, paint_layer};
+pub use layers::{meeting, paint_content, paint_layer, repaint_layer};
 pub use moves::{move_content, scroll_content};
 pub use pictures::{paint_last_operation, paint_picture};
 pub use showing::{NothingShown, Showing};
