@@ -16,7 +16,7 @@ mod menu;
 mod update;
 mod window;
 
-pub use activity::{Activity, PulledMenu, Standing};
+pub use activity::{Activity, PulledMenu, Standing, TrackedControl};
 pub use call::{Call, Reply};
 pub use control::{
     ControlCall, ControlInfo, ControlNumber, ControlOf, ControlReply, ControlTitle, FoundControl,

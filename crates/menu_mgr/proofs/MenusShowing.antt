@@ -8,7 +8,7 @@ use Rattle.def_iface.specs.declared.part.Part.{Part}
 use Rattle.def_iface.specs.Desk.{IsDesk}
 use Rattle.def_iface.specs.Change.{no_change}
 use Rattle.desk_call.specs.declared.activity.Activity.{Activity}
-use Rattle.desk_call.specs.declared.activity.Activity.TheVariants.{Idle, Updating, Tracking, Pulling}
+use Rattle.desk_call.specs.declared.activity.Activity.TheVariants.{Idle, Updating, Tracking, Pulling, TrackingControl}
 use Rattle.desk_call.specs.declared.activity.PulledMenu.{PulledMenu}
 use Rattle.desk_call.specs.declared.menu.Choice.{Choice}
 use Rattle.desk_call.specs.declared.menu.MenuCall.{MenuCall}
@@ -47,7 +47,10 @@ module _ (shows : List ℕ → Part → PixelSet) where
     disposed_showing : (at : Option ℕ) → IsDisposedAt at before after → IsDisposedAt at (menus_shown before) (menus_shown after)
     disposed_showing None none = none
     disposed_showing (Some at) it = record {
-      listed = it.listed; found = it.found; left = it.left; shut = it.shut;
+      listed = it.listed;
+      found = it.found;
+      left = it.left;
+      shut = it.shut;
       activity = same_activity_showing shows before.desk after.desk it.activity;
       shown = titles_showing _ _ _ it.shown;
     }
@@ -70,6 +73,7 @@ module _ (shows : List ℕ → Part → PixelSet) where
     moved_showing Idle p answer none = none
     moved_showing (Updating n) p answer none = none
     moved_showing (Tracking n) p answer none = none
+    moved_showing (TrackingControl c) p answer none = none
     moved_showing (Pulling m) p answer it = moved_on_showing m (other_title m (title_of_point before p)) p answer it
 
     put_away_showing : (m : PulledMenu) (choice : Option Choice) → IsPutAway m choice before after → IsPutAway m choice (menus_shown before) (menus_shown after)
@@ -79,17 +83,24 @@ module _ (shows : List ℕ → Part → PixelSet) where
     released_showing Idle p answer none = none
     released_showing (Updating n) p answer none = none
     released_showing (Tracking n) p answer none = none
+    released_showing (TrackingControl c) p answer none = none
     released_showing (Pulling m) p answer (is, it) = (is, put_away_showing m answer it)
 
     edited_showing : (call : MenuCall) (answer : MenuReply) → AreEdited call answer before after → AreEdited call answer (menus_shown before) (menus_shown after)
     edited_showing call answer it = record { answered = it.answered; activity = same_activity_showing shows before.desk after.desk it.activity; shown = titles_showing _ _ _ it.shown }
 
     menu_effect : (call : MenuCall) (answer : MenuReply) → IsMenuEffect call answer before after → IsMenuEffect call answer (menus_shown before) (menus_shown after)
-    menu_effect (asks.New n) answer (done, it) = (done, record {
-      loan = it.loan; begun = it.begun; taken = it.taken; live = it.live;
-      activity = same_activity_showing shows before.desk after.desk it.activity;
-      shown = titles_showing _ _ _ it.shown;
-    })
+    menu_effect (asks.New n) answer (done, it) = (
+      done,
+      record {
+        loan = it.loan;
+        begun = it.begun;
+        taken = it.taken;
+        live = it.live;
+        activity = same_activity_showing shows before.desk after.desk it.activity;
+        shown = titles_showing _ _ _ it.shown;
+      },
+    )
     menu_effect (asks.Dispose id) answer (done, it) = (done, disposed_showing _ it)
     menu_effect (asks.Down p) answer (menu, is, it) = (menu, is, pressed_showing (title_of_point before p) menu it)
     menu_effect (asks.Move p) answer (item, is, it) = (item, is, moved_showing before.desk.activity p item it)

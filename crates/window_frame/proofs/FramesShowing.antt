@@ -57,8 +57,10 @@ module _ (look : Look) (n : ℕ) (f : WindowRecord → WindowRecord) (keeps : Ke
   apart_still (w ∷ ws) (missing, (parts, rest)) = by_test (w.serial == n) (apart_still ws rest)
     where
       by_test : (this : Bool) → layers.AreWindows (map (layered_window look) (changed n f ws)) → layers.AreWindows (map (layered_window look) (if this then f w ∷ ws else w ∷ changed n f ws))
-      by_test true still = (subst (λ s. layers.window_of s (map (layered_window look) ws) ≡ None) (sym (keeps.serial w)) missing,
-          (parts_alike look look w (f w) (keeps.layers w) parts, rest))
+      by_test true still = (
+        subst (λ s. layers.window_of s (map (layered_window look) ws) ≡ None) (sym (keeps.serial w)) missing,
+        (parts_alike look look w (f w) (keeps.layers w) parts, rest),
+      )
       by_test false still = (missing_still w.serial ws missing, (parts, still))
 
 -- ---- a definition that was told something
@@ -67,7 +69,10 @@ module _ (shows : List ℕ → Part → PixelSet) where
   pub notified_showing : (n : ℕ) (news : WindowRecord → News → News) (kept : WindowRecord → WindowRecord) (s t : FullState) → layers.IsDesk (layered_desk t.desk)
       → IsFrameNotified n news kept s t → IsFrameNotified n news kept (state_showing shows s) (state_showing shows t)
   notified_showing n news kept s t distinct it = record {
-    window = it.window; definition = it.definition; found = it.found; told = it.told;
+    window = it.window;
+    definition = it.definition;
+    found = it.found;
+    told = it.told;
     desk = ap (desk_showing shows) it.desk;
     pixels = changed_showing shows no_change (λ o p. refl) (λ o. refl) s t distinct it.pixels;
   }
@@ -89,10 +94,11 @@ module _ (shows : List ℕ → Part → PixelSet) where
   unfolding notified_showing
   told_all_showing [] s t distinct same = ap (state_showing shows) same
   told_all_showing (x ∷ xs) s t distinct (middle, its, rest) =
-      let after = distinct_notified x.window (told_flag x.flag) (with_heard x.flag) s middle (heard_keeps x.flag) its.told distinct in
-      (state_showing shows middle,
-      record { told = notified_showing shows x.window (told_flag x.flag) (with_heard x.flag) s middle after its.told; otherwise = its.otherwise },
-      told_all_showing xs middle t after rest)
+      let after = distinct_notified x.window (told_flag x.flag) (with_heard x.flag) s middle (heard_keeps x.flag) its.told distinct in (
+        state_showing shows middle,
+        record { told = notified_showing shows x.window (told_flag x.flag) (with_heard x.flag) s middle after its.told; otherwise = its.otherwise },
+        told_all_showing xs middle t after rest,
+      )
 
   pub caught_up_showing : (s t : FullState) → layers.IsDesk (layered_desk s.desk) → IsCaughtUp s t → IsCaughtUp (state_showing shows s) (state_showing shows t)
   caught_up_showing s t distinct (tellings, told, informed) = (tellings, told_all_showing tellings s t distinct told, informed)
@@ -102,6 +108,7 @@ module _ (shows : List ℕ → Part → PixelSet) where
   caught_up_by_showing (standing.Updates n) s t distinct it = caught_up_showing s t distinct it
   caught_up_by_showing standing.Tracks s t distinct it = caught_up_showing s t distinct it
   caught_up_by_showing standing.Pulls s t distinct it = caught_up_showing s t distinct it
+  caught_up_by_showing standing.TracksControl s t distinct it = caught_up_showing s t distinct it
   caught_up_by_showing standing.Changes s t distinct it = caught_up_showing s t distinct it
 
 -- ---- calls about frames
@@ -136,16 +143,19 @@ module _ (shows : List ℕ → Part → PixelSet) where
   refusals_same (EndGoAway p) d why e = e
 
   frame_effect : (call : FrameCall) (answer : FrameReply) (s t : DeskState) → layers.IsDesk (layered_desk s.windows.desk) → IsFrameEffect call answer s t → IsFrameEffect call answer (shown shows s) (shown shows t)
-  frame_effect (SetTitle n) Done s t distinct (same, its) = (same_activity_showing shows s t same,
-      notified_showing shows n.window (λ _. told_title n.title) (with_title n.title) s.windows t.windows
-      (distinct_notified n.window (λ _. told_title n.title) (with_title n.title) s.windows t.windows (record { serial = λ w. refl; layers = λ w. refl }) its distinct) its)
-  frame_effect (Hilite h) Done s t distinct (same, its) = (same_activity_showing shows s t same,
-      notified_showing shows h.window (λ _. told_highlighted h.highlighted) (with_flag h.highlighted) s.windows t.windows
-      (distinct_notified h.window (λ _. told_highlighted h.highlighted) (with_flag h.highlighted) s.windows t.windows (record { serial = λ w. refl; layers = λ w. refl }) its distinct) its)
+  frame_effect (SetTitle n) Done s t distinct (same, its) = (
+    same_activity_showing shows s t same,
+    notified_showing shows n.window (λ _. told_title n.title) (with_title n.title) s.windows t.windows
+        (distinct_notified n.window (λ _. told_title n.title) (with_title n.title) s.windows t.windows (record { serial = λ w. refl; layers = λ w. refl }) its distinct) its,
+  )
+  frame_effect (Hilite h) Done s t distinct (same, its) = (
+    same_activity_showing shows s t same,
+    notified_showing shows h.window (λ _. told_highlighted h.highlighted) (with_flag h.highlighted) s.windows t.windows
+        (distinct_notified h.window (λ _. told_highlighted h.highlighted) (with_flag h.highlighted) s.windows t.windows (record { serial = λ w. refl; layers = λ w. refl }) its distinct) its,
+  )
   frame_effect (TrackGoAway g) (Tracked inside) s t distinct (is, begun) = (is ∙ sym (in_go_away_showing g.window s.windows.desk g.point), begun_showing g.window inside s t distinct begun)
   frame_effect (StepGoAway p) (Tracked inside) s t distinct (same, it) = (same_activity_showing shows s t same, tracked_showing p inside inside s t distinct it)
   frame_effect (EndGoAway p) (Tracked inside) s t distinct (idle, it) = (idle, tracked_showing p inside false s t distinct it)
-
   frame_effect (SetTitle n) (Tracked inside) s t distinct none = none
   frame_effect (Hilite h) (Tracked inside) s t distinct none = none
   frame_effect (TrackGoAway g) Done s t distinct none = none

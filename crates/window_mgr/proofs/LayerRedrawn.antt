@@ -21,6 +21,7 @@ use Rattle.def_iface.specs.Change as plain
 use Rattle.def_iface.specs.Change.{Change}
 use Rattle.def_iface.proofs.Owning.{same_number, same_owner-true, same_owner-self, same_part-true}
 use Rattle.def_iface.proofs.Painting.{scratch_is_owners}
+use Rattle.layer_list.specs.declared.layer.Layer.{Layer}
 use Rattle.layer_list.specs.Holders.{part_at, belongs_to}
 use Rattle.vis_update.specs.declared.area.Area.{Area}
 use Rattle.vis_update.specs.Areas.{IsArea, IsGray, IsDesktop, AreAreas, is_content_of, stale_in}
@@ -34,6 +35,7 @@ use Rattle.window_mgr.specs.Records.{desk_of, desk_showing, state_of, state_show
 use Rattle.window_mgr.specs.Whole.{IsWholeManager, IsSoundDesk}
 use Rattle.window_mgr.proofs.Arranged.{between-is_below}
 use Rattle.window_mgr.proofs.Contents as contents
+use Rattle.window_mgr.proofs.EditSeats.{same_at}
 use Rattle.window_mgr.proofs.Repicturing.{no_content, not_stale}
 use Rattle.window_mgr.proofs.Remarked as remarked
 use Rattle.window_mgr.proofs.Remarked.{unless}
@@ -174,17 +176,33 @@ module _ {V : Type 0} {H : V → Type 0} (loan : Taken V H → Loan) (t : Window
         still p on (no_content w.serial (owner desk p) (ap is_content (owner_showing now full p) ∙ c)) ∙ whole.frames p on c
 
     pub layer_redrawn : IsWholeManager loan new slots × IsLayerRedrawn w.serial q before (state_showing now (state_of loan new slots))
-    layer_redrawn = (record {
-      sound = subst IsSoundDesk (sym desk_is) whole.sound;
-      gray = subst (λ (x : FullDesk). IsGray (layered_desk x) t.gray) (sym desk_is) whole.gray;
-      desktop = subst (λ (x : FullDesk). IsDesktop (layered_desk x) t.desktop) (sym desk_is) whole.desktop;
-      areas = subst (λ (x : FullDesk). AreAreas (layered_desk x) stale x.windows t.areas.items) (sym desk_is) whole.areas;
-      frames = subst (λ (x : FullDesk). (p : Point) → layers.on_screen (layered_desk x) p ≡ true → is_content (owner (layered_desk x) p) ≡ false → bit screen p ≡ own_bit (layered_desk x) (owner (layered_desk x) p) p) (sym desk_is) unmoved;
-      layers = whole.layers;
-    }, record {
-      desk = ap (desk_showing now) desk_is;
-      pixels = record {
-        stale = subst (λ (d : FullDesk). (p : Point) → layers.on_screen (layered_desk (desk_showing now d)) p ≡ true → stale p ≡ plain.stale_by change (layered_state before) (owner (layered_desk (desk_showing now d)) p) p) (sym desk_is) stale_is;
-        image = subst (λ (d : FullDesk). (p : Point) → layers.on_screen (layered_desk (desk_showing now d)) p ≡ true → bit screen p ≡ plain.image_by change (layered_state before) (layered_desk (desk_showing now d)) (owner (layered_desk (desk_showing now d)) p) p) (sym desk_is) image_is;
-      };
-    })
+    layer_redrawn = (
+      record {
+        sound = subst IsSoundDesk (sym desk_is) whole.sound;
+        gray = subst (λ (x : FullDesk). IsGray (layered_desk x) t.gray) (sym desk_is) whole.gray;
+        desktop = subst (λ (x : FullDesk). IsDesktop (layered_desk x) t.desktop) (sym desk_is) whole.desktop;
+        areas = subst (λ (x : FullDesk). AreAreas (layered_desk x) stale x.windows t.areas.items) (sym desk_is) whole.areas;
+        frames = subst (λ (x : FullDesk). (p : Point) → layers.on_screen (layered_desk x) p ≡ true → is_content (owner (layered_desk x) p) ≡ false → bit screen p ≡ own_bit (layered_desk x) (owner (layered_desk x) p) p) (sym desk_is) unmoved;
+        layers = whole.layers;
+      },
+      record {
+        desk = ap (desk_showing now) desk_is;
+        pixels = record {
+          stale = subst (λ (d : FullDesk). (p : Point) → layers.on_screen (layered_desk (desk_showing now d)) p ≡ true → stale p ≡ plain.stale_by change (layered_state before) (owner (layered_desk (desk_showing now d)) p) p) (sym desk_is) stale_is;
+          image = subst (λ (d : FullDesk). (p : Point) → layers.on_screen (layered_desk (desk_showing now d)) p ≡ true → bit screen p ≡ plain.image_by change (layered_state before) (layered_desk (desk_showing now d)) (owner (layered_desk (desk_showing now d)) p) p) (sym desk_is) image_is;
+        };
+      },
+    )
+
+-- the layer at this index of the window was, where the window goes by another name too
+pub index_redrawn : {V : Type 0} {H : V → Type 0} (loan : Taken V H → Loan) (t : WindowManager V H) (slots : List SlotView) (whole : IsWholeManager loan t slots) (at : ℕ) → at < length t.windows.records.items
+    → (w : Window V H) → IsWindowAt t.windows.records.items at w → (a : Area) → a ≡ get_or t.areas.items at a → (was now : List ℕ → Part → PixelSet)
+    → (index : ℕ) → index < length w.layers.layers → (l : Layer) → l ≡ get_or w.layers.layers index l → (v : Window V H) → IsWindowAt t.windows.records.items at v → (screen : Bits)
+    → ((k : Layer) → k ≡ get_or v.layers.layers index k → Draws (λ p. (holds a.visible p && belongs_to k.part v.layers.layers (minus p v.layers.place)) && not (holds a.update p)) (λ p _. now t.font k.part (minus p v.place)) t.screen screen)
+    → IsWholeManager loan (record t { screen = screen }) slots × IsLayerRedrawn w.serial l.part (state_showing was (state_of loan t slots)) (state_showing now (state_of loan (record t { screen = screen }) slots))
+index_redrawn loan t slots whole at low w there a read was now index there_too l l_read v v_read screen drawn =
+    layer_redrawn loan t slots whole at low w there a read was now l.part
+    (subst (λ k. same_part k.part part.Picture ≡ false) (sym l_read) ((contents.layers_apart loan t slots whole at low w there now).0 index l there_too))
+    screen
+    (subst (λ (z : Window _ _). (k : Layer) → k ≡ get_or z.layers.layers index k → Draws (λ p. (holds a.visible p && belongs_to k.part z.layers.layers (minus p z.layers.place)) && not (holds a.update p)) (λ p _. now t.font k.part (minus p z.place)) t.screen screen)
+    (same_at t.windows.records.items at v w low v_read there) drawn l l_read)

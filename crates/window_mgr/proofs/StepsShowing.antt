@@ -162,34 +162,66 @@ module _ (shows : List ℕ → Part → PixelSet) where
 
   effect_showing : (e : Effect) (answer : WindowReply) (s t : FullState) → DescribesAlike e → IsDesk (layered_desk t.desk)
       → IsEffect e answer s t → IsEffect e answer (state_showing shows s) (state_showing shows t)
-  effect_showing (Makes w) answer s t alike distinct (serial, a, made) = (serial, a, record {
-    loan = made.loan; begun = made.begun; serials = made.serials; taken = made.taken; live = made.live;
-    desk = ap (desk_showing shows) made.desk;
-    pixels = changed_showing shows no_change (λ o p. refl) (λ o. refl) s t distinct made.pixels;
-  })
-  effect_showing (Disposes n) answer s t alike distinct (a, gone) = (a, record {
-    window = gone.window; found = gone.found; left = gone.left; shut = gone.shut;
-    desk = ap (desk_showing shows) gone.desk;
-    pixels = changed_showing shows no_change (λ o p. refl) (λ o. refl) s t distinct gone.pixels;
-  })
-  effect_showing (Draws d) answer s t alike distinct (a, drawn) = (a, record {
-    window = drawn.window; operation = drawn.operation; found = drawn.found; meant = drawn.meant;
-    desk = ap (desk_showing shows) drawn.desk;
-    pixels = changed_showing shows (draw_change s.desk.font d.window drawn.window drawn.operation) (λ o p. refl) (λ o. refl) s t distinct drawn.pixels;
-  })
-  effect_showing (Pictures n) answer s t alike distinct (a, set) = (a, record {
-    desk = ap (desk_showing shows) set.desk;
-    pixels = changed_showing shows (picture_change n.window) (λ o p. refl) (λ o. refl) s t distinct set.pixels;
-  })
-  effect_showing (Scrolls m) answer s t alike distinct (a, scrolled) = (a, record {
-    desk = ap (desk_showing shows) scrolled.desk;
-    pixels = changed_showing shows (scroll_change m.window m.by) (λ o p. refl) (λ o. refl) s t distinct scrolled.pixels;
-  })
+  effect_showing (Makes w) answer s t alike distinct (serial, a, made) = (
+    serial,
+    a,
+    record {
+      loan = made.loan;
+      begun = made.begun;
+      serials = made.serials;
+      taken = made.taken;
+      live = made.live;
+      desk = ap (desk_showing shows) made.desk;
+      pixels = changed_showing shows no_change (λ o p. refl) (λ o. refl) s t distinct made.pixels;
+    },
+  )
+  effect_showing (Disposes n) answer s t alike distinct (a, gone) = (
+    a,
+    record {
+      window = gone.window;
+      found = gone.found;
+      left = gone.left;
+      shut = gone.shut;
+      desk = ap (desk_showing shows) gone.desk;
+      pixels = changed_showing shows no_change (λ o p. refl) (λ o. refl) s t distinct gone.pixels;
+    },
+  )
+  effect_showing (Draws d) answer s t alike distinct (a, drawn) = (
+    a,
+    record {
+      window = drawn.window;
+      operation = drawn.operation;
+      found = drawn.found;
+      meant = drawn.meant;
+      desk = ap (desk_showing shows) drawn.desk;
+      pixels = changed_showing shows (draw_change s.desk.font d.window drawn.window drawn.operation) (λ o p. refl) (λ o. refl) s t distinct drawn.pixels;
+    },
+  )
+  effect_showing (Pictures n) answer s t alike distinct (a, set) = (
+    a,
+    record {
+      desk = ap (desk_showing shows) set.desk;
+      pixels = changed_showing shows (picture_change n.window) (λ o p. refl) (λ o. refl) s t distinct set.pixels;
+    },
+  )
+  effect_showing (Scrolls m) answer s t alike distinct (a, scrolled) = (
+    a,
+    record {
+      desk = ap (desk_showing shows) scrolled.desk;
+      pixels = changed_showing shows (scroll_change m.window m.by) (λ o p. refl) (λ o. refl) s t distinct scrolled.pixels;
+    },
+  )
   effect_showing (Arranges a) answer s t alike distinct (done, arranged) = (done, arranged_showing a s t distinct arranged)
-  effect_showing (Places p) answer s t alike distinct (done, placed) = (done, record {
-    window = placed.window; definition = placed.definition; found = placed.found; told = placed.told;
-    arranged = arranged_showing _ s t distinct placed.arranged;
-  })
+  effect_showing (Places p) answer s t alike distinct (done, placed) = (
+    done,
+    record {
+      window = placed.window;
+      definition = placed.definition;
+      found = placed.found;
+      told = placed.told;
+      arranged = arranged_showing _ s t distinct placed.arranged;
+    },
+  )
   effect_showing (Tells r) answer s t alike distinct (a, same) = (a, unchanged_showing s t same)
   effect_showing (Describes region) answer s t alike distinct (told, same) =
       (told_alike (region s) (region (state_showing shows s)) answer (alike s) told, unchanged_showing s t same)

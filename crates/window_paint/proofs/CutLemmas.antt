@@ -8,7 +8,7 @@ use Rattle.tb_geom.specs.Rects.{rect_holds}
 use Rattle.tb_geom.specs.Pixels.{Pixels, holds}
 use Rattle.bit_map.specs.Bits.{Bits}
 use Rattle.bit_blit.specs.Draws.{Draws}
-use Rattle.bit_blit.proofs.DrawsLemmas.{Draws-same, Draws-where}
+use Rattle.bit_blit.proofs.DrawsLemmas.{Draws-same, Draws-where, Draws-value}
 use Rattle.scan_region.specs.Cuts.{cut_inside, cut_meeting, cut_holds}
 use Rattle.scan_region.specs.declared.cut.Cut.{Cut}
 
@@ -69,6 +69,14 @@ painted_within cut shown clip f g old new end is_shown is_end within same drawn 
   where
     held : (p : Point) → (rect_holds clip p && cut_holds cut p) ≡ shown p
     held p = ap (λ b. rect_holds clip p && b) (is_shown p) ∙ clipped (shown p) (rect_holds clip p) (within p)
+
+-- what was drawn by a value that is another's
+pub drawn_as : (shown : PixelSet) (f g : Point → Bool → Bool) (old new end : Bits)
+    → end ≡ new
+    → ((p : Point) (value : Bool) → f p value ≡ g p value)
+    → Draws shown f old new
+    → Draws shown g old end
+drawn_as shown f g old new end is_end same drawn = rw is_end (Draws-value shown f g old new same drawn)
 
 -- what was drawn on a region within a rectangle
 pub inside_drawn : (cut : Cut) (r : Bor Pixels) (clip : Rect) (f : Point → Bool → Bool) (old new end : Bits)
