@@ -7,7 +7,7 @@ use Rattle.desk_call.specs.declared.activity.Activity.TheVariants.{Idle, Updatin
 use Rattle.desk_call.specs.declared.activity.Standing.{Standing}
 use Rattle.desk_call.specs.declared.activity.Standing.TheVariants.{Asks, Updates, Tracks, Pulls, TracksControl, Changes}
 use Rattle.desk_call.specs.declared.call.Call.{Call}
-use Rattle.desk_call.specs.declared.call.Call.TheVariants.{Window, Update, Frame, Menu, Event}
+use Rattle.desk_call.specs.declared.call.Call.TheVariants.{Window, Update, Frame, Control, Menu, Event}
 use Rattle.desk_call.specs.declared.control.ControlCall.{ControlCall}
 use Rattle.desk_call.specs.declared.control.ControlCall.TheVariants as controls
 use Rattle.desk_call.specs.declared.frame.FrameCall.{FrameCall}
@@ -60,6 +60,7 @@ abbrev pub standing_of : Call → Standing
 standing_of (Window call) = window_standing call
 standing_of (Update call) = update_standing call
 standing_of (Frame call) = frame_standing call
+standing_of (Control call) = control_standing call
 standing_of (Menu call) = menu_standing call
 standing_of (Event call) = Asks
 

@@ -89,6 +89,7 @@ impl Call<'_> {
             Call::Window(call) => call.standing(),
             Call::Update(call) => call.standing(),
             Call::Frame(call) => call.standing(),
+            Call::Control(call) => call.standing(),
             Call::Menu(call) => call.standing(),
             Call::Event(_) => Standing::Asks,
         }
