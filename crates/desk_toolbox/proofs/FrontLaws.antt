@@ -11,7 +11,7 @@ use Rattle.def_iface.specs.Scratch.{scratch}
 use Rattle.def_iface.proofs.Painting.{scratch_is_owners}
 use Rattle.menu_overlay.specs.Overlays.{Pulled, pulled_bit, pulled_rect, shown_bit}
 use Rattle.desk_call.specs.declared.activity.Activity.{Activity}
-use Rattle.desk_call.specs.declared.activity.Activity.TheVariants.{Idle, Updating, Tracking, Pulling}
+use Rattle.desk_call.specs.declared.activity.Activity.TheVariants.{Idle, Updating, Tracking, Pulling, TrackingControl}
 use Rattle.desk_call.specs.declared.activity.Standing.TheVariants.{Asks}
 use Rattle.desk_call.specs.declared.call.Call.{Call}
 use Rattle.desk_call.specs.declared.call.Call.TheVariants.{Window}
@@ -97,6 +97,7 @@ asks_may_come : (a : Activity) → gate a Asks ≡ None
 asks_may_come Idle = refl
 asks_may_come (Updating s) = refl
 asks_may_come (Tracking s) = refl
+asks_may_come (TrackingControl c) = refl
 asks_may_come (Pulling m) = refl
 
 covered_is_told : (covered : Bool) (p : Point) (own : Result WindowReply Refusal) (before after : ToolboxState) → covered ≡ true → IsWindowTold covered (Find p) own before after → (own ≡ Ok found_menu) × IsToolboxUnchanged before after

@@ -9,7 +9,7 @@ use Rattle.def_iface.specs.MenuMeaning.{MenuLoan}
 use Rattle.def_iface.specs.Stocked.{SlotView}
 use Rattle.menu_overlay.specs.Overlays.{shown_bit}
 use Rattle.desk_call.specs.declared.activity.Activity.{Activity}
-use Rattle.desk_call.specs.declared.activity.Activity.TheVariants.{Idle, Updating, Tracking, Pulling}
+use Rattle.desk_call.specs.declared.activity.Activity.TheVariants.{Idle, Updating, Tracking, Pulling, TrackingControl}
 use Rattle.desk_call.specs.declared.activity.PulledMenu.{PulledMenu}
 use Rattle.menu_mgr.specs.MenuDesks.{MenuRecord, MenuSlot}
 use Rattle.menu_mgr.specs.Pulling.{pulled_of}
@@ -24,6 +24,7 @@ none_pulled (Pulling m) menus none = absurd none
 none_pulled Idle menus none = refl
 none_pulled (Updating s) menus none = refl
 none_pulled (Tracking s) menus none = refl
+none_pulled (TrackingControl c) menus none = refl
 
 module _ {V : Type 0} {H : V → Type 0} (loan : Taken V H → Loan) {W : Type 0} {K : W → Type 0} (menu_loan : TakenMenu W K → MenuLoan) (t : Toolbox V W H K) (slots : List SlotView) (kept : List MenuSlot) (p : Point) where
   pub front_shows : (m : PulledMenu) → t.activity ≡ Pulling m → IsFrontShown menu_loan t.activity t.windows t.menus → on_map t.menus.overlay.front p ≡ true → bit t.menus.overlay.front p ≡ screen_of (toolbox_state loan menu_loan t slots kept) p

@@ -7,7 +7,7 @@ use Rattle.tb_geom.specs.declared.refusal.Refusal.{Refusal}
 use Rattle.def_iface.specs.MenuMeaning.{MenuDefinition, MenuLoan}
 use Rattle.def_iface.specs.Slots.{IsTaken, holding, is_left}
 use Rattle.desk_call.specs.declared.activity.Activity.{Activity}
-use Rattle.desk_call.specs.declared.activity.Activity.TheVariants.{Idle, Updating, Tracking, Pulling}
+use Rattle.desk_call.specs.declared.activity.Activity.TheVariants.{Idle, Updating, Tracking, Pulling, TrackingControl}
 use Rattle.desk_call.specs.declared.activity.PulledMenu.{PulledMenu}
 use Rattle.desk_call.specs.declared.call.Call.{Call}
 use Rattle.desk_call.specs.declared.call.Reply.{Reply}
@@ -62,12 +62,14 @@ moved_keeps (Pulling m) p answer before after moved = moved_on_keeps m (other_ti
 moved_keeps Idle p answer before after wrong = absurd wrong
 moved_keeps (Updating s) p answer before after wrong = absurd wrong
 moved_keeps (Tracking s) p answer before after wrong = absurd wrong
+moved_keeps (TrackingControl c) p answer before after wrong = absurd wrong
 
 released_keeps : (a : Activity) (p : Point) (choice : Option Choice) (before after : MenuDesk) → IsReleased a p choice before after → KeepsKinds before after
 released_keeps (Pulling m) p choice before after (is, away) = shown_keeps _ _ before after away.shown
 released_keeps Idle p choice before after wrong = absurd wrong
 released_keeps (Updating s) p choice before after wrong = absurd wrong
 released_keeps (Tracking s) p choice before after wrong = absurd wrong
+released_keeps (TrackingControl c) p choice before after wrong = absurd wrong
 
 disposed_keeps : (at : Option ℕ) (before after : MenuDesk) → IsDisposedAt at before after → KeepsKinds before after
 disposed_keeps None before after wrong = absurd wrong

@@ -13,7 +13,7 @@ use Rattle.def_iface.specs.MenuMeaning.{MenuLoan}
 use Rattle.def_iface.specs.Stocked.{SlotView}
 use Rattle.menu_overlay.specs.Overlays.{Pulled, pulled_bit, pulled_rect, shown_bit}
 use Rattle.desk_call.specs.declared.activity.Activity.{Activity}
-use Rattle.desk_call.specs.declared.activity.Activity.TheVariants.{Idle, Updating, Tracking, Pulling}
+use Rattle.desk_call.specs.declared.activity.Activity.TheVariants.{Idle, Updating, Tracking, Pulling, TrackingControl}
 use Rattle.desk_call.specs.declared.activity.PulledMenu.{PulledMenu}
 use Rattle.desk_call.specs.declared.activity.Standing.TheVariants.{Asks}
 use Rattle.desk_call.specs.declared.frame.FrameCall.{FrameCall}
@@ -57,6 +57,7 @@ pulls_or_not : (a : Activity) → PullsNone a ⊎ ((m : PulledMenu) × (a ≡ Pu
 pulls_or_not Idle = inl tt
 pulls_or_not (Updating s) = inl tt
 pulls_or_not (Tracking s) = inl tt
+pulls_or_not (TrackingControl c) = inl tt
 pulls_or_not (Pulling m) = inr (m, refl)
 
 -- a call on windows comes while a menu is pulled down only if it asks
@@ -73,6 +74,7 @@ pub update_comes_then : (call : UpdateCall) (a : Activity) → gate a (update_st
 update_comes_then call Idle may = tt
 update_comes_then call (Updating s) may = tt
 update_comes_then call (Tracking s) may = tt
+update_comes_then call (TrackingControl c) may = tt
 update_comes_then (update.Invalidate m) (Pulling p) may = absurd (cc)
 update_comes_then (update.Validate m) (Pulling p) may = absurd (cc)
 update_comes_then (update.Begin s) (Pulling p) may = absurd (cc)
@@ -84,6 +86,7 @@ pub frame_comes_then : (call : FrameCall) (a : Activity) → gate a (frame_stand
 frame_comes_then call Idle may = tt
 frame_comes_then call (Updating s) may = tt
 frame_comes_then call (Tracking s) may = tt
+frame_comes_then call (TrackingControl c) may = tt
 frame_comes_then (SetTitle n) (Pulling p) may = absurd (cc)
 frame_comes_then (Hilite h) (Pulling p) may = absurd (cc)
 frame_comes_then (TrackGoAway g) (Pulling p) may = absurd (cc)
@@ -177,12 +180,14 @@ module _ {V : Type 0} {H : V → Type 0} (loan : Taken V H → Loan) {W : Type 0
     placed_none Idle none = tt
     placed_none (Updating s) none = tt
     placed_none (Tracking s) none = tt
+    placed_none (TrackingControl c) none = tt
 
     front_none : (a : Activity) → PullsNone a → IsFrontShown menu_loan a new m
     front_none (Pulling p) none = absurd none
     front_none Idle none = tt
     front_none (Updating s) none = tt
     front_none (Tracking s) none = tt
+    front_none (TrackingControl c) none = tt
 
     whole_unpulled : (a b : Activity) → SameSides was.desk now.desk → PullsNone b → IsWholeMenus menu_loan t a m kept → IsWholeMenus menu_loan new b m kept
     whole_unpulled a b sides none whole = record {
@@ -225,6 +230,7 @@ module _ {V : Type 0} {H : V → Type 0} (loan : Taken V H → Loan) {W : Type 0
       front_stays Idle shown = tt
       front_stays (Updating s) shown = tt
       front_stays (Tracking s) shown = tt
+      front_stays (TrackingControl c) shown = tt
 
       whole_unchanged : (a : Activity) → IsWholeMenus menu_loan t a m kept → IsWholeMenus menu_loan new a m kept
       whole_unchanged a whole = record {

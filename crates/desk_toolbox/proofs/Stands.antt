@@ -3,9 +3,9 @@ use Rattle.std.proofs.Common.{◌≡◌, ℕ, List, Option, None, Some, Result, 
 use Rattle.tb_geom.specs.declared.refusal.Refusal.{Refusal}
 use Rattle.tb_geom.specs.Points.{PixelSet}
 use Rattle.desk_call.specs.declared.activity.Activity.{Activity}
-use Rattle.desk_call.specs.declared.activity.Activity.TheVariants.{Idle, Updating, Tracking, Pulling}
+use Rattle.desk_call.specs.declared.activity.Activity.TheVariants.{Idle, Updating, Tracking, Pulling, TrackingControl}
 use Rattle.desk_call.specs.declared.activity.Standing.{Standing}
-use Rattle.desk_call.specs.declared.activity.Standing.TheVariants.{Asks, Updates, Tracks, Pulls, Changes}
+use Rattle.desk_call.specs.declared.activity.Standing.TheVariants.{Asks, Updates, Tracks, Pulls, TracksControl, Changes}
 use Rattle.desk_call.specs.declared.event.EventCall.{EventCall}
 use Rattle.desk_call.specs.declared.event.EventReply.{EventReply}
 use Rattle.desk_call.specs.declared.window.WindowCall.{WindowCall}
@@ -132,6 +132,7 @@ pub idle_now : (activity : Activity) → gate activity Changes ≡ None → acti
 idle_now Idle e = refl
 idle_now (Updating s) e = absurd (cc)
 idle_now (Tracking s) e = absurd (cc)
+idle_now (TrackingControl c) e = absurd (cc)
 idle_now (Pulling m) e = absurd (cc)
 
 -- no window is disposed of while something of it is open
@@ -171,6 +172,7 @@ caught_up_informs Asks first before after same kept was = subst (λ (d : FullDes
 caught_up_informs (Updates s) first before after (ts, told, informed) kept was = informed
 caught_up_informs Tracks first before after (ts, told, informed) kept was = informed
 caught_up_informs Pulls first before after (ts, told, informed) kept was = informed
+caught_up_informs TracksControl first before after (ts, told, informed) kept was = informed
 caught_up_informs Changes first before after (ts, told, informed) kept was = informed
 
 done_stands : (call : WindowCall) (answer : WindowReply) (before after : ToolboxState) → gate before.desk.activity (window_standing call) ≡ None → Stands before → IsRightState after.desk.windows → IsWindowMade call (Ok answer) before after → Stands after

@@ -5,7 +5,7 @@ use Rattle.def_iface.specs.News.{AllNews}
 use Rattle.def_iface.specs.MenuMeaning.{MenuGoesBy}
 use Rattle.event_queue.specs.Events.{is_posted}
 use Rattle.desk_call.specs.declared.activity.Activity.{Activity}
-use Rattle.desk_call.specs.declared.activity.Activity.TheVariants.{Idle, Updating, Tracking, Pulling}
+use Rattle.desk_call.specs.declared.activity.Activity.TheVariants.{Idle, Updating, Tracking, Pulling, TrackingControl}
 use Rattle.vis_update.specs.Records.{WindowRecord}
 use Rattle.window_mgr.specs.FullDesk.{IsRightState}
 use Rattle.window_mgr.specs.Refused.{is_missing}
@@ -20,11 +20,12 @@ abbrev pub IsThere : Option ℕ → List WindowRecord → Type 0
 IsThere None windows = Unit {0}
 IsThere (Some s) windows = is_missing s windows ≡ false
 
--- the window whose update is open, or whose go-away box is tracked
+-- the window whose update is open, or whose go-away box or control is tracked
 abbrev pub open_window : Activity → Option ℕ
 open_window Idle = None
 open_window (Updating s) = Some s
 open_window (Tracking s) = Some s
+open_window (TrackingControl c) = Some c.control.window
 open_window (Pulling m) = None
 
 -- where the window's definition heard last that the go-away box is tracked, it is
