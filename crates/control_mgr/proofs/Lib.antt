@@ -22,3 +22,10 @@ pub mod NewSteps
 pub mod Disposed
 pub mod Presses
 pub mod Performed
+pub mod SerialsFound
+pub mod ControlBits
+pub mod ControlsRight
+pub mod ControlFacts
+pub mod ControlsFollowed
+pub mod ControlsWhole
+pub mod ControlsKept
