@@ -3,6 +3,9 @@ pub mod Sayings
 pub mod Ordering
 pub mod UpdatedDesks
 pub mod KeptDesks
+pub mod Bonds
+pub mod ControlsBeside
+pub mod ControlsLeft
 pub mod Sides
 pub mod EachManager
 pub mod Runs
@@ -20,6 +23,7 @@ pub mod LitMenus
 pub mod PulledMenus
 pub mod PulledSteps
 pub mod MenuStands
+pub mod TrackedControls
 pub mod Consistent
 pub mod Histories
 pub mod Shown

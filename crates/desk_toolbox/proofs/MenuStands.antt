@@ -21,6 +21,9 @@ use Rattle.menu_mgr.specs.Pulling.{TitleOf, title_of_point}
 use Rattle.menu_mgr.proofs.MenuKeeps.{menu_keeps, menu_keeps_bar}
 use Rattle.desk_toolbox.specs.declared.events.Events.{Events}
 use Rattle.desk_toolbox.specs.Reached.{open_window}
+use Rattle.control_mgr.specs.ControlDesks.{ControlRecord}
+use Rattle.control_mgr.specs.WholeControls.{IsTrackable}
+use Rattle.desk_toolbox.proofs.ControlsBeside.{IsRightToolbox}
 use Rattle.desk_toolbox.specs.ToolboxStates.{ToolboxState, with_menus}
 use Rattle.desk_toolbox.proofs.MenuNumbers.{menu_keeps_apart}
 use Rattle.desk_toolbox.proofs.PulledSteps.{menu_keeps_pull}
@@ -91,13 +94,19 @@ none_opened a ws none = ⊎_elim
     (λ pulling. subst (λ b. Present (open_window b) ws) (sym pulling.1) tt)
     none
 
+none_tracked : (a : Activity) (cs : List ControlRecord) → OpensNoWindow a → IsTrackable a cs
+none_tracked a cs none = ⊎_elim
+    (λ idle. subst (λ b. IsTrackable b cs) (sym idle) tt)
+    (λ pulling. subst (λ b. IsTrackable b cs) (sym pulling.1) tt)
+    none
+
 as_idle : (a : Activity) (ws : List WindowRecord) → OpensNoWindow a → total (misled a) ws ≡ total (misled Idle) ws
 as_idle a ws none = ⊎_elim
     (λ idle. ap (λ b. total (misled b) ws) idle)
     (λ pulling. ap (λ b. total (misled b) ws) pulling.1)
     none
 
-pub menu_stands : (call : MenuCall) (answer : Result MenuReply Refusal) (before after : ToolboxState) → gate before.desk.activity (menu_standing call) ≡ None → Stands before → IsRightState after.desk.windows → IsMenuStep call answer (with_menus before) (with_menus after) → after.events ≡ before.events → Stands after
+pub menu_stands : (call : MenuCall) (answer : Result MenuReply Refusal) (before after : ToolboxState) → gate before.desk.activity (menu_standing call) ≡ None → Stands before → IsRightToolbox after → IsMenuStep call answer (with_menus before) (with_menus after) → after.events ≡ before.events → Stands after
 menu_stands call answer before after may was right step events =
     let ws = before.desk.windows.desk.windows in
     let now = after.desk.windows.desk.windows in
@@ -105,7 +114,9 @@ menu_stands call answer before after may was right step events =
     let active : after.desk.windows.desk.active ≡ before.desk.windows.desk.active = menu_keeps (λ d. d.active) (λ d titles. refl) call answer (with_menus before) (with_menus after) step in
     let opens = step_opens call answer (with_menus before) (with_menus after) may step in
     record {
-      right = right;
+      right = right.right;
+      controls = right.controls;
+      trackable = none_tracked after.desk.activity after.controls.controls opens;
       active = subst (λ vs. Present after.desk.windows.desk.active vs) (sym windows) (subst (λ o. Present o ws) (sym active) was.active);
       told = subst (λ vs. Present after.events.told vs) (sym windows) (subst (λ (e : Events). Present e.told ws) (sym events) was.told);
       opened = none_opened after.desk.activity now opens;

@@ -5,6 +5,7 @@ use Rattle.tb_geom.specs.declared.refusal.Refusal.{Refusal}
 use Rattle.tb_geom.specs.Points.{PixelSet}
 use Rattle.tb_geom.specs.Rects.{rect_holds}
 use Rattle.bit_map.specs.Bits.{bit, is_below, on_map}
+use Rattle.def_iface.specs.declared.part.Part.{Part}
 use Rattle.def_iface.specs.declared.taken.Taken.{Taken}
 use Rattle.def_iface.specs.declared.taken_menu.TakenMenu.{TakenMenu}
 use Rattle.def_iface.specs.Desk.{on_screen}
@@ -31,10 +32,10 @@ use Rattle.window_mgr.specs.Begin.{IsEmptyDesk}
 use Rattle.window_mgr.specs.DeskStates.{DeskState, Opened, desk_with}
 use Rattle.window_mgr.specs.Effects.{IsEffect, IsUnchanged, effect_of}
 use Rattle.window_mgr.specs.FullDesk.{FullDesk, FullState, layered_desk}
-use Rattle.window_mgr.specs.Records.{state_of}
+use Rattle.window_mgr.specs.Records.{state_of, state_showing}
 use Rattle.window_mgr.specs.Step.{IsWindowStep}
 use Rattle.window_mgr.proofs.Arranged.{between-is_below}
-use Rattle.window_mgr.proofs.ScreenSides.{SameSides, equal_sides}
+use Rattle.window_mgr.proofs.ScreenSides.{SameSides}
 use Rattle.window_update.specs.UpdateSteps.{IsUpdateEffect, IsUpdateStep}
 use Rattle.window_frame.specs.Followers.{IsCaughtUpBy}
 use Rattle.window_frame.specs.FrameSteps.{IsBegunAt, IsFrameEffect, IsFrameStep}
@@ -262,10 +263,13 @@ module _ {V : Type 0} {H : V → Type 0} (loan : Taken V H → Loan) {W : Type 0
         (λ pulled. whole_unchanged (same_state was now (subst (λ s. IsCaughtUpBy s was now) (window_asks call pulled.0 (subst (λ b. gate b (window_standing call) ≡ None) pulled.1 may)) told)) a whole)
         (pulls_or_not a)
 
-    pub update_whole : (o n : Opened) (call : UpdateCall) (answer : Result WindowReply Refusal) → gate o.activity (update_standing call) ≡ None → IsUpdateStep call answer (desk_with o was) (desk_with n now) → IsWholeMenus menu_loan t o.activity m kept → IsWholeMenus menu_loan new n.activity m kept
-    update_whole o n call answer may step whole =
-        whole_unpulled o.activity n.activity (equal_sides was.desk now.desk (update_keeps_desk call answer (desk_with o was) (desk_with n now) step))
-        (update_pulls_none call answer (desk_with o was) (desk_with n now) may step) whole
+    pub update_whole : (shows : List ℕ → Part → PixelSet) (o n : Opened) (call : UpdateCall) (answer : Result WindowReply Refusal) → gate o.activity (update_standing call) ≡ None → IsUpdateStep call answer (desk_with o (state_showing shows was)) (desk_with n (state_showing shows now)) → IsWholeMenus menu_loan t o.activity m kept → IsWholeMenus menu_loan new n.activity m kept
+    update_whole shows o n call answer may step whole =
+        let first = desk_with o (state_showing shows was) in
+        let last = desk_with n (state_showing shows now) in
+        let desk = update_keeps_desk call answer first last step in
+        whole_unpulled o.activity n.activity (record { width = ap (λ (d : FullDesk). d.width) desk; height = ap (λ (d : FullDesk). d.height) desk })
+        (update_pulls_none call answer first last may step) whole
 
     pub frame_whole : (o n : Opened) (call : FrameCall) (answer : Result FrameReply Refusal) → gate o.activity (frame_standing call) ≡ None → IsFrameStep call answer (desk_with o was) (desk_with n now) → IsWholeMenus menu_loan t o.activity m kept → IsWholeMenus menu_loan new n.activity m kept
     frame_whole o n call answer may step whole =

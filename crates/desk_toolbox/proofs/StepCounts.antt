@@ -31,11 +31,12 @@ use Rattle.window_frame.specs.Followers.{Flag, Telling, AreNotified, IsCaughtUpB
 use Rattle.window_frame.specs.Followers.Flag.{Highlighting, Zooming}
 use Rattle.window_frame.proofs.FrameKeeps.{caught_up_keeps}
 use Rattle.window_frame.specs.FrameSteps.{IsFrameStep, IsFrameEffect, IsBegunAt, IsTrackingNotified, with_flag, with_title, with_tracked}
+use Rattle.control_mgr.specs.ControlDesks.{ControlRecord}
 use Rattle.menu_mgr.specs.MenuDesks.{MenuDesk}
 use Rattle.menu_mgr.specs.MenuSteps.{IsMenuStep}
 use Rattle.menu_mgr.proofs.MenuKeeps.{menu_keeps}
 use Rattle.desk_toolbox.specs.Activations.{to_dispose}
-use Rattle.desk_toolbox.specs.Run.{IsWindowAnswer}
+use Rattle.desk_toolbox.specs.Run.{IsWindowAnswer, IsWindowAnswered, shown_with}
 use Rattle.desk_toolbox.proofs.Totals.{Weight, weight_of, total, counting, copies, Present, total_changed, present_when, found_counts, distinct_counts, serial_of_counted}
 use Rattle.desk_toolbox.proofs.Recounts.{IsKept, Counts, done_counts}
 
@@ -170,11 +171,23 @@ answer_recounts (Some set) call answer before after none step =
     subst (λ o. Recount o before.windows.desk after.windows.desk) (sym (none set refl)) (inl (same_desk before.windows.desk after.windows.desk step.1.windows.desk))
 
 -- a call on windows that was done, and after which definitions were told how their windows stand
-pub window_recounts : (call : WindowCall) (answer : WindowReply) (before middle after : DeskState) → IsWindowAnswer (narrowed call before.activity before.begun) call (Ok answer) before middle → IsCaughtUpBy (window_standing call) middle.windows after.windows → Recount (to_dispose call) before.windows.desk after.windows.desk
-window_recounts call answer before middle after answered told =
-    recount_and_same (to_dispose call) before.windows.desk middle.windows.desk after.windows.desk
+pub told_recounts : (call : WindowCall) (answer : WindowReply) (before middle : DeskState) (told : FullState) → IsWindowAnswered call (Ok answer) before middle → IsCaughtUpBy (window_standing call) middle.windows told → Recount (to_dispose call) before.windows.desk told.desk
+told_recounts call answer before middle told answered caught =
+    recount_and_same (to_dispose call) before.windows.desk middle.windows.desk told.desk
     (answer_recounts (narrowed call before.activity before.begun) call answer before middle (narrowed_keeps call before.activity before.begun) answered)
-    (caught_up_counts (window_standing call) middle.windows after.windows told)
+    (caught_up_counts (window_standing call) middle.windows told caught)
+
+-- whatever is shown of controls then
+pub shown_counts : (cs : List ControlRecord) (told after : FullState) → after ≡ shown_with cs told → HasSame told.desk after.desk
+shown_counts cs told after shown = record {
+  next = ap (λ (s : FullState). s.desk.next) shown;
+  count = λ s. ap (λ (x : FullState). copies s x.desk.windows) shown;
+}
+
+pub window_recounts : (call : WindowCall) (answer : WindowReply) (before middle : DeskState) (told after : FullState) (cs : List ControlRecord) → IsWindowAnswered call (Ok answer) before middle → IsCaughtUpBy (window_standing call) middle.windows told
+    → after ≡ shown_with cs told → Recount (to_dispose call) before.windows.desk after.desk
+window_recounts call answer before middle told after cs answered caught shown =
+    recount_and_same (to_dispose call) before.windows.desk told.desk after.desk (told_recounts call answer before middle told answered caught) (shown_counts cs told after shown)
 
 -- ---- which windows stay, and which are gone
 

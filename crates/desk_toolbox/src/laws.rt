@@ -40,7 +40,7 @@ ghost use Rattle.desk_call.specs.declared.call.Reply.{Reply};
 ghost use Rattle.window_update.specs.Served.{AreAllServed, IsAllRight};
 ghost use Rattle.window_frame.specs.Followers.{AreInformed};
 ghost use Rattle.desk_toolbox.specs.Activations.{activate_events_told, IsNeverDisposed};
-ghost use Rattle.desk_toolbox.specs.Reached.{IsConsistent, IsJustBegun, news_by_record};
+ghost use Rattle.desk_toolbox.specs.Reached.{AreControlsRight, IsConsistent, IsJustBegun, news_by_record};
 ghost use Rattle.def_iface.specs.Desk.{on_screen};
 ghost use Rattle.desk_toolbox.specs.Fronts.{IsScreenAllRight, IsScreenRight, is_on_menu, screen_bit, screen_of, screen_owner, screen_scratch};
 ghost use Rattle.desk_toolbox.specs.Fronts.ScreenOwner.{PulledMenu, Base};
@@ -109,11 +109,13 @@ pub fn steps_keep_the_kinds()
         → map (λ slot. slot.kind) after.menus.stock ≡ map (λ slot. slot.kind) before.menus.stock }
 {}
 
-/// A step keeps a right state right.
-#[tactic(auto, using(crate::proofs::Runs::step_stays_right))]
+/// A step keeps a right state right, whose controls are whole and shown, and these so.
+#[tactic(auto, using(crate::proofs::Runs::step_is_right, crate::proofs::Runs::step_controls_are_right))]
 pub fn steps_stay_right()
-    ensures { (call : Call) (answer : Result Reply Refusal) (before after : ToolboxState)
-        → IsRightState before.desk.windows → IsStep call answer before after → IsRightState after.desk.windows }
+    ensures right { (call : Call) (answer : Result Reply Refusal) (before after : ToolboxState)
+        → IsRightState before.desk.windows → AreControlsRight before → IsStep call answer before after → IsRightState after.desk.windows }
+    ensures controls { (call : Call) (answer : Result Reply Refusal) (before after : ToolboxState)
+        → IsRightState before.desk.windows → AreControlsRight before → IsStep call answer before after → AreControlsRight after }
 {}
 
 /// The windows that a run makes have serials that follow each other: none is used again.
@@ -125,10 +127,10 @@ pub fn windows_are_counted()
 
 /// After any run from a right state each pixel of the screen in no update set has the value that
 /// painting the desk from nothing gives.
-#[tactic(auto, using(crate::proofs::Runs::run_stays_right))]
+#[tactic(auto, using(crate::proofs::Runs::run_is_right))]
 pub fn runs_stay_right()
     ensures { (first last : ToolboxState) (calls : List Call) (answers : List (Result Reply Refusal))
-        → IsRightState first.desk.windows → IsRunOfCalls first calls answers last → IsRightState last.desk.windows }
+        → IsRightState first.desk.windows → AreControlsRight first → IsRunOfCalls first calls answers last → IsRightState last.desk.windows }
 {}
 
 /// After any run from a right state that leaves no pixel in any window's update region, the whole screen shows what
@@ -136,7 +138,7 @@ pub fn runs_stay_right()
 #[tactic(auto, using(crate::proofs::Runs::served_run_is_all_right))]
 pub fn runs_that_leave_every_update_served_are_all_right()
     ensures { (first last : ToolboxState) (calls : List Call) (answers : List (Result Reply Refusal))
-        → IsRightState first.desk.windows → IsRunOfCalls first calls answers last
+        → IsRightState first.desk.windows → AreControlsRight first → IsRunOfCalls first calls answers last
         → AreAllServed last.desk.windows → IsAllRight last.desk.windows }
 {}
 
@@ -151,7 +153,7 @@ pub fn the_screen_of_a_right_state_is_right()
 #[tactic(auto, using(crate::proofs::FrontLaws::served_run_shows_all_right))]
 pub fn runs_that_leave_every_update_served_show_a_right_screen()
     ensures { (first last : ToolboxState) (calls : List Call) (answers : List (Result Reply Refusal))
-        → IsRightState first.desk.windows → IsRunOfCalls first calls answers last
+        → IsRightState first.desk.windows → AreControlsRight first → IsRunOfCalls first calls answers last
         → AreAllServed last.desk.windows → IsScreenAllRight last }
 {}
 

@@ -18,11 +18,13 @@ pub mod laws;
 mod toolbox;
 
 pub use desk_call::{
-    Activity, AppendItems, AreaRef, Call, CheckItem, Choice, Drawing, EventCall, EventReply,
-    FlushEvents, Found, FrameCall, FrameReply, GoAwayPoint, HiliteWindow, InsertMenu, ItemOfMenu,
-    ItemText, LayerDraw, Layers, MenuCall, MenuReply, MoveWindow, NewMenu, NewPicture, NewTitle,
-    NewWindow, PictureRef, PostEvent, PulledMenu, Reply, ScrollPicture, SendBehind, ShowHide,
-    SizeWindow, UpdateCall, WindowArea, WindowCall, WindowInfo, WindowPart, WindowReply, Zoom,
+    Activity, AppendItems, AreaRef, Call, CheckItem, Choice, ControlCall, ControlInfo,
+    ControlNumber, ControlOf, ControlReply, ControlTitle, Drawing, EventCall, EventReply,
+    FlushEvents, Found, FoundControl, FrameCall, FrameReply, GoAwayPoint, HiliteWindow, InsertMenu, ItemOfMenu,
+    ItemText, LayerDraw, Layers, MenuCall, MenuReply, MoveControl, MoveWindow,
+    NewControl, NewMenu, NewPicture, NewTitle,
+    NewWindow, PictureRef, PointAtControl, PointInWindow, PostEvent, PulledMenu, Reply, ScrollPicture, SendBehind, ShowHide,
+    SizeControl, SizeWindow, TrackedControl, UpdateCall, WindowArea, WindowCall, WindowInfo, WindowPart, WindowReply, Zoom,
     ZoomWindow,
 };
 pub use toolbox::Toolbox;
