@@ -107,7 +107,7 @@ module _ (window : ℕ) (before after : ControlsState) (left : IsWindowLeft wind
       ∙ test_all (λ c. is_before before.next c.serial) after.controls
       (all_within (λ c. is_before before.next c.serial ≡ true) before.controls after.controls left.within (all_tests (λ c. is_before before.next c.serial) before.controls given))
 
-  whole_left : (ws : List WindowRecord) → AreSettled before.controls → AreApart before.controls → are_before before.next before.controls ≡ true → AreJoined before.controls ws
+  pub whole_left : (ws : List WindowRecord) → AreSettled before.controls → AreApart before.controls → are_before before.next before.controls ≡ true → AreJoined before.controls ws
       → All (λ c. is_in window c ≡ false → is_missing c.window ws ≡ false) before.controls → is_missing window ws ≡ true → AreWholeControls ws after
   whole_left ws settled apart given joined there missing = record {
     settled = all_within IsSettledControl before.controls after.controls left.within settled;

@@ -21,7 +21,7 @@ use Rattle.def_iface.specs.Stocked.{SlotView, IsFull}
 use Rattle.window_mgr.specs.Begin.{IsEmptyDesk}
 use Rattle.window_mgr.specs.FullDesk.{FullDesk, FullState, IsRightState, layered_desk, layered_state, look_of}
 use Rattle.menu_mgr.specs.declared.menus.Menus.{Menus}
-use Rattle.menu_mgr.specs.MenuDesks.{IsMenuFull, MenuSlot}
+use Rattle.menu_mgr.specs.MenuDesks.{MenuSlot}
 use Rattle.menu_mgr.specs.WholeMenus.{AreNoMenus, menus_of}
 use Rattle.desk_toolbox.specs.declared.events.Events.{Events}
 use Rattle.desk_toolbox.specs.declared.toolbox.Toolbox.{Toolbox}
@@ -43,7 +43,7 @@ right_bare shows s none right = record {
     same = ap (map (layered_window (look_of s.desk))) none ∙ sym (ap (map (layered_window (look_of now))) none)
 
 module _ {V : Type 0} {H : V → Type 0} (loan : Taken V H → Loan) {W : Type 0} {K : W → Type 0} (menu_loan : TakenMenu W K → MenuLoan) {U : Type 0} {J : U → Type 0} (control_loan : TakenControl U J → ControlLoan) (width height bar : ℤ) (font : List ℕ) where
-  has_just_begun : (t : Toolbox V W U H K J) (slots : List SlotView) (kept : List MenuSlot) (held : List ControlSlot) → All IsControlFull held → IsEmptyDesk loan width height bar font t.windows slots → t.activity ≡ Idle → t.events ≡ first_events → AreNoMenus width height t.menus
+  has_just_begun : (t : Toolbox V U W H J K) (slots : List SlotView) (kept : List MenuSlot) (held : List ControlSlot) → All IsControlFull held → IsEmptyDesk loan width height bar font t.windows slots → t.activity ≡ Idle → t.events ≡ first_events → AreNoMenus width height t.menus
       → t.controls.list.controls.items ≡ [] → t.controls.list.next ≡ Some 1 → IsJustBegun (toolbox_state loan menu_loan control_loan t slots kept held)
   has_just_begun t slots kept held full empty idle events none bare next =
       let windows = ap (λ (d : FullDesk). d.windows) empty.desk in
@@ -62,9 +62,9 @@ module _ {V : Type 0} {H : V → Type 0} (loan : Taken V H → Loan) {W : Type 0
         events = events;
       }
 
-  pub begins : {E : Type 0} (events : Events) (menus : Menus W K) (r : Result (Toolbox V W U H K J) E) → IfOk r (λ t. (slots : List SlotView) → All IsFull slots → IsEmptyDesk loan width height bar font t.windows slots)
+  pub begins : {E : Type 0} (events : Events) (menus : Menus W K) (r : Result (Toolbox V U W H J K) E) → IfOk r (λ t. (slots : List SlotView) → All IsFull slots → IsEmptyDesk loan width height bar font t.windows slots)
       → IfOk r (λ t. t.activity ≡ Idle) → IfOk r (λ t. t.events ≡ events) → IfOk r (λ t. t.menus ≡ menus) → IfOk r (λ t. (t.controls.list.controls.items ≡ []) × (t.controls.list.next ≡ Some 1)) → events ≡ first_events → AreNoMenus width height menus
-      → IfOk r (λ t. (slots : List SlotView) (kept : List MenuSlot) (held : List ControlSlot) → All IsFull slots → All IsMenuFull kept → All IsControlFull held → IsJustBegun (toolbox_state loan menu_loan control_loan t slots kept held))
-  begins events menus (Ok t) empty idle kept same bare are_first none = λ slots stored held full full_menus full_controls.
+      → IfOk r (λ t. (slots : List SlotView) (kept : List MenuSlot) (held : List ControlSlot) → All IsFull slots → All IsControlFull held → IsJustBegun (toolbox_state loan menu_loan control_loan t slots kept held))
+  begins events menus (Ok t) empty idle kept same bare are_first none = λ slots stored held full full_controls.
       has_just_begun t slots stored held full_controls (empty slots full) idle (kept ∙ are_first) (subst (λ m. AreNoMenus width height m) (sym same) none) bare.0 bare.1
   begins events menus (Err e) empty idle kept same bare are_first none = tt

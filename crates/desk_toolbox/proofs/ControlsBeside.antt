@@ -15,6 +15,11 @@ use Rattle.desk_call.specs.declared.frame.FrameReply.TheVariants.{Done, Tracked}
 use Rattle.desk_call.specs.declared.activity.Standing.{Standing}
 use Rattle.desk_call.specs.declared.activity.Standing.TheVariants.{Asks, Updates, Tracks, Pulls, TracksControl, Changes}
 use Rattle.desk_call.specs.declared.menu.MenuCall.{MenuCall}
+use Rattle.desk_call.specs.declared.update.UpdateCall.{UpdateCall}
+use Rattle.desk_call.specs.declared.window.WindowReply.{WindowReply}
+use Rattle.window_update.specs.UpdateSteps.{IsUpdateStep}
+use Rattle.menu_mgr.specs.MenuDesks.{MenuDesk}
+use Rattle.desk_toolbox.proofs.UpdatedDesks.{update_keeps_desk}
 use Rattle.desk_call.specs.declared.menu.MenuReply.{MenuReply}
 use Rattle.vis_update.specs.Records.{WindowRecord}
 use Rattle.window_mgr.specs.DeskStates.{DeskState}
@@ -138,24 +143,28 @@ module _ (B : Bond) where
 shown_on : (before after : ToolboxState) → after.desk.windows.desk.shows ≡ before.desk.windows.desk.shows → after.desk.windows.desk.font ≡ before.desk.windows.desk.font → after.controls ≡ before.controls → AreControlsRight before → after.desk.windows.desk.shows ≡ controls_show after.controls.controls after.desk.windows.desk.font
 shown_on before after shows font controls was = shows ∙ was.shown ∙ (λ i. controls_show (sym controls i).controls (sym font i))
 
+pub frames_leave : (call : FrameCall) (answer : Result FrameReply Refusal) (before after : DeskState) (s : ControlsState) → IsFrameStep call answer before after → AreWholeControls before.windows.desk.windows s → AreWholeControls after.windows.desk.windows s
+frames_leave call answer before after s step whole =
+    let counts = frame_counts call answer before after step in
+    whole_on s before.windows.desk.windows after.windows.desk.windows (λ x. let count = counts.count x in omega arith)
+    (frame_holds (joined_to s.controls) call answer before after step (joined_every s before.windows.desk.windows whole)) whole
+
+pub updates_leave : (call : UpdateCall) (answer : Result WindowReply Refusal) (before after : DeskState) (s : ControlsState) → IsUpdateStep call answer before after → AreWholeControls before.windows.desk.windows s → AreWholeControls after.windows.desk.windows s
+updates_leave call answer before after s step whole = subst (λ (d : FullDesk). AreWholeControls d.windows s) (sym (update_keeps_desk call answer before after step)) whole
+
+pub menus_leave : (call : MenuCall) (answer : Result MenuReply Refusal) (before after : MenuDesk) (s : ControlsState) → IsMenuStep call answer before after → AreWholeControls before.desk.windows.desk.windows s → AreWholeControls after.desk.windows.desk.windows s
+menus_leave call answer before after s step whole = subst (λ ws. AreWholeControls ws s) (sym (menu_keeps (λ d. d.windows) (λ d titles. refl) call answer before after step)) whole
+
 pub beside_frames : (call : FrameCall) (answer : Result FrameReply Refusal) (before after : ToolboxState) → IsFrameStep call answer before.desk after.desk → after.controls ≡ before.controls → AreControlsRight before → AreControlsRight after
-beside_frames call answer before after step controls was =
-    let counts = frame_counts call answer before.desk after.desk step in
-    let ws = before.desk.windows.desk.windows in
-    let vs = after.desk.windows.desk.windows in
-    record {
-      whole = subst (AreWholeControls vs) (sym controls)
-          (whole_on before.controls ws vs (λ x. let count = counts.count x in omega arith)
-          (frame_holds (joined_to before.controls.controls) call answer before.desk after.desk step (joined_every before.controls ws was.whole)) was.whole);
-      shown = shown_on before after (frame_keeps (λ d. d.shows) (λ d ws. refl) call answer before.desk after.desk step)
-          (frame_keeps (λ d. d.font) (λ d ws. refl) call answer before.desk after.desk step) controls was;
-    }
+beside_frames call answer before after step controls was = record {
+  whole = subst (AreWholeControls after.desk.windows.desk.windows) (sym controls) (frames_leave call answer before.desk after.desk before.controls step was.whole);
+  shown = shown_on before after (frame_keeps (λ d. d.shows) (λ d ws. refl) call answer before.desk after.desk step)
+      (frame_keeps (λ d. d.font) (λ d ws. refl) call answer before.desk after.desk step) controls was;
+}
 
 pub beside_menus : (call : MenuCall) (answer : Result MenuReply Refusal) (before after : ToolboxState) → IsMenuStep call answer (with_menus before) (with_menus after) → after.controls ≡ before.controls → AreControlsRight before → AreControlsRight after
-beside_menus call answer before after step controls was =
-    let windows : after.desk.windows.desk.windows ≡ before.desk.windows.desk.windows = menu_keeps (λ d. d.windows) (λ d titles. refl) call answer (with_menus before) (with_menus after) step in
-    record {
-      whole = subst (λ ws. AreWholeControls ws after.controls) (sym windows) (subst (AreWholeControls before.desk.windows.desk.windows) (sym controls) was.whole);
-      shown = shown_on before after (menu_keeps (λ d. d.shows) (λ d titles. refl) call answer (with_menus before) (with_menus after) step)
-          (menu_keeps (λ d. d.font) (λ d titles. refl) call answer (with_menus before) (with_menus after) step) controls was;
-    }
+beside_menus call answer before after step controls was = record {
+  whole = subst (AreWholeControls after.desk.windows.desk.windows) (sym controls) (menus_leave call answer (with_menus before) (with_menus after) before.controls step was.whole);
+  shown = shown_on before after (menu_keeps (λ d. d.shows) (λ d titles. refl) call answer (with_menus before) (with_menus after) step)
+      (menu_keeps (λ d. d.font) (λ d titles. refl) call answer (with_menus before) (with_menus after) step) controls was;
+}

@@ -25,7 +25,7 @@ use Rattle.control_mgr.specs.ControlClosing.{IsWindowLeft}
 use Rattle.control_mgr.specs.ControlDesks.{ControlRecord, ControlsState, controls_show}
 use Rattle.control_mgr.specs.ControlSteps.{AreLayersOf, IsControlStep}
 use Rattle.control_mgr.specs.WholeControls.{AreWholeControls}
-use Rattle.control_mgr.proofs.ControlsFollowed.{followed_right}
+use Rattle.control_mgr.proofs.ControlsFollowed.{followed_right, whole_left}
 use Rattle.control_mgr.proofs.ControlsKept.{control_keeps}
 use Rattle.desk_toolbox.specs.Activations.{to_dispose}
 use Rattle.desk_toolbox.specs.Reached.{AreControlsRight}
@@ -34,19 +34,19 @@ use Rattle.desk_toolbox.specs.ToolboxStates.{ToolboxState, with_controls}
 use Rattle.desk_toolbox.proofs.Bonds.{Bond, Every, HoldsOn, every_all, done_holds}
 use Rattle.desk_toolbox.proofs.ControlsBeside.{IsRightToolbox, caught_up_holds, joined_every, joined_to, none_of_missing, whole_on}
 use Rattle.desk_toolbox.proofs.KeptDesks.{told_keeps}
-use Rattle.desk_toolbox.proofs.StepCounts.{HasLess, Recount, told_recounts, disposed_is_gone}
+use Rattle.desk_toolbox.proofs.StepCounts.{AreNumbered, HasLess, Recount, told_recounts, disposed_is_gone, right_is_numbered}
 use Rattle.desk_toolbox.proofs.Totals.{copies, found_counts, counted_is_found, serial_of_counted}
 
 -- ---- the windows after a call on them
 
 -- the next serial is none of these windows'
-next_is_new : (s : FullState) (n : ℕ) → IsRightState s → s.desk.next ≡ Some n → copies n s.desk.windows ≡ 0
-next_is_new s n right next = by_count (copies n s.desk.windows) refl
+next_is_new : (d : FullDesk) (n : ℕ) → AreNumbered d → d.next ≡ Some n → copies n d.windows ≡ 0
+next_is_new d n numbered next = by_count (copies n d.windows) refl
   where
-    by_count : (k : ℕ) → copies n s.desk.windows ≡ k → copies n s.desk.windows ≡ 0
+    by_count : (k : ℕ) → copies n d.windows ≡ k → copies n d.windows ≡ 0
     by_count zero e = e
     by_count (suc k) e =
-        let given : IsGiven (Some n) n = subst (λ o. IsGiven o n) next (serial_of_counted (IsGiven s.desk.next) n s.desk.windows right.serials.1 (omega arith)) in
+        let given : IsGiven (Some n) n = subst (λ o. IsGiven o n) next (serial_of_counted (IsGiven d.next) n d.windows numbered.serials.1 (omega arith)) in
         let below = given.1 in
         absurd (omega arith)
 
@@ -79,8 +79,8 @@ stays_there (Some d) c before after less other here = by_this (d == c) refl
         let all : copies c before.windows ≡ 0 + copies c after.windows = subst (λ (b : Bool). copies c before.windows ≡ (if b then 1 else 0) + copies c after.windows) e (less.count c) in
         counted_is_found c after.windows (omega arith)
 
-module _ (call : WindowCall) (answer : WindowReply) (before : ToolboxState) (middle : DeskState) (told : FullState) (was : IsRightToolbox before)
-    (answered : IsWindowAnswered call (Ok answer) before.desk middle) (caught : IsCaughtUpBy (window_standing call) middle.windows told) (right : IsRightState told) where
+module _ (call : WindowCall) (answer : WindowReply) (before : ToolboxState) (middle : DeskState) (told : FullState) (was : AreControlsRight before) (numbered : AreNumbered before.desk.windows.desk)
+    (answered : IsWindowAnswered call (Ok answer) before.desk middle) (caught : IsCaughtUpBy (window_standing call) middle.windows told) where
   abbrev cs : List ControlRecord
   cs = before.controls.controls
 
@@ -91,17 +91,17 @@ module _ (call : WindowCall) (answer : WindowReply) (before : ToolboxState) (mid
   recount = told_recounts call answer before.desk middle told answered caught
 
   fresh : (n : ℕ) → before.desk.windows.desk.next ≡ Some n → AreLayersOf (controls_of n cs) []
-  fresh n next = subst (λ own. AreLayersOf own []) (sym (none_of_missing n cs ws was.controls.whole.somewhere (next_is_new before.desk.windows n was.right next))) tt
+  fresh n next = subst (λ own. AreLayersOf own []) (sym (none_of_missing n cs ws was.whole.somewhere (next_is_new before.desk.windows.desk n numbered next))) tt
 
   joined : Every (joined_to cs) told.desk.windows
   joined =
       caught_up_holds (joined_to cs) (window_standing call) middle.windows told caught
-      (answer_holds (joined_to cs) (narrowed call before.desk.activity before.desk.begun) call answer before.desk middle answered fresh (joined_every before.controls ws was.controls.whole))
+      (answer_holds (joined_to cs) (narrowed call before.desk.activity before.desk.begun) call answer before.desk middle answered fresh (joined_every before.controls ws was.whole))
 
   shows : told.desk.shows ≡ controls_show cs told.desk.font
   shows =
       told_keeps (λ d. d.shows) (λ d vs active next stock. refl) call (Ok answer) before.desk middle told answered caught
-      ∙ was.controls.shown
+      ∙ was.shown
       ∙ ap (controls_show cs) (sym (told_keeps (λ d. d.font) (λ d vs active next stock. refl) call (Ok answer) before.desk middle told answered caught))
 
   -- no window is gone
@@ -111,25 +111,25 @@ module _ (call : WindowCall) (answer : WindowReply) (before : ToolboxState) (mid
 
     whole : AreWholeControls told.desk.windows before.controls
     whole = record {
-      settled = was.controls.whole.settled;
-      apart = was.controls.whole.apart;
-      given = was.controls.whole.given;
-      somewhere = All-weaker (λ (c : ControlRecord). is_missing c.window ws ≡ false) (λ (c : ControlRecord). is_missing c.window told.desk.windows ≡ false) there cs was.controls.whole.somewhere;
+      settled = was.whole.settled;
+      apart = was.whole.apart;
+      given = was.whole.given;
+      somewhere = All-weaker (λ (c : ControlRecord). is_missing c.window ws ≡ false) (λ (c : ControlRecord). is_missing c.window told.desk.windows ≡ false) there cs was.whole.somewhere;
       joined = every_all (joined_to cs) told.desk.windows joined;
-      stocked = was.controls.whole.stocked;
+      stocked = was.whole.stocked;
     }
 
     same : after.desk.windows ≡ told
     same = shown ∙ (λ i. shown_with (left i).controls told) ∙ (λ i. record told { desk = record told.desk { shows = sym shows i } })
 
-    kept_right : IsRightToolbox after
-    kept_right = record {
-      right = subst IsRightState (sym same) right;
-      controls = record {
-        whole = subst (λ (x : FullState × ControlsState). AreWholeControls x.0.desk.windows x.1) (λ i. (sym same i, sym left i)) whole;
-        shown = subst (λ (x : FullState × ControlsState). x.0.desk.shows ≡ controls_show x.1.controls x.0.desk.font) (λ i. (sym same i, sym left i)) shows;
-      };
+    kept_controls : AreControlsRight after
+    kept_controls = record {
+      whole = subst (λ (x : FullState × ControlsState). AreWholeControls x.0.desk.windows x.1) (λ i. (sym same i, sym left i)) whole;
+      shown = subst (λ (x : FullState × ControlsState). x.0.desk.shows ≡ controls_show x.1.controls x.0.desk.font) (λ i. (sym same i, sym left i)) shows;
     }
+
+    kept_right : IsRightState told → IsRightToolbox after
+    kept_right right = record { right = subst IsRightState (sym same) right; controls = kept_controls }
 
   -- a window is gone, and its controls with it
   module _ (d : ℕ) (gone : to_dispose call ≡ Some d) (after : ToolboxState) (shown : after.desk.windows ≡ shown_with after.controls.controls told) (left : IsWindowLeft d before.controls after.controls) where
@@ -143,7 +143,7 @@ module _ (call : WindowCall) (answer : WindowReply) (before : ToolboxState) (mid
         by_test true e = e
         by_test false e =
             let some = found_counts d told.desk.windows e in
-            let none = (disposed_is_gone d before.desk.windows told was.right less).none in
+            let none = (disposed_is_gone d before.desk.windows.desk told.desk numbered less).none in
             absurd (omega arith)
 
     elsewhere : (c : ControlRecord) → is_missing c.window ws ≡ false → is_in d c ≡ false → is_missing c.window told.desk.windows ≡ false
@@ -152,27 +152,42 @@ module _ (call : WindowCall) (answer : WindowReply) (before : ToolboxState) (mid
         other : Some d ≡ Some c.window → ⊥
         other e = let same : d ≡ c.window = cc in grind (arith, nat_tests)
 
-    followed : IsRightState (shown_with after.controls.controls told) × AreWholeControls told.desk.windows after.controls
-    followed = followed_right d told before.controls after.controls right shows was.controls.whole.settled was.controls.whole.apart was.controls.whole.given
-        (every_all (joined_to cs) told.desk.windows joined)
-        (All-weaker (λ (c : ControlRecord). is_missing c.window ws ≡ false) (λ (c : ControlRecord). is_in d c ≡ false → is_missing c.window told.desk.windows ≡ false) elsewhere cs was.controls.whole.somewhere)
-        missing left
+    others : All (λ c. is_in d c ≡ false → is_missing c.window told.desk.windows ≡ false) cs
+    others = All-weaker (λ (c : ControlRecord). is_missing c.window ws ≡ false) (λ (c : ControlRecord). is_in d c ≡ false → is_missing c.window told.desk.windows ≡ false) elsewhere cs was.whole.somewhere
 
-    gone_right : IsRightToolbox after
-    gone_right = record {
-      right = subst IsRightState (sym shown) followed.0;
-      controls = record {
-        whole = subst (λ (s : FullState). AreWholeControls s.desk.windows after.controls) (sym shown) followed.1;
-        shown = ap (λ (s : FullState). s.desk.shows) shown ∙ ap (controls_show after.controls.controls) (sym (ap (λ (s : FullState). s.desk.font) shown));
-      };
+    followed_whole : AreWholeControls told.desk.windows after.controls
+    followed_whole = whole_left d before.controls after.controls left told.desk.windows was.whole.settled was.whole.apart was.whole.given (every_all (joined_to cs) told.desk.windows joined) others missing
+
+    gone_controls : AreControlsRight after
+    gone_controls = record {
+      whole = subst (λ (s : FullState). AreWholeControls s.desk.windows after.controls) (sym shown) followed_whole;
+      shown = ap (λ (s : FullState). s.desk.shows) shown ∙ ap (controls_show after.controls.controls) (sym (ap (λ (s : FullState). s.desk.font) shown));
     }
 
--- definitions of windows were told how these stand, and the controls of a window that is gone went with it
+    gone_right : IsRightState told → IsRightToolbox after
+    gone_right right = record {
+      right = subst IsRightState (sym shown)
+          (followed_right d told before.controls after.controls right shows was.whole.settled was.whole.apart was.whole.given
+          (every_all (joined_to cs) told.desk.windows joined) others missing left).0;
+      controls = gone_controls;
+    }
+
+-- definitions of windows were told how these stand, and the controls of a window that is gone went with it: those that stay
+-- are whole
+pub made_keeps_controls : (call : WindowCall) (answer : WindowReply) (before : ToolboxState) (middle : DeskState) (told : FullState) (after : ToolboxState) → AreControlsRight before → AreNumbered before.desk.windows.desk
+    → IsWindowAnswered call (Ok answer) before.desk middle → IsCaughtUpBy (window_standing call) middle.windows told → after.desk.windows ≡ shown_with after.controls.controls told
+    → AreControlsLeft call before.controls after.controls → AreControlsRight after
+made_keeps_controls (asks.Dispose d) answer before middle told after was numbered answered caught shown left = gone_controls (asks.Dispose d) answer before middle told was numbered answered caught d refl after shown left
+made_keeps_controls call answer before middle told after was numbered answered caught shown left = kept_controls call answer before middle told was numbered answered caught refl after shown left
+
+-- and a right desk stays right
 pub made_stays_right : (call : WindowCall) (answer : WindowReply) (before : ToolboxState) (middle : DeskState) (told : FullState) (after : ToolboxState) → IsRightToolbox before
     → IsWindowAnswered call (Ok answer) before.desk middle → IsCaughtUpBy (window_standing call) middle.windows told → after.desk.windows ≡ shown_with after.controls.controls told
     → AreControlsLeft call before.controls after.controls → IsRightState told → IsRightToolbox after
-made_stays_right (asks.Dispose d) answer before middle told after was answered caught shown left right = gone_right (asks.Dispose d) answer before middle told was answered caught right d refl after shown left
-made_stays_right call answer before middle told after was answered caught shown left right = kept_right call answer before middle told was answered caught right refl after shown left
+made_stays_right (asks.Dispose d) answer before middle told after was answered caught shown left right =
+    gone_right (asks.Dispose d) answer before middle told was.controls (right_is_numbered before.desk.windows was.right) answered caught d refl after shown left right
+made_stays_right call answer before middle told after was answered caught shown left right =
+    kept_right call answer before middle told was.controls (right_is_numbered before.desk.windows was.right) answered caught refl after shown left right
 
 -- ---- calls about controls
 

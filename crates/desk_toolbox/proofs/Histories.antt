@@ -28,7 +28,7 @@ use Rattle.desk_toolbox.specs.Run.{IsWindowMade, IsEventAnswer, found_menu, repl
 use Rattle.desk_toolbox.specs.ToolboxStates.{ToolboxState, with_menus}
 use Rattle.desk_toolbox.proofs.EachManager.{HoldsOfEach, of_step}
 use Rattle.desk_toolbox.proofs.UpdatedDesks.{update_keeps_desk}
-use Rattle.desk_toolbox.proofs.StepCounts.{Recount, HasSame, IsGone, same_desk, frame_counts, menu_counts, window_recounts, gone_stays, disposed_is_gone, present_is_not_gone}
+use Rattle.desk_toolbox.proofs.StepCounts.{Recount, HasSame, IsGone, same_desk, frame_counts, menu_counts, window_recounts, gone_stays, disposed_is_gone, present_is_not_gone, right_is_numbered}
 use Rattle.desk_toolbox.proofs.Stands.{Stands, stands}
 use Rattle.desk_toolbox.proofs.TrackedControls.{control_counts}
 use Rattle.desk_toolbox.proofs.KeptDesks.{refused_keeps_desk}
@@ -169,7 +169,7 @@ history_of first last (call ∷ calls) (answer ∷ answers) was run =
     let step = one_step call answer first middle before run.1 in
     let rest = history_of middle last calls answers next run.2 in
     let gone_now = λ (w : ℕ) (e : disposed_by call answer ≡ Some w).
-    disposed_is_gone w first.desk.windows middle.desk.windows before.right (subst (λ o. Recount o first.desk.windows.desk desk) e step.recount) in
+    disposed_is_gone w first.desk.windows.desk desk (right_is_numbered first.desk.windows before.right) (subst (λ o. Recount o first.desk.windows.desk desk) e step.recount) in
     record {
       steps = steps_of call answer desk.active rest.steps;
       history = history_on (disposed_by call answer) desk.active call answer rest.steps rest.history (λ w e.

@@ -29,7 +29,7 @@ none_pulled (Updating s) menus none = refl
 none_pulled (Tracking s) menus none = refl
 none_pulled (TrackingControl c) menus none = refl
 
-module _ {V : Type 0} {H : V → Type 0} (loan : Taken V H → Loan) {W : Type 0} {K : W → Type 0} (menu_loan : TakenMenu W K → MenuLoan) {U : Type 0} {J : U → Type 0} (control_loan : TakenControl U J → ControlLoan) (t : Toolbox V W U H K J)
+module _ {V : Type 0} {H : V → Type 0} (loan : Taken V H → Loan) {W : Type 0} {K : W → Type 0} (menu_loan : TakenMenu W K → MenuLoan) {U : Type 0} {J : U → Type 0} (control_loan : TakenControl U J → ControlLoan) (t : Toolbox V U W H J K)
     (slots : List SlotView) (kept : List MenuSlot) (held : List ControlSlot) (p : Point) where
   pub front_shows : (m : PulledMenu) → t.activity ≡ Pulling m → IsFrontShown menu_loan t.activity t.windows t.menus → on_map t.menus.overlay.front p ≡ true → bit t.menus.overlay.front p ≡ screen_of (toolbox_state loan menu_loan control_loan t slots kept held) p
   front_shows m e shown on =

@@ -18,12 +18,14 @@ pub mod Tracked
 pub mod Stands
 pub mod StandsOpen
 pub mod MenuKinds
+pub mod ControlKinds
 pub mod MenuNumbers
 pub mod LitMenus
 pub mod PulledMenus
 pub mod PulledSteps
 pub mod MenuStands
 pub mod TrackedControls
+pub mod ControlsAside
 pub mod Consistent
 pub mod Histories
 pub mod Shown
@@ -33,4 +35,6 @@ pub mod MenusBeside
 pub mod UpdatesBeside
 pub mod Lent
 pub mod Asked
+pub mod WaitingShown
+pub mod UnderMenus
 pub mod Begun

@@ -84,7 +84,7 @@ effect_opens (Move p) answer before after (item, is, moved) was = moved_opens be
 effect_opens (Up p) answer before after (choice, is, released) was = released_opens before.desk.activity p choice before after released
 effect_opens _ answer before after edited was = subst OpensNoWindow (sym edited.activity.activity) was
 
-step_opens : (call : MenuCall) (answer : Result MenuReply Refusal) (before after : MenuDesk) → gate before.desk.activity (menu_standing call) ≡ None → IsMenuStep call answer before after → OpensNoWindow after.desk.activity
+pub step_opens : (call : MenuCall) (answer : Result MenuReply Refusal) (before after : MenuDesk) → gate before.desk.activity (menu_standing call) ≡ None → IsMenuStep call answer before after → OpensNoWindow after.desk.activity
 step_opens call (Ok answer) before after may step = effect_opens call answer before after step.1 (comes_then call before.desk.activity may)
 step_opens call (Err e) before after may step = subst OpensNoWindow (sym step.1.desk.activity) (comes_then call before.desk.activity may)
 
@@ -99,6 +99,10 @@ none_tracked a cs none = ⊎_elim
     (λ idle. subst (λ b. IsTrackable b cs) (sym idle) tt)
     (λ pulling. subst (λ b. IsTrackable b cs) (sym pulling.1) tt)
     none
+
+-- no control is tracked where a call about menus came
+pub menu_trackable : (call : MenuCall) (answer : Result MenuReply Refusal) (before after : MenuDesk) (cs : List ControlRecord) → gate before.desk.activity (menu_standing call) ≡ None → IsMenuStep call answer before after → IsTrackable after.desk.activity cs
+menu_trackable call answer before after cs may step = none_tracked after.desk.activity cs (step_opens call answer before after may step)
 
 as_idle : (a : Activity) (ws : List WindowRecord) → OpensNoWindow a → total (misled a) ws ≡ total (misled Idle) ws
 as_idle a ws none = ⊎_elim

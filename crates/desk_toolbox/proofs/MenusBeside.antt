@@ -190,7 +190,7 @@ module _ {V : Type 0} {H : V → Type 0} (loan : Taken V H → Loan) {W : Type 0
     front_none (Tracking s) none = tt
     front_none (TrackingControl c) none = tt
 
-    whole_unpulled : (a b : Activity) → SameSides was.desk now.desk → PullsNone b → IsWholeMenus menu_loan t a m kept → IsWholeMenus menu_loan new b m kept
+    pub whole_unpulled : (a b : Activity) → SameSides was.desk now.desk → PullsNone b → IsWholeMenus menu_loan t a m kept → IsWholeMenus menu_loan new b m kept
     whole_unpulled a b sides none whole = record {
       few = whole.few;
       room = whole.room;
@@ -233,7 +233,7 @@ module _ {V : Type 0} {H : V → Type 0} (loan : Taken V H → Loan) {W : Type 0
       front_stays (Tracking s) shown = tt
       front_stays (TrackingControl c) shown = tt
 
-      whole_unchanged : (a : Activity) → IsWholeMenus menu_loan t a m kept → IsWholeMenus menu_loan new a m kept
+      pub whole_unchanged : (a : Activity) → IsWholeMenus menu_loan t a m kept → IsWholeMenus menu_loan new a m kept
       whole_unchanged a whole = record {
         few = whole.few;
         room = whole.room;

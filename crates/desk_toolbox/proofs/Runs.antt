@@ -1,6 +1,6 @@
 -- Steps and runs of any manager's calls.
-use Rattle.std.proofs.Common.{◌≡◌, ℕ, ◌+◌, ◌<◌, List, [], ◌∷◌, ◌++◌, length, map, get_or, take, Option, None, Some, Result, Ok, Err, refl, sym, ap, ◌∙◌, subst}
-use Rattle.std.proofs.lemmas.List.{take_more}
+use Rattle.std.proofs.Common.{◌≡◌, ℕ, ◌+◌, ◌<◌, ◌≤◌, List, [], ◌∷◌, ◌++◌, length, map, get_or, take, Option, None, Some, Result, Ok, Err, refl, sym, ap, ◌∙◌, subst}
+use Rattle.std.proofs.lemmas.List.{take_all, take_more}
 use Rattle.tb_geom.specs.declared.refusal.Refusal.{Refusal}
 use Rattle.tb_geom.specs.Points.{PixelSet}
 use Rattle.window_mgr.specs.FullDesk.{FullDesk, FullState, IsRightState}
@@ -178,6 +178,10 @@ pub run_step : (first middle last : ToolboxState) (calls : List Call) (answers m
 run_step first middle last calls answers more i call answer e read r l s =
     subst (λ (x : List Call × List (Result Reply Refusal)). IsRunOfCalls first x.0 x.1 last) (λ k. (sym (take_more calls i call l) k, sym e k))
     (run_more first middle last (take i calls) answers (get_or calls i call) answer r (subst (λ c. IsStep c answer middle last) read s))
+
+-- a run of all calls
+pub run_of_all : (first last : ToolboxState) (calls : List Call) (answers : List (Result Reply Refusal)) (i : ℕ) → length calls ≤ i → IsRunOfCalls first (take i calls) answers last → IsRunOfCalls first calls answers last
+run_of_all first last calls answers i all run = subst (λ cs. IsRunOfCalls first cs answers last) (take_all i calls all) run
 
 -- ---- windows are counted
 

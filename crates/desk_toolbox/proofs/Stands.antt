@@ -191,7 +191,7 @@ caught_up_informs TracksControl first before after (ts, told, informed) kept was
 caught_up_informs Changes first before after (ts, told, informed) kept was = informed
 
 -- no control is tracked while its window is disposed of
-left_trackable : (call : WindowCall) (before after : ToolboxState) → gate before.desk.activity (window_standing call) ≡ None → after.desk.activity ≡ before.desk.activity → AreControlsLeft call before.controls after.controls → IsTrackable before.desk.activity before.controls.controls → IsTrackable after.desk.activity after.controls.controls
+pub left_trackable : (call : WindowCall) (before after : ToolboxState) → gate before.desk.activity (window_standing call) ≡ None → after.desk.activity ≡ before.desk.activity → AreControlsLeft call before.controls after.controls → IsTrackable before.desk.activity before.controls.controls → IsTrackable after.desk.activity after.controls.controls
 left_trackable (asks.Dispose s) before after may activity gone was = subst (λ a. IsTrackable a after.controls.controls) (sym (activity ∙ idle_now before.desk.activity may)) tt
 left_trackable call before after may activity gone was = trackable_stays before after activity gone was
 

@@ -42,6 +42,8 @@ use Rattle.desk_toolbox.proofs.Told.{ArePosted}
 use Rattle.desk_toolbox.proofs.Tracked.{misled, tracking_told, tracking_begins, tracking_ends}
 use Rattle.desk_toolbox.proofs.MenusBeside.{update_comes_then, frame_comes_then, update_pulls_none, frame_pulls_none}
 use Rattle.desk_toolbox.proofs.ControlsBeside.{IsRightToolbox}
+use Rattle.control_mgr.specs.ControlDesks.{ControlsState}
+use Rattle.control_mgr.specs.WholeControls.{IsTrackable}
 use Rattle.desk_toolbox.proofs.TrackedControls.{update_trackable, frame_trackable}
 use Rattle.desk_toolbox.proofs.PulledMenus.{IsPullRight, still_unpulled}
 use Rattle.desk_toolbox.proofs.Stands.{Stands, apart_stays, bar_stays, stands_still, idle_now}
@@ -90,7 +92,7 @@ update_stands call (Ok answer) before after may was right step (events, (control
     record {
       right = right.right;
       controls = right.controls;
-      trackable = update_trackable call (Ok answer) before after step controls was.trackable;
+      trackable = subst (λ (s : ControlsState). IsTrackable after.desk.activity s.controls) (sym controls) (update_trackable before.desk after.desk before.controls.controls was.trackable call (Ok answer) step);
       active = subst (λ (d : FullDesk). Present d.active d.windows) (sym desk) was.active;
       told = subst (λ (d : FullDesk). Present after.events.told d.windows) (sym desk) (subst (λ (e : Events). Present e.told ws) (sym events) was.told);
       opened = subst (λ (d : FullDesk). Present (open_window after.desk.activity) d.windows) (sym desk) (update_opens call before.desk after.desk step.0 step.1.1 was.opened);
@@ -204,7 +206,7 @@ frame_stands call (Ok answer) before after may was right step (events, (controls
     record {
       right = right.right;
       controls = right.controls;
-      trackable = frame_trackable call (Ok answer) before after step controls was.trackable;
+      trackable = subst (λ (s : ControlsState). IsTrackable after.desk.activity s.controls) (sym controls) (frame_trackable before.desk after.desk before.controls.controls was.trackable call (Ok answer) step);
       active = subst (λ o. Present o ws) (sym active) (stay before.desk.windows.desk.active was.active);
       told = subst (λ (e : Events). Present e.told ws) (sym events) (stay before.events.told was.told);
       opened = stay (open_window after.desk.activity) (frame_opens call answer before.desk after.desk step.0 step.1 was.opened);

@@ -1,5 +1,5 @@
 -- What any call does to the count of windows, to the next number, and to the active window.
-use Rattle.std.proofs.Common.{◌≡◌, ◌⊎◌, inl, inr, ℕ, ◌+◌, ◌≤◌, ◌^◌, ◌==◌, nat_lt, Bool, true, false, if◌then◌else◌, List, [], ◌∷◌, Option, None, Some, Result, Ok, Err, refl, sym, ap, ◌∙◌, subst, arith}
+use Rattle.std.proofs.Common.{◌≡◌, ◌⊎◌, inl, inr, ℕ, ◌+◌, ◌≤◌, ◌^◌, ◌==◌, nat_lt, Bool, true, false, if◌then◌else◌, List, [], ◌∷◌, map, Option, None, Some, Result, Ok, Err, refl, sym, ap, ◌∙◌, subst, arith}
 use Rattle.std.proofs.lemmas.Bool.Decides.{nat_tests}
 use Rattle.tb_geom.specs.declared.refusal.Refusal.{Refusal}
 use Rattle.tb_geom.specs.Points.{PixelSet}
@@ -18,12 +18,13 @@ use Rattle.desk_call.specs.declared.window.WindowCall.TheVariants as asks
 use Rattle.desk_call.specs.declared.window.WindowReply.{WindowReply}
 use Rattle.desk_call.specs.Gates.{window_standing}
 use Rattle.window_list.specs.Lists.{serial_after}
-use Rattle.vis_update.specs.Records.{WindowRecord}
+use Rattle.def_iface.specs.Desk as layers
+use Rattle.vis_update.specs.Records.{Look, WindowRecord, layered_window}
 use Rattle.vis_update.specs.Touches.{is_this}
 use Rattle.window_mgr.specs.Effects.{effect_of, places}
 use Rattle.window_mgr.specs.Finding.{record_with}
 use Rattle.window_mgr.specs.FrameNotices.{IsFrameNotified}
-use Rattle.window_mgr.specs.FullDesk.{FullDesk, FullState, IsGiven, IsRightState, look_of}
+use Rattle.window_mgr.specs.FullDesk.{AreSerials, FullDesk, FullState, IsGiven, IsRightState, look_of}
 use Rattle.window_mgr.specs.Placings.{Placing, sized, zoomed}
 use Rattle.window_mgr.specs.Refused.{is_missing}
 use Rattle.window_mgr.specs.DeskStates.{DeskState, narrowed}
@@ -226,15 +227,24 @@ gone_stays (Some d) w before after less gone = record {
   given = subst (λ o. IsGiven o w) (sym less.next) gone.given;
 }
 
-pub disposed_is_gone : (d : ℕ) (before after : FullState) → IsRightState before → HasLess d before.desk after.desk → IsGone d after.desk
-disposed_is_gone d before after right less = record {
+-- each window has another serial, and all were given before
+pub record AreNumbered (d : FullDesk) : Type 0 where
+  pub look : Look
+  pub distinct : layers.AreWindows (map (layered_window look) d.windows)
+  pub serials : AreSerials d.next d.windows
+
+pub right_is_numbered : (s : FullState) → IsRightState s → AreNumbered s.desk
+right_is_numbered s right = record { look = look_of s.desk; distinct = right.plain.desk; serials = right.serials }
+
+pub disposed_is_gone : (d : ℕ) (before after : FullDesk) → AreNumbered before → HasLess d before after → IsGone d after
+disposed_is_gone d before after numbered less = record {
   none =
-      let all : copies d before.desk.windows ≡ (if d == d then 1 else 0) + copies d after.desk.windows = less.count d in
-      let most : copies d before.desk.windows ≤ 1 = distinct_counts (look_of before.desk) d before.desk.windows right.plain.desk in
+      let all : copies d before.windows ≡ (if d == d then 1 else 0) + copies d after.windows = less.count d in
+      let most : copies d before.windows ≤ 1 = distinct_counts numbered.look d before.windows numbered.distinct in
       let itself : (d == d) ≡ true = grind (arith, nat_tests) in
-      let is : copies d before.desk.windows ≡ 1 + copies d after.desk.windows = subst (λ (b : Bool). copies d before.desk.windows ≡ (if b then 1 else 0) + copies d after.desk.windows) itself all in
+      let is : copies d before.windows ≡ 1 + copies d after.windows = subst (λ (b : Bool). copies d before.windows ≡ (if b then 1 else 0) + copies d after.windows) itself all in
       omega arith;
-  given = subst (λ o. IsGiven o d) (sym less.next) (serial_of_counted (IsGiven before.desk.next) d before.desk.windows right.serials.1 (found_counts d before.desk.windows less.found));
+  given = subst (λ o. IsGiven o d) (sym less.next) (serial_of_counted (IsGiven before.next) d before.windows numbered.serials.1 (found_counts d before.windows less.found));
 }
 
 -- a window that is present is not gone

@@ -60,44 +60,44 @@ use Rattle.desk_toolbox.proofs.Tracked.{misled}
 
 -- ---- beside calls about updates and frames
 
-module _ (before after : ToolboxState) (controls : after.controls ≡ before.controls) (was : IsTrackable before.desk.activity before.controls.controls) where
-  opened_so : (a : Activity) → ((cs : List ControlRecord) → IsTrackable a cs) → after.desk.activity ≡ a → IsTrackable after.desk.activity after.controls.controls
-  opened_so a any is = subst (λ b. IsTrackable b after.controls.controls) (sym is) (any after.controls.controls)
+module _ (before after : DeskState) (cs : List ControlRecord) (was : IsTrackable before.activity cs) where
+  opened_so : (a : Activity) → IsTrackable a cs → after.activity ≡ a → IsTrackable after.activity cs
+  opened_so a any is = subst (λ b. IsTrackable b cs) (sym is) any
 
-  same_open : after.desk.activity ≡ before.desk.activity → IsTrackable after.desk.activity after.controls.controls
-  same_open activity = trackable_stays before after activity controls was
+  same_open : after.activity ≡ before.activity → IsTrackable after.activity cs
+  same_open activity = opened_so before.activity was activity
 
-  update_effect_trackable : (call : UpdateCall) → IsUpdateEffect call before.desk after.desk → IsTrackable after.desk.activity after.controls.controls
+  update_effect_trackable : (call : UpdateCall) → IsUpdateEffect call before after → IsTrackable after.activity cs
   update_effect_trackable (updates.Invalidate m) (same, marked) = same_open same.activity
   update_effect_trackable (updates.Validate m) (same, marked) = same_open same.activity
-  update_effect_trackable (updates.Begin s) begun = opened_so (Updating s) (λ cs. tt) begun.opened
+  update_effect_trackable (updates.Begin s) begun = opened_so (Updating s) tt begun.opened
   update_effect_trackable (updates.Draw d) (same, drawn) = same_open same.activity
-  update_effect_trackable (updates.End s) (idle, same) = opened_so Idle (λ cs. tt) idle
-  update_effect_trackable (updates.Serve s) (idle, drawn) = opened_so Idle (λ cs. tt) idle
+  update_effect_trackable (updates.End s) (idle, same) = opened_so Idle tt idle
+  update_effect_trackable (updates.Serve s) (idle, drawn) = opened_so Idle tt idle
 
-  begun_trackable : (s : ℕ) (inside : Bool) → IsBegunAt s inside before.desk after.desk → IsTrackable after.desk.activity after.controls.controls
-  begun_trackable s true (tracked, told) = opened_so (Tracking s) (λ cs. tt) tracked
+  begun_trackable : (s : ℕ) (inside : Bool) → IsBegunAt s inside before after → IsTrackable after.activity cs
+  begun_trackable s true (tracked, told) = opened_so (Tracking s) tt tracked
   begun_trackable s false same = same_open same.activity
 
-  frame_effect_trackable : (call : FrameCall) (answer : FrameReply) → IsFrameEffect call answer before.desk after.desk → IsTrackable after.desk.activity after.controls.controls
+  frame_effect_trackable : (call : FrameCall) (answer : FrameReply) → IsFrameEffect call answer before after → IsTrackable after.activity cs
   frame_effect_trackable (frames.SetTitle n) Done (same, told) = same_open same.activity
   frame_effect_trackable (frames.Hilite n) Done (same, told) = same_open same.activity
   frame_effect_trackable (frames.TrackGoAway g) (Tracked inside) (is, begun) = begun_trackable g.window inside begun
   frame_effect_trackable (frames.StepGoAway p) (Tracked inside) (same, tracked) = same_open same.activity
-  frame_effect_trackable (frames.EndGoAway p) (Tracked inside) (idle, tracked) = opened_so Idle (λ cs. tt) idle
+  frame_effect_trackable (frames.EndGoAway p) (Tracked inside) (idle, tracked) = opened_so Idle tt idle
   frame_effect_trackable (frames.SetTitle n) (Tracked inside) wrong = absurd wrong
   frame_effect_trackable (frames.Hilite n) (Tracked inside) wrong = absurd wrong
   frame_effect_trackable (frames.TrackGoAway g) Done wrong = absurd wrong
   frame_effect_trackable (frames.StepGoAway p) Done wrong = absurd wrong
   frame_effect_trackable (frames.EndGoAway p) Done wrong = absurd wrong
 
-pub update_trackable : (call : UpdateCall) (answer : Result WindowReply Refusal) (before after : ToolboxState) → IsUpdateStep call answer before.desk after.desk → after.controls ≡ before.controls → IsTrackable before.desk.activity before.controls.controls → IsTrackable after.desk.activity after.controls.controls
-update_trackable call (Ok answer) before after step controls was = update_effect_trackable before after controls was call step.1.1
-update_trackable call (Err e) before after step controls was = same_open before after controls was step.1.activity
+  pub update_trackable : (call : UpdateCall) (answer : Result WindowReply Refusal) → IsUpdateStep call answer before after → IsTrackable after.activity cs
+  update_trackable call (Ok answer) step = update_effect_trackable call step.1.1
+  update_trackable call (Err e) step = same_open step.1.activity
 
-pub frame_trackable : (call : FrameCall) (answer : Result FrameReply Refusal) (before after : ToolboxState) → IsFrameStep call answer before.desk after.desk → after.controls ≡ before.controls → IsTrackable before.desk.activity before.controls.controls → IsTrackable after.desk.activity after.controls.controls
-frame_trackable call (Ok answer) before after step controls was = frame_effect_trackable before after controls was call answer step.1
-frame_trackable call (Err e) before after step controls was = same_open before after controls was step.1.activity
+  pub frame_trackable : (call : FrameCall) (answer : Result FrameReply Refusal) → IsFrameStep call answer before after → IsTrackable after.activity cs
+  frame_trackable call (Ok answer) step = frame_effect_trackable call answer step.1
+  frame_trackable call (Err e) step = same_open step.1.activity
 
 -- ---- windows that are the same but for their layers
 
@@ -199,7 +199,7 @@ step_there call (Err e) before after may was step = unchanged_there before after
 -- ---- what else holds of a reached state
 
 -- nothing is open, or the tracking of a control
-abbrev AtMostControl : Activity → Type 0
+abbrev pub AtMostControl : Activity → Type 0
 AtMostControl a = (a ≡ Idle) ⊎ ((k : TrackedControl) × (a ≡ TrackingControl k))
 
 tracking_now : (a : Activity) → gate a TracksControl ≡ None → AtMostControl a
@@ -210,7 +210,7 @@ tracking_now (TrackingControl k) e = inr (k, refl)
 tracking_now (Pulling m) e = absurd (cc)
 
 -- a call that comes then asks, or no more is open
-comes_then : (call : ControlCall) (answer : ControlReply) (before after : ControlDesk) → gate before.desk.activity (control_standing call) ≡ None → IsControlEffect call answer before after → IsControlDeskUnchanged before after ⊎ AtMostControl before.desk.activity
+pub comes_then : (call : ControlCall) (answer : ControlReply) (before after : ControlDesk) → gate before.desk.activity (control_standing call) ≡ None → IsControlEffect call answer before after → IsControlDeskUnchanged before after ⊎ AtMostControl before.desk.activity
 comes_then (Get c) answer before after may (is, same) = inl same
 comes_then (Find p) answer before after may (is, same) = inl same
 comes_then (Test p) answer before after may (is, same) = inl same
@@ -218,13 +218,13 @@ comes_then (Step p) answer before after may done = inr (tracking_now before.desk
 comes_then (End p) answer before after may done = inr (tracking_now before.desk.activity may)
 comes_then _ answer before after may done = inr (inl (idle_now before.desk.activity may))
 
-open_then : (ws : List WindowRecord) (a b : Activity) → AtMostControl a → IsOpenAfter ws a b → AtMostControl b
+pub open_then : (ws : List WindowRecord) (a b : Activity) → AtMostControl a → IsOpenAfter ws a b → AtMostControl b
 open_then ws a b was open_after = ⊎_elim
     (λ same. subst AtMostControl (sym same) was)
     (λ other. ⊎_elim (λ idle. inl idle) (λ (k, is, there). inr (k, is)) other)
     open_after
 
-unpulled : (a : Activity) → AtMostControl a → PullsNone a
+pub unpulled : (a : Activity) → AtMostControl a → PullsNone a
 unpulled a most = ⊎_elim (λ idle. subst PullsNone (sym idle) tt) (λ (k, is). subst PullsNone (sym is) tt) most
 
 as_idle : (a : Activity) (ws : List WindowRecord) → AtMostControl a → total (misled a) ws ≡ total (misled Idle) ws
@@ -288,18 +288,19 @@ none_used_at [] k full = refl
 none_used_at (s ∷ slots) zero full = inl (refl, All-head IsControlFull s slots full)
 none_used_at (s ∷ slots) (suc k) full = none_used_at slots k (All-tail IsControlFull s slots full)
 
+-- no controls, in no windows
+pub none_whole : (windows : List WindowRecord) (s : ControlsState) → windows ≡ [] → s.controls ≡ [] → s.next ≡ Some 1 → All IsControlFull s.stock → AreWholeControls windows s
+none_whole windows s bare none next full = record {
+  settled = All-same IsSettledControl s.controls [] none (All-nil IsSettledControl);
+  apart = subst AreApart (sym none) tt;
+  given = (λ i. are_before (next i) (none i));
+  somewhere = All-same (λ (c : ControlRecord). is_missing c.window windows ≡ false) s.controls [] none (All-nil (λ (c : ControlRecord). is_missing c.window windows ≡ false));
+  joined = All-same (λ (w : WindowRecord). AreLayersOf (controls_of w.serial s.controls) w.layers) windows [] bare (All-nil (λ (w : WindowRecord). AreLayersOf (controls_of w.serial s.controls) w.layers));
+  stocked = subst (λ own. AreStocked (λ (d : ControlDefinition). d.stage) (slots_of own) s.stock) (sym none) (λ k. none_used_at s.stock k full);
+}
+
 pub begun_controls : (s : ToolboxState) → IsJustBegun s → AreControlsRight s
-begun_controls s begun =
-    let windows = s.desk.windows.desk.windows in
-    let cs = s.controls.controls in
-    record {
-      shown = begun.shown;
-      whole = record {
-        settled = All-same IsSettledControl cs [] begun.controls (All-nil IsSettledControl);
-        apart = subst AreApart (sym begun.controls) tt;
-        given = (λ i. are_before (begun.next_control i) (begun.controls i));
-        somewhere = All-same (λ (c : ControlRecord). is_missing c.window windows ≡ false) cs [] begun.controls (All-nil (λ (c : ControlRecord). is_missing c.window windows ≡ false));
-        joined = All-same (λ (w : WindowRecord). AreLayersOf (controls_of w.serial cs) w.layers) windows [] begun.windows (All-nil (λ (w : WindowRecord). AreLayersOf (controls_of w.serial cs) w.layers));
-        stocked = subst (λ own. AreStocked (λ (d : ControlDefinition). d.stage) (slots_of own) s.controls.stock) (sym begun.controls) (λ k. none_used_at s.controls.stock k begun.held);
-      };
-    }
+begun_controls s begun = record {
+  whole = none_whole s.desk.windows.desk.windows s.controls begun.windows begun.controls begun.next_control begun.held;
+  shown = begun.shown;
+}

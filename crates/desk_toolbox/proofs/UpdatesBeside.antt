@@ -188,7 +188,7 @@ module _ {V : Type 0} {H : V → Type 0} (loan : Taken V H → Loan) where
     now = state_of loan new after
 
     -- no update is open, and the screen has the same sides
-    whole_unopened : (a b : Activity) → SameSides was.desk now.desk → UpdatesNone b → IsWholeUpdates loan a t u → IsWholeUpdates loan b new u
+    pub whole_unopened : (a b : Activity) → SameSides was.desk now.desk → UpdatesNone b → IsWholeUpdates loan a t u → IsWholeUpdates loan b new u
     whole_unopened a b sides none whole = record {
       width = whole.width ∙ sym (ap nat_abs sides.width);
       height = whole.height ∙ sym (ap nat_abs sides.height);
@@ -196,7 +196,7 @@ module _ {V : Type 0} {H : V → Type 0} (loan : Taken V H → Loan) where
     }
 
     -- the windows did not change
-    whole_unchanged : (a : Activity) → IsUnchanged was now → IsWholeUpdates loan a t u → IsWholeUpdates loan a new u
+    pub whole_unchanged : (a : Activity) → IsUnchanged was now → IsWholeUpdates loan a t u → IsWholeUpdates loan a new u
     whole_unchanged a unchanged whole = record {
       width = whole.width ∙ sym (ap (λ (d : FullDesk). nat_abs d.width) unchanged.desk);
       height = whole.height ∙ sym (ap (λ (d : FullDesk). nat_abs d.height) unchanged.desk);

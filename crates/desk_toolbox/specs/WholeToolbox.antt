@@ -22,7 +22,7 @@ use Rattle.desk_toolbox.specs.ToolboxStates.{ToolboxState}
 module _ {V : Type 0} {H : V → Type 0} (loan : Taken V H → Loan) {W : Type 0} {K : W → Type 0} (menu_loan : TakenMenu W K → MenuLoan)
     {U : Type 0} {J : U → Type 0} (control_loan : TakenControl U J → ControlLoan) where
   -- a Toolbox and the slots of its stocks, between calls: each of its managers is whole
-  pub record IsWholeToolbox (t : Toolbox V W U H K J) (slots : List SlotView) (kept : List MenuSlot) (held : List ControlSlot) : Type 0 where
+  pub record IsWholeToolbox (t : Toolbox V U W H J K) (slots : List SlotView) (kept : List MenuSlot) (held : List ControlSlot) : Type 0 where
     pub windows : IsWholeManager loan t.windows slots
     pub updates : IsWholeUpdates loan t.activity t.windows t.updates
     pub controls : AreWholeControls (desk_of loan t.windows []).windows (controls_state control_loan t.controls held)
@@ -30,14 +30,14 @@ module _ {V : Type 0} {H : V → Type 0} (loan : Taken V H → Loan) {W : Type 0
     pub menus : IsWholeMenus menu_loan t.windows t.activity t.menus kept
 
   -- a Toolbox by itself: it is whole over some slots
-  pub record IsKeptToolbox (t : Toolbox V W U H K J) : Type 0 where
+  pub record IsKeptToolbox (t : Toolbox V U W H J K) : Type 0 where
     pub slots : List SlotView
     pub kept : List MenuSlot
     pub held : List ControlSlot
     pub whole : IsWholeToolbox t slots kept held
 
   -- its state: what its windows show of controls is what these show
-  abbrev pub toolbox_state : Toolbox V W U H K J → List SlotView → List MenuSlot → List ControlSlot → ToolboxState
+  abbrev pub toolbox_state : Toolbox V U W H J K → List SlotView → List MenuSlot → List ControlSlot → ToolboxState
   toolbox_state t slots kept held = record {
     desk = desk_with (opened t.activity t.updates) (state_showing (controls_show (records_of control_loan t.controls)) (state_of loan t.windows slots));
     controls = controls_state control_loan t.controls held;

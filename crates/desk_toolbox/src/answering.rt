@@ -6,6 +6,9 @@ ghost use Rattle.control_mgr.specs.ControlDesks.{ControlSlot};
 ghost use Rattle.control_mgr.specs.InUse.{AreStocked};
 ghost use Rattle.control_mgr.specs.WholeControls.{AreLiveControls, controls_state, records_of, slots_of};
 ghost use Rattle.menu_mgr.specs.MenuDesks.{MenuSlot};
+ghost use Rattle.menu_mgr.specs.WholeMenus.{IsWholeMenus};
+ghost use Rattle.window_mgr.specs.Whole.{IsWholeManager};
+ghost use Rattle.window_update.specs.WholeUpdates.{IsWholeUpdates};
 ghost use Rattle.desk_toolbox.specs.Run.{AreControlsLeft, IsAdmitted, IsControlTold, IsEventAnswer, IsFormFault, IsWindowAnswered, IsWindowMade, IsWindowTold, is_covered, is_hidden_by_menu, is_under_menu};
 ghost use Rattle.desk_toolbox.specs.ToolboxStates.{ToolboxState};
 ghost use Rattle.desk_toolbox.specs.WholeToolbox.{IsKeptToolbox, IsWholeToolbox, toolbox_state};
@@ -14,6 +17,7 @@ use crate::{
     Call, ControlCall, ControlReply, EventCall, EventReply, Found, PointInWindow, Reply, Toolbox,
     WindowCall, WindowPart, WindowReply,
 };
+use control_mgr::Controls;
 use def_iface::{
     ControlStock, Defined, DefinedControl, DefinedMenu, MenuStock, Stock, Stocked, StockedControls,
     StockedMenus, Taken, TakenControl, TakenMenu,
@@ -140,27 +144,10 @@ impl Toolbox {
             Ok(reply) => {
                 follow(&mut self.windows, call);
                 self.events.follow(call);
-                self.forget_controls(call, stock);
+                forget_controls(&mut self.controls, call, &mut stock.controls);
                 Ok(reply)
             }
             Err(refusal) => Err(refusal),
-        }
-    }
-
-    /// The controls of a window that was disposed of go with it.
-    fn forget_controls(&mut self, call: &WindowCall<'_>, stock: &mut Stock)
-        requires live { AreLiveControls (records_of ⟦<TakenControl as DefinedControl>⟧.control_loan self.old.controls) }
-        requires stocked { AreStocked (λ d. d.stage) (slots_of (records_of ⟦<TakenControl as DefinedControl>⟧.control_loan self.old.controls))
-            (⟦<ControlStock as StockedControls>⟧.control_slots stock.old.controls) }
-        ensures left { AreControlsLeft call.now
-            (controls_state ⟦<TakenControl as DefinedControl>⟧.control_loan self.old.controls (⟦<ControlStock as StockedControls>⟧.control_slots stock.old.controls))
-            (controls_state ⟦<TakenControl as DefinedControl>⟧.control_loan self.new.controls (⟦<ControlStock as StockedControls>⟧.control_slots stock.new.controls)) }
-        ensures rest { self.new ≡ record self.old { controls = self.new.controls } }
-        ensures windows { ⟦<Stock as Stocked>⟧.slots stock.new ≡ ⟦<Stock as Stocked>⟧.slots stock.old }
-        ensures menus { ⟦<MenuStock as StockedMenus>⟧.menu_slots stock.new.menus ≡ ⟦<MenuStock as StockedMenus>⟧.menu_slots stock.old.menus }
-    {
-        if let WindowCall::Dispose(window) = call {
-            self.controls.end_of(*window, &mut stock.controls);
         }
     }
 
@@ -232,8 +219,10 @@ impl Toolbox {
         requires whole { IsWholeToolbox ⟦<Taken as Defined>⟧.loan ⟦<TakenMenu as DefinedMenu>⟧.menu_loan ⟦<TakenControl as DefinedControl>⟧.control_loan self.old
             (⟦<Stock as Stocked>⟧.slots stock.old) (⟦<MenuStock as StockedMenus>⟧.menu_slots stock.old.menus) (⟦<ControlStock as StockedControls>⟧.control_slots stock.old.controls) }
         requires admitted { gate self.old.activity (window_standing call.now) ≡ None }
-        ensures whole { IsWholeToolbox ⟦<Taken as Defined>⟧.loan ⟦<TakenMenu as DefinedMenu>⟧.menu_loan ⟦<TakenControl as DefinedControl>⟧.control_loan self.new
-            (⟦<Stock as Stocked>⟧.slots stock.new) (⟦<MenuStock as StockedMenus>⟧.menu_slots stock.new.menus) (⟦<ControlStock as StockedControls>⟧.control_slots stock.new.controls) }
+        ensures windows { IsWholeManager ⟦<Taken as Defined>⟧.loan self.new.windows (⟦<Stock as Stocked>⟧.slots stock.new) }
+        ensures updates { IsWholeUpdates ⟦<Taken as Defined>⟧.loan self.new.activity self.new.windows self.new.updates }
+        ensures menus_whole { IsWholeMenus ⟦<TakenMenu as DefinedMenu>⟧.menu_loan self.new.windows self.new.activity self.new.menus
+            (⟦<MenuStock as StockedMenus>⟧.menu_slots stock.new.menus) }
         ensures step { IsWindowAnswered call.now result
             (toolbox_state ⟦<Taken as Defined>⟧.loan ⟦<TakenMenu as DefinedMenu>⟧.menu_loan ⟦<TakenControl as DefinedControl>⟧.control_loan self.old
             (⟦<Stock as Stocked>⟧.slots stock.old) (⟦<MenuStock as StockedMenus>⟧.menu_slots stock.old.menus) (⟦<ControlStock as StockedControls>⟧.control_slots stock.old.controls)).desk
@@ -265,6 +254,24 @@ impl Toolbox {
         let active = self.windows.list().active();
         let update = first_to_update(&self.windows, self.activity);
         self.events.perform(call, active, update)
+    }
+}
+
+/// The controls of a window that was disposed of go with it.
+fn forget_controls(
+    controls: &mut Controls<TakenControl>,
+    call: &WindowCall<'_>,
+    stock: &mut ControlStock,
+)
+    requires live { AreLiveControls (records_of ⟦<TakenControl as DefinedControl>⟧.control_loan controls.old) }
+    requires stocked { AreStocked (λ d. d.stage) (slots_of (records_of ⟦<TakenControl as DefinedControl>⟧.control_loan controls.old))
+        (⟦<ControlStock as StockedControls>⟧.control_slots stock.old) }
+    ensures { AreControlsLeft call.now
+        (controls_state ⟦<TakenControl as DefinedControl>⟧.control_loan controls.old (⟦<ControlStock as StockedControls>⟧.control_slots stock.old))
+        (controls_state ⟦<TakenControl as DefinedControl>⟧.control_loan controls.new (⟦<ControlStock as StockedControls>⟧.control_slots stock.new)) }
+{
+    if let WindowCall::Dispose(window) = call {
+        controls.end_of(*window, stock);
     }
 }
 

@@ -98,12 +98,15 @@ pub fn what_is_told_comes_first_in_the_order()
         → All (λ r. r.0 ≡ true → is_before e r.1 ≡ true) reasons }
 {}
 
-/// Whatever a call does, the stock has the same slots, for the same kinds: those of windows, and those of menus.
-#[tactic(auto, using(crate::proofs::Runs::step_keeps_kinds, crate::proofs::MenuKinds::step_keeps_menu_kinds))]
+/// Whatever a call does, the stock has the same slots, for the same kinds: those of windows, of controls and of menus.
+#[tactic(auto, using(crate::proofs::Runs::step_keeps_kinds, crate::proofs::ControlKinds::step_keeps_control_kinds, crate::proofs::MenuKinds::step_keeps_menu_kinds))]
 pub fn steps_keep_the_kinds()
     ensures windows { (call : Call) (answer : Result Reply Refusal) (before after : ToolboxState)
         → IsStep call answer before after
         → map (λ slot. slot.kind) after.desk.windows.desk.stock ≡ map (λ slot. slot.kind) before.desk.windows.desk.stock }
+    ensures controls { (call : Call) (answer : Result Reply Refusal) (before after : ToolboxState)
+        → IsStep call answer before after
+        → map (λ slot. slot.kind) after.controls.stock ≡ map (λ slot. slot.kind) before.controls.stock }
     ensures menus { (call : Call) (answer : Result Reply Refusal) (before after : ToolboxState)
         → IsStep call answer before after
         → map (λ slot. slot.kind) after.menus.stock ≡ map (λ slot. slot.kind) before.menus.stock }

@@ -102,7 +102,7 @@ impl Toolbox {
         ensures events { IfOk result (λ t. t.events ≡ first_events) }
         ensures whole { IfOk result (λ t. (slots : List SlotView) (kept : List MenuSlot) (held : List ControlSlot) → All IsFull slots
             → All IsMenuFull kept → All IsControlFull held → IsWholeToolbox ⟦<Taken as Defined>⟧.loan ⟦<TakenMenu as DefinedMenu>⟧.menu_loan ⟦<TakenControl as DefinedControl>⟧.control_loan t slots kept held) }
-        ensures just_begun { IfOk result (λ t. (slots : List SlotView) (kept : List MenuSlot) (held : List ControlSlot) → All IsFull slots
+        ensures just_begun { IfOk result (λ t. (slots : List SlotView) (kept : List MenuSlot) (held : List ControlSlot) → All IsFull slots → All IsControlFull held
             → IsJustBegun (toolbox_state ⟦<Taken as Defined>⟧.loan ⟦<TakenMenu as DefinedMenu>⟧.menu_loan ⟦<TakenControl as DefinedControl>⟧.control_loan t slots kept held)) }
         ensures in_range { IfOk result (λ t. screens.is_screen width height bar ≡ true) }
         ensures refused { IfErr result (λ e. (e.font ≡ font)
@@ -301,7 +301,7 @@ impl Toolbox {
         ensures controls { AreControlsClosed (records_of ⟦<TakenControl as DefinedControl>⟧.control_loan self.controls)
             (⟦<ControlStock as StockedControls>⟧.control_slots stock.old.controls) (⟦<ControlStock as StockedControls>⟧.control_slots stock.new.controls) }
         ensures menus { AreMenusClosed (menus_of ⟦<TakenMenu as DefinedMenu>⟧.menu_loan self.menus.list.menus.items)
-            (⟦<MenuStock as StockedMenus>⟧.menu_slots stock.old.menus) (⟦<ControlStock as StockedControls>⟧.control_slots stock.old.controls) (⟦<MenuStock as StockedMenus>⟧.menu_slots stock.new.menus) (⟦<ControlStock as StockedControls>⟧.control_slots stock.new.controls) }
+            (⟦<MenuStock as StockedMenus>⟧.menu_slots stock.old.menus) (⟦<MenuStock as StockedMenus>⟧.menu_slots stock.new.menus) }
     {
         let Toolbox {
             windows,
