@@ -38,7 +38,7 @@ use Rattle.control_mgr.specs.declared.setting.State.{State}
 use Rattle.control_mgr.specs.declared.spots.Spot.{Spot}
 use Rattle.control_mgr.specs.ControlDesks.{ControlDesk, ControlRecord, ControlSlot, control_of, index_of}
 use Rattle.control_mgr.specs.ControlRefusals.{missing_refusals, point_refusals}
-use Rattle.control_mgr.specs.ControlSteps.{IsControlStep, IsHighlighted, IsShownAnew, IsTracked, SameShown, highlight_of, is_thumb, released, released_setting, tested, tracked_part}
+use Rattle.control_mgr.specs.ControlSteps.{IsControlStep, IsHighlighted, IsShownAnew, IsTracked, SameShown, highlight_after, highlight_of, is_thumb, released, released_setting, tested, tracked_part}
 use Rattle.control_mgr.specs.Judged.{part_tested}
 use Rattle.control_mgr.specs.Spots.{IsSpotOf, opened, with_state}
 use Rattle.control_mgr.specs.WholeControls.{AreBeside, IsTrackable, LeavesControls, control_desk, controls_state, records_of}
@@ -57,8 +57,8 @@ near : (p : Point) → in_plane p ≡ true → first_refusal (point_refusals p) 
 near p e = one_fails (not (in_plane p)) OutOfRange (ap not e)
 
 -- the state of a control that was let go
-pub released_agrees : (k : TrackedControl) (p : Point) (part : Option ControlPart) (was is : State) (x : ControlRecord) → was ≡ state_of_control x → is.values ≡ released_setting k p part x → is.highlight ≡ 0 → is.title ≡ was.title → with_state is x ≡ released k p part x
-released_agrees k p part was is x e v h t = λ i. record x { values = v i; highlight = h i; title = (t ∙ ap (λ (y : State). y.title) e) i }
+pub released_agrees : (k : TrackedControl) (p : Point) (part : Option ControlPart) (was is : State) (x : ControlRecord) → was ≡ state_of_control x → is.values ≡ released_setting k p part x → is.highlight ≡ highlight_after k.part was.highlight → is.title ≡ was.title → with_state is x ≡ released k p part x
+released_agrees k p part was is x e v h t = λ i. record x { values = v i; highlight = (h ∙ ap (λ (y : State). highlight_after k.part y.highlight) e) i; title = (t ∙ ap (λ (y : State). y.title) e) i }
 
 module _ {V : Type 0} {H : V → Type 0} (loan : Taken V H → Loan) {W : Type 0} {K : W → Type 0} (control_loan : TakenControl W K → ControlLoan) where
   -- ---- controls shown anew

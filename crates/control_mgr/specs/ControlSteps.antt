@@ -216,9 +216,14 @@ dragged k p c = settled c.values.minimum c.values.maximum
 abbrev pub released_setting : TrackedControl → Point → Option ControlPart → ControlRecord → Setting
 released_setting k p answer c = if is_thumb k.part && is_some answer then dragged k p c else c.values
 
--- the control then, which is not highlighted
+-- how a control is highlighted once the tracking of this part ended, where it was highlighted so: not any more, but that a thumb
+-- that is tracked is never highlighted, so that its end leaves this alone too
+abbrev pub highlight_after : ControlPart → ℕ → ℕ
+highlight_after part highlight = if is_thumb part then highlight else 0
+
+-- the control then
 abbrev pub released : TrackedControl → Point → Option ControlPart → ControlRecord → ControlRecord
-released k p answer c = record c { highlight = 0; values = released_setting k p answer c }
+released k p answer c = record c { highlight = highlight_after k.part c.highlight; values = released_setting k p answer c }
 
 -- the control is highlighted so, where its part that is tracked is no thumb
 abbrev pub IsHighlighted : Bool → ControlOf → ℕ → ControlDesk → ControlDesk → Type 0

@@ -10,7 +10,7 @@ ghost use Rattle.window_mgr.specs.DeskStates.{Opened};
 ghost use Rattle.control_list.specs.Lists.{with_highlight};
 ghost use Rattle.control_list.specs.Seen.{seen};
 ghost use Rattle.control_mgr.specs.ControlDesks.{index_of};
-ghost use Rattle.control_mgr.specs.ControlSteps.{IsControlStep, IsHighlighted, IsShownAnew, dragged, highlight_of, is_part, is_thumb, released_setting, tracked_part};
+ghost use Rattle.control_mgr.specs.ControlSteps.{IsControlStep, IsHighlighted, IsShownAnew, dragged, highlight_after, highlight_of, is_part, is_thumb, released_setting, tracked_part};
 ghost use Rattle.control_mgr.specs.Spots.{IsSpot, IsSpotOf, opened};
 ghost use Rattle.control_mgr.specs.Settled.{AreSettled};
 ghost use Rattle.control_mgr.specs.WholeControls.{AreBeside, IsTrackable, LeavesControls, records_of};
@@ -36,6 +36,16 @@ fn highlight_of(part: Option<ControlPart>) -> Highlight
         Some(part) => Highlight::of_part(part),
         None => Highlight::none(),
     }
+}
+
+/// How a control is highlighted once the tracking of a part ended, where it was highlighted so: the tracking of a thumb leaves that.
+fn highlight_after(part: ControlPart, highlight: Highlight) -> Highlight
+    ensures { result ≡ highlight_after part highlight }
+{
+    if is_thumb(part) {
+        return highlight;
+    }
+    Highlight::none()
 }
 
 /// Whether the part is a thumb.
@@ -229,7 +239,7 @@ impl Controls<TakenControl> {
         let spot = self.spot(windows, tracked.control)?;
         let part = self.tracked_part(spot.control, tracked, point);
         let mut state = self.state(spot.control);
-        state.highlight = Highlight::none();
+        state.highlight = highlight_after(tracked.part, state.highlight);
         state.values = self.released_values(spot.control, tracked, point, part);
         self.put(windows, spot, state);
         *activity = Activity::Idle;

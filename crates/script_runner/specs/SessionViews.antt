@@ -23,7 +23,7 @@ module _ {V : Type 0} {H : V → Type 0} (loan : Taken V H → Loan) {W : Type 0
   state_with None None slots kept held = unmade [] slots kept held
 
   -- the session over the slots of a stock, of windows, of menus and of controls
-  abbrev pub session_of : Session V W U H K J → List SlotView → List MenuSlot → List ControlSlot → SessionState
+  abbrev pub session_of : Session V U W H J K → List SlotView → List MenuSlot → List ControlSlot → SessionState
   session_of s slots kept held = state_with s.desk s.font slots kept held
 
   abbrev pub IsReadyWith : Option (Toolbox V U W H J K) → Option (List ℕ) → List SlotView → List MenuSlot → List ControlSlot → Type 0
@@ -33,5 +33,5 @@ module _ {V : Type 0} {H : V → Type 0} (loan : Taken V H → Loan) {W : Type 0
 
   -- between two lines: the desk and the stock belong together, and without a desk there is the font for it, and no
   -- definition is in use
-  abbrev pub IsReady : Session V W U H K J → List SlotView → List MenuSlot → List ControlSlot → Type 0
+  abbrev pub IsReady : Session V U W H J K → List SlotView → List MenuSlot → List ControlSlot → Type 0
   IsReady s slots kept held = IsReadyWith s.desk s.font slots kept held

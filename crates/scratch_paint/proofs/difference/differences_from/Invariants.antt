@@ -9,6 +9,6 @@ use Rattle.scratch_paint.proofs.difference.differences_from.Given as goal
 
 abbrev pub invariant-loop-row : goal.invariant-loop-row
 invariant-loop-row g l = record {
-  counted : l.count ≡ differences_of (toolbox_state (taken.loan-value g.dyn-1).it (taken_menu.menu_loan-value g.dyn-2).it (taken_control.control_loan-value g.dyn-3).it l.fn.toolbox [] [] []) (bit l.fn.painted) l.fn.painted.width l.row;
+  counted : l.count ≡ differences_of (toolbox_state (taken.loan-value g.dyn-1).it (taken_menu.menu_loan-value g.dyn-3).it (taken_control.control_loan-value g.dyn-2).it l.fn.toolbox [] [] []) (bit l.fn.painted) l.fn.painted.width l.row;
   few : l.count ≤ l.fn.painted.width * l.row;
 }

@@ -9,6 +9,6 @@ use Rattle.scratch_paint.proofs.difference.differences_in_row.Given as goal
 
 abbrev pub invariant-loop-column : goal.invariant-loop-column
 invariant-loop-column g l = record {
-  counted : l.count ≡ row_differences (toolbox_state (taken.loan-value g.dyn-1).it (taken_menu.menu_loan-value g.dyn-2).it (taken_control.control_loan-value g.dyn-3).it l.fn.toolbox [] [] []) (bit l.fn.painted) l.column l.fn.row;
+  counted : l.count ≡ row_differences (toolbox_state (taken.loan-value g.dyn-1).it (taken_menu.menu_loan-value g.dyn-3).it (taken_control.control_loan-value g.dyn-2).it l.fn.toolbox [] [] []) (bit l.fn.painted) l.column l.fn.row;
   few : l.count ≤ l.column;
 }

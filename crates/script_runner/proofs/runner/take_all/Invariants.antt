@@ -16,10 +16,10 @@ abbrev pub invariant-loop-byte : goal.invariant-loop-byte
 invariant-loop-byte g l =
     let loan = (taken.loan-value g.dyn-1).it in
     let slots = (stock.slots-value g.dyn-1).it in
-    let menu_loan = (taken_menu.menu_loan-value g.dyn-2).it in
-    let kept = (menu_stock.menu_slots-value g.dyn-2).it in
-    let control_loan = (taken_control.control_loan-value g.dyn-3).it in
-    let held = (control_stock.control_slots-value g.dyn-3).it in
+    let menu_loan = (taken_menu.menu_loan-value g.dyn-3).it in
+    let kept = (menu_stock.menu_slots-value g.dyn-3).it in
+    let control_loan = (taken_control.control_loan-value g.dyn-2).it in
+    let held = (control_stock.control_slots-value g.dyn-2).it in
     record {
       ready : IsReady loan menu_loan control_loan l.session (slots l.stock.windows) (kept l.stock.menus) (held l.stock.controls);
       quiet : (g.W.Sink.output l.sink).has_failed ≡ false;

@@ -10,8 +10,8 @@ use Rattle.script_runner.proofs.session.answer_on.Goals as goal
 pub returns-in-Image-clause-answered : goal.returns-in-Image-clause-answered
 returns-in-Image-clause-answered g c =
     let slots = (stock.slots-value g.dyn-1).it c.args.stock.now.windows in
-    let kept = (menu_stock.menu_slots-value g.dyn-2).it c.args.stock.now.menus in
-    let held = (control_stock.control_slots-value g.dyn-3).it c.args.stock.now.controls in
+    let kept = (menu_stock.menu_slots-value g.dyn-3).it c.args.stock.now.menus in
+    let held = (control_stock.control_slots-value g.dyn-2).it c.args.stock.now.controls in
     rw c.in-Image.is (screen_answered c.args.raw _ c.screen.result.now _ _ c.show_image.result c.screen.ensures.width c.screen.ensures.height (c.screen.ensures.shown slots kept held) c.show_image.ensures)
 
 pub returns-in-Call-clause-answered : goal.returns-in-Call-clause-answered

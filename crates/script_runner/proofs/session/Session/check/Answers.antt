@@ -18,8 +18,8 @@ differences-count-requires-clause-layers g c = rw c.controls.ensures (c.requires
 pub returns : goal.returns
 returns g c = λ slots kept held.
     let loan = (taken.loan-value g.dyn-1).it in
-    let menu_loan = (taken_menu.menu_loan-value g.dyn-2).it in
-    let control_loan = (taken_control.control_loan-value g.dyn-3).it in
+    let menu_loan = (taken_menu.menu_loan-value g.dyn-3).it in
+    let control_loan = (taken_control.control_loan-value g.dyn-2).it in
     let session = session_of loan menu_loan control_loan c.args.self.now slots kept held in
     let line : IsCheckLine session (check_text (result_ok c.match-self.count)) =
     elim c.match-self.branch [
