@@ -19,6 +19,7 @@ pub mod Stands
 pub mod StandsOpen
 pub mod MenuKinds
 pub mod ControlKinds
+pub mod ControlNumbers
 pub mod MenuNumbers
 pub mod LitMenus
 pub mod PulledMenus

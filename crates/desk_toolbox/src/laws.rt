@@ -45,7 +45,7 @@ ghost use Rattle.def_iface.specs.Desk.{on_screen};
 ghost use Rattle.desk_toolbox.specs.Fronts.{IsScreenAllRight, IsScreenRight, is_on_menu, screen_bit, screen_of, screen_owner, screen_scratch};
 ghost use Rattle.desk_toolbox.specs.Fronts.ScreenOwner.{PulledMenu, Base};
 ghost use Rattle.desk_toolbox.specs.ToolboxStates.{ToolboxState, IsToolboxUnchanged};
-ghost use Rattle.desk_toolbox.specs.Run.{IsStep, IsRunOfCalls, found_menu, made, AreCounted};
+ghost use Rattle.desk_toolbox.specs.Run.{IsStep, IsRunOfCalls, controls_made, found_menu, made, AreCounted};
 
 /// Painting the desk from nothing, back to front, gives each pixel the value of its owner.
 #[tactic(auto, using(crate::proofs::Sayings::scratch_is_owners_on))]
@@ -126,6 +126,13 @@ pub fn steps_stay_right()
 pub fn windows_are_counted()
     ensures { (first last : ToolboxState) (calls : List Call) (answers : List (Result Reply Refusal))
         → IsRunOfCalls first calls answers last → AreCounted first.desk.windows.desk.next (made answers) }
+{}
+
+/// So have the controls that a run makes, in whichever windows.
+#[tactic(auto, using(crate::proofs::ControlNumbers::controls_are_counted))]
+pub fn controls_are_counted()
+    ensures { (first last : ToolboxState) (calls : List Call) (answers : List (Result Reply Refusal))
+        → IsRunOfCalls first calls answers last → AreCounted first.controls.next (controls_made answers) }
 {}
 
 /// After any run from a right state each pixel of the screen in no update set has the value that
