@@ -13,6 +13,11 @@ ghost use Rattle.window_mgr.specs.FullDesk.{FullDesk, IsRightState, layered_desk
 ghost use Rattle.window_mgr.specs.Finding.{front_of};
 ghost use Rattle.tb_geom.specs.declared.refusal.Refusal.TheVariants.{Busy, NoSuchMenu, NoSuchWindow, StalePixels, TooLong};
 ghost use Rattle.tb_geom.specs.Refusals.{first_refusal, is_before};
+ghost use Rattle.desk_call.specs.declared.control.ControlCall.{ControlCall};
+ghost use Rattle.desk_call.specs.declared.control.ControlCall.TheVariants as controls;
+ghost use Rattle.desk_call.specs.declared.control.NewControl.{NewControl};
+ghost use Rattle.control_mgr.specs.ControlDesks.{ControlSlot, ControlsState};
+ghost use Rattle.control_mgr.specs.ControlRefusals.{control_form_refusals, control_refusals};
 ghost use Rattle.desk_call.specs.declared.frame.FrameCall.{FrameCall};
 ghost use Rattle.desk_call.specs.declared.menu.MenuCall.{MenuCall};
 ghost use Rattle.desk_call.specs.declared.menu.MenuCall.TheVariants as asks;
@@ -69,7 +74,7 @@ pub fn a_refusal_is_the_first_that_holds()
 {}
 
 /// The reasons to refuse each call stand in the written order.
-#[tactic(auto, using(crate::proofs::Ordering::frame_reasons_in_order, crate::proofs::Ordering::menu_reasons_in_order))]
+#[tactic(auto, using(crate::proofs::Ordering::frame_reasons_in_order, crate::proofs::Ordering::control_reasons_in_order, crate::proofs::Ordering::menu_reasons_in_order))]
 pub fn reasons_stand_in_the_written_order()
     ensures new_window { (w : NewWindow) (desk : FullDesk) → AreInOrder (new_window_refusals w desk) }
     ensures draw { (judged : Option Refusal) (window : Option WindowRecord) → AreInOrder (draw_refusals judged window) }
@@ -83,6 +88,9 @@ pub fn reasons_stand_in_the_written_order()
     ensures area { (judged : Option Refusal) (missing wrong : Bool)
         → AreInOrder (area_refusals judged missing ++ (wrong, StalePixels) ∷ []) }
     ensures frame { (call : FrameCall) (desk : FullDesk) → AreInOrder (frame_refusals call desk) }
+    ensures control { (call : ControlCall) (desk : FullDesk) (s : ControlsState) → AreInOrder (control_refusals call desk s) }
+    ensures control_form { (n : NewControl) (slots : List ControlSlot) (busy missing : Bool)
+        → AreInOrder (control_form_refusals (controls.New n) slots ++ (busy, Busy) ∷ (missing, NoSuchWindow) ∷ []) }
     ensures menu { (call : MenuCall) (menus : MenusState) → AreInOrder (menu_refusals call menus) }
     ensures menu_form { (n : NewMenu) (slots : List MenuSlot) (busy missing : Bool)
         → AreInOrder (menu_form_refusals (asks.New n) slots ++ (busy, Busy) ∷ (missing, NoSuchMenu) ∷ []) }
