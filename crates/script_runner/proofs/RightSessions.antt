@@ -7,7 +7,6 @@ use Rattle.menu_mgr.specs.MenuDesks.{MenuSlot}
 use Rattle.desk_toolbox.specs.ToolboxStates.{ToolboxState}
 use Rattle.desk_toolbox.proofs.ControlsBeside.{IsRightToolbox}
 use Rattle.desk_toolbox.proofs.Runs.{step_stays_right}
-use Rattle.desk_toolbox.proofs.TrackedControls.{begun_controls}
 use Rattle.scratch_paint.proofs.DifferenceLemmas.{none_differs}
 use Rattle.script_text.specs.declared.command.Command.{Command}
 use Rattle.script_text.specs.declared.command.Command.TheVariants.{Desk, Image, Call}
@@ -32,7 +31,7 @@ first_right raw s (Call asked) text after answered right = answers_right raw s (
 
 opens_right : (raw : Bool) (why : Option Refusal) (font : List ℕ) (slots : List SlotView) (kept : List MenuSlot) (held : List ControlSlot) (command : Command) (text : List ℕ) (new : SessionState) → Opens raw why font slots kept held command text new → IsRightSession new
 opens_right raw (Some e) font slots kept held command text new opened = subst IsRightSession (sym opened.1) tt
-opens_right raw None font slots kept held command text new (first, after, fresh, answered, is) = subst IsRightSession (sym is) (first_right raw first command text after answered (record { right = fresh.right; controls = begun_controls first fresh }))
+opens_right raw None font slots kept held command text new (first, after, fresh, answered, is) = subst IsRightSession (sym is) (first_right raw first command text after answered (record { right = fresh.right; controls = fresh.whole }))
 
 obeys_right : (raw : Bool) (old : SessionState) (command : Command) (text : List ℕ) (new : SessionState) → Obeys raw old command text new → IsRightSession old → IsRightSession new
 obeys_right raw (unmade font slots kept held) command text new obeyed right = opens_right raw (why_unmade command slots kept held) font slots kept held command text new obeyed

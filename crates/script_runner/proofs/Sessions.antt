@@ -21,6 +21,7 @@ use Rattle.window_mgr.specs.Records.{desk_of}
 use Rattle.desk_toolbox.specs.Reached.{IsJustBegun}
 use Rattle.desk_toolbox.specs.ToolboxStates.{ToolboxState}
 use Rattle.desk_toolbox.specs.WholeToolbox.{toolbox_state}
+use Rattle.desk_toolbox.proofs.TrackedControls.{begun_controls}
 use Rattle.script_text.specs.declared.command.Command.{Command}
 use Rattle.script_text.specs.declared.command.DeskSize.{DeskSize}
 use Rattle.script_runner.specs.Session.{unmade, made, IsNewDesk, Opens, reply_shown, first_size, is_known, may_be, why_unmade}
@@ -46,6 +47,7 @@ new_desk loan menu_loan control_loan t font slots kept held size wanted same emp
       idle = begun.idle;
       drawn = empty.drawn;
       right = begun.right;
+      whole = begun_controls (toolbox_state loan menu_loan control_loan t slots kept held) begun;
       menus = λ i. record { menus = begun.menus i; highlighted = begun.highlighted i; stock = kept };
       controls = λ i. record { controls = begun.controls i; next = begun.next_control i; stock = held };
       events = begun.events;

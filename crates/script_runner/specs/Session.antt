@@ -21,6 +21,7 @@ use Rattle.menu_mgr.specs.MenuDesks.{MenuSlot}
 use Rattle.menu_mgr.specs.MenuRefusals.{menu_kind}
 use Rattle.desk_toolbox.specs.EventSteps.{first_events}
 use Rattle.desk_toolbox.specs.Fronts.{screen_of}
+use Rattle.desk_toolbox.specs.Reached.{AreControlsRight}
 use Rattle.desk_toolbox.specs.Run.{IsStep}
 use Rattle.desk_toolbox.specs.ToolboxStates.{ToolboxState}
 use Rattle.desk_ground.specs.Screens.{is_screen}
@@ -39,12 +40,13 @@ pub data SessionState : Type 0 where
   made : ToolboxState → SessionState
 
 -- a new desk of this size, with this font: it has no windows, no controls and no menus, no title is highlighted, nothing of it
--- is to be redrawn, it is right, and nothing was posted or told
+-- is to be redrawn, it is right, as its controls are, and nothing was posted or told
 pub record IsNewDesk (size : DeskSize) (font : List ℕ) (slots : List SlotView) (kept : List MenuSlot) (held : List ControlSlot) (s : ToolboxState) : Type 0 where
   pub desk : s.desk.windows.desk ≡ empty_desk size.width size.height size.bar font slots
   pub idle : s.desk.activity ≡ Idle
   pub drawn : (p : Point) → s.desk.windows.stale p ≡ false
   pub right : IsRightState s.desk.windows
+  pub whole : AreControlsRight s
   pub menus : s.menus ≡ record { menus = []; highlighted = None; stock = kept }
   pub controls : s.controls ≡ record { controls = []; next = Some 1; stock = held }
   pub events : s.events ≡ first_events
