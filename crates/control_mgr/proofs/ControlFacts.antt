@@ -28,6 +28,7 @@ use Rattle.window_mgr.proofs.SlotLemmas.{map-set}
 use Rattle.control_mgr.specs.ControlDesks.{ControlDesk, ControlRecord, ControlSlot, ControlsState, IsControlDeskUnchanged, index_of}
 use Rattle.control_mgr.specs.ControlRefusals.{control_refusals, point_refusals}
 use Rattle.control_mgr.specs.ControlSteps.{AreControlsLaid, IsChangedTo, IsControlEffect, IsControlLaid, IsControlShut, IsControlStep, IsHighlighted, IsReleased, IsShownAnew, IsStepped, IsTracked, is_thumb, tested}
+use Rattle.control_mgr.proofs.Steps.{none_hold}
 use Rattle.control_mgr.proofs.ControlBits.{bare, bare_laid, missing_alike}
 
 -- ---- the desk
@@ -129,11 +130,6 @@ taken_kinds kind loan old new took =
     ∙ map-set (λ (s : ControlSlot). s.kind) old loan.slot (record { kind = kind; held = Some loan.definition }) (record { kind = kind; held = None }) took.held refl
 
 -- ---- each call
-
--- of the first of several reasons to refuse, which does not hold
-first_fails : (b : Bool) (e : Refusal) (rest : List (Bool × Refusal)) → first_refusal ((b, e) ∷ rest) ≡ None → b ≡ false
-first_fails true e rest none = absurd (cc)
-first_fails false e rest none = refl
 
 module _ (before after : ControlDesk) where
   -- a step that leaves the stock and what is open, and the next serial
@@ -241,8 +237,8 @@ module _ (before after : ControlDesk) where
   effect_facts (Find p) answer may (is, same) = both (still_leaves same)
   effect_facts (Test p) answer may (is, same) = both (still_leaves same)
   effect_facts (Track p) answer may (is, done) =
-      both (tracked_leaves p (tested p.control before.controls.controls p.point) (first_fails (is_missing p.control.window before.desk.windows.desk.windows) NoSuchWindow
-      ((is_none (index_of p.control before.controls.controls), NoSuchControl) ∷ point_refusals p.point) may) done)
+      both (tracked_leaves p (tested p.control before.controls.controls p.point) (none_hold (is_missing p.control.window before.desk.windows.desk.windows) NoSuchWindow
+      ((is_none (index_of p.control before.controls.controls), NoSuchControl) ∷ point_refusals p.point) may).0 done)
   effect_facts (Step p) answer may (its, is, done) = both (stepped_leaves before.desk.activity p its done)
   effect_facts (End p) answer may (its, is, done) = both (released_leaves before.desk.activity p its done)
 

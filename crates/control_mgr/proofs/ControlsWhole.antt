@@ -41,15 +41,11 @@ use Rattle.control_mgr.proofs.Made.{whole_made}
 use Rattle.control_mgr.proofs.Moves.{lie_of}
 use Rattle.control_mgr.proofs.Settled.{MayBeSo, changed_alike, settled_told, whole_laid, whole_put}
 use Rattle.control_mgr.proofs.Sets.{state_of_control}
+use Rattle.control_mgr.proofs.Steps.{none_hold}
 
 -- ---- reasons that do not hold
 
--- the first of several reasons does not hold, and the others do not
-first_fails : (b : Bool) (e : Refusal) (rest : List (Bool × Refusal)) → first_refusal ((b, e) ∷ rest) ≡ None → (b ≡ false) × (first_refusal rest ≡ None)
-first_fails true e rest none = absurd (cc)
-first_fails false e rest none = (refl, none)
-
--- nor do the first of them, where others follow
+-- of reasons of which none holds, the first ones do not
 front_fails : (xs ys : List (Bool × Refusal)) → first_refusal (xs ++ ys) ≡ None → first_refusal xs ≡ None
 front_fails [] ys none = refl
 front_fails (x ∷ xs) ys none = by_test (front_fails xs ys) x.0 none
@@ -145,9 +141,9 @@ module _ (before after : ControlDesk) (whole : AreWholeControls before.desk.wind
   -- where nothing refuses a call about a control, its window is there, and what else was asked holds
   asked : (c : ControlOf) (b : Bool) → first_refusal ((is_missing c.window ws, NoSuchWindow) ∷ (is_none (index_of c cs), NoSuchControl) ∷ (not b, OutOfRange) ∷ []) ≡ None → (is_missing c.window ws ≡ false) × (b ≡ true)
   asked c b none =
-      let first = first_fails (is_missing c.window ws) NoSuchWindow ((is_none (index_of c cs), NoSuchControl) ∷ (not b, OutOfRange) ∷ []) none in
-      let second = first_fails (is_none (index_of c cs)) NoSuchControl ((not b, OutOfRange) ∷ []) first.1 in
-      (first.0, not_false b (first_fails (not b) OutOfRange [] second.1).0)
+      let first = none_hold (is_missing c.window ws) NoSuchWindow ((is_none (index_of c cs), NoSuchControl) ∷ (not b, OutOfRange) ∷ []) none in
+      let second = none_hold (is_none (index_of c cs)) NoSuchControl ((not b, OutOfRange) ∷ []) first.1 in
+      (first.0, not_false b (none_hold (not b) OutOfRange [] second.1).0)
 
   -- ---- controls that are made and ended
 
@@ -166,7 +162,7 @@ module _ (before after : ControlDesk) (whole : AreWholeControls before.desk.wind
     reasons =
         ap (λ o. first_refusal (judged_refusals n o before.desk.windows.desk cs before.controls.next)) (sym offered_is)
         ∙ front_fails (judged_refusals n (offered_control n.kind before.controls.stock) before.desk.windows.desk cs before.controls.next) ((is_none (offered_control n.kind before.controls.stock), NoDefinition) ∷ [])
-        (first_fails (not (has_kind n.kind before.controls.stock)) NoSuchName
+        (none_hold (not (has_kind n.kind before.controls.stock)) NoSuchName
         (judged_refusals n (offered_control n.kind before.controls.stock) before.desk.windows.desk cs before.controls.next ++ (is_none (offered_control n.kind before.controls.stock), NoDefinition) ∷ []) none).1
 
     abbrev placed : Bool
@@ -177,8 +173,8 @@ module _ (before after : ControlDesk) (whole : AreWholeControls before.desk.wind
 
     judged : (is_missing n.window ws ≡ false) × (may_be_in (Some made.loan.definition) n.place n.size (record_with n.window ws) ≡ true)
     judged =
-        let first = first_fails (is_missing n.window ws) NoSuchWindow ((not placed, OutOfRange) ∷ others) reasons in
-        (first.0, not_false placed (first_fails (not placed) OutOfRange others first.1).0)
+        let first = none_hold (is_missing n.window ws) NoSuchWindow ((not placed, OutOfRange) ∷ others) reasons in
+        (first.0, not_false placed (none_hold (not placed) OutOfRange others first.1).0)
 
     may : MayBeSo made.loan.definition one
     may =

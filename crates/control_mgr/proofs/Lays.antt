@@ -1,25 +1,22 @@
 -- A control that is laid elsewhere, or shown or hidden: its layer, the plan, and the step.
-use Rattle.std.proofs.Common.{◌≡◌, ℕ, zero, suc, ◌+◌, ◌<◌, Bool, true, false, ◌&&◌, List, [], ◌∷◌, length, get_or, Option, Some, None, refl, sym, ap, ◌∙◌, subst, arith}
+use Rattle.std.proofs.Common.{◌≡◌, ℕ, zero, suc, ◌<◌, true, false, ◌&&◌, List, [], ◌∷◌, length, get_or, Option, Some, refl, sym, ap, ◌∙◌, subst, arith}
 use Rattle.std.specs.Prelude.{IfSome, map, slice_get}
 use Rattle.std.specs.List.{list_all}
-use Rattle.std.specs.Option.{option_map}
 use Rattle.std.proofs.lemmas.Bool.{and_parts}
 use Rattle.tb_geom.specs.declared.point.Point.{Point}
-use Rattle.tb_geom.specs.declared.rect.Rect.{Rect}
 use Rattle.tb_geom.specs.Points.{PixelSet, minus}
 use Rattle.tb_geom.specs.Pixels.{holds}
 use Rattle.tb_geom.specs.Rects.{in_plane, is_in_range, moved_rect}
 use Rattle.control_list.specs.declared.control.Control.{Control}
 use Rattle.control_list.specs.Lists.{controls_of, edit_at, is_in_at, place_among, with_place, with_shown, with_size}
 use Rattle.control_list.specs.Seen.{all_seen, seen}
-use Rattle.control_list.proofs.SeenLemmas.{edit_at-seen, length-seen, place_among-seen, slice_get-seen}
+use Rattle.control_list.proofs.SeenLemmas.{edit_at-seen, length-seen, place_among-seen}
 use Rattle.control_list.proofs.WindowLemmas.{controls_of-edit_at, slice_get-controls_of}
 use Rattle.def_iface.specs.declared.part.Part.{Part}
 use Rattle.def_iface.specs.declared.part.Part.TheVariants as part
-use Rattle.def_iface.specs.declared.size.Size.{Size}
 use Rattle.def_iface.specs.declared.taken.Taken.{Taken}
 use Rattle.def_iface.specs.declared.taken_control.TakenControl.{TakenControl}
-use Rattle.def_iface.specs.ControlMeaning.{ControlDefinition, ControlLoan, SameControlRegions, is_control_size, is_fitting_control}
+use Rattle.def_iface.specs.ControlMeaning.{ControlDefinition, ControlLoan, SameControlRegions, is_control_size}
 use Rattle.def_iface.specs.Meaning.{Loan}
 use Rattle.def_iface.specs.Stocked.{SlotView}
 use Rattle.layer_list.specs.declared.layer.Layer.{Layer}
@@ -29,7 +26,6 @@ use Rattle.layer_list.specs.Changes.{is_gained, reshaped, with_shape}
 use Rattle.layer_list.specs.Holders.{ArePartsApart, IsLayerAt, PlacedLayers, fits_at}
 use Rattle.layer_list.proofs.Parts.{reshaped_apart, reshaped_length, reshaped_part}
 use Rattle.desk_call.specs.declared.control.ControlOf.{ControlOf}
-use Rattle.vis_update.specs.Records.{WindowRecord, record_of}
 use Rattle.vis_update.specs.Relayings.{IsGained, with_layers_of}
 use Rattle.window_list.specs.declared.window.Window.{Window}
 use Rattle.window_mgr.specs.declared.manager.WindowManager.{WindowManager}
@@ -44,17 +40,17 @@ use Rattle.window_mgr.proofs.Contents as contents
 use Rattle.control_mgr.specs.declared.controls.Controls.{Controls}
 use Rattle.control_mgr.specs.declared.laying.Lie.{Lie}
 use Rattle.control_mgr.specs.declared.spots.Spot.{Spot}
-use Rattle.control_mgr.specs.ControlDesks.{ControlRecord, ControlSlot, controls_show}
+use Rattle.control_mgr.specs.ControlDesks.{ControlRecord, controls_show}
 use Rattle.control_mgr.specs.ControlSteps.{AreLayersOf, IsChangedAt, IsControlLaid, IsLayerOf}
 use Rattle.control_mgr.specs.Judged.{may_be_placed}
 use Rattle.control_mgr.specs.Laying.{IsShapeOf, MayLie, MayLieSo}
 use Rattle.control_mgr.specs.Settled.{AreSettled, IsSettledControl}
 use Rattle.control_mgr.specs.Spots.{IsSpot, IsSpotOf, IsTellable, with_lie}
-use Rattle.control_mgr.specs.WholeControls.{AreBeside, AreWholeControls, LeavesControls, control_desk, controls_state, records_of}
+use Rattle.control_mgr.specs.WholeControls.{AreBeside, AreWholeControls, LeavesControls, controls_state, records_of}
 use Rattle.control_mgr.proofs.Edited.{All-there, edit_twice, there_edited, zip_reshape}
 use Rattle.control_mgr.proofs.Puts.{changed_then_told}
 use Rattle.control_mgr.proofs.Settled.{AreJoined, MayBeSo, changed_settled, laid_layer, retold, whole_laid}
-use Rattle.control_mgr.proofs.Places.{IsThere, ItsLayer, at_window, in_its_window, layer_there, names, read_is, record_read, record_there, there_is, within}
+use Rattle.control_mgr.proofs.Places.{ItsLayer, at_window, in_its_window, layer_there, names, read_is, record_read, record_there, there_is, within}
 
 -- ---- where a control may lie
 

@@ -1,17 +1,17 @@
 -- Calls that show, hide, move or size a control.
-use Rattle.std.proofs.Common.{◌≡◌, inr, ℕ, zero, suc, Bool, true, false, ◌&&◌, List, [], ◌∷◌, Option, Some, None, Result, Ok, Err, refl, sym, ap, ◌∙◌, subst}
+use Rattle.std.proofs.Common.{◌≡◌, inr, ℕ, zero, suc, Bool, true, false, ◌&&◌, List, [], ◌∷◌, Some, None, Result, Ok, Err, refl, sym, ap, ◌∙◌, subst}
 use Rattle.std.specs.Prelude.{IfSome, slice_get}
 use Rattle.std.specs.List.{list_all}
 use Rattle.std.proofs.lemmas.Bool.{and_parts}
 use Rattle.tb_geom.specs.declared.point.Point.{Point}
 use Rattle.tb_geom.specs.declared.refusal.Refusal.{Refusal}
-use Rattle.tb_geom.specs.Rects.{in_plane, is_in_range, moved_rect}
+use Rattle.tb_geom.specs.Rects.{is_in_range, moved_rect}
 use Rattle.tb_geom.specs.Refusals.{first_refusal}
-use Rattle.control_list.specs.Lists.{place_among, with_place, with_shown, with_size}
+use Rattle.control_list.specs.Lists.{with_place, with_shown, with_size}
 use Rattle.def_iface.specs.declared.size.Size.{Size}
 use Rattle.def_iface.specs.declared.taken.Taken.{Taken}
 use Rattle.def_iface.specs.declared.taken_control.TakenControl.{TakenControl}
-use Rattle.def_iface.specs.ControlMeaning.{ControlDefinition, ControlLoan, is_control_size, is_fitting_control}
+use Rattle.def_iface.specs.ControlMeaning.{ControlLoan, is_control_size}
 use Rattle.def_iface.specs.Meaning.{Loan}
 use Rattle.def_iface.specs.Stocked.{SlotView}
 use Rattle.layer_list.specs.declared.layer.Layer.{Layer}
@@ -29,7 +29,7 @@ use Rattle.window_mgr.specs.Edits.{IsWindowAt}
 use Rattle.window_mgr.specs.Finding.{record_with}
 use Rattle.window_mgr.specs.Kept.{IsKept}
 use Rattle.window_mgr.specs.Records.{desk_of}
-use Rattle.window_mgr.specs.Whole.{IsSettled, IsWholeManager}
+use Rattle.window_mgr.specs.Whole.{IsSettled}
 use Rattle.window_mgr.proofs.Steps.{found}
 use Rattle.control_mgr.specs.declared.controls.Controls.{Controls}
 use Rattle.control_mgr.specs.declared.laying.Lie.{Lie}
@@ -43,7 +43,7 @@ use Rattle.control_mgr.specs.Settled.{IsSettledControl}
 use Rattle.control_mgr.specs.Spots.{IsSpotOf, with_lie}
 use Rattle.control_mgr.specs.WholeControls.{AreBeside, LeavesControls, control_desk, controls_state, records_of}
 use Rattle.control_mgr.proofs.Edited.{All-there}
-use Rattle.control_mgr.proofs.Places.{ItsLayer, at_window, layer_there, record_there}
+use Rattle.control_mgr.proofs.Places.{at_window, layer_there, record_there}
 use Rattle.control_mgr.proofs.Sets.{named_here}
 use Rattle.control_mgr.proofs.Settled.{changed_alike}
 use Rattle.control_mgr.proofs.Steps.{desk_seen, nothing_missing}

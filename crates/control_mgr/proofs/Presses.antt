@@ -1,6 +1,6 @@
 -- Steps of the tracking of a control: the mouse button pressed, the mouse moved, and the button released.
-use Rattle.std.proofs.Common.{◌≡◌, ℕ, ◌<◌, Bool, true, false, not, ◌&&◌, cond, if◌then◌else◌, List, [], ◌∷◌, ◌++◌, length, get_or, Option, Some, None, Result, Ok, Err, refl, sym, ap, ◌∙◌, subst}
-use Rattle.std.specs.Prelude.{IfSome, is_none, is_some, slice_get}
+use Rattle.std.proofs.Common.{◌≡◌, ℕ, Bool, true, false, not, [], Option, Some, None, Ok, refl, sym, ap, ◌∙◌, subst}
+use Rattle.std.specs.Prelude.{IfSome, is_none, slice_get}
 use Rattle.std.specs.Option.{option_and_then, option_map_or}
 use Rattle.std.proofs.lemmas.Bool.{false≢true}
 use Rattle.tb_geom.specs.declared.point.Point.{Point}
@@ -11,21 +11,17 @@ use Rattle.tb_geom.specs.Rects.{in_plane}
 use Rattle.tb_geom.specs.Refusals.{first_refusal}
 use Rattle.control_values.specs.declared.part.ControlPart.{ControlPart}
 use Rattle.control_values.specs.Parts.{number_of}
-use Rattle.control_list.specs.declared.control.Control.{Control}
 use Rattle.control_list.specs.Lists.{is_control, with_highlight}
-use Rattle.control_list.specs.Seen.{seen}
 use Rattle.control_list.proofs.WindowLemmas.{control_index-edit_at, position_there}
 use Rattle.def_iface.specs.declared.taken.Taken.{Taken}
 use Rattle.def_iface.specs.declared.taken_control.TakenControl.{TakenControl}
-use Rattle.def_iface.specs.ControlMeaning.{ControlDefinition, ControlLoan}
+use Rattle.def_iface.specs.ControlMeaning.{ControlLoan}
 use Rattle.def_iface.specs.Meaning.{Loan}
-use Rattle.def_iface.specs.Stocked.{SlotView}
 use Rattle.desk_call.specs.declared.activity.Activity.{Activity}
 use Rattle.desk_call.specs.declared.activity.Activity.TheVariants.{Idle, TrackingControl}
 use Rattle.desk_call.specs.declared.activity.TrackedControl.{TrackedControl}
 use Rattle.desk_call.specs.declared.control.ControlCall.TheVariants.{Track, Step, End}
 use Rattle.desk_call.specs.declared.control.ControlOf.{ControlOf}
-use Rattle.desk_call.specs.declared.control.ControlReply.{ControlReply}
 use Rattle.desk_call.specs.declared.control.ControlReply.TheVariants.{Part}
 use Rattle.desk_call.specs.declared.control.PointAtControl.{PointAtControl}
 use Rattle.window_mgr.specs.declared.manager.WindowManager.{WindowManager}
@@ -36,17 +32,17 @@ use Rattle.window_mgr.specs.Refused.{is_missing}
 use Rattle.control_mgr.specs.declared.controls.Controls.{Controls}
 use Rattle.control_mgr.specs.declared.setting.State.{State}
 use Rattle.control_mgr.specs.declared.spots.Spot.{Spot}
-use Rattle.control_mgr.specs.ControlDesks.{ControlDesk, ControlRecord, ControlSlot, control_of, index_of}
+use Rattle.control_mgr.specs.ControlDesks.{ControlDesk, ControlRecord, control_of, index_of}
 use Rattle.control_mgr.specs.ControlRefusals.{missing_refusals, point_refusals}
-use Rattle.control_mgr.specs.ControlSteps.{IsControlStep, IsHighlighted, IsShownAnew, IsTracked, SameShown, highlight_after, highlight_of, is_thumb, released, released_setting, tested, tracked_part}
+use Rattle.control_mgr.specs.ControlSteps.{IsControlStep, IsHighlighted, IsShownAnew, IsTracked, highlight_after, highlight_of, is_thumb, released, released_setting, tested, tracked_part}
 use Rattle.control_mgr.specs.Judged.{part_tested}
 use Rattle.control_mgr.specs.Spots.{IsSpotOf, opened, with_state}
-use Rattle.control_mgr.specs.WholeControls.{AreBeside, IsTrackable, LeavesControls, control_desk, controls_state, records_of}
+use Rattle.control_mgr.specs.WholeControls.{AreBeside, IsTrackable, LeavesControls, control_desk, records_of}
 use Rattle.control_mgr.proofs.Edited.{All-there}
-use Rattle.control_mgr.proofs.Places.{found_names, record_there, there_is}
-use Rattle.control_mgr.proofs.Sets.{highlight_agrees, named_here, state_of_control, state_read}
+use Rattle.control_mgr.proofs.Places.{found_names}
+use Rattle.control_mgr.proofs.Sets.{highlight_agrees, state_of_control, state_read}
 use Rattle.control_mgr.proofs.Settled.{retold}
-use Rattle.control_mgr.proofs.Steps.{anew_alike, none_missing, nothing_missing, one_fails, others, unchanged}
+use Rattle.control_mgr.proofs.Steps.{anew_alike, none_missing, one_fails, others, unchanged}
 
 -- nothing is open
 abbrev pub idle_now : Opened

@@ -1,5 +1,5 @@
 -- A control that is given another state, and shown anew.
-use Rattle.std.proofs.Common.{◌≡◌, ℕ, ◌<◌, Bool, true, false, List, [], ◌∷◌, length, get_or, Option, Some, None, refl, sym, ap, ◌∙◌, subst, arith}
+use Rattle.std.proofs.Common.{◌≡◌, ℕ, ◌<◌, List, [], length, get_or, Some, refl, sym, ap, ◌∙◌, subst}
 use Rattle.std.specs.Prelude.{IfSome, slice_get}
 use Rattle.tb_geom.specs.Points.{PixelSet}
 use Rattle.control_list.specs.declared.control.Control.{Control}
@@ -15,7 +15,6 @@ use Rattle.def_iface.specs.Meaning.{Loan}
 use Rattle.def_iface.specs.Stocked.{SlotView}
 use Rattle.layer_list.specs.declared.layer.Layer.{Layer}
 use Rattle.desk_call.specs.declared.control.ControlOf.{ControlOf}
-use Rattle.vis_update.specs.Records.{WindowRecord}
 use Rattle.window_list.specs.declared.window.Window.{Window}
 use Rattle.window_mgr.specs.declared.manager.WindowManager.{WindowManager}
 use Rattle.window_mgr.specs.DeskStates.{Opened}
@@ -27,14 +26,14 @@ use Rattle.window_mgr.specs.Whole.{IsWholeManager}
 use Rattle.control_mgr.specs.declared.controls.Controls.{Controls}
 use Rattle.control_mgr.specs.declared.setting.State.{State}
 use Rattle.control_mgr.specs.declared.spots.Spot.{Spot}
-use Rattle.control_mgr.specs.ControlDesks.{ControlRecord, ControlSlot, controls_show, news_of_control}
+use Rattle.control_mgr.specs.ControlDesks.{ControlRecord, controls_show, news_of_control}
 use Rattle.control_mgr.specs.ControlSteps.{IsChangedAt, IsShownAnew}
 use Rattle.control_mgr.specs.Settled.{AreSettled, IsSettledControl}
 use Rattle.control_mgr.specs.Spots.{IsSpot, IsSpotOf, IsTellable, with_state}
-use Rattle.control_mgr.specs.WholeControls.{AreBeside, AreWholeControls, LeavesControls, control_desk, controls_state, records_of}
+use Rattle.control_mgr.specs.WholeControls.{AreBeside, AreWholeControls, LeavesControls, controls_state, records_of}
 use Rattle.control_mgr.proofs.Edited.{All-there, edit_alike, edit_twice, there_edited}
 use Rattle.control_mgr.proofs.Settled.{changed_settled, retold, whole_put}
-use Rattle.control_mgr.proofs.Places.{IsThere, ItsLayer, layer_there, names, read_is, record_there, there_is, within}
+use Rattle.control_mgr.proofs.Places.{IsThere, ItsLayer, layer_there, names, read_is, there_is, within}
 
 -- ---- what the list has after the setters
 

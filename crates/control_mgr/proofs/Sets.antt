@@ -1,13 +1,10 @@
 -- Calls that set a value, a minimum, a maximum, a highlighting or a title of a control.
-use Rattle.std.proofs.Common.{◌≡◌, ℕ, pos, Bool, true, false, not, ◌&&◌, cond, List, [], ◌∷◌, ◌++◌, length, Option, Some, None, Result, Ok, Err, refl, sym, ap, ◌∙◌, subst, arith, ℤ, nat_lt, ◌≤◌, ◌<◌}
+use Rattle.std.proofs.Common.{◌≡◌, ℕ, Bool, true, false, not, ◌&&◌, cond, List, [], ◌∷◌, ◌++◌, Some, None, Ok, refl, sym, ap, ◌∙◌, subst, ℤ}
 use Rattle.std.specs.Prelude.{IfSome, int_le, slice_get}
 use Rattle.std.specs.Option.{option_and_then}
-use Rattle.std.proofs.lemmas.Bool.{and_parts}
-use Rattle.tb_geom.specs.declared.refusal.Refusal.{Refusal}
 use Rattle.tb_geom.specs.declared.refusal.Refusal.TheVariants.{OutOfRange, TooLong}
 use Rattle.tb_geom.specs.Refusals.{first_refusal}
-use Rattle.control_values.specs.Highlights.{is_highlight}
-use Rattle.control_values.specs.Settings.{Setting, is_in_range, settled}
+use Rattle.control_values.specs.Settings.{Setting, is_in_range}
 use Rattle.control_list.specs.Lists.{with_highlight, with_title}
 use Rattle.def_iface.specs.declared.taken.Taken.{Taken}
 use Rattle.def_iface.specs.declared.taken_control.TakenControl.{TakenControl}
@@ -15,10 +12,7 @@ use Rattle.def_iface.specs.ControlMeaning.{ControlLoan}
 use Rattle.def_iface.specs.Meaning.{Loan}
 use Rattle.def_iface.specs.Stocked.{SlotView}
 use Rattle.desk_call.specs.declared.control.ControlCall.{ControlCall}
-use Rattle.desk_call.specs.declared.control.ControlCall.TheVariants.{SetValue, SetMinimum, SetMaximum, Hilite, SetTitle}
-use Rattle.desk_call.specs.declared.control.ControlNumber.{ControlNumber}
 use Rattle.desk_call.specs.declared.control.ControlOf.{ControlOf}
-use Rattle.desk_call.specs.declared.control.ControlTitle.{ControlTitle}
 use Rattle.desk_call.specs.declared.control.ControlReply.TheVariants.{Done}
 use Rattle.window_mgr.specs.declared.manager.WindowManager.{WindowManager}
 use Rattle.window_mgr.specs.DeskStates.{Opened}
@@ -26,13 +20,13 @@ use Rattle.window_mgr.specs.Records.{desk_of}
 use Rattle.control_mgr.specs.declared.controls.Controls.{Controls}
 use Rattle.control_mgr.specs.declared.setting.State.{State}
 use Rattle.control_mgr.specs.declared.spots.Spot.{Spot}
-use Rattle.control_mgr.specs.ControlDesks.{ControlDesk, ControlRecord, ControlSlot, control_of, index_of}
+use Rattle.control_mgr.specs.ControlDesks.{ControlDesk, ControlRecord, ControlSlot, control_of}
 use Rattle.control_mgr.specs.ControlRefusals.{control_refusals, may_be_maximum, may_be_minimum, missing_refusals}
-use Rattle.control_mgr.specs.ControlSteps.{IsControlEffect, IsControlStep, IsSet, IsShownAnew, with_maximum, with_minimum, with_value}
+use Rattle.control_mgr.specs.ControlSteps.{IsControlEffect, IsControlStep, IsSet, IsShownAnew}
 use Rattle.control_mgr.specs.Spots.{IsSpotOf, with_state}
 use Rattle.control_mgr.specs.WholeControls.{LeavesControls, control_desk, controls_state, records_of}
 use Rattle.control_mgr.proofs.Places.{record_there}
-use Rattle.control_mgr.proofs.Steps.{anew_alike, desk_seen, one_fails, one_holds, others, refused}
+use Rattle.control_mgr.proofs.Steps.{anew_alike, desk_seen, one_fails, one_holds, others}
 
 -- the state of a control
 abbrev pub state_of_control : ControlRecord → State

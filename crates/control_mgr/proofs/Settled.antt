@@ -1,15 +1,15 @@
 -- What holds of controls between calls holds where one of them is changed and its definition told of it.
-use Rattle.std.proofs.Common.{◌≡◌, ℕ, zero, suc, Bool, true, false, ◌&&◌, ◌==◌, List, [], ◌∷◌, ◌++◌, Option, Some, None, refl, sym, ap, ◌∙◌, subst, arith, cond, eqb-true}
-use Rattle.std.specs.Prelude.{All, IfSome, is_none, map, slice_get}
-use Rattle.std.specs.List.{list_any, remove}
-use Rattle.std.proofs.lemmas.Bool.{and_parts, false≢true}
+use Rattle.std.proofs.Common.{◌≡◌, ℕ, zero, suc, Bool, true, false, ◌&&◌, ◌==◌, List, [], ◌∷◌, Option, Some, refl, sym, ap, ◌∙◌, subst, arith, cond, eqb-true}
+use Rattle.std.specs.Prelude.{All, is_none, map, slice_get}
+use Rattle.std.specs.List.{list_any}
+use Rattle.std.proofs.lemmas.Bool.{false≢true}
 use Rattle.std.proofs.lemmas.List.Elements.{All-map, All-weaker}
 use Rattle.std.proofs.lemmas.Bool.Decides.{nat_tests}
 use Rattle.tb_geom.specs.declared.rect.Rect.{Rect}
 use Rattle.tb_geom.specs.Points.{PixelSet, minus}
 use Rattle.tb_geom.specs.Rects.{in_plane, is_in_range, moved_rect}
-use Rattle.control_list.specs.Lists.{are_before, control_index, controls_of, edit_at, has_serial, is_before, is_in, is_in_at}
-use Rattle.control_list.proofs.WindowLemmas.{controls_of-edit_at, controls_of-edit_at_other, found_in, is_in_at-other, slice_get-controls_of}
+use Rattle.control_list.specs.Lists.{are_before, controls_of, edit_at, has_serial, is_before, is_in_at}
+use Rattle.control_list.proofs.WindowLemmas.{controls_of-edit_at, controls_of-edit_at_other, is_in_at-other, slice_get-controls_of}
 use Rattle.def_iface.specs.ControlMeaning.{ControlDefinition, ControlGoesBy, ControlHears, IsControlBegun, SameControlRegions, is_control_size, is_fitting_control}
 use Rattle.def_iface.specs.ControlNews.{AllControlNews, told_all_of_control}
 use Rattle.def_iface.specs.declared.size.Size.{Size}

@@ -1,10 +1,8 @@
 -- Steps of calls about controls: refused ones, those that tell something, and what is known where nothing is missing.
-use Rattle.std.proofs.Common.{◌≡◌, inl, inr, ℕ, Bool, true, false, cond, List, [], ◌∷◌, ◌++◌, Option, Some, None, Result, Ok, Err, refl, sym, ap, ◌∙◌, subst}
+use Rattle.std.proofs.Common.{◌≡◌, inl, inr, ℕ, Bool, true, false, cond, List, [], ◌∷◌, ◌++◌, Some, None, Result, Ok, Err, refl, sym, ap, ◌∙◌, subst}
 use Rattle.std.specs.Prelude.{is_none, slice_get}
-use Rattle.tb_geom.specs.declared.point.Point.{Point}
 use Rattle.tb_geom.specs.declared.refusal.Refusal.{Refusal}
 use Rattle.tb_geom.specs.declared.refusal.Refusal.TheVariants.{NoMemory, NoSuchControl, NoSuchWindow}
-use Rattle.tb_geom.specs.Rects.{in_plane}
 use Rattle.tb_geom.specs.Refusals.{first_refusal}
 use Rattle.def_iface.specs.declared.taken.Taken.{Taken}
 use Rattle.def_iface.specs.declared.taken_control.TakenControl.{TakenControl}
@@ -17,14 +15,14 @@ use Rattle.desk_call.specs.declared.control.ControlReply.{ControlReply}
 use Rattle.window_mgr.specs.declared.manager.WindowManager.{WindowManager}
 use Rattle.window_mgr.specs.DeskStates.{Opened}
 use Rattle.window_mgr.specs.FullDesk.{FullDesk}
-use Rattle.window_mgr.specs.Records.{desk_of, desk_showing, state_of}
+use Rattle.window_mgr.specs.Records.{desk_of, desk_showing}
 use Rattle.control_mgr.specs.declared.controls.Controls.{Controls}
 use Rattle.control_mgr.specs.declared.spots.Spot.{Spot}
 use Rattle.control_mgr.specs.ControlDesks.{ControlDesk, ControlRecord, ControlSlot, IsControlDeskUnchanged, controls_show, index_of}
-use Rattle.control_mgr.specs.ControlRefusals.{control_refusals, may_control_grow, missing_refusals, point_refusals}
-use Rattle.control_mgr.specs.ControlSteps.{IsChangedTo, IsControlEffect, IsControlStep, IsShownAnew}
+use Rattle.control_mgr.specs.ControlRefusals.{control_refusals, may_control_grow, missing_refusals}
+use Rattle.control_mgr.specs.ControlSteps.{IsControlEffect, IsControlStep, IsShownAnew}
 use Rattle.control_mgr.specs.Spots.{IsSpotOf}
-use Rattle.control_mgr.specs.WholeControls.{LeavesControls, LeavesOver, control_desk, controls_state, records_of}
+use Rattle.control_mgr.specs.WholeControls.{LeavesControls, control_desk, controls_state, records_of}
 use Rattle.control_mgr.proofs.Settled.{changed_alike}
 
 -- ---- refusals
@@ -55,6 +53,11 @@ one_fails b e h = ap (λ x. cond x (Some e) None) h
 
 pub first_fails : (b : Bool) (e : Refusal) (rest : List (Bool × Refusal)) → b ≡ false → first_refusal ((b, e) ∷ rest) ≡ first_refusal rest
 first_fails b e rest h = ap (λ x. cond x (Some e) (first_refusal rest)) h
+
+-- of several reasons of which none holds, the first does not, and none of the others
+pub none_hold : (b : Bool) (e : Refusal) (rest : List (Bool × Refusal)) → first_refusal ((b, e) ∷ rest) ≡ None → (b ≡ false) × (first_refusal rest ≡ None)
+none_hold true e rest none = absurd (cc)
+none_hold false e rest none = (refl, none)
 
 pub none_missing : (c : ControlOf) (desk : FullDesk) (cs : List ControlRecord) (gone none : Bool) → gone ≡ false → none ≡ false
     → first_refusal ((gone, NoSuchWindow) ∷ (none, NoSuchControl) ∷ []) ≡ None

@@ -7,7 +7,7 @@ use Rattle.std.proofs.lemmas.Bool.{cases_eq}
 use Rattle.std.proofs.lemmas.Bool.Decides.{nat_tests}
 use Rattle.def_iface.specs.declared.window_def.Stage.{Stage}
 use Rattle.def_iface.specs.declared.window_def.Stage.TheVariants.{Closed}
-use Rattle.def_iface.specs.Slots.{SlotOf, LoanOf, IsFull, IsPutBack, IsTaken, holding, is_left}
+use Rattle.def_iface.specs.Slots.{SlotOf, LoanOf, IsPutBack, IsTaken, holding, is_left}
 use Rattle.window_mgr.proofs.SlotLemmas.{get-set_same, get-set_other}
 use Rattle.control_mgr.specs.InUse.{uses, IsUsedBy, AreStocked}
 

@@ -1,10 +1,8 @@
 -- A control's definition, told all of its control.
-use Rattle.std.proofs.Common.{◌≡◌, ℕ, ◌<◌, List, length, get_or, set, Some, refl, sym, ap, ◌∙◌, subst}
+use Rattle.std.proofs.Common.{◌≡◌, ℕ, ◌<◌, List, length, get_or, set, Some, refl, ap, ◌∙◌, subst}
 use Rattle.std.specs.Prelude.{slice_get}
-use Rattle.std.specs.Borrow.{Bor}
 use Rattle.control_values.specs.Settings.{Setting}
 use Rattle.control_list.specs.declared.control.Control.{Control}
-use Rattle.control_list.specs.Lists.{edit_at}
 use Rattle.control_list.specs.Seen.{all_seen, seen}
 use Rattle.control_list.proofs.ListLemmas.{set_is_edit}
 use Rattle.control_list.proofs.SeenLemmas.{edit_at-seen}

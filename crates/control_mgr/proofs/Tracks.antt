@@ -1,16 +1,12 @@
 -- The tracking of a control's part.
-use Rattle.std.proofs.Common.{◌≡◌, ℕ, ◌<◌, Bool, true, false, not, ◌&&◌, cond, if◌then◌else◌, List, [], ◌∷◌, length, get_or, Option, Some, None, Result, Ok, Err, refl, sym, ap, ◌∙◌, subst, ℤ}
-use Rattle.std.specs.Prelude.{IfSome, is_none, is_some, slice_get}
-use Rattle.std.proofs.lemmas.Bool.{false≢true}
+use Rattle.std.proofs.Common.{◌≡◌, ℕ, ◌<◌, Bool, true, false, if◌then◌else◌, length, get_or, Some, None, sym, ap, ◌∙◌, subst}
+use Rattle.std.specs.Prelude.{IfSome, slice_get}
 use Rattle.tb_geom.specs.declared.point.Point.{Point}
-use Rattle.tb_geom.specs.Points.{minus}
-use Rattle.control_values.specs.declared.part.ControlPart.{ControlPart}
-use Rattle.control_values.specs.Settings.{Setting, is_in_range, settled}
+use Rattle.control_values.specs.Settings.{Setting, settled}
 use Rattle.control_list.specs.declared.control.Control.{Control}
-use Rattle.control_list.specs.Seen.{all_seen, seen}
+use Rattle.control_list.specs.Seen.{seen}
 use Rattle.def_iface.specs.declared.taken_control.TakenControl.{TakenControl}
 use Rattle.def_iface.specs.ControlMeaning.{ControlLoan, is_fitting_control}
-use Rattle.def_iface.specs.ControlNews.{no_control_news}
 use Rattle.desk_call.specs.declared.activity.TrackedControl.{TrackedControl}
 use Rattle.control_mgr.specs.declared.controls.Controls.{Controls}
 use Rattle.control_mgr.specs.ControlDesks.{ControlRecord}

@@ -1,24 +1,22 @@
 -- Why a call about controls refuses: the first refusal of the written order whose condition holds.
 use Rattle.std.specs.Prelude.{ℕ, ℤ, Bool, true, false, not, ◌&&◌, ◌||◌, nat_le, nat_lt, int_le, List, [], ◌∷◌, ◌++◌, length, Option, None, Some, is_none}
-use Rattle.std.specs.Option.{option_map_or}
 use Rattle.tb_geom.specs.declared.point.Point.{Point}
 use Rattle.tb_geom.specs.declared.refusal.Refusal.{Refusal}
 use Rattle.tb_geom.specs.declared.refusal.Refusal.TheVariants.{NoDefinition, NoSuchControl, NoSuchName, NoSuchWindow, OutOfRange, TooLong, TooMany}
 use Rattle.tb_geom.specs.Rects.{in_plane}
 use Rattle.control_values.specs.Highlights.{is_highlight}
-use Rattle.control_values.specs.Settings.{Setting, is_in_range}
+use Rattle.control_values.specs.Settings.{is_in_range}
 use Rattle.control_list.specs.Lists.{count_of}
 use Rattle.def_iface.specs.ControlMeaning.{ControlDefinition}
 use Rattle.def_iface.specs.Slots.{has_kind, offered}
 use Rattle.desk_call.specs.declared.control.ControlCall.{ControlCall}
 use Rattle.desk_call.specs.declared.control.ControlCall.TheVariants.{New, Dispose, Show, Hide, Move, Size, SetValue, SetMinimum, SetMaximum, Hilite, SetTitle, Get, Find, Test, Track, Step, End}
 use Rattle.desk_call.specs.declared.control.ControlOf.{ControlOf}
-use Rattle.desk_call.specs.declared.control.ControlNumber.{ControlNumber}
 use Rattle.desk_call.specs.declared.control.NewControl.{NewControl}
 use Rattle.window_mgr.specs.Finding.{record_with}
 use Rattle.window_mgr.specs.FullDesk.{FullDesk}
 use Rattle.window_mgr.specs.Refused.{is_missing, longest_text}
-use Rattle.control_mgr.specs.ControlDesks.{ControlRecord, ControlSlot, ControlsState, ControlDesk, control_of, index_of}
+use Rattle.control_mgr.specs.ControlDesks.{ControlRecord, ControlSlot, ControlsState, control_of, index_of}
 use Rattle.control_mgr.specs.Judged.{may_be_in, may_go_to, may_get_size}
 
 -- as many controls as a window may have

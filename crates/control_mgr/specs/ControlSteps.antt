@@ -12,7 +12,7 @@ use Rattle.control_values.specs.declared.part.ControlPart.{ControlPart}
 use Rattle.control_values.specs.declared.part.ControlPart.TheVariants.{Thumb}
 use Rattle.control_values.specs.Parts.{number_of}
 use Rattle.control_values.specs.Settings.{Setting, settled}
-use Rattle.control_list.specs.Lists.{controls_of, edit_at, serial_after, with_highlight, with_place, with_shown, with_size, with_title, with_values}
+use Rattle.control_list.specs.Lists.{controls_of, edit_at, serial_after, with_highlight, with_place, with_shown, with_size, with_title}
 use Rattle.def_iface.specs.declared.part.Part.{Part}
 use Rattle.def_iface.specs.declared.part.Part.TheVariants as part
 use Rattle.def_iface.specs.declared.window_def.Stage.TheVariants.{Closed}

@@ -1,5 +1,5 @@
 -- Where a control may lie, and which point lies in it.
-use Rattle.std.specs.Prelude.{ℕ, pos, neg_ℤ, Bool, true, not, ◌&&◌, nat_eq, if◌then◌else◌, Option, None, Some, is_some, ◌+ℤ◌}
+use Rattle.std.specs.Prelude.{ℕ, pos, neg_ℤ, Bool, true, not, ◌&&◌, nat_eq, if◌then◌else◌, Option, None, Some, ◌+ℤ◌}
 use Rattle.tb_geom.specs.declared.point.Point.{Point}
 use Rattle.tb_geom.specs.declared.rect.Rect.{Rect}
 use Rattle.tb_geom.specs.Points.{minus}

@@ -1,13 +1,11 @@
 -- Controls that are made, as the code does it.
-use Rattle.std.specs.Prelude.{◌≡◌, ◌⊎◌, ℕ, ◌<◌, ◌≤◌, List, [], ◌∷◌, ◌++◌, length, Option, None, Some, vec_capacity}
+use Rattle.std.specs.Prelude.{◌≡◌, ◌⊎◌, ℕ, ◌<◌, [], length, Option, None, Some, vec_capacity}
 use Rattle.std.specs.List.{insert}
-use Rattle.tb_geom.specs.declared.point.Point.{Point}
 use Rattle.tb_geom.specs.declared.refusal.Refusal.{Refusal}
 use Rattle.tb_geom.specs.declared.refusal.Refusal.TheVariants.{NoMemory}
 use Rattle.tb_geom.specs.Refusals.{first_refusal}
 use Rattle.control_values.specs.Settings.{settled}
 use Rattle.control_list.specs.Lists.{count_of}
-use Rattle.def_iface.specs.declared.part.Part.{Part}
 use Rattle.def_iface.specs.declared.part.Part.TheVariants as part
 use Rattle.def_iface.specs.declared.taken.Taken.{Taken}
 use Rattle.def_iface.specs.declared.taken_control.TakenControl.{TakenControl}
@@ -23,7 +21,6 @@ use Rattle.window_mgr.specs.Relayered.{IsPlanOfLayers, MayHaveLayers}
 use Rattle.control_mgr.specs.declared.controls.Controls.{Controls}
 use Rattle.control_mgr.specs.declared.making.Addition.{Addition}
 use Rattle.control_mgr.specs.declared.making.Ticket.{Ticket}
-use Rattle.control_mgr.specs.ControlDesks.{ControlRecord}
 use Rattle.control_mgr.specs.ControlRefusals.{judged_refusals}
 use Rattle.control_mgr.specs.ControlSteps.{IsLayerOf, new_control}
 use Rattle.control_mgr.specs.WholeControls.{records_of}

@@ -8,7 +8,6 @@ use Rattle.desk_call.specs.declared.call.Call.{Call}
 use Rattle.desk_call.specs.declared.call.Reply.{Reply}
 use Rattle.menu_list.specs.Lists.{titles_of}
 use Rattle.vis_update.specs.Records.{WindowRecord}
-use Rattle.window_mgr.specs.FullDesk.{IsRightState}
 use Rattle.window_frame.specs.Followers.{Knows}
 use Rattle.window_frame.specs.Followers.Flag.{Highlighting, Zooming}
 use Rattle.desk_toolbox.specs.declared.events.Events.{Events}

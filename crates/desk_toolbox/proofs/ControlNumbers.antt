@@ -1,7 +1,6 @@
 -- The controls that a run makes have serials that follow each other.
 use Rattle.std.proofs.Common.{◌≡◌, ℕ, List, [], ◌∷◌, ◌++◌, Option, None, Some, Result, Ok, Err, refl, sym, ap, ◌∙◌, subst}
 use Rattle.tb_geom.specs.declared.refusal.Refusal.{Refusal}
-use Rattle.control_values.specs.declared.part.ControlPart.{ControlPart}
 use Rattle.desk_call.specs.declared.call.Call.{Call}
 use Rattle.desk_call.specs.declared.call.Reply.{Reply}
 use Rattle.desk_call.specs.declared.call.Reply.TheVariants as reply
@@ -14,7 +13,7 @@ use Rattle.desk_call.specs.declared.window.WindowReply.{WindowReply}
 use Rattle.control_mgr.specs.ControlDesks.{ControlDesk, ControlRecord, ControlsState, control_of}
 use Rattle.control_mgr.specs.ControlSteps.{IsControlEffect, IsControlStep, info_of}
 use Rattle.control_mgr.proofs.ControlFacts.{IsNextControl, control_facts}
-use Rattle.desk_toolbox.specs.Run.{AreControlsLeft, AreCounted, IsRunOfCalls, IsStep, IsWindowMade, control_serial, controls_made, replied}
+use Rattle.desk_toolbox.specs.Run.{AreControlsLeft, AreCounted, IsRunOfCalls, IsWindowMade, control_serial, controls_made, replied}
 use Rattle.desk_toolbox.specs.ToolboxStates.{ToolboxState, with_controls}
 use Rattle.desk_toolbox.proofs.EachManager.{HoldsOfEach, of_step}
 

@@ -1,13 +1,11 @@
 -- The controls of a desk stay whole, and its windows show them, beside the calls of the other managers.
-use Rattle.std.proofs.Common.{◌≡◌, inl, inr, ℕ, ◌+◌, ◌≤◌, ◌==◌, Bool, true, false, if◌then◌else◌, List, [], ◌∷◌, Option, None, Some, Result, Ok, Err, refl, sym, ap, ◌∙◌, subst, arith}
+use Rattle.std.proofs.Common.{◌≡◌, inl, inr, ℕ, ◌≤◌, ◌==◌, Bool, true, false, if◌then◌else◌, List, [], ◌∷◌, Result, Ok, Err, refl, sym, ◌∙◌, subst, arith}
 use Rattle.std.proofs.lemmas.Bool.{eqb-true}
 use Rattle.std.proofs.lemmas.List.Elements.{All-head, All-tail, All-weaker}
 use Rattle.std.specs.Prelude.{All}
 use Rattle.tb_geom.specs.declared.refusal.Refusal.{Refusal}
-use Rattle.tb_geom.specs.Points.{PixelSet}
 use Rattle.def_iface.specs.News.{News, told_title, told_highlighted, told_tracked}
-use Rattle.control_list.specs.Lists.{controls_of, is_in}
-use Rattle.layer_list.specs.declared.layer.Layer.{Layer}
+use Rattle.control_list.specs.Lists.{controls_of}
 use Rattle.desk_call.specs.declared.frame.FrameCall.{FrameCall}
 use Rattle.desk_call.specs.declared.frame.FrameCall.TheVariants.{SetTitle, Hilite, TrackGoAway, StepGoAway, EndGoAway}
 use Rattle.desk_call.specs.declared.frame.FrameReply.{FrameReply}
@@ -38,7 +36,7 @@ use Rattle.menu_mgr.proofs.MenuKeeps.{menu_keeps}
 use Rattle.desk_toolbox.specs.Reached.{AreControlsRight}
 use Rattle.desk_toolbox.specs.ToolboxStates.{ToolboxState, with_menus}
 use Rattle.desk_toolbox.proofs.Bonds.{Bond, Every, every_all, all_every, every_changed}
-use Rattle.desk_toolbox.proofs.StepCounts.{HasSame, frame_counts}
+use Rattle.desk_toolbox.proofs.StepCounts.{frame_counts}
 use Rattle.desk_toolbox.proofs.Totals.{copies, found_counts, counted_is_found}
 
 -- a right state whose controls are whole and shown

@@ -1,5 +1,5 @@
 -- A right desk stays right, its controls whole and shown, where a call on windows or about controls comes.
-use Rattle.std.proofs.Common.{◌≡◌, ◌⊎◌, ⊎_elim, inl, inr, ℕ, zero, suc, ◌+◌, ◌≤◌, ◌==◌, Bool, true, false, if◌then◌else◌, List, [], Option, None, Some, Result, Ok, Err, refl, sym, ap, ◌∙◌, subst, arith}
+use Rattle.std.proofs.Common.{◌≡◌, inl, inr, ℕ, zero, suc, ◌+◌, ◌==◌, Bool, true, false, if◌then◌else◌, List, [], Option, None, Some, Result, Ok, refl, sym, ap, ◌∙◌, subst, arith}
 use Rattle.std.proofs.lemmas.Bool.{eqb-true}
 use Rattle.std.proofs.lemmas.Bool.Decides.{nat_tests}
 use Rattle.std.proofs.lemmas.List.Elements.{All-weaker}
@@ -32,7 +32,7 @@ use Rattle.desk_toolbox.specs.Reached.{AreControlsRight}
 use Rattle.desk_toolbox.specs.Run.{AreControlsLeft, IsWindowAnswer, IsWindowAnswered, shown_with}
 use Rattle.desk_toolbox.specs.ToolboxStates.{ToolboxState, with_controls}
 use Rattle.desk_toolbox.proofs.Bonds.{Bond, Every, HoldsOn, every_all, done_holds}
-use Rattle.desk_toolbox.proofs.ControlsBeside.{IsRightToolbox, caught_up_holds, joined_every, joined_to, none_of_missing, whole_on}
+use Rattle.desk_toolbox.proofs.ControlsBeside.{IsRightToolbox, caught_up_holds, joined_every, joined_to, none_of_missing}
 use Rattle.desk_toolbox.proofs.KeptDesks.{told_keeps}
 use Rattle.desk_toolbox.proofs.StepCounts.{AreNumbered, HasLess, Recount, told_recounts, disposed_is_gone, right_is_numbered}
 use Rattle.desk_toolbox.proofs.Totals.{copies, found_counts, counted_is_found, serial_of_counted}

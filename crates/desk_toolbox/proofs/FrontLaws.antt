@@ -94,7 +94,7 @@ module _ (s : ToolboxState) (p : Point) where
 
 -- ---- FindWindow
 
-asks_may_come : (a : Activity) → gate a Asks ≡ None
+pub asks_may_come : (a : Activity) → gate a Asks ≡ None
 asks_may_come Idle = refl
 asks_may_come (Updating s) = refl
 asks_may_come (Tracking s) = refl

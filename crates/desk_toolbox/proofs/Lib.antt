@@ -31,6 +31,7 @@ pub mod Consistent
 pub mod Histories
 pub mod Shown
 pub mod FrontLaws
+pub mod FindLaws
 pub mod LeftByMenus
 pub mod MenusBeside
 pub mod UpdatesBeside

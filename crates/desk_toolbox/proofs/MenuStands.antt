@@ -12,7 +12,6 @@ use Rattle.desk_call.specs.declared.menu.MenuCall.TheVariants.{New, Dispose, Dow
 use Rattle.desk_call.specs.declared.menu.MenuReply.{MenuReply}
 use Rattle.desk_call.specs.Gates.{gate, menu_standing}
 use Rattle.vis_update.specs.Records.{WindowRecord}
-use Rattle.window_mgr.specs.FullDesk.{IsRightState}
 use Rattle.window_frame.specs.Followers.{AreInformed}
 use Rattle.menu_list.specs.Lists.{menu_index}
 use Rattle.menu_mgr.specs.MenuDesks.{MenuDesk}

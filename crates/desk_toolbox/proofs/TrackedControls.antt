@@ -1,5 +1,5 @@
 -- A control that is tracked stays there, and what holds of a reached state holds after a call about controls.
-use Rattle.std.proofs.Common.{◌≡◌, ◌⊎◌, ⊎_elim, inl, inr, ℕ, zero, suc, ◌≤◌, Bool, true, false, not, List, [], ◌∷◌, map, Option, None, Some, Result, Ok, Err, refl, sym, ap, ◌∙◌, subst, arith}
+use Rattle.std.proofs.Common.{◌≡◌, ◌⊎◌, ⊎_elim, inl, inr, ℕ, zero, suc, Bool, true, false, not, List, [], ◌∷◌, map, Option, None, Some, Result, Ok, Err, refl, sym, ap, ◌∙◌, subst, arith}
 use Rattle.std.specs.Prelude.{All, is_none, slice_get}
 use Rattle.std.proofs.lemmas.List.Elements.{All-nil, All-cons, All-head, All-tail, All-same}
 use Rattle.tb_geom.specs.declared.point.Point.{Point}
@@ -10,10 +10,9 @@ use Rattle.control_values.specs.declared.part.ControlPart.{ControlPart}
 use Rattle.control_list.specs.Lists.{are_before, controls_of, with_highlight}
 use Rattle.control_list.proofs.WindowLemmas.{control_index-edit_at}
 use Rattle.def_iface.specs.ControlMeaning.{ControlDefinition}
-use Rattle.def_iface.specs.Slots.{IsFull}
 use Rattle.desk_call.specs.declared.activity.Activity.{Activity}
 use Rattle.desk_call.specs.declared.activity.Activity.TheVariants.{Idle, Updating, Tracking, Pulling, TrackingControl}
-use Rattle.desk_call.specs.declared.activity.Standing.TheVariants.{Changes, TracksControl}
+use Rattle.desk_call.specs.declared.activity.Standing.TheVariants.{TracksControl}
 use Rattle.desk_call.specs.declared.activity.TrackedControl.{TrackedControl}
 use Rattle.desk_call.specs.declared.control.ControlCall.{ControlCall}
 use Rattle.desk_call.specs.declared.control.ControlCall.TheVariants.{New, Dispose, Show, Hide, Move, Size, SetValue, SetMinimum, SetMaximum, Hilite, SetTitle, Get, Find, Test, Track, Step, End}
@@ -30,7 +29,6 @@ use Rattle.desk_call.specs.declared.window.WindowReply.{WindowReply}
 use Rattle.desk_call.specs.Gates.{control_standing, gate}
 use Rattle.vis_update.specs.Records.{WindowRecord}
 use Rattle.window_mgr.specs.DeskStates.{DeskState}
-use Rattle.window_mgr.specs.FullDesk.{FullDesk}
 use Rattle.window_mgr.specs.Refused.{is_missing}
 use Rattle.window_update.specs.UpdateSteps.{IsUpdateEffect, IsUpdateStep}
 use Rattle.window_frame.specs.Followers.{AreInformed, Knows}
@@ -53,7 +51,7 @@ use Rattle.desk_toolbox.proofs.ControlsBeside.{IsRightToolbox}
 use Rattle.desk_toolbox.proofs.MenusBeside.{PullsNone}
 use Rattle.desk_toolbox.proofs.PulledMenus.{IsPullRight, still_unpulled}
 use Rattle.desk_toolbox.proofs.StepCounts.{HasSame}
-use Rattle.desk_toolbox.proofs.Stands.{Stands, apart_stays, bar_stays, idle_now, stands_still, trackable_stays}
+use Rattle.desk_toolbox.proofs.Stands.{Stands, apart_stays, bar_stays, idle_now, stands_still}
 use Rattle.desk_toolbox.proofs.Told.{ArePosted}
 use Rattle.desk_toolbox.proofs.Totals.{Present, Weight, copies, counting, found_counts, present_when, total, total_map}
 use Rattle.desk_toolbox.proofs.Tracked.{misled}

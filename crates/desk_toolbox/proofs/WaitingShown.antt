@@ -1,5 +1,5 @@
 -- Which window is to be updated does not depend on what windows show of controls.
-use Rattle.std.proofs.Common.{◌≡◌, ◌⊎◌, ⊎_elim, inl, inr, ℕ, Bool, true, false, if◌then◌else◌, List, [], ◌∷◌, Option, Some, sym, ap, ◌∙◌}
+use Rattle.std.proofs.Common.{◌≡◌, inl, inr, ℕ, Bool, true, false, if◌then◌else◌, List, [], ◌∷◌, Option, sym, ap, ◌∙◌}
 use Rattle.tb_geom.specs.declared.point.Point.{Point}
 use Rattle.tb_geom.specs.Points.{PixelSet}
 use Rattle.def_iface.specs.declared.part.Part.{Part}
@@ -7,7 +7,7 @@ use Rattle.vis_update.specs.Records.{WindowRecord}
 use Rattle.window_mgr.specs.DeskStates.{DeskState, is_updating}
 use Rattle.window_mgr.specs.Records.{state_showing}
 use Rattle.window_mgr.proofs.Showing.{update_showing}
-use Rattle.window_update.specs.Waiting.{IsEmpty, IsFirstToUpdate, IsFirstWaiting, IsWaiting, update_told}
+use Rattle.window_update.specs.Waiting.{IsFirstToUpdate, IsFirstWaiting, IsWaiting, update_told}
 
 module _ (shows : List ℕ → Part → PixelSet) (d : DeskState) where
   abbrev shown : DeskState

@@ -5,6 +5,7 @@ ghost use Rattle.std.specs.Option.{option_map};
 ghost use Rattle.tb_geom.specs.declared.point.Point.{Point};
 ghost use Rattle.tb_geom.specs.declared.refusal.Refusal.{Refusal};
 ghost use Rattle.def_iface.specs.Desk.{IsDesk};
+ghost use Rattle.def_iface.specs.ControlMeaning.{ControlGoesBy};
 ghost use Rattle.def_iface.specs.Meaning.{GoesBy};
 ghost use Rattle.def_iface.specs.Owner.{is_content, owner, own_bit};
 ghost use Rattle.def_iface.specs.Scratch.{scratch};
@@ -12,11 +13,14 @@ ghost use Rattle.vis_update.specs.Records.{WindowRecord};
 ghost use Rattle.window_mgr.specs.FullDesk.{FullDesk, IsRightState, layered_desk};
 ghost use Rattle.window_mgr.specs.Finding.{front_of};
 ghost use Rattle.tb_geom.specs.declared.refusal.Refusal.TheVariants.{Busy, NoSuchMenu, NoSuchWindow, StalePixels, TooLong};
+ghost use Rattle.tb_geom.specs.Rects.{in_plane};
 ghost use Rattle.tb_geom.specs.Refusals.{first_refusal, is_before};
 ghost use Rattle.desk_call.specs.declared.control.ControlCall.{ControlCall};
 ghost use Rattle.desk_call.specs.declared.control.ControlCall.TheVariants as controls;
+ghost use Rattle.desk_call.specs.declared.control.ControlReply.TheVariants as control_reply;
 ghost use Rattle.desk_call.specs.declared.control.NewControl.{NewControl};
-ghost use Rattle.control_mgr.specs.ControlDesks.{ControlSlot, ControlsState};
+ghost use Rattle.desk_call.specs.declared.control.PointInWindow.{PointInWindow};
+ghost use Rattle.control_mgr.specs.ControlDesks.{ControlSlot, ControlsState, news_of_control};
 ghost use Rattle.control_mgr.specs.ControlRefusals.{control_form_refusals, control_refusals};
 ghost use Rattle.desk_call.specs.declared.frame.FrameCall.{FrameCall};
 ghost use Rattle.desk_call.specs.declared.menu.MenuCall.{MenuCall};
@@ -29,7 +33,7 @@ ghost use Rattle.desk_call.specs.declared.window.ScrollPicture.{ScrollPicture};
 ghost use Rattle.desk_call.specs.declared.window.SendBehind.{SendBehind};
 ghost use Rattle.desk_call.specs.declared.window.SizeWindow.{SizeWindow};
 ghost use Rattle.desk_call.specs.declared.window.ZoomWindow.{ZoomWindow};
-ghost use Rattle.window_mgr.specs.Refused.{new_window_refusals, kind_refusals, form_refusals, draw_refusals, picture_refusals, scroll_refusals, behind_refusals, move_refusals, size_refusals, zoom_refusals};
+ghost use Rattle.window_mgr.specs.Refused.{is_missing, new_window_refusals, kind_refusals, form_refusals, draw_refusals, picture_refusals, scroll_refusals, behind_refusals, move_refusals, size_refusals, zoom_refusals};
 ghost use Rattle.window_update.specs.UpdateRefusals.{area_refusals};
 ghost use Rattle.window_frame.specs.FrameRefusals.{frame_refusals};
 ghost use Rattle.menu_mgr.specs.MenuDesks.{MenuSlot, MenusState};
@@ -38,7 +42,7 @@ ghost use Rattle.desk_toolbox.specs.Ordered.{AreInOrder};
 ghost use Rattle.window_mgr.specs.Whole.{IsSoundDesk};
 ghost use Rattle.event_queue.specs.History.{told_of, Alternates, is_told_active};
 ghost use Rattle.desk_call.specs.declared.call.Call.{Call};
-ghost use Rattle.desk_call.specs.declared.call.Call.TheVariants.{Menu, Window};
+ghost use Rattle.desk_call.specs.declared.call.Call.TheVariants.{Control, Menu, Window};
 ghost use Rattle.desk_call.specs.declared.call.Reply.TheVariants as reply;
 ghost use Rattle.desk_call.specs.declared.window.WindowCall.TheVariants.{Find};
 ghost use Rattle.desk_call.specs.declared.call.Reply.{Reply};
@@ -47,7 +51,7 @@ ghost use Rattle.window_frame.specs.Followers.{AreInformed};
 ghost use Rattle.desk_toolbox.specs.Activations.{activate_events_told, IsNeverDisposed};
 ghost use Rattle.desk_toolbox.specs.Reached.{AreControlsRight, IsConsistent, IsJustBegun, news_by_record};
 ghost use Rattle.def_iface.specs.Desk.{on_screen};
-ghost use Rattle.desk_toolbox.specs.Fronts.{IsScreenAllRight, IsScreenRight, is_on_menu, screen_bit, screen_of, screen_owner, screen_scratch};
+ghost use Rattle.desk_toolbox.specs.Fronts.{IsScreenAllRight, IsScreenRight, found_on_screen, is_on_menu, screen_bit, screen_of, screen_owner, screen_scratch};
 ghost use Rattle.desk_toolbox.specs.Fronts.ScreenOwner.{PulledMenu, Base};
 ghost use Rattle.desk_toolbox.specs.ToolboxStates.{ToolboxState, IsToolboxUnchanged};
 ghost use Rattle.desk_toolbox.specs.Run.{IsStep, IsRunOfCalls, controls_made, found_menu, made, AreCounted};
@@ -211,6 +215,17 @@ pub fn a_pulled_menu_is_found_as_the_menu_bar()
         → (answer ≡ Ok (reply.Window found_menu)) × IsToolboxUnchanged before after }
 {}
 
+/// FindControl, asked for a point of a window of the desk within the range of coordinates, answers for the owner of the
+/// pixel of the screen there, and changes nothing: a control of that window that is active, with the part of it that its
+/// definition says. Where something else owns the pixel, the pulled menu too, it answers none.
+#[tactic(auto, using(crate::proofs::FindLaws::control_is_found_by_owner))]
+pub fn a_control_is_found_by_the_owner_of_the_pixel()
+    ensures { (asked : PointInWindow) (answer : Result Reply Refusal) (before after : ToolboxState)
+        → is_missing asked.window before.desk.windows.desk.windows ≡ false → in_plane asked.point ≡ true
+        → IsStep (Control (controls.Find asked)) answer before after
+        → (answer ≡ Ok (reply.Control (control_reply.Found (found_on_screen before asked)))) × IsToolboxUnchanged before after }
+{}
+
 /// A desk that just began is consistent.
 #[tactic(auto, using(crate::proofs::Consistent::just_begun_is_consistent))]
 pub fn a_desk_that_just_began_is_consistent()
@@ -237,6 +252,13 @@ pub fn runs_keep_a_desk_consistent()
 pub fn windows_are_shown_by_their_records()
     ensures { (desk : FullDesk) → IsSoundDesk desk → AreInformed desk.windows
         → All (λ w. GoesBy (news_by_record w) w.definition) desk.windows }
+{}
+
+/// So is each control of a state whose controls are right, by what its record says.
+#[tactic(auto, using(crate::proofs::Shown::controls_go_by_records))]
+pub fn controls_are_shown_by_their_records()
+    ensures { (s : ToolboxState) → AreControlsRight s
+        → All (λ c. ControlGoesBy (news_of_control c) c.definition.definition) s.controls.controls }
 {}
 
 /// Over any run of a desk that just began, the activate events that are told of one window are in turn an activation and a

@@ -1,4 +1,4 @@
-use Rattle.std.proofs.Common.{[], Some, get_or, refl, ap, sym, ◌∙◌}
+use Rattle.std.proofs.Common.{refl, ◌∙◌}
 use Rattle.control_list.specs.Lists.{with_place}
 use Rattle.desk_call.specs.declared.control.ControlCall.TheVariants as asks
 use Rattle.control_mgr.proofs.Moves.{go_judged, laid_step, place_agrees}

@@ -1,4 +1,4 @@
-use Rattle.std.proofs.Common.{◌<◌, length, sym, subst}
+use Rattle.std.proofs.Common.{◌<◌, sym, subst}
 use Rattle.control_list.proofs.SeenLemmas.{length-seen}
 use Rattle.def_iface.specs.contracts.taken_control.TakenControlDefinedControl.TheImpl as definition
 use Rattle.control_mgr.proofs.Lays.{lie_changed, lie_set, lie_tellable}

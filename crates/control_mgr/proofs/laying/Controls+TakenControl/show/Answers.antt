@@ -1,4 +1,3 @@
-use Rattle.std.proofs.Common.{Some, sym, ap, ◌∙◌}
 use Rattle.control_mgr.proofs.Moves.{may_stay, show_step, shown_agrees}
 use Rattle.control_mgr.proofs.laying.Controls+TakenControl.show.Goals as goal
 

@@ -1,4 +1,4 @@
-use Rattle.std.proofs.Common.{[], Some, get_or, refl, ap, sym, ◌∙◌}
+use Rattle.std.proofs.Common.{refl, ◌∙◌}
 use Rattle.control_list.specs.Lists.{with_size}
 use Rattle.desk_call.specs.declared.control.ControlCall.TheVariants as asks
 use Rattle.control_mgr.proofs.Moves.{size_judged, laid_step, size_agrees}

@@ -1,4 +1,4 @@
-use Rattle.std.proofs.Common.{◌≡◌, Some, None, if◌then◌else◌, sym, ap, ◌∙◌}
+use Rattle.std.proofs.Common.{Some, None, if◌then◌else◌, sym, ap, ◌∙◌}
 use Rattle.control_mgr.specs.ControlSteps.{is_part}
 use Rattle.control_mgr.proofs.Tracks.{part_tracked, settled_there, thumb_tracked}
 use Rattle.control_mgr.proofs.tracking.Controls+TakenControl.tracked_part.Goals.{then-is_thumb, else-is_thumb}

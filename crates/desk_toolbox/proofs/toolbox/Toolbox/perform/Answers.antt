@@ -1,4 +1,4 @@
-use Rattle.std.proofs.Common.{◌≡◌, false, List, None, Ok, Err, refl, subst}
+use Rattle.std.proofs.Common.{◌≡◌, false, None, Ok, Err, refl, subst}
 use Rattle.tb_geom.specs.Pixels.{holds}
 use Rattle.desk_call.specs.Gates.{gate, standing_of}
 use Rattle.def_iface.specs.contracts.taken.TakenDefined.TheImpl as taken

@@ -1,4 +1,4 @@
-use Rattle.std.proofs.Common.{List, Ok, Err, refl, ap, ◌∙◌, ◌≡◌, None, sym, subst}
+use Rattle.std.proofs.Common.{refl, ap, ◌∙◌, ◌≡◌, None, sym, subst}
 use Rattle.std.proofs.lemmas.List.Elements.{All-weaker}
 use Rattle.def_iface.specs.contracts.control_stock.ControlStockStockedControls.TheImpl as control_stock
 use Rattle.def_iface.specs.contracts.menu_stock.MenuStockStockedMenus.TheImpl as menu_stock
