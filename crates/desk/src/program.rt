@@ -51,7 +51,8 @@ pub enum Stopped {
 }
 
 /// Runs what the words of the command line choose, of which the first is the program's name, over a stock of 16
-/// definitions of each kind of window, 32 of menus, and 64 of each kind of control. Where the words are not taken, nothing is read or written.
+/// definitions of each kind of window, 32 of menus, and 64 of each kind of control. Where the words are not taken, nothing is
+/// read or written.
 pub fn run_words<F: Opener, R: Source, W: Sink, S: AsStr>(
     alloc: Global,
     words: &[S],

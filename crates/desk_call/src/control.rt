@@ -58,7 +58,7 @@ pub enum ControlCall<'a> {
     Step(Point),
     /// The mouse button was released at this point of the window (TrackControl, its end): no part is highlighted then, and the
     /// one that is tracked is answered where the point lies in it. A thumb is answered where a step would answer it; it stands
-    /// then as far along as the mouse went, and the value is set by its place.
+    /// then as far along as the mouse went, and the value is set by its place, while the highlighting stays as it was.
     End(Point),
 }
 

@@ -1,10 +1,8 @@
 //! What a Toolbox can be asked, and what it answers: plain values, with texts and bytes borrowed.
 //!
 //! A `Call` says what it is about, and a `Reply` of which kind the answer is. What a call does, the crate says that performs
-//! it: `window_mgr` for windows, `window_update` for updates, `window_frame` for frames, `menu_mgr` for menus, `desk_toolbox`
-//! for events. A program that only reads or writes calls needs no more than this.
-//!
-//! A `ControlCall` is no `Call` yet: no crate performs one.
+//! it: `window_mgr` for windows, `window_update` for updates, `window_frame` for frames, `control_mgr` for controls, `menu_mgr`
+//! for menus, `desk_toolbox` for events. A program that only reads or writes calls needs no more than this.
 #![tactic(auto)]
 
 mod activity;

@@ -1,5 +1,5 @@
 -- FindControl answers for the owner of the pixel, with the pulled menu in front.
-use Rattle.std.proofs.Common.{◌≡◌, ⊥, inl, inr, ℕ, Bool, true, false, not, ◌&&◌, if◌then◌else◌, List, [], ◌∷◌, Option, None, Some, Result, Ok, Err, refl, sym, ap, ◌∙◌, subst}
+use Rattle.std.proofs.Common.{◌≡◌, ⊥, inl, inr, Bool, true, false, not, ◌&&◌, if◌then◌else◌, List, [], ◌∷◌, Option, None, Some, Result, Ok, Err, refl, sym, ap, ◌∙◌, subst}
 use Rattle.std.specs.Option.{option_map_or}
 use Rattle.std.proofs.lemmas.Bool.{and_parts, false≢true}
 use Rattle.tb_geom.specs.declared.point.Point.{Point}
@@ -23,7 +23,7 @@ use Rattle.window_mgr.specs.Finding.{record_with}
 use Rattle.window_mgr.specs.FullDesk.{layered_desk}
 use Rattle.window_mgr.specs.Refused.{is_missing}
 use Rattle.control_mgr.specs.ControlDesks.{ControlRecord}
-use Rattle.control_mgr.specs.ControlSteps.{found_by, found_control, found_from}
+use Rattle.control_mgr.specs.ControlSteps.{found_by, found_from}
 use Rattle.desk_toolbox.specs.Fronts.{found_by_owner, found_on_screen, is_on_menu, screen_owner}
 use Rattle.desk_toolbox.specs.ToolboxStates.{ToolboxState, IsToolboxUnchanged}
 use Rattle.desk_toolbox.specs.Run.{IsAdmitted, IsControlTold, IsGated, IsStep, is_under_menu, replied}
@@ -85,9 +85,10 @@ module _ (before : ToolboxState) (asked : PointInWindow) where
         → IsControlTold covered (controls.Find asked) own before after
         → (own ≡ Ok (control_reply.Found (found_on_screen before asked))) × IsToolboxUnchanged before after
     told_so true own on (is, same) = (is ∙ ap (λ f. Ok (control_reply.Found f)) (none_so (record_with asked.window before.desk.windows.desk.windows) on), same)
-    told_so false (Ok own) away ((may, (is, same)), (events, menus)) =
-        (ap Ok (is ∙ ap control_reply.Found (found_so (record_with asked.window before.desk.windows.desk.windows) inside away)),
-        record { desk = same.desk; controls = same.controls; menus = menus; events = events })
+    told_so false (Ok own) away ((may, (is, same)), (events, menus)) = (
+      ap Ok (is ∙ ap control_reply.Found (found_so (record_with asked.window before.desk.windows.desk.windows) inside away)),
+      record { desk = same.desk; controls = same.controls; menus = menus; events = events },
+    )
     told_so false (Err e) away ((inl why, same), rest) = absurd (some_is_none (unrefused (Some e) why))
       where
         some_is_none : Some e ≡ None → ⊥

@@ -48,10 +48,12 @@ impl Toolbox {
                 Err(refusal) => Err(refusal),
             },
             Call::Update(call) => {
-                match self
-                    .updates
-                    .perform(&mut self.windows, &mut self.activity, call, &self.controls)
-                {
+                match self.updates.perform(
+                    &mut self.windows,
+                    &mut self.activity,
+                    call,
+                    &self.controls,
+                ) {
                     Ok(reply) => Ok(Reply::Window(reply)),
                     Err(refusal) => Err(refusal),
                 }

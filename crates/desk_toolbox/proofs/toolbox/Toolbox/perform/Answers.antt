@@ -71,11 +71,15 @@ returns-in-Ok-perform-2-clause-step g c =
     let done = c.in-Ok-perform-2.ensures.step kept _ c.requires.whole.windows in
     let before : Opened = record { activity = c.args.self.now.activity; begun = kept } in
     let after : Opened = record { activity = c.perform-in-Frame.new.activity; begun = kept } in
-    rw c.in-Frame.is (Ok c.in-Ok-perform-2.reply, refl, (
-      frame_step_showing (controls_show (records_of (taken_control.control_loan-value g.dyn-2).it c.args.self.now.controls)) c.in-Frame.call (Ok c.in-Ok-perform-2.reply) (desk_with before (state_of (taken.loan-value g.dyn-1).it c.args.self.now.windows _)) (desk_with after (state_of (taken.loan-value g.dyn-1).it c.perform-in-Frame.new.windows _))
-          c.requires.whole.windows.sound.distinct done.1,
-      (refl, (refl, refl)),
-    ))
+    rw c.in-Frame.is (
+      Ok c.in-Ok-perform-2.reply,
+      refl,
+      (
+        frame_step_showing (controls_show (records_of (taken_control.control_loan-value g.dyn-2).it c.args.self.now.controls)) c.in-Frame.call (Ok c.in-Ok-perform-2.reply) (desk_with before (state_of (taken.loan-value g.dyn-1).it c.args.self.now.windows _)) (desk_with after (state_of (taken.loan-value g.dyn-1).it c.perform-in-Frame.new.windows _))
+            c.requires.whole.windows.sound.distinct done.1,
+        (refl, (refl, refl)),
+      ),
+    )
 
 pub returns-in-Err-perform-2-clause-whole : goal.returns-in-Err-perform-2-clause-whole
 returns-in-Err-perform-2-clause-whole g c =
@@ -97,11 +101,15 @@ returns-in-Err-perform-2-clause-step g c =
     let done = c.in-Err-perform-2.ensures.step kept _ c.requires.whole.windows in
     let before : Opened = record { activity = c.args.self.now.activity; begun = kept } in
     let after : Opened = record { activity = c.perform-in-Frame.new.activity; begun = kept } in
-    rw c.in-Frame.is (Err c.in-Err-perform-2.refusal, refl, (
-      frame_step_showing (controls_show (records_of (taken_control.control_loan-value g.dyn-2).it c.args.self.now.controls)) c.in-Frame.call (Err c.in-Err-perform-2.refusal) (desk_with before (state_of (taken.loan-value g.dyn-1).it c.args.self.now.windows _)) (desk_with after (state_of (taken.loan-value g.dyn-1).it c.perform-in-Frame.new.windows _))
-          c.requires.whole.windows.sound.distinct done.1,
-      (refl, (refl, refl)),
-    ))
+    rw c.in-Frame.is (
+      Err c.in-Err-perform-2.refusal,
+      refl,
+      (
+        frame_step_showing (controls_show (records_of (taken_control.control_loan-value g.dyn-2).it c.args.self.now.controls)) c.in-Frame.call (Err c.in-Err-perform-2.refusal) (desk_with before (state_of (taken.loan-value g.dyn-1).it c.args.self.now.windows _)) (desk_with after (state_of (taken.loan-value g.dyn-1).it c.perform-in-Frame.new.windows _))
+            c.requires.whole.windows.sound.distinct done.1,
+        (refl, (refl, refl)),
+      ),
+    )
 
 pub returns-in-Ok-perform-3-clause-whole : goal.returns-in-Ok-perform-3-clause-whole
 returns-in-Ok-perform-3-clause-whole g c =
@@ -120,10 +128,14 @@ returns-in-Ok-perform-3-clause-whole g c =
 pub returns-in-Ok-perform-3-clause-step : goal.returns-in-Ok-perform-3-clause-step
 returns-in-Ok-perform-3-clause-step g c =
     let done = c.in-Ok-perform-3.ensures (λ p. holds c.args.self.now.updates.begun p) _ c.requires.whole.windows in
-    rw c.in-Menu.is (Ok c.in-Ok-perform-3.reply, refl, (
-      menu_step_showing (controls_show (records_of (taken_control.control_loan-value g.dyn-2).it c.args.self.now.controls)) _ _ c.requires.whole.windows.sound.distinct c.in-Menu.call (Ok c.in-Ok-perform-3.reply) done.2,
-      (refl, refl),
-    ))
+    rw c.in-Menu.is (
+      Ok c.in-Ok-perform-3.reply,
+      refl,
+      (
+        menu_step_showing (controls_show (records_of (taken_control.control_loan-value g.dyn-2).it c.args.self.now.controls)) _ _ c.requires.whole.windows.sound.distinct c.in-Menu.call (Ok c.in-Ok-perform-3.reply) done.2,
+        (refl, refl),
+      ),
+    )
 
 pub returns-in-Err-perform-3-clause-whole : goal.returns-in-Err-perform-3-clause-whole
 returns-in-Err-perform-3-clause-whole g c =
@@ -142,10 +154,14 @@ returns-in-Err-perform-3-clause-whole g c =
 pub returns-in-Err-perform-3-clause-step : goal.returns-in-Err-perform-3-clause-step
 returns-in-Err-perform-3-clause-step g c =
     let done = c.in-Err-perform-3.ensures (λ p. holds c.args.self.now.updates.begun p) _ c.requires.whole.windows in
-    rw c.in-Menu.is (Err c.in-Err-perform-3.refusal, refl, (
-      menu_step_showing (controls_show (records_of (taken_control.control_loan-value g.dyn-2).it c.args.self.now.controls)) _ _ c.requires.whole.windows.sound.distinct c.in-Menu.call (Err c.in-Err-perform-3.refusal) done.2,
-      (refl, refl),
-    ))
+    rw c.in-Menu.is (
+      Err c.in-Err-perform-3.refusal,
+      refl,
+      (
+        menu_step_showing (controls_show (records_of (taken_control.control_loan-value g.dyn-2).it c.args.self.now.controls)) _ _ c.requires.whole.windows.sound.distinct c.in-Menu.call (Err c.in-Err-perform-3.refusal) done.2,
+        (refl, refl),
+      ),
+    )
 
 pub returns-in-Ok-answer_event-clause-whole : goal.returns-in-Ok-answer_event-clause-whole
 returns-in-Ok-answer_event-clause-whole g c = c.in-Ok-answer_event.ensures.whole _ _ _ c.requires.whole

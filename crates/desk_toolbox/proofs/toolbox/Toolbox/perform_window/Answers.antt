@@ -34,14 +34,18 @@ returns-in-Ok-clause-step g c =
     let slots = (control_stock.control_slots-value g.dyn-2).it in
     let shows = controls_show (records_of control_loan mid.controls) in
     let caught = (c.follow.ensures _ c.in-Ok.ensures.windows).1 in (
-      (_, c.in-Ok.ensures.step, (
-        state_showing shows (state_of loan c.follow.new.windows _),
-        record { activity = refl; begun = refl },
-        caught_up_by_showing shows (window_standing c.args.call.now) (state_of loan mid.windows _) (state_of loan c.follow.new.windows _) c.in-Ok.ensures.windows.sound.distinct caught,
-        refl,
-        subst (λ (s : ControlsState). AreControlsLeft c.args.call.now s (controls_state control_loan c.forget_controls.new.controls (slots c.forget_controls.new.stock)))
-            (λ i. controls_state control_loan (c.in-Ok.ensures.controls i) (c.in-Ok.ensures.control_stock i)) c.forget_controls.ensures,
-      )),
+      (
+        _,
+        c.in-Ok.ensures.step,
+        (
+          state_showing shows (state_of loan c.follow.new.windows _),
+          record { activity = refl; begun = refl },
+          caught_up_by_showing shows (window_standing c.args.call.now) (state_of loan mid.windows _) (state_of loan c.follow.new.windows _) c.in-Ok.ensures.windows.sound.distinct caught,
+          refl,
+          subst (λ (s : ControlsState). AreControlsLeft c.args.call.now s (controls_state control_loan c.forget_controls.new.controls (slots c.forget_controls.new.stock)))
+              (λ i. controls_state control_loan (c.in-Ok.ensures.controls i) (c.in-Ok.ensures.control_stock i)) c.forget_controls.ensures,
+        ),
+      ),
       (
         c.follow-in-Ok.ensures ∙ ap (events_left c.args.call.now) c.in-Ok.ensures.events,
         λ i. menus_state (taken_menu.menu_loan-value g.dyn-3).it (c.in-Ok.ensures.menus i) (c.in-Ok.ensures.menu_stock i),
@@ -76,7 +80,7 @@ returns-in-Ok-clause-whole g c =
       events = before.events;
     } in
     let right = made_keeps_controls c.args.call.now c.in-Ok.reply before step.0.0 its.0 after (record { whole = c.requires.whole.controls; shown = refl })
-        (record { look = look_on old.windows; distinct = c.requires.whole.windows.sound.distinct; serials = c.requires.whole.windows.sound.serials }) step.0.1 its.2 its.3 its.4 in
+    (record { look = look_on old.windows; distinct = c.requires.whole.windows.sound.distinct; serials = c.requires.whole.windows.sound.serials }) step.0.1 its.2 its.3 its.4 in
     record {
       windows = told.0;
       updates = updates_after_following loan mid.windows c.follow.new.windows mid.updates _ _ mid.activity c.args.call.now may told.1 c.in-Ok.ensures.updates;
