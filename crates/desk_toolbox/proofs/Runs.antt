@@ -161,6 +161,9 @@ step_controls_are_right call answer before after right controls step = (step_sta
 pub run_is_right : (first last : ToolboxState) (calls : List Call) (answers : List (Result Reply Refusal)) → IsRightState first.desk.windows → AreControlsRight first → IsRunOfCalls first calls answers last → IsRightState last.desk.windows
 run_is_right first last calls answers right controls run = (run_stays_right first last calls answers (record { right = right; controls = controls }) run).right
 
+pub run_controls_are_right : (first last : ToolboxState) (calls : List Call) (answers : List (Result Reply Refusal)) → IsRightState first.desk.windows → AreControlsRight first → IsRunOfCalls first calls answers last → AreControlsRight last
+run_controls_are_right first last calls answers right controls run = (run_stays_right first last calls answers (record { right = right; controls = controls }) run).controls
+
 -- and all of the screen is right once every update is served
 pub served_run_is_all_right : (first last : ToolboxState) (calls : List Call) (answers : List (Result Reply Refusal)) → IsRightState first.desk.windows → AreControlsRight first → IsRunOfCalls first calls answers last → AreAllServed last.desk.windows → IsAllRight last.desk.windows
 served_run_is_all_right first last calls answers right controls run served = all_served_is_right last.desk.windows (run_is_right first last calls answers right controls run) served

@@ -148,11 +148,13 @@ pub fn controls_are_counted()
 {}
 
 /// After any run from a right state each pixel of the screen in no update set has the value that
-/// painting the desk from nothing gives.
-#[tactic(auto, using(crate::proofs::Runs::run_is_right))]
+/// painting the desk from nothing gives, and the controls are whole and shown.
+#[tactic(auto, using(crate::proofs::Runs::run_is_right, crate::proofs::Runs::run_controls_are_right))]
 pub fn runs_stay_right()
-    ensures { (first last : ToolboxState) (calls : List Call) (answers : List (Result Reply Refusal))
+    ensures right { (first last : ToolboxState) (calls : List Call) (answers : List (Result Reply Refusal))
         → IsRightState first.desk.windows → AreControlsRight first → IsRunOfCalls first calls answers last → IsRightState last.desk.windows }
+    ensures controls { (first last : ToolboxState) (calls : List Call) (answers : List (Result Reply Refusal))
+        → IsRightState first.desk.windows → AreControlsRight first → IsRunOfCalls first calls answers last → AreControlsRight last }
 {}
 
 /// After any run from a right state that leaves no pixel in any window's update region, the whole screen shows what
