@@ -1,5 +1,5 @@
 -- FindControl answers for the owner of the pixel, with the pulled menu in front.
-use Rattle.std.proofs.Common.{◌≡◌, ⊥, inl, inr, Bool, true, false, not, ◌&&◌, if◌then◌else◌, List, [], ◌∷◌, Option, None, Some, Result, Ok, Err, refl, sym, ap, ◌∙◌, subst}
+use Rattle.std.proofs.Common.{◌≡◌, inl, inr, Bool, true, false, not, ◌&&◌, if◌then◌else◌, List, [], ◌∷◌, Option, None, Some, Result, Ok, Err, refl, sym, ap, ◌∙◌, subst}
 use Rattle.std.specs.Option.{option_map_or}
 use Rattle.std.proofs.lemmas.Bool.{and_parts, false≢true}
 use Rattle.tb_geom.specs.declared.point.Point.{Point}
@@ -101,7 +101,13 @@ module _ (before : ToolboxState) (asked : PointInWindow) where
         let told = told_so (is_under_menu before asked) own refl step in
         (is ∙ ap (replied reply.Control) told.0, told.1)
 
-    pub control_is_found_by_owner : IsStep (Control (controls.Find asked)) answer before after
+    found_by_step : IsStep (Control (controls.Find asked)) answer before after
         → (answer ≡ Ok (reply.Control (control_reply.Found (found_on_screen before asked)))) × IsToolboxUnchanged before after
-    control_is_found_by_owner step =
+    found_by_step step =
         admitted_so (subst (λ stopped. IsGated stopped (Control (controls.Find asked)) answer before after) (asks_may_come before.desk.activity) step)
+
+pub control_is_found_by_owner : (asked : PointInWindow) (answer : Result Reply Refusal) (before after : ToolboxState)
+    → is_missing asked.window before.desk.windows.desk.windows ≡ false → in_plane asked.point ≡ true
+    → IsStep (Control (controls.Find asked)) answer before after
+    → (answer ≡ Ok (reply.Control (control_reply.Found (found_on_screen before asked)))) × IsToolboxUnchanged before after
+control_is_found_by_owner asked answer before after present inside = found_by_step before asked answer after present inside
