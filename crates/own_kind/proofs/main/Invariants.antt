@@ -16,5 +16,8 @@ invariant-loop-kind l = All IsFull ((stock.slots-value (own.own-1, own.lawful-ow
 abbrev pub invariant-loop-2 : goal.invariant-loop-2
 invariant-loop-2 l = All (slots.IsFull (λ d. d.stage)) ((control_stock.control_slots-value (own.own-2, own.lawful-own-2)).it l.controls)
 
+abbrev pub invariant-loop-kind-2 : goal.invariant-loop-kind-2
+invariant-loop-kind-2 l = All (slots.IsFull (λ d. d.stage)) ((control_stock.control_slots-value (own.own-2, own.lawful-own-2)).it l.controls)
+
 abbrev pub invariant-loop-3 : goal.invariant-loop-3
 invariant-loop-3 l = All (slots.IsFull (λ d. d.stage)) ((menu_stock.menu_slots-value (own.own-3, own.lawful-own-3)).it l.menus)
