@@ -1,22 +1,25 @@
 -- How the stock of the program is filled, a slot at a time, and what a run over it is.
-use Rattle.std.proofs.Common.{◌≡◌, ℕ, zero, suc, ◌+◌, ◌<◌, ◌≤◌, List, [], ◌∷◌, ◌++◌, length, get_or, map, take, Some, Result, Ok, Err, refl, sym, ap, ◌∙◌, subst, inl, append_assoc, add-one, arith}
+use Rattle.std.proofs.Common.{◌≡◌, codes, ℕ, zero, suc, ◌+◌, ◌<◌, ◌≤◌, List, [], ◌∷◌, ◌++◌, length, get_or, map, take, Some, Result, Ok, Err, refl, sym, ap, ◌∙◌, subst, inl, append_assoc, add-one, arith}
 use Rattle.std.specs.Prelude.{All}
 use Rattle.std.proofs.lemmas.Grind.{common_steps}
 use Rattle.std.proofs.lemmas.List.Elements.{All-from_recursion, All-nil, All-append}
 use Rattle.tb_geom.specs.declared.refusal.Refusal.{Refusal}
 use Rattle.def_iface.specs.declared.window_def.Stage.TheVariants.{Fresh}
 use Rattle.def_iface.specs.Meaning.{Definition}
+use Rattle.def_iface.specs.ControlMeaning.{ControlDefinition}
 use Rattle.def_iface.specs.MenuMeaning.{MenuDefinition}
 use Rattle.def_iface.specs.Slots as slots
 use Rattle.def_iface.specs.Slots.{SlotOf}
 use Rattle.def_iface.specs.Stocked.{SlotView, IsFull, IsIdle}
+use Rattle.std_cdef.specs.declared.check.Variation.TheVariants.{CheckBox, RadioButton}
+use Rattle.std_cdef.specs.Told.{button_meaning, check_meaning, fresh_button, fresh_check, fresh_scroll, scroll_meaning}
 use Rattle.std_mldef.specs.Menus.{fresh_menu, std_menu_meaning}
 use Rattle.std_wdef.specs.Notched.{notched_meaning, fresh_notched}
 use Rattle.watched_io.specs.Reads.{Input}
 use Rattle.watched_io.specs.Writes.{Output}
 use Rattle.script_runner.specs.declared.command_line.Choices.{Choices}
 use Rattle.script_runner.specs.ChosenRuns.{ChosenEnds}
-use Rattle.desk.specs.StandardStock.{menu_slot, notched_slot, one_of_each, so_many_menus, so_many_of_each, standard_menus, standard_slots}
+use Rattle.desk.specs.StandardStock.{control_slot, controls_of_each, menu_slot, notched_slot, one_of_each, so_many_controls, so_many_menus, so_many_of_each, standard_controls, standard_menus, standard_slots}
 use Rattle.desk.specs.Program.{EndsOver, StandardEnds}
 
 -- ---- a slot of a kind, behind the others
@@ -62,6 +65,25 @@ pub menu_added : (n : ℕ) (slots new : List (SlotOf MenuDefinition)) (d : MenuD
 unfolding so_many_menus
 menu_added n slots new d was added is = added ∙ (λ i. was i ++ record menu_slot { held = Some (is i) } ∷ []) ∙ sym (ap so_many_menus (add-one n))
 
+-- ---- a slot for each kind of control, behind the others
+
+-- the fourth of a round was added
+pub round_of_controls : (n : ℕ) (s0 s1 s2 s3 s4 : List (SlotOf ControlDefinition)) (b c r s : ControlDefinition) → s0 ≡ so_many_controls n
+    → s1 ≡ s0 ++ control_slot (codes "button") b ∷ [] → b ≡ button_meaning fresh_button
+    → s2 ≡ s1 ++ control_slot (codes "check") c ∷ [] → c ≡ check_meaning (fresh_check CheckBox)
+    → s3 ≡ s2 ++ control_slot (codes "radio") r ∷ [] → r ≡ check_meaning (fresh_check RadioButton)
+    → s4 ≡ s3 ++ control_slot (codes "scroll") s ∷ [] → s ≡ scroll_meaning fresh_scroll
+    → s4 ≡ so_many_controls (n + 1)
+unfolding so_many_controls
+round_of_controls n s0 s1 s2 s3 s4 b c r s was one is_button two is_check three is_radio four is_scroll =
+    four ∙ (λ i. (three ∙ (λ j. (two ∙ (λ k. (one ∙ (λ l. was l ++ control_slot (codes "button") (is_button l) ∷ [])) k ++ control_slot (codes "check") (is_check k) ∷ [])) j
+    ++ control_slot (codes "radio") (is_radio j) ∷ [])) i ++ control_slot (codes "scroll") (is_scroll i) ∷ [])
+    ∙ together (so_many_controls n) _ _ _ _ ∙ sym (ap so_many_controls (add-one n))
+  where
+    together : {X : Type 0} (xs : List X) (a b c d : X) → (((xs ++ a ∷ []) ++ b ∷ []) ++ c ∷ []) ++ d ∷ [] ≡ xs ++ a ∷ b ∷ c ∷ d ∷ []
+    together [] a b c d = refl
+    together (x ∷ xs) a b c d = ap (λ l. x ∷ l) (together xs a b c d)
+
 -- ---- each slot is full
 
 each_full : All IsFull one_of_each
@@ -84,21 +106,42 @@ so_many_menus_full (suc n) =
     All-append IsMenuFull (so_many_menus n) (menu_slot ∷ []) (so_many_menus_full n)
     (All-from_recursion IsMenuFull (menu_slot ∷ []) ((std_menu_meaning fresh_menu, refl, inl refl), tt))
 
+abbrev pub IsControlFull : SlotOf ControlDefinition → Type 0
+IsControlFull s = slots.IsFull (λ (d : ControlDefinition). d.stage) s
+
+pub so_many_controls_full : (n : ℕ) → All IsControlFull (so_many_controls n)
+unfolding so_many_controls
+so_many_controls_full zero = All-nil IsControlFull
+so_many_controls_full (suc n) =
+    All-append IsControlFull (so_many_controls n) controls_of_each (so_many_controls_full n)
+    (All-from_recursion IsControlFull controls_of_each (
+      (button_meaning fresh_button, refl, inl refl),
+      (
+        (check_meaning (fresh_check CheckBox), refl, inl refl),
+        ((check_meaning (fresh_check RadioButton), refl, inl refl), ((scroll_meaning fresh_scroll, refl, inl refl), tt)),
+      ),
+    ))
+
 -- ---- the run
 
 module _ {File : Type 0} (opens : List ℕ → Result File Refusal → Type 0) (input : File → Input) (standard rest : Input) (old new : Output) (chosen : Choices) where
-  -- a run over a stock with these windows and these menus
-  pub run_over_stock : (windows left : List SlotView) (menus left_menus : List (SlotOf MenuDefinition)) {X : Type 0} (r : Result X Refusal)
-      → ChosenEnds opens input chosen windows left menus left_menus standard rest old new r → EndsOver opens input standard rest old new windows menus chosen r
-  run_over_stock windows left menus left_menus (Ok x) ends = record { left = left; left_menus = left_menus; ends = ends }
-  run_over_stock windows left menus left_menus (Err e) ends = inl (record { left = left; left_menus = left_menus; ends = ends })
+  -- a run over a stock with these windows, these menus and these controls
+  pub run_over_stock : (windows left : List SlotView) (menus left_menus : List (SlotOf MenuDefinition)) (controls left_controls : List (SlotOf ControlDefinition)) {X : Type 0} (r : Result X Refusal)
+      → ChosenEnds opens input chosen windows left menus left_menus controls left_controls standard rest old new r → EndsOver opens input standard rest old new windows menus controls chosen r
+  run_over_stock windows left menus left_menus controls left_controls (Ok x) ends = record { left = left; left_menus = left_menus; left_controls = left_controls; ends = ends }
+  run_over_stock windows left menus left_menus controls left_controls (Err e) ends = inl (record { left = left; left_menus = left_menus; left_controls = left_controls; ends = ends })
+
+  -- a run over controls that are the standard ones
+  pub run_over_controls : (windows : List SlotView) (menus : List (SlotOf MenuDefinition)) (controls : List (SlotOf ControlDefinition)) → controls ≡ standard_controls → {X : Type 0} (r : Result X Refusal)
+      → EndsOver opens input standard rest old new windows menus controls chosen r → EndsOver opens input standard rest old new windows menus standard_controls chosen r
+  run_over_controls windows menus controls is r ends = subst (λ s. EndsOver opens input standard rest old new windows menus s chosen r) is ends
 
   -- a run over menus that are the standard ones
   pub run_over_menus : (windows : List SlotView) (menus : List (SlotOf MenuDefinition)) → menus ≡ standard_menus → {X : Type 0} (r : Result X Refusal)
-      → EndsOver opens input standard rest old new windows menus chosen r → EndsOver opens input standard rest old new windows standard_menus chosen r
-  run_over_menus windows menus is r ends = subst (λ m. EndsOver opens input standard rest old new windows m chosen r) is ends
+      → EndsOver opens input standard rest old new windows menus standard_controls chosen r → EndsOver opens input standard rest old new windows standard_menus standard_controls chosen r
+  run_over_menus windows menus is r ends = subst (λ m. EndsOver opens input standard rest old new windows m standard_controls chosen r) is ends
 
   -- a run over windows that are the standard ones
   pub run_over_standard : (windows : List SlotView) → windows ≡ standard_slots → {X : Type 0} (r : Result X Refusal)
-      → EndsOver opens input standard rest old new windows standard_menus chosen r → StandardEnds opens input standard rest old new chosen r
-  run_over_standard windows is r ends = subst (λ s. EndsOver opens input standard rest old new s standard_menus chosen r) is ends
+      → EndsOver opens input standard rest old new windows standard_menus standard_controls chosen r → StandardEnds opens input standard rest old new chosen r
+  run_over_standard windows is r ends = subst (λ s. EndsOver opens input standard rest old new s standard_menus standard_controls chosen r) is ends

@@ -1,8 +1,11 @@
--- The definitions of windows and of menus that the program begins with.
+-- The definitions of windows, of menus and of controls that the program begins with.
 use Rattle.std.specs.Prelude.{ℕ, zero, suc, List, [], ◌∷◌, ◌++◌, Some, codes}
+use Rattle.def_iface.specs.ControlMeaning.{ControlDefinition}
 use Rattle.def_iface.specs.MenuMeaning.{MenuDefinition}
 use Rattle.def_iface.specs.Slots.{SlotOf}
 use Rattle.def_iface.specs.Stocked.{SlotView}
+use Rattle.std_cdef.specs.declared.check.Variation.TheVariants.{CheckBox, RadioButton}
+use Rattle.std_cdef.specs.Told.{button_meaning, check_meaning, fresh_button, fresh_check, fresh_scroll, scroll_meaning}
 use Rattle.std_mldef.specs.Menus.{fresh_menu, std_menu_meaning}
 use Rattle.std_wdef.specs.declared.kind.Variation.{Variation}
 use Rattle.std_wdef.specs.declared.kind.Variation.TheVariants.{Document, Dialog, Plain, Shadow, NoGrow, Zoom}
@@ -50,3 +53,25 @@ so_many_menus (suc n) = so_many_menus n ++ menu_slot ∷ []
 -- the slots of menus of the program's stock
 abbrev pub standard_menus : List (SlotOf MenuDefinition)
 standard_menus = so_many_menus 32
+
+-- a slot for a kind of control, under this name
+abbrev pub control_slot : List ℕ → ControlDefinition → SlotOf ControlDefinition
+control_slot name d = record { kind = name; held = Some d }
+
+-- a slot for each kind of control, by the names that scripts have, with a definition that was told nothing yet
+abbrev pub controls_of_each : List (SlotOf ControlDefinition)
+controls_of_each =
+    control_slot (codes "button") (button_meaning fresh_button)
+    ∷ control_slot (codes "check") (check_meaning (fresh_check CheckBox))
+    ∷ control_slot (codes "radio") (check_meaning (fresh_check RadioButton))
+    ∷ control_slot (codes "scroll") (scroll_meaning fresh_scroll)
+    ∷ []
+
+-- so many of each
+unfoldable pub so_many_controls : ℕ → List (SlotOf ControlDefinition)
+so_many_controls zero = []
+so_many_controls (suc n) = so_many_controls n ++ controls_of_each
+
+-- the slots of controls of the program's stock
+abbrev pub standard_controls : List (SlotOf ControlDefinition)
+standard_controls = so_many_controls 64

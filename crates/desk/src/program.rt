@@ -5,9 +5,11 @@ ghost use Rattle.def_iface.specs.Slots as slots;
 ghost use Rattle.def_iface.specs.Stocked.{IsFull};
 ghost use Rattle.watched_io.specs.Reads.{IsOpen};
 ghost use Rattle.desk.specs.Program.{EndsOver, ProgramEnds, StandardEnds};
-ghost use Rattle.desk.specs.StandardStock.{standard_menus};
+ghost use Rattle.desk.specs.StandardStock.{standard_controls, standard_menus};
 
-use def_iface::{ControlStock, ListStock, MenuStock, Stock, Stocked, StockedMenus, WindowStock};
+use def_iface::{
+    ControlStock, ListStock, MenuStock, Stock, Stocked, StockedControls, StockedMenus, WindowStock,
+};
 use script_runner::{Choices, Opener, OptionsError, options, run_chosen};
 use std::alloc::Global;
 use std::convert::AsStr;
@@ -49,7 +51,8 @@ pub enum Stopped {
 }
 
 /// Runs what the words of the command line choose, of which the first is the program's name, over a stock of 16
-/// definitions of each kind of window, and 32 of menus. Where the words are not taken, nothing is read or written.
+/// definitions of each kind of window, 32 of menus, and 64 of each kind of control. Where the words are not taken, nothing is
+/// read or written.
 pub fn run_words<F: Opener, R: Source, W: Sink, S: AsStr>(
     alloc: Global,
     words: &[S],
@@ -106,8 +109,8 @@ fn run_standard<F: Opener, R: Source, W: Sink>(
     run_with_windows(alloc, windows, files, standard, sink, chosen)
 }
 
-/// Runs what was chosen over a stock with these windows, and with the standard menus. NoMemory also where there is none for
-/// those, and then nothing is read or written.
+/// Runs what was chosen over a stock with these windows, and with the standard menus and controls. NoMemory also where there
+/// is none for those, and then nothing is read or written.
 fn run_with_windows<F: Opener, R: Source, W: Sink>(
     alloc: Global,
     windows: WindowStock,
@@ -122,7 +125,7 @@ fn run_with_windows<F: Opener, R: Source, W: Sink>(
     requires unfailed { (W.output sink.old).has_failed ≡ false }
     ensures { EndsOver (F.opens files.now) F.Opened.input
         (R.input standard.old) (R.input standard.new) (W.output sink.old) (W.output sink.new)
-        (⟦<WindowStock as Stocked>⟧.slots windows) standard_menus chosen.now result }
+        (⟦<WindowStock as Stocked>⟧.slots windows) standard_menus standard_controls chosen.now result }
 {
     let mut menus = MenuStock::new(alloc);
     for round in 0..MENUS {
@@ -131,12 +134,12 @@ fn run_with_windows<F: Opener, R: Source, W: Sink>(
             return Err(Refusal::NoMemory);
         };
     }
-    run_over(alloc, windows, menus, files, standard, sink, chosen)
+    run_with_menus(alloc, windows, menus, files, standard, sink, chosen)
 }
 
-/// Runs what was chosen over a stock with these windows and these menus, and with the standard controls and lists. NoMemory
-/// also where there is none for those, and then nothing is read or written.
-fn run_over<F: Opener, R: Source, W: Sink>(
+/// Runs what was chosen over a stock with these windows and these menus, and with the standard controls. NoMemory also where
+/// there is none for those, and then nothing is read or written.
+fn run_with_menus<F: Opener, R: Source, W: Sink>(
     alloc: Global,
     windows: WindowStock,
     menus: MenuStock,
@@ -152,22 +155,56 @@ fn run_over<F: Opener, R: Source, W: Sink>(
     requires unfailed { (W.output sink.old).has_failed ≡ false }
     ensures { EndsOver (F.opens files.now) F.Opened.input
         (R.input standard.old) (R.input standard.new) (W.output sink.old) (W.output sink.new)
-        (⟦<WindowStock as Stocked>⟧.slots windows) (⟦<MenuStock as StockedMenus>⟧.menu_slots menus) chosen.now result }
+        (⟦<WindowStock as Stocked>⟧.slots windows) (⟦<MenuStock as StockedMenus>⟧.menu_slots menus)
+        standard_controls chosen.now result }
 {
     let mut controls = ControlStock::new(alloc);
-    for _ in 0..CONTROLS {
+    for round in 0..CONTROLS {
         let button = Box::new(alloc, StdButton::new())?;
-        let check = Box::new(alloc, StdCheck::new(std_cdef::Variation::CheckBox))?;
-        let radio = Box::new(alloc, StdCheck::new(std_cdef::Variation::RadioButton))?;
-        let scroll = Box::new(alloc, StdScroll::new())?;
-        let added = controls.add(b"button", button).is_ok()
-            && controls.add(b"check", check).is_ok()
-            && controls.add(b"radio", radio).is_ok()
-            && controls.add(b"scroll", scroll).is_ok();
-        if !added {
+        let Ok(()) = controls.add(b"button", button) else {
             return Err(Refusal::NoMemory);
-        }
+        };
+        let check = Box::new(alloc, StdCheck::new(std_cdef::Variation::CheckBox))?;
+        let Ok(()) = controls.add(b"check", check) else {
+            return Err(Refusal::NoMemory);
+        };
+        let radio = Box::new(alloc, StdCheck::new(std_cdef::Variation::RadioButton))?;
+        let Ok(()) = controls.add(b"radio", radio) else {
+            return Err(Refusal::NoMemory);
+        };
+        let scroll = Box::new(alloc, StdScroll::new())?;
+        let Ok(()) = controls.add(b"scroll", scroll) else {
+            return Err(Refusal::NoMemory);
+        };
     }
+    run_over(
+        alloc, windows, menus, controls, files, standard, sink, chosen,
+    )
+}
+
+/// Runs what was chosen over a stock with these windows, these menus and these controls, and with the standard lists. NoMemory
+/// also where there is none for those, and then nothing is read or written.
+fn run_over<F: Opener, R: Source, W: Sink>(
+    alloc: Global,
+    windows: WindowStock,
+    menus: MenuStock,
+    controls: ControlStock,
+    files: &F,
+    standard: &mut R,
+    sink: &mut W,
+    chosen: &Choices<'_>,
+) -> Result<(), Refusal>
+    requires full { All IsFull (⟦<WindowStock as Stocked>⟧.slots windows) }
+    requires full_menus { All (slots.IsFull (λ d. d.stage)) (⟦<MenuStock as StockedMenus>⟧.menu_slots menus) }
+    requires full_controls { All (slots.IsFull (λ d. d.stage)) (⟦<ControlStock as StockedControls>⟧.control_slots controls) }
+    requires unread { (R.input standard.old).reads ≡ 0 }
+    requires going { IsOpen (R.input standard.old) }
+    requires unfailed { (W.output sink.old).has_failed ≡ false }
+    ensures { EndsOver (F.opens files.now) F.Opened.input
+        (R.input standard.old) (R.input standard.new) (W.output sink.old) (W.output sink.new)
+        (⟦<WindowStock as Stocked>⟧.slots windows) (⟦<MenuStock as StockedMenus>⟧.menu_slots menus)
+        (⟦<ControlStock as StockedControls>⟧.control_slots controls) chosen.now result }
+{
     let mut lists = ListStock::new(alloc);
     for _ in 0..LISTS {
         let list = Box::new(alloc, StdList::new())?;

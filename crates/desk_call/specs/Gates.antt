@@ -3,11 +3,13 @@ use Rattle.std.specs.Prelude.{ℕ, ◌==◌, if◌then◌else◌, Option, None, 
 use Rattle.tb_geom.specs.declared.refusal.Refusal.{Refusal}
 use Rattle.tb_geom.specs.declared.refusal.Refusal.TheVariants.{Busy, NotBusy}
 use Rattle.desk_call.specs.declared.activity.Activity.{Activity}
-use Rattle.desk_call.specs.declared.activity.Activity.TheVariants.{Idle, Updating, Tracking, Pulling}
+use Rattle.desk_call.specs.declared.activity.Activity.TheVariants.{Idle, Updating, Tracking, Pulling, TrackingControl}
 use Rattle.desk_call.specs.declared.activity.Standing.{Standing}
-use Rattle.desk_call.specs.declared.activity.Standing.TheVariants.{Asks, Updates, Tracks, Pulls, Changes}
+use Rattle.desk_call.specs.declared.activity.Standing.TheVariants.{Asks, Updates, Tracks, Pulls, TracksControl, Changes}
 use Rattle.desk_call.specs.declared.call.Call.{Call}
-use Rattle.desk_call.specs.declared.call.Call.TheVariants.{Window, Update, Frame, Menu, Event}
+use Rattle.desk_call.specs.declared.call.Call.TheVariants.{Window, Update, Frame, Control, Menu, Event}
+use Rattle.desk_call.specs.declared.control.ControlCall.{ControlCall}
+use Rattle.desk_call.specs.declared.control.ControlCall.TheVariants as controls
 use Rattle.desk_call.specs.declared.frame.FrameCall.{FrameCall}
 use Rattle.desk_call.specs.declared.frame.FrameCall.TheVariants.{StepGoAway, EndGoAway}
 use Rattle.desk_call.specs.declared.menu.MenuCall.{MenuCall}
@@ -44,11 +46,21 @@ menu_standing (menus.Move p) = Pulls
 menu_standing (menus.Up p) = Pulls
 menu_standing _ = Changes
 
+-- the calls on controls that ask may come at any time; steps and the end of tracking belong to it
+abbrev pub control_standing : ControlCall → Standing
+control_standing (controls.Get c) = Asks
+control_standing (controls.Find p) = Asks
+control_standing (controls.Test p) = Asks
+control_standing (controls.Step p) = TracksControl
+control_standing (controls.End p) = TracksControl
+control_standing _ = Changes
+
 -- when a call may come; one about events may at any time
 abbrev pub standing_of : Call → Standing
 standing_of (Window call) = window_standing call
 standing_of (Update call) = update_standing call
 standing_of (Frame call) = frame_standing call
+standing_of (Control call) = control_standing call
 standing_of (Menu call) = menu_standing call
 standing_of (Event call) = Asks
 
@@ -60,4 +72,5 @@ gate activity Changes = Some Busy
 gate (Updating s) (Updates t) = if s == t then None else Some NotBusy
 gate (Tracking s) Tracks = None
 gate (Pulling m) Pulls = None
+gate (TrackingControl c) TracksControl = None
 gate activity standing = Some NotBusy

@@ -1,8 +1,9 @@
 //! Which calls may come while something is open.
 ghost use Rattle.std.specs.Prelude.{◌≡◌, None, MatchResult, Some};
-ghost use Rattle.desk_call.specs.Gates.{gate, standing_of, window_standing, update_standing, frame_standing, menu_standing};
+ghost use Rattle.desk_call.specs.Gates.{gate, standing_of, window_standing, update_standing, frame_standing, menu_standing, control_standing};
 
-use crate::{Call, FrameCall, MenuCall, UpdateCall, WindowCall};
+use crate::{Call, ControlCall, ControlOf, FrameCall, MenuCall, UpdateCall, WindowCall};
+use control_values::ControlPart;
 use def_iface::Size;
 use tb_geom::{Point, Refusal};
 
@@ -17,6 +18,8 @@ pub enum Activity {
     Tracking(u64),
     /// This menu is pulled down.
     Pulling(PulledMenu),
+    /// The tracking of a part of this control.
+    TrackingControl(TrackedControl),
 }
 
 /// A menu that is pulled down.
@@ -32,6 +35,15 @@ pub struct PulledMenu {
     pub item: Option<u8>,
 }
 
+/// A part of a control that is tracked.
+#[derive(Clone, Copy, Debug, PartialEq, Eq)]
+pub struct TrackedControl {
+    pub control: ControlOf,
+    pub part: ControlPart,
+    /// Where the mouse button was pressed, in the coordinates of the control's window.
+    pub from: Point,
+}
+
 /// When a call may come.
 #[derive(Clone, Copy, PartialEq, Eq)]
 pub enum Standing {
@@ -43,6 +55,8 @@ pub enum Standing {
     Tracks,
     /// It goes on with a menu that is pulled down or puts it away, while one is.
     Pulls,
+    /// It goes on with the tracking of a control or ends it, while that is open.
+    TracksControl,
     /// It is any other, while nothing is open.
     Changes,
 }
@@ -60,6 +74,7 @@ impl Activity {
             (Activity::Updating(open), Standing::Updates(window)) if open == window => Ok(()),
             (Activity::Tracking(_), Standing::Tracks) => Ok(()),
             (Activity::Pulling(_), Standing::Pulls) => Ok(()),
+            (Activity::TrackingControl(_), Standing::TracksControl) => Ok(()),
             _ => Err(Refusal::NotBusy),
         }
     }
@@ -74,6 +89,7 @@ impl Call<'_> {
             Call::Window(call) => call.standing(),
             Call::Update(call) => call.standing(),
             Call::Frame(call) => call.standing(),
+            Call::Control(call) => call.standing(),
             Call::Menu(call) => call.standing(),
             Call::Event(_) => Standing::Asks,
         }
@@ -125,6 +141,19 @@ impl MenuCall<'_> {
     {
         match self {
             MenuCall::Move(_) | MenuCall::Up(_) => Standing::Pulls,
+            _ => Standing::Changes,
+        }
+    }
+}
+
+impl ControlCall<'_> {
+    /// When the call may come.
+    pub fn standing(&self) -> Standing
+        ensures { result ≡ control_standing self.now }
+    {
+        match self {
+            ControlCall::Get(_) | ControlCall::Find(_) | ControlCall::Test(_) => Standing::Asks,
+            ControlCall::Step(_) | ControlCall::End(_) => Standing::TracksControl,
             _ => Standing::Changes,
         }
     }

@@ -1,8 +1,8 @@
 //! What a Toolbox can be asked, and what it answers.
 
 use crate::{
-    EventCall, EventReply, FrameCall, FrameReply, MenuCall, MenuReply, UpdateCall, WindowCall,
-    WindowReply,
+    ControlCall, ControlReply, EventCall, EventReply, FrameCall, FrameReply, MenuCall, MenuReply,
+    UpdateCall, WindowCall, WindowReply,
 };
 
 /// A call of the Toolbox, by what it is about. Titles, and the bytes of operations and regions, are borrowed, so that
@@ -15,6 +15,8 @@ pub enum Call<'a> {
     Update(UpdateCall<'a>),
     /// About a window's frame: its title, its highlighting and its go-away box.
     Frame(FrameCall<'a>),
+    /// About controls.
+    Control(ControlCall<'a>),
     /// About menus.
     Menu(MenuCall<'a>),
     /// About events.
@@ -28,6 +30,8 @@ pub enum Reply {
     Window(WindowReply),
     /// To a `Call::Frame`.
     Frame(FrameReply),
+    /// To a `Call::Control`.
+    Control(ControlReply),
     /// To a `Call::Menu`.
     Menu(MenuReply),
     /// To a `Call::Event`.

@@ -1,20 +1,25 @@
 //! What a Toolbox can be asked, and what it answers: plain values, with texts and bytes borrowed.
 //!
 //! A `Call` says what it is about, and a `Reply` of which kind the answer is. What a call does, the crate says that performs
-//! it: `window_mgr` for windows, `window_update` for updates, `window_frame` for frames, `menu_mgr` for menus, `desk_toolbox`
-//! for events. A program that only reads or writes calls needs no more than this.
+//! it: `window_mgr` for windows, `window_update` for updates, `window_frame` for frames, `control_mgr` for controls, `menu_mgr`
+//! for menus, `desk_toolbox` for events. A program that only reads or writes calls needs no more than this.
 #![tactic(auto)]
 
 mod activity;
 mod call;
+mod control;
 mod event;
 mod frame;
 mod menu;
 mod update;
 mod window;
 
-pub use activity::{Activity, PulledMenu, Standing};
+pub use activity::{Activity, PulledMenu, Standing, TrackedControl};
 pub use call::{Call, Reply};
+pub use control::{
+    ControlCall, ControlInfo, ControlNumber, ControlOf, ControlReply, ControlTitle, FoundControl,
+    MoveControl, NewControl, PointAtControl, PointInWindow, SizeControl,
+};
 pub use event::{EventCall, EventReply, FlushEvents, PostEvent};
 pub use frame::{FrameCall, FrameReply, GoAwayPoint, HiliteWindow, NewTitle};
 pub use menu::{

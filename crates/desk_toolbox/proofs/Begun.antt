@@ -1,14 +1,25 @@
 -- A Toolbox that just began.
-use Rattle.std.proofs.Common.{◌≡◌, ℕ, ℤ, List, Result, Ok, Err, ap, ◌∙◌, subst, sym}
+use Rattle.std.proofs.Common.{◌≡◌, ℕ, ℤ, List, [], map, Some, Result, Ok, Err, refl, ap, ◌∙◌, subst, sym}
 use Rattle.std.specs.Prelude.{All, IfOk}
 use Rattle.desk_call.specs.declared.activity.Activity.TheVariants.{Idle}
 use Rattle.def_iface.specs.declared.taken.Taken.{Taken}
 use Rattle.def_iface.specs.declared.taken_menu.TakenMenu.{TakenMenu}
+use Rattle.tb_geom.specs.Points.{PixelSet}
+use Rattle.def_iface.specs.declared.part.Part.{Part}
+use Rattle.def_iface.specs.declared.taken_control.TakenControl.{TakenControl}
+use Rattle.def_iface.specs.Change as plain
+use Rattle.def_iface.specs.ControlMeaning.{ControlLoan}
+use Rattle.control_list.specs.Seen.{all_seen}
+use Rattle.control_mgr.specs.ControlClosing.{IsControlFull}
+use Rattle.control_mgr.specs.ControlDesks.{ControlSlot, controls_show}
+use Rattle.control_mgr.specs.WholeControls.{records_of}
+use Rattle.vis_update.specs.Records.{layered_window}
+use Rattle.window_mgr.specs.Records.{state_of, state_showing}
 use Rattle.def_iface.specs.Meaning.{Loan}
 use Rattle.def_iface.specs.MenuMeaning.{MenuLoan}
 use Rattle.def_iface.specs.Stocked.{SlotView, IsFull}
 use Rattle.window_mgr.specs.Begin.{IsEmptyDesk}
-use Rattle.window_mgr.specs.FullDesk.{FullDesk}
+use Rattle.window_mgr.specs.FullDesk.{FullDesk, FullState, IsRightState, layered_desk, layered_state, look_of}
 use Rattle.menu_mgr.specs.declared.menus.Menus.{Menus}
 use Rattle.menu_mgr.specs.MenuDesks.{MenuSlot}
 use Rattle.menu_mgr.specs.WholeMenus.{AreNoMenus, menus_of}
@@ -18,22 +29,42 @@ use Rattle.desk_toolbox.specs.EventSteps.{first_events}
 use Rattle.desk_toolbox.specs.Reached.{IsJustBegun}
 use Rattle.desk_toolbox.specs.WholeToolbox.{toolbox_state}
 
-module _ {V : Type 0} {H : V → Type 0} (loan : Taken V H → Loan) {W : Type 0} {K : W → Type 0} (menu_loan : TakenMenu W K → MenuLoan) (width height bar : ℤ) (font : List ℕ) where
-  has_just_begun : (t : Toolbox V W H K) (slots : List SlotView) (kept : List MenuSlot) → IsEmptyDesk loan width height bar font t.windows slots → t.activity ≡ Idle → t.events ≡ first_events → AreNoMenus width height t.menus → IsJustBegun (toolbox_state loan menu_loan t slots kept)
-  has_just_begun t slots kept empty idle events none = record {
-    right = empty.right;
-    windows = ap (λ (d : FullDesk). d.windows) empty.desk;
-    active = ap (λ (d : FullDesk). d.active) empty.desk;
-    idle = idle;
-    titles = ap (λ (d : FullDesk). d.bar.titles) empty.desk;
-    menus = ap (menus_of menu_loan) none.none;
-    highlighted = none.highlighted;
-    events = events;
-  }
+-- where there are no windows a right state is right, whatever is shown of controls
+right_bare : (shows : List ℕ → Part → PixelSet) (s : FullState) → s.desk.windows ≡ [] → IsRightState s → IsRightState (state_showing shows s)
+right_bare shows s none right = record {
+  plain = subst plain.IsRight (λ i. record (layered_state s) { desk = record (layered_desk s.desk) { windows = same i } }) right.plain;
+  serials = right.serials;
+}
+  where
+    now : FullDesk
+    now = (state_showing shows s).desk
 
-  pub begins : {E : Type 0} (events : Events) (menus : Menus W K) (r : Result (Toolbox V W H K) E) → IfOk r (λ t. (slots : List SlotView) → All IsFull slots → IsEmptyDesk loan width height bar font t.windows slots)
-      → IfOk r (λ t. t.activity ≡ Idle) → IfOk r (λ t. t.events ≡ events) → IfOk r (λ t. t.menus ≡ menus) → events ≡ first_events → AreNoMenus width height menus
-      → IfOk r (λ t. (slots : List SlotView) (kept : List MenuSlot) → All IsFull slots → IsJustBegun (toolbox_state loan menu_loan t slots kept))
-  begins events menus (Ok t) empty idle kept same are_first none = λ slots stored full.
-      has_just_begun t slots stored (empty slots full) idle (kept ∙ are_first) (subst (λ m. AreNoMenus width height m) (sym same) none)
-  begins events menus (Err e) empty idle kept same are_first none = tt
+    same : map (layered_window (look_of s.desk)) s.desk.windows ≡ map (layered_window (look_of now)) s.desk.windows
+    same = ap (map (layered_window (look_of s.desk))) none ∙ sym (ap (map (layered_window (look_of now))) none)
+
+module _ {V : Type 0} {H : V → Type 0} (loan : Taken V H → Loan) {W : Type 0} {K : W → Type 0} (menu_loan : TakenMenu W K → MenuLoan) {U : Type 0} {J : U → Type 0} (control_loan : TakenControl U J → ControlLoan) (width height bar : ℤ) (font : List ℕ) where
+  has_just_begun : (t : Toolbox V U W H J K) (slots : List SlotView) (kept : List MenuSlot) (held : List ControlSlot) → All IsControlFull held → IsEmptyDesk loan width height bar font t.windows slots → t.activity ≡ Idle → t.events ≡ first_events → AreNoMenus width height t.menus
+      → t.controls.list.controls.items ≡ [] → t.controls.list.next ≡ Some 1 → IsJustBegun (toolbox_state loan menu_loan control_loan t slots kept held)
+  has_just_begun t slots kept held full empty idle events none bare next =
+      let windows = ap (λ (d : FullDesk). d.windows) empty.desk in
+      record {
+        right = right_bare (controls_show (records_of control_loan t.controls)) (state_of loan t.windows slots) windows empty.right;
+        windows = windows;
+        active = ap (λ (d : FullDesk). d.active) empty.desk;
+        idle = idle;
+        controls = ap (all_seen control_loan) bare;
+        next_control = next;
+        held = full;
+        shown = refl;
+        titles = ap (λ (d : FullDesk). d.bar.titles) empty.desk;
+        menus = ap (menus_of menu_loan) none.none;
+        highlighted = none.highlighted;
+        events = events;
+      }
+
+  pub begins : {E : Type 0} (events : Events) (menus : Menus W K) (r : Result (Toolbox V U W H J K) E) → IfOk r (λ t. (slots : List SlotView) → All IsFull slots → IsEmptyDesk loan width height bar font t.windows slots)
+      → IfOk r (λ t. t.activity ≡ Idle) → IfOk r (λ t. t.events ≡ events) → IfOk r (λ t. t.menus ≡ menus) → IfOk r (λ t. (t.controls.list.controls.items ≡ []) × (t.controls.list.next ≡ Some 1)) → events ≡ first_events → AreNoMenus width height menus
+      → IfOk r (λ t. (slots : List SlotView) (kept : List MenuSlot) (held : List ControlSlot) → All IsFull slots → All IsControlFull held → IsJustBegun (toolbox_state loan menu_loan control_loan t slots kept held))
+  begins events menus (Ok t) empty idle kept same bare are_first none = λ slots stored held full full_controls.
+      has_just_begun t slots stored held full_controls (empty slots full) idle (kept ∙ are_first) (subst (λ m. AreNoMenus width height m) (sym same) none) bare.0 bare.1
+  begins events menus (Err e) empty idle kept same bare are_first none = tt

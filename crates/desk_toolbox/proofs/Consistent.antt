@@ -8,7 +8,6 @@ use Rattle.desk_call.specs.declared.call.Call.{Call}
 use Rattle.desk_call.specs.declared.call.Reply.{Reply}
 use Rattle.menu_list.specs.Lists.{titles_of}
 use Rattle.vis_update.specs.Records.{WindowRecord}
-use Rattle.window_mgr.specs.FullDesk.{IsRightState}
 use Rattle.window_frame.specs.Followers.{Knows}
 use Rattle.window_frame.specs.Followers.Flag.{Highlighting, Zooming}
 use Rattle.desk_toolbox.specs.declared.events.Events.{Events}
@@ -20,23 +19,28 @@ use Rattle.desk_toolbox.proofs.Runs.{step_stays_right}
 use Rattle.desk_toolbox.proofs.Stands.{Stands, stands, consistent, stands_still, event_stands, window_stands}
 use Rattle.desk_toolbox.proofs.StandsOpen.{update_stands, frame_stands}
 use Rattle.desk_toolbox.proofs.MenuStands.{menu_stands}
+use Rattle.desk_toolbox.proofs.ControlsBeside.{IsRightToolbox}
+use Rattle.desk_toolbox.proofs.TrackedControls.{control_stands, begun_controls}
+use Rattle.control_mgr.specs.WholeControls.{IsTrackable}
 
 abbrev GoesOnStanding : Call → Result Reply Refusal → ToolboxState → ToolboxState → Type 0
-GoesOnStanding call answer before after = Stands before → IsRightState after.desk.windows → Stands after
+GoesOnStanding call answer before after = Stands before → IsRightToolbox after → Stands after
 
 each_stands : HoldsOfEach GoesOnStanding
 each_stands = record {
-  unchanged = λ call e before after same was right. stands_still before after same.desk.windows.desk same.desk.activity same.menus same.events was right;
-  covered = λ p before after same was right. stands_still before after same.desk.windows.desk same.desk.activity same.menus same.events was right;
+  unchanged = λ call e before after same was right. stands_still before after same.desk.windows.desk same.desk.activity same.controls same.menus same.events was right;
+  covered = λ p before after same was right. stands_still before after same.desk.windows.desk same.desk.activity same.controls same.menus same.events was right;
+  hidden = λ p before after same was right. stands_still before after same.desk.windows.desk same.desk.activity same.controls same.menus same.events was right;
   window = λ call answer before after may step was right. window_stands call answer before after may was right step;
-  update = λ call answer before after may step events menus was right. update_stands call answer before after may was right step events menus;
-  frame = λ call answer before after may step events menus was right. frame_stands call answer before after may was right step events menus;
-  menu = λ call answer before after may step events was right. menu_stands call answer before after may was right step events;
+  update = λ call answer before after may step rest was right. update_stands call answer before after may was right step rest;
+  frame = λ call answer before after may step rest was right. frame_stands call answer before after may was right step rest;
+  control = λ call answer before after may step events menus was right. control_stands call answer before after may was right step events menus;
+  menu = λ call answer before after may step events controls was right. menu_stands call answer before after may was right step events;
   event = λ call answer before after step was right. event_stands call answer before after was right step;
 }
 
 step_stands : (call : Call) (answer : Result Reply Refusal) (before after : ToolboxState) → Stands before → IsStep call answer before after → Stands after
-step_stands call answer before after was step = of_step GoesOnStanding each_stands call answer before after step was (step_stays_right call answer before after was.right step)
+step_stands call answer before after was step = of_step GoesOnStanding each_stands call answer before after step was (step_stays_right call answer before after (record { right = was.right; controls = was.controls }) step)
 
 pub step_keeps_consistent : (call : Call) (answer : Result Reply Refusal) (before after : ToolboxState) → IsConsistent before → IsStep call answer before after → IsConsistent after
 step_keeps_consistent call answer before after was step = consistent after (step_stands call answer before after (stands before was) step)
@@ -58,6 +62,8 @@ just_begun_is_consistent s begun =
       active = subst (λ o. IsThere o windows) (sym begun.active) tt;
       told = subst (λ (e : Events). IsThere e.told windows) (sym begun.events) tt;
       opened = subst (λ a. IsThere (open_window a) windows) (sym begun.idle) tt;
+      controls = begun_controls s begun;
+      trackable = subst (λ a. IsTrackable a s.controls.controls) (sym begun.idle) tt;
       queued = All-same (λ (e : Event). is_posted e.what ≡ true) s.events.queue.events [] (ap (λ (e : Events). e.queue.events) begun.events) (All-nil (λ (e : Event). is_posted e.what ≡ true));
       informed = All-same (λ (w : WindowRecord). Knows Highlighting w × Knows Zooming w) windows [] begun.windows (All-nil (λ (w : WindowRecord). Knows Highlighting w × Knows Zooming w));
       tracked = All-same (IsTrackedIfHeard s.desk.activity) windows [] begun.windows (All-nil (IsTrackedIfHeard s.desk.activity));

@@ -11,7 +11,7 @@ use Rattle.def_iface.specs.Scratch.{scratch}
 use Rattle.def_iface.proofs.Painting.{scratch_is_owners}
 use Rattle.menu_overlay.specs.Overlays.{Pulled, pulled_bit, pulled_rect, shown_bit}
 use Rattle.desk_call.specs.declared.activity.Activity.{Activity}
-use Rattle.desk_call.specs.declared.activity.Activity.TheVariants.{Idle, Updating, Tracking, Pulling}
+use Rattle.desk_call.specs.declared.activity.Activity.TheVariants.{Idle, Updating, Tracking, Pulling, TrackingControl}
 use Rattle.desk_call.specs.declared.activity.Standing.TheVariants.{Asks}
 use Rattle.desk_call.specs.declared.call.Call.{Call}
 use Rattle.desk_call.specs.declared.call.Call.TheVariants.{Window}
@@ -25,6 +25,7 @@ use Rattle.window_update.specs.Served.{AreAllServed}
 use Rattle.menu_mgr.specs.Pulling.{is_in}
 use Rattle.desk_toolbox.specs.Fronts.{IsScreenAllRight, IsScreenRight, is_on_menu, pulled, pulled_value, screen_bit, screen_of, screen_owner, screen_scratch}
 use Rattle.desk_toolbox.specs.Fronts.ScreenOwner.{PulledMenu, Base}
+use Rattle.desk_toolbox.specs.Reached.{AreControlsRight}
 use Rattle.desk_toolbox.specs.ToolboxStates.{ToolboxState, IsToolboxUnchanged}
 use Rattle.desk_toolbox.specs.Run.{IsAdmitted, IsGated, IsRunOfCalls, IsStep, IsWindowTold, found_menu, replied}
 use Rattle.desk_toolbox.proofs.Runs.{served_run_is_all_right}
@@ -51,10 +52,10 @@ screen_is_right s right p on fresh =
     shown_alike s.desk.windows.desk.font (pulled s) s.desk.windows.image (scratch desk) p
     (λ away. right.plain.right p on (not_stale (s.desk.windows.stale p) (is_on_menu s p) fresh (λ i. on i && away i)))
 
-pub served_run_shows_all_right : (first last : ToolboxState) (calls : List Call) (answers : List (Result Reply Refusal)) → IsRightState first.desk.windows → IsRunOfCalls first calls answers last → AreAllServed last.desk.windows → IsScreenAllRight last
-served_run_shows_all_right first last calls answers right run served p on =
+pub served_run_shows_all_right : (first last : ToolboxState) (calls : List Call) (answers : List (Result Reply Refusal)) → IsRightState first.desk.windows → AreControlsRight first → IsRunOfCalls first calls answers last → AreAllServed last.desk.windows → IsScreenAllRight last
+served_run_shows_all_right first last calls answers right controls run served p on =
     shown_alike last.desk.windows.desk.font (pulled last) last.desk.windows.image (scratch (layered_desk last.desk.windows.desk)) p
-    (λ away. served_run_is_all_right first last calls answers right run served p on)
+    (λ away. served_run_is_all_right first last calls answers right controls run served p on)
 
 -- ---- whose a pixel is
 
@@ -93,10 +94,11 @@ module _ (s : ToolboxState) (p : Point) where
 
 -- ---- FindWindow
 
-asks_may_come : (a : Activity) → gate a Asks ≡ None
+pub asks_may_come : (a : Activity) → gate a Asks ≡ None
 asks_may_come Idle = refl
 asks_may_come (Updating s) = refl
 asks_may_come (Tracking s) = refl
+asks_may_come (TrackingControl c) = refl
 asks_may_come (Pulling m) = refl
 
 covered_is_told : (covered : Bool) (p : Point) (own : Result WindowReply Refusal) (before after : ToolboxState) → covered ≡ true → IsWindowTold covered (Find p) own before after → (own ≡ Ok found_menu) × IsToolboxUnchanged before after

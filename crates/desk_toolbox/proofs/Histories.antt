@@ -10,6 +10,8 @@ use Rattle.desk_call.specs.declared.call.Call.{Call}
 use Rattle.desk_call.specs.declared.call.Call.TheVariants as asks
 use Rattle.desk_call.specs.declared.call.Reply.{Reply}
 use Rattle.desk_call.specs.declared.call.Reply.TheVariants as reply
+use Rattle.desk_call.specs.declared.control.ControlCall.TheVariants as controls
+use Rattle.desk_call.specs.declared.control.ControlReply.TheVariants as control_reply
 use Rattle.desk_call.specs.declared.event.EventCall.{EventCall}
 use Rattle.desk_call.specs.declared.event.EventCall.TheVariants.{Post, Next, Avail, Flush, SetMask}
 use Rattle.desk_call.specs.declared.event.EventReply.{EventReply}
@@ -26,8 +28,10 @@ use Rattle.desk_toolbox.specs.Run.{IsWindowMade, IsEventAnswer, found_menu, repl
 use Rattle.desk_toolbox.specs.ToolboxStates.{ToolboxState, with_menus}
 use Rattle.desk_toolbox.proofs.EachManager.{HoldsOfEach, of_step}
 use Rattle.desk_toolbox.proofs.UpdatedDesks.{update_keeps_desk}
-use Rattle.desk_toolbox.proofs.StepCounts.{Recount, HasSame, IsGone, same_desk, frame_counts, menu_counts, window_recounts, gone_stays, disposed_is_gone, present_is_not_gone}
-use Rattle.desk_toolbox.proofs.Stands.{Stands, stands, refused_keeps_desk}
+use Rattle.desk_toolbox.proofs.StepCounts.{Recount, HasSame, IsGone, same_desk, frame_counts, menu_counts, window_recounts, gone_stays, disposed_is_gone, present_is_not_gone, right_is_numbered}
+use Rattle.desk_toolbox.proofs.Stands.{Stands, stands}
+use Rattle.desk_toolbox.proofs.TrackedControls.{control_counts}
+use Rattle.desk_toolbox.proofs.KeptDesks.{refused_keeps_desk}
 use Rattle.desk_toolbox.proofs.Telling.{forgotten_if, left_after, telling_on, event_tells, told_if}
 use Rattle.desk_toolbox.proofs.Consistent.{step_keeps_consistent, just_begun_is_consistent}
 
@@ -53,9 +57,9 @@ quiet None told active new_active new rest is = ap (λ t. telling t new_active r
 quiet (Some w) told active new_active new rest is = ap (λ t. telling t new_active rest) (sym is)
 
 window_step : (call : WindowCall) (answer : Result WindowReply Refusal) (before after : ToolboxState) → IsWindowMade call answer before after → IsOneStep (asks.Window call) (replied reply.Window answer) before after
-window_step call (Ok answer) before after ((middle, answered, (same, told)), (events, menus)) = record {
+window_step call (Ok answer) before after ((middle, answered, (told, same, caught, shown, gone)), (events, menus)) = record {
   tells = λ rest. quiet (to_dispose call) before.events.told before.desk.windows.desk.active after.desk.windows.desk.active after.events.told rest (ap (λ (e : Events). e.told) (events ∙ left_after call before.events));
-  recount = window_recounts call answer before.desk middle after.desk answered told;
+  recount = window_recounts call answer before.desk middle told after.desk.windows after.controls.controls answered caught shown;
 }
 window_step call (Err e) before after (answered, (events, menus)) = record {
   tells = λ rest. quiet None before.events.told before.desk.windows.desk.active after.desk.windows.desk.active after.events.told rest (ap (λ (e : Events). e.told) events);
@@ -63,7 +67,7 @@ window_step call (Err e) before after (answered, (events, menus)) = record {
 }
 
 event_step_is : (call : EventCall) (answer : Result EventReply Refusal) (before after : ToolboxState) → Stands before → IsEventAnswer call answer before after → IsOneStep (asks.Event call) (replied reply.Event answer) before after
-event_step_is call answer before after was (same, menus, (update, first, is)) = record {
+event_step_is call answer before after was (same, rest, (update, first, is)) = record {
   tells = λ rest.
       let active = before.desk.windows.desk.active in
       let now : after.desk.windows.desk.active ≡ active = ap (λ (d : FullDesk). d.active) same.windows.desk in
@@ -91,6 +95,7 @@ refused_step : (call : Call) (e : Refusal) (before after : ToolboxState) → aft
 refused_step (asks.Window call) e before after events same = still_step (asks.Window call) (Err e) before after refl refl (λ rest. refl) events same
 refused_step (asks.Update call) e before after events same = still_step (asks.Update call) (Err e) before after refl refl (λ rest. refl) events same
 refused_step (asks.Frame call) e before after events same = still_step (asks.Frame call) (Err e) before after refl refl (λ rest. refl) events same
+refused_step (asks.Control call) e before after events same = still_step (asks.Control call) (Err e) before after refl refl (λ rest. refl) events same
 refused_step (asks.Menu call) e before after events same = still_step (asks.Menu call) (Err e) before after refl refl (λ rest. refl) events same
 refused_step (asks.Event (Post p)) e before after events same = still_step (asks.Event (Post p)) (Err e) before after refl refl (λ rest. refl) events same
 refused_step (asks.Event (Next mask)) e before after events same = still_step (asks.Event (Next mask)) (Err e) before after refl refl (λ rest. refl) events same
@@ -105,10 +110,12 @@ each_goes_on : HoldsOfEach GoesOnByOne
 each_goes_on = record {
   unchanged = λ call e before after same was. refused_step call e before after same.events (same_desk before.desk.windows.desk after.desk.windows.desk same.desk.windows.desk);
   covered = λ p before after same was. still_step (asks.Window (Find p)) (Ok (reply.Window found_menu)) before after refl refl (λ rest. refl) same.events (same_desk before.desk.windows.desk after.desk.windows.desk same.desk.windows.desk);
+  hidden = λ p before after same was. still_step (asks.Control (controls.Find p)) (Ok (reply.Control (control_reply.Found None))) before after refl refl (λ rest. refl) same.events (same_desk before.desk.windows.desk after.desk.windows.desk same.desk.windows.desk);
   window = λ call answer before after may step was. window_step call answer before after step;
-  update = λ call answer before after may step events menus was. still_step (asks.Update call) (replied reply.Window answer) before after refl refl (λ rest. refl) events (same_desk before.desk.windows.desk after.desk.windows.desk (update_keeps_desk call answer before.desk after.desk step));
-  frame = λ call answer before after may step events menus was. still_step (asks.Frame call) (replied reply.Frame answer) before after refl refl (λ rest. refl) events (frame_counts call answer before.desk after.desk step);
-  menu = λ call answer before after may step events was. still_step (asks.Menu call) (replied reply.Menu answer) before after refl refl (λ rest. refl) events (menu_counts call answer (with_menus before) (with_menus after) step);
+  update = λ call answer before after may step kept was. still_step (asks.Update call) (replied reply.Window answer) before after refl refl (λ rest. refl) kept.0 (same_desk before.desk.windows.desk after.desk.windows.desk (update_keeps_desk call answer before.desk after.desk step));
+  frame = λ call answer before after may step kept was. still_step (asks.Frame call) (replied reply.Frame answer) before after refl refl (λ rest. refl) kept.0 (frame_counts call answer before.desk after.desk step);
+  control = λ call answer before after may step events menus was. still_step (asks.Control call) (replied reply.Control answer) before after refl refl (λ rest. refl) events (control_counts call answer before after step);
+  menu = λ call answer before after may step events controls was. still_step (asks.Menu call) (replied reply.Menu answer) before after refl refl (λ rest. refl) events (menu_counts call answer (with_menus before) (with_menus after) step);
   event = λ call answer before after step was. event_step_is call answer before after was step;
 }
 
@@ -162,7 +169,7 @@ history_of first last (call ∷ calls) (answer ∷ answers) was run =
     let step = one_step call answer first middle before run.1 in
     let rest = history_of middle last calls answers next run.2 in
     let gone_now = λ (w : ℕ) (e : disposed_by call answer ≡ Some w).
-    disposed_is_gone w first.desk.windows middle.desk.windows before.right (subst (λ o. Recount o first.desk.windows.desk desk) e step.recount) in
+    disposed_is_gone w first.desk.windows.desk desk (right_is_numbered first.desk.windows before.right) (subst (λ o. Recount o first.desk.windows.desk desk) e step.recount) in
     record {
       steps = steps_of call answer desk.active rest.steps;
       history = history_on (disposed_by call answer) desk.active call answer rest.steps rest.history (λ w e.

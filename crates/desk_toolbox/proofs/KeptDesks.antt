@@ -2,6 +2,7 @@
 use Rattle.std.proofs.Common.{◌≡◌, ℕ, List, Option, None, Some, Result, Ok, Err, ap, ◌∙◌}
 use Rattle.tb_geom.specs.declared.refusal.Refusal.{Refusal}
 use Rattle.tb_geom.specs.Points.{PixelSet}
+use Rattle.def_iface.specs.declared.part.Part.{Part}
 use Rattle.def_iface.specs.Stocked.{SlotView}
 use Rattle.desk_call.specs.declared.window.WindowCall.{WindowCall}
 use Rattle.desk_call.specs.declared.window.WindowReply.{WindowReply}
@@ -13,7 +14,8 @@ use Rattle.window_mgr.specs.Step.{IsWindowStep}
 use Rattle.window_mgr.specs.Effects.{Effect, IsEffect, effect_of}
 use Rattle.window_mgr.specs.Effects.Effect.{Makes, Disposes, Draws, Pictures, Scrolls, Arranges, Places, Tells, Describes}
 use Rattle.window_frame.proofs.FrameKeeps.{caught_up_keeps}
-use Rattle.desk_toolbox.specs.Run.{IsWindowAnswer, IsWindowMade}
+use Rattle.window_frame.specs.Followers.{IsCaughtUpBy}
+use Rattle.desk_toolbox.specs.Run.{IsWindowAnswer, IsWindowAnswered, IsWindowMade}
 use Rattle.desk_toolbox.specs.ToolboxStates.{ToolboxState}
 
 module _ {A : Type 0} (f : FullDesk → A) (apart : (d : FullDesk) (ws : List WindowRecord) (active next : Option ℕ) (stock : List SlotView) → f (record d { windows = ws; active = active; next = next; stock = stock }) ≡ f d) where
@@ -32,12 +34,22 @@ module _ {A : Type 0} (f : FullDesk → A) (apart : (d : FullDesk) (ws : List Wi
   window_keeps call (Ok answer) before after step = effect_keeps (effect_of call before.desk) answer before after step.1
   window_keeps call (Err e) before after step = ap f step.1.desk
 
-  answer_keeps : (asked : Option PixelSet) (call : WindowCall) (answer : Result WindowReply Refusal) (before after : DeskState) → IsWindowAnswer asked call answer before after → f after.windows.desk ≡ f before.windows.desk
+  pub answer_keeps : (asked : Option PixelSet) (call : WindowCall) (answer : Result WindowReply Refusal) (before after : DeskState) → IsWindowAnswer asked call answer before after → f after.windows.desk ≡ f before.windows.desk
   answer_keeps None call answer before after step = window_keeps call answer before.windows after.windows step.1
   answer_keeps (Some set) call answer before after step = ap f step.1.windows.desk
 
-  pub made_keeps : (call : WindowCall) (answer : Result WindowReply Refusal) (before after : ToolboxState) → IsWindowMade call answer before after → f after.desk.windows.desk ≡ f before.desk.windows.desk
-  made_keeps call (Ok answer) before after ((middle, answered, (same, told)), left) =
-      caught_up_keeps f (λ d ws. apart d ws d.active d.next d.stock) (window_standing call) middle.windows after.desk.windows told
-      ∙ answer_keeps (narrowed call before.desk.activity before.desk.begun) call (Ok answer) before.desk middle answered
-  made_keeps call (Err e) before after step = answer_keeps (narrowed call before.desk.activity before.desk.begun) call (Err e) before.desk after.desk step.0
+  pub told_keeps : (call : WindowCall) (answer : Result WindowReply Refusal) (before middle : DeskState) (told : FullState) → IsWindowAnswered call answer before middle → IsCaughtUpBy (window_standing call) middle.windows told → f told.desk ≡ f before.windows.desk
+  told_keeps call answer before middle told answered caught =
+      caught_up_keeps f (λ d ws. apart d ws d.active d.next d.stock) (window_standing call) middle.windows told caught
+      ∙ answer_keeps (narrowed call before.activity before.begun) call answer before middle answered
+
+  -- whatever it shows of controls then
+  pub made_keeps : ((d : FullDesk) (shows : Part → PixelSet) → f (record d { shows = shows }) ≡ f d) → (call : WindowCall) (answer : Result WindowReply Refusal) (before after : ToolboxState) → IsWindowMade call answer before after → f after.desk.windows.desk ≡ f before.desk.windows.desk
+  made_keeps beside call (Ok answer) before after ((middle, answered, (told, same, caught, shown, left)), rest) =
+      ap (λ (s : FullState). f s.desk) shown ∙ beside told.desk _ ∙ told_keeps call (Ok answer) before.desk middle told answered caught
+  made_keeps beside call (Err e) before after step = answer_keeps (narrowed call before.desk.activity before.desk.begun) call (Err e) before.desk after.desk step.0
+
+-- a refused call leaves the desk
+pub refused_keeps_desk : (asked : Option PixelSet) (call : WindowCall) (e : Refusal) (before after : DeskState) → IsWindowAnswer asked call (Err e) before after → after.windows.desk ≡ before.windows.desk
+refused_keeps_desk None call e before after step = step.1.1.desk
+refused_keeps_desk (Some set) call e before after step = step.1.windows.desk

@@ -7,7 +7,7 @@ use Rattle.tb_geom.specs.declared.refusal.Refusal.{Refusal}
 use Rattle.def_iface.specs.MenuMeaning.{MenuDefinition, MenuLoan}
 use Rattle.def_iface.specs.Slots.{IsTaken, holding, is_left}
 use Rattle.desk_call.specs.declared.activity.Activity.{Activity}
-use Rattle.desk_call.specs.declared.activity.Activity.TheVariants.{Idle, Updating, Tracking, Pulling}
+use Rattle.desk_call.specs.declared.activity.Activity.TheVariants.{Idle, Updating, Tracking, Pulling, TrackingControl}
 use Rattle.desk_call.specs.declared.activity.PulledMenu.{PulledMenu}
 use Rattle.desk_call.specs.declared.call.Call.{Call}
 use Rattle.desk_call.specs.declared.call.Reply.{Reply}
@@ -62,12 +62,14 @@ moved_keeps (Pulling m) p answer before after moved = moved_on_keeps m (other_ti
 moved_keeps Idle p answer before after wrong = absurd wrong
 moved_keeps (Updating s) p answer before after wrong = absurd wrong
 moved_keeps (Tracking s) p answer before after wrong = absurd wrong
+moved_keeps (TrackingControl c) p answer before after wrong = absurd wrong
 
 released_keeps : (a : Activity) (p : Point) (choice : Option Choice) (before after : MenuDesk) → IsReleased a p choice before after → KeepsKinds before after
 released_keeps (Pulling m) p choice before after (is, away) = shown_keeps _ _ before after away.shown
 released_keeps Idle p choice before after wrong = absurd wrong
 released_keeps (Updating s) p choice before after wrong = absurd wrong
 released_keeps (Tracking s) p choice before after wrong = absurd wrong
+released_keeps (TrackingControl c) p choice before after wrong = absurd wrong
 
 disposed_keeps : (at : Option ℕ) (before after : MenuDesk) → IsDisposedAt at before after → KeepsKinds before after
 disposed_keeps None before after wrong = absurd wrong
@@ -94,17 +96,19 @@ same_menus before after same = ap (λ (m : MenusState). menu_kinds m.stock) same
 
 window_keeps : (call : WindowCall) (answer : Result WindowReply Refusal) (before after : ToolboxState) → IsWindowMade call answer before after → menu_kinds after.menus.stock ≡ menu_kinds before.menus.stock
 window_keeps call (Ok answer) before after step = same_menus before after step.1.1
-window_keeps call (Err e) before after step = same_menus before after step.1.1
+window_keeps call (Err e) before after step = same_menus before after step.1.1.1
 
 each_keeps : HoldsOfEach KeepsMenuKinds
 each_keeps = record {
   unchanged = λ call e before after same. same_menus before after same.menus;
   covered = λ p before after same. same_menus before after same.menus;
+  hidden = λ p before after same. same_menus before after same.menus;
   window = λ call answer before after may step. window_keeps call answer before after step;
-  update = λ call answer before after may step events menus. same_menus before after menus;
-  frame = λ call answer before after may step events menus. same_menus before after menus;
-  menu = λ call answer before after may step events. menu_step_keeps call answer (with_menus before) (with_menus after) step;
-  event = λ call answer before after step. same_menus before after step.1;
+  update = λ call answer before after may step rest. same_menus before after rest.1.1;
+  frame = λ call answer before after may step rest. same_menus before after rest.1.1;
+  control = λ call answer before after may step events menus. same_menus before after menus;
+  menu = λ call answer before after may step events controls. menu_step_keeps call answer (with_menus before) (with_menus after) step;
+  event = λ call answer before after step. same_menus before after step.1.1;
 }
 
 pub step_keeps_menu_kinds : (call : Call) (answer : Result Reply Refusal) (before after : ToolboxState) → IsStep call answer before after → menu_kinds after.menus.stock ≡ menu_kinds before.menus.stock

@@ -3,7 +3,7 @@ use Rattle.std.proofs.Common.{◌≡◌, ◌⊎◌, ⊎_elim, inl, inr, ℕ, Lis
 use Rattle.tb_geom.specs.declared.point.Point.{Point}
 use Rattle.tb_geom.specs.declared.refusal.Refusal.{Refusal}
 use Rattle.desk_call.specs.declared.activity.Activity.{Activity}
-use Rattle.desk_call.specs.declared.activity.Activity.TheVariants.{Idle, Updating, Tracking, Pulling}
+use Rattle.desk_call.specs.declared.activity.Activity.TheVariants.{Idle, Updating, Tracking, Pulling, TrackingControl}
 use Rattle.desk_call.specs.declared.activity.PulledMenu.{PulledMenu}
 use Rattle.desk_call.specs.declared.activity.Standing.TheVariants.{Pulls}
 use Rattle.desk_call.specs.declared.menu.Choice.{Choice}
@@ -12,7 +12,6 @@ use Rattle.desk_call.specs.declared.menu.MenuCall.TheVariants.{New, Dispose, Dow
 use Rattle.desk_call.specs.declared.menu.MenuReply.{MenuReply}
 use Rattle.desk_call.specs.Gates.{gate, menu_standing}
 use Rattle.vis_update.specs.Records.{WindowRecord}
-use Rattle.window_mgr.specs.FullDesk.{IsRightState}
 use Rattle.window_frame.specs.Followers.{AreInformed}
 use Rattle.menu_list.specs.Lists.{menu_index}
 use Rattle.menu_mgr.specs.MenuDesks.{MenuDesk}
@@ -21,6 +20,9 @@ use Rattle.menu_mgr.specs.Pulling.{TitleOf, title_of_point}
 use Rattle.menu_mgr.proofs.MenuKeeps.{menu_keeps, menu_keeps_bar}
 use Rattle.desk_toolbox.specs.declared.events.Events.{Events}
 use Rattle.desk_toolbox.specs.Reached.{open_window}
+use Rattle.control_mgr.specs.ControlDesks.{ControlRecord}
+use Rattle.control_mgr.specs.WholeControls.{IsTrackable}
+use Rattle.desk_toolbox.proofs.ControlsBeside.{IsRightToolbox}
 use Rattle.desk_toolbox.specs.ToolboxStates.{ToolboxState, with_menus}
 use Rattle.desk_toolbox.proofs.MenuNumbers.{menu_keeps_apart}
 use Rattle.desk_toolbox.proofs.PulledSteps.{menu_keeps_pull}
@@ -37,6 +39,7 @@ pulling_now : (a : Activity) → gate a Pulls ≡ None → OpensNoWindow a
 pulling_now Idle e = absurd (cc)
 pulling_now (Updating s) e = absurd (cc)
 pulling_now (Tracking s) e = absurd (cc)
+pulling_now (TrackingControl c) e = absurd (cc)
 pulling_now (Pulling m) e = inr (m, refl)
 
 -- a call about menus comes only then
@@ -59,12 +62,14 @@ moved_opens (Pulling m) p answer before after moved = moved_on_opens m (other_ti
 moved_opens Idle p answer before after wrong = absurd wrong
 moved_opens (Updating s) p answer before after wrong = absurd wrong
 moved_opens (Tracking s) p answer before after wrong = absurd wrong
+moved_opens (TrackingControl c) p answer before after wrong = absurd wrong
 
 released_opens : (a : Activity) (p : Point) (choice : Option Choice) (before after : MenuDesk) → IsReleased a p choice before after → OpensNoWindow after.desk.activity
 released_opens (Pulling m) p choice before after (is, away) = inl away.activity
 released_opens Idle p choice before after wrong = absurd wrong
 released_opens (Updating s) p choice before after wrong = absurd wrong
 released_opens (Tracking s) p choice before after wrong = absurd wrong
+released_opens (TrackingControl c) p choice before after wrong = absurd wrong
 
 disposed_opens : (at : Option ℕ) (before after : MenuDesk) → IsDisposedAt at before after → OpensNoWindow before.desk.activity → OpensNoWindow after.desk.activity
 disposed_opens None before after wrong was = absurd wrong
@@ -78,7 +83,7 @@ effect_opens (Move p) answer before after (item, is, moved) was = moved_opens be
 effect_opens (Up p) answer before after (choice, is, released) was = released_opens before.desk.activity p choice before after released
 effect_opens _ answer before after edited was = subst OpensNoWindow (sym edited.activity.activity) was
 
-step_opens : (call : MenuCall) (answer : Result MenuReply Refusal) (before after : MenuDesk) → gate before.desk.activity (menu_standing call) ≡ None → IsMenuStep call answer before after → OpensNoWindow after.desk.activity
+pub step_opens : (call : MenuCall) (answer : Result MenuReply Refusal) (before after : MenuDesk) → gate before.desk.activity (menu_standing call) ≡ None → IsMenuStep call answer before after → OpensNoWindow after.desk.activity
 step_opens call (Ok answer) before after may step = effect_opens call answer before after step.1 (comes_then call before.desk.activity may)
 step_opens call (Err e) before after may step = subst OpensNoWindow (sym step.1.desk.activity) (comes_then call before.desk.activity may)
 
@@ -88,13 +93,23 @@ none_opened a ws none = ⊎_elim
     (λ pulling. subst (λ b. Present (open_window b) ws) (sym pulling.1) tt)
     none
 
+none_tracked : (a : Activity) (cs : List ControlRecord) → OpensNoWindow a → IsTrackable a cs
+none_tracked a cs none = ⊎_elim
+    (λ idle. subst (λ b. IsTrackable b cs) (sym idle) tt)
+    (λ pulling. subst (λ b. IsTrackable b cs) (sym pulling.1) tt)
+    none
+
+-- no control is tracked where a call about menus came
+pub menu_trackable : (call : MenuCall) (answer : Result MenuReply Refusal) (before after : MenuDesk) (cs : List ControlRecord) → gate before.desk.activity (menu_standing call) ≡ None → IsMenuStep call answer before after → IsTrackable after.desk.activity cs
+menu_trackable call answer before after cs may step = none_tracked after.desk.activity cs (step_opens call answer before after may step)
+
 as_idle : (a : Activity) (ws : List WindowRecord) → OpensNoWindow a → total (misled a) ws ≡ total (misled Idle) ws
 as_idle a ws none = ⊎_elim
     (λ idle. ap (λ b. total (misled b) ws) idle)
     (λ pulling. ap (λ b. total (misled b) ws) pulling.1)
     none
 
-pub menu_stands : (call : MenuCall) (answer : Result MenuReply Refusal) (before after : ToolboxState) → gate before.desk.activity (menu_standing call) ≡ None → Stands before → IsRightState after.desk.windows → IsMenuStep call answer (with_menus before) (with_menus after) → after.events ≡ before.events → Stands after
+pub menu_stands : (call : MenuCall) (answer : Result MenuReply Refusal) (before after : ToolboxState) → gate before.desk.activity (menu_standing call) ≡ None → Stands before → IsRightToolbox after → IsMenuStep call answer (with_menus before) (with_menus after) → after.events ≡ before.events → Stands after
 menu_stands call answer before after may was right step events =
     let ws = before.desk.windows.desk.windows in
     let now = after.desk.windows.desk.windows in
@@ -102,7 +117,9 @@ menu_stands call answer before after may was right step events =
     let active : after.desk.windows.desk.active ≡ before.desk.windows.desk.active = menu_keeps (λ d. d.active) (λ d titles. refl) call answer (with_menus before) (with_menus after) step in
     let opens = step_opens call answer (with_menus before) (with_menus after) may step in
     record {
-      right = right;
+      right = right.right;
+      controls = right.controls;
+      trackable = none_tracked after.desk.activity after.controls.controls opens;
       active = subst (λ vs. Present after.desk.windows.desk.active vs) (sym windows) (subst (λ o. Present o ws) (sym active) was.active);
       told = subst (λ vs. Present after.events.told vs) (sym windows) (subst (λ (e : Events). Present e.told ws) (sym events) was.told);
       opened = none_opened after.desk.activity now opens;

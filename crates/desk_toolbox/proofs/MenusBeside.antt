@@ -5,6 +5,7 @@ use Rattle.tb_geom.specs.declared.refusal.Refusal.{Refusal}
 use Rattle.tb_geom.specs.Points.{PixelSet}
 use Rattle.tb_geom.specs.Rects.{rect_holds}
 use Rattle.bit_map.specs.Bits.{bit, is_below, on_map}
+use Rattle.def_iface.specs.declared.part.Part.{Part}
 use Rattle.def_iface.specs.declared.taken.Taken.{Taken}
 use Rattle.def_iface.specs.declared.taken_menu.TakenMenu.{TakenMenu}
 use Rattle.def_iface.specs.Desk.{on_screen}
@@ -13,7 +14,7 @@ use Rattle.def_iface.specs.MenuMeaning.{MenuLoan}
 use Rattle.def_iface.specs.Stocked.{SlotView}
 use Rattle.menu_overlay.specs.Overlays.{Pulled, pulled_bit, pulled_rect, shown_bit}
 use Rattle.desk_call.specs.declared.activity.Activity.{Activity}
-use Rattle.desk_call.specs.declared.activity.Activity.TheVariants.{Idle, Updating, Tracking, Pulling}
+use Rattle.desk_call.specs.declared.activity.Activity.TheVariants.{Idle, Updating, Tracking, Pulling, TrackingControl}
 use Rattle.desk_call.specs.declared.activity.PulledMenu.{PulledMenu}
 use Rattle.desk_call.specs.declared.activity.Standing.TheVariants.{Asks}
 use Rattle.desk_call.specs.declared.frame.FrameCall.{FrameCall}
@@ -31,10 +32,10 @@ use Rattle.window_mgr.specs.Begin.{IsEmptyDesk}
 use Rattle.window_mgr.specs.DeskStates.{DeskState, Opened, desk_with}
 use Rattle.window_mgr.specs.Effects.{IsEffect, IsUnchanged, effect_of}
 use Rattle.window_mgr.specs.FullDesk.{FullDesk, FullState, layered_desk}
-use Rattle.window_mgr.specs.Records.{state_of}
+use Rattle.window_mgr.specs.Records.{state_of, state_showing}
 use Rattle.window_mgr.specs.Step.{IsWindowStep}
 use Rattle.window_mgr.proofs.Arranged.{between-is_below}
-use Rattle.window_mgr.proofs.ScreenSides.{SameSides, equal_sides}
+use Rattle.window_mgr.proofs.ScreenSides.{SameSides}
 use Rattle.window_update.specs.UpdateSteps.{IsUpdateEffect, IsUpdateStep}
 use Rattle.window_frame.specs.Followers.{IsCaughtUpBy}
 use Rattle.window_frame.specs.FrameSteps.{IsBegunAt, IsFrameEffect, IsFrameStep}
@@ -57,6 +58,7 @@ pulls_or_not : (a : Activity) → PullsNone a ⊎ ((m : PulledMenu) × (a ≡ Pu
 pulls_or_not Idle = inl tt
 pulls_or_not (Updating s) = inl tt
 pulls_or_not (Tracking s) = inl tt
+pulls_or_not (TrackingControl c) = inl tt
 pulls_or_not (Pulling m) = inr (m, refl)
 
 -- a call on windows comes while a menu is pulled down only if it asks
@@ -73,6 +75,7 @@ pub update_comes_then : (call : UpdateCall) (a : Activity) → gate a (update_st
 update_comes_then call Idle may = tt
 update_comes_then call (Updating s) may = tt
 update_comes_then call (Tracking s) may = tt
+update_comes_then call (TrackingControl c) may = tt
 update_comes_then (update.Invalidate m) (Pulling p) may = absurd (cc)
 update_comes_then (update.Validate m) (Pulling p) may = absurd (cc)
 update_comes_then (update.Begin s) (Pulling p) may = absurd (cc)
@@ -84,6 +87,7 @@ pub frame_comes_then : (call : FrameCall) (a : Activity) → gate a (frame_stand
 frame_comes_then call Idle may = tt
 frame_comes_then call (Updating s) may = tt
 frame_comes_then call (Tracking s) may = tt
+frame_comes_then call (TrackingControl c) may = tt
 frame_comes_then (SetTitle n) (Pulling p) may = absurd (cc)
 frame_comes_then (Hilite h) (Pulling p) may = absurd (cc)
 frame_comes_then (TrackGoAway g) (Pulling p) may = absurd (cc)
@@ -177,14 +181,16 @@ module _ {V : Type 0} {H : V → Type 0} (loan : Taken V H → Loan) {W : Type 0
     placed_none Idle none = tt
     placed_none (Updating s) none = tt
     placed_none (Tracking s) none = tt
+    placed_none (TrackingControl c) none = tt
 
     front_none : (a : Activity) → PullsNone a → IsFrontShown menu_loan a new m
     front_none (Pulling p) none = absurd none
     front_none Idle none = tt
     front_none (Updating s) none = tt
     front_none (Tracking s) none = tt
+    front_none (TrackingControl c) none = tt
 
-    whole_unpulled : (a b : Activity) → SameSides was.desk now.desk → PullsNone b → IsWholeMenus menu_loan t a m kept → IsWholeMenus menu_loan new b m kept
+    pub whole_unpulled : (a b : Activity) → SameSides was.desk now.desk → PullsNone b → IsWholeMenus menu_loan t a m kept → IsWholeMenus menu_loan new b m kept
     whole_unpulled a b sides none whole = record {
       few = whole.few;
       room = whole.room;
@@ -225,8 +231,9 @@ module _ {V : Type 0} {H : V → Type 0} (loan : Taken V H → Loan) {W : Type 0
       front_stays Idle shown = tt
       front_stays (Updating s) shown = tt
       front_stays (Tracking s) shown = tt
+      front_stays (TrackingControl c) shown = tt
 
-      whole_unchanged : (a : Activity) → IsWholeMenus menu_loan t a m kept → IsWholeMenus menu_loan new a m kept
+      pub whole_unchanged : (a : Activity) → IsWholeMenus menu_loan t a m kept → IsWholeMenus menu_loan new a m kept
       whole_unchanged a whole = record {
         few = whole.few;
         room = whole.room;
@@ -256,10 +263,13 @@ module _ {V : Type 0} {H : V → Type 0} (loan : Taken V H → Loan) {W : Type 0
         (λ pulled. whole_unchanged (same_state was now (subst (λ s. IsCaughtUpBy s was now) (window_asks call pulled.0 (subst (λ b. gate b (window_standing call) ≡ None) pulled.1 may)) told)) a whole)
         (pulls_or_not a)
 
-    pub update_whole : (o n : Opened) (call : UpdateCall) (answer : Result WindowReply Refusal) → gate o.activity (update_standing call) ≡ None → IsUpdateStep call answer (desk_with o was) (desk_with n now) → IsWholeMenus menu_loan t o.activity m kept → IsWholeMenus menu_loan new n.activity m kept
-    update_whole o n call answer may step whole =
-        whole_unpulled o.activity n.activity (equal_sides was.desk now.desk (update_keeps_desk call answer (desk_with o was) (desk_with n now) step))
-        (update_pulls_none call answer (desk_with o was) (desk_with n now) may step) whole
+    pub update_whole : (shows : List ℕ → Part → PixelSet) (o n : Opened) (call : UpdateCall) (answer : Result WindowReply Refusal) → gate o.activity (update_standing call) ≡ None → IsUpdateStep call answer (desk_with o (state_showing shows was)) (desk_with n (state_showing shows now)) → IsWholeMenus menu_loan t o.activity m kept → IsWholeMenus menu_loan new n.activity m kept
+    update_whole shows o n call answer may step whole =
+        let first = desk_with o (state_showing shows was) in
+        let last = desk_with n (state_showing shows now) in
+        let desk = update_keeps_desk call answer first last step in
+        whole_unpulled o.activity n.activity (record { width = ap (λ (d : FullDesk). d.width) desk; height = ap (λ (d : FullDesk). d.height) desk })
+        (update_pulls_none call answer first last may step) whole
 
     pub frame_whole : (o n : Opened) (call : FrameCall) (answer : Result FrameReply Refusal) → gate o.activity (frame_standing call) ≡ None → IsFrameStep call answer (desk_with o was) (desk_with n now) → IsWholeMenus menu_loan t o.activity m kept → IsWholeMenus menu_loan new n.activity m kept
     frame_whole o n call answer may step whole =

@@ -4,8 +4,13 @@ use Rattle.std.specs.Prelude.{All}
 use Rattle.std.proofs.lemmas.Bool.{and_parts, le-leb, leb-true}
 use Rattle.std.proofs.lemmas.List.Elements.{All-nil, All-cons}
 use Rattle.tb_geom.specs.declared.refusal.Refusal.{Refusal}
-use Rattle.tb_geom.specs.declared.refusal.Refusal.TheVariants.{Busy, NoSuchMenu}
+use Rattle.tb_geom.specs.declared.refusal.Refusal.TheVariants.{Busy, NoSuchMenu, NoSuchWindow}
 use Rattle.tb_geom.specs.Refusals.{first_refusal, in_order, is_before, place_in, refusal_order}
+use Rattle.desk_call.specs.declared.control.ControlCall.{ControlCall}
+use Rattle.desk_call.specs.declared.control.ControlCall.TheVariants as controls
+use Rattle.desk_call.specs.declared.control.NewControl.{NewControl}
+use Rattle.control_mgr.specs.ControlDesks.{ControlSlot, ControlsState}
+use Rattle.control_mgr.specs.ControlRefusals.{control_form_refusals, control_refusals}
 use Rattle.desk_call.specs.declared.frame.FrameCall.{FrameCall}
 use Rattle.desk_call.specs.declared.frame.FrameCall.TheVariants.{SetTitle, Hilite, TrackGoAway, StepGoAway, EndGoAway}
 use Rattle.desk_call.specs.declared.menu.MenuCall.{MenuCall}
@@ -43,6 +48,29 @@ menu_reasons_in_order (Hilite id) menus = refl
 -- what is judged of a new menu whatever is open, what is open, and the rest
 pub menu_form_in_order : (n : NewMenu) (slots : List MenuSlot) (busy missing : Bool) → AreInOrder (menu_form_refusals (New n) slots ++ (busy, Busy) ∷ (missing, NoSuchMenu) ∷ [])
 menu_form_in_order n slots busy missing = refl
+
+pub control_reasons_in_order : (call : ControlCall) (desk : FullDesk) (s : ControlsState) → AreInOrder (control_refusals call desk s)
+control_reasons_in_order (controls.New n) desk s = refl
+control_reasons_in_order (controls.Dispose c) desk s = refl
+control_reasons_in_order (controls.Show c) desk s = refl
+control_reasons_in_order (controls.Hide c) desk s = refl
+control_reasons_in_order (controls.Move m) desk s = refl
+control_reasons_in_order (controls.Size z) desk s = refl
+control_reasons_in_order (controls.SetValue n) desk s = refl
+control_reasons_in_order (controls.SetMinimum n) desk s = refl
+control_reasons_in_order (controls.SetMaximum n) desk s = refl
+control_reasons_in_order (controls.Hilite n) desk s = refl
+control_reasons_in_order (controls.SetTitle t) desk s = refl
+control_reasons_in_order (controls.Get c) desk s = refl
+control_reasons_in_order (controls.Find p) desk s = refl
+control_reasons_in_order (controls.Test p) desk s = refl
+control_reasons_in_order (controls.Track p) desk s = refl
+control_reasons_in_order (controls.Step p) desk s = refl
+control_reasons_in_order (controls.End p) desk s = refl
+
+-- what is judged of a new control whatever is open, what is open, and the rest
+pub control_form_in_order : (n : NewControl) (slots : List ControlSlot) (busy missing : Bool) → AreInOrder (control_form_refusals (controls.New n) slots ++ (busy, Busy) ∷ (missing, NoSuchWindow) ∷ [])
+control_form_in_order n slots busy missing = refl
 
 -- ---- what is told comes first
 

@@ -2,7 +2,7 @@
 use Rattle.std.proofs.Common.{◌≡◌, List, sym, subst}
 use Rattle.std.specs.Prelude.{All}
 use Rattle.desk_call.specs.declared.activity.Activity.{Activity}
-use Rattle.desk_call.specs.declared.activity.Activity.TheVariants.{Idle, Updating, Tracking, Pulling}
+use Rattle.desk_call.specs.declared.activity.Activity.TheVariants.{Idle, Updating, Tracking, Pulling, TrackingControl}
 use Rattle.menu_mgr.specs.MenuDesks.{MenuRecord, MenusState}
 use Rattle.desk_toolbox.specs.Reached.{IsLit, IsPulledThere}
 use Rattle.desk_toolbox.proofs.MenusBeside.{PullsNone}
@@ -17,12 +17,14 @@ no_pull (Pulling m) menus none lit = absurd none
 no_pull Idle menus none lit = record { pulled = tt; lit = lit }
 no_pull (Updating s) menus none lit = record { pulled = tt; lit = lit }
 no_pull (Tracking s) menus none lit = record { pulled = tt; lit = lit }
+no_pull (TrackingControl c) menus none lit = record { pulled = tt; lit = lit }
 
 none_is_lit : (a : Activity) (ls : List MenuRecord) → PullsNone a → All (IsLit a) ls → All (IsLit Idle) ls
 none_is_lit (Pulling m) ls none lit = absurd none
 none_is_lit Idle ls none lit = lit
 none_is_lit (Updating s) ls none lit = lit
 none_is_lit (Tracking s) ls none lit = lit
+none_is_lit (TrackingControl c) ls none lit = lit
 
 -- no menu is pulled down before and after
 pub still_unpulled : (a b : Activity) (menus : MenusState) → PullsNone a → PullsNone b → IsPullRight a menus → IsPullRight b menus

@@ -1,9 +1,11 @@
 -- Steps and runs of any manager's calls.
-use Rattle.std.proofs.Common.{◌≡◌, ℕ, ◌+◌, ◌<◌, List, [], ◌∷◌, ◌++◌, length, map, get_or, take, Option, None, Some, Result, Ok, Err, refl, sym, ap, ◌∙◌, subst}
-use Rattle.std.proofs.lemmas.List.{take_more}
+use Rattle.std.proofs.Common.{◌≡◌, ℕ, ◌+◌, ◌<◌, ◌≤◌, List, [], ◌∷◌, ◌++◌, length, map, get_or, take, Option, None, Some, Result, Ok, Err, refl, sym, ap, ◌∙◌, subst}
+use Rattle.std.proofs.lemmas.List.{take_all, take_more}
 use Rattle.tb_geom.specs.declared.refusal.Refusal.{Refusal}
 use Rattle.tb_geom.specs.Points.{PixelSet}
 use Rattle.window_mgr.specs.FullDesk.{FullDesk, FullState, IsRightState}
+use Rattle.desk_call.specs.declared.control.ControlCall.{ControlCall}
+use Rattle.desk_call.specs.declared.control.ControlReply.{ControlReply}
 use Rattle.desk_call.specs.declared.event.EventCall.{EventCall}
 use Rattle.desk_call.specs.declared.event.EventReply.{EventReply}
 use Rattle.desk_call.specs.declared.frame.FrameCall.{FrameCall}
@@ -35,14 +37,20 @@ use Rattle.window_update.specs.UpdateSteps.{IsUpdateStep, IsToldOf}
 use Rattle.window_frame.specs.FrameSteps.{IsFrameStep}
 use Rattle.window_frame.proofs.FrameKeeps.{caught_up_keeps, frame_keeps}
 use Rattle.window_frame.proofs.FrameLaws.{caught_up_stays_right, frame_stays_right}
+use Rattle.control_mgr.specs.ControlSteps.{IsControlStep}
 use Rattle.menu_mgr.specs.MenuSteps.{IsMenuStep}
 use Rattle.menu_mgr.proofs.MenuKeeps.{menu_keeps, menu_stays_right}
-use Rattle.desk_toolbox.specs.ToolboxStates.{ToolboxState, with_menus}
+use Rattle.desk_toolbox.specs.Reached.{AreControlsRight}
+use Rattle.desk_toolbox.specs.ToolboxStates.{ToolboxState, with_controls, with_menus}
 use Rattle.desk_toolbox.specs.Run.{IsWindowAnswer, IsWindowMade, IsEventAnswer, IsAdmitted, replied, IsStep, IsRunOfCalls, serial_made, made, AreCounted}
 use Rattle.window_update.proofs.ServedLaws.{all_served_is_right}
 use Rattle.window_update.proofs.UpdateLaws.{update_stays_right}
 use Rattle.desk_toolbox.proofs.EachManager.{HoldsOfEach, of_admitted, of_step}
 use Rattle.desk_toolbox.proofs.UpdatedDesks.{update_keeps_desk}
+use Rattle.desk_toolbox.proofs.ControlsBeside.{IsRightToolbox, still, beside_frames, beside_menus}
+use Rattle.desk_toolbox.proofs.ControlsLeft.{made_stays_right, control_stays_right}
+use Rattle.control_mgr.proofs.ControlFacts.{control_facts}
+use Rattle.desk_toolbox.proofs.KeptDesks.{refused_keeps_desk}
 
 -- ---- what is right stays so
 
@@ -53,34 +61,54 @@ answer_stays_right (Some set) call answer before after right step = unchanged_st
 unchanged_desk_stays_right : (before after : ToolboxState) → IsRightState before.desk.windows → IsDeskUnchanged before.desk after.desk → IsRightState after.desk.windows
 unchanged_desk_stays_right before after right same = unchanged_stays_right before.desk.windows after.desk.windows right same.windows
 
-window_stays_right : (call : WindowCall) (answer : Result WindowReply Refusal) (before after : ToolboxState) → IsRightState before.desk.windows → IsWindowMade call answer before after → IsRightState after.desk.windows
-window_stays_right call (Ok answer) before after right ((middle, answered, (same, told)), events) =
-    caught_up_stays_right (window_standing call) middle.windows after.desk.windows
-    (answer_stays_right (narrowed call before.desk.activity before.desk.begun) call (Ok answer) before.desk middle right answered) told
-window_stays_right call (Err e) before after right step = answer_stays_right (narrowed call before.desk.activity before.desk.begun) call (Err e) before.desk after.desk right step.0
+window_stays_right : (call : WindowCall) (answer : Result WindowReply Refusal) (before after : ToolboxState) → IsRightToolbox before → IsWindowMade call answer before after → IsRightToolbox after
+window_stays_right call (Ok answer) before after was (((middle, answered, (told, same, caught, shown, left)), rest)) =
+    let asked = narrowed call before.desk.activity before.desk.begun in
+    made_stays_right call answer before middle told after was answered caught shown left
+    (caught_up_stays_right (window_standing call) middle.windows told (answer_stays_right asked call (Ok answer) before.desk middle was.right answered) caught)
+window_stays_right call (Err e) before after was (answered, (events, (controls, menus))) =
+    let asked = narrowed call before.desk.activity before.desk.begun in
+    record {
+      right = answer_stays_right asked call (Err e) before.desk after.desk was.right answered;
+      controls = still before after (refused_keeps_desk asked call e before.desk after.desk answered) controls was.controls;
+    }
 
-event_stays_right : (call : EventCall) (answer : Result EventReply Refusal) (before after : ToolboxState) → IsRightState before.desk.windows → IsEventAnswer call answer before after → IsRightState after.desk.windows
-event_stays_right call answer before after right step = unchanged_desk_stays_right before after right step.0
+unchanged_stays : (before after : ToolboxState) → IsDeskUnchanged before.desk after.desk → after.controls ≡ before.controls → IsRightToolbox before → IsRightToolbox after
+unchanged_stays before after same controls was = record {
+  right = unchanged_desk_stays_right before after was.right same;
+  controls = still before after same.windows.desk controls was.controls;
+}
 
 abbrev StaysRight : Call → Result Reply Refusal → ToolboxState → ToolboxState → Type 0
-StaysRight call answer before after = IsRightState before.desk.windows → IsRightState after.desk.windows
+StaysRight call answer before after = IsRightToolbox before → IsRightToolbox after
 
 each_stays_right : HoldsOfEach StaysRight
 each_stays_right = record {
-  unchanged = λ call e before after same right. unchanged_desk_stays_right before after right same.desk;
-  covered = λ p before after same right. unchanged_desk_stays_right before after right same.desk;
-  window = λ call answer before after may step right. window_stays_right call answer before after right step;
-  update = λ call answer before after may step events menus right. update_stays_right call answer before.desk after.desk right step;
-  frame = λ call answer before after may step events menus right. frame_stays_right call answer before.desk after.desk right step;
-  menu = λ call answer before after may step events right. menu_stays_right call answer (with_menus before) (with_menus after) right step;
-  event = λ call answer before after step right. event_stays_right call answer before after right step;
+  unchanged = λ call e before after same was. unchanged_stays before after same.desk same.controls was;
+  covered = λ p before after same was. unchanged_stays before after same.desk same.controls was;
+  hidden = λ p before after same was. unchanged_stays before after same.desk same.controls was;
+  window = λ call answer before after may step was. window_stays_right call answer before after was step;
+  update = λ call answer before after may step rest was. record {
+    right = update_stays_right call answer before.desk after.desk was.right step;
+    controls = still before after (update_keeps_desk call answer before.desk after.desk step) rest.1.0 was.controls;
+  };
+  frame = λ call answer before after may step rest was. record {
+    right = frame_stays_right call answer before.desk after.desk was.right step;
+    controls = beside_frames call answer before after step rest.1.0 was.controls;
+  };
+  control = λ call answer before after may step events menus was. control_stays_right call answer before after was step;
+  menu = λ call answer before after may step events controls was. record {
+    right = menu_stays_right call answer (with_menus before) (with_menus after) was.right step;
+    controls = beside_menus call answer before after step controls was.controls;
+  };
+  event = λ call answer before after step was. unchanged_stays before after step.0 step.1.0 was;
 }
 
-pub admitted_stays_right : (call : Call) (answer : Result Reply Refusal) (before after : ToolboxState) → gate before.desk.activity (standing_of call) ≡ None → IsRightState before.desk.windows → IsAdmitted call answer before after → IsRightState after.desk.windows
-admitted_stays_right call answer before after may right step = of_admitted StaysRight each_stays_right call answer before after may step right
+pub admitted_stays_right : (call : Call) (answer : Result Reply Refusal) (before after : ToolboxState) → gate before.desk.activity (standing_of call) ≡ None → IsRightToolbox before → IsAdmitted call answer before after → IsRightToolbox after
+admitted_stays_right call answer before after may was step = of_admitted StaysRight each_stays_right call answer before after may step was
 
-pub step_stays_right : (call : Call) (answer : Result Reply Refusal) (before after : ToolboxState) → IsRightState before.desk.windows → IsStep call answer before after → IsRightState after.desk.windows
-step_stays_right call answer before after right step = of_step StaysRight each_stays_right call answer before after step right
+pub step_stays_right : (call : Call) (answer : Result Reply Refusal) (before after : ToolboxState) → IsRightToolbox before → IsStep call answer before after → IsRightToolbox after
+step_stays_right call answer before after was step = of_step StaysRight each_stays_right call answer before after step was
 
 -- and the stock keeps its kinds
 same_kinds : (before after : FullState) → after.desk ≡ before.desk → kinds_of after ≡ kinds_of before
@@ -91,8 +119,9 @@ answer_keeps_kinds None call answer before after step = kinds.step_keeps_kinds c
 answer_keeps_kinds (Some set) call answer before after step = same_kinds before.windows after.windows step.1.windows.desk
 
 window_keeps_kinds : (call : WindowCall) (answer : Result WindowReply Refusal) (before after : ToolboxState) → IsWindowMade call answer before after → kinds_of after.desk.windows ≡ kinds_of before.desk.windows
-window_keeps_kinds call (Ok answer) before after ((middle, answered, (same, told)), events) =
-    caught_up_keeps (λ d. map (λ slot. slot.kind) d.stock) (λ d ws. refl) (window_standing call) middle.windows after.desk.windows told
+window_keeps_kinds call (Ok answer) before after ((middle, answered, (told, same, caught, shown, left)), rest) =
+    ap kinds_of shown
+    ∙ caught_up_keeps (λ d. map (λ slot. slot.kind) d.stock) (λ d ws. refl) (window_standing call) middle.windows told caught
     ∙ answer_keeps_kinds (narrowed call before.desk.activity before.desk.begun) call (Ok answer) before.desk middle answered
 window_keeps_kinds call (Err e) before after step = answer_keeps_kinds (narrowed call before.desk.activity before.desk.begun) call (Err e) before.desk after.desk step.0
 
@@ -104,25 +133,40 @@ each_keeps_kinds = record {
   unchanged = λ call e before after same. same_kinds before.desk.windows after.desk.windows same.desk.windows.desk;
   covered = λ p before after same. same_kinds before.desk.windows after.desk.windows same.desk.windows.desk;
   window = λ call answer before after may step. window_keeps_kinds call answer before after step;
-  update = λ call answer before after may step events menus. same_kinds before.desk.windows after.desk.windows (update_keeps_desk call answer before.desk after.desk step);
-  frame = λ call answer before after may step events menus. frame_keeps (λ d. map (λ slot. slot.kind) d.stock) (λ d ws. refl) call answer before.desk after.desk step;
-  menu = λ call answer before after may step events. menu_keeps (λ d. map (λ slot. slot.kind) d.stock) (λ d titles. refl) call answer (with_menus before) (with_menus after) step;
+  hidden = λ p before after same. same_kinds before.desk.windows after.desk.windows same.desk.windows.desk;
+  update = λ call answer before after may step rest. same_kinds before.desk.windows after.desk.windows (update_keeps_desk call answer before.desk after.desk step);
+  frame = λ call answer before after may step rest. frame_keeps (λ d. map (λ slot. slot.kind) d.stock) (λ d ws. refl) call answer before.desk after.desk step;
+  control = λ call answer before after may step events menus. ap (λ stock. map (λ slot. slot.kind) stock) (control_facts call answer (with_controls before) (with_controls after) step).0.stock;
+  menu = λ call answer before after may step events controls. menu_keeps (λ d. map (λ slot. slot.kind) d.stock) (λ d titles. refl) call answer (with_menus before) (with_menus after) step;
   event = λ call answer before after step. same_kinds before.desk.windows after.desk.windows step.0.windows.desk;
 }
 
 pub step_keeps_kinds : (call : Call) (answer : Result Reply Refusal) (before after : ToolboxState) → IsStep call answer before after → kinds_of after.desk.windows ≡ kinds_of before.desk.windows
 step_keeps_kinds = of_step KeepsKinds each_keeps_kinds
 
-pub run_stays_right : (first last : ToolboxState) (calls : List Call) (answers : List (Result Reply Refusal)) → IsRightState first.desk.windows → IsRunOfCalls first calls answers last → IsRightState last.desk.windows
-run_stays_right first last [] [] right run = subst (λ (s : ToolboxState). IsRightState s.desk.windows) (sym run) right
+pub run_stays_right : (first last : ToolboxState) (calls : List Call) (answers : List (Result Reply Refusal)) → IsRightToolbox first → IsRunOfCalls first calls answers last → IsRightToolbox last
+run_stays_right first last [] [] right run = subst IsRightToolbox (sym run) right
 run_stays_right first last [] (answer ∷ answers) right run = absurd run
 run_stays_right first last (call ∷ calls) [] right run = absurd run
 run_stays_right first last (call ∷ calls) (answer ∷ answers) right run =
     run_stays_right run.0 last calls answers (step_stays_right call answer first run.0 right run.1) run.2
 
+-- the same, of the windows and of the controls
+pub step_is_right : (call : Call) (answer : Result Reply Refusal) (before after : ToolboxState) → IsRightState before.desk.windows → AreControlsRight before → IsStep call answer before after → IsRightState after.desk.windows
+step_is_right call answer before after right controls step = (step_stays_right call answer before after (record { right = right; controls = controls }) step).right
+
+pub step_controls_are_right : (call : Call) (answer : Result Reply Refusal) (before after : ToolboxState) → IsRightState before.desk.windows → AreControlsRight before → IsStep call answer before after → AreControlsRight after
+step_controls_are_right call answer before after right controls step = (step_stays_right call answer before after (record { right = right; controls = controls }) step).controls
+
+pub run_is_right : (first last : ToolboxState) (calls : List Call) (answers : List (Result Reply Refusal)) → IsRightState first.desk.windows → AreControlsRight first → IsRunOfCalls first calls answers last → IsRightState last.desk.windows
+run_is_right first last calls answers right controls run = (run_stays_right first last calls answers (record { right = right; controls = controls }) run).right
+
+pub run_controls_are_right : (first last : ToolboxState) (calls : List Call) (answers : List (Result Reply Refusal)) → IsRightState first.desk.windows → AreControlsRight first → IsRunOfCalls first calls answers last → AreControlsRight last
+run_controls_are_right first last calls answers right controls run = (run_stays_right first last calls answers (record { right = right; controls = controls }) run).controls
+
 -- and all of the screen is right once every update is served
-pub served_run_is_all_right : (first last : ToolboxState) (calls : List Call) (answers : List (Result Reply Refusal)) → IsRightState first.desk.windows → IsRunOfCalls first calls answers last → AreAllServed last.desk.windows → IsAllRight last.desk.windows
-served_run_is_all_right first last calls answers right run served = all_served_is_right last.desk.windows (run_stays_right first last calls answers right run) served
+pub served_run_is_all_right : (first last : ToolboxState) (calls : List Call) (answers : List (Result Reply Refusal)) → IsRightState first.desk.windows → AreControlsRight first → IsRunOfCalls first calls answers last → AreAllServed last.desk.windows → IsAllRight last.desk.windows
+served_run_is_all_right first last calls answers right controls run served = all_served_is_right last.desk.windows (run_is_right first last calls answers right controls run) served
 
 -- ---- runs that go on
 
@@ -137,6 +181,10 @@ pub run_step : (first middle last : ToolboxState) (calls : List Call) (answers m
 run_step first middle last calls answers more i call answer e read r l s =
     subst (λ (x : List Call × List (Result Reply Refusal)). IsRunOfCalls first x.0 x.1 last) (λ k. (sym (take_more calls i call l) k, sym e k))
     (run_more first middle last (take i calls) answers (get_or calls i call) answer r (subst (λ c. IsStep c answer middle last) read s))
+
+-- a run of all calls
+pub run_of_all : (first last : ToolboxState) (calls : List Call) (answers : List (Result Reply Refusal)) (i : ℕ) → length calls ≤ i → IsRunOfCalls first (take i calls) answers last → IsRunOfCalls first calls answers last
+run_of_all first last calls answers i all run = subst (λ cs. IsRunOfCalls first cs answers last) (take_all i calls all) run
 
 -- ---- windows are counted
 
@@ -241,6 +289,7 @@ answer_is_counted (Some set) call answer before after numbers step h =
 abbrev made_by : Result Reply Refusal → List ℕ
 made_by (Ok (reply.Window answer)) = serial_made answer
 made_by (Ok (reply.Frame answer)) = []
+made_by (Ok (reply.Control answer)) = []
 made_by (Ok (reply.Menu answer)) = []
 made_by (Ok (reply.Event answer)) = []
 made_by (Err e) = []
@@ -250,9 +299,10 @@ next_counted : (before after : FullState) (numbers : List ℕ) → after.desk.ne
 next_counted before after numbers same h = subst (λ n. AreCounted n numbers) same h
 
 window_is_counted : (call : WindowCall) (answer : Result WindowReply Refusal) (before after : ToolboxState) (numbers : List ℕ) → IsWindowMade call answer before after → AreCounted after.desk.windows.desk.next numbers → AreCounted before.desk.windows.desk.next (made_by (replied reply.Window answer) ++ numbers)
-window_is_counted call (Ok answer) before after numbers ((middle, answered, (same, told)), events) h =
+window_is_counted call (Ok answer) before after numbers ((middle, answered, (told, same, caught, shown, left)), rest) h =
     answer_is_counted (narrowed call before.desk.activity before.desk.begun) call (Ok answer) before.desk middle numbers answered
-    (next_counted middle.windows after.desk.windows numbers (caught_up_keeps (λ d. d.next) (λ d ws. refl) (window_standing call) middle.windows after.desk.windows told) h)
+    (next_counted middle.windows after.desk.windows numbers
+    (ap (λ (s : FullState). s.desk.next) shown ∙ caught_up_keeps (λ d. d.next) (λ d ws. refl) (window_standing call) middle.windows told caught) h)
 window_is_counted call (Err e) before after numbers step h = answer_is_counted (narrowed call before.desk.activity before.desk.begun) call (Err e) before.desk after.desk numbers step.0 h
 
 update_is_counted : (call : UpdateCall) (answer : Result WindowReply Refusal) (before after : DeskState) (numbers : List ℕ) → IsUpdateStep call answer before after → AreCounted after.windows.desk.next numbers → AreCounted before.windows.desk.next (made_by (replied reply.Window answer) ++ numbers)
@@ -272,6 +322,10 @@ menu_is_counted : (call : MenuCall) (answer : Result MenuReply Refusal) (before 
 menu_is_counted call (Ok answer) before after numbers step h = next_counted before.desk.windows after.desk.windows numbers (menu_keeps (λ d. d.next) (λ d titles. refl) call (Ok answer) (with_menus before) (with_menus after) step) h
 menu_is_counted call (Err e) before after numbers step h = next_counted before.desk.windows after.desk.windows numbers (menu_keeps (λ d. d.next) (λ d titles. refl) call (Err e) (with_menus before) (with_menus after) step) h
 
+control_is_counted : (call : ControlCall) (answer : Result ControlReply Refusal) (before after : ToolboxState) (numbers : List ℕ) → IsControlStep call answer (with_controls before) (with_controls after) → AreCounted after.desk.windows.desk.next numbers → AreCounted before.desk.windows.desk.next (made_by (replied reply.Control answer) ++ numbers)
+control_is_counted call (Ok answer) before after numbers step h = next_counted before.desk.windows after.desk.windows numbers (control_facts call (Ok answer) (with_controls before) (with_controls after) step).0.next h
+control_is_counted call (Err e) before after numbers step h = next_counted before.desk.windows after.desk.windows numbers (control_facts call (Err e) (with_controls before) (with_controls after) step).0.next h
+
 -- the numbers of what this was answered follow, in front of others
 abbrev GoesOnCounting : Call → Result Reply Refusal → ToolboxState → ToolboxState → Type 0
 GoesOnCounting call answer before after = (numbers : List ℕ) → AreCounted after.desk.windows.desk.next numbers → AreCounted before.desk.windows.desk.next (made_by answer ++ numbers)
@@ -281,15 +335,18 @@ each_is_counted = record {
   unchanged = λ call e before after same numbers h. counted_on before.desk.windows after.desk.windows numbers same.desk.windows h;
   covered = λ p before after same numbers h. counted_on before.desk.windows after.desk.windows numbers same.desk.windows h;
   window = λ call answer before after may step numbers h. window_is_counted call answer before after numbers step h;
-  update = λ call answer before after may step events menus numbers h. update_is_counted call answer before.desk after.desk numbers step h;
-  frame = λ call answer before after may step events menus numbers h. frame_is_counted call answer before.desk after.desk numbers step h;
-  menu = λ call answer before after may step events numbers h. menu_is_counted call answer before after numbers step h;
+  hidden = λ p before after same numbers h. counted_on before.desk.windows after.desk.windows numbers same.desk.windows h;
+  update = λ call answer before after may step rest numbers h. update_is_counted call answer before.desk after.desk numbers step h;
+  frame = λ call answer before after may step rest numbers h. frame_is_counted call answer before.desk after.desk numbers step h;
+  control = λ call answer before after may step events menus numbers h. control_is_counted call answer before after numbers step h;
+  menu = λ call answer before after may step events controls numbers h. menu_is_counted call answer before after numbers step h;
   event = λ call answer before after step numbers h. event_is_counted call answer before after numbers step h;
 }
 
 made_first : (answer : Result Reply Refusal) (answers : List (Result Reply Refusal)) → made_by answer ++ made answers ≡ made (answer ∷ answers)
 made_first (Ok (reply.Window answer)) answers = refl
 made_first (Ok (reply.Frame answer)) answers = refl
+made_first (Ok (reply.Control answer)) answers = refl
 made_first (Ok (reply.Menu answer)) answers = refl
 made_first (Ok (reply.Event answer)) answers = refl
 made_first (Err e) answers = refl

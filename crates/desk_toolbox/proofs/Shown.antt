@@ -1,14 +1,17 @@
--- What windows' definitions show, by what the records say.
+-- What the definitions of windows and of controls show, by what the records say.
 use Rattle.std.proofs.Common.{◌≡◌, get_or, subst}
 use Rattle.std.specs.Prelude.{All}
 use Rattle.def_iface.specs.Meaning.{GoesBy}
 use Rattle.def_iface.specs.News.{AllNews}
+use Rattle.def_iface.specs.ControlMeaning.{ControlGoesBy}
 use Rattle.vis_update.specs.Records.{WindowRecord, news_of}
 use Rattle.window_mgr.specs.FullDesk.{FullDesk}
 use Rattle.window_mgr.specs.Whole.{IsSoundDesk, IsSettled}
 use Rattle.window_frame.specs.Followers.{Knows, AreInformed}
 use Rattle.window_frame.specs.Followers.Flag.{Highlighting, Zooming}
-use Rattle.desk_toolbox.specs.Reached.{news_by_record}
+use Rattle.control_mgr.specs.ControlDesks.{news_of_control}
+use Rattle.desk_toolbox.specs.Reached.{AreControlsRight, news_by_record}
+use Rattle.desk_toolbox.specs.ToolboxStates.{ToolboxState}
 
 goes_by_record : (w : WindowRecord) → IsSettled w → Knows Highlighting w → Knows Zooming w → GoesBy (news_by_record w) w.definition
 goes_by_record w settled highlighting zooming =
@@ -20,3 +23,6 @@ desk_goes_by_records desk sound informed = λ k d within.
     let w = get_or desk.windows k d in
     let knows = informed k d within in
     goes_by_record w (sound.settled k d within) knows.0 knows.1
+
+pub controls_go_by_records : (s : ToolboxState) → AreControlsRight s → All (λ c. ControlGoesBy (news_of_control c) c.definition.definition) s.controls.controls
+controls_go_by_records s right = λ k d within. (right.whole.settled k d within).goes_by

@@ -3,9 +3,9 @@ use Rattle.std.proofs.Common.{◌≡◌, ℕ, List, Option, None, Some, Result, 
 use Rattle.tb_geom.specs.declared.refusal.Refusal.{Refusal}
 use Rattle.tb_geom.specs.Points.{PixelSet}
 use Rattle.desk_call.specs.declared.activity.Activity.{Activity}
-use Rattle.desk_call.specs.declared.activity.Activity.TheVariants.{Idle, Updating, Tracking, Pulling}
+use Rattle.desk_call.specs.declared.activity.Activity.TheVariants.{Idle, Updating, Tracking, Pulling, TrackingControl}
 use Rattle.desk_call.specs.declared.activity.Standing.{Standing}
-use Rattle.desk_call.specs.declared.activity.Standing.TheVariants.{Asks, Updates, Tracks, Pulls, Changes}
+use Rattle.desk_call.specs.declared.activity.Standing.TheVariants.{Asks, Updates, Tracks, Pulls, TracksControl, Changes}
 use Rattle.desk_call.specs.declared.event.EventCall.{EventCall}
 use Rattle.desk_call.specs.declared.event.EventReply.{EventReply}
 use Rattle.desk_call.specs.declared.window.WindowCall.{WindowCall}
@@ -17,6 +17,8 @@ use Rattle.vis_update.specs.Touches.{is_this}
 use Rattle.window_mgr.specs.Effects.{IsEffect, effect_of}
 use Rattle.window_mgr.specs.FullDesk.{FullDesk, FullState, IsRightState}
 use Rattle.window_mgr.specs.DeskStates.{DeskState, narrowed}
+use Rattle.control_mgr.specs.ControlDesks.{ControlsState}
+use Rattle.control_mgr.specs.WholeControls.{IsTrackable}
 use Rattle.menu_list.specs.Lists.{titles_of}
 use Rattle.menu_mgr.specs.MenuDesks.{IsBarOf, MenusState}
 use Rattle.window_frame.specs.Followers.{AreInformed, IsCaughtUpBy}
@@ -24,14 +26,15 @@ use Rattle.window_frame.proofs.FrameKeeps.{caught_up_keeps}
 use Rattle.desk_toolbox.specs.declared.events.Events.{Events}
 use Rattle.desk_toolbox.specs.Activations.{to_dispose}
 use Rattle.desk_toolbox.specs.EventSteps.{event_step}
-use Rattle.desk_toolbox.specs.Reached.{AreApart, IsThere, IsConsistent, open_window}
-use Rattle.desk_toolbox.specs.Run.{IsWindowAnswer, IsWindowMade, IsEventAnswer}
+use Rattle.desk_toolbox.specs.Reached.{AreApart, AreControlsRight, IsThere, IsConsistent, open_window}
+use Rattle.desk_toolbox.specs.Run.{AreControlsLeft, IsWindowAnswer, IsWindowMade, IsEventAnswer}
 use Rattle.desk_toolbox.specs.ToolboxStates.{ToolboxState}
 use Rattle.desk_toolbox.proofs.PulledMenus.{IsPullRight, same_pull}
 use Rattle.desk_toolbox.proofs.Totals.{total, Present, present_when, found_counts, counted_is_found}
 use Rattle.desk_toolbox.proofs.Recounts.{done_counts, done_keeps_active}
-use Rattle.desk_toolbox.proofs.KeptDesks.{made_keeps}
-use Rattle.desk_toolbox.proofs.StepCounts.{Apart, caught_up_counts, caught_up_total, window_recounts, stays_present}
+use Rattle.desk_toolbox.proofs.ControlsBeside.{IsRightToolbox}
+use Rattle.desk_toolbox.proofs.KeptDesks.{made_keeps, refused_keeps_desk}
+use Rattle.desk_toolbox.proofs.StepCounts.{Apart, caught_up_counts, caught_up_total, same_and_same, shown_counts, window_recounts, stays_present}
 use Rattle.desk_toolbox.proofs.Told.{ArePosted, step_are_posted}
 use Rattle.desk_toolbox.proofs.Telling.{step_told_present, left_after, forgotten_present}
 use Rattle.desk_toolbox.proofs.Tracked.{misled, none_misled, all_heard_rightly, counted_none}
@@ -41,6 +44,8 @@ pub record Stands (s : ToolboxState) : Type 0 where
   pub active : Present s.desk.windows.desk.active s.desk.windows.desk.windows
   pub told : Present s.events.told s.desk.windows.desk.windows
   pub opened : Present (open_window s.desk.activity) s.desk.windows.desk.windows
+  pub controls : AreControlsRight s
+  pub trackable : IsTrackable s.desk.activity s.controls.controls
   pub queued : ArePosted s.events.queue.events
   pub informed : AreInformed s.desk.windows.desk.windows
   pub tracked : total (misled s.desk.activity) s.desk.windows.desk.windows ≡ 0
@@ -62,6 +67,8 @@ stands s h = record {
   active = there_is_present s.desk.windows.desk.active s.desk.windows.desk.windows h.active;
   told = there_is_present s.events.told s.desk.windows.desk.windows h.told;
   opened = there_is_present (open_window s.desk.activity) s.desk.windows.desk.windows h.opened;
+  controls = h.controls;
+  trackable = h.trackable;
   queued = h.queued;
   informed = h.informed;
   tracked = none_misled s.desk.activity s.desk.windows.desk.windows h.tracked;
@@ -76,6 +83,8 @@ consistent s h = record {
   active = present_is_there s.desk.windows.desk.active s.desk.windows.desk.windows h.active;
   told = present_is_there s.events.told s.desk.windows.desk.windows h.told;
   opened = present_is_there (open_window s.desk.activity) s.desk.windows.desk.windows h.opened;
+  controls = h.controls;
+  trackable = h.trackable;
   queued = h.queued;
   informed = h.informed;
   tracked = all_heard_rightly s.desk.activity s.desk.windows.desk.windows h.tracked;
@@ -89,16 +98,22 @@ consistent s h = record {
 pub bar_stays : (before after : ToolboxState) → after.desk.windows.desk.bar.titles ≡ before.desk.windows.desk.bar.titles → after.menus ≡ before.menus → IsBarOf before.menus before.desk.windows.desk → IsBarOf after.menus after.desk.windows.desk
 bar_stays before after titles menus was = titles ∙ was ∙ sym (ap (λ (m : MenusState). titles_of m.highlighted m.menus) menus)
 
+-- what is open is the same, and so are the controls
+pub trackable_stays : (before after : ToolboxState) → after.desk.activity ≡ before.desk.activity → after.controls ≡ before.controls → IsTrackable before.desk.activity before.controls.controls → IsTrackable after.desk.activity after.controls.controls
+trackable_stays before after activity controls was = subst (λ (x : Activity × ControlsState). IsTrackable x.0 x.1.controls) (λ i. (sym activity i, sym controls i)) was
+
 -- the menus are the same
 pub apart_stays : (before after : ToolboxState) → after.menus ≡ before.menus → AreApart before.menus.menus → AreApart after.menus.menus
 apart_stays before after menus was = subst (λ (m : MenusState). AreApart m.menus) (sym menus) was
 
 -- ---- where the desk and what is open did not change
 
-module _ (before after : ToolboxState) (desk : after.desk.windows.desk ≡ before.desk.windows.desk) (activity : after.desk.activity ≡ before.desk.activity) (menus : after.menus ≡ before.menus) where
-  pub stands_on : Stands before → IsRightState after.desk.windows → Present after.events.told before.desk.windows.desk.windows → ArePosted after.events.queue.events → Stands after
+module _ (before after : ToolboxState) (desk : after.desk.windows.desk ≡ before.desk.windows.desk) (activity : after.desk.activity ≡ before.desk.activity) (controls : after.controls ≡ before.controls) (menus : after.menus ≡ before.menus) where
+  pub stands_on : Stands before → IsRightToolbox after → Present after.events.told before.desk.windows.desk.windows → ArePosted after.events.queue.events → Stands after
   stands_on was right told queued = record {
-    right = right;
+    right = right.right;
+    controls = right.controls;
+    trackable = trackable_stays before after activity controls was.trackable;
     active = subst (λ (d : FullDesk). Present d.active d.windows) (sym desk) was.active;
     told = subst (λ (d : FullDesk). Present after.events.told d.windows) (sym desk) told;
     opened = subst (λ (d : FullDesk). Present (open_window after.desk.activity) d.windows) (sym desk) (subst (λ a. Present (open_window a) before.desk.windows.desk.windows) (sym activity) was.opened);
@@ -110,18 +125,18 @@ module _ (before after : ToolboxState) (desk : after.desk.windows.desk ≡ befor
     pull = same_pull before.desk.activity after.desk.activity before.menus after.menus activity menus was.pull;
   }
 
-  pub stands_still : after.events ≡ before.events → Stands before → IsRightState after.desk.windows → Stands after
+  pub stands_still : after.events ≡ before.events → Stands before → IsRightToolbox after → Stands after
   stands_still events was right = stands_on was right
       (subst (λ (e : Events). Present e.told before.desk.windows.desk.windows) (sym events) was.told)
       (subst (λ (e : Events). ArePosted e.queue.events) (sym events) was.queued)
 
 -- ---- calls about events
 
-pub event_stands : (call : EventCall) (answer : Result EventReply Refusal) (before after : ToolboxState) → Stands before → IsRightState after.desk.windows → IsEventAnswer call answer before after → Stands after
-event_stands call answer before after was right (same, menus, (update, first, is)) =
+pub event_stands : (call : EventCall) (answer : Result EventReply Refusal) (before after : ToolboxState) → Stands before → IsRightToolbox after → IsEventAnswer call answer before after → Stands after
+event_stands call answer before after was right (same, (controls, menus), (update, first, is)) =
     let active = before.desk.windows.desk.active in
     let events : after.events ≡ (event_step call active update before.events).1 = ap (λ (x : Result EventReply Refusal × Events). x.1) is in
-    stands_on before after same.windows.desk same.activity menus was right
+    stands_on before after same.windows.desk same.activity controls menus was right
     (subst (λ (e : Events). Present e.told before.desk.windows.desk.windows) (sym events) (step_told_present call active update before.events before.desk.windows.desk.windows was.told was.active))
     (subst (λ (e : Events). ArePosted e.queue.events) (sym events) (step_are_posted call active update before.events was.queued))
 
@@ -132,6 +147,7 @@ pub idle_now : (activity : Activity) → gate activity Changes ≡ None → acti
 idle_now Idle e = refl
 idle_now (Updating s) e = absurd (cc)
 idle_now (Tracking s) e = absurd (cc)
+idle_now (TrackingControl c) e = absurd (cc)
 idle_now (Pulling m) e = absurd (cc)
 
 -- no window is disposed of while something of it is open
@@ -171,21 +187,29 @@ caught_up_informs Asks first before after same kept was = subst (λ (d : FullDes
 caught_up_informs (Updates s) first before after (ts, told, informed) kept was = informed
 caught_up_informs Tracks first before after (ts, told, informed) kept was = informed
 caught_up_informs Pulls first before after (ts, told, informed) kept was = informed
+caught_up_informs TracksControl first before after (ts, told, informed) kept was = informed
 caught_up_informs Changes first before after (ts, told, informed) kept was = informed
 
-done_stands : (call : WindowCall) (answer : WindowReply) (before after : ToolboxState) → gate before.desk.activity (window_standing call) ≡ None → Stands before → IsRightState after.desk.windows → IsWindowMade call (Ok answer) before after → Stands after
-done_stands call answer before after may was right ((middle, answered, (same, told)), (events, menus)) =
+-- no control is tracked while its window is disposed of
+pub left_trackable : (call : WindowCall) (before after : ToolboxState) → gate before.desk.activity (window_standing call) ≡ None → after.desk.activity ≡ before.desk.activity → AreControlsLeft call before.controls after.controls → IsTrackable before.desk.activity before.controls.controls → IsTrackable after.desk.activity after.controls.controls
+left_trackable (asks.Dispose s) before after may activity gone was = subst (λ a. IsTrackable a after.controls.controls) (sym (activity ∙ idle_now before.desk.activity may)) tt
+left_trackable call before after may activity gone was = trackable_stays before after activity gone was
+
+done_stands : (call : WindowCall) (answer : WindowReply) (before after : ToolboxState) → gate before.desk.activity (window_standing call) ≡ None → Stands before → IsRightToolbox after → IsWindowMade call (Ok answer) before after → Stands after
+done_stands call answer before after may was right ((middle, answered, (told, same, caught, shown, gone)), (events, menus)) =
     let asked = narrowed call before.desk.activity before.desk.begun in
     let was_desk = before.desk.windows.desk in
     let desk = after.desk.windows.desk in
-    let recount = window_recounts call answer before.desk middle after.desk answered told in
-    let followed = caught_up_counts (window_standing call) middle.windows after.desk.windows told in
+    let recount = window_recounts call answer before.desk middle told after.desk.windows after.controls.controls answered caught shown in
+    let followed = same_and_same middle.windows.desk told.desk desk (caught_up_counts (window_standing call) middle.windows told caught) (shown_counts after.controls.controls told after.desk.windows shown) in
     let activity : after.desk.activity ≡ before.desk.activity = same.activity ∙ answer_keeps_activity asked call (Ok answer) before.desk middle answered in
     let left : after.events ≡ record before.events { told = _ } = events ∙ left_after call before.events in
     record {
-      right = right;
+      right = right.right;
+      controls = right.controls;
+      trackable = left_trackable call before after may activity gone was.trackable;
       active =
-          subst (λ o. Present o desk.windows) (sym (caught_up_keeps (λ d. d.active) (λ d ws. refl) (window_standing call) middle.windows after.desk.windows told))
+          subst (λ o. Present o desk.windows) (sym (ap (λ (s : FullState). s.desk.active) shown ∙ caught_up_keeps (λ d. d.active) (λ d ws. refl) (window_standing call) middle.windows told caught))
           (present_when middle.windows.desk.active middle.windows.desk.windows desk.windows (λ s. let count = followed.count s in omega arith) (answer_keeps_active asked call answer before.desk middle answered was.active));
       told =
           subst (λ (e : Events). Present e.told desk.windows) (sym left)
@@ -194,22 +218,19 @@ done_stands call answer before after may was right ((middle, answered, (same, to
           subst (λ a. Present (open_window a) desk.windows) (sym activity)
           (stays_present (to_dispose call) (open_window before.desk.activity) was_desk desk recount (apart_open call before.desk.activity may) was.opened);
       queued = subst (λ (e : Events). ArePosted e.queue.events) (sym left) was.queued;
-      informed = caught_up_informs (window_standing call) before.desk.windows middle.windows after.desk.windows told (answer_keeps_desk asked call answer before.desk middle answered) was.informed;
+      informed = subst (λ (s : FullState). AreInformed s.desk.windows) (sym shown) (caught_up_informs (window_standing call) before.desk.windows middle.windows told caught (answer_keeps_desk asked call answer before.desk middle answered) was.informed);
       tracked =
           ap (λ a. total (misled a) desk.windows) activity
-          ∙ caught_up_total (misled before.desk.activity) (window_standing call) middle.windows after.desk.windows told
+          ∙ ap (λ (s : FullState). total (misled before.desk.activity) s.desk.windows) shown
+          ∙ caught_up_total (misled before.desk.activity) (window_standing call) middle.windows told caught
           ∙ answer_misleads_none asked call answer before.desk.activity before.desk middle answered was.tracked;
-      bar = bar_stays before after (made_keeps (λ d. d.bar.titles) (λ d ws active next stock. refl) call (Ok answer) before after ((middle, answered, (same, told)), (events, menus))) menus was.bar;
+      bar = bar_stays before after (made_keeps (λ d. d.bar.titles) (λ d ws active next stock. refl) (λ d shows. refl) call (Ok answer) before after ((middle, answered, (told, same, caught, shown, gone)), (events, menus))) menus was.bar;
       apart = apart_stays before after menus was.apart;
       pull = same_pull before.desk.activity after.desk.activity before.menus after.menus activity menus was.pull;
     }
 
-pub refused_keeps_desk : (asked : Option PixelSet) (call : WindowCall) (e : Refusal) (before after : DeskState) → IsWindowAnswer asked call (Err e) before after → after.windows.desk ≡ before.windows.desk
-refused_keeps_desk None call e before after step = step.1.1.desk
-refused_keeps_desk (Some set) call e before after step = step.1.windows.desk
-
-pub window_stands : (call : WindowCall) (answer : Result WindowReply Refusal) (before after : ToolboxState) → gate before.desk.activity (window_standing call) ≡ None → Stands before → IsRightState after.desk.windows → IsWindowMade call answer before after → Stands after
+pub window_stands : (call : WindowCall) (answer : Result WindowReply Refusal) (before after : ToolboxState) → gate before.desk.activity (window_standing call) ≡ None → Stands before → IsRightToolbox after → IsWindowMade call answer before after → Stands after
 window_stands call (Ok answer) before after may was right made = done_stands call answer before after may was right made
-window_stands call (Err e) before after may was right (answered, (events, menus)) =
+window_stands call (Err e) before after may was right (answered, (events, (controls, menus))) =
     let asked = narrowed call before.desk.activity before.desk.begun in
-    stands_still before after (refused_keeps_desk asked call e before.desk after.desk answered) (answer_keeps_activity asked call (Err e) before.desk after.desk answered) menus events was right
+    stands_still before after (refused_keeps_desk asked call e before.desk after.desk answered) (answer_keeps_activity asked call (Err e) before.desk after.desk answered) controls menus events was right

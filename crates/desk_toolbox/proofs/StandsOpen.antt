@@ -7,7 +7,7 @@ use Rattle.tb_geom.specs.declared.refusal.Refusal.TheVariants.{NoSuchWindow, Out
 use Rattle.tb_geom.specs.Rects.{in_plane}
 use Rattle.def_iface.specs.News.{News, told_title, told_highlighted, told_tracked}
 use Rattle.desk_call.specs.declared.activity.Activity.{Activity}
-use Rattle.desk_call.specs.declared.activity.Activity.TheVariants.{Idle, Updating, Tracking, Pulling}
+use Rattle.desk_call.specs.declared.activity.Activity.TheVariants.{Idle, Updating, Tracking, Pulling, TrackingControl}
 use Rattle.desk_call.specs.declared.activity.Standing.TheVariants.{Updates}
 use Rattle.desk_call.specs.declared.frame.FrameCall.{FrameCall}
 use Rattle.desk_call.specs.declared.frame.FrameCall.TheVariants.{SetTitle, Hilite, TrackGoAway, StepGoAway, EndGoAway}
@@ -33,6 +33,7 @@ use Rattle.window_frame.specs.FrameSteps.{IsFrameStep, IsFrameEffect, IsBegunAt,
 use Rattle.window_frame.proofs.FrameKeeps.{frame_keeps}
 use Rattle.desk_toolbox.specs.declared.events.Events.{Events}
 use Rattle.desk_toolbox.specs.Reached.{open_window}
+use Rattle.desk_toolbox.specs.Run.{IsRestKept}
 use Rattle.desk_toolbox.specs.ToolboxStates.{ToolboxState}
 use Rattle.desk_toolbox.proofs.UpdatedDesks.{update_keeps_desk}
 use Rattle.desk_toolbox.proofs.Totals.{total, copies, Present, present_when, found_counts}
@@ -40,6 +41,10 @@ use Rattle.desk_toolbox.proofs.StepCounts.{frame_counts, told_total}
 use Rattle.desk_toolbox.proofs.Told.{ArePosted}
 use Rattle.desk_toolbox.proofs.Tracked.{misled, tracking_told, tracking_begins, tracking_ends}
 use Rattle.desk_toolbox.proofs.MenusBeside.{update_comes_then, frame_comes_then, update_pulls_none, frame_pulls_none}
+use Rattle.desk_toolbox.proofs.ControlsBeside.{IsRightToolbox}
+use Rattle.control_mgr.specs.ControlDesks.{ControlsState}
+use Rattle.control_mgr.specs.WholeControls.{IsTrackable}
+use Rattle.desk_toolbox.proofs.TrackedControls.{update_trackable, frame_trackable}
 use Rattle.desk_toolbox.proofs.PulledMenus.{IsPullRight, still_unpulled}
 use Rattle.desk_toolbox.proofs.Stands.{Stands, apart_stays, bar_stays, stands_still, idle_now}
 
@@ -65,6 +70,7 @@ ended : (activity : Activity) (s : ℕ) (ws : List WindowRecord) → gate activi
 ended Idle s ws e none = none
 ended (Updating t) s ws e none = none
 ended (Tracking t) s ws e none = absurd (cc)
+ended (TrackingControl c) s ws e none = absurd (cc)
 ended (Pulling m) s ws e none = absurd (cc)
 
 update_misleads_none : (call : UpdateCall) (before after : DeskState) → gate before.activity (update_standing call) ≡ None → IsUpdateEffect call before after → total (misled before.activity) before.windows.desk.windows ≡ 0 → total (misled after.activity) before.windows.desk.windows ≡ 0
@@ -78,13 +84,15 @@ update_misleads_none (update.End s) before after may (idle, same) none =
 update_misleads_none (update.Serve s) before after may (idle, drawn) none =
     ap (λ a. total (misled a) before.windows.desk.windows) idle ∙ sym (ap (λ a. total (misled a) before.windows.desk.windows) (idle_now before.activity may)) ∙ none
 
-pub update_stands : (call : UpdateCall) (answer : Result WindowReply Refusal) (before after : ToolboxState) → gate before.desk.activity (update_standing call) ≡ None → Stands before → IsRightState after.desk.windows → IsUpdateStep call answer before.desk after.desk → after.events ≡ before.events → after.menus ≡ before.menus → Stands after
-update_stands call (Ok answer) before after may was right step events menus =
+pub update_stands : (call : UpdateCall) (answer : Result WindowReply Refusal) (before after : ToolboxState) → gate before.desk.activity (update_standing call) ≡ None → Stands before → IsRightToolbox after → IsUpdateStep call answer before.desk after.desk → IsRestKept before after → Stands after
+update_stands call (Ok answer) before after may was right step (events, (controls, menus)) =
     let ws = before.desk.windows.desk.windows in
     let desk = update_keeps_desk call (Ok answer) before.desk after.desk step in
     let none = update_misleads_none call before.desk after.desk may step.1.1 was.tracked in
     record {
-      right = right;
+      right = right.right;
+      controls = right.controls;
+      trackable = subst (λ (s : ControlsState). IsTrackable after.desk.activity s.controls) (sym controls) (update_trackable before.desk after.desk before.controls.controls was.trackable call (Ok answer) step);
       active = subst (λ (d : FullDesk). Present d.active d.windows) (sym desk) was.active;
       told = subst (λ (d : FullDesk). Present after.events.told d.windows) (sym desk) (subst (λ (e : Events). Present e.told ws) (sym events) was.told);
       opened = subst (λ (d : FullDesk). Present (open_window after.desk.activity) d.windows) (sym desk) (update_opens call before.desk after.desk step.0 step.1.1 was.opened);
@@ -98,7 +106,7 @@ update_stands call (Ok answer) before after may was right step events menus =
           (still_unpulled before.desk.activity after.desk.activity before.menus (update_comes_then call before.desk.activity may)
           (update_pulls_none call (Ok answer) before.desk after.desk may step) was.pull);
     }
-update_stands call (Err e) before after may was right step events menus = stands_still before after step.1.windows.desk step.1.activity menus events was right
+update_stands call (Err e) before after may was right step (events, (controls, menus)) = stands_still before after step.1.windows.desk step.1.activity controls menus events was right
 
 -- ---- calls about frames
 
@@ -188,15 +196,17 @@ frame_misleads_none (TrackGoAway g) Done before after may right wrong none = abs
 frame_misleads_none (StepGoAway p) Done before after may right wrong none = absurd wrong
 frame_misleads_none (EndGoAway p) Done before after may right wrong none = absurd wrong
 
-pub frame_stands : (call : FrameCall) (answer : Result FrameReply Refusal) (before after : ToolboxState) → gate before.desk.activity (frame_standing call) ≡ None → Stands before → IsRightState after.desk.windows → IsFrameStep call answer before.desk after.desk → after.events ≡ before.events → after.menus ≡ before.menus → Stands after
-frame_stands call (Ok answer) before after may was right step events menus =
+pub frame_stands : (call : FrameCall) (answer : Result FrameReply Refusal) (before after : ToolboxState) → gate before.desk.activity (frame_standing call) ≡ None → Stands before → IsRightToolbox after → IsFrameStep call answer before.desk after.desk → IsRestKept before after → Stands after
+frame_stands call (Ok answer) before after may was right step (events, (controls, menus)) =
     let was_ws = before.desk.windows.desk.windows in
     let ws = after.desk.windows.desk.windows in
     let counts = frame_counts call (Ok answer) before.desk after.desk step in
     let active = frame_keeps (λ d. d.active) (λ d ws. refl) call (Ok answer) before.desk after.desk step in
     let stay = λ (o : Option ℕ) (h : Present o was_ws). present_when o was_ws ws (λ s. let count = counts.count s in omega arith) h in
     record {
-      right = right;
+      right = right.right;
+      controls = right.controls;
+      trackable = subst (λ (s : ControlsState). IsTrackable after.desk.activity s.controls) (sym controls) (frame_trackable before.desk after.desk before.controls.controls was.trackable call (Ok answer) step);
       active = subst (λ o. Present o ws) (sym active) (stay before.desk.windows.desk.active was.active);
       told = subst (λ (e : Events). Present e.told ws) (sym events) (stay before.events.told was.told);
       opened = stay (open_window after.desk.activity) (frame_opens call answer before.desk after.desk step.0 step.1 was.opened);
@@ -210,4 +220,4 @@ frame_stands call (Ok answer) before after may was right step events menus =
           (still_unpulled before.desk.activity after.desk.activity before.menus (frame_comes_then call before.desk.activity may)
           (frame_pulls_none call (Ok answer) before.desk after.desk may step) was.pull);
     }
-frame_stands call (Err e) before after may was right step events menus = stands_still before after step.1.windows.desk step.1.activity menus events was right
+frame_stands call (Err e) before after may was right step (events, (controls, menus)) = stands_still before after step.1.windows.desk step.1.activity controls menus events was right

@@ -1,12 +1,12 @@
 -- What any call does to the count of windows, to the next number, and to the active window.
-use Rattle.std.proofs.Common.{◌≡◌, ◌⊎◌, inl, inr, ℕ, ◌+◌, ◌≤◌, ◌^◌, ◌==◌, nat_lt, Bool, true, false, if◌then◌else◌, List, [], ◌∷◌, Option, None, Some, Result, Ok, Err, refl, sym, ap, ◌∙◌, subst, arith}
+use Rattle.std.proofs.Common.{◌≡◌, ◌⊎◌, inl, inr, ℕ, ◌+◌, ◌≤◌, ◌^◌, ◌==◌, nat_lt, Bool, true, false, if◌then◌else◌, List, [], ◌∷◌, map, Option, None, Some, Result, Ok, Err, refl, sym, ap, ◌∙◌, subst, arith}
 use Rattle.std.proofs.lemmas.Bool.Decides.{nat_tests}
 use Rattle.tb_geom.specs.declared.refusal.Refusal.{Refusal}
 use Rattle.tb_geom.specs.Points.{PixelSet}
 use Rattle.def_iface.specs.News.{News, told_title, told_highlighted, told_tracked}
 use Rattle.desk_call.specs.declared.activity.Activity.{Activity}
 use Rattle.desk_call.specs.declared.activity.Standing.{Standing}
-use Rattle.desk_call.specs.declared.activity.Standing.TheVariants.{Asks, Updates, Tracks, Pulls, Changes}
+use Rattle.desk_call.specs.declared.activity.Standing.TheVariants.{Asks, Updates, Tracks, Pulls, TracksControl, Changes}
 use Rattle.desk_call.specs.declared.frame.FrameCall.{FrameCall}
 use Rattle.desk_call.specs.declared.frame.FrameCall.TheVariants.{SetTitle, Hilite, TrackGoAway, StepGoAway, EndGoAway}
 use Rattle.desk_call.specs.declared.frame.FrameReply.{FrameReply}
@@ -18,12 +18,13 @@ use Rattle.desk_call.specs.declared.window.WindowCall.TheVariants as asks
 use Rattle.desk_call.specs.declared.window.WindowReply.{WindowReply}
 use Rattle.desk_call.specs.Gates.{window_standing}
 use Rattle.window_list.specs.Lists.{serial_after}
-use Rattle.vis_update.specs.Records.{WindowRecord}
+use Rattle.def_iface.specs.Desk as layers
+use Rattle.vis_update.specs.Records.{Look, WindowRecord, layered_window}
 use Rattle.vis_update.specs.Touches.{is_this}
 use Rattle.window_mgr.specs.Effects.{effect_of, places}
 use Rattle.window_mgr.specs.Finding.{record_with}
 use Rattle.window_mgr.specs.FrameNotices.{IsFrameNotified}
-use Rattle.window_mgr.specs.FullDesk.{FullDesk, FullState, IsGiven, IsRightState, look_of}
+use Rattle.window_mgr.specs.FullDesk.{AreSerials, FullDesk, FullState, IsGiven, IsRightState, look_of}
 use Rattle.window_mgr.specs.Placings.{Placing, sized, zoomed}
 use Rattle.window_mgr.specs.Refused.{is_missing}
 use Rattle.window_mgr.specs.DeskStates.{DeskState, narrowed}
@@ -31,11 +32,12 @@ use Rattle.window_frame.specs.Followers.{Flag, Telling, AreNotified, IsCaughtUpB
 use Rattle.window_frame.specs.Followers.Flag.{Highlighting, Zooming}
 use Rattle.window_frame.proofs.FrameKeeps.{caught_up_keeps}
 use Rattle.window_frame.specs.FrameSteps.{IsFrameStep, IsFrameEffect, IsBegunAt, IsTrackingNotified, with_flag, with_title, with_tracked}
+use Rattle.control_mgr.specs.ControlDesks.{ControlRecord}
 use Rattle.menu_mgr.specs.MenuDesks.{MenuDesk}
 use Rattle.menu_mgr.specs.MenuSteps.{IsMenuStep}
 use Rattle.menu_mgr.proofs.MenuKeeps.{menu_keeps}
 use Rattle.desk_toolbox.specs.Activations.{to_dispose}
-use Rattle.desk_toolbox.specs.Run.{IsWindowAnswer}
+use Rattle.desk_toolbox.specs.Run.{IsWindowAnswer, IsWindowAnswered, shown_with}
 use Rattle.desk_toolbox.proofs.Totals.{Weight, weight_of, total, counting, copies, Present, total_changed, present_when, found_counts, distinct_counts, serial_of_counted}
 use Rattle.desk_toolbox.proofs.Recounts.{IsKept, Counts, done_counts}
 
@@ -93,6 +95,7 @@ module _ (g : Weight) where
   caught_up_total (Updates s) before after (ss, told, informed) = are_told_total ss before after told
   caught_up_total Tracks before after (ss, told, informed) = are_told_total ss before after told
   caught_up_total Pulls before after (ss, told, informed) = are_told_total ss before after told
+  caught_up_total TracksControl before after (ss, told, informed) = are_told_total ss before after told
   caught_up_total Changes before after (ss, told, informed) = are_told_total ss before after told
 
 pub caught_up_counts : (standing : Standing) (before after : FullState) → IsCaughtUpBy standing before after → HasSame before.desk after.desk
@@ -169,11 +172,23 @@ answer_recounts (Some set) call answer before after none step =
     subst (λ o. Recount o before.windows.desk after.windows.desk) (sym (none set refl)) (inl (same_desk before.windows.desk after.windows.desk step.1.windows.desk))
 
 -- a call on windows that was done, and after which definitions were told how their windows stand
-pub window_recounts : (call : WindowCall) (answer : WindowReply) (before middle after : DeskState) → IsWindowAnswer (narrowed call before.activity before.begun) call (Ok answer) before middle → IsCaughtUpBy (window_standing call) middle.windows after.windows → Recount (to_dispose call) before.windows.desk after.windows.desk
-window_recounts call answer before middle after answered told =
-    recount_and_same (to_dispose call) before.windows.desk middle.windows.desk after.windows.desk
+pub told_recounts : (call : WindowCall) (answer : WindowReply) (before middle : DeskState) (told : FullState) → IsWindowAnswered call (Ok answer) before middle → IsCaughtUpBy (window_standing call) middle.windows told → Recount (to_dispose call) before.windows.desk told.desk
+told_recounts call answer before middle told answered caught =
+    recount_and_same (to_dispose call) before.windows.desk middle.windows.desk told.desk
     (answer_recounts (narrowed call before.activity before.begun) call answer before middle (narrowed_keeps call before.activity before.begun) answered)
-    (caught_up_counts (window_standing call) middle.windows after.windows told)
+    (caught_up_counts (window_standing call) middle.windows told caught)
+
+-- whatever is shown of controls then
+pub shown_counts : (cs : List ControlRecord) (told after : FullState) → after ≡ shown_with cs told → HasSame told.desk after.desk
+shown_counts cs told after shown = record {
+  next = ap (λ (s : FullState). s.desk.next) shown;
+  count = λ s. ap (λ (x : FullState). copies s x.desk.windows) shown;
+}
+
+pub window_recounts : (call : WindowCall) (answer : WindowReply) (before middle : DeskState) (told after : FullState) (cs : List ControlRecord) → IsWindowAnswered call (Ok answer) before middle → IsCaughtUpBy (window_standing call) middle.windows told
+    → after ≡ shown_with cs told → Recount (to_dispose call) before.windows.desk after.desk
+window_recounts call answer before middle told after cs answered caught shown =
+    recount_and_same (to_dispose call) before.windows.desk told.desk after.desk (told_recounts call answer before middle told answered caught) (shown_counts cs told after shown)
 
 -- ---- which windows stay, and which are gone
 
@@ -212,15 +227,24 @@ gone_stays (Some d) w before after less gone = record {
   given = subst (λ o. IsGiven o w) (sym less.next) gone.given;
 }
 
-pub disposed_is_gone : (d : ℕ) (before after : FullState) → IsRightState before → HasLess d before.desk after.desk → IsGone d after.desk
-disposed_is_gone d before after right less = record {
+-- each window has another serial, and all were given before
+pub record AreNumbered (d : FullDesk) : Type 0 where
+  pub look : Look
+  pub distinct : layers.AreWindows (map (layered_window look) d.windows)
+  pub serials : AreSerials d.next d.windows
+
+pub right_is_numbered : (s : FullState) → IsRightState s → AreNumbered s.desk
+right_is_numbered s right = record { look = look_of s.desk; distinct = right.plain.desk; serials = right.serials }
+
+pub disposed_is_gone : (d : ℕ) (before after : FullDesk) → AreNumbered before → HasLess d before after → IsGone d after
+disposed_is_gone d before after numbered less = record {
   none =
-      let all : copies d before.desk.windows ≡ (if d == d then 1 else 0) + copies d after.desk.windows = less.count d in
-      let most : copies d before.desk.windows ≤ 1 = distinct_counts (look_of before.desk) d before.desk.windows right.plain.desk in
+      let all : copies d before.windows ≡ (if d == d then 1 else 0) + copies d after.windows = less.count d in
+      let most : copies d before.windows ≤ 1 = distinct_counts numbered.look d before.windows numbered.distinct in
       let itself : (d == d) ≡ true = grind (arith, nat_tests) in
-      let is : copies d before.desk.windows ≡ 1 + copies d after.desk.windows = subst (λ (b : Bool). copies d before.desk.windows ≡ (if b then 1 else 0) + copies d after.desk.windows) itself all in
+      let is : copies d before.windows ≡ 1 + copies d after.windows = subst (λ (b : Bool). copies d before.windows ≡ (if b then 1 else 0) + copies d after.windows) itself all in
       omega arith;
-  given = subst (λ o. IsGiven o d) (sym less.next) (serial_of_counted (IsGiven before.desk.next) d before.desk.windows right.serials.1 (found_counts d before.desk.windows less.found));
+  given = subst (λ o. IsGiven o d) (sym less.next) (serial_of_counted (IsGiven before.next) d before.windows numbered.serials.1 (found_counts d before.windows less.found));
 }
 
 -- a window that is present is not gone

@@ -10,7 +10,7 @@ use Rattle.def_iface.specs.Meaning.{Loan}
 use Rattle.def_iface.specs.Owner.{owner}
 use Rattle.def_iface.specs.Stocked.{SlotView}
 use Rattle.desk_call.specs.declared.activity.Activity.{Activity}
-use Rattle.desk_call.specs.declared.activity.Activity.TheVariants.{Idle, Updating, Tracking, Pulling}
+use Rattle.desk_call.specs.declared.activity.Activity.TheVariants.{Idle, Updating, Tracking, Pulling, TrackingControl}
 use Rattle.desk_call.specs.declared.activity.PulledMenu.{PulledMenu}
 use Rattle.desk_call.specs.declared.activity.Standing.TheVariants.{Asks}
 use Rattle.desk_call.specs.declared.frame.FrameCall.{FrameCall}
@@ -60,6 +60,7 @@ updates_or_not : (a : Activity) → UpdatesNone a ⊎ ((s : ℕ) × (a ≡ Updat
 updates_or_not Idle = inl tt
 updates_or_not (Updating s) = inr (s, refl)
 updates_or_not (Tracking s) = inl tt
+updates_or_not (TrackingControl c) = inl tt
 updates_or_not (Pulling m) = inl tt
 
 -- a call on windows comes while an update is open only if it asks
@@ -75,6 +76,7 @@ window_asks_then _ s may = absurd (cc)
 frame_comes_apart : (call : FrameCall) (a : Activity) → gate a (frame_standing call) ≡ None → UpdatesNone a
 frame_comes_apart call Idle may = tt
 frame_comes_apart call (Tracking s) may = tt
+frame_comes_apart call (TrackingControl c) may = tt
 frame_comes_apart call (Pulling m) may = tt
 frame_comes_apart (SetTitle n) (Updating s) may = absurd (cc)
 frame_comes_apart (Hilite h) (Updating s) may = absurd (cc)
@@ -85,6 +87,7 @@ frame_comes_apart (EndGoAway p) (Updating s) may = absurd (cc)
 menu_comes_apart : (call : MenuCall) (a : Activity) → gate a (menu_standing call) ≡ None → UpdatesNone a
 menu_comes_apart call Idle may = tt
 menu_comes_apart call (Tracking s) may = tt
+menu_comes_apart call (TrackingControl c) may = tt
 menu_comes_apart call (Pulling m) may = tt
 menu_comes_apart (menus.Move p) (Updating s) may = absurd (cc)
 menu_comes_apart (menus.Up p) (Updating s) may = absurd (cc)
@@ -128,12 +131,14 @@ moved_updates_none (Pulling m) p answer before after moved = moved_on_updates_no
 moved_updates_none Idle p answer before after wrong = absurd wrong
 moved_updates_none (Updating s) p answer before after wrong = absurd wrong
 moved_updates_none (Tracking s) p answer before after wrong = absurd wrong
+moved_updates_none (TrackingControl c) p answer before after wrong = absurd wrong
 
 released_updates_none : (a : Activity) (p : Point) (choice : Option Choice) (before after : MenuDesk) → IsReleased a p choice before after → UpdatesNone after.desk.activity
 released_updates_none (Pulling m) p choice before after (is, away) = subst UpdatesNone (sym away.activity) tt
 released_updates_none Idle p choice before after wrong = absurd wrong
 released_updates_none (Updating s) p choice before after wrong = absurd wrong
 released_updates_none (Tracking s) p choice before after wrong = absurd wrong
+released_updates_none (TrackingControl c) p choice before after wrong = absurd wrong
 
 menu_effect_updates_none : (call : MenuCall) (answer : MenuReply) (before after : MenuDesk) → IsMenuEffect call answer before after → UpdatesNone before.desk.activity → UpdatesNone after.desk.activity
 menu_effect_updates_none (menus.New n) answer before after (is, made) was = subst UpdatesNone (sym made.activity.activity) was
@@ -183,7 +188,7 @@ module _ {V : Type 0} {H : V → Type 0} (loan : Taken V H → Loan) where
     now = state_of loan new after
 
     -- no update is open, and the screen has the same sides
-    whole_unopened : (a b : Activity) → SameSides was.desk now.desk → UpdatesNone b → IsWholeUpdates loan a t u → IsWholeUpdates loan b new u
+    pub whole_unopened : (a b : Activity) → SameSides was.desk now.desk → UpdatesNone b → IsWholeUpdates loan a t u → IsWholeUpdates loan b new u
     whole_unopened a b sides none whole = record {
       width = whole.width ∙ sym (ap nat_abs sides.width);
       height = whole.height ∙ sym (ap nat_abs sides.height);
@@ -191,7 +196,7 @@ module _ {V : Type 0} {H : V → Type 0} (loan : Taken V H → Loan) where
     }
 
     -- the windows did not change
-    whole_unchanged : (a : Activity) → IsUnchanged was now → IsWholeUpdates loan a t u → IsWholeUpdates loan a new u
+    pub whole_unchanged : (a : Activity) → IsUnchanged was now → IsWholeUpdates loan a t u → IsWholeUpdates loan a new u
     whole_unchanged a unchanged whole = record {
       width = whole.width ∙ sym (ap (λ (d : FullDesk). nat_abs d.width) unchanged.desk);
       height = whole.height ∙ sym (ap (λ (d : FullDesk). nat_abs d.height) unchanged.desk);

@@ -1,13 +1,19 @@
 -- What the screen shows, whose its pixels are, and what painting the desk from nothing gives, with the menu in front that is
 -- pulled down.
-use Rattle.std.specs.Prelude.{◌≡◌, Bool, true, false, not, ◌&&◌, if◌then◌else◌, Option, None, Some}
+use Rattle.std.specs.Prelude.{◌≡◌, ℕ, Bool, true, false, not, ◌&&◌, if◌then◌else◌, List, Option, None, Some}
+use Rattle.std.specs.Option.{option_map_or}
 use Rattle.tb_geom.specs.declared.point.Point.{Point}
-use Rattle.tb_geom.specs.Points.{PixelSet}
+use Rattle.tb_geom.specs.Points.{PixelSet, plus}
 use Rattle.def_iface.specs.Desk.{on_screen}
 use Rattle.def_iface.specs.Owner.{Owner, own_bit, owner}
 use Rattle.def_iface.specs.Scratch.{scratch}
+use Rattle.desk_call.specs.declared.control.FoundControl.{FoundControl}
+use Rattle.desk_call.specs.declared.control.PointInWindow.{PointInWindow}
 use Rattle.menu_overlay.specs.Overlays.{Pulled, pulled_bit, shown_bit}
+use Rattle.window_mgr.specs.Finding.{record_with}
 use Rattle.window_mgr.specs.FullDesk.{layered_desk}
+use Rattle.control_mgr.specs.ControlDesks.{ControlRecord}
+use Rattle.control_mgr.specs.ControlSteps.{found_by}
 use Rattle.menu_mgr.specs.Pulling.{is_in, is_pulled_at, pulled_of}
 use Rattle.menu_mgr.specs.Pulling as menus
 use Rattle.desk_toolbox.specs.ToolboxStates.{ToolboxState, with_menus}
@@ -53,3 +59,15 @@ IsScreenRight s = (p : Point) → on_screen (layered_desk s.desk.windows.desk) p
 -- the whole screen shows it
 abbrev pub IsScreenAllRight : ToolboxState → Type 0
 IsScreenAllRight s = (p : Point) → on_screen (layered_desk s.desk.windows.desk) p ≡ true → screen_of s p ≡ screen_scratch s p
+
+-- what is found at a point of this window by the owner of the pixel there: the pulled menu is none of its controls
+abbrev pub found_by_owner : ScreenOwner → ℕ → List ControlRecord → Point → Option FoundControl
+found_by_owner PulledMenu s cs p = None
+found_by_owner (Base o) s cs p = found_by s cs o p
+
+-- so at a point of a window of the desk, where that is a pixel of the screen
+abbrev pub found_on_screen : ToolboxState → PointInWindow → Option FoundControl
+found_on_screen s asked = option_map_or
+    (λ w. let p = plus w.place asked.point in if on_screen (layered_desk s.desk.windows.desk) p
+    then found_by_owner (screen_owner s p) asked.window s.controls.controls asked.point else None)
+    (record_with asked.window s.desk.windows.desk.windows) None

@@ -5,27 +5,31 @@ use Rattle.def_iface.specs.News.{AllNews}
 use Rattle.def_iface.specs.MenuMeaning.{MenuGoesBy}
 use Rattle.event_queue.specs.Events.{is_posted}
 use Rattle.desk_call.specs.declared.activity.Activity.{Activity}
-use Rattle.desk_call.specs.declared.activity.Activity.TheVariants.{Idle, Updating, Tracking, Pulling}
+use Rattle.desk_call.specs.declared.activity.Activity.TheVariants.{Idle, Updating, Tracking, Pulling, TrackingControl}
 use Rattle.vis_update.specs.Records.{WindowRecord}
 use Rattle.window_mgr.specs.FullDesk.{IsRightState}
 use Rattle.window_mgr.specs.Refused.{is_missing}
 use Rattle.window_frame.specs.Followers.{AreInformed}
+use Rattle.control_mgr.specs.ControlClosing.{IsControlFull}
+use Rattle.control_mgr.specs.ControlDesks.{ShowsControls}
+use Rattle.control_mgr.specs.WholeControls.{AreWholeControls, IsTrackable}
 use Rattle.menu_list.specs.Lists.{has_number, is_in_bar}
 use Rattle.menu_mgr.specs.MenuDesks.{IsBarOf, MenuRecord, MenusState}
 use Rattle.desk_toolbox.specs.EventSteps.{first_events}
-use Rattle.desk_toolbox.specs.ToolboxStates.{ToolboxState}
+use Rattle.desk_toolbox.specs.ToolboxStates.{ToolboxState, with_controls}
 
 -- no window is meant, or one of these
 abbrev pub IsThere : Option ℕ → List WindowRecord → Type 0
 IsThere None windows = Unit {0}
 IsThere (Some s) windows = is_missing s windows ≡ false
 
--- the window whose update is open, or whose go-away box is tracked
+-- the window whose update is open, or of which the go-away box or a control is tracked
 abbrev pub open_window : Activity → Option ℕ
 open_window Idle = None
 open_window (Updating s) = Some s
 open_window (Tracking s) = Some s
 open_window (Pulling m) = None
+open_window (TrackingControl k) = Some k.control.window
 
 -- where the window's definition heard last that the go-away box is tracked, it is
 abbrev pub IsTrackedIfHeard : Activity → WindowRecord → Type 0
@@ -54,9 +58,15 @@ abbrev pub IsPulledThere : Activity → MenusState → Type 0
 IsPulledThere (Pulling m) menus = (is_in_bar (pos m.menu) menus.menus ≡ true) × (menus.highlighted ≡ Some m.menu)
 IsPulledThere _ menus = Unit {0}
 
+-- the controls of a state are whole beside its windows, which show them
+pub record AreControlsRight (s : ToolboxState) : Type 0 where
+  pub whole : AreWholeControls s.desk.windows.desk.windows s.controls
+  pub shown : ShowsControls (with_controls s)
+
 -- a right state, in which the active window, the one last told active and that of what is open are windows of the desk, and
 -- only events of kinds that are posted are queued. Each window's definition knows how the window stands, and none heard last
--- that a go-away box is tracked which is not. The menu bar has the titles of the menus that are inserted, and no two menus have
+-- that a go-away box is tracked which is not. Its controls are whole, the one that is tracked is there, and its windows show them.
+-- The menu bar has the titles of the menus that are inserted, and no two menus have
 -- one number. The menu that is pulled down is there, and each menu's definition goes by which of its items is highlighted.
 pub record IsConsistent (s : ToolboxState) : Type 0 where
   pub right : IsRightState s.desk.windows
@@ -66,17 +76,24 @@ pub record IsConsistent (s : ToolboxState) : Type 0 where
   pub queued : All (λ e. is_posted e.what ≡ true) s.events.queue.events
   pub informed : AreInformed s.desk.windows.desk.windows
   pub tracked : All (IsTrackedIfHeard s.desk.activity) s.desk.windows.desk.windows
+  pub controls : AreControlsRight s
+  pub trackable : IsTrackable s.desk.activity s.controls.controls
   pub bar : IsBarOf s.menus s.desk.windows.desk
   pub apart : AreApart s.menus.menus
   pub pulled : IsPulledThere s.desk.activity s.menus
   pub lit : All (IsLit s.desk.activity) s.menus.menus
 
--- a right state of a desk that just began: it has no windows and no menus, and nothing is open, told or queued
+-- a right state of a desk that just began: it has no windows, no controls and no menus, the stock of controls is full, and
+-- nothing is open, told or queued
 pub record IsJustBegun (s : ToolboxState) : Type 0 where
   pub right : IsRightState s.desk.windows
   pub windows : s.desk.windows.desk.windows ≡ []
   pub active : s.desk.windows.desk.active ≡ None
   pub idle : s.desk.activity ≡ Idle
+  pub controls : s.controls.controls ≡ []
+  pub next_control : s.controls.next ≡ Some 1
+  pub held : All IsControlFull s.controls.stock
+  pub shown : ShowsControls (with_controls s)
   pub titles : s.desk.windows.desk.bar.titles ≡ []
   pub menus : s.menus.menus ≡ []
   pub highlighted : s.menus.highlighted ≡ None

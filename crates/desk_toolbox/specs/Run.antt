@@ -1,19 +1,25 @@
 -- A step of whichever manager, and a run of steps.
-use Rattle.std.specs.Prelude.{◌≡◌, ℕ, Bool, true, false, List, [], ◌∷◌, ◌++◌, Option, None, Some, Result, Ok, Err}
-use Rattle.std.specs.Option.{unwrap_or}
+use Rattle.std.specs.Prelude.{◌≡◌, ℕ, Bool, true, false, ◌&&◌, List, [], ◌∷◌, ◌++◌, Option, None, Some, Result, Ok, Err}
+use Rattle.std.specs.Option.{option_map_or, unwrap_or}
 use Rattle.tb_geom.specs.declared.refusal.Refusal.{Refusal}
-use Rattle.tb_geom.specs.Points.{PixelSet}
+use Rattle.tb_geom.specs.Points.{PixelSet, plus}
+use Rattle.tb_geom.specs.Rects.{in_plane}
 use Rattle.tb_geom.specs.Refusals.{first_refusal}
 use Rattle.desk_call.specs.declared.call.Call.{Call}
-use Rattle.desk_call.specs.declared.call.Call.TheVariants.{Window, Update, Frame, Menu, Event}
+use Rattle.desk_call.specs.declared.call.Call.TheVariants.{Window, Update, Frame, Control, Menu, Event}
 use Rattle.desk_call.specs.declared.call.Reply.{Reply}
 use Rattle.desk_call.specs.declared.call.Reply.TheVariants as reply
+use Rattle.desk_call.specs.declared.control.ControlCall.{ControlCall}
+use Rattle.desk_call.specs.declared.control.ControlCall.TheVariants as controls
+use Rattle.desk_call.specs.declared.control.ControlReply.{ControlReply}
+use Rattle.desk_call.specs.declared.control.ControlReply.TheVariants as control_reply
+use Rattle.desk_call.specs.declared.control.PointInWindow.{PointInWindow}
 use Rattle.desk_call.specs.declared.event.EventCall.{EventCall}
 use Rattle.desk_call.specs.declared.event.EventReply.{EventReply}
 use Rattle.desk_call.specs.declared.frame.FrameReply.{FrameReply}
 use Rattle.desk_call.specs.declared.menu.MenuReply.{MenuReply}
 use Rattle.desk_call.specs.declared.window.WindowCall.{WindowCall}
-use Rattle.desk_call.specs.declared.window.WindowCall.TheVariants.{Find}
+use Rattle.desk_call.specs.declared.window.WindowCall.TheVariants.{Dispose, Find}
 use Rattle.desk_call.specs.declared.window.WindowReply.{WindowReply}
 use Rattle.desk_call.specs.declared.window.WindowReply.TheVariants.{Made, Found}
 use Rattle.desk_call.specs.declared.window.WindowPart.TheVariants.{InMenuBar}
@@ -21,17 +27,24 @@ use Rattle.desk_call.specs.Gates.{gate, standing_of, window_standing}
 use Rattle.window_list.specs.Lists.{serial_after}
 use Rattle.window_mgr.specs.Refused.{IsFormRefusal}
 use Rattle.window_mgr.specs.Step as windows
+use Rattle.window_mgr.specs.Finding.{record_with}
+use Rattle.window_mgr.specs.FullDesk.{FullState}
+use Rattle.window_mgr.specs.Records.{state_showing}
 use Rattle.window_mgr.specs.DeskStates.{DeskState, IsDeskUnchanged, SameActivity, narrowed}
 use Rattle.window_update.specs.UpdateRefusals.{IsUpdateForm}
 use Rattle.window_update.specs.UpdateSteps.{IsUpdateStep, IsToldOf}
 use Rattle.window_update.specs.Waiting.{IsFirstToUpdate}
 use Rattle.window_frame.specs.Followers.{IsCaughtUpBy}
 use Rattle.window_frame.specs.FrameSteps.{IsFrameStep}
+use Rattle.control_mgr.specs.ControlClosing.{IsWindowLeft}
+use Rattle.control_mgr.specs.ControlDesks.{ControlRecord, ControlsState, controls_show}
+use Rattle.control_mgr.specs.ControlRefusals.{control_form_refusals}
+use Rattle.control_mgr.specs.ControlSteps.{IsControlStep}
 use Rattle.menu_mgr.specs.MenuRefusals.{menu_form_refusals}
 use Rattle.menu_mgr.specs.MenuSteps.{IsMenuStep}
 use Rattle.desk_toolbox.specs.EventSteps.{event_step, events_left}
 use Rattle.desk_toolbox.specs.Fronts.{is_on_menu}
-use Rattle.desk_toolbox.specs.ToolboxStates.{ToolboxState, IsToolboxUnchanged, with_menus}
+use Rattle.desk_toolbox.specs.ToolboxStates.{ToolboxState, IsToolboxUnchanged, with_controls, with_menus}
 
 -- ---- one step
 
@@ -46,19 +59,30 @@ IsWindowAnswered call result before after = IsWindowAnswer (narrowed call before
 
 -- a call about events leaves the desk as it is, and its answer and the events that it leaves are those of its step
 abbrev pub IsEventAnswer : EventCall → Result EventReply Refusal → ToolboxState → ToolboxState → Type 0
-IsEventAnswer call result before after = IsDeskUnchanged before.desk after.desk × (after.menus ≡ before.menus)
+IsEventAnswer call result before after = IsDeskUnchanged before.desk after.desk × ((after.controls ≡ before.controls) × (after.menus ≡ before.menus))
     × ((update : Option ℕ) × IsFirstToUpdate before.desk update
     × ((result, after.events) ≡ event_step call before.desk.windows.desk.active update before.events))
 
+-- the controls of a window that was disposed of go with it, and all others stay
+abbrev pub AreControlsLeft : WindowCall → ControlsState → ControlsState → Type 0
+AreControlsLeft (Dispose s) before after = IsWindowLeft s before after
+AreControlsLeft _ before after = after ≡ before
+
+-- the windows, showing these controls
+abbrev pub shown_with : List ControlRecord → FullState → FullState
+shown_with cs s = state_showing (controls_show cs) s
+
 -- a call on windows that may come: once it was done, definitions are told how their windows stand, and a window that is gone
--- is forgotten
+-- is forgotten, with its controls
 abbrev pub IsWindowMade : WindowCall → Result WindowReply Refusal → ToolboxState → ToolboxState → Type 0
 IsWindowMade call (Ok answer) before after =
     ((middle : DeskState) × IsWindowAnswered call (Ok answer) before.desk middle
-    × (SameActivity middle after.desk × IsCaughtUpBy (window_standing call) middle.windows after.desk.windows))
+    × ((told : FullState) × SameActivity middle after.desk × IsCaughtUpBy (window_standing call) middle.windows told
+    × (after.desk.windows ≡ shown_with after.controls.controls told) × AreControlsLeft call before.controls after.controls))
     × ((after.events ≡ events_left call before.events) × (after.menus ≡ before.menus))
 IsWindowMade call (Err e) before after =
-    IsWindowAnswered call (Err e) before.desk after.desk × ((after.events ≡ before.events) × (after.menus ≡ before.menus))
+    IsWindowAnswered call (Err e) before.desk after.desk
+    × ((after.events ≡ before.events) × ((after.controls ≡ before.controls) × (after.menus ≡ before.menus)))
 
 -- FindWindow is asked for a point of the menu that is pulled down
 abbrev pub is_covered : WindowCall → ToolboxState → Bool
@@ -73,22 +97,42 @@ abbrev pub IsWindowTold : Bool → WindowCall → Result WindowReply Refusal →
 IsWindowTold false call result before after = IsWindowMade call result before after
 IsWindowTold true call result before after = (result ≡ Ok found_menu) × IsToolboxUnchanged before after
 
+-- FindControl is asked for a point of a window where the menu lies that is pulled down: it is none of its controls
+abbrev pub is_under_menu : ToolboxState → PointInWindow → Bool
+is_under_menu s p = in_plane p.point && option_map_or (λ w. is_on_menu s (plus w.place p.point)) (record_with p.window s.desk.windows.desk.windows) false
+
+abbrev pub is_hidden_by_menu : ControlCall → ToolboxState → Bool
+is_hidden_by_menu (controls.Find p) s = is_under_menu s p
+is_hidden_by_menu _ s = false
+
+-- a call about controls, where the pulled menu lies or not
+abbrev pub IsControlTold : Bool → ControlCall → Result ControlReply Refusal → ToolboxState → ToolboxState → Type 0
+IsControlTold false call result before after =
+    IsControlStep call result (with_controls before) (with_controls after) × ((after.events ≡ before.events) × (after.menus ≡ before.menus))
+IsControlTold true call result before after = (result ≡ Ok (control_reply.Found None)) × IsToolboxUnchanged before after
+
 -- the answer of a manager, as one of the Toolbox
 abbrev pub replied : {R : Type 0} → (R → Reply) → Result R Refusal → Result Reply Refusal
 replied reply_of (Ok answer) = Ok (reply_of answer)
 replied reply_of (Err e) = Err e
+
+-- nothing but the desk changed
+abbrev pub IsRestKept : ToolboxState → ToolboxState → Type 0
+IsRestKept before after = (after.events ≡ before.events) × ((after.controls ≡ before.controls) × (after.menus ≡ before.menus))
 
 -- a call that may come is a step of its manager, which answers it
 abbrev pub IsAdmitted : Call → Result Reply Refusal → ToolboxState → ToolboxState → Type 0
 IsAdmitted (Window call) result before after =
     (own : Result WindowReply Refusal) × (result ≡ replied reply.Window own) × IsWindowTold (is_covered call before) call own before after
 IsAdmitted (Update call) result before after =
-    (own : Result WindowReply Refusal) × (result ≡ replied reply.Window own) × (IsUpdateStep call own before.desk after.desk × ((after.events ≡ before.events) × (after.menus ≡ before.menus)))
+    (own : Result WindowReply Refusal) × (result ≡ replied reply.Window own) × (IsUpdateStep call own before.desk after.desk × IsRestKept before after)
 IsAdmitted (Frame call) result before after =
-    (own : Result FrameReply Refusal) × (result ≡ replied reply.Frame own) × (IsFrameStep call own before.desk after.desk × ((after.events ≡ before.events) × (after.menus ≡ before.menus)))
+    (own : Result FrameReply Refusal) × (result ≡ replied reply.Frame own) × (IsFrameStep call own before.desk after.desk × IsRestKept before after)
+IsAdmitted (Control call) result before after =
+    (own : Result ControlReply Refusal) × (result ≡ replied reply.Control own) × IsControlTold (is_hidden_by_menu call before) call own before after
 IsAdmitted (Menu call) result before after =
     (own : Result MenuReply Refusal) × (result ≡ replied reply.Menu own)
-    × (IsMenuStep call own (with_menus before) (with_menus after) × (after.events ≡ before.events))
+    × (IsMenuStep call own (with_menus before) (with_menus after) × ((after.events ≡ before.events) × (after.controls ≡ before.controls)))
 IsAdmitted (Event call) result before after =
     (own : Result EventReply Refusal) × (result ≡ replied reply.Event own) × IsEventAnswer call own before after
 
@@ -97,6 +141,7 @@ abbrev pub IsFormFault : Call → ToolboxState → Option Refusal → Type 0
 IsFormFault (Window call) before form = IsFormRefusal call before.desk.windows.desk form
 IsFormFault (Update call) before form = IsUpdateForm call form
 IsFormFault (Frame call) before form = form ≡ None
+IsFormFault (Control call) before form = form ≡ first_refusal (control_form_refusals call before.controls.stock)
 IsFormFault (Menu call) before form = form ≡ first_refusal (menu_form_refusals call before.menus.stock)
 IsFormFault (Event call) before form = form ≡ None
 
@@ -134,6 +179,7 @@ abbrev pub made : List (Result Reply Refusal) → List ℕ
 made [] = []
 made (Ok (reply.Window answer) ∷ answers) = serial_made answer ++ made answers
 made (Ok (reply.Frame answer) ∷ answers) = made answers
+made (Ok (reply.Control answer) ∷ answers) = made answers
 made (Ok (reply.Menu answer) ∷ answers) = made answers
 made (Ok (reply.Event answer) ∷ answers) = made answers
 made (Err e ∷ answers) = made answers
@@ -142,3 +188,18 @@ made (Err e ∷ answers) = made answers
 abbrev pub AreCounted : Option ℕ → List ℕ → Type 0
 AreCounted next [] = Unit {0}
 AreCounted next (n ∷ ns) = (next ≡ Some n) × AreCounted (serial_after n) ns
+
+-- the serial of the control that was made, if one was
+abbrev pub control_serial : ControlReply → List ℕ
+control_serial (control_reply.Made n) = n ∷ []
+control_serial _ = []
+
+-- the serials of the controls that were made
+abbrev pub controls_made : List (Result Reply Refusal) → List ℕ
+controls_made [] = []
+controls_made (Ok (reply.Window answer) ∷ answers) = controls_made answers
+controls_made (Ok (reply.Frame answer) ∷ answers) = controls_made answers
+controls_made (Ok (reply.Control answer) ∷ answers) = control_serial answer ++ controls_made answers
+controls_made (Ok (reply.Menu answer) ∷ answers) = controls_made answers
+controls_made (Ok (reply.Event answer) ∷ answers) = controls_made answers
+controls_made (Err e ∷ answers) = controls_made answers

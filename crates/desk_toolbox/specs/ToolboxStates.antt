@@ -1,12 +1,14 @@
 -- The state of a Toolbox.
 use Rattle.std.specs.Prelude.{◌≡◌}
 use Rattle.window_mgr.specs.DeskStates.{DeskState, IsDeskUnchanged}
+use Rattle.control_mgr.specs.ControlDesks.{ControlDesk, ControlsState}
 use Rattle.menu_mgr.specs.MenuDesks.{MenuDesk, MenusState}
 use Rattle.desk_toolbox.specs.declared.events.Events.{Events}
 
--- its desk, its menus, and what it keeps of events
+-- its desk, its controls, its menus, and what it keeps of events
 pub record ToolboxState : Type 0 where
   pub desk : DeskState
+  pub controls : ControlsState
   pub menus : MenusState
   pub events : Events
 
@@ -14,8 +16,13 @@ pub record ToolboxState : Type 0 where
 abbrev pub with_menus : ToolboxState → MenuDesk
 with_menus s = record { desk = s.desk; menus = s.menus }
 
+-- the desk with its controls
+abbrev pub with_controls : ToolboxState → ControlDesk
+with_controls s = record { desk = s.desk; controls = s.controls }
+
 -- nothing changed
 pub record IsToolboxUnchanged (before after : ToolboxState) : Type 0 where
   pub desk : IsDeskUnchanged before.desk after.desk
+  pub controls : after.controls ≡ before.controls
   pub menus : after.menus ≡ before.menus
   pub events : after.events ≡ before.events

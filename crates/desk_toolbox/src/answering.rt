@@ -1,35 +1,46 @@
 //! The answers to calls, each by its manager.
 ghost use Rattle.std.specs.Prelude.{◌≡◌, None, List};
 ghost use Rattle.def_iface.specs.Stocked.{SlotView};
-ghost use Rattle.desk_call.specs.Gates.{gate, standing_of, window_standing};
+ghost use Rattle.desk_call.specs.Gates.{control_standing, gate, standing_of, window_standing};
+ghost use Rattle.control_mgr.specs.ControlDesks.{ControlSlot};
+ghost use Rattle.control_mgr.specs.InUse.{AreStocked};
+ghost use Rattle.control_mgr.specs.WholeControls.{AreLiveControls, controls_state, records_of, slots_of};
 ghost use Rattle.menu_mgr.specs.MenuDesks.{MenuSlot};
-ghost use Rattle.desk_toolbox.specs.Run.{IsAdmitted, IsEventAnswer, IsFormFault, IsWindowAnswered, IsWindowMade, IsWindowTold, is_covered};
+ghost use Rattle.menu_mgr.specs.WholeMenus.{IsWholeMenus};
+ghost use Rattle.window_mgr.specs.Whole.{IsWholeManager};
+ghost use Rattle.window_update.specs.WholeUpdates.{IsWholeUpdates};
+ghost use Rattle.desk_toolbox.specs.Run.{AreControlsLeft, IsAdmitted, IsControlTold, IsEventAnswer, IsFormFault, IsWindowAnswered, IsWindowMade, IsWindowTold, is_covered, is_hidden_by_menu, is_under_menu};
 ghost use Rattle.desk_toolbox.specs.ToolboxStates.{ToolboxState};
 ghost use Rattle.desk_toolbox.specs.WholeToolbox.{IsKeptToolbox, IsWholeToolbox, toolbox_state};
 
 use crate::{
-    Call, EventCall, EventReply, Found, Reply, Toolbox, WindowCall, WindowPart, WindowReply,
+    Call, ControlCall, ControlReply, EventCall, EventReply, Found, PointInWindow, Reply, Toolbox,
+    WindowCall, WindowPart, WindowReply,
 };
-use def_iface::{Defined, DefinedMenu, MenuStock, Stock, Stocked, StockedMenus, Taken, TakenMenu};
+use control_mgr::Controls;
+use def_iface::{
+    ControlStock, Defined, DefinedControl, DefinedMenu, MenuStock, Stock, Stocked, StockedControls,
+    StockedMenus, Taken, TakenControl, TakenMenu,
+};
 use tb_geom::Refusal;
 use window_frame::follow;
+use window_list::picture_place;
 use window_mgr::form_refusal;
-use window_paint::NothingShown;
 use window_update::{first_to_update, update_form_refusal};
 
 impl Toolbox {
     /// Performs one call that may come.
     pub(crate) fn perform(&mut self, call: &Call<'_>, stock: &mut Stock) -> Result<Reply, Refusal>
-        requires whole { IsWholeToolbox ⟦<Taken as Defined>⟧.loan ⟦<TakenMenu as DefinedMenu>⟧.menu_loan self.old
-            (⟦<Stock as Stocked>⟧.slots stock.old) (⟦<MenuStock as StockedMenus>⟧.menu_slots stock.old.menus) }
+        requires whole { IsWholeToolbox ⟦<Taken as Defined>⟧.loan ⟦<TakenMenu as DefinedMenu>⟧.menu_loan ⟦<TakenControl as DefinedControl>⟧.control_loan self.old
+            (⟦<Stock as Stocked>⟧.slots stock.old) (⟦<MenuStock as StockedMenus>⟧.menu_slots stock.old.menus) (⟦<ControlStock as StockedControls>⟧.control_slots stock.old.controls) }
         requires admitted { gate self.old.activity (standing_of call.now) ≡ None }
-        ensures whole { IsWholeToolbox ⟦<Taken as Defined>⟧.loan ⟦<TakenMenu as DefinedMenu>⟧.menu_loan self.new
-            (⟦<Stock as Stocked>⟧.slots stock.new) (⟦<MenuStock as StockedMenus>⟧.menu_slots stock.new.menus) }
+        ensures whole { IsWholeToolbox ⟦<Taken as Defined>⟧.loan ⟦<TakenMenu as DefinedMenu>⟧.menu_loan ⟦<TakenControl as DefinedControl>⟧.control_loan self.new
+            (⟦<Stock as Stocked>⟧.slots stock.new) (⟦<MenuStock as StockedMenus>⟧.menu_slots stock.new.menus) (⟦<ControlStock as StockedControls>⟧.control_slots stock.new.controls) }
         ensures step { IsAdmitted call.now result
-            (toolbox_state ⟦<Taken as Defined>⟧.loan ⟦<TakenMenu as DefinedMenu>⟧.menu_loan self.old
-            (⟦<Stock as Stocked>⟧.slots stock.old) (⟦<MenuStock as StockedMenus>⟧.menu_slots stock.old.menus))
-            (toolbox_state ⟦<Taken as Defined>⟧.loan ⟦<TakenMenu as DefinedMenu>⟧.menu_loan self.new
-            (⟦<Stock as Stocked>⟧.slots stock.new) (⟦<MenuStock as StockedMenus>⟧.menu_slots stock.new.menus)) }
+            (toolbox_state ⟦<Taken as Defined>⟧.loan ⟦<TakenMenu as DefinedMenu>⟧.menu_loan ⟦<TakenControl as DefinedControl>⟧.control_loan self.old
+            (⟦<Stock as Stocked>⟧.slots stock.old) (⟦<MenuStock as StockedMenus>⟧.menu_slots stock.old.menus) (⟦<ControlStock as StockedControls>⟧.control_slots stock.old.controls))
+            (toolbox_state ⟦<Taken as Defined>⟧.loan ⟦<TakenMenu as DefinedMenu>⟧.menu_loan ⟦<TakenControl as DefinedControl>⟧.control_loan self.new
+            (⟦<Stock as Stocked>⟧.slots stock.new) (⟦<MenuStock as StockedMenus>⟧.menu_slots stock.new.menus) (⟦<ControlStock as StockedControls>⟧.control_slots stock.new.controls)) }
     {
         match call {
             Call::Window(call) => match self.tell_window(call, stock) {
@@ -37,10 +48,12 @@ impl Toolbox {
                 Err(refusal) => Err(refusal),
             },
             Call::Update(call) => {
-                match self
-                    .updates
-                    .perform(&mut self.windows, &mut self.activity, call, &NothingShown)
-                {
+                match self.updates.perform(
+                    &mut self.windows,
+                    &mut self.activity,
+                    call,
+                    &self.controls,
+                ) {
                     Ok(reply) => Ok(Reply::Window(reply)),
                     Err(refusal) => Err(refusal),
                 }
@@ -51,6 +64,10 @@ impl Toolbox {
                     Err(refusal) => Err(refusal),
                 }
             }
+            Call::Control(call) => match self.tell_control(call, stock) {
+                Ok(reply) => Ok(Reply::Control(reply)),
+                Err(refusal) => Err(refusal),
+            },
             Call::Menu(call) => {
                 match self.menus.perform(
                     &mut self.windows,
@@ -75,16 +92,16 @@ impl Toolbox {
         call: &WindowCall<'_>,
         stock: &mut Stock,
     ) -> Result<WindowReply, Refusal>
-        requires whole { IsWholeToolbox ⟦<Taken as Defined>⟧.loan ⟦<TakenMenu as DefinedMenu>⟧.menu_loan self.old
-            (⟦<Stock as Stocked>⟧.slots stock.old) (⟦<MenuStock as StockedMenus>⟧.menu_slots stock.old.menus) }
+        requires whole { IsWholeToolbox ⟦<Taken as Defined>⟧.loan ⟦<TakenMenu as DefinedMenu>⟧.menu_loan ⟦<TakenControl as DefinedControl>⟧.control_loan self.old
+            (⟦<Stock as Stocked>⟧.slots stock.old) (⟦<MenuStock as StockedMenus>⟧.menu_slots stock.old.menus) (⟦<ControlStock as StockedControls>⟧.control_slots stock.old.controls) }
         requires admitted { gate self.old.activity (window_standing call.now) ≡ None }
-        ensures whole { IsWholeToolbox ⟦<Taken as Defined>⟧.loan ⟦<TakenMenu as DefinedMenu>⟧.menu_loan self.new
-            (⟦<Stock as Stocked>⟧.slots stock.new) (⟦<MenuStock as StockedMenus>⟧.menu_slots stock.new.menus) }
-        ensures step { let before = toolbox_state ⟦<Taken as Defined>⟧.loan ⟦<TakenMenu as DefinedMenu>⟧.menu_loan self.old
-            (⟦<Stock as Stocked>⟧.slots stock.old) (⟦<MenuStock as StockedMenus>⟧.menu_slots stock.old.menus) in
+        ensures whole { IsWholeToolbox ⟦<Taken as Defined>⟧.loan ⟦<TakenMenu as DefinedMenu>⟧.menu_loan ⟦<TakenControl as DefinedControl>⟧.control_loan self.new
+            (⟦<Stock as Stocked>⟧.slots stock.new) (⟦<MenuStock as StockedMenus>⟧.menu_slots stock.new.menus) (⟦<ControlStock as StockedControls>⟧.control_slots stock.new.controls) }
+        ensures step { let before = toolbox_state ⟦<Taken as Defined>⟧.loan ⟦<TakenMenu as DefinedMenu>⟧.menu_loan ⟦<TakenControl as DefinedControl>⟧.control_loan self.old
+            (⟦<Stock as Stocked>⟧.slots stock.old) (⟦<MenuStock as StockedMenus>⟧.menu_slots stock.old.menus) (⟦<ControlStock as StockedControls>⟧.control_slots stock.old.controls) in
             IsWindowTold (is_covered call.now before) call.now result before
-            (toolbox_state ⟦<Taken as Defined>⟧.loan ⟦<TakenMenu as DefinedMenu>⟧.menu_loan self.new
-            (⟦<Stock as Stocked>⟧.slots stock.new) (⟦<MenuStock as StockedMenus>⟧.menu_slots stock.new.menus)) }
+            (toolbox_state ⟦<Taken as Defined>⟧.loan ⟦<TakenMenu as DefinedMenu>⟧.menu_loan ⟦<TakenControl as DefinedControl>⟧.control_loan self.new
+            (⟦<Stock as Stocked>⟧.slots stock.new) (⟦<MenuStock as StockedMenus>⟧.menu_slots stock.new.menus) (⟦<ControlStock as StockedControls>⟧.control_slots stock.new.controls)) }
     {
         if self.is_covered(call) {
             return Ok(WindowReply::Found(Found {
@@ -97,9 +114,9 @@ impl Toolbox {
 
     /// Whether a call asks whose a point of the pulled menu is.
     fn is_covered(&self, call: &WindowCall<'_>) -> bool
-        requires { IsKeptToolbox ⟦<Taken as Defined>⟧.loan ⟦<TakenMenu as DefinedMenu>⟧.menu_loan self.now }
-        ensures { (slots : List SlotView) (kept : List MenuSlot) → result
-            ≡ is_covered call.now (toolbox_state ⟦<Taken as Defined>⟧.loan ⟦<TakenMenu as DefinedMenu>⟧.menu_loan self.now slots kept) }
+        requires { IsKeptToolbox ⟦<Taken as Defined>⟧.loan ⟦<TakenMenu as DefinedMenu>⟧.menu_loan ⟦<TakenControl as DefinedControl>⟧.control_loan self.now }
+        ensures { (slots : List SlotView) (kept : List MenuSlot) (held : List ControlSlot) → result
+            ≡ is_covered call.now (toolbox_state ⟦<Taken as Defined>⟧.loan ⟦<TakenMenu as DefinedMenu>⟧.menu_loan ⟦<TakenControl as DefinedControl>⟧.control_loan self.now slots kept held) }
     {
         match call {
             WindowCall::Find(point) => self.menus.has_point(&self.windows, self.activity, *point),
@@ -114,24 +131,84 @@ impl Toolbox {
         call: &WindowCall<'_>,
         stock: &mut Stock,
     ) -> Result<WindowReply, Refusal>
-        requires whole { IsWholeToolbox ⟦<Taken as Defined>⟧.loan ⟦<TakenMenu as DefinedMenu>⟧.menu_loan self.old
-            (⟦<Stock as Stocked>⟧.slots stock.old) (⟦<MenuStock as StockedMenus>⟧.menu_slots stock.old.menus) }
+        requires whole { IsWholeToolbox ⟦<Taken as Defined>⟧.loan ⟦<TakenMenu as DefinedMenu>⟧.menu_loan ⟦<TakenControl as DefinedControl>⟧.control_loan self.old
+            (⟦<Stock as Stocked>⟧.slots stock.old) (⟦<MenuStock as StockedMenus>⟧.menu_slots stock.old.menus) (⟦<ControlStock as StockedControls>⟧.control_slots stock.old.controls) }
         requires admitted { gate self.old.activity (window_standing call.now) ≡ None }
-        ensures whole { IsWholeToolbox ⟦<Taken as Defined>⟧.loan ⟦<TakenMenu as DefinedMenu>⟧.menu_loan self.new
-            (⟦<Stock as Stocked>⟧.slots stock.new) (⟦<MenuStock as StockedMenus>⟧.menu_slots stock.new.menus) }
+        ensures whole { IsWholeToolbox ⟦<Taken as Defined>⟧.loan ⟦<TakenMenu as DefinedMenu>⟧.menu_loan ⟦<TakenControl as DefinedControl>⟧.control_loan self.new
+            (⟦<Stock as Stocked>⟧.slots stock.new) (⟦<MenuStock as StockedMenus>⟧.menu_slots stock.new.menus) (⟦<ControlStock as StockedControls>⟧.control_slots stock.new.controls) }
         ensures step { IsWindowMade call.now result
-            (toolbox_state ⟦<Taken as Defined>⟧.loan ⟦<TakenMenu as DefinedMenu>⟧.menu_loan self.old
-            (⟦<Stock as Stocked>⟧.slots stock.old) (⟦<MenuStock as StockedMenus>⟧.menu_slots stock.old.menus))
-            (toolbox_state ⟦<Taken as Defined>⟧.loan ⟦<TakenMenu as DefinedMenu>⟧.menu_loan self.new
-            (⟦<Stock as Stocked>⟧.slots stock.new) (⟦<MenuStock as StockedMenus>⟧.menu_slots stock.new.menus)) }
+            (toolbox_state ⟦<Taken as Defined>⟧.loan ⟦<TakenMenu as DefinedMenu>⟧.menu_loan ⟦<TakenControl as DefinedControl>⟧.control_loan self.old
+            (⟦<Stock as Stocked>⟧.slots stock.old) (⟦<MenuStock as StockedMenus>⟧.menu_slots stock.old.menus) (⟦<ControlStock as StockedControls>⟧.control_slots stock.old.controls))
+            (toolbox_state ⟦<Taken as Defined>⟧.loan ⟦<TakenMenu as DefinedMenu>⟧.menu_loan ⟦<TakenControl as DefinedControl>⟧.control_loan self.new
+            (⟦<Stock as Stocked>⟧.slots stock.new) (⟦<MenuStock as StockedMenus>⟧.menu_slots stock.new.menus) (⟦<ControlStock as StockedControls>⟧.control_slots stock.new.controls)) }
     {
         match self.answer_window(call, stock) {
             Ok(reply) => {
                 follow(&mut self.windows, call);
                 self.events.follow(call);
+                forget_controls(&mut self.controls, call, &mut stock.controls);
                 Ok(reply)
             }
             Err(refusal) => Err(refusal),
+        }
+    }
+
+    /// Answers a call about controls: whose a point of the pulled menu is, the menus tell, and all else is performed.
+    fn tell_control(
+        &mut self,
+        call: &ControlCall<'_>,
+        stock: &mut Stock,
+    ) -> Result<ControlReply, Refusal>
+        requires whole { IsWholeToolbox ⟦<Taken as Defined>⟧.loan ⟦<TakenMenu as DefinedMenu>⟧.menu_loan ⟦<TakenControl as DefinedControl>⟧.control_loan self.old
+            (⟦<Stock as Stocked>⟧.slots stock.old) (⟦<MenuStock as StockedMenus>⟧.menu_slots stock.old.menus) (⟦<ControlStock as StockedControls>⟧.control_slots stock.old.controls) }
+        requires admitted { gate self.old.activity (control_standing call.now) ≡ None }
+        ensures whole { IsWholeToolbox ⟦<Taken as Defined>⟧.loan ⟦<TakenMenu as DefinedMenu>⟧.menu_loan ⟦<TakenControl as DefinedControl>⟧.control_loan self.new
+            (⟦<Stock as Stocked>⟧.slots stock.new) (⟦<MenuStock as StockedMenus>⟧.menu_slots stock.new.menus) (⟦<ControlStock as StockedControls>⟧.control_slots stock.new.controls) }
+        ensures step { let before = toolbox_state ⟦<Taken as Defined>⟧.loan ⟦<TakenMenu as DefinedMenu>⟧.menu_loan ⟦<TakenControl as DefinedControl>⟧.control_loan self.old
+            (⟦<Stock as Stocked>⟧.slots stock.old) (⟦<MenuStock as StockedMenus>⟧.menu_slots stock.old.menus) (⟦<ControlStock as StockedControls>⟧.control_slots stock.old.controls) in
+            IsControlTold (is_hidden_by_menu call.now before) call.now result before
+            (toolbox_state ⟦<Taken as Defined>⟧.loan ⟦<TakenMenu as DefinedMenu>⟧.menu_loan ⟦<TakenControl as DefinedControl>⟧.control_loan self.new
+            (⟦<Stock as Stocked>⟧.slots stock.new) (⟦<MenuStock as StockedMenus>⟧.menu_slots stock.new.menus) (⟦<ControlStock as StockedControls>⟧.control_slots stock.new.controls)) }
+    {
+        if self.is_hidden_by_menu(call) {
+            return Ok(ControlReply::Found(None));
+        }
+        self.controls.perform(
+            &mut self.windows,
+            &mut self.activity,
+            call,
+            &mut stock.controls,
+        )
+    }
+
+    /// Whether a call asks for a control at a point of the pulled menu.
+    fn is_hidden_by_menu(&self, call: &ControlCall<'_>) -> bool
+        requires { IsKeptToolbox ⟦<Taken as Defined>⟧.loan ⟦<TakenMenu as DefinedMenu>⟧.menu_loan ⟦<TakenControl as DefinedControl>⟧.control_loan self.now }
+        ensures { (slots : List SlotView) (kept : List MenuSlot) (held : List ControlSlot) → result
+            ≡ is_hidden_by_menu call.now (toolbox_state ⟦<Taken as Defined>⟧.loan ⟦<TakenMenu as DefinedMenu>⟧.menu_loan ⟦<TakenControl as DefinedControl>⟧.control_loan self.now slots kept held) }
+    {
+        match call {
+            ControlCall::Find(asked) => self.is_under_menu(*asked),
+            _ => false,
+        }
+    }
+
+    /// Whether a point of a window lies where the menu does that is pulled down.
+    fn is_under_menu(&self, asked: PointInWindow) -> bool
+        requires { IsKeptToolbox ⟦<Taken as Defined>⟧.loan ⟦<TakenMenu as DefinedMenu>⟧.menu_loan ⟦<TakenControl as DefinedControl>⟧.control_loan self.now }
+        ensures { (slots : List SlotView) (kept : List MenuSlot) (held : List ControlSlot) → result
+            ≡ is_under_menu (toolbox_state ⟦<Taken as Defined>⟧.loan ⟦<TakenMenu as DefinedMenu>⟧.menu_loan ⟦<TakenControl as DefinedControl>⟧.control_loan self.now slots kept held) asked }
+    {
+        if !asked.point.is_in_range() {
+            return false;
+        }
+        match self.windows.find(asked.window) {
+            Some(at) => {
+                let place = self.windows.list().at(at).place;
+                let pixel = picture_place(place, asked.point);
+                self.menus.has_point(&self.windows, self.activity, pixel)
+            }
+            None => false,
         }
     }
 
@@ -141,19 +218,23 @@ impl Toolbox {
         call: &WindowCall<'_>,
         stock: &mut Stock,
     ) -> Result<WindowReply, Refusal>
-        requires whole { IsWholeToolbox ⟦<Taken as Defined>⟧.loan ⟦<TakenMenu as DefinedMenu>⟧.menu_loan self.old
-            (⟦<Stock as Stocked>⟧.slots stock.old) (⟦<MenuStock as StockedMenus>⟧.menu_slots stock.old.menus) }
+        requires whole { IsWholeToolbox ⟦<Taken as Defined>⟧.loan ⟦<TakenMenu as DefinedMenu>⟧.menu_loan ⟦<TakenControl as DefinedControl>⟧.control_loan self.old
+            (⟦<Stock as Stocked>⟧.slots stock.old) (⟦<MenuStock as StockedMenus>⟧.menu_slots stock.old.menus) (⟦<ControlStock as StockedControls>⟧.control_slots stock.old.controls) }
         requires admitted { gate self.old.activity (window_standing call.now) ≡ None }
-        ensures whole { IsWholeToolbox ⟦<Taken as Defined>⟧.loan ⟦<TakenMenu as DefinedMenu>⟧.menu_loan self.new
-            (⟦<Stock as Stocked>⟧.slots stock.new) (⟦<MenuStock as StockedMenus>⟧.menu_slots stock.new.menus) }
+        ensures windows { IsWholeManager ⟦<Taken as Defined>⟧.loan self.new.windows (⟦<Stock as Stocked>⟧.slots stock.new) }
+        ensures updates { IsWholeUpdates ⟦<Taken as Defined>⟧.loan self.new.activity self.new.windows self.new.updates }
+        ensures menus_whole { IsWholeMenus ⟦<TakenMenu as DefinedMenu>⟧.menu_loan self.new.windows self.new.activity self.new.menus
+            (⟦<MenuStock as StockedMenus>⟧.menu_slots stock.new.menus) }
         ensures step { IsWindowAnswered call.now result
-            (toolbox_state ⟦<Taken as Defined>⟧.loan ⟦<TakenMenu as DefinedMenu>⟧.menu_loan self.old
-            (⟦<Stock as Stocked>⟧.slots stock.old) (⟦<MenuStock as StockedMenus>⟧.menu_slots stock.old.menus)).desk
-            (toolbox_state ⟦<Taken as Defined>⟧.loan ⟦<TakenMenu as DefinedMenu>⟧.menu_loan self.new
-            (⟦<Stock as Stocked>⟧.slots stock.new) (⟦<MenuStock as StockedMenus>⟧.menu_slots stock.new.menus)).desk }
+            (toolbox_state ⟦<Taken as Defined>⟧.loan ⟦<TakenMenu as DefinedMenu>⟧.menu_loan ⟦<TakenControl as DefinedControl>⟧.control_loan self.old
+            (⟦<Stock as Stocked>⟧.slots stock.old) (⟦<MenuStock as StockedMenus>⟧.menu_slots stock.old.menus) (⟦<ControlStock as StockedControls>⟧.control_slots stock.old.controls)).desk
+            (toolbox_state ⟦<Taken as Defined>⟧.loan ⟦<TakenMenu as DefinedMenu>⟧.menu_loan ⟦<TakenControl as DefinedControl>⟧.control_loan self.new
+            (⟦<Stock as Stocked>⟧.slots stock.new) (⟦<MenuStock as StockedMenus>⟧.menu_slots stock.new.menus) (⟦<ControlStock as StockedControls>⟧.control_slots stock.new.controls)).desk }
         ensures activity { self.new.activity ≡ self.old.activity }
         ensures events { self.new.events ≡ self.old.events }
         ensures menus { self.new.menus ≡ self.old.menus }
+        ensures controls { self.new.controls ≡ self.old.controls }
+        ensures control_stock { ⟦<ControlStock as StockedControls>⟧.control_slots stock.new.controls ≡ ⟦<ControlStock as StockedControls>⟧.control_slots stock.old.controls }
         ensures menu_stock { ⟦<MenuStock as StockedMenus>⟧.menu_slots stock.new.menus ≡ ⟦<MenuStock as StockedMenus>⟧.menu_slots stock.old.menus }
     {
         match self.updates.tell(self.activity, call) {
@@ -164,13 +245,13 @@ impl Toolbox {
 
     /// Answers a call about events.
     fn answer_event(&mut self, call: EventCall) -> Result<EventReply, Refusal>
-        requires { IsKeptToolbox ⟦<Taken as Defined>⟧.loan ⟦<TakenMenu as DefinedMenu>⟧.menu_loan self.old }
-        ensures whole { (slots : List SlotView) (kept : List MenuSlot)
-            → IsWholeToolbox ⟦<Taken as Defined>⟧.loan ⟦<TakenMenu as DefinedMenu>⟧.menu_loan self.old slots kept
-            → IsWholeToolbox ⟦<Taken as Defined>⟧.loan ⟦<TakenMenu as DefinedMenu>⟧.menu_loan self.new slots kept }
-        ensures step { (slots : List SlotView) (kept : List MenuSlot) → IsEventAnswer call result
-            (toolbox_state ⟦<Taken as Defined>⟧.loan ⟦<TakenMenu as DefinedMenu>⟧.menu_loan self.old slots kept)
-            (toolbox_state ⟦<Taken as Defined>⟧.loan ⟦<TakenMenu as DefinedMenu>⟧.menu_loan self.new slots kept) }
+        requires { IsKeptToolbox ⟦<Taken as Defined>⟧.loan ⟦<TakenMenu as DefinedMenu>⟧.menu_loan ⟦<TakenControl as DefinedControl>⟧.control_loan self.old }
+        ensures whole { (slots : List SlotView) (kept : List MenuSlot) (held : List ControlSlot)
+            → IsWholeToolbox ⟦<Taken as Defined>⟧.loan ⟦<TakenMenu as DefinedMenu>⟧.menu_loan ⟦<TakenControl as DefinedControl>⟧.control_loan self.old slots kept held
+            → IsWholeToolbox ⟦<Taken as Defined>⟧.loan ⟦<TakenMenu as DefinedMenu>⟧.menu_loan ⟦<TakenControl as DefinedControl>⟧.control_loan self.new slots kept held }
+        ensures step { (slots : List SlotView) (kept : List MenuSlot) (held : List ControlSlot) → IsEventAnswer call result
+            (toolbox_state ⟦<Taken as Defined>⟧.loan ⟦<TakenMenu as DefinedMenu>⟧.menu_loan ⟦<TakenControl as DefinedControl>⟧.control_loan self.old slots kept held)
+            (toolbox_state ⟦<Taken as Defined>⟧.loan ⟦<TakenMenu as DefinedMenu>⟧.menu_loan ⟦<TakenControl as DefinedControl>⟧.control_loan self.new slots kept held) }
     {
         let active = self.windows.list().active();
         let update = first_to_update(&self.windows, self.activity);
@@ -178,14 +259,34 @@ impl Toolbox {
     }
 }
 
+/// The controls of a window that was disposed of go with it.
+fn forget_controls(
+    controls: &mut Controls<TakenControl>,
+    call: &WindowCall<'_>,
+    stock: &mut ControlStock,
+)
+    requires live { AreLiveControls (records_of ⟦<TakenControl as DefinedControl>⟧.control_loan controls.old) }
+    requires stocked { AreStocked (λ d. d.stage) (slots_of (records_of ⟦<TakenControl as DefinedControl>⟧.control_loan controls.old))
+        (⟦<ControlStock as StockedControls>⟧.control_slots stock.old) }
+    ensures { AreControlsLeft call.now
+        (controls_state ⟦<TakenControl as DefinedControl>⟧.control_loan controls.old (⟦<ControlStock as StockedControls>⟧.control_slots stock.old))
+        (controls_state ⟦<TakenControl as DefinedControl>⟧.control_loan controls.new (⟦<ControlStock as StockedControls>⟧.control_slots stock.new)) }
+{
+    if let WindowCall::Dispose(window) = call {
+        controls.end_of(*window, stock);
+    }
+}
+
 /// Why a call is refused for its names and bytes alone, whatever is open.
 pub(crate) fn form_refusal_of(call: &Call<'_>, stock: &Stock) -> Option<Refusal>
     ensures { (before : ToolboxState) → before.desk.windows.desk.stock ≡ ⟦<Stock as Stocked>⟧.slots stock.now
-        → before.menus.stock ≡ ⟦<MenuStock as StockedMenus>⟧.menu_slots stock.now.menus → IsFormFault call.now before result }
+        → before.menus.stock ≡ ⟦<MenuStock as StockedMenus>⟧.menu_slots stock.now.menus
+        → before.controls.stock ≡ ⟦<ControlStock as StockedControls>⟧.control_slots stock.now.controls → IsFormFault call.now before result }
 {
     match call {
         Call::Window(call) => form_refusal(call, &stock.windows),
         Call::Update(call) => update_form_refusal(call),
+        Call::Control(call) => control_mgr::form_refusal(call, &stock.controls),
         Call::Menu(call) => menu_mgr::form_refusal(call, &stock.menus),
         Call::Frame(_) | Call::Event(_) => None,
     }

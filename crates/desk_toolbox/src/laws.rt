@@ -5,6 +5,7 @@ ghost use Rattle.std.specs.Option.{option_map};
 ghost use Rattle.tb_geom.specs.declared.point.Point.{Point};
 ghost use Rattle.tb_geom.specs.declared.refusal.Refusal.{Refusal};
 ghost use Rattle.def_iface.specs.Desk.{IsDesk};
+ghost use Rattle.def_iface.specs.ControlMeaning.{ControlGoesBy};
 ghost use Rattle.def_iface.specs.Meaning.{GoesBy};
 ghost use Rattle.def_iface.specs.Owner.{is_content, owner, own_bit};
 ghost use Rattle.def_iface.specs.Scratch.{scratch};
@@ -12,7 +13,15 @@ ghost use Rattle.vis_update.specs.Records.{WindowRecord};
 ghost use Rattle.window_mgr.specs.FullDesk.{FullDesk, IsRightState, layered_desk};
 ghost use Rattle.window_mgr.specs.Finding.{front_of};
 ghost use Rattle.tb_geom.specs.declared.refusal.Refusal.TheVariants.{Busy, NoSuchMenu, NoSuchWindow, StalePixels, TooLong};
+ghost use Rattle.tb_geom.specs.Rects.{in_plane};
 ghost use Rattle.tb_geom.specs.Refusals.{first_refusal, is_before};
+ghost use Rattle.desk_call.specs.declared.control.ControlCall.{ControlCall};
+ghost use Rattle.desk_call.specs.declared.control.ControlCall.TheVariants as controls;
+ghost use Rattle.desk_call.specs.declared.control.ControlReply.TheVariants as control_reply;
+ghost use Rattle.desk_call.specs.declared.control.NewControl.{NewControl};
+ghost use Rattle.desk_call.specs.declared.control.PointInWindow.{PointInWindow};
+ghost use Rattle.control_mgr.specs.ControlDesks.{ControlSlot, ControlsState, news_of_control};
+ghost use Rattle.control_mgr.specs.ControlRefusals.{control_form_refusals, control_refusals};
 ghost use Rattle.desk_call.specs.declared.frame.FrameCall.{FrameCall};
 ghost use Rattle.desk_call.specs.declared.menu.MenuCall.{MenuCall};
 ghost use Rattle.desk_call.specs.declared.menu.MenuCall.TheVariants as asks;
@@ -24,7 +33,7 @@ ghost use Rattle.desk_call.specs.declared.window.ScrollPicture.{ScrollPicture};
 ghost use Rattle.desk_call.specs.declared.window.SendBehind.{SendBehind};
 ghost use Rattle.desk_call.specs.declared.window.SizeWindow.{SizeWindow};
 ghost use Rattle.desk_call.specs.declared.window.ZoomWindow.{ZoomWindow};
-ghost use Rattle.window_mgr.specs.Refused.{new_window_refusals, kind_refusals, form_refusals, draw_refusals, picture_refusals, scroll_refusals, behind_refusals, move_refusals, size_refusals, zoom_refusals};
+ghost use Rattle.window_mgr.specs.Refused.{is_missing, new_window_refusals, kind_refusals, form_refusals, draw_refusals, picture_refusals, scroll_refusals, behind_refusals, move_refusals, size_refusals, zoom_refusals};
 ghost use Rattle.window_update.specs.UpdateRefusals.{area_refusals};
 ghost use Rattle.window_frame.specs.FrameRefusals.{frame_refusals};
 ghost use Rattle.menu_mgr.specs.MenuDesks.{MenuSlot, MenusState};
@@ -33,19 +42,19 @@ ghost use Rattle.desk_toolbox.specs.Ordered.{AreInOrder};
 ghost use Rattle.window_mgr.specs.Whole.{IsSoundDesk};
 ghost use Rattle.event_queue.specs.History.{told_of, Alternates, is_told_active};
 ghost use Rattle.desk_call.specs.declared.call.Call.{Call};
-ghost use Rattle.desk_call.specs.declared.call.Call.TheVariants.{Menu, Window};
+ghost use Rattle.desk_call.specs.declared.call.Call.TheVariants.{Control, Menu, Window};
 ghost use Rattle.desk_call.specs.declared.call.Reply.TheVariants as reply;
 ghost use Rattle.desk_call.specs.declared.window.WindowCall.TheVariants.{Find};
 ghost use Rattle.desk_call.specs.declared.call.Reply.{Reply};
 ghost use Rattle.window_update.specs.Served.{AreAllServed, IsAllRight};
 ghost use Rattle.window_frame.specs.Followers.{AreInformed};
 ghost use Rattle.desk_toolbox.specs.Activations.{activate_events_told, IsNeverDisposed};
-ghost use Rattle.desk_toolbox.specs.Reached.{IsConsistent, IsJustBegun, news_by_record};
+ghost use Rattle.desk_toolbox.specs.Reached.{AreControlsRight, IsConsistent, IsJustBegun, news_by_record};
 ghost use Rattle.def_iface.specs.Desk.{on_screen};
-ghost use Rattle.desk_toolbox.specs.Fronts.{IsScreenAllRight, IsScreenRight, is_on_menu, screen_bit, screen_of, screen_owner, screen_scratch};
+ghost use Rattle.desk_toolbox.specs.Fronts.{IsScreenAllRight, IsScreenRight, found_on_screen, is_on_menu, screen_bit, screen_of, screen_owner, screen_scratch};
 ghost use Rattle.desk_toolbox.specs.Fronts.ScreenOwner.{PulledMenu, Base};
 ghost use Rattle.desk_toolbox.specs.ToolboxStates.{ToolboxState, IsToolboxUnchanged};
-ghost use Rattle.desk_toolbox.specs.Run.{IsStep, IsRunOfCalls, found_menu, made, AreCounted};
+ghost use Rattle.desk_toolbox.specs.Run.{IsStep, IsRunOfCalls, controls_made, found_menu, made, AreCounted};
 
 /// Painting the desk from nothing, back to front, gives each pixel the value of its owner.
 #[tactic(auto, using(crate::proofs::Sayings::scratch_is_owners_on))]
@@ -69,7 +78,7 @@ pub fn a_refusal_is_the_first_that_holds()
 {}
 
 /// The reasons to refuse each call stand in the written order.
-#[tactic(auto, using(crate::proofs::Ordering::frame_reasons_in_order, crate::proofs::Ordering::menu_reasons_in_order))]
+#[tactic(auto, using(crate::proofs::Ordering::frame_reasons_in_order, crate::proofs::Ordering::control_reasons_in_order, crate::proofs::Ordering::menu_reasons_in_order))]
 pub fn reasons_stand_in_the_written_order()
     ensures new_window { (w : NewWindow) (desk : FullDesk) → AreInOrder (new_window_refusals w desk) }
     ensures draw { (judged : Option Refusal) (window : Option WindowRecord) → AreInOrder (draw_refusals judged window) }
@@ -83,6 +92,9 @@ pub fn reasons_stand_in_the_written_order()
     ensures area { (judged : Option Refusal) (missing wrong : Bool)
         → AreInOrder (area_refusals judged missing ++ (wrong, StalePixels) ∷ []) }
     ensures frame { (call : FrameCall) (desk : FullDesk) → AreInOrder (frame_refusals call desk) }
+    ensures control { (call : ControlCall) (desk : FullDesk) (s : ControlsState) → AreInOrder (control_refusals call desk s) }
+    ensures control_form { (n : NewControl) (slots : List ControlSlot) (busy missing : Bool)
+        → AreInOrder (control_form_refusals (controls.New n) slots ++ (busy, Busy) ∷ (missing, NoSuchWindow) ∷ []) }
     ensures menu { (call : MenuCall) (menus : MenusState) → AreInOrder (menu_refusals call menus) }
     ensures menu_form { (n : NewMenu) (slots : List MenuSlot) (busy missing : Bool)
         → AreInOrder (menu_form_refusals (asks.New n) slots ++ (busy, Busy) ∷ (missing, NoSuchMenu) ∷ []) }
@@ -98,22 +110,27 @@ pub fn what_is_told_comes_first_in_the_order()
         → All (λ r. r.0 ≡ true → is_before e r.1 ≡ true) reasons }
 {}
 
-/// Whatever a call does, the stock has the same slots, for the same kinds: those of windows, and those of menus.
-#[tactic(auto, using(crate::proofs::Runs::step_keeps_kinds, crate::proofs::MenuKinds::step_keeps_menu_kinds))]
+/// Whatever a call does, the stock has the same slots, for the same kinds: those of windows, of controls and of menus.
+#[tactic(auto, using(crate::proofs::Runs::step_keeps_kinds, crate::proofs::ControlKinds::step_keeps_control_kinds, crate::proofs::MenuKinds::step_keeps_menu_kinds))]
 pub fn steps_keep_the_kinds()
     ensures windows { (call : Call) (answer : Result Reply Refusal) (before after : ToolboxState)
         → IsStep call answer before after
         → map (λ slot. slot.kind) after.desk.windows.desk.stock ≡ map (λ slot. slot.kind) before.desk.windows.desk.stock }
+    ensures controls { (call : Call) (answer : Result Reply Refusal) (before after : ToolboxState)
+        → IsStep call answer before after
+        → map (λ slot. slot.kind) after.controls.stock ≡ map (λ slot. slot.kind) before.controls.stock }
     ensures menus { (call : Call) (answer : Result Reply Refusal) (before after : ToolboxState)
         → IsStep call answer before after
         → map (λ slot. slot.kind) after.menus.stock ≡ map (λ slot. slot.kind) before.menus.stock }
 {}
 
-/// A step keeps a right state right.
-#[tactic(auto, using(crate::proofs::Runs::step_stays_right))]
+/// A step keeps a right state right, whose controls are whole and shown, and these so.
+#[tactic(auto, using(crate::proofs::Runs::step_is_right, crate::proofs::Runs::step_controls_are_right))]
 pub fn steps_stay_right()
-    ensures { (call : Call) (answer : Result Reply Refusal) (before after : ToolboxState)
-        → IsRightState before.desk.windows → IsStep call answer before after → IsRightState after.desk.windows }
+    ensures right { (call : Call) (answer : Result Reply Refusal) (before after : ToolboxState)
+        → IsRightState before.desk.windows → AreControlsRight before → IsStep call answer before after → IsRightState after.desk.windows }
+    ensures controls { (call : Call) (answer : Result Reply Refusal) (before after : ToolboxState)
+        → IsRightState before.desk.windows → AreControlsRight before → IsStep call answer before after → AreControlsRight after }
 {}
 
 /// The windows that a run makes have serials that follow each other: none is used again.
@@ -123,12 +140,21 @@ pub fn windows_are_counted()
         → IsRunOfCalls first calls answers last → AreCounted first.desk.windows.desk.next (made answers) }
 {}
 
-/// After any run from a right state each pixel of the screen in no update set has the value that
-/// painting the desk from nothing gives.
-#[tactic(auto, using(crate::proofs::Runs::run_stays_right))]
-pub fn runs_stay_right()
+/// So have the controls that a run makes, in whichever windows.
+#[tactic(auto, using(crate::proofs::ControlNumbers::controls_are_counted))]
+pub fn controls_are_counted()
     ensures { (first last : ToolboxState) (calls : List Call) (answers : List (Result Reply Refusal))
-        → IsRightState first.desk.windows → IsRunOfCalls first calls answers last → IsRightState last.desk.windows }
+        → IsRunOfCalls first calls answers last → AreCounted first.controls.next (controls_made answers) }
+{}
+
+/// After any run from a right state each pixel of the screen in no update set has the value that
+/// painting the desk from nothing gives, and the controls are whole and shown.
+#[tactic(auto, using(crate::proofs::Runs::run_is_right, crate::proofs::Runs::run_controls_are_right))]
+pub fn runs_stay_right()
+    ensures right { (first last : ToolboxState) (calls : List Call) (answers : List (Result Reply Refusal))
+        → IsRightState first.desk.windows → AreControlsRight first → IsRunOfCalls first calls answers last → IsRightState last.desk.windows }
+    ensures controls { (first last : ToolboxState) (calls : List Call) (answers : List (Result Reply Refusal))
+        → IsRightState first.desk.windows → AreControlsRight first → IsRunOfCalls first calls answers last → AreControlsRight last }
 {}
 
 /// After any run from a right state that leaves no pixel in any window's update region, the whole screen shows what
@@ -136,7 +162,7 @@ pub fn runs_stay_right()
 #[tactic(auto, using(crate::proofs::Runs::served_run_is_all_right))]
 pub fn runs_that_leave_every_update_served_are_all_right()
     ensures { (first last : ToolboxState) (calls : List Call) (answers : List (Result Reply Refusal))
-        → IsRightState first.desk.windows → IsRunOfCalls first calls answers last
+        → IsRightState first.desk.windows → AreControlsRight first → IsRunOfCalls first calls answers last
         → AreAllServed last.desk.windows → IsAllRight last.desk.windows }
 {}
 
@@ -151,7 +177,7 @@ pub fn the_screen_of_a_right_state_is_right()
 #[tactic(auto, using(crate::proofs::FrontLaws::served_run_shows_all_right))]
 pub fn runs_that_leave_every_update_served_show_a_right_screen()
     ensures { (first last : ToolboxState) (calls : List Call) (answers : List (Result Reply Refusal))
-        → IsRightState first.desk.windows → IsRunOfCalls first calls answers last
+        → IsRightState first.desk.windows → AreControlsRight first → IsRunOfCalls first calls answers last
         → AreAllServed last.desk.windows → IsScreenAllRight last }
 {}
 
@@ -191,6 +217,17 @@ pub fn a_pulled_menu_is_found_as_the_menu_bar()
         → (answer ≡ Ok (reply.Window found_menu)) × IsToolboxUnchanged before after }
 {}
 
+/// FindControl, asked for a point of a window of the desk within the range of coordinates, answers for the owner of the
+/// pixel of the screen there, and changes nothing: a control of that window that is active, with the part of it that its
+/// definition says. Where something else owns the pixel, the pulled menu too, it answers none.
+#[tactic(auto, using(crate::proofs::FindLaws::control_is_found_by_owner))]
+pub fn a_control_is_found_by_the_owner_of_the_pixel()
+    ensures { (asked : PointInWindow) (answer : Result Reply Refusal) (before after : ToolboxState)
+        → is_missing asked.window before.desk.windows.desk.windows ≡ false → in_plane asked.point ≡ true
+        → IsStep (Control (controls.Find asked)) answer before after
+        → (answer ≡ Ok (reply.Control (control_reply.Found (found_on_screen before asked)))) × IsToolboxUnchanged before after }
+{}
+
 /// A desk that just began is consistent.
 #[tactic(auto, using(crate::proofs::Consistent::just_begun_is_consistent))]
 pub fn a_desk_that_just_began_is_consistent()
@@ -217,6 +254,13 @@ pub fn runs_keep_a_desk_consistent()
 pub fn windows_are_shown_by_their_records()
     ensures { (desk : FullDesk) → IsSoundDesk desk → AreInformed desk.windows
         → All (λ w. GoesBy (news_by_record w) w.definition) desk.windows }
+{}
+
+/// So is each control of a state whose controls are right, by what its record says.
+#[tactic(auto, using(crate::proofs::Shown::controls_go_by_records))]
+pub fn controls_are_shown_by_their_records()
+    ensures { (s : ToolboxState) → AreControlsRight s
+        → All (λ c. ControlGoesBy (news_of_control c) c.definition.definition) s.controls.controls }
 {}
 
 /// Over any run of a desk that just began, the activate events that are told of one window are in turn an activation and a

@@ -1,9 +1,10 @@
 //! The Toolbox: a desk, and the calls of all its managers, one by one and in a row.
 //!
 //! A `Call` says which manager it is for. What each does, its manager says (`window_mgr` for windows, `window_update` for
-//! update regions, `window_frame` for titles, highlighting and go-away boxes, `event_queue` for events); here steps are
-//! strung together (`Run`), and the law that steps keep a right state right (`laws`) becomes one of runs: outside the
-//! update regions each pixel has the value that painting the desk from nothing gives.
+//! update regions, `window_frame` for titles, highlighting and go-away boxes, `control_mgr` for controls, `menu_mgr` for
+//! menus, `event_queue` for events); here steps are strung together (`Run`), and the law that steps keep a right state right
+//! (`laws`) becomes one of runs: outside the update regions each pixel has the value that painting the desk from nothing
+//! gives.
 //!
 //! At most one thing is open at a time. Whether a call may come then, one table says for every call (`desk_call`'s `gate`):
 //! Busy where it has to wait, NotBusy where what it goes on with is not open. A call that may not come is still refused first
@@ -18,12 +19,14 @@ pub mod laws;
 mod toolbox;
 
 pub use desk_call::{
-    Activity, AppendItems, AreaRef, Call, CheckItem, Choice, Drawing, EventCall, EventReply,
-    FlushEvents, Found, FrameCall, FrameReply, GoAwayPoint, HiliteWindow, InsertMenu, ItemOfMenu,
-    ItemText, LayerDraw, Layers, MenuCall, MenuReply, MoveWindow, NewMenu, NewPicture, NewTitle,
-    NewWindow, PictureRef, PostEvent, PulledMenu, Reply, ScrollPicture, SendBehind, ShowHide,
-    SizeWindow, UpdateCall, WindowArea, WindowCall, WindowInfo, WindowPart, WindowReply, Zoom,
-    ZoomWindow,
+    Activity, AppendItems, AreaRef, Call, CheckItem, Choice, ControlCall, ControlInfo,
+    ControlNumber, ControlOf, ControlReply, ControlTitle, Drawing, EventCall, EventReply,
+    FlushEvents, Found, FoundControl, FrameCall, FrameReply, GoAwayPoint, HiliteWindow, InsertMenu,
+    ItemOfMenu, ItemText, LayerDraw, Layers, MenuCall, MenuReply, MoveControl, MoveWindow,
+    NewControl, NewMenu, NewPicture, NewTitle, NewWindow, PictureRef, PointAtControl,
+    PointInWindow, PostEvent, PulledMenu, Reply, ScrollPicture, SendBehind, ShowHide, SizeControl,
+    SizeWindow, TrackedControl, UpdateCall, WindowArea, WindowCall, WindowInfo, WindowPart,
+    WindowReply, Zoom, ZoomWindow,
 };
 pub use toolbox::Toolbox;
 pub use window_mgr::NotBegun;

@@ -6,10 +6,13 @@ ghost use Rattle.desk_ground.specs.Screens as screens;
 ghost use Rattle.window_mgr.specs.Begin.{IsEmptyDesk};
 ghost use Rattle.window_mgr.specs.Closing.{IsClosed};
 ghost use Rattle.window_mgr.specs.FullDesk.{IsRightState};
-ghost use Rattle.window_mgr.specs.Records.{desk_of, state_of};
+ghost use Rattle.window_mgr.specs.Records.{desk_of, state_of, state_showing};
 ghost use Rattle.window_mgr.specs.Refused.{is_missing};
 ghost use Rattle.desk_call.specs.declared.activity.Activity.TheVariants.{Idle};
 ghost use Rattle.bit_map.specs.Bits.{bit, on_map};
+ghost use Rattle.control_mgr.specs.ControlClosing.{AreControlsClosed, IsControlFull};
+ghost use Rattle.control_mgr.specs.ControlDesks.{ControlSlot, controls_show};
+ghost use Rattle.control_mgr.specs.WholeControls.{records_of};
 ghost use Rattle.menu_mgr.specs.MenuClosing.{AreMenusClosed};
 ghost use Rattle.menu_mgr.specs.MenuDesks.{IsMenuFull, MenuSlot};
 ghost use Rattle.menu_mgr.specs.WholeMenus.{AreNoMenus, menus_of};
@@ -26,7 +29,11 @@ use crate::answering::form_refusal_of;
 use crate::events::Events;
 use crate::{Activity, Call, Reply};
 use bit_map::BitMap;
-use def_iface::{Defined, DefinedMenu, MenuStock, Stock, Stocked, StockedMenus, Taken, TakenMenu};
+use control_mgr::Controls;
+use def_iface::{
+    ControlStock, Defined, DefinedControl, DefinedMenu, MenuStock, Stock, Stocked, StockedControls,
+    StockedMenus, Taken, TakenControl, TakenMenu,
+};
 use desk_ground::is_screen;
 use menu_list::MenuList;
 use menu_mgr::Menus;
@@ -35,7 +42,6 @@ use strike_font::Font;
 use tb_geom::{Rect, Refusal};
 use window_list::{Ranks, WindowList};
 use window_mgr::{NotBegun, WindowManager};
-use window_paint::NothingShown;
 use window_update::Updates;
 
 /// A desk: its screen, its windows, what of them has to be drawn, its menus, what is open, and the events that are to be told.
@@ -43,6 +49,8 @@ use window_update::Updates;
 pub struct Toolbox {
     pub(crate) alloc: Global,
     pub(crate) windows: WindowManager,
+    /// The controls of its windows.
+    pub(crate) controls: Controls<TakenControl>,
     /// Its menus, and the map on which the one lies that is pulled down.
     pub(crate) menus: Menus,
     /// What is open between its begin and its end.
@@ -92,10 +100,10 @@ impl Toolbox {
             → IsEmptyDesk ⟦<Taken as Defined>⟧.loan width height bar font t.windows slots) }
         ensures idle { IfOk result (λ t. t.activity ≡ Idle) }
         ensures events { IfOk result (λ t. t.events ≡ first_events) }
-        ensures whole { IfOk result (λ t. (slots : List SlotView) (kept : List MenuSlot) → All IsFull slots
-            → All IsMenuFull kept → IsWholeToolbox ⟦<Taken as Defined>⟧.loan ⟦<TakenMenu as DefinedMenu>⟧.menu_loan t slots kept) }
-        ensures just_begun { IfOk result (λ t. (slots : List SlotView) (kept : List MenuSlot) → All IsFull slots
-            → IsJustBegun (toolbox_state ⟦<Taken as Defined>⟧.loan ⟦<TakenMenu as DefinedMenu>⟧.menu_loan t slots kept)) }
+        ensures whole { IfOk result (λ t. (slots : List SlotView) (kept : List MenuSlot) (held : List ControlSlot) → All IsFull slots
+            → All IsMenuFull kept → All IsControlFull held → IsWholeToolbox ⟦<Taken as Defined>⟧.loan ⟦<TakenMenu as DefinedMenu>⟧.menu_loan ⟦<TakenControl as DefinedControl>⟧.control_loan t slots kept held) }
+        ensures just_begun { IfOk result (λ t. (slots : List SlotView) (kept : List MenuSlot) (held : List ControlSlot) → All IsFull slots → All IsControlFull held
+            → IsJustBegun (toolbox_state ⟦<Taken as Defined>⟧.loan ⟦<TakenMenu as DefinedMenu>⟧.menu_loan ⟦<TakenControl as DefinedControl>⟧.control_loan t slots kept held)) }
         ensures in_range { IfOk result (λ t. screens.is_screen width height bar ≡ true) }
         ensures refused { IfErr result (λ e. (e.font ≡ font)
             × (e.refusal ≡ (if screens.is_screen width height bar then Refusal.NoMemory else Refusal.OutOfRange))) }
@@ -132,8 +140,9 @@ impl Toolbox {
         ensures idle { IfOk result (λ t. t.activity ≡ Idle) }
         ensures events { IfOk result (λ t. t.events ≡ parts.events) }
         ensures menus { IfOk result (λ t. t.menus ≡ parts.menus) }
-        ensures whole { IfOk result (λ t. (slots : List SlotView) (kept : List MenuSlot) → All IsFull slots
-            → All IsMenuFull kept → IsWholeToolbox ⟦<Taken as Defined>⟧.loan ⟦<TakenMenu as DefinedMenu>⟧.menu_loan t slots kept) }
+        ensures controls { IfOk result (λ t. (t.controls.list.controls.items ≡ []) × (t.controls.list.next ≡ Some 1)) }
+        ensures whole { IfOk result (λ t. (slots : List SlotView) (kept : List MenuSlot) (held : List ControlSlot) → All IsFull slots
+            → All IsMenuFull kept → All IsControlFull held → IsWholeToolbox ⟦<Taken as Defined>⟧.loan ⟦<TakenMenu as DefinedMenu>⟧.menu_loan ⟦<TakenControl as DefinedControl>⟧.control_loan t slots kept held) }
         ensures in_range { IfOk result (λ t. screens.is_screen width height bar ≡ true) }
         ensures refused { IfErr result (λ e. (e.font ≡ font)
             × (e.refusal ≡ (if screens.is_screen width height bar then Refusal.NoMemory else Refusal.OutOfRange))) }
@@ -148,6 +157,7 @@ impl Toolbox {
             Ok(windows) => Ok(Toolbox {
                 alloc,
                 windows,
+                controls: Controls::new(alloc),
                 menus,
                 activity: Activity::Idle,
                 updates,
@@ -159,11 +169,11 @@ impl Toolbox {
 
     /// The screen: the pulled menu where it lies, and else what the windows, the menu bar and the desktop show.
     pub fn screen(&self) -> &BitMap
-        requires { IsKeptToolbox ⟦<Taken as Defined>⟧.loan ⟦<TakenMenu as DefinedMenu>⟧.menu_loan self.now }
+        requires { IsKeptToolbox ⟦<Taken as Defined>⟧.loan ⟦<TakenMenu as DefinedMenu>⟧.menu_loan ⟦<TakenControl as DefinedControl>⟧.control_loan self.now }
         ensures width { result.now.width ≡ self.now.windows.screen.width }
         ensures height { result.now.height ≡ self.now.windows.screen.height }
-        ensures shown { (slots : List SlotView) (kept : List MenuSlot) (p : Point) → on_map result.now p ≡ true
-            → bit result.now p ≡ screen_of (toolbox_state ⟦<Taken as Defined>⟧.loan ⟦<TakenMenu as DefinedMenu>⟧.menu_loan self.now slots kept) p }
+        ensures shown { (slots : List SlotView) (kept : List MenuSlot) (held : List ControlSlot) (p : Point) → on_map result.now p ≡ true
+            → bit result.now p ≡ screen_of (toolbox_state ⟦<Taken as Defined>⟧.loan ⟦<TakenMenu as DefinedMenu>⟧.menu_loan ⟦<TakenControl as DefinedControl>⟧.control_loan self.now slots kept held) p }
     {
         match self.activity {
             Activity::Pulling(_) => self.menus.screen(),
@@ -176,6 +186,13 @@ impl Toolbox {
         ensures { result.now ≡ self.now.menus }
     {
         &self.menus
+    }
+
+    /// Its controls, to be read.
+    pub fn controls(&self) -> &Controls<TakenControl>
+        ensures { result.now ≡ self.now.controls }
+    {
+        &self.controls
     }
 
     /// What is open between its begin and its end.
@@ -196,17 +213,19 @@ impl Toolbox {
     /// first where several would do stands with the call. While something is open, a call that may not
     /// come then is refused for that, but first for a name that no table has, or bytes without their form.
     pub fn call(&mut self, call: &Call<'_>, stock: &mut Stock) -> Result<Reply, Refusal>
-        requires { IsWholeToolbox ⟦<Taken as Defined>⟧.loan ⟦<TakenMenu as DefinedMenu>⟧.menu_loan self.old
-            (⟦<Stock as Stocked>⟧.slots stock.old) (⟦<MenuStock as StockedMenus>⟧.menu_slots stock.old.menus) }
-        ensures whole { IsWholeToolbox ⟦<Taken as Defined>⟧.loan ⟦<TakenMenu as DefinedMenu>⟧.menu_loan self.new
-            (⟦<Stock as Stocked>⟧.slots stock.new) (⟦<MenuStock as StockedMenus>⟧.menu_slots stock.new.menus) }
+        requires { IsWholeToolbox ⟦<Taken as Defined>⟧.loan ⟦<TakenMenu as DefinedMenu>⟧.menu_loan ⟦<TakenControl as DefinedControl>⟧.control_loan self.old
+            (⟦<Stock as Stocked>⟧.slots stock.old) (⟦<MenuStock as StockedMenus>⟧.menu_slots stock.old.menus) (⟦<ControlStock as StockedControls>⟧.control_slots stock.old.controls) }
+        ensures whole { IsWholeToolbox ⟦<Taken as Defined>⟧.loan ⟦<TakenMenu as DefinedMenu>⟧.menu_loan ⟦<TakenControl as DefinedControl>⟧.control_loan self.new
+            (⟦<Stock as Stocked>⟧.slots stock.new) (⟦<MenuStock as StockedMenus>⟧.menu_slots stock.new.menus) (⟦<ControlStock as StockedControls>⟧.control_slots stock.new.controls) }
         ensures step { IsStep call.now result
-            (toolbox_state ⟦<Taken as Defined>⟧.loan ⟦<TakenMenu as DefinedMenu>⟧.menu_loan self.old
-            (⟦<Stock as Stocked>⟧.slots stock.old) (⟦<MenuStock as StockedMenus>⟧.menu_slots stock.old.menus))
-            (toolbox_state ⟦<Taken as Defined>⟧.loan ⟦<TakenMenu as DefinedMenu>⟧.menu_loan self.new
-            (⟦<Stock as Stocked>⟧.slots stock.new) (⟦<MenuStock as StockedMenus>⟧.menu_slots stock.new.menus)) }
-        ensures right { IsRightState (state_of ⟦<Taken as Defined>⟧.loan self.old.windows (⟦<Stock as Stocked>⟧.slots stock.old))
-            → IsRightState (state_of ⟦<Taken as Defined>⟧.loan self.new.windows (⟦<Stock as Stocked>⟧.slots stock.new)) }
+            (toolbox_state ⟦<Taken as Defined>⟧.loan ⟦<TakenMenu as DefinedMenu>⟧.menu_loan ⟦<TakenControl as DefinedControl>⟧.control_loan self.old
+            (⟦<Stock as Stocked>⟧.slots stock.old) (⟦<MenuStock as StockedMenus>⟧.menu_slots stock.old.menus) (⟦<ControlStock as StockedControls>⟧.control_slots stock.old.controls))
+            (toolbox_state ⟦<Taken as Defined>⟧.loan ⟦<TakenMenu as DefinedMenu>⟧.menu_loan ⟦<TakenControl as DefinedControl>⟧.control_loan self.new
+            (⟦<Stock as Stocked>⟧.slots stock.new) (⟦<MenuStock as StockedMenus>⟧.menu_slots stock.new.menus) (⟦<ControlStock as StockedControls>⟧.control_slots stock.new.controls)) }
+        ensures right { IsRightState (toolbox_state ⟦<Taken as Defined>⟧.loan ⟦<TakenMenu as DefinedMenu>⟧.menu_loan ⟦<TakenControl as DefinedControl>⟧.control_loan self.old
+            (⟦<Stock as Stocked>⟧.slots stock.old) (⟦<MenuStock as StockedMenus>⟧.menu_slots stock.old.menus) (⟦<ControlStock as StockedControls>⟧.control_slots stock.old.controls)).desk.windows
+            → IsRightState (toolbox_state ⟦<Taken as Defined>⟧.loan ⟦<TakenMenu as DefinedMenu>⟧.menu_loan ⟦<TakenControl as DefinedControl>⟧.control_loan self.new
+            (⟦<Stock as Stocked>⟧.slots stock.new) (⟦<MenuStock as StockedMenus>⟧.menu_slots stock.new.menus) (⟦<ControlStock as StockedControls>⟧.control_slots stock.new.controls)).desk.windows }
     {
         match self.activity.admit(call.standing()) {
             Ok(()) => self.perform(call, stock),
@@ -224,23 +243,25 @@ impl Toolbox {
         calls: &[Call<'_>],
         stock: &mut Stock,
     ) -> Result<Vec<Result<Reply, Refusal>>, AllocError>
-        requires { IsWholeToolbox ⟦<Taken as Defined>⟧.loan ⟦<TakenMenu as DefinedMenu>⟧.menu_loan self.old
-            (⟦<Stock as Stocked>⟧.slots stock.old) (⟦<MenuStock as StockedMenus>⟧.menu_slots stock.old.menus) }
-        ensures whole { IsWholeToolbox ⟦<Taken as Defined>⟧.loan ⟦<TakenMenu as DefinedMenu>⟧.menu_loan self.new
-            (⟦<Stock as Stocked>⟧.slots stock.new) (⟦<MenuStock as StockedMenus>⟧.menu_slots stock.new.menus) }
+        requires { IsWholeToolbox ⟦<Taken as Defined>⟧.loan ⟦<TakenMenu as DefinedMenu>⟧.menu_loan ⟦<TakenControl as DefinedControl>⟧.control_loan self.old
+            (⟦<Stock as Stocked>⟧.slots stock.old) (⟦<MenuStock as StockedMenus>⟧.menu_slots stock.old.menus) (⟦<ControlStock as StockedControls>⟧.control_slots stock.old.controls) }
+        ensures whole { IsWholeToolbox ⟦<Taken as Defined>⟧.loan ⟦<TakenMenu as DefinedMenu>⟧.menu_loan ⟦<TakenControl as DefinedControl>⟧.control_loan self.new
+            (⟦<Stock as Stocked>⟧.slots stock.new) (⟦<MenuStock as StockedMenus>⟧.menu_slots stock.new.menus) (⟦<ControlStock as StockedControls>⟧.control_slots stock.new.controls) }
         ensures run { IfOk result (λ answers. IsRunOfCalls
-            (toolbox_state ⟦<Taken as Defined>⟧.loan ⟦<TakenMenu as DefinedMenu>⟧.menu_loan self.old
-            (⟦<Stock as Stocked>⟧.slots stock.old) (⟦<MenuStock as StockedMenus>⟧.menu_slots stock.old.menus))
+            (toolbox_state ⟦<Taken as Defined>⟧.loan ⟦<TakenMenu as DefinedMenu>⟧.menu_loan ⟦<TakenControl as DefinedControl>⟧.control_loan self.old
+            (⟦<Stock as Stocked>⟧.slots stock.old) (⟦<MenuStock as StockedMenus>⟧.menu_slots stock.old.menus) (⟦<ControlStock as StockedControls>⟧.control_slots stock.old.controls))
             calls.now answers.items
-            (toolbox_state ⟦<Taken as Defined>⟧.loan ⟦<TakenMenu as DefinedMenu>⟧.menu_loan self.new
-            (⟦<Stock as Stocked>⟧.slots stock.new) (⟦<MenuStock as StockedMenus>⟧.menu_slots stock.new.menus))) }
+            (toolbox_state ⟦<Taken as Defined>⟧.loan ⟦<TakenMenu as DefinedMenu>⟧.menu_loan ⟦<TakenControl as DefinedControl>⟧.control_loan self.new
+            (⟦<Stock as Stocked>⟧.slots stock.new) (⟦<MenuStock as StockedMenus>⟧.menu_slots stock.new.menus) (⟦<ControlStock as StockedControls>⟧.control_slots stock.new.controls))) }
         ensures kept { OnErr result (IsToolboxUnchanged
-            (toolbox_state ⟦<Taken as Defined>⟧.loan ⟦<TakenMenu as DefinedMenu>⟧.menu_loan self.old
-            (⟦<Stock as Stocked>⟧.slots stock.old) (⟦<MenuStock as StockedMenus>⟧.menu_slots stock.old.menus))
-            (toolbox_state ⟦<Taken as Defined>⟧.loan ⟦<TakenMenu as DefinedMenu>⟧.menu_loan self.new
-            (⟦<Stock as Stocked>⟧.slots stock.new) (⟦<MenuStock as StockedMenus>⟧.menu_slots stock.new.menus))) }
-        ensures right { IsRightState (state_of ⟦<Taken as Defined>⟧.loan self.old.windows (⟦<Stock as Stocked>⟧.slots stock.old))
-            → IsRightState (state_of ⟦<Taken as Defined>⟧.loan self.new.windows (⟦<Stock as Stocked>⟧.slots stock.new)) }
+            (toolbox_state ⟦<Taken as Defined>⟧.loan ⟦<TakenMenu as DefinedMenu>⟧.menu_loan ⟦<TakenControl as DefinedControl>⟧.control_loan self.old
+            (⟦<Stock as Stocked>⟧.slots stock.old) (⟦<MenuStock as StockedMenus>⟧.menu_slots stock.old.menus) (⟦<ControlStock as StockedControls>⟧.control_slots stock.old.controls))
+            (toolbox_state ⟦<Taken as Defined>⟧.loan ⟦<TakenMenu as DefinedMenu>⟧.menu_loan ⟦<TakenControl as DefinedControl>⟧.control_loan self.new
+            (⟦<Stock as Stocked>⟧.slots stock.new) (⟦<MenuStock as StockedMenus>⟧.menu_slots stock.new.menus) (⟦<ControlStock as StockedControls>⟧.control_slots stock.new.controls))) }
+        ensures right { IsRightState (toolbox_state ⟦<Taken as Defined>⟧.loan ⟦<TakenMenu as DefinedMenu>⟧.menu_loan ⟦<TakenControl as DefinedControl>⟧.control_loan self.old
+            (⟦<Stock as Stocked>⟧.slots stock.old) (⟦<MenuStock as StockedMenus>⟧.menu_slots stock.old.menus) (⟦<ControlStock as StockedControls>⟧.control_slots stock.old.controls)).desk.windows
+            → IsRightState (toolbox_state ⟦<Taken as Defined>⟧.loan ⟦<TakenMenu as DefinedMenu>⟧.menu_loan ⟦<TakenControl as DefinedControl>⟧.control_loan self.new
+            (⟦<Stock as Stocked>⟧.slots stock.new) (⟦<MenuStock as StockedMenus>⟧.menu_slots stock.new.menus) (⟦<ControlStock as StockedControls>⟧.control_slots stock.new.controls)).desk.windows }
     {
         let mut answers = Vec::with_capacity(self.alloc, calls.len())?;
         for call in calls {
@@ -254,32 +275,41 @@ impl Toolbox {
     /// screen has the value that painting the desk from nothing gives. NoSuchWindow is the only refusal. Takes no
     /// memory, and changes nothing that a call can tell.
     pub fn pixels_right(&mut self, window: u64, rect: Rect) -> Result<bool, Refusal>
-        requires { IsKeptToolbox ⟦<Taken as Defined>⟧.loan ⟦<TakenMenu as DefinedMenu>⟧.menu_loan self.old }
-        ensures whole { (slots : List SlotView) (kept : List MenuSlot)
-            → IsWholeToolbox ⟦<Taken as Defined>⟧.loan ⟦<TakenMenu as DefinedMenu>⟧.menu_loan self.old slots kept
-            → IsWholeToolbox ⟦<Taken as Defined>⟧.loan ⟦<TakenMenu as DefinedMenu>⟧.menu_loan self.new slots kept }
-        ensures same { (slots : List SlotView) (kept : List MenuSlot)
-            → toolbox_state ⟦<Taken as Defined>⟧.loan ⟦<TakenMenu as DefinedMenu>⟧.menu_loan self.new slots kept
-            ≡ toolbox_state ⟦<Taken as Defined>⟧.loan ⟦<TakenMenu as DefinedMenu>⟧.menu_loan self.old slots kept }
-        ensures right { let state = state_of ⟦<Taken as Defined>⟧.loan self.old.windows [] in MatchResult result
+        requires { IsKeptToolbox ⟦<Taken as Defined>⟧.loan ⟦<TakenMenu as DefinedMenu>⟧.menu_loan ⟦<TakenControl as DefinedControl>⟧.control_loan self.old }
+        ensures whole { (slots : List SlotView) (kept : List MenuSlot) (held : List ControlSlot)
+            → IsWholeToolbox ⟦<Taken as Defined>⟧.loan ⟦<TakenMenu as DefinedMenu>⟧.menu_loan ⟦<TakenControl as DefinedControl>⟧.control_loan self.old slots kept held
+            → IsWholeToolbox ⟦<Taken as Defined>⟧.loan ⟦<TakenMenu as DefinedMenu>⟧.menu_loan ⟦<TakenControl as DefinedControl>⟧.control_loan self.new slots kept held }
+        ensures same { (slots : List SlotView) (kept : List MenuSlot) (held : List ControlSlot)
+            → toolbox_state ⟦<Taken as Defined>⟧.loan ⟦<TakenMenu as DefinedMenu>⟧.menu_loan ⟦<TakenControl as DefinedControl>⟧.control_loan self.new slots kept held
+            ≡ toolbox_state ⟦<Taken as Defined>⟧.loan ⟦<TakenMenu as DefinedMenu>⟧.menu_loan ⟦<TakenControl as DefinedControl>⟧.control_loan self.old slots kept held }
+        ensures right { let state = state_showing (controls_show (records_of ⟦<TakenControl as DefinedControl>⟧.control_loan self.old.controls))
+            (state_of ⟦<Taken as Defined>⟧.loan self.old.windows []) in MatchResult result
             (λ right. (is_missing window state.desk.windows ≡ false) × IsJudgement window (rect_holds rect) state right)
             (λ e. (is_missing window state.desk.windows ≡ true) × (e ≡ Refusal.NoSuchWindow)) }
     {
         self.updates
-            .pixels_right(&self.windows, window, rect, &NothingShown)
+            .pixels_right(&self.windows, window, rect, &self.controls)
     }
 
-    /// Ends the desk: the definition of every window and of every menu is disposed of, and put back Closed into its slot, while
+    /// Ends the desk: the definition of every window, of every control and of every menu is disposed of, and put back Closed into its slot, while
     /// every other slot stays as it was. Takes no memory, and refuses nothing.
     pub fn close(self, stock: &mut Stock)
-        requires { IsWholeToolbox ⟦<Taken as Defined>⟧.loan ⟦<TakenMenu as DefinedMenu>⟧.menu_loan self
-            (⟦<Stock as Stocked>⟧.slots stock.old) (⟦<MenuStock as StockedMenus>⟧.menu_slots stock.old.menus) }
+        requires { IsWholeToolbox ⟦<Taken as Defined>⟧.loan ⟦<TakenMenu as DefinedMenu>⟧.menu_loan ⟦<TakenControl as DefinedControl>⟧.control_loan self
+            (⟦<Stock as Stocked>⟧.slots stock.old) (⟦<MenuStock as StockedMenus>⟧.menu_slots stock.old.menus) (⟦<ControlStock as StockedControls>⟧.control_slots stock.old.controls) }
         ensures windows { IsClosed (desk_of ⟦<Taken as Defined>⟧.loan self.windows (⟦<Stock as Stocked>⟧.slots stock.old)).windows
             (⟦<Stock as Stocked>⟧.slots stock.old) (⟦<Stock as Stocked>⟧.slots stock.new) }
+        ensures controls { AreControlsClosed (records_of ⟦<TakenControl as DefinedControl>⟧.control_loan self.controls)
+            (⟦<ControlStock as StockedControls>⟧.control_slots stock.old.controls) (⟦<ControlStock as StockedControls>⟧.control_slots stock.new.controls) }
         ensures menus { AreMenusClosed (menus_of ⟦<TakenMenu as DefinedMenu>⟧.menu_loan self.menus.list.menus.items)
             (⟦<MenuStock as StockedMenus>⟧.menu_slots stock.old.menus) (⟦<MenuStock as StockedMenus>⟧.menu_slots stock.new.menus) }
     {
-        let Toolbox { windows, menus, .. } = self;
+        let Toolbox {
+            windows,
+            controls,
+            menus,
+            ..
+        } = self;
+        controls.close(&mut stock.controls);
         windows.close(&mut stock.windows);
         menus.close(&mut stock.menus);
     }

@@ -64,14 +64,16 @@ impl ListCells {
 
     /// How many columns there are.
     pub fn columns(&self) -> usize
-        ensures { result ≡ self.now.columns }
+        ensures columns { result ≡ self.now.columns }
+        ensures within { result ≤ 4096 }
     {
         self.columns
     }
 
     /// How many rows there are.
     pub fn rows(&self) -> usize
-        ensures { result ≡ self.now.rows }
+        ensures rows { result ≡ self.now.rows }
+        ensures within { result ≤ 4096 }
     {
         self.rows
     }

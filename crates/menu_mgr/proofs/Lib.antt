@@ -15,3 +15,4 @@ pub mod ShownBars
 pub mod Steps
 pub mod ToldMenus
 pub mod UnderPoints
+pub mod MenusShowing

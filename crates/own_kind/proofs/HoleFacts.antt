@@ -32,11 +32,11 @@ size_some s e =
     record { across = extent-some s.width both.0; down = extent-some s.height both.1 }
 
 -- a third of a number
-record IsThird (n m : ℤ) : Type 0 where
+pub record IsThird (n m : ℤ) : Type 0 where
   pub low : pos 0 ≤ℤ n
-  pub high : (n +ℤ n) ≤ℤ m
+  pub high : (n +ℤ n +ℤ n) ≤ℤ m
 
-third_of : (m : ℤ) → pos 0 ≤ℤ m → IsThird (int_div_euclid m (pos 3)) m
+pub third_of : (m : ℤ) → pos 0 ≤ℤ m → IsThird (int_div_euclid m (pos 3)) m
 third_of (pos m) e = record { low = omega (arith, ints); high = omega (arith, ints) }
 third_of (negsuc m) e = absurd (omega (arith, ints))
 

@@ -1,4 +1,5 @@
--- Lemmas on the areas of a hollow window, on what it is told, and on what a strip shows.
+-- Lemmas on the areas of a hollow window and of a ring, on what they are told, and on what a strip shows.
 pub mod HoleFacts
+pub mod RingFacts
 pub mod Hearing
 pub mod StripLemmas

@@ -1,3 +1,4 @@
--- What the contracts speak of: the hollow window and the strip of a menu as plain data.
+-- What the contracts speak of: the hollow window, the strip of a menu and the ring of a control as plain data.
 pub mod HollowWindows
 pub mod Strips
+pub mod Rings

@@ -1,18 +1,22 @@
-//! The program `desk` over a kind of window and a kind of menu that are not its own: a script comes in on standard input,
-//! and what each of its lines answers goes out, with the check of the screen at the end.
+//! The program `desk` over a kind of window, a kind of control and a kind of menu that are not its own: a script comes in on
+//! standard input, and what each of its lines answers goes out, with the check of the screen at the end.
 //!
 //! Each kind of window that a script can name is the hollow one here (`hollow_window`), whose structure has a hole and whose
-//! content has two parts, and each menu is a strip (`strip_menu`), whose items stand side by side. So every script runs, and
-//! `tests/own-kind` sees that it is answered as it has to be whatever windows and menus are.
+//! content has two parts, each kind of control is the ring (`ring_control`), whose region has a hole between two parts, and
+//! each menu is a strip (`strip_menu`), whose items stand side by side. So every script runs, and `tests/own-kind` sees that
+//! it is answered as it has to be whatever windows, controls and menus are.
 #![tactic(auto)]
 
 mod hollow_window;
+mod ring_control;
+mod ring_tables;
 mod strip_menu;
 mod tables;
 
 use anyhow::{Result, bail};
-use def_iface::{MenuStock, Stock, WindowStock};
+use def_iface::{ControlStock, MenuStock, Stock, WindowStock};
 use hollow_window::HollowWindow;
+use ring_control::RingControl;
 use script_runner::run;
 use std::io;
 use strip_menu::StripMenu;
@@ -21,11 +25,14 @@ use watched_io::{WatchedReader, WatchedWriter};
 /// How many definitions of each kind of window the stock begins with.
 const DEFINITIONS: u8 = 16;
 
+/// How many of each kind of control.
+const CONTROLS: u8 = 64;
+
 /// How many of menus.
 const MENUS: u8 = 32;
 
-/// The names of the kinds, as scripts have them.
-static KINDS: [&[u8]; 7] = [
+/// The names of the kinds of window, as scripts have them.
+static WINDOW_KINDS: [&[u8]; 7] = [
     b"document",
     b"dialog",
     b"plain",
@@ -35,13 +42,25 @@ static KINDS: [&[u8]; 7] = [
     b"notched",
 ];
 
+/// Those of the kinds of control.
+static CONTROL_KINDS: [&[u8]; 4] = [b"button", b"check", b"radio", b"scroll"];
+
 fn main(rt: HostRuntime) -> Result<()> {
     let alloc = rt.alloc();
     let mut windows = WindowStock::new(alloc);
     for _ in 0..DEFINITIONS {
-        for kind in &KINDS {
+        for kind in &WINDOW_KINDS {
             let window = Box::new(alloc, HollowWindow::new())?;
             let Ok(()) = windows.add(kind, window) else {
+                bail!("no memory for the stock");
+            };
+        }
+    }
+    let mut controls = ControlStock::new(alloc);
+    for _ in 0..CONTROLS {
+        for kind in &CONTROL_KINDS {
+            let control = Box::new(alloc, RingControl::new())?;
+            let Ok(()) = controls.add(kind, control) else {
                 bail!("no memory for the stock");
             };
         }
@@ -55,6 +74,7 @@ fn main(rt: HostRuntime) -> Result<()> {
     }
     let mut stock = Stock::new(alloc);
     stock.windows = windows;
+    stock.controls = controls;
     stock.menus = menus;
     let mut source = WatchedReader::new(rt.reader());
     let mut sink = WatchedWriter::new(io::writer(&rt));

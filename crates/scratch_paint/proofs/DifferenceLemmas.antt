@@ -159,6 +159,10 @@ pub row_start : (s : ToolboxState) (value : PixelSet) (v : ℕ) → row_differen
 unfolding row_differences
 row_start s value v = refl
 
+-- all pixels of a row
+pub row_whole : (s : ToolboxState) (value : PixelSet) (row column width n : ℕ) → column ≡ width → n ≡ row_differences s value column row → n ≡ row_differences s value width row
+row_whole s value row column width n all counted = counted ∙ ap (λ k. row_differences s value k row) all
+
 -- one row more
 rows_more : (s : ToolboxState) (value : PixelSet) (width v : ℕ) → differences_of s value width (v + 1) ≡ differences_of s value width v + row_differences s value width v
 unfolding differences_of
@@ -170,3 +174,7 @@ counted_row s value width row n more counted is = (λ i. counted i + is i) ∙ s
 pub rows_start : (s : ToolboxState) (value : PixelSet) (width : ℕ) → differences_of s value width 0 ≡ 0
 unfolding differences_of
 rows_start s value width = refl
+
+-- all rows
+pub rows_whole : (s : ToolboxState) (value : PixelSet) (width row height n : ℕ) → row ≡ height → n ≡ differences_of s value width row → n ≡ differences_of s value width height
+rows_whole s value width row height n all counted = counted ∙ ap (λ k. differences_of s value width k) all

@@ -1,5 +1,6 @@
 mod Checked
 mod ChoicesLemmas
+mod ControlStocks
 mod Ends
 mod MenuStocks
 mod SameImages

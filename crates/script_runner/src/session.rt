@@ -1,6 +1,8 @@
 //! The desk of a script: none, until the first command makes it, with the font that waits for it.
 ghost use Rattle.std.specs.Prelude.{◌≡◌, ℕ, true, List, All, None, Some, OnOk, false};
 ghost use Rattle.def_iface.specs.Stocked.{IsFull, SlotView};
+ghost use Rattle.control_mgr.specs.ControlClosing.{IsControlFull};
+ghost use Rattle.control_mgr.specs.ControlDesks.{ControlSlot};
 ghost use Rattle.menu_mgr.specs.MenuDesks.{IsMenuFull, MenuSlot};
 ghost use Rattle.desk_call.specs.declared.call.Call.TheVariants as asks;
 ghost use Rattle.desk_toolbox.specs.WholeToolbox.{IsKeptToolbox, IsWholeToolbox, toolbox_state};
@@ -12,15 +14,17 @@ ghost use Rattle.script_runner.specs.Endings.{IsAnswered, IsFirstAnswered, Comma
 
 use crate::check_line::write_check;
 use crate::shown::{show_done, show_image, show_reply};
-use def_iface::{Defined, DefinedMenu, MenuStock, Stock, Stocked, StockedMenus, Taken, TakenMenu};
-use desk_toolbox::{Call, MenuCall, NotBegun, Toolbox, WindowCall};
+use def_iface::{
+    ControlStock, Defined, DefinedControl, DefinedMenu, MenuStock, Stock, Stocked, StockedControls,
+    StockedMenus, Taken, TakenControl, TakenMenu,
+};
+use desk_toolbox::{Call, ControlCall, MenuCall, NotBegun, Toolbox, WindowCall};
 use scratch_paint::differences;
 use script_text::{Command, DeskSize};
 use std::alloc::Global;
 use strike_font::Font;
 use tb_geom::Refusal;
 use watched_io::Sink;
-use window_paint::NothingShown;
 
 /// The desk that is made where the first command asks for no other.
 const USUAL_DESK: DeskSize = DeskSize {
@@ -65,17 +69,21 @@ impl Session {
         sink: &mut S,
         raw: bool,
     ) -> Result<(), Refusal>
-        requires ready { IsReady ⟦<Taken as Defined>⟧.loan ⟦<TakenMenu as DefinedMenu>⟧.menu_loan self.old
-            (⟦<Stock as Stocked>⟧.slots stock.old) (⟦<MenuStock as StockedMenus>⟧.menu_slots stock.old.menus) }
+        requires ready { IsReady ⟦<Taken as Defined>⟧.loan ⟦<TakenMenu as DefinedMenu>⟧.menu_loan ⟦<TakenControl as DefinedControl>⟧.control_loan self.old
+            (⟦<Stock as Stocked>⟧.slots stock.old) (⟦<MenuStock as StockedMenus>⟧.menu_slots stock.old.menus)
+            (⟦<ControlStock as StockedControls>⟧.control_slots stock.old.controls) }
         requires unfailed { (S.output sink.old).has_failed ≡ false }
-        ensures ready { IsReady ⟦<Taken as Defined>⟧.loan ⟦<TakenMenu as DefinedMenu>⟧.menu_loan self.new
-            (⟦<Stock as Stocked>⟧.slots stock.new) (⟦<MenuStock as StockedMenus>⟧.menu_slots stock.new.menus) }
+        ensures ready { IsReady ⟦<Taken as Defined>⟧.loan ⟦<TakenMenu as DefinedMenu>⟧.menu_loan ⟦<TakenControl as DefinedControl>⟧.control_loan self.new
+            (⟦<Stock as Stocked>⟧.slots stock.new) (⟦<MenuStock as StockedMenus>⟧.menu_slots stock.new.menus)
+            (⟦<ControlStock as StockedControls>⟧.control_slots stock.new.controls) }
         ensures quiet { OnOk result ((S.output sink.new).has_failed ≡ false) }
         ensures ends { LineEnds raw
-            (session_of ⟦<Taken as Defined>⟧.loan ⟦<TakenMenu as DefinedMenu>⟧.menu_loan self.old
-            (⟦<Stock as Stocked>⟧.slots stock.old) (⟦<MenuStock as StockedMenus>⟧.menu_slots stock.old.menus)) said.entry
-            (session_of ⟦<Taken as Defined>⟧.loan ⟦<TakenMenu as DefinedMenu>⟧.menu_loan self.new
-            (⟦<Stock as Stocked>⟧.slots stock.new) (⟦<MenuStock as StockedMenus>⟧.menu_slots stock.new.menus))
+            (session_of ⟦<Taken as Defined>⟧.loan ⟦<TakenMenu as DefinedMenu>⟧.menu_loan ⟦<TakenControl as DefinedControl>⟧.control_loan self.old
+            (⟦<Stock as Stocked>⟧.slots stock.old) (⟦<MenuStock as StockedMenus>⟧.menu_slots stock.old.menus)
+            (⟦<ControlStock as StockedControls>⟧.control_slots stock.old.controls)) said.entry
+            (session_of ⟦<Taken as Defined>⟧.loan ⟦<TakenMenu as DefinedMenu>⟧.menu_loan ⟦<TakenControl as DefinedControl>⟧.control_loan self.new
+            (⟦<Stock as Stocked>⟧.slots stock.new) (⟦<MenuStock as StockedMenus>⟧.menu_slots stock.new.menus)
+            (⟦<ControlStock as StockedControls>⟧.control_slots stock.new.controls))
             (S.output sink.old) (S.output sink.new) result }
     {
         match said {
@@ -93,17 +101,21 @@ impl Session {
         sink: &mut S,
         raw: bool,
     ) -> Result<(), Refusal>
-        requires ready { IsReady ⟦<Taken as Defined>⟧.loan ⟦<TakenMenu as DefinedMenu>⟧.menu_loan self.old
-            (⟦<Stock as Stocked>⟧.slots stock.old) (⟦<MenuStock as StockedMenus>⟧.menu_slots stock.old.menus) }
+        requires ready { IsReady ⟦<Taken as Defined>⟧.loan ⟦<TakenMenu as DefinedMenu>⟧.menu_loan ⟦<TakenControl as DefinedControl>⟧.control_loan self.old
+            (⟦<Stock as Stocked>⟧.slots stock.old) (⟦<MenuStock as StockedMenus>⟧.menu_slots stock.old.menus)
+            (⟦<ControlStock as StockedControls>⟧.control_slots stock.old.controls) }
         requires unfailed { (S.output sink.old).has_failed ≡ false }
-        ensures ready { IsReady ⟦<Taken as Defined>⟧.loan ⟦<TakenMenu as DefinedMenu>⟧.menu_loan self.new
-            (⟦<Stock as Stocked>⟧.slots stock.new) (⟦<MenuStock as StockedMenus>⟧.menu_slots stock.new.menus) }
+        ensures ready { IsReady ⟦<Taken as Defined>⟧.loan ⟦<TakenMenu as DefinedMenu>⟧.menu_loan ⟦<TakenControl as DefinedControl>⟧.control_loan self.new
+            (⟦<Stock as Stocked>⟧.slots stock.new) (⟦<MenuStock as StockedMenus>⟧.menu_slots stock.new.menus)
+            (⟦<ControlStock as StockedControls>⟧.control_slots stock.new.controls) }
         ensures quiet { OnOk result ((S.output sink.new).has_failed ≡ false) }
         ensures ends { CommandEnds raw
-            (session_of ⟦<Taken as Defined>⟧.loan ⟦<TakenMenu as DefinedMenu>⟧.menu_loan self.old
-            (⟦<Stock as Stocked>⟧.slots stock.old) (⟦<MenuStock as StockedMenus>⟧.menu_slots stock.old.menus)) command.now
-            (session_of ⟦<Taken as Defined>⟧.loan ⟦<TakenMenu as DefinedMenu>⟧.menu_loan self.new
-            (⟦<Stock as Stocked>⟧.slots stock.new) (⟦<MenuStock as StockedMenus>⟧.menu_slots stock.new.menus))
+            (session_of ⟦<Taken as Defined>⟧.loan ⟦<TakenMenu as DefinedMenu>⟧.menu_loan ⟦<TakenControl as DefinedControl>⟧.control_loan self.old
+            (⟦<Stock as Stocked>⟧.slots stock.old) (⟦<MenuStock as StockedMenus>⟧.menu_slots stock.old.menus)
+            (⟦<ControlStock as StockedControls>⟧.control_slots stock.old.controls)) command.now
+            (session_of ⟦<Taken as Defined>⟧.loan ⟦<TakenMenu as DefinedMenu>⟧.menu_loan ⟦<TakenControl as DefinedControl>⟧.control_loan self.new
+            (⟦<Stock as Stocked>⟧.slots stock.new) (⟦<MenuStock as StockedMenus>⟧.menu_slots stock.new.menus)
+            (⟦<ControlStock as StockedControls>⟧.control_slots stock.new.controls))
             (S.output sink.old) (S.output sink.new) result }
     {
         match &mut self.desk {
@@ -123,19 +135,24 @@ impl Session {
         raw: bool,
     ) -> Result<(), Refusal>
         requires unmade { self.old.desk ≡ None }
-        requires ready { IsReady ⟦<Taken as Defined>⟧.loan ⟦<TakenMenu as DefinedMenu>⟧.menu_loan self.old
-            (⟦<Stock as Stocked>⟧.slots stock.old) (⟦<MenuStock as StockedMenus>⟧.menu_slots stock.old.menus) }
+        requires ready { IsReady ⟦<Taken as Defined>⟧.loan ⟦<TakenMenu as DefinedMenu>⟧.menu_loan ⟦<TakenControl as DefinedControl>⟧.control_loan self.old
+            (⟦<Stock as Stocked>⟧.slots stock.old) (⟦<MenuStock as StockedMenus>⟧.menu_slots stock.old.menus)
+            (⟦<ControlStock as StockedControls>⟧.control_slots stock.old.controls) }
         requires known { is_known command.now (⟦<Stock as Stocked>⟧.slots stock.old)
-            (⟦<MenuStock as StockedMenus>⟧.menu_slots stock.old.menus) ≡ true }
+            (⟦<MenuStock as StockedMenus>⟧.menu_slots stock.old.menus)
+            (⟦<ControlStock as StockedControls>⟧.control_slots stock.old.controls) ≡ true }
         requires unfailed { (S.output sink.old).has_failed ≡ false }
-        ensures ready { IsReady ⟦<Taken as Defined>⟧.loan ⟦<TakenMenu as DefinedMenu>⟧.menu_loan self.new
-            (⟦<Stock as Stocked>⟧.slots stock.new) (⟦<MenuStock as StockedMenus>⟧.menu_slots stock.new.menus) }
+        ensures ready { IsReady ⟦<Taken as Defined>⟧.loan ⟦<TakenMenu as DefinedMenu>⟧.menu_loan ⟦<TakenControl as DefinedControl>⟧.control_loan self.new
+            (⟦<Stock as Stocked>⟧.slots stock.new) (⟦<MenuStock as StockedMenus>⟧.menu_slots stock.new.menus)
+            (⟦<ControlStock as StockedControls>⟧.control_slots stock.new.controls) }
         ensures quiet { OnOk result ((S.output sink.new).has_failed ≡ false) }
         ensures ends { CommandEnds raw
-            (session_of ⟦<Taken as Defined>⟧.loan ⟦<TakenMenu as DefinedMenu>⟧.menu_loan self.old
-            (⟦<Stock as Stocked>⟧.slots stock.old) (⟦<MenuStock as StockedMenus>⟧.menu_slots stock.old.menus)) command.now
-            (session_of ⟦<Taken as Defined>⟧.loan ⟦<TakenMenu as DefinedMenu>⟧.menu_loan self.new
-            (⟦<Stock as Stocked>⟧.slots stock.new) (⟦<MenuStock as StockedMenus>⟧.menu_slots stock.new.menus))
+            (session_of ⟦<Taken as Defined>⟧.loan ⟦<TakenMenu as DefinedMenu>⟧.menu_loan ⟦<TakenControl as DefinedControl>⟧.control_loan self.old
+            (⟦<Stock as Stocked>⟧.slots stock.old) (⟦<MenuStock as StockedMenus>⟧.menu_slots stock.old.menus)
+            (⟦<ControlStock as StockedControls>⟧.control_slots stock.old.controls)) command.now
+            (session_of ⟦<Taken as Defined>⟧.loan ⟦<TakenMenu as DefinedMenu>⟧.menu_loan ⟦<TakenControl as DefinedControl>⟧.control_loan self.new
+            (⟦<Stock as Stocked>⟧.slots stock.new) (⟦<MenuStock as StockedMenus>⟧.menu_slots stock.new.menus)
+            (⟦<ControlStock as StockedControls>⟧.control_slots stock.new.controls))
             (S.output sink.old) (S.output sink.new) result }
     {
         let size = first_size(command);
@@ -163,30 +180,34 @@ impl Session {
     /// painted from nothing, or NoMemory where there is none for painting. Without a desk none differs.
     pub fn check<S: Sink>(&self, sink: &mut S) -> Result<(), Refusal>
         requires kept { (desk : _) → self.now.desk ≡ Some desk
-            → IsKeptToolbox ⟦<Taken as Defined>⟧.loan ⟦<TakenMenu as DefinedMenu>⟧.menu_loan desk }
+            → IsKeptToolbox ⟦<Taken as Defined>⟧.loan ⟦<TakenMenu as DefinedMenu>⟧.menu_loan ⟦<TakenControl as DefinedControl>⟧.control_loan desk }
         requires unfailed { (S.output sink.old).has_failed ≡ false }
-        ensures { (slots : List SlotView) (kept : List MenuSlot) → (text : List ℕ)
-            × IsCheckLine (session_of ⟦<Taken as Defined>⟧.loan ⟦<TakenMenu as DefinedMenu>⟧.menu_loan self.now slots kept) text
+        ensures { (slots : List SlotView) (kept : List MenuSlot) (held : List ControlSlot) → (text : List ℕ)
+            × IsCheckLine (session_of ⟦<Taken as Defined>⟧.loan ⟦<TakenMenu as DefinedMenu>⟧.menu_loan ⟦<TakenControl as DefinedControl>⟧.control_loan self.now slots kept held) text
             × Sends (S.output sink.old) (S.output sink.new) result text }
     {
         let count = match &self.desk {
-            Some(desk) => differences(self.alloc, desk, &NothingShown),
+            Some(desk) => differences(self.alloc, desk, desk.controls()),
             None => Ok(0),
         };
         write_check(sink, count.ok())
     }
 
-    /// Ends the session: the definition of every window and of every menu is disposed of, and put back
-    /// Closed into its slot, while every other slot stays as it was.
+    /// Ends the session: the definition of every window, of every control and of every menu is disposed of,
+    /// and put back Closed into its slot, while every other slot stays as it was.
     pub fn close(self, stock: &mut Stock)
-        requires { IsReady ⟦<Taken as Defined>⟧.loan ⟦<TakenMenu as DefinedMenu>⟧.menu_loan self
-            (⟦<Stock as Stocked>⟧.slots stock.old) (⟦<MenuStock as StockedMenus>⟧.menu_slots stock.old.menus) }
+        requires { IsReady ⟦<Taken as Defined>⟧.loan ⟦<TakenMenu as DefinedMenu>⟧.menu_loan ⟦<TakenControl as DefinedControl>⟧.control_loan self
+            (⟦<Stock as Stocked>⟧.slots stock.old) (⟦<MenuStock as StockedMenus>⟧.menu_slots stock.old.menus)
+            (⟦<ControlStock as StockedControls>⟧.control_slots stock.old.controls) }
         ensures full { All IsFull (⟦<Stock as Stocked>⟧.slots stock.new) }
         ensures full_menus { All IsMenuFull (⟦<MenuStock as StockedMenus>⟧.menu_slots stock.new.menus) }
+        ensures full_controls { All IsControlFull (⟦<ControlStock as StockedControls>⟧.control_slots stock.new.controls) }
         ensures left { LeavesStock
-            (session_of ⟦<Taken as Defined>⟧.loan ⟦<TakenMenu as DefinedMenu>⟧.menu_loan self
-            (⟦<Stock as Stocked>⟧.slots stock.old) (⟦<MenuStock as StockedMenus>⟧.menu_slots stock.old.menus))
-            (⟦<Stock as Stocked>⟧.slots stock.new) (⟦<MenuStock as StockedMenus>⟧.menu_slots stock.new.menus) }
+            (session_of ⟦<Taken as Defined>⟧.loan ⟦<TakenMenu as DefinedMenu>⟧.menu_loan ⟦<TakenControl as DefinedControl>⟧.control_loan self
+            (⟦<Stock as Stocked>⟧.slots stock.old) (⟦<MenuStock as StockedMenus>⟧.menu_slots stock.old.menus)
+            (⟦<ControlStock as StockedControls>⟧.control_slots stock.old.controls))
+            (⟦<Stock as Stocked>⟧.slots stock.new) (⟦<MenuStock as StockedMenus>⟧.menu_slots stock.new.menus)
+            (⟦<ControlStock as StockedControls>⟧.control_slots stock.new.controls) }
     {
         let Session { desk, .. } = self;
         if let Some(desk) = desk {
@@ -209,12 +230,14 @@ fn first_size(command: &Command<'_>) -> DeskSize
 /// Whether the stock has a slot of the kind that a command names, if it names one.
 fn is_known(command: &Command<'_>, stock: &Stock) -> bool
     ensures { result ≡ is_known command.now (⟦<Stock as Stocked>⟧.slots stock.now)
-        (⟦<MenuStock as StockedMenus>⟧.menu_slots stock.now.menus) }
+        (⟦<MenuStock as StockedMenus>⟧.menu_slots stock.now.menus)
+        (⟦<ControlStock as StockedControls>⟧.control_slots stock.now.controls) }
 {
     match command {
         Command::Call(Call::Window(call)) => is_known_call(call, stock),
         Command::Call(Call::Update(_)) => true,
         Command::Call(Call::Frame(_)) => true,
+        Command::Call(Call::Control(call)) => is_known_control_call(call, stock),
         Command::Call(Call::Menu(call)) => is_known_menu_call(call, stock),
         Command::Call(Call::Event(_)) => true,
         Command::Desk(_) => true,
@@ -225,7 +248,8 @@ fn is_known(command: &Command<'_>, stock: &Stock) -> bool
 /// Whether the stock has a slot of the kind that a call names, if it names one.
 fn is_known_call(call: &WindowCall<'_>, stock: &Stock) -> bool
     ensures { result ≡ is_known (Command.Call (asks.Window call.now)) (⟦<Stock as Stocked>⟧.slots stock.now)
-        (⟦<MenuStock as StockedMenus>⟧.menu_slots stock.now.menus) }
+        (⟦<MenuStock as StockedMenus>⟧.menu_slots stock.now.menus)
+        (⟦<ControlStock as StockedControls>⟧.control_slots stock.now.controls) }
 {
     match call {
         WindowCall::New(window) => stock.windows.has(window.kind.as_slice()),
@@ -233,10 +257,23 @@ fn is_known_call(call: &WindowCall<'_>, stock: &Stock) -> bool
     }
 }
 
+/// Whether the stock has a slot of the kind of control that a call names, if it names one.
+fn is_known_control_call(call: &ControlCall<'_>, stock: &Stock) -> bool
+    ensures { result ≡ is_known (Command.Call (asks.Control call.now)) (⟦<Stock as Stocked>⟧.slots stock.now)
+        (⟦<MenuStock as StockedMenus>⟧.menu_slots stock.now.menus)
+        (⟦<ControlStock as StockedControls>⟧.control_slots stock.now.controls) }
+{
+    match call {
+        ControlCall::New(control) => stock.controls.has(control.kind.as_slice()),
+        _ => true,
+    }
+}
+
 /// Whether the stock has a slot of the kind of menus, if a call makes one.
 fn is_known_menu_call(call: &MenuCall<'_>, stock: &Stock) -> bool
     ensures { result ≡ is_known (Command.Call (asks.Menu call.now)) (⟦<Stock as Stocked>⟧.slots stock.now)
-        (⟦<MenuStock as StockedMenus>⟧.menu_slots stock.now.menus) }
+        (⟦<MenuStock as StockedMenus>⟧.menu_slots stock.now.menus)
+        (⟦<ControlStock as StockedControls>⟧.control_slots stock.now.controls) }
 {
     match call {
         MenuCall::New(_) => stock.menus.has(MENU_KIND),
@@ -252,17 +289,21 @@ fn first_answer<S: Sink>(
     sink: &mut S,
     raw: bool,
 ) -> Result<(), Refusal>
-    requires whole { IsWholeToolbox ⟦<Taken as Defined>⟧.loan ⟦<TakenMenu as DefinedMenu>⟧.menu_loan desk.old
-        (⟦<Stock as Stocked>⟧.slots stock.old) (⟦<MenuStock as StockedMenus>⟧.menu_slots stock.old.menus) }
+    requires whole { IsWholeToolbox ⟦<Taken as Defined>⟧.loan ⟦<TakenMenu as DefinedMenu>⟧.menu_loan ⟦<TakenControl as DefinedControl>⟧.control_loan desk.old
+        (⟦<Stock as Stocked>⟧.slots stock.old) (⟦<MenuStock as StockedMenus>⟧.menu_slots stock.old.menus)
+        (⟦<ControlStock as StockedControls>⟧.control_slots stock.old.controls) }
     requires unfailed { (S.output sink.old).has_failed ≡ false }
-    ensures whole { IsWholeToolbox ⟦<Taken as Defined>⟧.loan ⟦<TakenMenu as DefinedMenu>⟧.menu_loan desk.new
-        (⟦<Stock as Stocked>⟧.slots stock.new) (⟦<MenuStock as StockedMenus>⟧.menu_slots stock.new.menus) }
+    ensures whole { IsWholeToolbox ⟦<Taken as Defined>⟧.loan ⟦<TakenMenu as DefinedMenu>⟧.menu_loan ⟦<TakenControl as DefinedControl>⟧.control_loan desk.new
+        (⟦<Stock as Stocked>⟧.slots stock.new) (⟦<MenuStock as StockedMenus>⟧.menu_slots stock.new.menus)
+        (⟦<ControlStock as StockedControls>⟧.control_slots stock.new.controls) }
     ensures quiet { OnOk result ((S.output sink.new).has_failed ≡ false) }
     ensures answered { IsFirstAnswered raw
-        (toolbox_state ⟦<Taken as Defined>⟧.loan ⟦<TakenMenu as DefinedMenu>⟧.menu_loan desk.old
-        (⟦<Stock as Stocked>⟧.slots stock.old) (⟦<MenuStock as StockedMenus>⟧.menu_slots stock.old.menus)) command.now
-        (toolbox_state ⟦<Taken as Defined>⟧.loan ⟦<TakenMenu as DefinedMenu>⟧.menu_loan desk.new
-        (⟦<Stock as Stocked>⟧.slots stock.new) (⟦<MenuStock as StockedMenus>⟧.menu_slots stock.new.menus))
+        (toolbox_state ⟦<Taken as Defined>⟧.loan ⟦<TakenMenu as DefinedMenu>⟧.menu_loan ⟦<TakenControl as DefinedControl>⟧.control_loan desk.old
+        (⟦<Stock as Stocked>⟧.slots stock.old) (⟦<MenuStock as StockedMenus>⟧.menu_slots stock.old.menus)
+        (⟦<ControlStock as StockedControls>⟧.control_slots stock.old.controls)) command.now
+        (toolbox_state ⟦<Taken as Defined>⟧.loan ⟦<TakenMenu as DefinedMenu>⟧.menu_loan ⟦<TakenControl as DefinedControl>⟧.control_loan desk.new
+        (⟦<Stock as Stocked>⟧.slots stock.new) (⟦<MenuStock as StockedMenus>⟧.menu_slots stock.new.menus)
+        (⟦<ControlStock as StockedControls>⟧.control_slots stock.new.controls))
         (S.output sink.old) (S.output sink.new) result }
 {
     match command {
@@ -280,17 +321,21 @@ fn answer_on<S: Sink>(
     sink: &mut S,
     raw: bool,
 ) -> Result<(), Refusal>
-    requires whole { IsWholeToolbox ⟦<Taken as Defined>⟧.loan ⟦<TakenMenu as DefinedMenu>⟧.menu_loan desk.old
-        (⟦<Stock as Stocked>⟧.slots stock.old) (⟦<MenuStock as StockedMenus>⟧.menu_slots stock.old.menus) }
+    requires whole { IsWholeToolbox ⟦<Taken as Defined>⟧.loan ⟦<TakenMenu as DefinedMenu>⟧.menu_loan ⟦<TakenControl as DefinedControl>⟧.control_loan desk.old
+        (⟦<Stock as Stocked>⟧.slots stock.old) (⟦<MenuStock as StockedMenus>⟧.menu_slots stock.old.menus)
+        (⟦<ControlStock as StockedControls>⟧.control_slots stock.old.controls) }
     requires unfailed { (S.output sink.old).has_failed ≡ false }
-    ensures whole { IsWholeToolbox ⟦<Taken as Defined>⟧.loan ⟦<TakenMenu as DefinedMenu>⟧.menu_loan desk.new
-        (⟦<Stock as Stocked>⟧.slots stock.new) (⟦<MenuStock as StockedMenus>⟧.menu_slots stock.new.menus) }
+    ensures whole { IsWholeToolbox ⟦<Taken as Defined>⟧.loan ⟦<TakenMenu as DefinedMenu>⟧.menu_loan ⟦<TakenControl as DefinedControl>⟧.control_loan desk.new
+        (⟦<Stock as Stocked>⟧.slots stock.new) (⟦<MenuStock as StockedMenus>⟧.menu_slots stock.new.menus)
+        (⟦<ControlStock as StockedControls>⟧.control_slots stock.new.controls) }
     ensures quiet { OnOk result ((S.output sink.new).has_failed ≡ false) }
     ensures answered { IsAnswered raw
-        (toolbox_state ⟦<Taken as Defined>⟧.loan ⟦<TakenMenu as DefinedMenu>⟧.menu_loan desk.old
-        (⟦<Stock as Stocked>⟧.slots stock.old) (⟦<MenuStock as StockedMenus>⟧.menu_slots stock.old.menus)) command.now
-        (toolbox_state ⟦<Taken as Defined>⟧.loan ⟦<TakenMenu as DefinedMenu>⟧.menu_loan desk.new
-        (⟦<Stock as Stocked>⟧.slots stock.new) (⟦<MenuStock as StockedMenus>⟧.menu_slots stock.new.menus))
+        (toolbox_state ⟦<Taken as Defined>⟧.loan ⟦<TakenMenu as DefinedMenu>⟧.menu_loan ⟦<TakenControl as DefinedControl>⟧.control_loan desk.old
+        (⟦<Stock as Stocked>⟧.slots stock.old) (⟦<MenuStock as StockedMenus>⟧.menu_slots stock.old.menus)
+        (⟦<ControlStock as StockedControls>⟧.control_slots stock.old.controls)) command.now
+        (toolbox_state ⟦<Taken as Defined>⟧.loan ⟦<TakenMenu as DefinedMenu>⟧.menu_loan ⟦<TakenControl as DefinedControl>⟧.control_loan desk.new
+        (⟦<Stock as Stocked>⟧.slots stock.new) (⟦<MenuStock as StockedMenus>⟧.menu_slots stock.new.menus)
+        (⟦<ControlStock as StockedControls>⟧.control_slots stock.new.controls))
         (S.output sink.old) (S.output sink.new) result }
 {
     match command {

@@ -5,7 +5,7 @@ ghost use Rattle.std.specs.Prelude.{◌<◌};
 
 use crate::paper::Paper;
 use crate::script::Script;
-use def_iface::{MenuStock, Stock, WindowDef};
+use def_iface::{ControlStock, MenuStock, Stock, WindowDef};
 use font_tests::small::SMALL;
 use script_runner::{OptionsError, run};
 use std::alloc::{AllocError, Global};
@@ -55,6 +55,7 @@ fn run_with(
     paper: &mut Paper,
 ) -> Result<Ended, Fail> {
     let mut stock = Stock::new(alloc);
+    stock.controls = ControlStock::new(alloc);
     stock.menus = MenuStock::new(alloc);
     let plain: Box<dyn WindowDef> = Box::new(alloc, StdWindow::new(Variation::Plain))?;
     let Ok(()) = stock.windows.add(b"plain", plain) else {
@@ -141,6 +142,7 @@ fn a_script_ends_within_a_million_reads(rt: HostRuntime) -> Result<(), Fail> {
     for (length, outcome, left, answers) in cases {
         assert!(rt; length <= comment.len());
         let mut stock = Stock::new(rt.alloc());
+        stock.controls = ControlStock::new(rt.alloc());
         stock.menus = MenuStock::new(rt.alloc());
         let mut script = Script::new(&comment[..length], 1, 1_000_001);
         let mut source = WatchedReader::new(&mut script);

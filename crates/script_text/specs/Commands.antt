@@ -9,6 +9,7 @@ use Rattle.line_words.specs.Tables.{named, tagged}
 use Rattle.window_words.specs.WindowWords.{window_verbs, window_shape}
 use Rattle.window_words.specs.UpdateWords.{update_verbs, update_shape}
 use Rattle.window_words.specs.FrameWords.{frame_verbs, frame_shape}
+use Rattle.control_words.specs.ControlWords.{control_verbs, control_shape}
 use Rattle.menu_words.specs.MenuWords.{menu_verbs, menu_shape}
 use Rattle.event_words.specs.EventWords.{event_verbs, event_shape}
 use Rattle.script_text.specs.declared.command.Command.{Command}
@@ -26,9 +27,10 @@ verbs =
     tagged words.Window window_verbs
     ++ (tagged words.Update update_verbs
     ++ (tagged words.Frame frame_verbs
+    ++ (tagged words.Control control_verbs
     ++ (tagged words.Menu menu_verbs
     ++ (tagged words.Event event_verbs
-    ++ desk_verbs))))
+    ++ desk_verbs)))))
 
 -- WIDTH HEIGHT BAR
 abbrev pub desk_shape : Shape Command
@@ -41,6 +43,7 @@ shape_of words.Image = says Image
 shape_of (words.Window verb) = mapped (λ call. Call (calls.Window call)) (window_shape verb)
 shape_of (words.Update verb) = mapped (λ call. Call (calls.Update call)) (update_shape verb)
 shape_of (words.Frame verb) = mapped (λ call. Call (calls.Frame call)) (frame_shape verb)
+shape_of (words.Control verb) = mapped (λ call. Call (calls.Control call)) (control_shape verb)
 shape_of (words.Menu verb) = mapped (λ call. Call (calls.Menu call)) (menu_shape verb)
 shape_of (words.Event verb) = mapped (λ call. Call (calls.Event call)) (event_shape verb)
 

@@ -16,6 +16,7 @@ ghost use Rattle.script_text.specs.Spelling.{IsLine};
 
 use crate::command::{Command, DeskSize};
 use crate::verb::{Verb, verb_of};
+use control_words::ControlVerb;
 use desk_call::Call;
 use event_words::EventVerb;
 use line_words::Words;
@@ -68,6 +69,15 @@ fn frame<'a>(verb: FrameVerb, words: Words<'a>) -> Result<Command<'a>, Refusal>
     Ok(Command::Call(Call::Frame(call)))
 }
 
+/// The words after a verb for controls.
+#[tactic(auto, using(line_words::proofs::Mapped::reading_mapped))]
+fn control<'a>(verb: ControlVerb, words: Words<'a>) -> Result<Command<'a>, Refusal>
+    ensures { result ≡ reading (shape_of (verbs.Control verb)) words.entry }
+{
+    let call = verb.call(words)?;
+    Ok(Command::Call(Call::Control(call)))
+}
+
 /// The words after a verb for menus.
 #[tactic(auto, using(line_words::proofs::Mapped::reading_mapped))]
 fn menu<'a>(verb: MenuVerb, words: Words<'a>) -> Result<Command<'a>, Refusal>
@@ -96,6 +106,7 @@ fn command<'a>(verb: Verb, words: Words<'a>) -> Result<Command<'a>, Refusal>
         Verb::Window(verb) => window(verb, words),
         Verb::Update(verb) => update(verb, words),
         Verb::Frame(verb) => frame(verb, words),
+        Verb::Control(verb) => control(verb, words),
         Verb::Menu(verb) => menu(verb, words),
         Verb::Event(verb) => event(verb, words),
     }

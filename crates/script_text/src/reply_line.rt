@@ -3,6 +3,7 @@ ghost use Rattle.std.specs.Prelude.{◌≡◌, false};
 ghost use Rattle.watched_io.specs.Writes.{Sends};
 ghost use Rattle.script_text.specs.Replies.{refused_text, reply_text};
 
+use control_words::write_control_reply;
 use desk_call::Reply;
 use event_words::write_event_reply;
 use itoa::Buffer;
@@ -20,6 +21,7 @@ pub fn write_reply<S: Sink>(sink: &mut S, reply: &Result<Reply, Refusal>) -> Res
     match reply {
         Ok(Reply::Window(reply)) => write_window_reply(sink, reply),
         Ok(Reply::Frame(reply)) => write_frame_reply(sink, *reply),
+        Ok(Reply::Control(reply)) => write_control_reply(sink, reply),
         Ok(Reply::Menu(reply)) => write_menu_reply(sink, *reply),
         Ok(Reply::Event(reply)) => write_event_reply(sink, reply),
         Err(refusal) => write_refusal(sink, *refusal),

@@ -3,6 +3,7 @@ ghost use Rattle.std.specs.Prelude.{◌≡◌};
 ghost use Rattle.line_words.specs.Tables.{named};
 ghost use Rattle.script_text.specs.Commands.{verbs};
 
+use control_words::ControlVerb;
 use event_words::EventVerb;
 use line_words::named;
 use menu_words::MenuVerb;
@@ -16,6 +17,7 @@ pub enum Verb {
     Window(WindowVerb),
     Update(UpdateVerb),
     Frame(FrameVerb),
+    Control(ControlVerb),
     Menu(MenuVerb),
     Event(EventVerb),
 }
@@ -36,6 +38,9 @@ pub fn verb_of(word: &[u8]) -> Option<Verb>
     }
     if let Some(verb) = FrameVerb::from_word(word) {
         return Some(Verb::Frame(verb));
+    }
+    if let Some(verb) = ControlVerb::from_word(word) {
+        return Some(Verb::Control(verb));
     }
     if let Some(verb) = MenuVerb::from_word(word) {
         return Some(Verb::Menu(verb));

@@ -256,4 +256,5 @@ caught_up loan t new standing its same none leaves = subst (λ s. LeavesState lo
     by_standing (standings.Updates n) none = leaves
     by_standing standings.Tracks none = leaves
     by_standing standings.Pulls none = leaves
+    by_standing standings.TracksControl none = leaves
     by_standing standings.Changes none = leaves

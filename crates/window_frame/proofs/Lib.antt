@@ -4,3 +4,4 @@ pub mod FrameKeeps
 pub mod FrameLaws
 pub mod FrameSteps
 pub mod Informing
+pub mod FramesShowing

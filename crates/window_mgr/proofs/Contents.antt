@@ -1,5 +1,5 @@
 -- What the content layers of a window have of the screen, and what they are to show there.
-use Rattle.std.proofs.Common.{◌≡◌, ℕ, ◌<◌, ◌==◌, ◌&&◌, not, Bool, true, false, if◌then◌else◌, List, length, Some, refl, sym, ap, ◌∙◌}
+use Rattle.std.proofs.Common.{◌≡◌, ℕ, ◌<◌, ◌==◌, ◌&&◌, true, false, if◌then◌else◌, List, length, Some, refl, sym, ap, ◌∙◌}
 use Rattle.std.proofs.lemmas.Bool.{false≢true, and_parts}
 use Rattle.tb_geom.specs.declared.point.Point.{Point}
 use Rattle.tb_geom.specs.Points.{PixelSet, minus}
@@ -17,9 +17,7 @@ use Rattle.def_iface.specs.Scratch.{scratch}
 use Rattle.def_iface.proofs.Owning.{same_number}
 use Rattle.def_iface.proofs.Painting.{scratch_is_owners}
 use Rattle.desk_call.specs.declared.update.Layers.{Layers}
-use Rattle.desk_call.specs.declared.update.Layers.TheVariants.{Picture}
 use Rattle.layer_list.specs.Holders.{part_at, ArePartsApart}
-use Rattle.layer_list.proofs.Parts.{covered_is}
 use Rattle.vis_update.specs.Areas.{is_content_of}
 use Rattle.vis_update.specs.Records.{Look, layered_window, record_of}
 use Rattle.window_list.specs.declared.window.Window.{Window}
@@ -28,7 +26,6 @@ use Rattle.window_mgr.specs.declared.manager.WindowManager.{WindowManager}
 use Rattle.window_mgr.specs.Edits.{IsWindowAt}
 use Rattle.window_mgr.specs.FullDesk.{FullDesk, layered_desk, look_of}
 use Rattle.window_mgr.specs.Records.{desk_of, desk_showing}
-use Rattle.window_paint.specs.Hidden.{is_hidden}
 use Rattle.window_paint.specs.Kinds.{is_of}
 use Rattle.window_mgr.specs.Updating.{is_of_kind}
 use Rattle.window_mgr.specs.Whole.{IsWholeManager}
@@ -39,12 +36,6 @@ use Rattle.window_mgr.proofs.Remarked as remarked
 use Rattle.window_mgr.proofs.Showing.{distinct_showing}
 
 -- ---- kinds of layers
-
--- the picture is a kind by itself
-pub picture_kind : (a : Part) → is_of Picture a ≡ same_part a part.Picture
-picture_kind part.Picture = refl
-picture_kind (part.Control n) = refl
-picture_kind (part.List n) = refl
 
 -- what is no content of a window is of no kind of it
 pub no_kind : (kind : Layers) (s : ℕ) (o : Owner) → is_content_of s o ≡ false → is_of_kind kind s o ≡ false
@@ -112,17 +103,6 @@ module _ {V : Type 0} {H : V → Type 0} (loan : Taken V H → Loan) (t : Window
       ∙ ap (λ b. b && is_of kind (part_there p)) (sym (same_number w.serial))
       ∙ ap (is_of_kind kind w.serial) (sym (owner_there p its))
 
-  -- what is not hidden is the picture's
-  pub picture_there : (p : Point) → not (is_hidden w p) ≡ is_of Picture (part_at w.layers.layers (minus p w.layers.place))
-  picture_there p =
-      ap not (covered_is w.layers.layers (minus p w.layers.place) layers_apart)
-      ∙ twice (same_part (part_at w.layers.layers (minus p w.layers.place)) part.Picture)
-      ∙ sym (picture_kind (part_at w.layers.layers (minus p w.layers.place)))
-    where
-      twice : (b : Bool) → not (not b) ≡ b
-      twice true = refl
-      twice false = refl
-
   shown_is : (p : Point) → is_content_of w.serial (owner desk p) ≡ true → shown p ≡ scratch desk p
   shown_is p its =
       let found : layers.window_of w.serial desk.windows ≡ Some (layered_window look (record_of loan w)) =
@@ -135,11 +115,3 @@ module _ {V : Type 0} {H : V → Type 0} (loan : Taken V H → Loan) (t : Window
   -- what the content shows is what painting from nothing gives
   pub content_right : (p : Point) → is_content_of w.serial (owner desk p) ≡ true → content_shown t.font (shows t.font) w p ≡ scratch desk p
   content_right p its = content_is p ∙ shown_is p its
-
-  -- so of the picture
-  pub picture_shown_is : (p : Point) → is_of_kind Picture w.serial (owner desk p) ≡ true → picture_bit t.font w.picture (minus (minus p w.place) w.origin) ≡ scratch desk p
-  picture_shown_is p its =
-      let content = kind_content Picture w.serial (owner desk p) its in
-      let kind : same_part (part_there p) part.Picture ≡ true =
-      sym (picture_kind (part_there p)) ∙ ap (λ place. is_of Picture (part_at w.layers.layers (minus p place))) (sym layers_there) ∙ kind_is Picture p content ∙ its in
-      sym (ap (λ b. if b then picture_bit t.font w.picture (minus (minus p w.place) w.origin) else shows t.font (part_there p) (minus p w.place)) kind) ∙ shown_is p content

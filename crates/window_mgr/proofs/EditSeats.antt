@@ -195,9 +195,9 @@ same_size e ws x low x_is size_is w w_is = size_is ∙ ap (λ (z : Window _ _). 
 -- ---- how far its pixels move
 
 -- a window that stays where it is moves no pixels
-pub stays_as : {V : Type 0} {H : V → Type 0} (e f : Edit) (ws : List (Window V H)) (x : Window V H) → e ≡ f → f.at < length ws → IsWindowAt ws f.at x → f.place ≡ x.place → IsOnItsWay e None ws
-stays_as e f ws x same low x_is place_is = subst (λ (y : Edit). IsOnItsWay y None ws) (sym same) (λ w w_is. place_is ∙ ap (λ (z : Window _ _). z.place) (same_at ws f.at x w low x_is w_is))
+pub stays_as : {V : Type 0} {H : V → Type 0} (e f : Edit) (ws : List (Window V H)) (x : Window V H) → e ≡ f → f.at < length ws → IsWindowAt ws f.at x → f.place ≡ x.place → IsOnItsWay e.at e.place None ws
+stays_as e f ws x same low x_is place_is = subst (λ (y : Edit). IsOnItsWay y.at y.place None ws) (sym same) (λ w w_is. place_is ∙ ap (λ (z : Window _ _). z.place) (same_at ws f.at x w low x_is w_is))
 
 -- one that is put elsewhere moves them as far
-pub goes_as_far : {V : Type 0} {H : V → Type 0} (e : Edit) (i : ℕ) (by : Point) (ws : List (Window V H)) (x : Window V H) → e.at ≡ i → i < length ws → IsWindowAt ws i x → by ≡ minus e.place x.place → IsOnItsWay e (Some by) ws
+pub goes_as_far : {V : Type 0} {H : V → Type 0} (e : Edit) (i : ℕ) (by : Point) (ws : List (Window V H)) (x : Window V H) → e.at ≡ i → i < length ws → IsWindowAt ws i x → by ≡ minus e.place x.place → IsOnItsWay e.at e.place (Some by) ws
 goes_as_far e i by ws x at low x_is far w w_is = far ∙ ap (λ (z : Window _ _). minus e.place z.place) (same_at ws i x w low x_is (subst (λ n. IsWindowAt ws n w) at w_is))

@@ -50,7 +50,7 @@ module _ {V : Type 0} {H : V → Type 0} (loan : Taken V H → Loan) (t : Window
 
   module _ (e : Edit) (w : Window V H) (w_is : IsWindowAt t.windows.records.items e.at w) (low : e.at < length t.windows.records.items) (also : Option ℕ) where
     -- a window on its way keeps its layers
-    on_its_way : (by : Option Point) → IsOnItsWay e by t.windows.records.items → IsKept (record { window = w.serial; also = also; by = by }) (record_of loan w) (put_record e (record_of loan w))
+    on_its_way : (by : Option Point) → IsOnItsWay e.at e.place by t.windows.records.items → IsKept (record { window = w.serial; also = also; by = by }) (record_of loan w) (put_record e (record_of loan w))
     on_its_way None way =
         kept_in_place (record { window = w.serial; also = also; by = None }) (record_of loan w) (put_record e (record_of loan w)) refl (way w w_is)
         (none_moves (record { window = w.serial; also = also; by = None }) refl w.serial)
@@ -59,7 +59,7 @@ module _ {V : Type 0} {H : V → Type 0} (loan : Taken V H → Loan) (t : Window
         (ap (λ b. if b then Some by else None) (same_number w.serial) ∙ ap Some (way w w_is))
 
     -- a call that puts this window anew
-    pub edit_keeps : (n : ℕ) → n ≡ w.serial → (by : Option Point) → IsOnItsWay e by t.windows.records.items → (after : FullDesk) → IsDeskOfEdit loan e t w after
+    pub edit_keeps : (n : ℕ) → n ≡ w.serial → (by : Option Point) → IsOnItsWay e.at e.place by t.windows.records.items → (after : FullDesk) → IsDeskOfEdit loan e t w after
         → KeepsLayers (record { window = n; also = also; by = by }) (layered_desk before) (layered_desk after)
     edit_keeps n about by way after D =
         let touch : Touch = record { window = w.serial; also = also; by = by } in

@@ -1,19 +1,17 @@
 -- A window manager that drew what was to be redrawn of the layers of one kind, or of all of a window's content.
-use Rattle.std.proofs.Common.{◌≡◌, ℕ, ◌<◌, ◌&&◌, not, Bool, true, false, List, length, refl, sym, ap, ◌∙◌, subst}
+use Rattle.std.proofs.Common.{◌≡◌, ℕ, ◌<◌, ◌&&◌, not, Bool, true, false, List, length, refl, sym, ◌∙◌, subst}
 use Rattle.std.specs.Prelude.{get_or}
 use Rattle.tb_geom.specs.declared.point.Point.{Point}
-use Rattle.tb_geom.specs.Points.{PixelSet, minus}
+use Rattle.tb_geom.specs.Points.{PixelSet}
 use Rattle.tb_geom.specs.Pixels.{Pixels, holds}
 use Rattle.bit_map.specs.Bits.{Bits}
 use Rattle.bit_blit.specs.Draws.{Draws}
 use Rattle.bit_blit.proofs.DrawsLemmas.{Draws-where}
-use Rattle.draw_port.specs.Ops.{picture_bit}
 use Rattle.def_iface.specs.declared.part.Part.{Part}
 use Rattle.def_iface.specs.declared.taken.Taken.{Taken}
 use Rattle.def_iface.specs.Meaning.{Loan}
 use Rattle.def_iface.specs.Stocked.{SlotView}
 use Rattle.desk_call.specs.declared.update.Layers.{Layers}
-use Rattle.desk_call.specs.declared.update.Layers.TheVariants.{Picture}
 use Rattle.vis_update.specs.declared.area.Area.{Area}
 use Rattle.vis_update.specs.Areas.{is_content_of}
 use Rattle.window_list.specs.declared.window.Window.{Window}
@@ -21,36 +19,16 @@ use Rattle.window_paint.specs.Shown.{content_shown}
 use Rattle.window_mgr.specs.declared.manager.WindowManager.{WindowManager}
 use Rattle.window_mgr.specs.Edits.{IsWindowAt}
 use Rattle.window_mgr.specs.Records.{state_of, state_showing}
-use Rattle.window_paint.specs.Hidden.{is_hidden}
 use Rattle.window_paint.specs.Kinds.{is_kind_there}
 use Rattle.window_mgr.specs.Updating.{IsRefreshed, is_of_kind}
 use Rattle.window_mgr.specs.Whole.{IsWholeManager}
-use Rattle.window_mgr.proofs.Contents.{no_kind, kind_content, kind_is, picture_there, picture_shown_is, content_right}
+use Rattle.window_mgr.proofs.Contents.{no_kind, kind_content, kind_is, content_right}
 use Rattle.window_mgr.proofs.EditSeats.{same_at}
 use Rattle.window_mgr.proofs.Refreshed.{refreshed}
 use Rattle.window_mgr.proofs.Remarked as remarked
 
 module _ {V : Type 0} {H : V → Type 0} (loan : Taken V H → Loan) (t : WindowManager V H) (slots : List SlotView) (whole : IsWholeManager loan t slots) (at : ℕ) (low : at < length t.windows.records.items) (w : Window V H) (there : IsWindowAt t.windows.records.items at w) (a : Area) (read : a ≡ get_or t.areas.items at a) (shows : List ℕ → Part → PixelSet) where
-  -- the picture was drawn, where the area and the window go by other names
-  pub picture_refreshed : (update : Pixels) → ((p : Point) → holds update p ≡ (holds a.update p && is_hidden w p)) → (screen : Bits)
-      → (b : Area) → b ≡ get_or t.areas.items at b → (v : Window V H) → IsWindowAt t.windows.records.items at v
-      → Draws (λ p. holds b.update p && not (is_hidden v p)) (λ p _. picture_bit t.font v.picture (minus (minus p v.place) v.origin)) t.screen screen
-      → IsWholeManager loan (remarked.with_update loan t slots whole at low w there a read update screen) slots
-      × IsRefreshed (is_of_kind Picture w.serial) (state_showing shows (state_of loan t slots)) (state_showing shows (state_of loan (remarked.with_update loan t slots whole at low w there a read update screen) slots))
-  picture_refreshed update left screen b b_read v v_read drawn =
-      refreshed loan t slots whole at low w there a read shows (is_of_kind Picture w.serial) (no_kind Picture w.serial)
-      (λ p. not (is_hidden w p)) (λ p. picture_bit t.font w.picture (minus (minus p w.place) w.origin))
-      (λ p its. picture_there loan t slots whole at low w there shows p ∙ kind_is loan t slots whole at low w there shows Picture p its)
-      (picture_shown_is loan t slots whole at low w there shows)
-      update (λ p. left p ∙ ap (λ x. holds a.update p && x) (sym (twice (is_hidden w p)))) screen
-      (subst (λ (k : Area × Window V H). Draws (λ p. holds k.0.update p && not (is_hidden k.1 p)) (λ p _. picture_bit t.font k.1.picture (minus (minus p k.1.place) k.1.origin)) t.screen screen)
-      (λ i. (same_at t.areas.items at b a (remarked.area_low loan t slots whole at low) b_read read i, same_at t.windows.records.items at v w low v_read there i)) drawn)
-    where
-      twice : (x : Bool) → not (not x) ≡ x
-      twice true = refl
-      twice false = refl
-
-  -- lists or controls were
+  -- the layers of a kind were drawn, where the area and the window go by other names
   pub kind_refreshed : (kind : Layers) (update : Pixels) → ((p : Point) → holds update p ≡ (holds a.update p && not (is_kind_there kind w p))) → (screen : Bits)
       → (b : Area) → b ≡ get_or t.areas.items at b → (v : Window V H) → IsWindowAt t.windows.records.items at v
       → Draws (λ p. holds b.update p && is_kind_there kind v p) (λ p _. content_shown t.font (shows t.font) v p) t.screen screen

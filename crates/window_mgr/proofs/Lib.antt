@@ -59,3 +59,5 @@ pub mod FrameTold
 pub mod BarTitles
 pub mod FrameRight
 pub mod ScreenSides
+pub mod StepsShowing
+pub mod LayerRedrawn

@@ -60,7 +60,7 @@ use Rattle.window_paint.specs.White.{all_white}
 use Rattle.tb_geom.specs.Refusals.{first_refusal}
 use Rattle.window_mgr.specs.Refused as refused
 use Rattle.window_mgr.specs.Refused.{IsRefusal, may_grow, may_lie, size_refusals, zoom_refusals}
-use Rattle.window_mgr.specs.Laying.{MayHave, IsPlaceableAt, IsOnItsWayTo, IsPlacementCommitted, IsLaid, IsLaidOverAnySlots}
+use Rattle.window_mgr.specs.Laying.{MayHave, IsPlaceableAt, IsPlacementCommitted, IsLaid, IsLaidOverAnySlots}
 use Rattle.window_mgr.specs.Step.{IsWindowStep}
 use Rattle.window_mgr.specs.Whole.{IsWholeManager, IsSettled, LieThere}
 use Rattle.window_mgr.proofs.LyingThere.{put_lie}
@@ -271,16 +271,15 @@ module _ {V : Type 0} {H : V → Type 0} (loan : Taken V H → Loan) where
     is_placeable may e e_is = subst (λ (y : Edit). IsPlaceable loan (record y { place = to.place; size = to.size }) t.windows.records.items) (sym e_is) (λ w w_is. (may w w_is).0)
 
     -- one that stays there
-    pub stays_there : to.place ≡ x.place → IsOnItsWayTo i to None t.windows.records.items
+    pub stays_there : to.place ≡ x.place → IsOnItsWay i to.place None t.windows.records.items
     stays_there place_is w w_is = place_is ∙ ap (λ (z : Window V H). z.place) (same_at t.windows.records.items i x w low x_is w_is)
 
     -- and one whose pixels go as far as it does
-    pub goes_there : (by : Point) → by ≡ minus to.place x.place → IsOnItsWayTo i to (Some by) t.windows.records.items
+    pub goes_there : (by : Point) → by ≡ minus to.place x.place → IsOnItsWay i to.place (Some by) t.windows.records.items
     goes_there by far w w_is = far ∙ ap (λ (z : Window V H). minus to.place z.place) (same_at t.windows.records.items i x w low x_is w_is)
 
-    pub is_on_its_way : (by : Option Point) → IsOnItsWayTo i to by t.windows.records.items → (e : Edit) → e ≡ stays_put i x → IsOnItsWay (record e { place = to.place; size = to.size }) by t.windows.records.items
-    is_on_its_way None way e e_is = subst (λ (y : Edit). IsOnItsWay (record y { place = to.place; size = to.size }) None t.windows.records.items) (sym e_is) way
-    is_on_its_way (Some by) way e e_is = subst (λ (y : Edit). IsOnItsWay (record y { place = to.place; size = to.size }) (Some by) t.windows.records.items) (sym e_is) way
+    pub is_on_its_way : (by : Option Point) → IsOnItsWay i to.place by t.windows.records.items → (e : Edit) → e ≡ stays_put i x → IsOnItsWay e.at to.place by t.windows.records.items
+    is_on_its_way by way e e_is = subst (λ (y : Edit). IsOnItsWay y.at to.place by t.windows.records.items) (sym e_is) way
 
     pub placement_call : (by : Option Point) (activation : Activation) (plan : Plan) (new : WindowManager V H) (slots : List SlotView) (e : Edit) → IsWholeManager loan t slots → IsPlaceableAt loan i to t.windows.records.items → e ≡ stays_put i x → IsPlanOfEdit loan (record e { place = to.place; size = to.size }) activation by t plan → IsPlacementCommitted loan i to plan by t new → IsPlacementCall i to by activation plan t new slots
     placement_call by activation plan new slots e whole may e_is planned committed = record {

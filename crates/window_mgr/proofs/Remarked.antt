@@ -1,6 +1,6 @@
 -- A window manager whose update region of one window is another.
 use Rattle.std.proofs.Common.{◌≡◌, ℕ, zero, suc, ◌==◌, ◌<◌, ◌&&◌, not, Bool, true, false, if◌then◌else◌, List, [], ◌∷◌, length, map, None, Some, pos, refl, sym, ap, ◌∙◌, subst, arith}
-use Rattle.std.specs.Prelude.{get_or, slice_get, slice_set}
+use Rattle.std.specs.Prelude.{get_or, slice_get, slice_set, vec_len}
 use Rattle.std.specs.Vec.{with_item}
 use Rattle.std.specs.Option.{option_map}
 use Rattle.std.proofs.lemmas.Bool.{false≢true, and_parts}
@@ -40,6 +40,13 @@ use Rattle.window_mgr.proofs.Seating.{as_many}
 -- each window has its area
 pub area_there : {V : Type 0} {H : V → Type 0} (loan : Taken V H → Loan) (t : WindowManager V H) → IsKept loan t → (at : ℕ) → at < length t.windows.records.items → at < length t.areas.items
 area_there loan t whole at low = let long = as_many loan t whole in omega arith
+
+-- and that area is among those that are kept
+pub area_kept : {V : Type 0} {H : V → Type 0} (loan : Taken V H → Loan) (t : WindowManager V H) → IsKept loan t → (at : ℕ) → at < length t.windows.records.items → at < vec_len t.areas
+area_kept loan t whole at low =
+    let there = area_there loan t whole at low in
+    let long = t.areas.ok.0 in
+    omega arith
 
 pub area_low : {V : Type 0} {H : V → Type 0} (loan : Taken V H → Loan) (t : WindowManager V H) (slots : List SlotView) → IsWholeManager loan t slots → (at : ℕ) → at < length t.windows.records.items → at < length t.areas.items
 area_low loan t slots whole at low = area_there loan t (kept loan t slots whole) at low

@@ -1,5 +1,5 @@
 -- Where a window goes that is sent behind another, or behind all.
-use Rattle.std.proofs.Common.{◌≡◌, ℕ, zero, suc, ◌+◌, ◌-◌, ◌<◌, ◌==◌, nat_lt, Bool, true, false, if◌then◌else◌, List, [], ◌∷◌, length, get_or, map, Option, None, Some, refl, sym, ap, ◌∙◌, subst, arith}
+use Rattle.std.proofs.Common.{◌≡◌, ℕ, zero, suc, ◌+◌, ◌-◌, ◌<◌, ◌≤◌, ◌==◌, nat_lt, Bool, true, false, if◌then◌else◌, List, [], ◌∷◌, length, get_or, map, Option, None, Some, refl, sym, ap, ◌∙◌, subst, arith}
 use Rattle.std.specs.Prelude.{slice_get, is_none}
 use Rattle.std.specs.List.{insert, remove}
 use Rattle.std.specs.Option.{option_map}
@@ -76,6 +76,21 @@ module _ (look : Look) (x : ℕ) where
       ap (λ b. if b then 1 else suc (place_after (Some x) (remove ws i))) (ap (λ n. r.serial == n) (sym its) ∙ not_among look r.serial ws k v distinct.0 ev)
       ∙ ap suc (place_is ws i k w v distinct.1.1 ew away ev its)
       ∙ suc_place k i
+
+-- the place behind another window, among the windows but the one that goes there: the other stands before it or after it
+pub behind_one_before : (i at : ℕ) → i < at → i + 1 ≡ (if nat_lt i at then i + 1 else i)
+behind_one_before i at before = by_test (nat_lt i at) refl
+  where
+    by_test : (c : Bool) → nat_lt i at ≡ c → i + 1 ≡ (if c then i + 1 else i)
+    by_test true e = refl
+    by_test false e = absurd (grind (arith, nat_tests))
+
+pub behind_one_after : (i at : ℕ) → at ≤ i → i ≡ (if nat_lt i at then i + 1 else i)
+behind_one_after i at after = by_test (nat_lt i at) refl
+  where
+    by_test : (c : Bool) → nat_lt i at ≡ c → i ≡ (if c then i + 1 else i)
+    by_test true e = absurd (grind (arith, nat_tests))
+    by_test false e = refl
 
 -- ---- the call
 

@@ -10,7 +10,7 @@ use Rattle.def_iface.specs.Meaning.{Loan}
 use Rattle.def_iface.specs.Stocked.{SlotView}
 use Rattle.def_iface.specs.Desk.{IsDesk}
 use Rattle.window_list.specs.declared.window.Window.{Window}
-use Rattle.window_list.specs.Lists.{relit}
+use Rattle.window_list.specs.Lists.{with_stand, relit}
 use Rattle.vis_update.specs.declared.area.Area.{Area}
 use Rattle.vis_update.specs.declared.plan.Plan.{Plan}
 use Rattle.vis_update.specs.declared.plan.Seat.{Seat}
@@ -56,12 +56,7 @@ module _ {V : Type 0} {H : V → Type 0} where
 
   -- the window, at the place, with the user state and as visible as the edit says
   abbrev pub put_window : Edit → Window V H → Window V H
-  put_window e w = record w {
-    place = e.place;
-    user_state = e.user_state;
-    shown = e.shown;
-    layers = record w.layers { place = e.place };
-  }
+  put_window e = with_stand e.place e.shown e.user_state
 
   -- one of the windows was put anew
   pub record IsPutAnew (e : Edit) (old new : List (Window V H)) : Type 0 where
@@ -73,10 +68,11 @@ module _ {V : Type 0} {H : V → Type 0} where
   abbrev pub SameSize : Edit → List (Window V H) → Type 0
   SameSize e ws = (w : Window V H) → IsWindowAt ws e.at w → e.size ≡ w.size
 
-  -- its pixels move as far as it does, if they move, and else it stays where it is
-  abbrev pub IsOnItsWay : Edit → Option Point → List (Window V H) → Type 0
-  IsOnItsWay e None ws = (w : Window V H) → IsWindowAt ws e.at w → e.place ≡ w.place
-  IsOnItsWay e (Some by) ws = (w : Window V H) → IsWindowAt ws e.at w → by ≡ minus e.place w.place
+  -- the window at this place of the list goes there: its pixels move as far as it does, if they move, and else it stays
+  -- where it is
+  abbrev pub IsOnItsWay : ℕ → Point → Option Point → List (Window V H) → Type 0
+  IsOnItsWay i there None ws = (w : Window V H) → IsWindowAt ws i w → there ≡ w.place
+  IsOnItsWay i there (Some by) ws = (w : Window V H) → IsWindowAt ws i w → by ≡ minus there w.place
 
   -- the seats of the windows, one put anew
   pub record AreSeatsAfter (e : Edit) (ws : List (Window V H)) (areas : List Area) (seats : List (Seat V H)) : Type 0 where

@@ -1,7 +1,6 @@
 -- One window put elsewhere or given another size, as the code does it.
-use Rattle.std.specs.Prelude.{◌≡◌, ℕ, true, List, map, Option, None, Some, Result, Ok, Err}
+use Rattle.std.specs.Prelude.{◌≡◌, ℕ, true, List, map, Option, Result, Ok, Err}
 use Rattle.tb_geom.specs.declared.point.Point.{Point}
-use Rattle.tb_geom.specs.Points.{minus}
 use Rattle.tb_geom.specs.declared.refusal.Refusal.{Refusal}
 use Rattle.tb_geom.specs.declared.refusal.Refusal.TheVariants.{NoMemory}
 use Rattle.tb_geom.specs.Rects.{rect_holds}
@@ -22,12 +21,6 @@ use Rattle.window_mgr.specs.Effects.{IsWindowPlaced, IsUnchanged}
 use Rattle.window_mgr.specs.Records.{state_of}
 use Rattle.window_mgr.specs.Refused.{may_stand}
 use Rattle.window_mgr.specs.Whole.{IsWholeManager}
-
-module _ {V : Type 0} {H : V → Type 0} where
-  -- its pixels move as far as it does, if they move, and else it stays where it is
-  abbrev pub IsOnItsWayTo : ℕ → Placement → Option Point → List (Window V H) → Type 0
-  IsOnItsWayTo i to None ws = (w : Window V H) → IsWindowAt ws i w → to.place ≡ w.place
-  IsOnItsWayTo i to (Some by) ws = (w : Window V H) → IsWindowAt ws i w → by ≡ minus to.place w.place
 
 -- `loan` says what a definition that was taken means
 module _ {V : Type 0} {H : V → Type 0} (loan : Taken V H → Loan) where

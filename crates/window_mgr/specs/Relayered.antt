@@ -5,7 +5,9 @@ use Rattle.def_iface.specs.declared.part.Part.{Part}
 use Rattle.def_iface.specs.declared.taken.Taken.{Taken}
 use Rattle.def_iface.specs.Meaning.{Loan}
 use Rattle.def_iface.specs.Desk.{LayeredDesk}
-use Rattle.def_iface.specs.Change.{IsChanged}
+use Rattle.def_iface.specs.Owner.{same_owner}
+use Rattle.def_iface.specs.Owner.Owner.{Content}
+use Rattle.def_iface.specs.Change.{Change, no_change, IsChanged}
 use Rattle.layer_list.specs.declared.layer.Layer.{Layer}
 use Rattle.layer_list.specs.declared.layers.Relaid.{Relaid}
 use Rattle.layer_list.specs.Holders.{PlacedLayers, ArePartsApart, fits_at}
@@ -28,6 +30,15 @@ pub record AreLayersSet (s : ℕ) (ls : List Layer) (afresh : Option Part) (befo
   pub desk : after.desk
       ≡ record before.desk { windows = map (with_layers_of s ls) before.desk.windows; shows = after.desk.shows }
   pub pixels : IsChanged (afresh_change s afresh) (layered_state before) (layered_state after)
+
+-- the change of a call that shows this part of the window of this serial anew, where it is not to be redrawn
+abbrev pub redrawn_change : ℕ → Part → Change
+redrawn_change s q = record no_change { redrawn = λ o. same_owner o (Content s q) }
+
+-- the part was shown anew; nothing else of the desk changed but what layers show
+pub record IsLayerRedrawn (s : ℕ) (q : Part) (before after : FullState) : Type 0 where
+  pub desk : after.desk ≡ record before.desk { shows = after.desk.shows }
+  pub pixels : IsChanged (redrawn_change s q) (layered_state before) (layered_state after)
 
 module _ {V : Type 0} {H : V → Type 0} where
   -- the window at this place of the list may have these layers: they are apart, and lie in the range of coordinates where

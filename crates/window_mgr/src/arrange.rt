@@ -148,7 +148,7 @@ impl WindowManager {
         requires to { edit.to < length self.old.windows.records.items }
         requires placed { IsPlaceable ⟦<Taken as Defined>⟧.loan edit self.old.windows.records.items }
         requires size { SameSize edit self.old.windows.records.items }
-        requires way { IsOnItsWay edit by self.old.windows.records.items }
+        requires way { IsOnItsWay edit.at edit.place by self.old.windows.records.items }
         ensures { IsRearrangedOverAnySlots ⟦<Taken as Defined>⟧.loan edit activates by result self.old self.new }
     {
         let Ok(Rearrangement { plan, activation }) = self.plan_edit(edit, activates, by) else {
@@ -169,7 +169,7 @@ impl WindowManager {
         requires at { edit.at < length self.now.windows.records.items }
         requires to { edit.to < length self.now.windows.records.items }
         requires placed { IsPlaceable ⟦<Taken as Defined>⟧.loan edit self.now.windows.records.items }
-        requires way { IsOnItsWay edit by self.now.windows.records.items }
+        requires way { IsOnItsWay edit.at edit.place by self.now.windows.records.items }
         ensures plan { IfOk result (λ r. IsPlanOfEdit ⟦<Taken as Defined>⟧.loan edit r.activation by self.now r.plan) }
         ensures activation { IfOk result (λ r. IsActivation ⟦<Taken as Defined>⟧.loan edit activates self.now r.activation) }
         ensures length { IfOk result (λ r. vec_len r.plan.parts ≡ length self.now.windows.records.items) }

@@ -1,5 +1,5 @@
 //! The calls that arrange windows: each says how one window is put anew, and what becomes active.
-ghost use Rattle.std.specs.Prelude.{◌≡◌, [], Some, MatchResult, ◌+◌, nat_lt, if◌then◌else◌};
+ghost use Rattle.std.specs.Prelude.{◌≡◌, [], Some, MatchResult, if◌then◌else◌};
 ghost use Rattle.desk_call.specs.declared.window.WindowCall.TheVariants as asks;
 ghost use Rattle.window_mgr.specs.declared.arrange.Activates.TheVariants.{Nothing, ItselfIfFront, FrontInItsPlace};
 ghost use Rattle.window_mgr.specs.AnySlots.{IsStepOverAnySlots};
@@ -71,7 +71,7 @@ impl WindowManager {
         if front == sent.window {
             return Err(Refusal::OutOfRange);
         }
-        Ok(place_behind(there, at))
+        Ok(if there < at { there + 1 } else { there })
     }
 
     /// Moves a window, and selects it where that is asked.
@@ -91,7 +91,7 @@ impl WindowManager {
         let mut edit = Edit::of(at, found);
         edit.place = moved.place;
         edit.user_state = None;
-        edit.to = place_in(moved.select, at);
+        edit.to = if moved.select { 0 } else { at };
         self.rearrange(edit, activates, Some(by))
     }
 
@@ -134,19 +134,4 @@ fn when_shown(was: bool, is: bool) -> Activates
         (true, false) => Activates::FrontInItsPlace,
         _ => Activates::Nothing,
     }
-}
-
-/// The index in the list, counted without a window, of what goes behind another: the indices of both
-/// are given.
-fn place_behind(there: usize, at: usize) -> usize
-    ensures { result ≡ (if nat_lt there at then there + 1 else there) }
-{
-    if there < at { there + 1 } else { there }
-}
-
-/// The index in the list of a window that is brought to the front, or stays where it is.
-fn place_in(front: bool, at: usize) -> usize
-    ensures { result ≡ (if front then 0 else at) }
-{
-    if front { 0 } else { at }
 }

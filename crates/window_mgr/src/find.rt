@@ -54,7 +54,12 @@ impl WindowManager {
     fn window_at(&self, point: Point) -> Option<usize>
         ensures { result ≡ position (area_has point) self.now.areas.items }
     {
-        self.areas.iter().position(|area| area.has(point))
+        for at in 0..self.areas.len() {
+            if self.areas[at].has(point) {
+                return Some(at);
+            }
+        }
+        None
     }
 }
 

@@ -1,14 +1,15 @@
 //! A window's layers changed, by whoever keeps its controls and lists: planned, which asks for memory, and then put in
 //! their place, which does not.
-ghost use Rattle.std.specs.Prelude.{◌<◌, ℕ, List, length, Option, IfOk, IfSome};
+ghost use Rattle.std.specs.Prelude.{◌≡◌, ◌<◌, ℕ, slice_index_or, List, length, Option, IfOk, IfSome};
 ghost use Rattle.tb_geom.specs.Points.{PixelSet};
 ghost use Rattle.def_iface.specs.declared.part.Part.{Part};
 ghost use Rattle.def_iface.specs.Stocked.{SlotView};
+ghost use Rattle.layer_list.specs.declared.layer.Layer.{Layer};
 ghost use Rattle.window_mgr.specs.Edits.{IsWindowAt};
 ghost use Rattle.window_mgr.specs.Kept.{IsKept};
 ghost use Rattle.window_mgr.specs.Records.{state_of, state_showing};
 ghost use Rattle.window_mgr.specs.Whole.{IsWholeManager};
-ghost use Rattle.window_mgr.specs.Relayered.{IsPartAt, MayHaveLayers, IsGainedAt, IsPlanOfLayers, AreLayersSet};
+ghost use Rattle.window_mgr.specs.Relayered.{IsPartAt, MayHaveLayers, IsGainedAt, IsPlanOfLayers, AreLayersSet, IsLayerRedrawn};
 
 use crate::WindowManager;
 use bit_blit::fill;
@@ -18,7 +19,7 @@ use layer_list::{Layers, Relaid};
 use std::alloc::AllocError;
 use tb_geom::Point;
 use vis_update::{Relaying, relaying_of};
-use window_paint::{Showing, paint_layer};
+use window_paint::{Showing, paint_layer, repaint_layer};
 
 impl WindowManager {
     /// What changes on the screen where the window at this index gets these layers, of which the one at the index `afresh`,
@@ -43,6 +44,33 @@ impl WindowManager {
             None => None,
         };
         relaying_of(self.alloc, self.area(at), &relaid.gained, drawn)
+    }
+
+    /// Shows the layer at this index of a window anew, on the pixels that it owns and that are not to be redrawn. It takes no
+    /// memory.
+    pub fn redraw_layer<S: Showing>(&mut self, at: usize, index: usize, showing: &S)
+        requires kept { IsKept ⟦<Taken as Defined>⟧.loan self.old }
+        requires at { at < length self.old.windows.records.items }
+        requires index { (w : _) → IsWindowAt self.old.windows.records.items at w → index < length w.layers.layers }
+        requires whole { S.is_whole showing.now }
+        ensures { (w : _) → IsWindowAt self.old.windows.records.items at w
+            → (l : Layer) → l ≡ slice_index_or w.layers.layers index l
+            → (was : List ℕ → Part → PixelSet) (slots : List SlotView)
+            → IsWholeManager ⟦<Taken as Defined>⟧.loan self.old slots
+            → IsWholeManager ⟦<Taken as Defined>⟧.loan self.new slots
+            × IsLayerRedrawn w.serial l.part (state_showing was (state_of ⟦<Taken as Defined>⟧.loan self.old slots))
+            (state_showing (S.shows showing.now) (state_of ⟦<Taken as Defined>⟧.loan self.new slots)) }
+    {
+        let area = &self.areas[at];
+        repaint_layer(
+            &mut self.screen,
+            &area.visible,
+            &area.update,
+            self.windows.at(at),
+            index,
+            showing,
+            &self.font,
+        );
     }
 
     /// Gives the window at this index these layers, as planned: what others gain becomes white and is to be redrawn, and the

@@ -3,8 +3,9 @@ ghost use Rattle.std.specs.Prelude.{◌≡◌, ◌<◌, length, map, All, vec_le
 ghost use Rattle.desk_call.specs.declared.window.WindowCall.TheVariants as asks;
 ghost use Rattle.vis_update.specs.Records.{record_of};
 ghost use Rattle.window_mgr.specs.AnySlots.{IsStepOverAnySlots};
+ghost use Rattle.window_mgr.specs.Edits.{IsOnItsWay};
 ghost use Rattle.window_mgr.specs.Kept.{IsKept};
-ghost use Rattle.window_mgr.specs.Laying.{IsPlaceableAt, IsOnItsWayTo, IsPlacementCommitted, IsLaidOverAnySlots};
+ghost use Rattle.window_mgr.specs.Laying.{IsPlaceableAt, IsPlacementCommitted, IsLaidOverAnySlots};
 ghost use Rattle.window_mgr.specs.Whole.{IsSettled};
 
 use crate::arrange::{Activates, Edit, Rearrangement};
@@ -47,7 +48,7 @@ impl WindowManager {
         requires kept { IsKept ⟦<Taken as Defined>⟧.loan self.old }
         requires at { at < length self.old.windows.records.items }
         requires placeable { IsPlaceableAt ⟦<Taken as Defined>⟧.loan at placement self.old.windows.records.items }
-        requires way { IsOnItsWayTo at placement by self.old.windows.records.items }
+        requires way { IsOnItsWay at placement.place by self.old.windows.records.items }
         ensures { IsLaidOverAnySlots ⟦<Taken as Defined>⟧.loan at placement by result self.old self.new }
     {
         let mut edit = Edit::of(at, self.windows.at(at));

@@ -1,18 +1,13 @@
 //! What the calls of updates read and change of a window: its area on the screen.
-ghost use Rattle.std.specs.Prelude.{◌≡◌, ◌<◌, ◌&&◌, not, length, true, false, slice_index_or, ℕ, List};
+ghost use Rattle.std.specs.Prelude.{◌≡◌, ◌<◌, ◌&&◌, not, length, true, slice_index_or};
 ghost use Rattle.tb_geom.specs.declared.point.Point.{Point};
-ghost use Rattle.tb_geom.specs.Points.{PixelSet};
 ghost use Rattle.tb_geom.specs.Pixels.{holds};
 ghost use Rattle.vis_update.specs.Areas.{is_content_of, stale_in};
 ghost use Rattle.vis_update.specs.declared.area.Area.{Area};
-ghost use Rattle.def_iface.specs.declared.part.Part.TheVariants as part;
 ghost use Rattle.window_mgr.specs.Edits.{IsWindowAt};
 ghost use Rattle.window_mgr.specs.Kept.{IsKept};
-ghost use Rattle.def_iface.specs.declared.part.Part.{Part};
-ghost use Rattle.desk_call.specs.declared.update.Layers.TheVariants.{Picture};
-ghost use Rattle.window_paint.specs.Kinds.{is_kind_there, is_of};
+ghost use Rattle.window_paint.specs.Kinds.{is_kind_there};
 ghost use Rattle.window_mgr.specs.Updating.{LeavesState, LeavesShowing, IsRemarked, IsRefreshed, IsUpdatePut, is_of_kind};
-ghost use Rattle.window_paint.specs.Hidden.{is_hidden};
 
 use crate::WindowManager;
 use def_iface::{Defined, Taken};
@@ -20,7 +15,7 @@ use desk_call::Layers;
 use scan_region::Region;
 use tb_geom::Point;
 use vis_update::Area;
-use window_paint::{Showing, paint_content, paint_kind, paint_picture};
+use window_paint::{Showing, paint_content, paint_kind};
 
 impl WindowManager {
     /// What the window at this index owns of the screen.
@@ -35,7 +30,12 @@ impl WindowManager {
     pub fn is_stale(&self, point: Point) -> bool
         ensures { result ≡ stale_in self.now.areas.items point }
     {
-        self.areas.iter().any(|area| area.update.contains(point))
+        for area in &self.areas {
+            if area.update.contains(point) {
+                return true;
+            }
+        }
+        false
     }
 
     /// Makes these pixels of a window's visible content its update region, and draws nothing.
@@ -59,32 +59,11 @@ impl WindowManager {
         self.areas[at].update = update;
     }
 
-    /// Draws what is to be redrawn of a window's picture, which is then no longer to be; what is left of the update
-    /// region is given: what of it layers in front of the picture have.
-    pub fn refresh(&mut self, at: usize, left: Region)
+    /// Draws what is to be redrawn of a window's layers of one kind, which is then no longer to be; what is left of the
+    /// update region is given: what of it other layers have.
+    pub fn refresh<S: Showing>(&mut self, at: usize, kind: Layers, rest: Region, layers: &S)
         requires kept { IsKept ⟦<Taken as Defined>⟧.loan self.old }
         requires at { at < length self.old.windows.records.items }
-        requires left { (a : Area) → a ≡ slice_index_or self.old.areas.items at a
-            → (w : _) → IsWindowAt self.old.windows.records.items at w
-            → (p : Point) → holds left p ≡ (holds a.update p && is_hidden w p) }
-        ensures { (shows : List ℕ → Part → PixelSet) (w : _) → IsWindowAt self.old.windows.records.items at w
-            → LeavesShowing ⟦<Taken as Defined>⟧.loan shows (IsRefreshed (is_of_kind Picture w.serial)) self.old self.new }
-    {
-        paint_picture(
-            &mut self.screen,
-            &self.areas[at].update,
-            self.windows.at(at),
-            &self.font,
-        );
-        self.put_update(at, left);
-    }
-
-    /// Draws what is to be redrawn of a window's lists, or of its controls, which is then no longer to be; what is left of
-    /// the update region is given: what of it other layers have.
-    pub fn refresh_layers<S: Showing>(&mut self, at: usize, kind: Layers, rest: Region, layers: &S)
-        requires kept { IsKept ⟦<Taken as Defined>⟧.loan self.old }
-        requires at { at < length self.old.windows.records.items }
-        requires kind { is_of kind part.Picture ≡ false }
         requires whole { S.is_whole layers.now }
         requires rest { (a : Area) → a ≡ slice_index_or self.old.areas.items at a
             → (w : _) → IsWindowAt self.old.windows.records.items at w
@@ -92,10 +71,9 @@ impl WindowManager {
         ensures { (w : _) → IsWindowAt self.old.windows.records.items at w
             → LeavesShowing ⟦<Taken as Defined>⟧.loan (S.shows layers.now) (IsRefreshed (is_of_kind kind w.serial)) self.old self.new }
     {
-        let stale = &self.areas[at].update;
         paint_kind(
             &mut self.screen,
-            stale,
+            &self.areas[at].update,
             self.windows.at(at),
             kind,
             layers,

@@ -10,7 +10,7 @@ use Rattle.bit_blit.proofs.DrawsLemmas.{Draws-over, Draws-same}
 use Rattle.def_iface.specs.declared.part.Part.{Part}
 use Rattle.def_iface.specs.declared.part.Part.TheVariants as part
 use Rattle.def_iface.specs.Desk.{same_part}
-use Rattle.def_iface.proofs.Owning.{same_part-true}
+use Rattle.def_iface.proofs.Owning.{same_part-self, same_part-true}
 use Rattle.layer_list.specs.declared.layer.Layer.{Layer}
 use Rattle.layer_list.specs.Holders.{layer_has, part_at, belongs_to, ArePartsApart}
 use Rattle.layer_list.proofs.Parts.{covered_is}
@@ -32,11 +32,6 @@ drawn_snoc (k ∷ ls) l q = ap (λ b. same_part q k.part || b) (drawn_snoc ls l 
     exchanged true false c = refl
     exchanged false b c = refl
 
-same_part-self : (q : Part) → same_part q q ≡ true
-same_part-self part.Picture = refl
-same_part-self (part.Control n) = grind arith
-same_part-self (part.List n) = grind arith
-
 -- each pixel belongs to the picture or to a layer
 all_drawn : (ls : List Layer) (p : Point) → is_drawn ls (part_at ls p) ≡ true
 all_drawn [] p = refl
@@ -52,7 +47,7 @@ all_drawn (l ∷ ls) p = by_test (layer_has l p) (same_part-self l.part) (all_dr
         or_true false = refl
 
 -- a list has something at each of its places
-layer_there : (ls : List Layer) (i : ℕ) → i < length ls → (l : Layer) × (l ≡ get_or ls i l)
+pub layer_there : (ls : List Layer) (i : ℕ) → i < length ls → (l : Layer) × (l ≡ get_or ls i l)
 layer_there [] i low = absurd (omega arith)
 layer_there (l ∷ ls) zero low = (l, refl)
 layer_there (l ∷ ls) (suc i) low = layer_there ls i (omega arith)
@@ -76,7 +71,8 @@ module _ {V : Type 0} {H : V → Type 0} (font : List ℕ) (shows : Part → Pix
   picture_is (part.Control n) p e = absurd (cc)
   picture_is (part.List n) p e = absurd (cc)
 
-  layer_is : (q k : Part) (p : Point) → same_part k part.Picture ≡ false → same_part q k ≡ true → shows k (minus p w.place) ≡ part_shown font shows w q p
+  -- what a layer shows
+  pub layer_is : (q k : Part) (p : Point) → same_part k part.Picture ≡ false → same_part q k ≡ true → shows k (minus p w.place) ≡ part_shown font shows w q p
   layer_is q k p no_picture e = subst (λ r. shows k (minus p w.place) ≡ part_shown font shows w r p) (sym (same_part-true q k e)) (by_kind k no_picture)
     where
       by_kind : (k : Part) → same_part k part.Picture ≡ false → shows k (minus p w.place) ≡ part_shown font shows w k p

@@ -8,7 +8,7 @@ use Rattle.tb_geom.specs.Rects.{rect_holds}
 use Rattle.tb_geom.specs.Pixels.{Pixels, holds}
 use Rattle.bit_map.specs.Bits.{Bits}
 use Rattle.bit_blit.specs.Draws.{Draws}
-use Rattle.bit_blit.proofs.DrawsLemmas.{Draws-same, Draws-where}
+use Rattle.bit_blit.proofs.DrawsLemmas.{Draws-same, Draws-where, Draws-value}
 use Rattle.scan_region.specs.Cuts.{cut_inside, cut_meeting, cut_holds}
 use Rattle.scan_region.specs.declared.cut.Cut.{Cut}
 
@@ -40,6 +40,16 @@ cut_holds-both r s p = by_test (holds r.now p) (holds s.now p)
     by_test true false = refl
     by_test false c = refl
 
+-- a cut of two regions, less another
+pub cut_holds-both_less : (r s b : Bor Pixels) (p : Point) → cut_holds (record { inside = Some r ∷ Some s ∷ None ∷ []; outside = Some b }) p ≡ ((holds r.now p && holds s.now p) && not (holds b.now p))
+unfolding cut_holds
+cut_holds-both_less r s b p = by_test (holds r.now p) (holds s.now p) (not (holds b.now p))
+  where
+    by_test : (b c n : Bool) → ((b && (c && (true && true))) && n) ≡ ((b && c) && n)
+    by_test true true n = refl
+    by_test true false n = refl
+    by_test false c n = refl
+
 -- a clip around a set takes nothing away
 pub clipped : (b clip : Bool) → (b ≡ true → clip ≡ true) → (clip && b) ≡ b
 clipped b true e = refl
@@ -59,6 +69,14 @@ painted_within cut shown clip f g old new end is_shown is_end within same drawn 
   where
     held : (p : Point) → (rect_holds clip p && cut_holds cut p) ≡ shown p
     held p = ap (λ b. rect_holds clip p && b) (is_shown p) ∙ clipped (shown p) (rect_holds clip p) (within p)
+
+-- what was drawn by a value that is another's
+pub drawn_as : (shown : PixelSet) (f g : Point → Bool → Bool) (old new end : Bits)
+    → end ≡ new
+    → ((p : Point) (value : Bool) → f p value ≡ g p value)
+    → Draws shown f old new
+    → Draws shown g old end
+drawn_as shown f g old new end is_end same drawn = rw is_end (Draws-value shown f g old new same drawn)
 
 -- what was drawn on a region within a rectangle
 pub inside_drawn : (cut : Cut) (r : Bor Pixels) (clip : Rect) (f : Point → Bool → Bool) (old new end : Bits)

@@ -1,22 +1,34 @@
--- The layers of one kind of a window, one by one.
-use Rattle.std.proofs.Common.{◌≡◌, ℕ, zero, suc, ◌+◌, ◌<◌, Bool, true, false, ◌&&◌, ◌||◌, if◌then◌else◌, cond, List, [], ◌∷◌, ◌++◌, length, get_or, take, refl, sym, ap, ◌∙◌, subst, arith}
+-- The layers of one kind of a window: the picture, or others, one by one.
+use Rattle.std.proofs.Common.{◌≡◌, ℕ, ◌+◌, ◌<◌, Bool, true, false, not, ◌&&◌, ◌||◌, if◌then◌else◌, cond, List, [], ◌∷◌, ◌++◌, length, get_or, take, refl, sym, ap, ◌∙◌, subst}
 use Rattle.std.proofs.Math.Seq.{take-length}
+use Rattle.std.proofs.lemmas.Bool.{false≢true}
 use Rattle.std.proofs.lemmas.List.{take_more}
 use Rattle.tb_geom.specs.declared.point.Point.{Point}
 use Rattle.tb_geom.specs.Points.{PixelSet, minus}
 use Rattle.bit_map.specs.Bits.{Bits}
 use Rattle.bit_blit.specs.Draws.{Draws}
-use Rattle.bit_blit.proofs.DrawsLemmas.{Draws-over, Draws-same, Draws-none}
+use Rattle.bit_blit.proofs.DrawsLemmas.{Draws-over, Draws-same, Draws-where, Draws-none}
 use Rattle.def_iface.specs.declared.part.Part.{Part}
 use Rattle.def_iface.specs.declared.part.Part.TheVariants as part
 use Rattle.def_iface.specs.Desk.{same_part}
 use Rattle.def_iface.proofs.Owning.{same_part-self, same_part-true}
 use Rattle.desk_call.specs.declared.update.Layers.{Layers}
+use Rattle.desk_call.specs.declared.update.Layers.TheVariants.{Picture, Lists, Controls}
 use Rattle.layer_list.specs.declared.layer.Layer.{Layer}
 use Rattle.layer_list.specs.Holders.{layer_has, part_at, belongs_to, ArePartsApart}
 use Rattle.window_list.specs.declared.window.Window.{Window}
-use Rattle.window_paint.specs.Shown.{part_shown, content_shown}
+use Rattle.window_paint.specs.Hidden.{is_hidden}
+use Rattle.window_paint.specs.Shown.{picture_shown, content_shown}
 use Rattle.window_paint.specs.Kinds.{is_of, is_kind_there}
+use Rattle.window_paint.proofs.ContentLemmas.{layer_is, picture_drawn}
+
+-- the picture is a kind by itself
+pub picture_kind : (kind : Layers) (q : Part) → is_of kind part.Picture ≡ true → is_of kind q ≡ same_part q part.Picture
+picture_kind Picture part.Picture e = refl
+picture_kind Picture (part.Control n) e = refl
+picture_kind Picture (part.List n) e = refl
+picture_kind Lists q e = absurd (false≢true e)
+picture_kind Controls q e = absurd (false≢true e)
 
 -- the part is one of these layers, and of this kind
 abbrev pub is_among : Layers → List Layer → Part → Bool
@@ -31,17 +43,6 @@ among_snoc kind (k ∷ ls) l q = ap (λ b. (is_of kind k.part && same_part q k.p
     exchanged true true c = refl
     exchanged true false c = refl
     exchanged false b c = refl
-
--- a list has something at each of its places, and only one
-pub layer_there : (ls : List Layer) (i : ℕ) → i < length ls → (l : Layer) × (l ≡ get_or ls i l)
-layer_there [] i low = absurd (omega arith)
-layer_there (l ∷ ls) zero low = (l, refl)
-layer_there (l ∷ ls) (suc i) low = layer_there ls i (omega arith)
-
-pub layer_same : (ls : List Layer) (i : ℕ) (k l : Layer) → i < length ls → k ≡ get_or ls i k → l ≡ get_or ls i l → k ≡ l
-layer_same [] i k l low e f = absurd (omega arith)
-layer_same (m ∷ ls) zero k l low e f = e ∙ sym f
-layer_same (m ∷ ls) (suc i) k l low e f = layer_same ls i k l (omega arith) e f
 
 -- one layer more
 pub among_more : (kind : Layers) (ls : List Layer) (i : ℕ) (l : Layer) → i < length ls → l ≡ get_or ls i l → (q : Part)
@@ -102,13 +103,14 @@ module _ {V : Type 0} {H : V → Type 0} (kind : Layers) (font : List ℕ) (show
       never true = refl
       never false = refl
 
-  layer_is : (q k : Part) (p : Point) → same_part k part.Picture ≡ false → same_part q k ≡ true → shows k (minus p w.place) ≡ part_shown font shows w q p
-  layer_is q k p no_picture e = subst (λ r. shows k (minus p w.place) ≡ part_shown font shows w r p) (sym (same_part-true q k e)) (by_kind k no_picture)
-    where
-      by_kind : (k : Part) → same_part k part.Picture ≡ false → shows k (minus p w.place) ≡ part_shown font shows w k p
-      by_kind part.Picture f = absurd (cc)
-      by_kind (part.Control n) f = refl
-      by_kind (part.List n) f = refl
+  -- the picture, which is a kind by itself
+  pub picture_of_kind : (old new : Bits) → is_of kind part.Picture ≡ true → ArePartsApart w.layers.layers
+      → Draws (λ p. region p && not (is_hidden w p)) (λ p _. picture_shown font w p) old new
+      → Draws (λ p. region p && is_kind_there kind w p) (λ p _. content_shown font shows w p) old new
+  picture_of_kind old new picture apart drawn =
+      Draws-where _ (λ p. region p && is_kind_there kind w p) (λ p _. content_shown font shows w p) old new
+      (λ p on. ap (λ b. region p && b) (sym (picture_kind kind (its p) picture)))
+      (picture_drawn font shows w region old new apart drawn)
 
   module _ (i : ℕ) (low : i < length w.layers.layers) (l : Layer) (read : l ≡ get_or w.layers.layers i l) where
     -- a layer of another kind is not drawn
@@ -133,7 +135,7 @@ module _ {V : Type 0} {H : V → Type 0} (kind : Layers) (font : List ℕ) (show
         each : (p : Point) (d r b : Bool) → same_part (its p) l.part ≡ b → (c : Bool)
             → cond (r && b) (shows l.part (minus p w.place)) (cond (r && c) (content_shown font shows w p) d) ≡ cond (r && (b || c)) (content_shown font shows w p) d
         each p d false b same c = refl
-        each p d true true same c = layer_is (its p) l.part p no_picture same
+        each p d true true same c = layer_is font shows w region (its p) l.part p no_picture same
         each p d true false same c = refl
 
   -- and all of them

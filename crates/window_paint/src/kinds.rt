@@ -1,14 +1,14 @@
 //! The layers of one kind: a window's picture, its lists or its controls.
-ghost use Rattle.std.specs.Prelude.{◌≡◌, ◌&&◌, true, false};
+ghost use Rattle.std.specs.Prelude.{◌≡◌, ◌&&◌, true};
 ghost use Rattle.tb_geom.specs.Pixels.{holds};
 ghost use Rattle.tb_geom.specs.Rects.{in_plane};
 ghost use Rattle.bit_blit.specs.Draws.{Draws};
-ghost use Rattle.def_iface.specs.declared.part.Part.TheVariants as part;
 ghost use Rattle.layer_list.specs.Holders.{ArePartsApart};
 ghost use Rattle.window_paint.specs.Shown.{content_shown};
 ghost use Rattle.window_paint.specs.Kinds.{is_of, is_kind_there};
 
 use crate::layers::paint_layer;
+use crate::pictures::paint_picture;
 use crate::showing::Showing;
 use bit_map::BitMap;
 use def_iface::Part;
@@ -29,7 +29,7 @@ pub fn is_of(kind: Layers, part: Part) -> bool
     }
 }
 
-/// Draws a window's lists, or its controls, on the pixels of a region of the screen that they own.
+/// Draws a window's layers of one kind on the pixels of a region of the screen that they own. The picture is drawn over white.
 pub fn paint_kind<S: Showing>(
     map: &mut BitMap,
     region: &Region,
@@ -39,13 +39,17 @@ pub fn paint_kind<S: Showing>(
     font: &Font,
 )
     requires placed { in_plane window.now.place ≡ true }
-    requires kind { is_of kind part.Picture ≡ false }
+    requires origin { in_plane window.now.origin ≡ true }
     requires apart { ArePartsApart window.now.layers.layers }
     requires whole { S.is_whole layers.now }
     ensures { Draws (λ p. holds region.now p && is_kind_there kind window.now p)
         (λ p _. content_shown font.now (S.shows layers.now font.now) window.now p)
         map.old map.new }
 {
+    if is_of(kind, Part::Picture) {
+        paint_picture(map, region, window, font);
+        return;
+    }
     for at in 0..window.layers.len() {
         if is_of(kind, window.layers.at(at).part) {
             paint_layer(map, region, window, at, layers, font);

@@ -1,9 +1,10 @@
 //! The layers of a window's content, drawn where they own the pixels, and the whole content.
-ghost use Rattle.std.specs.Prelude.{◌≡◌, ◌<◌, ◌&&◌, true, length, slice_index_or};
+ghost use Rattle.std.specs.Prelude.{◌≡◌, ◌<◌, ◌&&◌, not, true, length, slice_index_or};
 ghost use Rattle.tb_geom.specs.Points.{minus};
 ghost use Rattle.tb_geom.specs.Pixels.{holds};
-ghost use Rattle.tb_geom.specs.Rects.{in_plane};
-ghost use Rattle.scan_region.specs.Cuts.{cut_meeting};
+ghost use Rattle.tb_geom.specs.Rects.{in_plane, rect_holds};
+ghost use Rattle.scan_region.specs.Cuts.{cut_holds, cut_meeting};
+ghost use Rattle.tb_geom.specs.declared.point.Point.{Point};
 ghost use Rattle.bit_blit.specs.Draws.{Draws};
 ghost use Rattle.layer_list.specs.declared.layer.Layer.{Layer};
 ghost use Rattle.layer_list.specs.Holders.{belongs_to, ArePartsApart};
@@ -15,6 +16,7 @@ use bit_map::BitMap;
 use draw_port::Canvas;
 use scan_region::{Cut, Region};
 use strike_font::Font;
+use tb_geom::Rect;
 use window_list::Window;
 
 /// Draws the layer at this index of a window on the pixels of a region of the screen that it owns.
@@ -35,14 +37,59 @@ pub fn paint_layer<S: Showing>(
         (λ p _. S.shows layers.now font.now l.part (minus p window.now.place))
         map.old map.new }
 {
-    let layer = window.layers.at(at);
     let cut = meeting(region, window.layers.owned(at));
-    let clip = region.bbox();
+    draw_layer(map, region.bbox(), &cut, window, at, layers, font);
+}
+
+/// Draws the layer at this index of a window anew on the pixels of a region of the screen that it owns, but for those of another
+/// region.
+pub fn repaint_layer<S: Showing>(
+    map: &mut BitMap,
+    region: &Region,
+    but: &Region,
+    window: &Window,
+    at: usize,
+    layers: &S,
+    font: &Font,
+)
+    requires placed { in_plane window.now.place ≡ true }
+    requires at { at < length window.now.layers.layers }
+    requires apart { ArePartsApart window.now.layers.layers }
+    requires whole { S.is_whole layers.now }
+    ensures { (l : Layer) → l ≡ slice_index_or window.now.layers.layers at l
+        → Draws (λ p. (holds region.now p && belongs_to l.part window.now.layers.layers (minus p window.now.layers.place))
+        && not (holds but.now p))
+        (λ p _. S.shows layers.now font.now l.part (minus p window.now.place))
+        map.old map.new }
+{
+    let cut = meeting_but(region, window.layers.owned(at), but);
+    draw_layer(map, region.bbox(), &cut, window, at, layers, font);
+}
+
+/// Draws the layer at this index of a window on the pixels of a rectangle of the screen that a cut leaves.
+fn draw_layer<S: Showing>(
+    map: &mut BitMap,
+    clip: Rect,
+    cut: &Cut<'_>,
+    window: &Window,
+    at: usize,
+    layers: &S,
+    font: &Font,
+)
+    requires placed { in_plane window.now.place ≡ true }
+    requires at { at < length window.now.layers.layers }
+    requires whole { S.is_whole layers.now }
+    ensures { (l : Layer) → l ≡ slice_index_or window.now.layers.layers at l
+        → Draws (λ p. rect_holds clip p && cut_holds cut.now p)
+        (λ p _. S.shows layers.now font.now l.part (minus p window.now.place))
+        map.old map.new }
+{
+    let layer = window.layers.at(at);
     let mut canvas = Canvas {
         map,
         clip,
         origin: window.place,
-        cut: &cut,
+        cut,
         font,
     };
     layers.draw(layer.part, &mut canvas);
@@ -76,5 +123,15 @@ pub fn meeting<'a>(region: &'a Region, other: &'a Region) -> Cut<'a>
     Cut {
         inside: [Some(region), Some(other), None],
         outside: None,
+    }
+}
+
+/// The pixels that two regions share, but for those of a third.
+fn meeting_but<'a>(region: &'a Region, other: &'a Region, but: &'a Region) -> Cut<'a>
+    ensures { (p : Point) → cut_holds result p ≡ ((holds region.now p && holds other.now p) && not (holds but.now p)) }
+{
+    Cut {
+        inside: [Some(region), Some(other), None],
+        outside: Some(but),
     }
 }

@@ -4,9 +4,9 @@
 //! these, and shows what that one shows there: `content_shown`, in `specs/Shown`, says it of the window's record. A drawing
 //! here is on the pixels of a region of the map that the caller chooses, as what of the content is visible, or is to be
 //! redrawn; it takes no memory, and leaves every other pixel as it was. `paint_picture` draws what of the picture no layer in
-//! front of it hides, `paint_layer` draws what one layer owns, `paint_kind` what all controls or all lists own, and
-//! `paint_content` draws all of the content. An operation that
-//! was just added to the picture is drawn by itself, over what stands there (`paint_last_operation`).
+//! front of it hides, `paint_layer` draws what one layer owns (`repaint_layer` all of that but what another region has),
+//! `paint_kind` what the layers of one kind own, and `paint_content` draws all of the content. An operation that was just
+//! added to the picture is drawn by itself, over what stands there (`paint_last_operation`).
 //!
 //! A window's record has of its controls and lists where they lie, and no more. What they show is known to whoever keeps
 //! them, who has the trait `Showing`; `NothingShown` is for where nobody keeps any.
@@ -28,7 +28,7 @@ mod showing;
 
 pub use frames::{paint_anew, paint_frame};
 pub use kinds::{is_of, paint_kind};
-pub use layers::{meeting, paint_content, paint_layer};
+pub use layers::{meeting, paint_content, paint_layer, repaint_layer};
 pub use moves::{move_content, scroll_content};
 pub use pictures::{paint_last_operation, paint_picture};
 pub use showing::{NothingShown, Showing};

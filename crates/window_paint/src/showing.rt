@@ -1,6 +1,7 @@
 //! What controls and lists show.
-ghost use Rattle.std.specs.Prelude.{◌≡◌, ℕ, List};
+ghost use Rattle.std.specs.Prelude.{◌≡◌, ℕ, true, List};
 ghost use Rattle.tb_geom.specs.Points.{PixelSet};
+ghost use Rattle.tb_geom.specs.Rects.{in_plane};
 ghost use Rattle.bit_blit.specs.Draws.{Draws};
 ghost use Rattle.draw_port.specs.Canvases.{canvas_holds, canvas_point, SameFrame};
 ghost use Rattle.def_iface.specs.declared.part.Part.{Part};
@@ -22,6 +23,7 @@ pub trait Showing {
     /// origin is the window's 0 0.
     fn draw(&self, part: Part, canvas: &mut Canvas<'_>)
         requires whole { is_whole self.now }
+        requires origin { in_plane canvas.old.origin ≡ true }
         ensures same_map { canvas.new.map.ghost_name ≡ canvas.old.map.ghost_name }
         ensures same_frame { SameFrame canvas.old canvas.new }
         ensures drawn { Draws (canvas_holds canvas.old)

@@ -15,8 +15,8 @@ use Rattle.layer_list.specs.Holders.{part_at, is_covered, ArePartsApart}
 use Rattle.layer_list.proofs.Parts.{covered_is}
 use Rattle.window_list.specs.declared.window.Window.{Window}
 use Rattle.window_paint.specs.Kinds.{is_of, is_kind_there}
+use Rattle.window_paint.proofs.KindLayers.{picture_kind}
 use Rattle.window_mgr.specs.Updating.{is_of_kind}
-use Rattle.window_mgr.proofs.Contents.{picture_kind}
 use Rattle.window_update.specs.declared.choices.Kinds.{Kinds}
 use Rattle.window_update.specs.declared.choices.Split.{Split}
 use Rattle.window_update.specs.declared.choices.Choices.{Choices}
@@ -61,12 +61,6 @@ further_still kind d k lacks further = (covers kind further.0, λ same. false≢
         let parts = and_parts (if_there d.picture k.picture) _ e in
         let more = and_parts (if_there d.lists k.lists) k.controls parts.1 in
         λ i. parts.0 i && (more.0 i && (ap (if_there d.controls) more.1 ∙ there_true d.controls) i)
-
--- a kind that is not the picture's has no picture
-pub no_picture : (kind which : Layers) → kind ≡ which → (which ≡ Picture → ⊥) → is_of kind part.Picture ≡ false
-no_picture Picture which is not_picture = absurd (not_picture (sym is))
-no_picture Lists which is not_picture = refl
-no_picture Controls which is not_picture = refl
 
 -- ---- owners of chosen kinds
 
@@ -158,7 +152,7 @@ module _ {V : Type 0} {H : V → Type 0} (w : Window V H) (update : Pixels) (apa
   its p = part_at w.layers.layers (minus p w.layers.place)
 
   picture_own : (p : Point) → holds c.picture.own p ≡ (holds update p && is_of Picture (its p))
-  picture_own p = picture.0 p ∙ ap (λ b. holds update p && not b) (covered_is w.layers.layers (minus p w.layers.place) apart) ∙ ap (λ b. holds update p && b) (twice (same_part (its p) part.Picture) ∙ sym (picture_kind (its p)))
+  picture_own p = picture.0 p ∙ ap (λ b. holds update p && not b) (covered_is w.layers.layers (minus p w.layers.place) apart) ∙ ap (λ b. holds update p && b) (twice (same_part (its p) part.Picture) ∙ sym (picture_kind Picture (its p) refl))
     where
       twice : (b : Bool) → not (not b) ≡ b
       twice true = refl

@@ -14,7 +14,6 @@ use Rattle.def_iface.specs.Owner.Owner.{Desktop, Bar, Frame, Content}
 use Rattle.def_iface.specs.Change.{stale_by}
 use Rattle.def_iface.proofs.Owning.{same_number, same_owner-self}
 use Rattle.desk_call.specs.declared.update.Layers.{Layers}
-use Rattle.desk_call.specs.declared.update.Layers.TheVariants.{Picture}
 use Rattle.layer_list.specs.Holders.{part_at}
 use Rattle.vis_update.specs.declared.area.Area.{Area}
 use Rattle.vis_update.specs.Areas.{is_content_of, stale_in}
@@ -25,10 +24,9 @@ use Rattle.window_mgr.specs.FullDesk.{FullDesk, FullState, layered_desk, layered
 use Rattle.window_mgr.specs.Kept.{IsKept}
 use Rattle.window_mgr.specs.Records.{desk_of, desk_showing, state_of, state_showing}
 use Rattle.window_paint.specs.White.{all_white}
-use Rattle.window_paint.specs.Hidden.{is_hidden}
 use Rattle.window_paint.specs.Kinds.{is_kind_there}
 use Rattle.window_mgr.specs.Updating.{LeavesShowing, IsRefreshed, refresh_change, is_of_kind}
-use Rattle.window_mgr.proofs.Contents.{owner_there, layers_there, kind_is, picture_there}
+use Rattle.window_mgr.proofs.Contents.{owner_there, layers_there, kind_is}
 use Rattle.window_mgr.proofs.Showing.{owner_showing}
 use Rattle.window_update.specs.declared.choices.Kinds.{Kinds}
 use Rattle.window_update.specs.declared.choices.Choices.{Choices}
@@ -174,18 +172,6 @@ module _ {V : Type 0} {H : V → Type 0} (loan : Taken V H → Loan) (t : Window
             ∙ ap (λ b. stale p && not b) (sym (kind_is loan t kept.slots kept.whole at low w w_is white kind p content))
         by_sides true on false content = refl
         by_sides false on content e = refl
-
-    -- of the picture it is what layers hide
-    pub picture_left : kind ≡ Picture → (p : Point) → holds left p ≡ (holds a.update p && is_hidden w p)
-    picture_left picture p =
-        kind_left p
-        ∙ ap (λ k. holds a.update p && not (is_kind_there k w p)) picture
-        ∙ ap (λ b. holds a.update p && not b) (sym (picture_there loan t kept.slots kept.whole at low w w_is white p))
-        ∙ ap (λ b. holds a.update p && b) (twice (is_hidden w p))
-      where
-        twice : (b : Bool) → not (not b) ≡ b
-        twice true = refl
-        twice false = refl
 
 -- after a draw
 pub choices_left : {V : Type 0} {H : V → Type 0} (loan : Taken V H → Loan) (shows : List ℕ → Part → PixelSet) (t : WindowManager V H) (kept : IsKept loan t) (new : WindowManager V H) (kind : Layers) (s : ℕ) (c drawn : Choices)

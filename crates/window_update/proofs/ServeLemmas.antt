@@ -125,13 +125,6 @@ module _ {V : Type 0} {H : V → Type 0} (loan : Taken V H → Loan) (shows : Li
     pub same_height : new.screen.height ≡ t.screen.height
     same_height = ap (λ (d : FullDesk). nat_abs d.height) (refreshed kept.slots kept.whole).1.desk
 
-  -- the layers of a kind were, by whatever name the kind and the windows go
-  pub kind_drawn : (kind which : Layers) → which ≡ kind → (new other : WindowManager V H) → other ≡ new → ((w : Window V H) → IsWindowAt t.windows.records.items at w → LeavesShowing loan shows (IsRefreshed (is_of_kind kind w.serial)) t new)
-      → LeavesShowing loan shows (AreDrawn which s) t other
-  kind_drawn kind which is new other same leaves =
-      subst (λ n. LeavesShowing loan shows (AreDrawn which s) t n) (sym same)
-      (subst (λ k. LeavesShowing loan shows (AreDrawn k s) t new) (sym is) (refreshed (is_of_kind kind) new leaves))
-
   -- what is kept for the update is whole then
   pub drawn_whole : (kind : Layers) (new : WindowManager V H) → LeavesShowing loan shows (AreDrawn kind s) t new → (u : Updates) (c : Choices) → IsWholeUpdates loan (Updating s) t u → has_kind u.choices.drawn kind ≡ false
       → c.drawn ≡ with_kind kind u.choices.drawn → ((k : Kinds) → IsFurther (with_kind kind u.choices.drawn) k → left_for c k ≡ left_for u.choices k)

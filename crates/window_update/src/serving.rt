@@ -15,7 +15,7 @@ ghost use Rattle.window_update.specs.WholeUpdates.{IsWholeUpdates, opened};
 ghost use Rattle.window_update.specs.UpdateSteps.{IsUpdateStepOverAnySlots};
 
 use crate::choices::Choices;
-use crate::{LayerDraw, Layers, Updates};
+use crate::{LayerDraw, Updates};
 use def_iface::{Defined, Taken};
 use desk_call::{Activity, WindowReply};
 use layer_list::{local, move_by};
@@ -80,10 +80,7 @@ impl Updates {
             return Ok(WindowReply::Done);
         }
         let left = self.choices.draw(draw.layers);
-        match draw.layers {
-            Layers::Picture => windows.refresh(at, left),
-            kind => windows.refresh_layers(at, kind, left, layers),
-        }
+        windows.refresh(at, draw.layers, left, layers);
         Ok(WindowReply::Done)
     }
 

@@ -1,4 +1,5 @@
 use Rattle.std.specs.Prelude.{All}
+use Rattle.def_iface.specs.contracts.control_stock.ControlStockStockedControls.TheImpl as control_stock
 use Rattle.def_iface.specs.contracts.menu_stock.MenuStockStockedMenus.TheImpl as menu_stock
 use Rattle.def_iface.specs.contracts.window_stock.WindowStockStocked.TheImpl as stock
 use Rattle.def_iface.specs.Slots as slots
@@ -13,4 +14,10 @@ abbrev pub invariant-loop-kind : goal.invariant-loop-kind
 invariant-loop-kind l = All IsFull ((stock.slots-value (own.own-1, own.lawful-own-1)).it l.windows)
 
 abbrev pub invariant-loop-2 : goal.invariant-loop-2
-invariant-loop-2 l = All (slots.IsFull (λ d. d.stage)) ((menu_stock.menu_slots-value (own.own-2, own.lawful-own-2)).it l.menus)
+invariant-loop-2 l = All (slots.IsFull (λ d. d.stage)) ((control_stock.control_slots-value (own.own-2, own.lawful-own-2)).it l.controls)
+
+abbrev pub invariant-loop-kind-2 : goal.invariant-loop-kind-2
+invariant-loop-kind-2 l = All (slots.IsFull (λ d. d.stage)) ((control_stock.control_slots-value (own.own-2, own.lawful-own-2)).it l.controls)
+
+abbrev pub invariant-loop-3 : goal.invariant-loop-3
+invariant-loop-3 l = All (slots.IsFull (λ d. d.stage)) ((menu_stock.menu_slots-value (own.own-3, own.lawful-own-3)).it l.menus)

@@ -18,10 +18,10 @@ loop-round-preserved g c =
     let means = read_made own.own-2 ((own.own-2).entry own.at-2-1) own.at-2-1 refl MenuDefinition (λ j y. j.1.menu_meaning y) c.into_dyn_box.result.vtable c.into_dyn_box.result.value c.in_ok-menu.menu.value c.into_dyn_box.ensures.1 in
     menu_added c.loop-round.round _ _ _ c.loop-round.invariant c.in-Ok.ensures.added (means ∙ ap std_menu_meaning (c.in_ok-menu.ensures.ok ∙ c.new.ensures.value))
 
-pub run_over-requires-clause-full_menus : goal.run_over-requires-clause-full_menus
-run_over-requires-clause-full_menus g c = subst (All IsMenuFull) (sym c.loop-round.invariant) (so_many_menus_full c.loop-round.round)
+pub run_with_menus-requires-clause-full_menus : goal.run_with_menus-requires-clause-full_menus
+run_with_menus-requires-clause-full_menus g c = subst (All IsMenuFull) (sym c.loop-round.invariant) (so_many_menus_full c.loop-round.round)
 
 pub returns : goal.returns
 returns g c =
     let all : c.loop-round.round ≡ 32 = omega arith in
-    run_over_menus _ _ _ _ _ _ _ _ _ (c.loop-round.invariant ∙ ap so_many_menus all) c.run_over.result c.run_over.ensures
+    run_over_menus _ _ _ _ _ _ _ _ _ (c.loop-round.invariant ∙ ap so_many_menus all) c.run_with_menus.result c.run_with_menus.ensures

@@ -1,6 +1,6 @@
 use Rattle.std.proofs.Common.{rules, ◌≡◌, ◌+◌, cond, SFits, w32, sym, ap, ◌∙◌, arith}
 use Rattle.std.proofs.lemmas.Int.{to_z-of_z}
-use Rattle.scratch_paint.proofs.DifferenceLemmas.{row_start, counted_pixel}
+use Rattle.scratch_paint.proofs.DifferenceLemmas.{row_start, counted_pixel, row_whole}
 use Rattle.scratch_paint.proofs.difference.differences_in_row.Goals.{then-differs_at, else-differs_at}
 use Rattle.scratch_paint.proofs.difference.differences_in_row.Goals as goal
 
@@ -26,3 +26,8 @@ loop-column-preserved g c =
         | else-differs_at w ↦ omega (arith, w.count-is, c.loop-column.invariant.few)
       ];
     }
+
+pub returns-clause-count : goal.returns-clause-count
+returns-clause-count g c =
+    let all : c.loop-column.column ≡ c.args.painted.now.width = search rules in
+    row_whole _ _ c.args.row c.loop-column.column c.args.painted.now.width c.loop-column.count all c.loop-column.invariant.counted

@@ -1,6 +1,8 @@
 use Rattle.std.proofs.Common.{◌≡◌, false, drop}
+use Rattle.def_iface.specs.contracts.control_stock.ControlStockStockedControls.TheImpl as control_stock
 use Rattle.def_iface.specs.contracts.menu_stock.MenuStockStockedMenus.TheImpl as menu_stock
 use Rattle.def_iface.specs.contracts.taken.TakenDefined.TheImpl as taken
+use Rattle.def_iface.specs.contracts.taken_control.TakenControlDefinedControl.TheImpl as taken_control
 use Rattle.def_iface.specs.contracts.taken_menu.TakenMenuDefinedMenu.TheImpl as taken_menu
 use Rattle.def_iface.specs.contracts.window_stock.WindowStockStocked.TheImpl as stock
 use Rattle.script_runner.specs.Session.{SessionState}
@@ -14,12 +16,14 @@ abbrev pub invariant-loop-byte : goal.invariant-loop-byte
 invariant-loop-byte g l =
     let loan = (taken.loan-value g.dyn-1).it in
     let slots = (stock.slots-value g.dyn-1).it in
-    let menu_loan = (taken_menu.menu_loan-value g.dyn-2).it in
-    let kept = (menu_stock.menu_slots-value g.dyn-2).it in
+    let menu_loan = (taken_menu.menu_loan-value g.dyn-3).it in
+    let kept = (menu_stock.menu_slots-value g.dyn-3).it in
+    let control_loan = (taken_control.control_loan-value g.dyn-2).it in
+    let held = (control_stock.control_slots-value g.dyn-2).it in
     record {
-      ready : IsReady loan menu_loan l.session (slots l.stock.windows) (kept l.stock.menus);
+      ready : IsReady loan menu_loan control_loan l.session (slots l.stock.windows) (kept l.stock.menus) (held l.stock.controls);
       quiet : (g.W.Sink.output l.sink).has_failed ≡ false;
       so_far : (first : SessionState) (input rest : Input) (old : Output)
-          → SoFar l.raw first input old rest (g.W.Sink.output l.initial.sink) (session_of loan menu_loan l.initial.session (slots l.initial.stock.windows) (kept l.initial.stock.menus)) l.initial.line l.bytes
-          → SoFar l.raw first input old rest (g.W.Sink.output l.sink) (session_of loan menu_loan l.session (slots l.stock.windows) (kept l.stock.menus)) l.line (drop l.byte-index l.bytes);
+          → SoFar l.raw first input old rest (g.W.Sink.output l.initial.sink) (session_of loan menu_loan control_loan l.initial.session (slots l.initial.stock.windows) (kept l.initial.stock.menus) (held l.initial.stock.controls)) l.initial.line l.bytes
+          → SoFar l.raw first input old rest (g.W.Sink.output l.sink) (session_of loan menu_loan control_loan l.session (slots l.stock.windows) (kept l.stock.menus) (held l.stock.controls)) l.line (drop l.byte-index l.bytes);
     }

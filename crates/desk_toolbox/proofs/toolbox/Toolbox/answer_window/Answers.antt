@@ -1,10 +1,27 @@
+use Rattle.std.proofs.Common.{refl}
+use Rattle.def_iface.specs.contracts.taken.TakenDefined.TheImpl as taken
+use Rattle.def_iface.specs.contracts.taken_control.TakenControlDefinedControl.TheImpl as taken_control
+use Rattle.window_mgr.specs.Records.{state_of}
+use Rattle.window_mgr.proofs.StepsShowing.{step_showing}
+use Rattle.control_mgr.specs.ControlDesks.{controls_show}
+use Rattle.control_mgr.specs.WholeControls.{records_of}
 use Rattle.desk_toolbox.proofs.MenusBeside.{window_whole}
 use Rattle.desk_toolbox.proofs.UpdatesBeside.{updates_after_window}
 use Rattle.desk_toolbox.proofs.toolbox.Toolbox.answer_window.Goals as goal
 
-pub returns-in-None-clause-whole : goal.returns-in-None-clause-whole
-returns-in-None-clause-whole g c = record {
-  windows = c.perform.ensures.whole;
-  updates = updates_after_window _ c.args.self.now.windows c.perform.new.self c.args.self.now.updates _ _ c.args.self.now.activity c.args.call.now c.perform.result c.requires.admitted c.perform.ensures.step c.requires.whole.updates;
-  menus = window_whole _ _ c.args.self.now.windows c.perform.new.self _ _ _ _ c.args.self.now.activity c.args.call.now c.perform.result c.requires.admitted c.perform.ensures.step c.requires.whole.menus;
-}
+pub returns-in-None-clause-updates : goal.returns-in-None-clause-updates
+returns-in-None-clause-updates g c =
+    updates_after_window _ c.args.self.now.windows c.perform.new.self c.args.self.now.updates _ _ c.args.self.now.activity c.args.call.now c.perform.result c.requires.admitted c.perform.ensures.step c.requires.whole.updates
+
+pub returns-in-None-clause-menus_whole : goal.returns-in-None-clause-menus_whole
+returns-in-None-clause-menus_whole g c =
+    window_whole _ _ c.args.self.now.windows c.perform.new.self _ _ _ _ c.args.self.now.activity c.args.call.now c.perform.result c.requires.admitted c.perform.ensures.step c.requires.whole.menus
+
+pub returns-in-None-clause-step : goal.returns-in-None-clause-step
+returns-in-None-clause-step g c =
+    let shows = controls_show (records_of (taken_control.control_loan-value g.dyn-2).it c.args.self.now.controls) in
+    rw c.in-None.ensures (
+      record { activity = refl; begun = refl },
+      step_showing shows c.args.call.now c.perform.result (state_of (taken.loan-value g.dyn-1).it c.args.self.now.windows _) (state_of (taken.loan-value g.dyn-1).it c.perform.new.self _)
+          c.perform.ensures.whole.sound.distinct c.perform.ensures.step,
+    )

@@ -1,6 +1,6 @@
-use Rattle.std.proofs.Common.{rules}
+use Rattle.std.proofs.Common.{rules, refl}
 use Rattle.desk_toolbox.proofs.Runs.{admitted_stays_right}
 use Rattle.desk_toolbox.proofs.toolbox.Toolbox.call.Goals as goal
 
 pub returns-in-Ok-clause-right : goal.returns-in-Ok-clause-right
-returns-in-Ok-clause-right g c right = admitted_stays_right c.args.call.now c.perform.result _ _ (search rules) right c.perform.ensures.step
+returns-in-Ok-clause-right g c right = (admitted_stays_right c.args.call.now c.perform.result _ _ (search rules) (record { right = right; controls = record { whole = c.requires.controls; shown = refl } }) c.perform.ensures.step).right

@@ -1,5 +1,5 @@
-use Rattle.std.proofs.Common.{rules, arith}
-use Rattle.desk_toolbox.proofs.Runs.{run_stays_right, run_step}
+use Rattle.std.proofs.Common.{rules, arith, refl}
+use Rattle.desk_toolbox.proofs.Runs.{run_is_right, run_of_all, run_step}
 use Rattle.desk_toolbox.proofs.toolbox.Toolbox.run.Goals as goal
 
 pub loop-call-preserved : goal.loop-call-preserved
@@ -11,4 +11,7 @@ loop-call-preserved g c = record {
 }
 
 pub returns-clause-right : goal.returns-clause-right
-returns-clause-right g c right = run_stays_right _ _ _ _ right c.loop-call.invariant.run
+returns-clause-right g c right = run_is_right _ _ _ _ right (record { whole = c.requires.controls; shown = refl }) c.loop-call.invariant.run
+
+pub returns-clause-run : goal.returns-clause-run
+returns-clause-run g c = run_of_all _ _ c.args.calls.now c.loop-call.answers.items c.loop-call.call-index (search rules) c.loop-call.invariant.run

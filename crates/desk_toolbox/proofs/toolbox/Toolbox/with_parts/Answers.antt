@@ -1,8 +1,11 @@
-use Rattle.std.proofs.Common.{rules, SFits, w32}
+use Rattle.std.proofs.Common.{rules, SFits, w32, ap}
 use Rattle.std.proofs.lemmas.Int.{to_z-of_z}
+use Rattle.control_list.specs.Seen.{all_seen}
 use Rattle.menu_mgr.proofs.Stocks.{stocked_by_full}
 use Rattle.desk_toolbox.proofs.MenusBeside.{menus_begin}
 use Rattle.desk_toolbox.proofs.UpdatesBeside.{updates_begin}
+use Rattle.window_mgr.specs.FullDesk.{FullDesk}
+use Rattle.desk_toolbox.proofs.TrackedControls.{none_whole}
 use Rattle.desk_toolbox.proofs.toolbox.Toolbox.with_parts.Goals as goal
 
 pub returns-in-Ok-clause-begun : goal.returns-in-Ok-clause-begun
@@ -14,7 +17,7 @@ returns-in-Ok-clause-begun g c slots full =
     begun slots full
 
 pub returns-in-Ok-clause-whole : goal.returns-in-Ok-clause-whole
-returns-in-Ok-clause-whole g c slots kept full full_menus =
+returns-in-Ok-clause-whole g c slots kept held full full_menus full_controls =
     let fits_w : SFits w32 c.args.width = search rules in
     let fits_h : SFits w32 c.args.height = search rules in
     let fits_b : SFits w32 c.args.bar = search rules in
@@ -23,5 +26,7 @@ returns-in-Ok-clause-whole g c slots kept full full_menus =
     record {
       windows = empty.whole;
       updates = updates_begin _ c.args.width c.args.height c.args.bar _ _ _ slots c.requires.width c.requires.height empty;
+      controls = none_whole _ _ (ap (λ (d : FullDesk). d.windows) empty.desk) (ap (all_seen _) c.new-in-Ok.ensures.controls) c.new-in-Ok.ensures.next full_controls;
+      trackable = tt;
       menus = menus_begin _ _ c.args.width c.args.height c.args.bar _ _ _ slots kept c.requires.menus empty (stocked_by_full kept full_menus);
     }

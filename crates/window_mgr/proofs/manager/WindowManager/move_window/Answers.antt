@@ -1,4 +1,4 @@
-use Rattle.std.proofs.Common.{refl, ap, rules, ◌∙◌, inl, false, true, None, if◌then◌else◌}
+use Rattle.std.proofs.Common.{◌≡◌, refl, sym, ap, rules, ◌∙◌, inl, false, true, None, if◌then◌else◌}
 use Rattle.desk_call.specs.declared.window.WindowCall.TheVariants.{Move}
 use Rattle.window_mgr.specs.declared.arrange.Activates.TheVariants.{Nothing}
 use Rattle.window_mgr.specs.declared.arrange.Edit.{Edit}
@@ -7,6 +7,7 @@ use Rattle.window_mgr.proofs.SameDeskLemmas.{is_refused}
 use Rattle.window_mgr.proofs.EditSeats as seating
 use Rattle.window_mgr.proofs.Steps as steps
 use Rattle.window_mgr.proofs.manager.WindowManager.move_window.Goals as goal
+use Rattle.window_mgr.proofs.manager.WindowManager.move_window.Goals.{then-moved, else-moved}
 
 pub returns-then-not-may_stand : goal.returns-then-not-may_stand
 returns-then-not-may_stand g c =
@@ -22,18 +23,22 @@ local-by-requires-clause-point g c =
 
 pub rearrange-requires-clause-placed : goal.rearrange-requires-clause-placed
 rearrange-requires-clause-placed g c =
-    steps.may_arrive _ c.args.self.now c.args.self.now _ c.requires.whole c.in-Some.at c.args.moved.window c.at-found.result.now c.in-Some.ensures.0 (search rules) (c.in-Some.ensures.1 c.at-found.result.now (search rules)) c.args.moved (search rules) (record c.of-edit.result { place = c.args.moved.place; user_state = None; to = c.place_in.result })
+    steps.may_arrive _ c.args.self.now c.args.self.now _ c.requires.whole c.in-Some.at c.args.moved.window c.at-found.result.now c.in-Some.ensures.0 (search rules) (c.in-Some.ensures.1 c.at-found.result.now (search rules)) c.args.moved (search rules) (record c.of-edit.result { place = c.args.moved.place; user_state = None; to = c.if-moved.edit })
     (ap (λ (e : Edit). e.at) c.of-edit.ensures) refl (ap (λ (e : Edit). e.size) c.of-edit.ensures)
 
 pub rearrange-requires-clause-way : goal.rearrange-requires-clause-way
 rearrange-requires-clause-way g c =
-    seating.goes_as_far (record c.of-edit.result { place = c.args.moved.place; user_state = None; to = c.place_in.result }) c.in-Some.at c.local-by.result c.args.self.now.windows.records.items c.at-found.result.now (ap (λ (e : Edit). e.at) c.of-edit.ensures) c.in-Some.ensures.0 (search rules) c.local-by.ensures
+    seating.goes_as_far (record c.of-edit.result { place = c.args.moved.place; user_state = None; to = c.if-moved.edit }) c.in-Some.at c.local-by.result c.args.self.now.windows.records.items c.at-found.result.now (ap (λ (e : Edit). e.at) c.of-edit.ensures) c.in-Some.ensures.0 (search rules) c.local-by.ensures
 
 pub returns : goal.returns
 returns g c slots whole =
     steps.move_step _ c.args.self.now c.rearrange.new.self slots whole c.in-Some.at c.args.moved.window c.at-found.result.now c.in-Some.ensures.0 (search rules) (c.in-Some.ensures.1 c.at-found.result.now (search rules)) c.args.moved
     _ _ _ _ refl
     (steps.may_move _ c.args.self.now c.args.self.now slots whole c.in-Some.at c.args.moved.window c.at-found.result.now c.in-Some.ensures.0 (search rules) (c.in-Some.ensures.1 c.at-found.result.now (search rules)) c.args.moved true refl (search rules))
-    (λ k. record { at = (ap (λ (e : Edit). e.at) c.of-edit.ensures) k; to = c.place_in.ensures k; place = c.args.moved.place; size = (ap (λ (e : Edit). e.size) c.of-edit.ensures) k; user_state = None; shown = (ap (λ (e : Edit). e.shown) c.of-edit.ensures) k })
+    (let goes : c.if-moved.edit ≡ (if c.args.moved.select then 0 else c.in-Some.at) = elim c.if-moved.branch [
+      | then-moved w ↦ w.edit-is ∙ ap (λ b. if b then 0 else c.in-Some.at) (sym w.if-moved.true)
+      | else-moved w ↦ w.edit-is ∙ ap (λ b. if b then 0 else c.in-Some.at) (sym w.if-moved.false)
+    ] in
+    λ k. record { at = (ap (λ (e : Edit). e.at) c.of-edit.ensures) k; to = goes k; place = c.args.moved.place; size = (ap (λ (e : Edit). e.size) c.of-edit.ensures) k; user_state = None; shown = (ap (λ (e : Edit). e.shown) c.of-edit.ensures) k })
     (c.if_so-activates.ensures ∙ ap (λ a. if c.args.moved.select then a else Nothing) c.if_so.ensures)
     c.local-by.ensures c.rearrange.ensures

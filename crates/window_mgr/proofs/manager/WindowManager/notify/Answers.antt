@@ -1,8 +1,7 @@
-use Rattle.std.proofs.Common.{arith}
 use Rattle.window_mgr.proofs.EditSeats.{there_is}
 use Rattle.window_mgr.proofs.FrameTold as telling
 use Rattle.window_mgr.proofs.PaintLemmas.{settled_placed}
-use Rattle.window_mgr.proofs.Remarked.{area_there, settled_there}
+use Rattle.window_mgr.proofs.Remarked.{area_kept, settled_there}
 use Rattle.window_mgr.proofs.PlacementCalls.{read_at}
 use Rattle.window_mgr.proofs.manager.WindowManager.notify.Goals as goal
 
@@ -19,10 +18,7 @@ notify-damage-requires-clause-fits g c =
     rw (read_at c.args.self.now.windows.records.items c.args.at found.0 c.requires.at found.1) (rw its.told its.fits)
 
 pub index-requires : goal.index-requires
-index-requires g c =
-    let low = area_there _ c.args.self.now c.requires.kept c.args.at c.requires.at in
-    let long = c.args.self.now.areas.ok.0 in
-    omega arith
+index-requires g c = area_kept _ c.args.self.now c.requires.kept c.args.at c.requires.at
 
 pub at-requires : goal.at-requires
 at-requires g c =

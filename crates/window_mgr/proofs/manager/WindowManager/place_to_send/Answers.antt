@@ -11,5 +11,8 @@ returns-in_default-find g c = sending.missing _ c.args.self.now c.requires.kept 
 pub returns-then-front-sent : goal.returns-then-front-sent
 returns-then-front-sent g c = sending.itself _ c.args.self.now c.requires.kept c.args.sent c.args.at c.requires.at c.in-Some.front c.in-Some-find.there c.in-Some.is c.in-Some-find.ensures c.if-front-sent.true
 
-pub returns : goal.returns
-returns g c = sending.another _ c.args.self.now c.requires.kept c.args.sent c.args.at c.requires.at c.in-Some.front c.in-Some-find.there c.in-Some.is c.in-Some-find.ensures c.if-front-sent.false _ c.place_behind.ensures
+pub returns-then-there-at : goal.returns-then-there-at
+returns-then-there-at g c = sending.another _ c.args.self.now c.requires.kept c.args.sent c.args.at c.requires.at c.in-Some.front c.in-Some-find.there c.in-Some.is c.in-Some-find.ensures c.if-front-sent.false _ (sending.behind_one_before c.in-Some-find.there c.args.at c.if-there-at.true)
+
+pub returns-else-there-at : goal.returns-else-there-at
+returns-else-there-at g c = sending.another _ c.args.self.now c.requires.kept c.args.sent c.args.at c.requires.at c.in-Some.front c.in-Some-find.there c.in-Some.is c.in-Some-find.ensures c.if-front-sent.false _ (sending.behind_one_after c.in-Some-find.there c.args.at c.if-there-at.false)

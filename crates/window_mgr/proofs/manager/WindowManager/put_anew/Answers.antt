@@ -3,8 +3,9 @@ use Rattle.std.specs.Prelude.{IfSome, slice_get}
 use Rattle.std.specs.List.{list_all}
 use Rattle.std.proofs.lemmas.Bool.{and_parts}
 use Rattle.layer_list.specs.Holders.{fits_at}
-use Rattle.window_list.specs.Lists.{edit, with_stand}
+use Rattle.window_list.specs.Lists.{edit}
 use Rattle.vis_update.proofs.PlaceLemmas.{placed_parts}
+use Rattle.window_mgr.specs.Edits.{put_window}
 use Rattle.window_mgr.proofs.EditSeats.{there_is, moved_anew, length-moved, read_moved, length-anew}
 use Rattle.window_mgr.proofs.manager.WindowManager.put_anew.Goals as goal
 
@@ -34,8 +35,8 @@ returns-clause-put g c =
       at = found.1;
       is =
           ap (λ l. l.records.items) c.set_stand.ensures
-          ∙ ap (edit (with_stand c.args.edit.place c.args.edit.shown c.args.edit.user_state) c.args.edit.to) c.move_to.ensures.items
-          ∙ moved_anew c.args.self.now.windows.records.items c.args.edit.at c.args.edit.to found.0 c.requires.at found.1 (with_stand c.args.edit.place c.args.edit.shown c.args.edit.user_state) c.requires.to;
+          ∙ ap (edit (put_window c.args.edit) c.args.edit.to) c.move_to.ensures.items
+          ∙ moved_anew c.args.self.now.windows.records.items c.args.edit.at c.args.edit.to found.0 c.requires.at found.1 (put_window c.args.edit) c.requires.to;
     }
 
 pub returns-clause-len : goal.returns-clause-len
@@ -43,7 +44,7 @@ returns-clause-len g c =
     let found = there_is c.args.self.now.windows.records.items c.args.edit.at c.requires.at in
     ap (λ l. length l.records.items) c.set_stand.ensures
     ∙ ap length (
-    ap (edit (with_stand c.args.edit.place c.args.edit.shown c.args.edit.user_state) c.args.edit.to) c.move_to.ensures.items
-    ∙ moved_anew c.args.self.now.windows.records.items c.args.edit.at c.args.edit.to found.0 c.requires.at found.1 (with_stand c.args.edit.place c.args.edit.shown c.args.edit.user_state) c.requires.to
+    ap (edit (put_window c.args.edit) c.args.edit.to) c.move_to.ensures.items
+    ∙ moved_anew c.args.self.now.windows.records.items c.args.edit.at c.args.edit.to found.0 c.requires.at found.1 (put_window c.args.edit) c.requires.to
     )
-    ∙ length-anew c.args.self.now.windows.records.items c.args.edit.at c.args.edit.to (with_stand c.args.edit.place c.args.edit.shown c.args.edit.user_state found.0) c.requires.at
+    ∙ length-anew c.args.self.now.windows.records.items c.args.edit.at c.args.edit.to (put_window c.args.edit found.0) c.requires.at

@@ -1,14 +1,10 @@
-use Rattle.std.proofs.Common.{arith}
 use Rattle.window_mgr.proofs.Contents.{layers_apart}
 use Rattle.window_mgr.proofs.KindsRefreshed.{content_refreshed}
-use Rattle.window_mgr.proofs.Remarked.{area_there, settled_there}
+use Rattle.window_mgr.proofs.Remarked.{area_there, area_kept, settled_there}
 use Rattle.window_mgr.proofs.manager.WindowManager.refresh_content.Goals as goal
 
 pub index-requires : goal.index-requires
-index-requires g c =
-    let low = area_there _ c.args.self.now c.requires.kept c.args.at c.requires.at in
-    let long = c.args.self.now.areas.ok.0 in
-    omega arith
+index-requires g c = area_kept _ c.args.self.now c.requires.kept c.args.at c.requires.at
 
 pub paint_content-requires-clause-placed : goal.paint_content-requires-clause-placed
 paint_content-requires-clause-placed g c = (settled_there _ c.args.self.now c.requires.kept c.args.at c.at.result.now c.requires.at c.at.ensures).placed

@@ -1,0 +1,218 @@
+-- A control that is disposed of: its layer taken out, the controls without it, and the step.
+use Rattle.std.proofs.Common.{◌≡◌, ℕ, zero, suc, ◌<◌, Bool, true, false, ◌&&◌, ◌||◌, List, [], ◌∷◌, length, Option, Some, None, Ok, refl, sym, ap, ◌∙◌, subst}
+use Rattle.std.specs.Prelude.{map, slice_get}
+use Rattle.std.specs.List.{list_all, list_any, remove}
+use Rattle.std.specs.Option.{option_map}
+use Rattle.std.proofs.lemmas.Bool.{and_parts}
+use Rattle.tb_geom.specs.Points.{PixelSet}
+use Rattle.control_list.specs.declared.control.Control.{Control}
+use Rattle.control_list.specs.Lists.{controls_of, has_serial, is_before, is_in_at, place_among}
+use Rattle.control_list.specs.Seen.{all_seen, seen}
+use Rattle.control_list.proofs.SeenLemmas.{place_among-seen, remove-seen, slice_get-seen}
+use Rattle.control_list.proofs.WindowLemmas.{controls_of-remove, controls_of-remove_other, is_in_at-other}
+use Rattle.def_iface.specs.declared.part.Part.{Part}
+use Rattle.def_iface.specs.declared.taken.Taken.{Taken}
+use Rattle.def_iface.specs.declared.taken_control.TakenControl.{TakenControl}
+use Rattle.def_iface.specs.declared.window_def.Stage.TheVariants.{Live}
+use Rattle.def_iface.specs.ControlMeaning.{ControlDefinition, ControlLoan}
+use Rattle.def_iface.specs.Meaning.{Loan}
+use Rattle.def_iface.specs.Slots.{is_left}
+use Rattle.def_iface.specs.Stocked.{SlotView}
+use Rattle.layer_list.specs.declared.layer.Layer.{Layer}
+use Rattle.layer_list.specs.Holders.{ArePartsApart, PlacedLayers, fits_at}
+use Rattle.layer_list.proofs.Parts.{remove_apart}
+use Rattle.desk_call.specs.declared.control.ControlCall.TheVariants.{Dispose}
+use Rattle.desk_call.specs.declared.control.ControlOf.{ControlOf}
+use Rattle.desk_call.specs.declared.control.ControlReply.TheVariants.{Done}
+use Rattle.vis_update.specs.Records.{WindowRecord}
+use Rattle.vis_update.specs.Relayings.{with_layers_of}
+use Rattle.window_list.specs.declared.window.Window.{Window}
+use Rattle.window_mgr.specs.declared.manager.WindowManager.{WindowManager}
+use Rattle.window_mgr.specs.DeskStates.{Opened}
+use Rattle.window_mgr.specs.Edits.{IsWindowAt}
+use Rattle.window_mgr.specs.FullDesk.{FullDesk}
+use Rattle.window_mgr.specs.Kept.{IsKept}
+use Rattle.window_mgr.specs.Records.{desk_of, state_of, state_showing}
+use Rattle.window_mgr.specs.Refused.{is_missing}
+use Rattle.window_mgr.specs.Relayered.{AreLayersSet, IsPartAt, MayHaveLayers}
+use Rattle.window_mgr.specs.Whole.{IsSettled, IsWholeManager}
+use Rattle.window_mgr.proofs.Contents as contents
+use Rattle.control_mgr.specs.declared.controls.Controls.{Controls}
+use Rattle.control_mgr.specs.declared.spots.Spot.{Spot}
+use Rattle.control_mgr.specs.ControlDesks.{ControlRecord, ControlSlot, ControlsState, controls_show}
+use Rattle.control_mgr.specs.ControlSteps.{AreLayersOf, IsControlShut, IsControlStep, IsLayerOf}
+use Rattle.control_mgr.specs.InUse.{AreStocked}
+use Rattle.control_mgr.specs.Settled.{AreSettled, IsSettledControl}
+use Rattle.control_mgr.specs.Spots.{IsSpotOf}
+use Rattle.control_mgr.specs.WholeControls.{AreApart, AreWholeControls, LeavesOver, controls_state, records_of, slots_of}
+use Rattle.control_mgr.proofs.Added.{one_read, or_parts}
+use Rattle.control_mgr.proofs.Edited.{All-remove, All-there, map-remove, zip_remove}
+use Rattle.control_mgr.proofs.Places.{at_window, in_its_window, layer_there, read_is, there_is, within}
+use Rattle.control_mgr.proofs.Settled.{AreJoined, joined_laid, somewhere_laid}
+use Rattle.control_mgr.proofs.Steps.{nothing_missing}
+use Rattle.control_mgr.proofs.Stocks.{slot_is_left, slot_of, stocked_without}
+
+-- ---- one taken out
+
+all-remove : {X : Type 0} (p : X → Bool) (i : ℕ) (xs : List X) → list_all p xs ≡ true → list_all p (remove xs i) ≡ true
+all-remove p zero [] h = refl
+all-remove p (suc i) [] h = refl
+all-remove p zero (x ∷ xs) h = (and_parts (p x) (list_all p xs) h).1
+all-remove p (suc i) (x ∷ xs) h =
+    let parts = and_parts (p x) (list_all p xs) h in
+    let rest = all-remove p i xs parts.1 in (λ t. parts.0 t && rest t)
+
+none-remove : (n i : ℕ) (cs : List ControlRecord) → list_any (has_serial n) cs ≡ false → list_any (has_serial n) (remove cs i) ≡ false
+none-remove n zero [] h = refl
+none-remove n (suc i) [] h = refl
+none-remove n zero (c ∷ cs) h = (or_parts (has_serial n c) (list_any (has_serial n) cs) h).1
+none-remove n (suc i) (c ∷ cs) h =
+    let parts = or_parts (has_serial n c) (list_any (has_serial n) cs) h in
+    let rest = none-remove n i cs parts.1 in (λ t. parts.0 t || rest t)
+
+apart-remove : (i : ℕ) (cs : List ControlRecord) → AreApart cs → AreApart (remove cs i)
+apart-remove zero [] h = tt
+apart-remove (suc i) [] h = tt
+apart-remove zero (c ∷ cs) h = h.1
+apart-remove (suc i) (c ∷ cs) h = (none-remove c.serial i cs h.0, apart-remove i cs h.1)
+
+slot_at : (cs : List ControlRecord) (i : ℕ) (c : ControlRecord) → slice_get cs i ≡ Some c → slice_get (slots_of cs) i ≡ Some c.definition.slot
+slot_at [] i c e = absurd (cc)
+slot_at (x ∷ xs) zero c e = let same : x ≡ c = cc in ap (λ (y : ControlRecord). Some y.definition.slot) same
+slot_at (x ∷ xs) (suc i) c e = slot_at xs i c e
+
+-- the slot of a control that is there is empty
+pub slot_left : (i : ℕ) (cs : List ControlRecord) (c : ControlRecord) (slots : List ControlSlot) → slice_get cs i ≡ Some c
+    → AreStocked (λ (d : ControlDefinition). d.stage) (slots_of cs) slots → is_left c.definition.slot slots ≡ true
+slot_left i cs c slots e stocked =
+    slot_is_left (λ (d : ControlDefinition). d.stage) c.definition.slot slots
+    (slot_of (λ (d : ControlDefinition). d.stage) i (slots_of cs) c.definition.slot slots (slot_at cs i c e) stocked).0
+
+-- what was whole is whole without one control, over slots into one of which its definition came back, beside the windows without its layer
+pub whole_ended : (at window : ℕ) (c : ControlRecord) (ls : List Layer) (ws : List WindowRecord) (state : ControlsState) (back : List ControlSlot) → AreWholeControls ws state
+    → slice_get state.controls at ≡ Some c → is_in_at window at state.controls ≡ true → IsControlShut c.definition state.stock back → AreLayersOf (controls_of window (remove state.controls at)) ls
+    → AreWholeControls (map (with_layers_of window ls) ws) (record state { controls = remove state.controls at; stock = back })
+whole_ended at window c ls ws state back whole there here shut joined = record {
+  settled = All-remove IsSettledControl at state.controls whole.settled;
+  apart = apart-remove at state.controls whole.apart;
+  given = all-remove (λ (x : ControlRecord). is_before state.next x.serial) at state.controls whole.given;
+  somewhere = somewhere_laid window ls ws (remove state.controls at) (All-remove (λ (x : ControlRecord). is_missing x.window ws ≡ false) at state.controls whole.somewhere);
+  joined = joined_laid window ls state.controls (remove state.controls at) ws joined
+      (λ t away. controls_of-remove_other t at state.controls (is_in_at-other window t at state.controls (λ e. away (sym e)) here))
+      whole.joined;
+  stocked = subst (λ ns. AreStocked (λ (d : ControlDefinition). d.stage) ns back) (sym (map-remove (λ (x : ControlRecord). x.definition.slot) at state.controls))
+      (stocked_without (λ (d : ControlDefinition). d.stage) at (slots_of state.controls) (record { definition = shut.definition; slot = c.definition.slot }) state.stock back
+      (slot_at state.controls at c there) shut.closed shut.back whole.stocked);
+}
+
+module _ {W : Type 0} {K : W → Type 0} (control_loan : TakenControl W K → ControlLoan) (m : Controls (TakenControl W K)) where
+  -- a control that was read at a place
+  pub seen_at : (at : ℕ) (x : Control (TakenControl W K)) → slice_get m.list.controls.items at ≡ Some x → slice_get (records_of control_loan m) at ≡ Some (seen control_loan x)
+  seen_at at x e = slice_get-seen control_loan m.list.controls.items at ∙ ap (λ o. option_map (seen control_loan) o) e
+
+  pub ended_live : (at : ℕ) (x : Control (TakenControl W K)) → slice_get m.list.controls.items at ≡ Some x → AreSettled (records_of control_loan m) → (control_loan x.definition).definition.stage ≡ Live
+  ended_live at x e settled = (All-there IsSettledControl at (records_of control_loan m) (seen control_loan x) (seen_at at x e) settled).live
+
+  pub ended_left : (at : ℕ) (x : Control (TakenControl W K)) (slots : List ControlSlot) → slice_get m.list.controls.items at ≡ Some x
+      → AreStocked (λ (d : ControlDefinition). d.stage) (slots_of (records_of control_loan m)) slots → is_left (control_loan x.definition).slot slots ≡ true
+  ended_left at x slots e stocked = slot_left at (records_of control_loan m) (seen control_loan x) slots (seen_at at x e) stocked
+
+  pub settled_left : (at : ℕ) (xs : List (Control (TakenControl W K))) → xs ≡ remove m.list.controls.items at → AreSettled (records_of control_loan m) → AreSettled (all_seen control_loan xs)
+  settled_left at xs is settled = subst AreSettled (sym (ap (all_seen control_loan) is ∙ remove-seen control_loan m.list.controls.items at)) (All-remove IsSettledControl at (records_of control_loan m) settled)
+
+module _ {V : Type 0} {H : V → Type 0} (loan : Taken V H → Loan) {W : Type 0} {K : W → Type 0} (control_loan : TakenControl W K → ControlLoan)
+    (c : ControlOf) (t : WindowManager V H) (m : Controls (TakenControl W K)) (s : Spot) (is : IsSpotOf loan control_loan c t m s) where
+  abbrev cs : List ControlRecord
+  cs = records_of control_loan m
+
+  module _ (kept : IsKept loan t) (joined : AreJoined cs (desk_of loan t []).windows) (w : Window V H) (lies : IsWindowAt t.windows.records.items s.window w)
+      (index : ℕ) (index_is : index ≡ place_among s.control m.list.controls.items) where
+    index_seen : place_among s.control cs ≡ index
+    index_seen = place_among-seen control_loan s.control m.list.controls.items ∙ sym index_is
+
+    pub index_low : index < length w.layers.layers
+    index_low =
+        let its = layer_there loan control_loan c t m s is w lies joined in
+        subst (λ i. i < length w.layers.layers) index_seen (within w.layers.layers (place_among s.control cs) its.layer its.there)
+
+    pub parts_apart : ArePartsApart w.layers.layers
+    parts_apart = contents.layers_apart loan t kept.slots kept.whole s.window is.window.0 w lies (λ font q p. false)
+
+    lies_there : w.layers.place ≡ w.place
+    lies_there = contents.layers_there loan t kept.slots kept.whole s.window is.window.0 w lies (λ font q p. false)
+
+    module _ (layers : PlacedLayers) (layers_are : layers ≡ record w.layers { layers = remove w.layers.layers index }) where
+      new_is : layers.layers ≡ remove w.layers.layers index
+      new_is = ap (λ (ls : PlacedLayers). ls.layers) layers_are
+
+      pub may_have : MayHaveLayers s.window t layers
+      may_have = record {
+        apart = subst ArePartsApart (sym new_is) (remove_apart w.layers.layers index index_low parts_apart);
+        there = λ v v_is. ap (λ (ls : PlacedLayers). ls.place) layers_are ∙ lies_there ∙ ap (λ (x : Window V H). x.place) (one_read t.windows.records.items s.window w v is.window.0 lies v_is);
+        fit = (λ i. list_all (fits_at (ap (λ (ls : PlacedLayers). ls.place) layers_are i)) (new_is i))
+            ∙ ap (λ p. list_all (fits_at p) (remove w.layers.layers index)) lies_there
+            ∙ all-remove (fits_at w.place) index w.layers.layers (at_window loan IsSettled t.windows.records.items s.window w is.window.0 lies kept.whole.sound.settled).layers;
+      }
+
+      pub joined_left : AreLayersOf (controls_of c.window (remove cs s.control)) layers.layers
+      joined_left =
+          subst (λ ls. AreLayersOf (controls_of c.window (remove cs s.control)) ls) (sym new_is)
+          (subst (λ xs. AreLayersOf xs (remove w.layers.layers index))
+          (sym (controls_of-remove c.window s.control cs (in_its_window loan control_loan c t m s is) ∙ ap (λ i. remove (controls_of c.window cs) i) index_seen))
+          (zip_remove IsLayerOf index (controls_of c.window cs) w.layers.layers
+          (subst (λ n. AreLayersOf (controls_of n cs) w.layers.layers) (is.window.1 w lies)
+          (at_window loan (λ r. AreLayersOf (controls_of r.serial cs) r.layers) t.windows.records.items s.window w is.window.0 lies joined))))
+
+  -- the layers are those of whichever window stands there, without one
+  pub without_of : (w : Window V H) → IsWindowAt t.windows.records.items s.window w → (index : ℕ) (layers : PlacedLayers) → layers ≡ record w.layers { layers = remove w.layers.layers index }
+      → (v : Window V H) → IsWindowAt t.windows.records.items s.window v → layers ≡ record v.layers { layers = remove v.layers.layers index }
+  without_of w lies index layers layers_are v v_is =
+      layers_are ∙ ap (λ (x : Window V H). record x.layers { layers = remove x.layers.layers index }) (one_read t.windows.records.items s.window w v is.window.0 lies v_is)
+
+  -- what commit_layers leaves of the window manager, where nothing is drawn afresh
+  abbrev pub AreLeftFor : ℕ → List Layer → (List ℕ → Part → PixelSet) → WindowManager V H → WindowManager V H → Type 0
+  AreLeftFor at ls shows t u = (w : Window V H) → IsWindowAt t.windows.records.items at w → (afresh : Option Part) → IsPartAt ls None afresh
+      → (was : List ℕ → Part → PixelSet) (slots : List SlotView) → IsWholeManager loan t slots
+      → IsWholeManager loan u slots × AreLayersSet w.serial ls afresh (state_showing was (state_of loan t slots)) (state_showing shows (state_of loan u slots))
+
+  -- the control was disposed of
+  pub ended : (kept : IsKept loan t) → (index : ℕ) → index ≡ place_among s.control m.list.controls.items
+      → (layers : PlacedLayers) → ((w : Window V H) → IsWindowAt t.windows.records.items s.window w → layers ≡ record w.layers { layers = remove w.layers.layers index })
+      → (u : WindowManager V H) (n : Controls (TakenControl W K)) (x : Control (TakenControl W K)) → slice_get m.list.controls.items s.control ≡ Some x
+      → n.list.controls.items ≡ remove m.list.controls.items s.control → n.list.next ≡ m.list.next
+      → (before back : List ControlSlot) → IsControlShut (control_loan x.definition) before back
+      → AreLeftFor s.window layers.layers (controls_show (records_of control_loan n)) t u
+      → (o : Opened) → LeavesOver control_loan loan before back (IsControlStep (Dispose c) (Ok Done)) t o m u o n
+  ended kept index index_is layers layers_are u n x there controls_are next_is before back shut set o slots whole controls =
+      let windows = there_is t.windows.records.items s.window is.window.0 in
+      let w : Window V H = windows.item in
+      let lies : IsWindowAt t.windows.records.items s.window w = read_is t.windows.records.items s.window w windows.there in
+      let leaves = set w lies None refl (controls_show cs) slots whole in
+      let serial : w.serial ≡ c.window = is.window.1 w lies in
+      let sets = subst (λ k. AreLayersSet k layers.layers None (state_showing (controls_show cs) (state_of loan t slots)) (state_showing (controls_show (records_of control_loan n)) (state_of loan u slots))) serial leaves.1 in
+      let left : records_of control_loan n ≡ remove cs s.control = ap (all_seen control_loan) controls_are ∙ remove-seen control_loan m.list.controls.items s.control in
+      let joined : AreLayersOf (controls_of c.window (remove cs s.control)) layers.layers = joined_left kept controls.joined w lies index index_is layers (layers_are w lies) in
+      let windows_are : (desk_of loan u []).windows ≡ map (with_layers_of c.window layers.layers) (desk_of loan t []).windows = ap (λ (d : FullDesk). d.windows) sets.desk in
+      let state_is : controls_state control_loan n back ≡ record { controls = remove cs s.control; next = m.list.next; stock = back } = (λ i. record { controls = left i; next = next_is i; stock = back }) in (
+        leaves.0,
+        subst (λ ws. AreWholeControls ws (controls_state control_loan n back)) (sym windows_are)
+            (subst (AreWholeControls (map (with_layers_of c.window layers.layers) (desk_of loan t []).windows)) (sym state_is)
+            (whole_ended s.control c.window (seen control_loan x) layers.layers (desk_of loan t []).windows (controls_state control_loan m before) back controls
+            (seen_at control_loan m s.control x there) (in_its_window loan control_loan c t m s is) shut joined)),
+        (
+          nothing_missing loan control_loan c t m s is,
+          (
+            refl,
+            record {
+              at = s.control;
+              found = is.control;
+              control = seen control_loan x;
+              there = seen_at control_loan m s.control x there;
+              shut = shut;
+              controls = state_is;
+              laid = record { layers = layers.layers; joined = subst (λ xs. AreLayersOf (controls_of c.window xs) layers.layers) (sym left) joined; set = sets; shows = refl };
+              activity = record { activity = refl; begun = refl };
+            },
+          ),
+        ),
+      )

@@ -1,0 +1,138 @@
+-- A control that is given another state, and shown anew.
+use Rattle.std.proofs.Common.{◌≡◌, ℕ, ◌<◌, List, [], length, get_or, Some, refl, sym, ap, ◌∙◌, subst}
+use Rattle.std.specs.Prelude.{IfSome, slice_get}
+use Rattle.tb_geom.specs.Points.{PixelSet}
+use Rattle.control_list.specs.declared.control.Control.{Control}
+use Rattle.control_list.specs.Lists.{edit_at, place_among, with_highlight, with_title, with_values}
+use Rattle.control_list.specs.Seen.{all_seen}
+use Rattle.control_list.proofs.SeenLemmas.{edit_at-seen, length-seen, place_among-seen}
+use Rattle.def_iface.specs.declared.part.Part.{Part}
+use Rattle.def_iface.specs.declared.part.Part.TheVariants as part
+use Rattle.def_iface.specs.declared.taken.Taken.{Taken}
+use Rattle.def_iface.specs.declared.taken_control.TakenControl.{TakenControl}
+use Rattle.def_iface.specs.ControlMeaning.{ControlLoan, IsControlBegun}
+use Rattle.def_iface.specs.Meaning.{Loan}
+use Rattle.def_iface.specs.Stocked.{SlotView}
+use Rattle.layer_list.specs.declared.layer.Layer.{Layer}
+use Rattle.desk_call.specs.declared.control.ControlOf.{ControlOf}
+use Rattle.window_list.specs.declared.window.Window.{Window}
+use Rattle.window_mgr.specs.declared.manager.WindowManager.{WindowManager}
+use Rattle.window_mgr.specs.DeskStates.{Opened}
+use Rattle.window_mgr.specs.Edits.{IsWindowAt}
+use Rattle.window_mgr.specs.FullDesk.{FullDesk}
+use Rattle.window_mgr.specs.Records.{desk_of, state_of, state_showing}
+use Rattle.window_mgr.specs.Relayered.{IsLayerRedrawn}
+use Rattle.window_mgr.specs.Whole.{IsWholeManager}
+use Rattle.control_mgr.specs.declared.controls.Controls.{Controls}
+use Rattle.control_mgr.specs.declared.setting.State.{State}
+use Rattle.control_mgr.specs.declared.spots.Spot.{Spot}
+use Rattle.control_mgr.specs.ControlDesks.{ControlRecord, controls_show, news_of_control}
+use Rattle.control_mgr.specs.ControlSteps.{IsChangedAt, IsShownAnew}
+use Rattle.control_mgr.specs.Settled.{AreSettled, IsSettledControl}
+use Rattle.control_mgr.specs.Spots.{IsSpot, IsSpotOf, IsTellable, with_state}
+use Rattle.control_mgr.specs.WholeControls.{AreBeside, AreWholeControls, LeavesControls, controls_state, records_of}
+use Rattle.control_mgr.proofs.Edited.{All-there, edit_alike, edit_twice, there_edited}
+use Rattle.control_mgr.proofs.Settled.{changed_settled, retold, whole_put}
+use Rattle.control_mgr.proofs.Places.{IsThere, ItsLayer, layer_there, names, read_is, there_is, within}
+
+-- ---- what the list has after the setters
+
+same_item : (cs : List ControlRecord) (at : ℕ) (c d : ControlRecord) → slice_get cs at ≡ Some c → slice_get cs at ≡ Some d → d ≡ c
+same_item cs at c d e f = cc
+
+-- a change that leaves the definition, and then the definition told, is one change
+pub changed_then_told : (f : ControlRecord → ControlRecord) → ((c : ControlRecord) → (f c).definition ≡ c.definition) → (at : ℕ) (xs ys zs : List ControlRecord)
+    → IsThere xs at → ys ≡ edit_at f at xs → IsChangedAt (λ c. c) at ys zs → IsChangedAt f at xs zs
+changed_then_told f keeps at xs ys zs is changed told = record {
+  control = is.item;
+  there = is.there;
+  definition = told.definition;
+  told = subst (λ (c : ControlRecord). IsControlBegun (news_of_control c) is.item.definition.definition told.definition) there
+      (subst (λ (k : ControlLoan). IsControlBegun (news_of_control told.control) k.definition told.definition) (ap (λ (c : ControlRecord). c.definition) there ∙ keeps is.item) told.told);
+  controls = told.controls ∙ ap (edit_at (retold (λ c. c) told.definition) at) changed
+      ∙ edit_twice f (retold (λ c. c) told.definition) at xs
+      ∙ edit_alike (λ c. retold (λ x. x) told.definition (f c)) (retold f told.definition) at xs
+      (λ c e. ap (λ (k : ControlLoan). record (f c) { definition = record { definition = told.definition; slot = k.slot } }) (keeps c));
+}
+  where
+    there : told.control ≡ f is.item
+    there = same_item ys at (f is.item) told.control (ap (λ cs. slice_get cs at) changed ∙ there_edited f at xs is.item is.there) told.there
+
+module _ {W : Type 0} {K : W → Type 0} (control_loan : TakenControl W K → ControlLoan) where
+  -- the three setters set a state
+  pub state_set : (s : State) (at : ℕ) (ls bs cs ds : List (Control (TakenControl W K))) → bs ≡ edit_at (with_values s.values) at ls → cs ≡ edit_at (with_highlight s.highlight) at bs
+      → ds ≡ edit_at (with_title s.title) at cs → all_seen control_loan ds ≡ edit_at (with_state s) at (all_seen control_loan ls)
+  state_set s at ls bs cs ds e f g =
+      ap (all_seen control_loan) (g ∙ ap (edit_at (with_title s.title) at) (f ∙ ap (edit_at (with_highlight s.highlight) at) e))
+      ∙ ap (all_seen control_loan) (edit_twice (with_highlight s.highlight) (with_title s.title) at (edit_at (with_values s.values) at ls) ∙ edit_twice (with_values s.values) (λ c. with_title s.title (with_highlight s.highlight c)) at ls)
+      ∙ edit_at-seen control_loan (λ c. with_title s.title (with_highlight s.highlight (with_values s.values c))) (with_state s) (λ c. refl) at ls
+
+  -- a control that was given a state, and its definition told of it
+  pub state_changed : (s : State) (at : ℕ) (m n : Controls (TakenControl W K)) (ds : List (Control (TakenControl W K))) → at < length m.list.controls.items
+      → all_seen control_loan ds ≡ edit_at (with_state s) at (records_of control_loan m) → IsChangedAt (λ c. c) at (all_seen control_loan ds) (records_of control_loan n)
+      → IsChangedAt (with_state s) at (records_of control_loan m) (records_of control_loan n)
+  state_changed s at m n ds low set told =
+      changed_then_told (with_state s) (λ c. refl) at (records_of control_loan m) (all_seen control_loan ds) (records_of control_loan n)
+      (there_is (records_of control_loan m) at (subst (λ k. at < k) (sym (length-seen control_loan m.list.controls.items)) low)) set told
+
+  -- its definition can be told of it
+  pub state_tellable : (s : State) (at : ℕ) (m : Controls (TakenControl W K)) (ds : List (Control (TakenControl W K))) → at < length m.list.controls.items → AreSettled (records_of control_loan m)
+      → all_seen control_loan ds ≡ edit_at (with_state s) at (records_of control_loan m) → IfSome (slice_get (all_seen control_loan ds) at) IsTellable
+  state_tellable s at m ds low settled set =
+      let was = there_is (records_of control_loan m) at (subst (λ k. at < k) (sym (length-seen control_loan m.list.controls.items)) low) in
+      let its : IsSettledControl was.item = All-there IsSettledControl at (records_of control_loan m) was.item was.there settled in
+      subst (λ o. IfSome o IsTellable) (sym (ap (λ cs. slice_get cs at) set ∙ there_edited (with_state s) at (records_of control_loan m) was.item was.there))
+      (record { live = its.live; fits = its.fits })
+
+  -- and then all are settled
+  pub state_settled : (s : State) (at : ℕ) (m n : Controls (TakenControl W K)) → AreSettled (records_of control_loan m)
+      → IsChangedAt (with_state s) at (records_of control_loan m) (records_of control_loan n) → AreSettled (records_of control_loan n)
+  state_settled s at m n settled changed =
+      changed_settled (with_state s) at (records_of control_loan m) (records_of control_loan n) settled
+      (λ c e. let its : IsSettledControl c = All-there IsSettledControl at (records_of control_loan m) c e settled in record { placed = its.placed; fits = its.fits; inside = its.inside }) changed
+
+  module _ {V : Type 0} {H : V → Type 0} (loan : Taken V H → Loan) where
+    -- its layer is there
+    pub layer_low : (t : WindowManager V H) (m : Controls (TakenControl W K)) (spot : Spot) → IsSpot loan control_loan t m spot → AreBeside control_loan loan t m
+        → (w : Window V H) → IsWindowAt t.windows.records.items spot.window w → place_among spot.control m.list.controls.items < length w.layers.layers
+    layer_low t m spot is beside w lies =
+        let its = layer_there loan control_loan is.of t m spot is.is w lies beside.whole.joined in
+        subst (λ n. n < length w.layers.layers) (place_among-seen control_loan spot.control m.list.controls.items) (within w.layers.layers _ its.layer its.there)
+
+    -- what redraw_layer leaves of the window manager
+    abbrev pub IsRedrawnFor : ℕ → ℕ → (List ℕ → Part → PixelSet) → WindowManager V H → WindowManager V H → Type 0
+    IsRedrawnFor at index shows t u = (w : Window V H) → IsWindowAt t.windows.records.items at w → (l : Layer) → l ≡ get_or w.layers.layers index l
+        → (was : List ℕ → Part → PixelSet) (slots : List SlotView) → IsWholeManager loan t slots
+        → IsWholeManager loan u slots × IsLayerRedrawn w.serial l.part (state_showing was (state_of loan t slots)) (state_showing shows (state_of loan u slots))
+
+    pub put_shown : (c : ControlOf) (s : State) (t u : WindowManager V H) (m n : Controls (TakenControl W K)) (spot : Spot) → IsSpotOf loan control_loan c t m spot
+        → IsChangedAt (with_state s) spot.control (records_of control_loan m) (records_of control_loan n) → n.list.next ≡ m.list.next
+        → (index : ℕ) → index ≡ place_among spot.control m.list.controls.items → IsRedrawnFor spot.window index (controls_show (records_of control_loan n)) t u
+        → (o r : Opened) → LeavesControls control_loan loan (IsShownAnew c (with_state s)) t o m u r n
+    put_shown c s t u m n spot is changed next index index_is redrawn o r kept slots whole controls =
+        let windows = there_is t.windows.records.items spot.window is.window.0 in
+        let w : Window V H = windows.item in
+        let lies : IsWindowAt t.windows.records.items spot.window w = read_is t.windows.records.items spot.window w windows.there in
+        let its : ItsLayer loan control_loan c t m spot is w = layer_there loan control_loan c t m spot is w lies controls.joined in
+        let there : its.layer ≡ get_or w.layers.layers index its.layer = subst (λ n. its.layer ≡ get_or w.layers.layers n its.layer) (place_among-seen control_loan spot.control m.list.controls.items ∙ sym index_is) (read_is w.layers.layers _ its.layer its.there) in
+        let leaves = redrawn w lies its.layer there (controls_show (records_of control_loan m)) slots whole in
+        let serial : w.serial ≡ c.window = is.window.1 w lies in
+        let named : its.layer.part ≡ part.Control c.control = its.is_layer.part ∙ ap (λ k. part.Control k) (names loan control_loan c t m spot is).1 in
+        let windows_are : (desk_of loan u []).windows ≡ (desk_of loan t []).windows = ap (λ (d : FullDesk). d.windows) leaves.1.desk in (
+          leaves.0,
+          subst (λ ws. AreWholeControls ws (controls_state control_loan n kept)) (sym windows_are)
+              (subst (λ k. AreWholeControls (desk_of loan t []).windows (record { controls = records_of control_loan n; next = k; stock = kept })) (sym next)
+              (whole_put s spot.control (desk_of loan t []).windows (controls_state control_loan m kept) (records_of control_loan n) controls changed)),
+          record {
+            changed = record {
+              at = spot.control;
+              found = is.control;
+              controls = records_of control_loan n;
+              changed = changed;
+              state = ap (λ k. record { controls = records_of control_loan n; next = k; stock = kept }) next;
+            };
+            redrawn = subst (λ k. IsLayerRedrawn k (part.Control c.control) (state_showing (controls_show (records_of control_loan m)) (state_of loan t slots)) (state_showing (controls_show (records_of control_loan n)) (state_of loan u slots))) serial
+                (subst (λ q. IsLayerRedrawn w.serial q (state_showing (controls_show (records_of control_loan m)) (state_of loan t slots)) (state_showing (controls_show (records_of control_loan n)) (state_of loan u slots))) named leaves.1);
+            shows = refl;
+          },
+        )

@@ -1,0 +1,13 @@
+-- What the contracts speak of: the controls of a desk beside its windows and what they show, where a control may lie, why a call is
+-- refused, what a step does, what holds between calls, which slots are in use, and what the end of a desk leaves.
+pub mod InUse
+pub mod ControlDesks
+pub mod Judged
+pub mod ControlRefusals
+pub mod ControlSteps
+pub mod Settled
+pub mod WholeControls
+pub mod Spots
+pub mod Laying
+pub mod Making
+pub mod ControlClosing

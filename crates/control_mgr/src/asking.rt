@@ -1,0 +1,165 @@
+//! What is asked about controls.
+ghost use Rattle.std.specs.Prelude.{◌≡◌, ◌<◌, [], length, true, slice_get, IfSome, MatchResult};
+ghost use Rattle.tb_geom.specs.Rects.{in_plane};
+ghost use Rattle.control_list.specs.Seen.{seen};
+ghost use Rattle.desk_call.specs.declared.control.ControlCall.TheVariants as asks;
+ghost use Rattle.window_mgr.specs.DeskStates.{Opened};
+ghost use Rattle.window_mgr.specs.Edits.{IsWindowAt};
+ghost use Rattle.window_mgr.specs.Kept.{IsKept};
+ghost use Rattle.window_mgr.specs.Records.{desk_of};
+ghost use Rattle.control_mgr.specs.ControlSteps.{IsControlStep, found_from, found_in};
+ghost use Rattle.control_mgr.specs.Judged.{is_within, part_tested, part_under};
+ghost use Rattle.control_mgr.specs.Settled.{AreSettled, IsSettledControl};
+ghost use Rattle.control_mgr.specs.WholeControls.{AreBeside, LeavesControls, records_of};
+
+use crate::Controls;
+use control_list::Control;
+use control_values::ControlPart;
+use def_iface::{Defined, DefinedControl, Part, Taken, TakenControl};
+use desk_call::{
+    ControlInfo, ControlOf, ControlReply, FoundControl, PointAtControl, PointInWindow,
+};
+use layer_list::local;
+use tb_geom::{Point, Rect, Refusal};
+use window_list::picture_place;
+use window_mgr::WindowManager;
+
+/// Whether a point of its window lies in a control's rectangle, widened by so much on each side.
+pub(crate) fn is_within(control: &Control<TakenControl>, margin: u8, point: Point) -> bool
+    requires settled { IsSettledControl (seen ⟦<TakenControl as DefinedControl>⟧.control_loan control.now) }
+    requires point { in_plane point ≡ true }
+    ensures { result ≡ is_within margin (seen ⟦<TakenControl as DefinedControl>⟧.control_loan control.now) point }
+{
+    let margin = i32::from(margin);
+    let widened = Rect {
+        left: -margin,
+        top: -margin,
+        right: control.size.width + margin,
+        bottom: control.size.height + margin,
+    };
+    widened.contains(local(point, control.place))
+}
+
+/// The part of a control that a point of its window lies in, by its definition.
+fn part_under(control: &Control<TakenControl>, point: Point) -> Option<ControlPart>
+    requires settled { IsSettledControl (seen ⟦<TakenControl as DefinedControl>⟧.control_loan control.now) }
+    requires point { in_plane point ≡ true }
+    ensures { result ≡ part_under (seen ⟦<TakenControl as DefinedControl>⟧.control_loan control.now) point }
+{
+    control.definition.hit(local(point, control.place))
+}
+
+/// The part of a control, of itself, that a point of its window lies in: none of one that is hidden or inactive.
+pub(crate) fn part_tested(control: &Control<TakenControl>, point: Point) -> Option<ControlPart>
+    requires settled { IsSettledControl (seen ⟦<TakenControl as DefinedControl>⟧.control_loan control.now) }
+    requires point { in_plane point ≡ true }
+    ensures { result ≡ part_tested (seen ⟦<TakenControl as DefinedControl>⟧.control_loan control.now) point }
+{
+    if control.shown && !control.highlight.is_inactive() && is_within(control, 0, point) {
+        part_under(control, point)
+    } else {
+        None
+    }
+}
+
+/// A control, and the part of it that a point of its window lies in. An inactive one is not found.
+fn found_in(control: &Control<TakenControl>, point: Point) -> Option<FoundControl>
+    requires settled { IsSettledControl (seen ⟦<TakenControl as DefinedControl>⟧.control_loan control.now) }
+    requires point { in_plane point ≡ true }
+    ensures { result ≡ found_in (seen ⟦<TakenControl as DefinedControl>⟧.control_loan control.now) point }
+{
+    if control.highlight.is_inactive() {
+        return None;
+    }
+    match part_under(control, point) {
+        Some(part) => Some(FoundControl {
+            part,
+            control: control.serial,
+        }),
+        None => None,
+    }
+}
+
+impl Controls<TakenControl> {
+    /// What is told of a control.
+    pub(crate) fn get(
+        &self,
+        windows: &WindowManager,
+        control: ControlOf,
+    ) -> Result<ControlReply, Refusal>
+        requires kept { IsKept ⟦<Taken as Defined>⟧.loan windows.now }
+        ensures { (o : Opened) → LeavesControls ⟦<TakenControl as DefinedControl>⟧.control_loan ⟦<Taken as Defined>⟧.loan
+            (IsControlStep (asks.Get control) result) windows.now o self.now windows.now o self.now }
+    {
+        let spot = self.spot(windows, control)?;
+        let control = &self.list.controls[spot.control];
+        Ok(ControlReply::Info(ControlInfo {
+            values: control.values,
+            highlight: control.highlight,
+            shown: control.shown,
+        }))
+    }
+
+    /// The part of a control that a point of its window lies in.
+    pub(crate) fn test(
+        &self,
+        windows: &WindowManager,
+        asked: PointAtControl,
+    ) -> Result<ControlReply, Refusal>
+        requires kept { IsKept ⟦<Taken as Defined>⟧.loan windows.now }
+        requires beside { AreBeside ⟦<TakenControl as DefinedControl>⟧.control_loan ⟦<Taken as Defined>⟧.loan windows.now self.now }
+        ensures { (o : Opened) → LeavesControls ⟦<TakenControl as DefinedControl>⟧.control_loan ⟦<Taken as Defined>⟧.loan
+            (IsControlStep (asks.Test asked) result) windows.now o self.now windows.now o self.now }
+    {
+        let spot = self.spot(windows, asked.control)?;
+        if !asked.point.is_in_range() {
+            return Err(Refusal::OutOfRange);
+        }
+        let control = &self.list.controls[spot.control];
+        Ok(ControlReply::Part(part_tested(control, asked.point)))
+    }
+
+    /// Which control owns the pixel at a point of a window, and which part of it the point lies in.
+    pub(crate) fn find(
+        &self,
+        windows: &WindowManager,
+        asked: PointInWindow,
+    ) -> Result<ControlReply, Refusal>
+        requires kept { IsKept ⟦<Taken as Defined>⟧.loan windows.now }
+        requires beside { AreBeside ⟦<TakenControl as DefinedControl>⟧.control_loan ⟦<Taken as Defined>⟧.loan windows.now self.now }
+        ensures { (o : Opened) → LeavesControls ⟦<TakenControl as DefinedControl>⟧.control_loan ⟦<Taken as Defined>⟧.loan
+            (IsControlStep (asks.Find asked) result) windows.now o self.now windows.now o self.now }
+    {
+        let Some(at) = windows.find(asked.window) else {
+            return Err(Refusal::NoSuchWindow);
+        };
+        if !asked.point.is_in_range() {
+            return Err(Refusal::OutOfRange);
+        }
+        Ok(ControlReply::Found(self.found_at(windows, at, asked.point)))
+    }
+
+    /// Which control owns the pixel at a point of the window at this index.
+    fn found_at(&self, windows: &WindowManager, at: usize, point: Point) -> Option<FoundControl>
+        requires kept { IsKept ⟦<Taken as Defined>⟧.loan windows.now }
+        requires settled { AreSettled (records_of ⟦<TakenControl as DefinedControl>⟧.control_loan self.now) }
+        requires at { at < length windows.now.windows.records.items }
+        requires point { in_plane point ≡ true }
+        ensures { (w : _) → IsWindowAt windows.now.windows.records.items at w
+            → result ≡ found_from (desk_of ⟦<Taken as Defined>⟧.loan windows.now [])
+            (records_of ⟦<TakenControl as DefinedControl>⟧.control_loan self.now) w.serial w.place point }
+    {
+        let window = windows.list().at(at);
+        let pixel = picture_place(window.place, point);
+        if !windows.area(at).visible.contains(pixel) {
+            return None;
+        }
+        match window.layers.part_at(point) {
+            Part::Control(serial) => {
+                let there = self.list.find(window.serial, serial)?;
+                found_in(&self.list.controls[there], point)
+            }
+            _ => None,
+        }
+    }
+}

@@ -1,0 +1,53 @@
+//! The end of controls: of those of a window that is disposed of, and of all.
+ghost use Rattle.std.specs.Prelude.{◌≡◌, [], true, List};
+ghost use Rattle.control_list.specs.Lists.{controls_of};
+ghost use Rattle.def_iface.specs.Slots.{is_left};
+ghost use Rattle.control_mgr.specs.ControlClosing.{AreControlsClosed, IsWindowLeft};
+ghost use Rattle.control_mgr.specs.ControlSteps.{IsControlShut};
+ghost use Rattle.control_mgr.specs.InUse.{AreStocked};
+ghost use Rattle.control_mgr.specs.WholeControls.{AreLiveControls, controls_state, records_of, slots_of};
+
+use crate::Controls;
+use control_list::ControlList;
+use def_iface::{ControlStock, DefinedControl, Stage, StockedControls, TakenControl};
+
+/// Ends the use of a control's definition.
+pub(crate) fn put_away(taken: TakenControl, stock: &mut ControlStock)
+    requires live { (⟦<TakenControl as DefinedControl>⟧.control_loan taken).definition.stage ≡ Stage.Live }
+    requires left { is_left (⟦<TakenControl as DefinedControl>⟧.control_loan taken).slot (⟦<ControlStock as StockedControls>⟧.control_slots stock.old) ≡ true }
+    ensures { IsControlShut (⟦<TakenControl as DefinedControl>⟧.control_loan taken) (⟦<ControlStock as StockedControls>⟧.control_slots stock.old) (⟦<ControlStock as StockedControls>⟧.control_slots stock.new) }
+{
+    let mut taken = taken;
+    taken.dispose();
+    stock.put_back(taken);
+}
+
+impl Controls<TakenControl> {
+    /// Ends the controls of a window: the definition of each is disposed of, and put back Closed into its slot. Those of other
+    /// windows stay. Takes no memory, and draws nothing: this is for a window that is no more.
+    pub fn end_of(&mut self, window: u64, stock: &mut ControlStock)
+        requires live { AreLiveControls (records_of ⟦<TakenControl as DefinedControl>⟧.control_loan self.old) }
+        requires stocked { AreStocked (λ d. d.stage) (slots_of (records_of ⟦<TakenControl as DefinedControl>⟧.control_loan self.old)) (⟦<ControlStock as StockedControls>⟧.control_slots stock.old) }
+        ensures { IsWindowLeft window (controls_state ⟦<TakenControl as DefinedControl>⟧.control_loan self.old (⟦<ControlStock as StockedControls>⟧.control_slots stock.old))
+            (controls_state ⟦<TakenControl as DefinedControl>⟧.control_loan self.new (⟦<ControlStock as StockedControls>⟧.control_slots stock.new)) }
+    {
+        while let Some(control) = self.list.take_of(window) {
+            put_away(control.definition, stock);
+        }
+    }
+
+    /// Ends the desk's controls: the definition of every one is disposed of, and put back Closed into its slot, while every other
+    /// slot stays as it was. Takes no memory, and refuses nothing.
+    pub fn close(self, stock: &mut ControlStock)
+        requires live { AreLiveControls (records_of ⟦<TakenControl as DefinedControl>⟧.control_loan self) }
+        requires stocked { AreStocked (λ d. d.stage) (slots_of (records_of ⟦<TakenControl as DefinedControl>⟧.control_loan self)) (⟦<ControlStock as StockedControls>⟧.control_slots stock.old) }
+        ensures { AreControlsClosed (records_of ⟦<TakenControl as DefinedControl>⟧.control_loan self) (⟦<ControlStock as StockedControls>⟧.control_slots stock.old) (⟦<ControlStock as StockedControls>⟧.control_slots stock.new) }
+    {
+        let Controls { list, .. } = self;
+        let ControlList { controls, .. } = list;
+        let mut controls = controls;
+        while let Some(control) = controls.pop() {
+            put_away(control.definition, stock);
+        }
+    }
+}

@@ -1,0 +1,31 @@
+//! The Control Manager: the controls of a desk's windows.
+//!
+//! What the controls of a desk are, `specs/` says as plain data: a `ControlsState` has each control with its definition, the oldest
+//! first, and the serial of the next one. `IsControlStep` says what a call leaves and answers (*Inside Macintosh* I, "The Control
+//! Manager"): a call that nothing refuses has its effect; a refused one changes nothing, and its answer is the first refusal of the
+//! written order whose condition holds (`control_refusals`), or NoMemory where none holds and the call may ask for memory.
+//!
+//! A control is a layer of its window's content, in front of the window's picture; the oldest lies in front. Which pixels a layer has
+//! the window keeps (`layer_list`): `AreLayersOf` joins the two, one layer for each control. New, show, move and size draw all that the
+//! control then owns; what a hidden, moved or disposed control leaves is to be redrawn. Values, highlighting, titles and tracking show
+//! the control anew where it is not to be redrawn, and take no memory: all room that they need the layers keep.
+//!
+//! Boxes of definitions lie in the records of `control_list`, and wait outside in a `ControlStock`. After each change a definition is
+//! told all of its control: size, title, setting and highlighting. `Controls` shows them to whoever draws windows (`Showing`).
+#![tactic(auto)]
+
+mod asking;
+mod closing;
+mod controls;
+mod drawing;
+mod laying;
+mod making;
+mod perform;
+mod setting;
+mod spots;
+mod telling;
+mod tracking;
+
+pub use controls::Controls;
+pub use drawing::DrawnControl;
+pub use making::form_refusal;

@@ -1,0 +1,63 @@
+//! Calls, one by one.
+ghost use Rattle.std.specs.Prelude.{◌≡◌, [], None};
+ghost use Rattle.tb_geom.specs.Points.{PixelSet};
+ghost use Rattle.desk_call.specs.Gates.{control_standing, gate};
+ghost use Rattle.window_mgr.specs.Kept.{IsKept};
+ghost use Rattle.window_mgr.specs.Records.{desk_of};
+ghost use Rattle.control_mgr.specs.ControlSteps.{IsControlStep};
+ghost use Rattle.control_mgr.specs.Spots.{opened};
+ghost use Rattle.control_mgr.specs.WholeControls.{AreWholeControls, IsTrackable, LeavesOver, controls_state, records_of};
+
+use crate::Controls;
+use def_iface::{ControlStock, Defined, DefinedControl, StockedControls, Taken, TakenControl};
+use desk_call::{Activity, ControlCall, ControlReply};
+use tb_geom::Refusal;
+use window_mgr::WindowManager;
+
+impl Controls<TakenControl> {
+    /// Performs one call on these controls of these windows, which may come while this is open, and gives its answer. A refused
+    /// call changes nothing; which refusal comes first where several would do stands with the call.
+    pub fn perform(
+        &mut self,
+        windows: &mut WindowManager,
+        activity: &mut Activity,
+        call: &ControlCall<'_>,
+        stock: &mut ControlStock,
+    ) -> Result<ControlReply, Refusal>
+        requires kept { IsKept ⟦<Taken as Defined>⟧.loan windows.old }
+        requires whole { AreWholeControls (desk_of ⟦<Taken as Defined>⟧.loan windows.old []).windows
+            (controls_state ⟦<TakenControl as DefinedControl>⟧.control_loan self.old (⟦<ControlStock as StockedControls>⟧.control_slots stock.old)) }
+        requires trackable { IsTrackable activity.old (records_of ⟦<TakenControl as DefinedControl>⟧.control_loan self.old) }
+        requires admitted { gate activity.old (control_standing call.now) ≡ None }
+        ensures step { (begun : PixelSet) → LeavesOver ⟦<TakenControl as DefinedControl>⟧.control_loan ⟦<Taken as Defined>⟧.loan
+            (⟦<ControlStock as StockedControls>⟧.control_slots stock.old) (⟦<ControlStock as StockedControls>⟧.control_slots stock.new) (IsControlStep call.now result)
+            windows.old (opened activity.old begun) self.old windows.new (opened activity.new begun) self.new }
+        ensures trackable { IsTrackable activity.new (records_of ⟦<TakenControl as DefinedControl>⟧.control_loan self.new) }
+    {
+        match call {
+            ControlCall::New(new) => self.make(windows, new, stock),
+            ControlCall::Dispose(control) => self.dispose(windows, *control, stock),
+            ControlCall::Show(control) => self.show(windows, *control, true),
+            ControlCall::Hide(control) => self.show(windows, *control, false),
+            ControlCall::Move(moved) => self.move_control(windows, *moved),
+            ControlCall::Size(sized) => self.size_control(windows, *sized),
+            ControlCall::SetValue(set) => self.set_value(windows, *set),
+            ControlCall::SetMinimum(set) => self.set_minimum(windows, *set),
+            ControlCall::SetMaximum(set) => self.set_maximum(windows, *set),
+            ControlCall::Hilite(set) => self.hilite(windows, *set),
+            ControlCall::SetTitle(set) => self.set_title(windows, set),
+            ControlCall::Get(control) => self.get(windows, *control),
+            ControlCall::Find(asked) => self.find(windows, *asked),
+            ControlCall::Test(asked) => self.test(windows, *asked),
+            ControlCall::Track(pressed) => self.track(windows, activity, *pressed),
+            ControlCall::Step(point) => match *activity {
+                Activity::TrackingControl(tracked) => self.step(windows, tracked, *point),
+                _ => unreachable!(),
+            },
+            ControlCall::End(point) => match *activity {
+                Activity::TrackingControl(tracked) => self.end(windows, activity, tracked, *point),
+                _ => unreachable!(),
+            },
+        }
+    }
+}

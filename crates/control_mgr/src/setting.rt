@@ -1,0 +1,149 @@
+//! What changes of a control but where it lies: its setting, its highlighting and its title.
+ghost use Rattle.std.specs.Prelude.{◌≡◌, ◌<◌, [], length, slice_get, IfSome};
+ghost use Rattle.desk_call.specs.declared.control.ControlOf.{ControlOf as Named};
+ghost use Rattle.desk_call.specs.declared.control.ControlCall.TheVariants as asks;
+ghost use Rattle.window_mgr.specs.Kept.{IsKept};
+ghost use Rattle.window_mgr.specs.DeskStates.{Opened};
+ghost use Rattle.control_mgr.specs.ControlSteps.{IsControlStep, IsShownAnew};
+ghost use Rattle.control_mgr.specs.Spots.{IsSpot, IsSpotOf, with_state};
+ghost use Rattle.control_mgr.specs.WholeControls.{AreBeside, LeavesControls, records_of};
+
+use crate::Controls;
+use crate::spots::Spot;
+use control_values::{ControlValues, Highlight};
+use def_iface::{Defined, DefinedControl, Taken, TakenControl};
+use desk_call::{ControlNumber, ControlReply, ControlTitle};
+use draw_port::ShortText;
+use tb_geom::Refusal;
+use window_mgr::WindowManager;
+
+/// What a control shows beside where it lies.
+#[derive(Drop)]
+pub(crate) struct State {
+    pub values: ControlValues,
+    pub highlight: Highlight,
+    pub title: ShortText,
+}
+
+impl Controls<TakenControl> {
+    /// The state of the control at this index.
+    pub(crate) fn state(&self, at: usize) -> State
+        requires { at < length self.now.list.controls.items }
+        ensures { IfSome (slice_get (records_of ⟦<TakenControl as DefinedControl>⟧.control_loan self.now) at) (λ c.
+            result ≡ record { values = c.values; highlight = c.highlight; title = c.title }) }
+    {
+        let control = &self.list.controls[at];
+        State {
+            values: control.values,
+            highlight: control.highlight,
+            title: control.title.copy(),
+        }
+    }
+
+    /// Gives a control this state, and shows it anew where it is not to be redrawn. Takes no memory.
+    pub(crate) fn put(&mut self, windows: &mut WindowManager, spot: Spot, state: State)
+        requires kept { IsKept ⟦<Taken as Defined>⟧.loan windows.old }
+        requires beside { AreBeside ⟦<TakenControl as DefinedControl>⟧.control_loan ⟦<Taken as Defined>⟧.loan windows.old self.old }
+        requires spot { IsSpot ⟦<Taken as Defined>⟧.loan ⟦<TakenControl as DefinedControl>⟧.control_loan windows.old self.old spot }
+        ensures { (c : Named) → IsSpotOf ⟦<Taken as Defined>⟧.loan ⟦<TakenControl as DefinedControl>⟧.control_loan c windows.old self.old spot
+            → (o u : Opened) → LeavesControls ⟦<TakenControl as DefinedControl>⟧.control_loan ⟦<Taken as Defined>⟧.loan
+            (IsShownAnew c (with_state state)) windows.old o self.old windows.new u self.new }
+    {
+        let layer = self.list.layer_index(spot.control);
+        self.list.set_values(spot.control, state.values);
+        self.list.set_highlight(spot.control, state.highlight);
+        self.list.set_title(spot.control, state.title);
+        self.tell(spot.control);
+        windows.redraw_layer(spot.window, layer, &*self);
+    }
+
+    /// Sets the value of a control.
+    pub(crate) fn set_value(
+        &mut self,
+        windows: &mut WindowManager,
+        set: ControlNumber,
+    ) -> Result<ControlReply, Refusal>
+        requires kept { IsKept ⟦<Taken as Defined>⟧.loan windows.old }
+        requires beside { AreBeside ⟦<TakenControl as DefinedControl>⟧.control_loan ⟦<Taken as Defined>⟧.loan windows.old self.old }
+        ensures { (o : Opened) → LeavesControls ⟦<TakenControl as DefinedControl>⟧.control_loan ⟦<Taken as Defined>⟧.loan
+            (IsControlStep (asks.SetValue set) result) windows.old o self.old windows.new o self.new }
+    {
+        let spot = self.spot(windows, set.control)?;
+        let mut state = self.state(spot.control);
+        state.values.set_value(set.number)?;
+        self.put(windows, spot, state);
+        Ok(ControlReply::Done)
+    }
+
+    /// Sets the minimum of a control.
+    pub(crate) fn set_minimum(
+        &mut self,
+        windows: &mut WindowManager,
+        set: ControlNumber,
+    ) -> Result<ControlReply, Refusal>
+        requires kept { IsKept ⟦<Taken as Defined>⟧.loan windows.old }
+        requires beside { AreBeside ⟦<TakenControl as DefinedControl>⟧.control_loan ⟦<Taken as Defined>⟧.loan windows.old self.old }
+        ensures { (o : Opened) → LeavesControls ⟦<TakenControl as DefinedControl>⟧.control_loan ⟦<Taken as Defined>⟧.loan
+            (IsControlStep (asks.SetMinimum set) result) windows.old o self.old windows.new o self.new }
+    {
+        let spot = self.spot(windows, set.control)?;
+        let mut state = self.state(spot.control);
+        state.values.set_minimum(set.number)?;
+        self.put(windows, spot, state);
+        Ok(ControlReply::Done)
+    }
+
+    /// Sets the maximum of a control.
+    pub(crate) fn set_maximum(
+        &mut self,
+        windows: &mut WindowManager,
+        set: ControlNumber,
+    ) -> Result<ControlReply, Refusal>
+        requires kept { IsKept ⟦<Taken as Defined>⟧.loan windows.old }
+        requires beside { AreBeside ⟦<TakenControl as DefinedControl>⟧.control_loan ⟦<Taken as Defined>⟧.loan windows.old self.old }
+        ensures { (o : Opened) → LeavesControls ⟦<TakenControl as DefinedControl>⟧.control_loan ⟦<Taken as Defined>⟧.loan
+            (IsControlStep (asks.SetMaximum set) result) windows.old o self.old windows.new o self.new }
+    {
+        let spot = self.spot(windows, set.control)?;
+        let mut state = self.state(spot.control);
+        state.values.set_maximum(set.number)?;
+        self.put(windows, spot, state);
+        Ok(ControlReply::Done)
+    }
+
+    /// Highlights a control.
+    pub(crate) fn hilite(
+        &mut self,
+        windows: &mut WindowManager,
+        set: ControlNumber,
+    ) -> Result<ControlReply, Refusal>
+        requires kept { IsKept ⟦<Taken as Defined>⟧.loan windows.old }
+        requires beside { AreBeside ⟦<TakenControl as DefinedControl>⟧.control_loan ⟦<Taken as Defined>⟧.loan windows.old self.old }
+        ensures { (o : Opened) → LeavesControls ⟦<TakenControl as DefinedControl>⟧.control_loan ⟦<Taken as Defined>⟧.loan
+            (IsControlStep (asks.Hilite set) result) windows.old o self.old windows.new o self.new }
+    {
+        let spot = self.spot(windows, set.control)?;
+        let mut state = self.state(spot.control);
+        state.highlight = Highlight::of_number(set.number)?;
+        self.put(windows, spot, state);
+        Ok(ControlReply::Done)
+    }
+
+    /// Gives a control another title.
+    pub(crate) fn set_title(
+        &mut self,
+        windows: &mut WindowManager,
+        set: &ControlTitle<'_>,
+    ) -> Result<ControlReply, Refusal>
+        requires kept { IsKept ⟦<Taken as Defined>⟧.loan windows.old }
+        requires beside { AreBeside ⟦<TakenControl as DefinedControl>⟧.control_loan ⟦<Taken as Defined>⟧.loan windows.old self.old }
+        ensures { (o : Opened) → LeavesControls ⟦<TakenControl as DefinedControl>⟧.control_loan ⟦<Taken as Defined>⟧.loan
+            (IsControlStep (asks.SetTitle set.now) result) windows.old o self.old windows.new o self.new }
+    {
+        let spot = self.spot(windows, set.control)?;
+        let mut state = self.state(spot.control);
+        state.title = ShortText::new(set.title.as_slice())?;
+        self.put(windows, spot, state);
+        Ok(ControlReply::Done)
+    }
+}

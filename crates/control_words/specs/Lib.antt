@@ -1,0 +1,2 @@
+pub mod ControlLines
+pub mod ControlWords

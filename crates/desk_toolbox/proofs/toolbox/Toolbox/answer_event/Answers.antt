@@ -1,0 +1,25 @@
+use Rattle.std.proofs.Common.{◌≡◌, refl, subst}
+use Rattle.desk_toolbox.specs.EventSteps.{event_step}
+use Rattle.tb_geom.specs.Pixels.{holds}
+use Rattle.def_iface.specs.contracts.taken.TakenDefined.TheImpl as taken
+use Rattle.def_iface.specs.contracts.taken_control.TakenControlDefinedControl.TheImpl as taken_control
+use Rattle.window_mgr.specs.DeskStates.{desk_state}
+use Rattle.window_update.specs.WholeUpdates.{opened}
+use Rattle.control_mgr.specs.ControlDesks.{controls_show}
+use Rattle.control_mgr.specs.WholeControls.{records_of}
+use Rattle.desk_toolbox.proofs.WaitingShown.{first_showing}
+use Rattle.desk_toolbox.proofs.toolbox.Toolbox.answer_event.Goals as goal
+
+pub returns-clause-step : goal.returns-clause-step
+returns-clause-step g c slots kept held =
+    let self = c.args.self.now in
+    let shows = controls_show (records_of (taken_control.control_loan-value g.dyn-2).it self.controls) in (
+      record { windows = record { desk = refl; stale = λ p on. refl; image = λ p on. refl }; activity = refl; begun = refl },
+      (refl, refl),
+      (
+        c.first_to_update-update.result,
+        first_showing shows (desk_state (taken.loan-value g.dyn-1).it self.windows (opened self.activity self.updates) slots) c.first_to_update-update.result (c.first_to_update-update.ensures (λ p. holds self.updates.begun p) slots),
+        subst (λ l. (c.perform.result, c.perform.new.self) ≡ event_step c.args.call l.active c.first_to_update-update.result self.events) c.list.ensures
+            (subst (λ active. (c.perform.result, c.perform.new.self) ≡ event_step c.args.call active c.first_to_update-update.result self.events) c.active-active.ensures c.perform.ensures),
+      ),
+    )

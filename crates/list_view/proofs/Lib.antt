@@ -1,0 +1,5 @@
+-- Lemmas on views.
+pub mod AxisLemmas
+pub mod ViewLemmas
+pub mod LineLemmas
+pub mod LawLemmas
