@@ -2,6 +2,7 @@
 -- they stand, and the steps of calls.
 pub mod Stocks
 pub mod Edited
+pub mod Reshown
 pub mod Settled
 pub mod Places
 pub mod Told
