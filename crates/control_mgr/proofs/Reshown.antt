@@ -19,7 +19,7 @@ use Rattle.vis_update.specs.Relayings.{afresh_change, is_part_afresh}
 use Rattle.window_paint.specs.Kinds.{is_of}
 use Rattle.window_paint.specs.White.{all_white}
 use Rattle.window_mgr.specs.FullDesk.{FullDesk, FullState, layered_desk, layered_state}
-use Rattle.window_mgr.specs.Records.{desk_showing, state_showing}
+use Rattle.window_mgr.specs.Records.{state_showing}
 use Rattle.window_mgr.specs.Relayered.{AreLayersSet, IsLayerRedrawn, redrawn_change}
 use Rattle.window_mgr.proofs.LayerParts.{layers_with}
 use Rattle.window_mgr.proofs.Showing.{bit_showing, distinct_showing, owner_showing}

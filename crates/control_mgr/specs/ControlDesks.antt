@@ -66,7 +66,7 @@ pub record ControlDesk : Type 0 where
   -- what layers that are no controls' show in a font
   pub others : List ℕ → Part → PixelSet
 
--- what its windows show of controls is what these show, and what they show of other layers is what those show
+-- its windows show of controls what these show, and of other layers what is said of those
 abbrev pub ShowsControls : ControlDesk → Type 0
 ShowsControls d = d.desk.windows.desk.shows ≡ controls_show d.others d.controls.controls d.desk.windows.desk.font
 
