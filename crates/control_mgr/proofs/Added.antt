@@ -1,11 +1,11 @@
--- A control that is made: its layer behind the other controls of its window, and the plan.
-use Rattle.std.proofs.Common.{◌≡◌, ℕ, zero, suc, ◌<◌, ◌≤◌, Bool, true, false, ◌&&◌, ◌||◌, cond, List, [], ◌∷◌, ◌++◌, length, get_or, Option, Some, refl, sym, ap, ◌∙◌, subst, arith}
+-- A control that is made: its layer behind those of the other controls of its window, and the plan.
+use Rattle.std.proofs.Common.{◌≡◌, ℕ, zero, suc, ◌<◌, ◌≤◌, Bool, true, false, ◌&&◌, ◌||◌, cond, List, [], ◌∷◌, length, get_or, take, drop, Option, Some, refl, sym, ap, ◌∙◌, subst, arith}
 use Rattle.std.specs.Prelude.{All, vec_capacity}
-use Rattle.std.specs.List.{AllZip, insert, list_all, list_any}
-use Rattle.std.proofs.lemmas.List.Edits.{get_or-insert_at, insert_end, length-insert}
-use Rattle.std.proofs.lemmas.List.Elements.{All-append, All-cons, All-nil}
-use Rattle.std.proofs.lemmas.List.Folds.{list_all-append}
-use Rattle.std.proofs.lemmas.List.Quantifiers.{all_pairs_push}
+use Rattle.std.specs.List.{insert, list_all, list_any}
+use Rattle.std.proofs.lemmas.Bool.{and_parts}
+use Rattle.std.proofs.lemmas.List.Edits.{get_or-insert_at, length-insert}
+use Rattle.std.proofs.lemmas.List.Elements.{All-append, All-cons, All-drop, All-head, All-tail, All-take, All-weaker}
+use Rattle.std.proofs.lemmas.List.Kept.{AllPairs-cons}
 use Rattle.tb_geom.specs.declared.point.Point.{Point}
 use Rattle.tb_geom.specs.Points.{minus}
 use Rattle.tb_geom.specs.Pixels.{holds}
@@ -30,10 +30,13 @@ use Rattle.layer_list.specs.declared.layer.Shape.{Shape}
 use Rattle.layer_list.specs.declared.layers.Relaid.{Relaid}
 use Rattle.layer_list.specs.Changes.{is_gained}
 use Rattle.layer_list.specs.Holders.{ArePartsApart, IsLayerAt, PlacedLayers, fits_at}
+use Rattle.layer_list.proofs.Parts.{front_apart, same_part-turned}
 use Rattle.desk_call.specs.declared.control.NewControl.{NewControl}
+use Rattle.desk_call.specs.declared.update.Layers.TheVariants as kinds
 use Rattle.vis_update.specs.declared.relaying.Relaying.{Relaying}
 use Rattle.vis_update.specs.Relayings.{IsGained}
 use Rattle.window_list.specs.declared.window.Window.{Window}
+use Rattle.window_paint.specs.Kinds.{is_of}
 use Rattle.window_mgr.specs.declared.manager.WindowManager.{WindowManager}
 use Rattle.window_mgr.specs.Edits.{IsWindowAt}
 use Rattle.window_mgr.specs.Kept.{IsKept}
@@ -50,17 +53,12 @@ use Rattle.control_mgr.specs.ControlRefusals.{judged_refusals}
 use Rattle.control_mgr.specs.Laying.{IsShapeOf, MayLieSo}
 use Rattle.control_mgr.specs.Making.{IsAddition, IsRoomier, IsTicket}
 use Rattle.control_mgr.specs.WholeControls.{AreBeside, records_of}
+use Rattle.control_mgr.proofs.Edited.{AreNoControls, begin_length, no_control}
 use Rattle.control_mgr.proofs.Judging.{is_placed}
 use Rattle.control_mgr.proofs.Lays.{MayLieAt, lie_parts}
 use Rattle.control_mgr.proofs.Places.{at_window, there_is, read_is}
 
--- ---- one more behind all
-
-zip_length : {D : Type 0} (R : Control D → Layer → Type 0) (xs : List (Control D)) (ls : List Layer) → AllZip R xs ls → length xs ≡ length ls
-zip_length R [] [] h = refl
-zip_length R [] (l ∷ ls) h = absurd h
-zip_length R (x ∷ xs) [] h = absurd h
-zip_length R (x ∷ xs) (l ∷ ls) h = ap suc (zip_length R xs ls h.1)
+-- ---- one more layer
 
 pub or_parts : (a b : Bool) → (a || b) ≡ false → (a ≡ false) × (b ≡ false)
 or_parts true b e = absurd (cc)
@@ -79,23 +77,41 @@ none_in_window n window (c ∷ cs) e =
     by_test false f rest = rest
 
 -- and no layer of these is its
-others_named : (n : ℕ) (cs : List ControlRecord) (ls : List Layer) → AllZip IsLayerOf cs ls → list_any (has_serial n) cs ≡ false → All (λ l. same_part l.part (part.Control n) ≡ false) ls
-others_named n [] [] h e = All-nil (λ (l : Layer). same_part l.part (part.Control n) ≡ false)
-others_named n [] (l ∷ ls) h e = absurd h
+others_named : (n : ℕ) (cs : List ControlRecord) (ls : List Layer) → AreLayersOf cs ls → list_any (has_serial n) cs ≡ false → All (λ l. same_part l.part (part.Control n) ≡ false) ls
+others_named n [] ls h e = All-weaker (λ (l : Layer). is_of kinds.Controls l.part ≡ false) (λ (l : Layer). same_part l.part (part.Control n) ≡ false) (λ l its. no_control l.part n its) ls h
 others_named n (c ∷ cs) [] h e = absurd h
 others_named n (c ∷ cs) (l ∷ ls) h e =
     let both = or_parts (has_serial n c) (list_any (has_serial n) cs) e in
     All-cons (λ (l : Layer). same_part l.part (part.Control n) ≡ false) l ls (ap (λ q. same_part q (part.Control n)) h.0.part ∙ both.0) (others_named n cs ls h.1 both.1)
 
-apart_behind : (ls : List Layer) (own : Layer) → ArePartsApart ls → same_part own.part part.Picture ≡ false → All (λ l. same_part l.part own.part ≡ false) ls → ArePartsApart (ls ++ own ∷ [])
-apart_behind ls own h e others = (
-  All-append (λ (l : Layer). same_part l.part part.Picture ≡ false) ls (own ∷ []) h.0
-      (All-cons (λ (l : Layer). same_part l.part part.Picture ≡ false) own [] e (All-nil (λ (l : Layer). same_part l.part part.Picture ≡ false))),
-  all_pairs_push (λ (k l : Layer). same_part k.part l.part ≡ false) ls own h.1 others,
+-- what holds of each layer, and of one more, holds where that is put in
+all_with : (P : Layer → Type 0) (i : ℕ) (ls : List Layer) (own : Layer) → All P ls → P own → All P (insert ls i own)
+all_with P i ls own h new = All-append P (take i ls) (own ∷ drop i ls) (All-take P i ls h) (All-cons P own (drop i ls) new (All-drop P i ls h))
+
+apart_front : (ls : List Layer) (own : Layer) → ArePartsApart ls → same_part own.part part.Picture ≡ false → All (λ l. same_part l.part own.part ≡ false) ls → ArePartsApart (own ∷ ls)
+apart_front ls own h e others = (
+  All-cons (λ (l : Layer). same_part l.part part.Picture ≡ false) own ls e h.0,
+  AllPairs-cons (λ (k l : Layer). same_part k.part l.part ≡ false) own ls
+      (All-weaker (λ (l : Layer). same_part l.part own.part ≡ false) (λ (l : Layer). same_part own.part l.part ≡ false) (λ l its. same_part-turned own.part l.part ∙ its) ls others) h.1,
 )
 
-fit_behind : (place : Point) (ls : List Layer) (own : Layer) → list_all (fits_at place) ls ≡ true → fits_at place own ≡ true → list_all (fits_at place) (ls ++ own ∷ []) ≡ true
-fit_behind place ls own fit e = list_all-append (fits_at place) ls (own ∷ []) ∙ (λ t. fit t && (e t && true))
+apart_with : (i : ℕ) (ls : List Layer) (own : Layer) → ArePartsApart ls → same_part own.part part.Picture ≡ false → All (λ l. same_part l.part own.part ≡ false) ls → ArePartsApart (insert ls i own)
+apart_with zero ls own h e others = apart_front ls own h e others
+apart_with (suc i) [] own h e others = apart_front [] own h e others
+apart_with (suc i) (l ∷ ls) own h e others =
+    let front = front_apart l ls h in
+    let rest = apart_with i ls own front.rest e (All-tail (λ (k : Layer). same_part k.part own.part ≡ false) l ls others) in (
+      All-cons (λ (k : Layer). same_part k.part part.Picture ≡ false) l (insert ls i own) front.picture rest.0,
+      AllPairs-cons (λ (j k : Layer). same_part j.part k.part ≡ false) l (insert ls i own)
+          (all_with (λ (k : Layer). same_part l.part k.part ≡ false) i ls own front.others (All-head (λ (k : Layer). same_part k.part own.part ≡ false) l ls others)) rest.1,
+    )
+
+fit_with : (place : Point) (i : ℕ) (ls : List Layer) (own : Layer) → list_all (fits_at place) ls ≡ true → fits_at place own ≡ true → list_all (fits_at place) (insert ls i own) ≡ true
+fit_with place zero ls own fit e = λ t. e t && fit t
+fit_with place (suc i) [] own fit e = λ t. e t && true
+fit_with place (suc i) (l ∷ ls) own fit e =
+    let parts = and_parts (fits_at place l) (list_all (fits_at place) ls) fit in
+    let rest = fit_with place i ls own parts.1 e in (λ t. parts.0 t && rest t)
 
 -- what stands at a place is one
 pub one_read : {X : Type 0} (xs : List X) (i : ℕ) (x y : X) → i < length xs → x ≡ get_or xs i x → y ≡ get_or xs i y → x ≡ y
@@ -130,9 +146,11 @@ module _ {V : Type 0} {H : V → Type 0} (loan : Taken V H → Loan) {W : Type 0
         subst (λ s. AreLayersOf (controls_of s cs) w.layers.layers) (ticket.window.1 w lies)
         (at_window loan (λ r. AreLayersOf (controls_of r.serial cs) r.layers) t.windows.records.items k.window w ticket.window.0 lies beside.whole.joined)
 
-    -- there are as many layers as controls
-    pub as_many : count_of n.window m.list.controls.items ≡ length w.layers.layers
-    as_many = sym (count_of-seen control_loan n.window m.list.controls.items) ∙ count_of-length n.window cs ∙ zip_length IsLayerOf (controls_of n.window cs) w.layers.layers its
+    -- there are no more controls than layers
+    pub no_more : count_of n.window m.list.controls.items ≤ length w.layers.layers
+    no_more =
+        subst (λ k. k ≤ length w.layers.layers) (sym (sym (count_of-seen control_loan n.window m.list.controls.items) ∙ count_of-length n.window cs))
+        (begin_length IsLayerOf AreNoControls (controls_of n.window cs) w.layers.layers its)
 
     pub lies_there : w.layers.place ≡ w.place
     lies_there = contents.layers_there loan t kept.slots kept.whole k.window ticket.window.0 w lies (λ font q p. false)
@@ -158,32 +176,26 @@ module _ {V : Type 0} {H : V → Type 0} (loan : Taken V H → Loan) {W : Type 0
         abbrev new : List Layer
         new = relaid.layers.layers
 
-        behind_all : at ≡ length w.layers.layers
-        behind_all = at_is ∙ as_many
-
         inserted : new ≡ insert w.layers.layers at own
         inserted = ap (λ (ls : PlacedLayers). ls.layers) layers_are
 
-        new_is : new ≡ w.layers.layers ++ own ∷ []
-        new_is = inserted ∙ ap (λ i. insert w.layers.layers i own) behind_all ∙ insert_end w.layers.layers own
-
         within : at ≤ length w.layers.layers
-        within = let e = behind_all in omega arith
+        within = subst (λ k. k ≤ length w.layers.layers) (sym at_is) no_more
 
         pub new_low : at < length new
         new_low =
             let many = ap length inserted ∙ length-insert w.layers.layers at own within in
-            let e = behind_all in omega arith
+            let low = within in omega arith
 
         pub may_have : MayHaveLayers k.window t relaid.layers
         may_have = record {
-          apart = subst ArePartsApart (sym new_is)
-              (apart_behind w.layers.layers own (contents.layers_apart loan t kept.slots kept.whole k.window ticket.window.0 w lies (λ font q p. false)) refl
+          apart = subst ArePartsApart (sym inserted)
+              (apart_with at w.layers.layers own (contents.layers_apart loan t kept.slots kept.whole k.window ticket.window.0 w lies (λ font q p. false)) refl
               (others_named k.serial (controls_of n.window cs) w.layers.layers its (none_in_window k.serial n.window cs unused)));
           there = λ v v_is. ap (λ (ls : PlacedLayers). ls.place) layers_are ∙ lies_there ∙ ap (λ (x : Window V H). x.place) (one_read t.windows.records.items k.window w v ticket.window.0 lies v_is);
-          fit = (λ i. list_all (fits_at (ap (λ (ls : PlacedLayers). ls.place) layers_are i)) (new_is i))
-              ∙ ap (λ p. list_all (fits_at p) (w.layers.layers ++ own ∷ [])) lies_there
-              ∙ fit_behind w.place w.layers.layers own (at_window loan IsSettled t.windows.records.items k.window w ticket.window.0 lies kept.whole.sound.settled).layers own_fits;
+          fit = (λ i. list_all (fits_at (ap (λ (ls : PlacedLayers). ls.place) layers_are i)) (inserted i))
+              ∙ ap (λ p. list_all (fits_at p) (insert w.layers.layers at own)) lies_there
+              ∙ fit_with w.place at w.layers.layers own (at_window loan IsSettled t.windows.records.items k.window w ticket.window.0 lies kept.whole.sound.settled).layers own_fits;
         }
 
         own_read : own ≡ get_or new at own

@@ -6,7 +6,9 @@ use Rattle.std.proofs.lemmas.Bool.{and_parts, false≢true}
 use Rattle.std.proofs.lemmas.Bool.Decides.{nat_tests}
 use Rattle.std.proofs.lemmas.List.Elements.{All-cons, All-contains, All-head, All-nil, All-tail, All-weaker}
 use Rattle.tb_geom.specs.declared.point.Point.{Point}
+use Rattle.tb_geom.specs.Points.{PixelSet}
 use Rattle.control_list.specs.Lists.{are_before, controls_of, has_serial, is_before, is_in}
+use Rattle.def_iface.specs.declared.part.Part.{Part}
 use Rattle.def_iface.specs.Desk.{IsDesk}
 use Rattle.def_iface.specs.Owner.{Owner, is_content, owner, own_bit}
 use Rattle.def_iface.specs.Scratch.{scratch}
@@ -72,7 +74,7 @@ module _ (window : ℕ) (before after : ControlsState) (left : IsWindowLeft wind
           ∙ ap (with_serial n) (left.others s (differ window s e))
           ∙ with_among n s before.controls apart was
 
-  -- the layers of each window that is there are its controls
+  -- the layers of each window that is there begin with its controls', and no other is a control's
   joined_left : (ws : List WindowRecord) → is_missing window ws ≡ true → AreJoined before.controls ws → AreJoined after.controls ws
   joined_left ws missing joined =
       both_all (λ w. (window == w.serial) ≡ false) (λ w. AreLayersOf (controls_of w.serial before.controls) w.layers) (λ w. AreLayersOf (controls_of w.serial after.controls) w.layers)
@@ -120,23 +122,23 @@ module _ (window : ℕ) (before after : ControlsState) (left : IsWindowLeft wind
 
   -- ---- what is shown
 
-  module _ (s : FullState) (right : IsRightState s) (shows : s.desk.shows ≡ controls_show before.controls s.desk.font) (apart : AreApart before.controls)
+  module _ (others : List ℕ → Part → PixelSet) (s : FullState) (right : IsRightState s) (shows : s.desk.shows ≡ controls_show others before.controls s.desk.font) (apart : AreApart before.controls)
       (joined : AreJoined before.controls s.desk.windows) (missing : is_missing window s.desk.windows ≡ true) where
     abbrev now : FullDesk
-    now = desk_showing (controls_show after.controls) s.desk
+    now = desk_showing (controls_show others after.controls) s.desk
 
     distinct : IsDesk (layered_desk now)
-    distinct = distinct_showing (controls_show after.controls) s.desk right.plain.desk
+    distinct = distinct_showing (controls_show others after.controls) s.desk right.plain.desk
 
     same_owners : (p : Point) → owner (layered_desk now) p ≡ owner (layered_desk s.desk) p
-    same_owners p = owner_showing (controls_show after.controls) s.desk p
+    same_owners p = owner_showing (controls_show others after.controls) s.desk p
 
     same_shown : (p : Point) (o : Owner) → owner (layered_desk s.desk) p ≡ o → own_bit (layered_desk now) o p ≡ own_bit (layered_desk s.desk) o p
     same_shown p o here = by_content (is_content o) refl
       where
         by_content : (b : Bool) → is_content o ≡ b → own_bit (layered_desk now) o p ≡ own_bit (layered_desk s.desk) o p
-        by_content false e = bit_showing (controls_show after.controls) s.desk o p e
-        by_content true e = sym (same_own s.desk now before.controls after.controls shows refl refl refl joined (joined_left s.desk.windows missing joined) (λ o. false) (stay_left apart)
+        by_content false e = bit_showing (controls_show others after.controls) s.desk o p e
+        by_content true e = sym (same_own others s.desk now before.controls after.controls shows refl refl refl joined (joined_left s.desk.windows missing joined) (λ o. false) (stay_left apart)
             p o right.plain.desk distinct here (same_owners p ∙ here) e refl)
 
     same_scratch : (p : Point) → scratch (layered_desk now) p ≡ scratch (layered_desk s.desk) p
@@ -146,7 +148,7 @@ module _ (window : ℕ) (before after : ControlsState) (left : IsWindowLeft wind
         ∙ same_shown p (owner (layered_desk s.desk) p) refl
         ∙ sym (scratch_is_owners (layered_desk s.desk) p right.plain.desk)
 
-    right_left : IsRightState (state_showing (controls_show after.controls) s)
+    right_left : IsRightState (state_showing (controls_show others after.controls) s)
     right_left = record {
       plain = record {
         desk = distinct;
@@ -156,12 +158,13 @@ module _ (window : ℕ) (before after : ControlsState) (left : IsWindowLeft wind
       serials = right.serials;
     }
 
--- the controls of a window that is no more were taken out: a right state stays right, and whole controls whole
-pub followed_right : (window : ℕ) (s : FullState) (before after : ControlsState) → IsRightState s → s.desk.shows ≡ controls_show before.controls s.desk.font
+-- the controls of a window that is no more were taken out: a right state stays right, and whole controls whole, whatever other
+-- layers show
+pub followed_right : (others : List ℕ → Part → PixelSet) (window : ℕ) (s : FullState) (before after : ControlsState) → IsRightState s → s.desk.shows ≡ controls_show others before.controls s.desk.font
     → AreSettled before.controls → AreApart before.controls → are_before before.next before.controls ≡ true → AreJoined before.controls s.desk.windows
     → All (λ c. is_in window c ≡ false → is_missing c.window s.desk.windows ≡ false) before.controls → is_missing window s.desk.windows ≡ true → IsWindowLeft window before after
-    → IsRightState (state_showing (controls_show after.controls) s) × AreWholeControls s.desk.windows after
-followed_right window s before after right shows settled apart given joined there missing left = (
-  right_left window before after left s right shows apart joined missing,
+    → IsRightState (state_showing (controls_show others after.controls) s) × AreWholeControls s.desk.windows after
+followed_right others window s before after right shows settled apart given joined there missing left = (
+  right_left window before after left others s right shows apart joined missing,
   whole_left window before after left s.desk.windows settled apart given joined there missing,
 )

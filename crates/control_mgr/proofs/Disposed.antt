@@ -9,7 +9,7 @@ use Rattle.control_list.specs.declared.control.Control.{Control}
 use Rattle.control_list.specs.Lists.{controls_of, has_serial, is_before, is_in_at, place_among}
 use Rattle.control_list.specs.Seen.{all_seen, seen}
 use Rattle.control_list.proofs.SeenLemmas.{place_among-seen, remove-seen, slice_get-seen}
-use Rattle.control_list.proofs.WindowLemmas.{controls_of-remove, controls_of-remove_other, is_in_at-other}
+use Rattle.control_list.proofs.WindowLemmas.{controls_of-remove, controls_of-remove_other, is_in_at-other, slice_get-controls_of}
 use Rattle.def_iface.specs.declared.part.Part.{Part}
 use Rattle.def_iface.specs.declared.taken.Taken.{Taken}
 use Rattle.def_iface.specs.declared.taken_control.TakenControl.{TakenControl}
@@ -24,9 +24,11 @@ use Rattle.layer_list.proofs.Parts.{remove_apart}
 use Rattle.desk_call.specs.declared.control.ControlCall.TheVariants.{Dispose}
 use Rattle.desk_call.specs.declared.control.ControlOf.{ControlOf}
 use Rattle.desk_call.specs.declared.control.ControlReply.TheVariants.{Done}
+use Rattle.desk_call.specs.declared.update.Layers.TheVariants as kinds
 use Rattle.vis_update.specs.Records.{WindowRecord}
 use Rattle.vis_update.specs.Relayings.{with_layers_of}
 use Rattle.window_list.specs.declared.window.Window.{Window}
+use Rattle.window_paint.specs.Kinds.{is_of}
 use Rattle.window_mgr.specs.declared.manager.WindowManager.{WindowManager}
 use Rattle.window_mgr.specs.DeskStates.{Opened}
 use Rattle.window_mgr.specs.Edits.{IsWindowAt}
@@ -40,14 +42,15 @@ use Rattle.window_mgr.proofs.Contents as contents
 use Rattle.control_mgr.specs.declared.controls.Controls.{Controls}
 use Rattle.control_mgr.specs.declared.spots.Spot.{Spot}
 use Rattle.control_mgr.specs.ControlDesks.{ControlRecord, ControlSlot, ControlsState, controls_show}
-use Rattle.control_mgr.specs.ControlSteps.{AreLayersOf, IsControlShut, IsControlStep, IsLayerOf}
+use Rattle.control_mgr.specs.ControlSteps.{AreLayersOf, IsControlShut, IsControlStep, IsLayerOf, behind_controls}
 use Rattle.control_mgr.specs.InUse.{AreStocked}
 use Rattle.control_mgr.specs.Settled.{AreSettled, IsSettledControl}
 use Rattle.control_mgr.specs.Spots.{IsSpotOf}
 use Rattle.control_mgr.specs.WholeControls.{AreApart, AreWholeControls, LeavesOver, controls_state, records_of, slots_of}
 use Rattle.control_mgr.proofs.Added.{one_read, or_parts}
-use Rattle.control_mgr.proofs.Edited.{All-remove, All-there, map-remove, zip_remove}
-use Rattle.control_mgr.proofs.Places.{at_window, in_its_window, layer_there, read_is, there_is, within}
+use Rattle.control_mgr.proofs.Edited.{All-remove, All-there, AreNoControls, begin_remove, behind_removed, map-remove}
+use Rattle.control_mgr.proofs.Places.{at_window, in_its_window, layer_there, layers_named, read_is, record_there, there_is, within}
+use Rattle.control_mgr.proofs.Reshown.{alone, set_among}
 use Rattle.control_mgr.proofs.Settled.{AreJoined, joined_laid, somewhere_laid}
 use Rattle.control_mgr.proofs.Steps.{nothing_missing}
 use Rattle.control_mgr.proofs.Stocks.{slot_is_left, slot_of, stocked_without}
@@ -159,9 +162,19 @@ module _ {V : Type 0} {H : V → Type 0} (loan : Taken V H → Loan) {W : Type 0
           subst (λ ls. AreLayersOf (controls_of c.window (remove cs s.control)) ls) (sym new_is)
           (subst (λ xs. AreLayersOf xs (remove w.layers.layers index))
           (sym (controls_of-remove c.window s.control cs (in_its_window loan control_loan c t m s is) ∙ ap (λ i. remove (controls_of c.window cs) i) index_seen))
-          (zip_remove IsLayerOf index (controls_of c.window cs) w.layers.layers
+          (begin_remove IsLayerOf AreNoControls index (controls_of c.window cs) w.layers.layers
+          (subst (λ i. i < length (controls_of c.window cs)) index_seen
+          (within (controls_of c.window cs) (place_among s.control cs) (record_there loan control_loan c t m s is).item
+          (slice_get-controls_of c.window s.control cs (in_its_window loan control_loan c t m s is) ∙ (record_there loan control_loan c t m s is).there)))
           (subst (λ n. AreLayersOf (controls_of n cs) w.layers.layers) (is.window.1 w lies)
           (at_window loan (λ r. AreLayersOf (controls_of r.serial cs) r.layers) t.windows.records.items s.window w is.window.0 lies joined))))
+
+      -- the layers behind the controls are as they were
+      pub behind_left : behind_controls layers.layers ≡ behind_controls w.layers.layers
+      behind_left =
+          let its = layer_there loan control_loan c t m s is w lies joined in
+          ap behind_controls new_is
+          ∙ behind_removed index w.layers.layers its.layer (subst (λ i. slice_get w.layers.layers i ≡ Some its.layer) index_seen its.there) (ap (is_of kinds.Controls) its.is_layer.part)
 
   -- the layers are those of whichever window stands there, without one
   pub without_of : (w : Window V H) → IsWindowAt t.windows.records.items s.window w → (index : ℕ) (layers : PlacedLayers) → layers ≡ record w.layers { layers = remove w.layers.layers index }
@@ -181,15 +194,17 @@ module _ {V : Type 0} {H : V → Type 0} (loan : Taken V H → Loan) {W : Type 0
       → (u : WindowManager V H) (n : Controls (TakenControl W K)) (x : Control (TakenControl W K)) → slice_get m.list.controls.items s.control ≡ Some x
       → n.list.controls.items ≡ remove m.list.controls.items s.control → n.list.next ≡ m.list.next
       → (before back : List ControlSlot) → IsControlShut (control_loan x.definition) before back
-      → AreLeftFor s.window layers.layers (controls_show (records_of control_loan n)) t u
+      → AreLeftFor s.window layers.layers (alone (records_of control_loan n)) t u
       → (o : Opened) → LeavesOver control_loan loan before back (IsControlStep (Dispose c) (Ok Done)) t o m u o n
-  ended kept index index_is layers layers_are u n x there controls_are next_is before back shut set o slots whole controls =
+  ended kept index index_is layers layers_are u n x there controls_are next_is before back shut set o others slots whole controls =
       let windows = there_is t.windows.records.items s.window is.window.0 in
       let w : Window V H = windows.item in
       let lies : IsWindowAt t.windows.records.items s.window w = read_is t.windows.records.items s.window w windows.there in
-      let leaves = set w lies None refl (controls_show cs) slots whole in
+      let leaves = set w lies None refl (controls_show others cs) slots whole in
       let serial : w.serial ≡ c.window = is.window.1 w lies in
-      let sets = subst (λ k. AreLayersSet k layers.layers None (state_showing (controls_show cs) (state_of loan t slots)) (state_showing (controls_show (records_of control_loan n)) (state_of loan u slots))) serial leaves.1 in
+      let was = state_showing (controls_show others cs) (state_of loan t slots) in
+      let sets = set_among others (records_of control_loan n) (state_of loan u slots) leaves.0.sound.distinct c.window was layers.layers None (λ q e. absurd (cc))
+      (subst (λ k. AreLayersSet k layers.layers None was (state_showing (alone (records_of control_loan n)) (state_of loan u slots))) serial leaves.1) in
       let left : records_of control_loan n ≡ remove cs s.control = ap (all_seen control_loan) controls_are ∙ remove-seen control_loan m.list.controls.items s.control in
       let joined : AreLayersOf (controls_of c.window (remove cs s.control)) layers.layers = joined_left kept controls.joined w lies index index_is layers (layers_are w lies) in
       let windows_are : (desk_of loan u []).windows ≡ map (with_layers_of c.window layers.layers) (desk_of loan t []).windows = ap (λ (d : FullDesk). d.windows) sets.desk in
@@ -210,7 +225,15 @@ module _ {V : Type 0} {H : V → Type 0} (loan : Taken V H → Loan) {W : Type 0
               there = seen_at control_loan m s.control x there;
               shut = shut;
               controls = state_is;
-              laid = record { layers = layers.layers; joined = subst (λ xs. AreLayersOf (controls_of c.window xs) layers.layers) (sym left) joined; set = sets; shows = refl };
+              laid = record {
+                layers = layers.layers;
+                joined = subst (λ xs. AreLayersOf (controls_of c.window xs) layers.layers) (sym left) joined;
+                others = layers_named loan t slots whole s.window c.window w is.window.0 lies serial (λ ls. behind_controls layers.layers ≡ behind_controls ls)
+                    (behind_left kept controls.joined w lies index index_is layers (layers_are w lies));
+                set = sets;
+                elsewhere = refl;
+                shows = refl;
+              };
               activity = record { activity = refl; begun = refl };
             },
           ),

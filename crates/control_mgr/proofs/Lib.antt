@@ -1,7 +1,8 @@
--- Lemmas on the controls of a desk: which slots they use, what holds of them where they are changed, put in and taken out, where
--- they stand, and the steps of calls.
+-- Lemmas on the controls of a desk: which slots they use, what holds of them where they are changed, put in and taken out, what
+-- windows show beside them, where they stand, and the steps of calls.
 pub mod Stocks
 pub mod Edited
+pub mod Reshown
 pub mod Settled
 pub mod Places
 pub mod Told

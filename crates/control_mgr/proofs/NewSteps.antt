@@ -5,7 +5,9 @@ use Rattle.std.specs.Option.{option_and_then}
 use Rattle.std.proofs.lemmas.Slice.Eq.{bytes_eq-Decides}
 use Rattle.tb_geom.specs.declared.refusal.Refusal.{Refusal}
 use Rattle.tb_geom.specs.declared.refusal.Refusal.TheVariants.{NoDefinition, NoSuchName}
+use Rattle.tb_geom.specs.Points.{PixelSet}
 use Rattle.tb_geom.specs.Refusals.{first_refusal}
+use Rattle.def_iface.specs.declared.part.Part.{Part}
 use Rattle.def_iface.specs.declared.taken.Taken.{Taken}
 use Rattle.def_iface.specs.declared.taken_control.TakenControl.{TakenControl}
 use Rattle.def_iface.specs.declared.window_def.Stage.{Stage}
@@ -101,11 +103,12 @@ module _ {V : Type 0} {H : V → Type 0} (loan : Taken V H → Loan) {W : Type 0
   state_same : (m planned : Controls (TakenControl W K)) → IsRoomier m planned → (kept left : List ControlSlot) → left ≡ kept → controls_state control_loan planned left ≡ controls_state control_loan m kept
   state_same m planned same kept left e = λ i. record { controls = all_seen control_loan (same.controls i); next = same.next i; stock = e i }
 
-  desk_same : (t : WindowManager V H) (o : Opened) (slots : List SlotView) (m planned : Controls (TakenControl W K)) → IsRoomier m planned → (kept left : List ControlSlot) → left ≡ kept
-      → control_desk control_loan loan t o slots planned left ≡ control_desk control_loan loan t o slots m kept
-  desk_same t o slots m planned same kept left e = λ i. record {
-    desk = desk_with o (state_showing (controls_show (all_seen control_loan (same.controls i))) (state_of loan t slots));
+  desk_same : (others : List ℕ → Part → PixelSet) (t : WindowManager V H) (o : Opened) (slots : List SlotView) (m planned : Controls (TakenControl W K)) → IsRoomier m planned → (kept left : List ControlSlot) → left ≡ kept
+      → control_desk control_loan loan others t o slots planned left ≡ control_desk control_loan loan others t o slots m kept
+  desk_same others t o slots m planned same kept left e = λ i. record {
+    desk = desk_with o (state_showing (controls_show others (all_seen control_loan (same.controls i))) (state_of loan t slots));
     controls = state_same m planned same kept left e i;
+    others = others;
   }
 
   pub beside_planned : (t : WindowManager V H) (m planned : Controls (TakenControl W K)) (kept : List ControlSlot) → IsRoomier m planned
@@ -121,15 +124,15 @@ module _ {V : Type 0} {H : V → Type 0} (loan : Taken V H → Loan) {W : Type 0
         → IsTaken (λ (d : ControlDefinition). d.stage) n.kind taken before left → judged_by loan control_loan n (Some taken.definition) t planned ≡ None
         → ((o : Opened) → LeavesOver control_loan loan before left (IsControlMade n serial) t o planned u o made)
         → (o : Opened) → LeavesOver control_loan loan before left (IsControlStep (New n) (Ok (reply.Made serial))) t o m u o made
-    made_step u made taken before left serial took unrefused added o slots whole controls =
-        let leaves = added o slots whole (subst (AreWholeControls (desk_of loan t []).windows) (sym (state_same m planned same before before refl)) controls) in (
+    made_step u made taken before left serial took unrefused added o others slots whole controls =
+        let leaves = added o others slots whole (subst (AreWholeControls (desk_of loan t []).windows) (sym (state_same m planned same before before refl)) controls) in (
           leaves.0,
           leaves.1,
           (
             refusal_with n (desk_of loan t []) (controls_state control_loan m before) (taken_was_there (λ (d : ControlDefinition). d.stage) n.kind taken before left took)
                 taken.definition (taken_was_offered (λ (d : ControlDefinition). d.stage) n.kind taken before left took)
                 ∙ sym (judged_same (Some taken.definition)) ∙ unrefused,
-            (serial, refl, subst (λ b. IsControlMade n serial b (control_desk control_loan loan u o slots made left)) (desk_same t o slots m planned same before before refl) leaves.2),
+            (serial, refl, subst (λ b. IsControlMade n serial b (control_desk control_loan loan others u o slots made left)) (desk_same others t o slots m planned same before before refl) leaves.2),
           ),
         )
 
@@ -137,7 +140,7 @@ module _ {V : Type 0} {H : V → Type 0} (loan : Taken V H → Loan) {W : Type 0
     pub unmade_step : (taken : ControlLoan) (before left back : List ControlSlot) (e : Refusal)
         → IsTaken (λ (d : ControlDefinition). d.stage) n.kind taken before left → IsPutBack taken left back → IsNotAdded loan control_loan n taken.definition t m e
         → (o : Opened) → LeavesOver control_loan loan before back (IsControlStep (New n) (Err e)) t o m t o planned
-    unmade_step taken before left back e took put refused o slots whole controls =
+    unmade_step taken before left back e took put refused o others slots whole controls =
         let is : back ≡ before = put_back_is_old (λ (d : ControlDefinition). d.stage) n.kind taken before left took back put in
         let because = refusal_with n (desk_of loan t []) (controls_state control_loan m before) (taken_was_there (λ (d : ControlDefinition). d.stage) n.kind taken before left took)
         taken.definition (taken_was_offered (λ (d : ControlDefinition). d.stage) n.kind taken before left took) in (
@@ -145,7 +148,7 @@ module _ {V : Type 0} {H : V → Type 0} (loan : Taken V H → Loan) {W : Type 0
           subst (AreWholeControls (desk_of loan t []).windows) (sym (state_same m planned same before back is)) controls,
           (
             ⊎_elim (λ first. inl (because ∙ first)) (λ memory. inr (because ∙ memory.0, (refl, memory.1))) refused,
-            subst (λ a. IsControlDeskUnchanged (control_desk control_loan loan t o slots m before) a) (sym (desk_same t o slots m planned same before back is)) (unchanged loan control_loan t o slots m before),
+            subst (λ a. IsControlDeskUnchanged (control_desk control_loan loan others t o slots m before) a) (sym (desk_same others t o slots m planned same before back is)) (unchanged loan control_loan others t o slots m before),
           ),
         )
 
@@ -157,13 +160,13 @@ module _ {V : Type 0} {H : V → Type 0} (loan : Taken V H → Loan) {W : Type 0
       → IsNotTaken (λ (d : ControlDefinition). d.stage) bytes before why
       → first_refusal (judged_refusals n None (desk_of loan t []) (records_of control_loan m) m.list.next ++ (true, NoDefinition) ∷ []) ≡ Some e → back ≡ before
       → (o : Opened) → LeavesOver control_loan loan before back (IsControlStep (New n) (Err e)) t o m t o m
-  not_given_step n t m bytes before back why e named is none judged same o slots whole controls =
+  not_given_step n t m bytes before back why e named is none judged same o others slots whole controls =
       let there : IsNotTaken (λ (d : ControlDefinition). d.stage) n.kind before NoDefinition = subst (λ (x : List ℕ × Refusal). IsNotTaken (λ (d : ControlDefinition). d.stage) x.0 before x.1) (λ i. (named i, is i)) none in
       let at_hand : offered_control n.kind before ≡ None = ap (λ o. option_and_then (λ at. option_and_then (λ (s : ControlSlot). s.held) (slice_get before at)) o) there.1 in (
         whole,
         subst (AreWholeControls (desk_of loan t []).windows) (sym (state_same m m (same_self m) before back same)) controls,
         (
           inl (refusal_without n (desk_of loan t []) (controls_state control_loan m before) there.0 at_hand ∙ judged),
-          subst (λ a. IsControlDeskUnchanged (control_desk control_loan loan t o slots m before) a) (sym (desk_same t o slots m m (same_self m) before back same)) (unchanged loan control_loan t o slots m before),
+          subst (λ a. IsControlDeskUnchanged (control_desk control_loan loan others t o slots m before) a) (sym (desk_same others t o slots m m (same_self m) before back same)) (unchanged loan control_loan others t o slots m before),
         ),
       )

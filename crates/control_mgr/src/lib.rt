@@ -5,10 +5,11 @@
 //! Manager"): a call that nothing refuses has its effect; a refused one changes nothing, and its answer is the first refusal of the
 //! written order whose condition holds (`control_refusals`), or NoMemory where none holds and the call may ask for memory.
 //!
-//! A control is a layer of its window's content, in front of the window's picture; the oldest lies in front. Which pixels a layer has
-//! the window keeps (`layer_list`): `AreLayersOf` joins the two, one layer for each control. New, show, move and size draw all that the
-//! control then owns; what a hidden, moved or disposed control leaves is to be redrawn. Values, highlighting, titles and tracking show
-//! the control anew where it is not to be redrawn, and take no memory: all room that they need the layers keep.
+//! A control is a layer of its window's content, in front of the window's lists and of its picture; the oldest lies in front. Which
+//! pixels a layer has the window keeps (`layer_list`): `AreLayersOf` joins the two, one layer for each control in front of all others.
+//! Those others stay as they are, and so does what they show, which a `ControlDesk` has as `others`. New, show, move and size draw all
+//! that the control then owns; what a hidden, moved or disposed control leaves is to be redrawn. Values, highlighting, titles and
+//! tracking show the control anew where it is not to be redrawn, and take no memory: all room that they need the layers keep.
 //!
 //! Boxes of definitions lie in the records of `control_list`, and wait outside in a `ControlStock`. After each change a definition is
 //! told all of its control: size, title, setting and highlighting. `Controls` shows them to whoever draws windows (`Showing`).

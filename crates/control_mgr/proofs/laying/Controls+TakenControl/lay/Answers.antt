@@ -61,7 +61,7 @@ commit_layers-requires-clause-whole g c =
     settled_laid _ _ c.args.windows.now c.args.self.now c.args.spot c.requires.spot c.args.lie c.requires.may c.index.result.now c.index.ensures c.put_lie.new.self c.requires.beside.whole.settled c.put_lie.ensures.changed
 
 pub returns : goal.returns
-returns g c named is o kept slots whole controls =
+returns g c named is o kept others slots whole controls =
     let t = c.args.windows.now in
     let m = c.args.self.now in
     let spot = c.args.spot in
@@ -71,5 +71,5 @@ returns g c named is o kept slots whole controls =
     c.layer_index-layer.result c.layer_index-layer.ensures c.in_ok-relaid.relaid
     (λ w w_is. subst (λ v. c.in_ok-relaid.relaid.layers ≡ record v.layers { layers = reshaped c.in_ok-shape.shape c.layer_index-layer.result v.layers.layers })
     (one_item t.windows.records.items spot.window c.at.result.now w is.window.0 lies w_is) c.in_ok-relaid.ensures.layers)
-    c.put_lie.ensures.changed c.put_lie.ensures.next c.commit_layers.ensures o kept slots whole controls in
+    c.put_lie.ensures.changed c.put_lie.ensures.next c.commit_layers.ensures o kept others slots whole controls in
     (left.0, left.1, (refl, left.2))

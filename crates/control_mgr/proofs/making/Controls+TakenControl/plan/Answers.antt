@@ -1,4 +1,4 @@
-use Rattle.std.proofs.Common.{rules, ◌≤◌, refl, subst}
+use Rattle.std.proofs.Common.{rules, ◌≤◌, length, refl, sym, subst}
 use Rattle.def_iface.specs.contracts.taken_control.TakenControlDefinedControl.TheImpl as control
 use Rattle.vis_update.specs.Relayings.{IsGained}
 use Rattle.window_mgr.specs.Edits.{IsWindowAt}
@@ -15,8 +15,8 @@ with-requires-clause-at g c =
     let control_loan = (control.control_loan-value g.dyn-1).it in
     let w = c.at.result.now in
     let lies : IsWindowAt c.args.windows.now.windows.records.items c.in_ok-ticket.ticket.window w = search rules in
-    let many = adding.as_many _ control_loan c.args.new.now _ c.args.windows.now c.args.self.now c.in_ok-ticket.ticket c.requires.kept c.requires.beside c.in_ok-ticket.ensures w lies in
-    subst (λ k. c.count-layer.result ≤ k) many (search rules)
+    subst (λ k. k ≤ length w.layers.layers) (sym c.count-layer.ensures)
+    (adding.no_more _ control_loan c.args.new.now _ c.args.windows.now c.args.self.now c.in_ok-ticket.ticket c.requires.kept c.requires.beside c.in_ok-ticket.ensures w lies)
 
 pub with-requires-clause-lies : goal.with-requires-clause-lies
 with-requires-clause-lies g c =
