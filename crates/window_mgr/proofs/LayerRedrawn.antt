@@ -80,7 +80,7 @@ module _ {V : Type 0} {H : V → Type 0} (loan : Taken V H → Loan) (t : Window
             ∙ sym (ap (λ b. b && not (stale p)) (no_part w.serial q its e))
 
     bit_is : bit screen p ≡ (if mine its && not (stale p) then now t.font q (minus p w.place) else bit t.screen p)
-    bit_is = drawn.pixels p (here.on_map loan t slots whole at low w there a read was now q p on) ∙ ap (λ b. if b then now t.font q (minus p w.place) else bit t.screen p) drawn_is
+    bit_is = drawn.pixels p (here.on_screen loan t slots whole at low w there a read was now q p on) ∙ ap (λ b. if b then now t.font q (minus p w.place) else bit t.screen p) drawn_is
 
     -- what it shows is what painting from nothing gives
     shown_is : mine its ≡ true → now t.font q (minus p w.place) ≡ scratch desk p

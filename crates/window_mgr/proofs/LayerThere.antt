@@ -84,8 +84,8 @@ module _ {V : Type 0} {H : V → Type 0} (loan : Taken V H → Loan) (t : Window
     abbrev pub its : Owner
     its = owner desk p
 
-    pub on_map : on_map t.screen p ≡ true
-    on_map = sym (on_map_is p) ∙ on
+    pub on_screen : on_map t.screen p ≡ true
+    on_screen = sym (on_map_is p) ∙ on
 
     pub visible_is : holds a.visible p ≡ is_content_of w.serial its
     visible_is = plain_area.visible p ∙ (λ i. on i && is_content_of w.serial (sym (owner_showing now full p) i))

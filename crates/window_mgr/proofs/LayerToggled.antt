@@ -72,7 +72,7 @@ module _ {V : Type 0} {H : V → Type 0} (loan : Taken V H → Loan) (t : Window
     turned = toggles t.font (minus p w.place)
 
     bit_is : bit screen p ≡ (if mine its then (if turned then not (bit t.screen p) else bit t.screen p) else bit t.screen p)
-    bit_is = drawn.pixels p (here.on_map loan t slots whole at low w there a read was now q p on) ∙ ap (λ b. if b then (if turned then not (bit t.screen p) else bit t.screen p) else bit t.screen p) (here.own_is loan t slots whole at low w there a read was now q p on)
+    bit_is = drawn.pixels p (here.on_screen loan t slots whole at low w there a read was now q p on) ∙ ap (λ b. if b then (if turned then not (bit t.screen p) else bit t.screen p) else bit t.screen p) (here.own_is loan t slots whole at low w there a read was now q p on)
 
     still : is_content_of w.serial its ≡ false → bit screen p ≡ bit t.screen p
     still e = bit_is ∙ ap (λ b. if b then (if turned then not (bit t.screen p) else bit t.screen p) else bit t.screen p) (no_part w.serial q its e)

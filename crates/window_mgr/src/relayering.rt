@@ -5,6 +5,7 @@ ghost use Rattle.tb_geom.specs.Points.{PixelSet};
 ghost use Rattle.def_iface.specs.declared.part.Part.{Part};
 ghost use Rattle.def_iface.specs.Stocked.{SlotView};
 ghost use Rattle.layer_list.specs.declared.layer.Layer.{Layer};
+ghost use Rattle.layer_list.specs.Holders.{ArePartsApart};
 ghost use Rattle.window_mgr.specs.Edits.{IsWindowAt};
 ghost use Rattle.window_mgr.specs.Kept.{IsKept};
 ghost use Rattle.window_mgr.specs.Records.{state_of, state_showing};
@@ -36,6 +37,7 @@ impl WindowManager {
     ) -> Result<Relaying, AllocError>
         requires kept { IsKept ⟦<Taken as Defined>⟧.loan self.now }
         requires at { at < length self.now.windows.records.items }
+        requires apart { ArePartsApart relaid.now.layers.layers }
         requires afresh { IfSome afresh (λ i. i < length relaid.now.layers.layers) }
         ensures { IfOk result (λ r. (u : _) → HasUpdate ⟦<Taken as Defined>⟧.loan at update.now self.now u
             → MayHaveLayers at u relaid.now.layers
