@@ -78,6 +78,11 @@ module _ {X : Type 0} {L : X → Type 0} (list_loan : TakenList X L → ListLoan
   abbrev pub lists_state : Lists (TakenList X L) → List ListSlot → ListsState
   lists_state m slots = record { lists = records_of m; next = m.list.next; stock = slots }
 
+  -- the lists are whole beside these windows over some slots
+  pub record AreBeside {V : Type 0} {H : V → Type 0} (loan : Taken V H → Loan) (t : WindowManager V H) (m : Lists (TakenList X L)) : Type 0 where
+    pub slots : List ListSlot
+    pub whole : AreWholeLists (desk_of loan t []).windows (lists_state m slots)
+
   -- `control_loan` says it of a control's, and `loan` of a window's
   module _ {W : Type 0} {K : W → Type 0} (control_loan : TakenControl W K → ControlLoan) {V : Type 0} {H : V → Type 0} (loan : Taken V H → Loan) where
     -- windows, controls and lists with what is open, as a desk
@@ -113,7 +118,10 @@ module _ {X : Type 0} {L : X → Type 0} (list_loan : TakenList X L → ListLoan
         → WindowManager V H → Controls (TakenControl W K) → Lists (TakenList X L) → Type 0
     LeavesLists step t c m u d n = (stocks : Stocks) → LeavesOver stocks stocks step t c m u d n
 
-    -- the lists are whole beside these windows over some slots
-    pub record AreBeside (t : WindowManager V H) (m : Lists (TakenList X L)) : Type 0 where
-      pub slots : List ListSlot
-      pub whole : AreWholeLists (desk_of loan t []).windows (lists_state m slots)
+    -- a call that asks something changes none of them
+    abbrev pub IsToldOver : (ListDesk → ListDesk → Type 0) → WindowManager V H → Lists (TakenList X L) → Type 0
+    IsToldOver step t m = (c : Controls (TakenControl W K)) → LeavesLists step t c m t c m
+
+    -- a call that changes no control
+    abbrev pub IsChangedOver : (ListDesk → ListDesk → Type 0) → WindowManager V H → Lists (TakenList X L) → WindowManager V H → Lists (TakenList X L) → Type 0
+    IsChangedOver step t m u n = (c : Controls (TakenControl W K)) → LeavesLists step t c m u c n
