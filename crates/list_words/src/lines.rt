@@ -19,7 +19,7 @@ pub fn write_list_reply<S: Sink>(sink: &mut S, reply: &ListReply) -> Result<(), 
         ListReply::Done => write_done(sink),
         ListReply::Made(list) => write_number(sink, *list),
         ListReply::Added(first) => write_number(sink, *first as u64),
-        ListReply::Data(data) => write_data(sink, data),
+        ListReply::Data(bytes) => write_data(sink, bytes),
         ListReply::Selected(selected) => write_number(sink, flag_number(*selected)),
         ListReply::Cell(cell) => write_found(sink, *cell),
         ListReply::Clicked(on_cell) => write_number(sink, flag_number(*on_cell)),
@@ -27,11 +27,11 @@ pub fn write_list_reply<S: Sink>(sink: &mut S, reply: &ListReply) -> Result<(), 
 }
 
 /// Writes the line of a cell's data. Its bytes go out as they are, and take no memory.
-fn write_data<S: Sink>(sink: &mut S, data: &[u8]) -> Result<(), Refusal>
+fn write_data<S: Sink>(sink: &mut S, bytes: &[u8]) -> Result<(), Refusal>
     requires { (S.output sink.old).has_failed ≡ false }
-    ensures { Sends (S.output sink.old) (S.output sink.new) result (data_text data.now) }
+    ensures { Sends (S.output sink.old) (S.output sink.new) result (data_text bytes.now) }
 {
-    let pieces: [&[u8]; 3] = [b"ok \"", data, b"\"\n"];
+    let pieces: [&[u8]; 3] = [b"ok \"", bytes, b"\"\n"];
     send_all(sink, &pieces)
 }
 

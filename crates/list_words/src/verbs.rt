@@ -2,7 +2,6 @@
 ghost use Rattle.std.specs.Prelude.{◌≡◌};
 ghost use Rattle.line_words.specs.Shapes.{reading};
 ghost use Rattle.line_words.specs.Tables.{named};
-ghost use Rattle.line_words.specs.Words.{last};
 ghost use Rattle.list_words.specs.ListWords.{list_at, size_at, cell_at, new_shape, alone_shape, lines_shape, cell_shape, text_shape, select_shape, click_shape, scroll_shape, drawing_shape, selection_shape, next_shape, list_verbs, list_shape};
 
 use def_iface::Size;
@@ -120,15 +119,6 @@ fn cell<'a>(words: Words<'a>) -> Result<(Cell, Words<'a>), Refusal>
     Ok((Cell { column, row }, words))
 }
 
-/// The column and the row of a cell, and nothing after them.
-fn last_cell(words: Words<'_>) -> Result<Cell, Refusal>
-    ensures { result ≡ last (cell_at words.entry) }
-{
-    let (cell, words) = cell(words)?;
-    words.end()?;
-    Ok(cell)
-}
-
 /// A list of a window, and nothing after it.
 fn last_list(words: Words<'_>) -> Result<ListOf, Refusal>
     ensures { result ≡ reading alone_shape words.entry }
@@ -152,7 +142,8 @@ fn new_list<'a>(words: Words<'a>) -> Result<ListCall<'a>, Refusal>
     let (columns, words) = words.number()?;
     let (vertical_bar, words) = words.flag()?;
     let (horizontal_bar, words) = words.flag()?;
-    let flags = words.last_number()?;
+    let (flags, words) = words.number()?;
+    words.end()?;
     Ok(ListCall::New(NewList {
         window,
         kind,
@@ -182,7 +173,8 @@ fn cell_of(words: Words<'_>) -> Result<CellOf, Refusal>
     ensures { result ≡ reading cell_shape words.entry }
 {
     let (list, words) = list(words)?;
-    let cell = last_cell(words)?;
+    let (cell, words) = cell(words)?;
+    words.end()?;
     Ok(CellOf { list, cell })
 }
 
@@ -203,7 +195,8 @@ fn select<'a>(words: Words<'a>) -> Result<ListCall<'a>, Refusal>
 {
     let (list, words) = list(words)?;
     let (selected, words) = words.flag()?;
-    let cell = last_cell(words)?;
+    let (cell, words) = cell(words)?;
+    words.end()?;
     let cell = CellOf { list, cell };
     Ok(ListCall::Select(SelectCell { cell, selected }))
 }
@@ -252,7 +245,8 @@ fn selection<'a>(words: Words<'a>) -> Result<ListCall<'a>, Refusal>
 {
     let (list, words) = list(words)?;
     let (next, words) = words.flag()?;
-    let cell = last_cell(words)?;
+    let (cell, words) = cell(words)?;
+    words.end()?;
     let cell = CellOf { list, cell };
     if next {
         Ok(ListCall::FirstSelected(cell))
@@ -269,7 +263,8 @@ fn next_cell<'a>(words: Words<'a>) -> Result<ListCall<'a>, Refusal>
     let (list, words) = list(words)?;
     let (across, words) = words.flag()?;
     let (down, words) = words.flag()?;
-    let cell = last_cell(words)?;
+    let (cell, words) = cell(words)?;
+    words.end()?;
     let cell = CellOf { list, cell };
     Ok(ListCall::NextCell(NextOfCell { cell, across, down }))
 }
