@@ -1,5 +1,6 @@
 -- What a call is about to make of the selection.
-use Rattle.std.specs.Prelude.{◌≡◌, ◌<◌, ℕ, Bool, true, false, not, ◌&&◌, length, if◌then◌else◌}
+use Rattle.std.specs.Prelude.{◌≡◌, ◌<◌, ℕ, Bool, true, false, not, ◌&&◌, List, length, map, if◌then◌else◌}
+use Rattle.std.specs.List.{range_with_len}
 use Rattle.list_cells.specs.Contents.{Content}
 use Rattle.list_cells.specs.declared.block.Block.{Block}
 use Rattle.list_cells.specs.declared.cell.Cell.{Cell}
@@ -38,3 +39,24 @@ chosen_cell c selected alone g = with_selection (if selected && alone then desel
 -- whether a cell is selected before a call or after it, and not both
 abbrev pub is_toggled : Grid → Grid → Cell → Bool
 is_toggled before after c = if (content_of after c).selected then not (content_of before c).selected else (content_of before c).selected
+
+-- the list after a call that makes this of the selection
+abbrev pub selected_by : Selecting → Grid → Grid
+selected_by s g = record g {
+  contents = map (λ k. content_after g.columns s k (content_at g.contents k)) (range_with_len 0 (length g.contents));
+}
+
+-- whether a call makes another list of one
+abbrev pub IsChange : Bool → Grid → Grid → Type 0
+IsChange true before after = before ≡ after → ⊥
+IsChange false before after = before ≡ after
+
+-- the cell at a place is toggled
+abbrev pub is_toggled_at : ℕ → Selecting → List Content → ℕ → Bool
+is_toggled_at columns s cells place = let was = (content_at cells place).selected in
+    if is_selected_after columns s place was then not was else was
+
+-- whether some of the cells are toggled, or none
+abbrev pub AreToggled : Bool → ℕ → Selecting → List Content → Type 0
+AreToggled true columns s cells = (place : ℕ) × (place < length cells) × (is_toggled_at columns s cells place ≡ true)
+AreToggled false columns s cells = (place : ℕ) → place < length cells → is_toggled_at columns s cells place ≡ false

@@ -2,7 +2,7 @@
 ghost use Rattle.std.specs.Prelude.{◌≡◌, ◌<◌, ◌*◌, ℕ, IfSome, is_some, length, true};
 ghost use Rattle.list_cells.specs.Blocks.{content_at, clicked, clicked_cell};
 ghost use Rattle.list_cells.specs.Grids.{Grid, is_cell};
-ghost use Rattle.list_cells.specs.Selections.{alone, beside_others, is_selected_after, content_after, chosen_cell, is_toggled, IsSelecting};
+ghost use Rattle.list_cells.specs.Selections.{alone, beside_others, is_selected_after, content_after, chosen_cell, is_toggled, IsSelecting, IsChange, AreToggled};
 
 use crate::block::{Block, smallest_block};
 use crate::cell::Cell;
@@ -126,4 +126,25 @@ impl ListCells {
         let was = self.contents[place].is_selected();
         selecting.selects(self.columns, place, was) != was
     }
+
+    /// Whether a call that is about to make this of the selection toggles some cell. The cells have to be those before that call.
+    pub fn changes_by(&self, selecting: Selecting) -> bool
+        ensures { (after : Grid) → IsSelecting self.now after selecting → IsChange result self.now after }
+    {
+        self.columns > 0 && are_toggled(&self.contents, self.columns, selecting)
+    }
+}
+
+/// Whether some of these cells in so many columns are toggled.
+fn are_toggled(contents: &[CellContent], columns: usize, selecting: Selecting) -> bool
+    requires { 0 < columns }
+    ensures { AreToggled result columns selecting contents.now }
+{
+    for place in 0..contents.len() {
+        let was = contents[place].is_selected();
+        if selecting.selects(columns, place, was) != was {
+            return true;
+        }
+    }
+    false
 }
