@@ -1,0 +1,148 @@
+//! Rows and columns of a list, and how far it is scrolled; its scroll bars with them.
+ghost use Rattle.std.specs.Prelude.{◌≡◌};
+ghost use Rattle.desk_call.specs.declared.list.ListCall.TheVariants as asks;
+ghost use Rattle.window_mgr.specs.Kept.{IsKept};
+ghost use Rattle.control_mgr.specs.WholeControls.{AreBeside as AreControlsBeside};
+ghost use Rattle.list_mgr.specs.ListSteps.{IsListStep};
+ghost use Rattle.list_mgr.specs.Spots.{IsSpot};
+ghost use Rattle.list_mgr.specs.WholeLists.{AreBeside, LeavesLists, records_of};
+
+use crate::Lists;
+use crate::spots::Spot;
+use control_mgr::Controls;
+use control_values::ControlValues;
+use def_iface::{Defined, DefinedControl, DefinedList, Taken, TakenControl, TakenList};
+use desk_call::{ControlOf, ListLines, ListReply, ScrollList};
+use tb_geom::Refusal;
+use window_mgr::WindowManager;
+
+/// Sets a scroll bar of a list in this window, if the list was made with one and the window has it still.
+fn set_bar(
+    windows: &mut WindowManager,
+    controls: &mut Controls<TakenControl>,
+    window: u64,
+    bar: Option<u64>,
+    values: ControlValues,
+) {
+    if let Some(control) = bar {
+        controls.set_setting(windows, ControlOf { window, control }, values);
+    }
+}
+
+impl Lists<TakenList> {
+    /// Sets the scroll bars of the list that stands here as its view is. It takes no memory.
+    fn set_bars(
+        &self,
+        windows: &mut WindowManager,
+        controls: &mut Controls<TakenControl>,
+        spot: Spot,
+    ) {
+        let list = &self.list.lists[spot.list];
+        let down = list.view.vertical_values(list.cells.rows());
+        set_bar(windows, controls, list.window, list.vertical, down);
+        let across = list.view.horizontal_values(list.cells.columns());
+        set_bar(windows, controls, list.window, list.horizontal, across);
+    }
+
+    /// Scrolls the list that stands here, as far as there are cells to be seen, and says whether it is scrolled otherwise then.
+    fn scroll_by(&mut self, spot: Spot, columns: i32, rows: i32) -> bool {
+        let list = &self.list.lists[spot.list];
+        let (was, view) = (list.view, list.view.scrolled(list.cells.columns(), list.cells.rows(), columns, rows));
+        self.list.set_view(spot.list, view);
+        view != was
+    }
+
+    /// Adds empty rows.
+    pub(crate) fn add_rows(
+        &mut self,
+        windows: &mut WindowManager,
+        controls: &mut Controls<TakenControl>,
+        lines: ListLines,
+    ) -> Result<ListReply, Refusal>
+    {
+        let spot = self.spot(windows, lines.list)?;
+        if let Some(refusal) = self.list.lists[spot.list].cells.add_rows_refusal(lines.count, lines.at) {
+            return Err(refusal);
+        }
+        let mark = self.mark(windows, spot)?;
+        let first = self.list.lists[spot.list].cells.add_rows(lines.count, lines.at)?;
+        self.show(windows, spot, mark, true);
+        self.set_bars(windows, controls, spot);
+        Ok(ListReply::Added(first))
+    }
+
+    /// Adds empty columns.
+    pub(crate) fn add_columns(
+        &mut self,
+        windows: &mut WindowManager,
+        controls: &mut Controls<TakenControl>,
+        lines: ListLines,
+    ) -> Result<ListReply, Refusal>
+    {
+        let spot = self.spot(windows, lines.list)?;
+        if let Some(refusal) = self.list.lists[spot.list].cells.add_columns_refusal(lines.count, lines.at) {
+            return Err(refusal);
+        }
+        let mark = self.mark(windows, spot)?;
+        let first = self.list.lists[spot.list].cells.add_columns(lines.count, lines.at)?;
+        self.show(windows, spot, mark, true);
+        self.set_bars(windows, controls, spot);
+        Ok(ListReply::Added(first))
+    }
+
+    /// Deletes rows.
+    pub(crate) fn delete_rows(
+        &mut self,
+        windows: &mut WindowManager,
+        controls: &mut Controls<TakenControl>,
+        lines: ListLines,
+    ) -> Result<ListReply, Refusal>
+    {
+        let spot = self.spot(windows, lines.list)?;
+        if let Some(refusal) = self.list.lists[spot.list].cells.delete_rows_refusal(lines.count, lines.at) {
+            return Err(refusal);
+        }
+        let mark = self.mark(windows, spot)?;
+        self.list.lists[spot.list].cells.delete_rows(lines.count, lines.at)?;
+        let _scrolled = self.scroll_by(spot, 0, 0);
+        self.show(windows, spot, mark, true);
+        self.set_bars(windows, controls, spot);
+        Ok(ListReply::Done)
+    }
+
+    /// Deletes columns.
+    pub(crate) fn delete_columns(
+        &mut self,
+        windows: &mut WindowManager,
+        controls: &mut Controls<TakenControl>,
+        lines: ListLines,
+    ) -> Result<ListReply, Refusal>
+    {
+        let spot = self.spot(windows, lines.list)?;
+        if let Some(refusal) = self.list.lists[spot.list].cells.delete_columns_refusal(lines.count, lines.at) {
+            return Err(refusal);
+        }
+        let mark = self.mark(windows, spot)?;
+        self.list.lists[spot.list].cells.delete_columns(lines.count, lines.at)?;
+        let _scrolled = self.scroll_by(spot, 0, 0);
+        self.show(windows, spot, mark, true);
+        self.set_bars(windows, controls, spot);
+        Ok(ListReply::Done)
+    }
+
+    /// Scrolls a list.
+    pub(crate) fn scroll(
+        &mut self,
+        windows: &mut WindowManager,
+        controls: &mut Controls<TakenControl>,
+        scrolled: ScrollList,
+    ) -> Result<ListReply, Refusal>
+    {
+        let spot = self.spot(windows, scrolled.list)?;
+        let mark = self.mark(windows, spot)?;
+        let changes = self.scroll_by(spot, scrolled.columns, scrolled.rows);
+        self.show(windows, spot, mark, changes);
+        self.set_bars(windows, controls, spot);
+        Ok(ListReply::Done)
+    }
+}
