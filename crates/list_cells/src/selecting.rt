@@ -69,7 +69,7 @@ pub(crate) fn select_cells(contents: &mut [CellContent], columns: usize, selecti
 }
 
 impl ListCells {
-    /// What `select` makes of the selection, where the list has the cell.
+    /// What `select` is about to make of the selection, where the list has the cell.
     pub fn choosing(&self, cell: Cell, selected: bool, alone: bool) -> Option<Selecting>
         ensures found { is_some result ≡ is_cell self.now cell }
         ensures after { IfSome result (λ s. IsSelecting self.now (chosen_cell cell selected alone self.now) s) }
@@ -85,7 +85,7 @@ impl ListCells {
         })
     }
 
-    /// What `click` makes of the selection, where the list has the cell.
+    /// What `click` is about to make of the selection, where the list has the cell.
     pub fn clicking(&self, cell: Cell, flags: SelectionFlags, keys: ClickKeys) -> Option<Selecting>
         ensures found { is_some result ≡ is_cell self.now cell }
         ensures after { IfSome result (λ s. IsSelecting self.now (clicked_cell flags keys cell self.now) s) }
