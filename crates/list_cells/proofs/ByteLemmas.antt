@@ -1,12 +1,13 @@
 -- How many bytes cells hold together, where some are put in, taken out and changed.
-use Rattle.std.proofs.Common.{◌≡◌, ℕ, zero, suc, ◌+◌, ◌*◌, ◌-◌, ◌≤◌, ◌<◌, List, [], ◌∷◌, ◌++◌, length, take, drop, replicate, refl, sym, ap, ◌∙◌, subst, arith}
-use Rattle.std.specs.Prelude.{get_or, slice_set}
+use Rattle.std.proofs.Common.{◌≡◌, ℕ, zero, suc, ◌+◌, ◌*◌, ◌≤◌, ◌<◌, List, [], ◌∷◌, ◌++◌, length, take, drop, replicate, refl, ap, ◌∙◌, arith}
+use Rattle.std.specs.Prelude.{slice_set}
 use Rattle.std.proofs.Math.Nat.{mul-zero}
 use Rattle.std.proofs.lemmas.List.{drop-drop}
 use Rattle.std.proofs.lemmas.List.Sums.{sum_by-append, sum_by-cons, sum_by-set, sum_by-take-drop, get_or-le-sum_by}
 use Rattle.std.proofs.lemmas.List.Folds.{sum_by-replicate}
 use Rattle.list_cells.specs.Contents.{Content, empty_content, bytes_held, opened, closed, passed, in_rows}
 use Rattle.list_cells.specs.Blocks.{content_at}
+use Rattle.list_cells.specs.Grids.{Grid, rows_added, rows_deleted, columns_added, columns_deleted}
 
 -- how many bytes one cell holds
 abbrev size : Content → ℕ
@@ -82,3 +83,17 @@ same_held (c ∷ cells) (d ∷ others) many each =
     let first : length c.bytes ≡ length d.bytes = ap length (each 0 (omega arith)) in
     let rest : bytes_held cells ≡ bytes_held others = same_held cells others (omega (arith, many)) (λ k low. each (suc k) (omega (arith, low))) in
     omega (arith, sum_by-cons size c cells, sum_by-cons size d others, first, rest)
+
+-- ---- rows and columns that are put in and taken out
+
+pub rows_added_held : (g : Grid) (at n : ℕ) → bytes_held (rows_added at n g).contents ≤ bytes_held g.contents
+rows_added_held g at n = (opened_held (at * g.columns) (n * g.columns)).held g.contents
+
+pub rows_deleted_held : (g : Grid) (at n : ℕ) → bytes_held (rows_deleted at n g).contents ≤ bytes_held g.contents
+rows_deleted_held g at n = (closed_held (at * g.columns) (n * g.columns)).held g.contents
+
+pub columns_added_held : (g : Grid) (at n : ℕ) → bytes_held (columns_added at n g).contents ≤ bytes_held g.contents
+columns_added_held g at n = (in_rows_held g.columns (opened at n) g.rows (opened_held at n)).held g.contents
+
+pub columns_deleted_held : (g : Grid) (at n : ℕ) → bytes_held (columns_deleted at n g).contents ≤ bytes_held g.contents
+columns_deleted_held g at n = (in_rows_held g.columns (closed at n) g.rows (closed_held at n)).held g.contents

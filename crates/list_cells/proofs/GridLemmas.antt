@@ -6,7 +6,6 @@ use Rattle.std.proofs.Math.ListN.{length-set}
 use Rattle.std.proofs.lemmas.Bool.Decides.{nat_tests}
 use Rattle.std.proofs.lemmas.List.{get_or_default}
 use Rattle.tb_geom.specs.Refusals.{first_refusal}
-use Rattle.tb_geom.specs.declared.refusal.Refusal.{Refusal}
 use Rattle.tb_geom.specs.declared.refusal.Refusal.TheVariants.{NoSuchCell, TooLong}
 use Rattle.list_cells.specs.Contents.{Content, empty_content, bytes_held, passed, opened, closed}
 use Rattle.list_cells.specs.declared.cell.Cell.{Cell}
