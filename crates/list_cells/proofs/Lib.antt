@@ -1,4 +1,5 @@
 -- Lemmas on rows, blocks, selections and lists of cells.
+pub mod ByteLemmas
 pub mod RowLemmas
 pub mod GridLemmas
 pub mod BlockLemmas

@@ -7,12 +7,13 @@ use Rattle.std.proofs.lemmas.Bool.Decides.{nat_tests}
 use Rattle.std.proofs.Math.Nat.{mul-zero}
 use Rattle.std.proofs.lemmas.List.{ext_get_or}
 use Rattle.std.proofs.lemmas.List.FromFn.{get_or-map-range_with_len, length-map-range_with_len}
-use Rattle.list_cells.specs.Contents.{Content, empty_content}
+use Rattle.list_cells.specs.Contents.{Content, empty_content, bytes_held}
 use Rattle.list_cells.specs.declared.block.Block.{Block}
 use Rattle.list_cells.specs.declared.click.Click.TheVariants.{Extends}
 use Rattle.list_cells.specs.declared.selecting.Selecting.{Selecting}
 use Rattle.list_cells.specs.Blocks.{content_at, is_in, smallest, with_block, clicked}
 use Rattle.list_cells.specs.Grids.{Grid, IsGrid}
+use Rattle.list_cells.proofs.ByteLemmas.{same_held}
 use Rattle.list_cells.specs.Selections.{alone, content_after, is_selected_after, is_toggled_at, selected_by, AreToggled, IsChange, IsSelecting}
 
 -- the cells of a block selected, and no others
@@ -51,6 +52,17 @@ selected_as_said before seen after old now s view old_is len each said =
     ext_get_or empty_content now after.contents (omega (arith, h.many)) (λ k l.
     each k (omega arith) ∙ ap (λ (cells : List Content). content_after before.columns s k (content_at cells k)) old_is ∙ sym (h.each k (omega arith))) in
     λ i. record { columns = sym h.columns i; rows = sym h.rows i; contents = contents i }
+
+-- cells that were selected as was said hold as many bytes
+pub selected_grid : (g : Grid) (old now : List Content) (s : Selecting) → IsGrid g → old ≡ g.contents → length now ≡ length old
+    → ((place : ℕ) → place < length old → content_at now place ≡ content_after g.columns s place (content_at old place)) → IsGrid (record g { contents = now })
+selected_grid g old now s is old_is len each = record {
+  shape = len ∙ ap length old_is ∙ is.shape;
+  columns_within = is.columns_within;
+  rows_within = is.rows_within;
+  cells_within = omega (arith, len, ap length old_is, is.cells_within);
+  bytes_within = omega (arith, same_held now old len (λ place low. ap (λ (c : Content). c.bytes) (each place low)), ap bytes_held old_is, is.bytes_within);
+}
 
 -- ---- whether some cell is toggled
 

@@ -14,12 +14,13 @@ pub record Grid : Type 0 where
   pub rows : ℕ
   pub contents : List Content
 
--- there is a cell for each column and row, and there are no more than may be
+-- there is a cell for each column and row, there are no more than may be, and together they hold no more bytes than they may
 pub record IsGrid (g : Grid) : Type 0 where
   pub shape : length g.contents ≡ g.rows * g.columns
   pub columns_within : g.columns ≤ 4096
   pub rows_within : g.rows ≤ 4096
   pub cells_within : length g.contents ≤ 4096
+  pub bytes_within : bytes_held g.contents ≤ 32000
 
 -- whether a cell is one of the list's
 abbrev pub is_cell : Grid → Cell → Bool

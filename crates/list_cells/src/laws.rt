@@ -1,12 +1,12 @@
 //! What the definitions of a list's cells imply. A cell goes by its place among all: row times columns, and the column more.
 ghost use Rattle.std.specs.Prelude.{◌≡◌, ◌<◌, ◌≤◌, ◌+◌, ◌-◌, ◌*◌, ℕ, Bool, List, length, true, Some};
-ghost use Rattle.list_cells.specs.Contents.{Content, empty_content};
+ghost use Rattle.list_cells.specs.Contents.{Content, empty_content, bytes_held};
 ghost use Rattle.list_cells.specs.declared.block.Block.{Block};
 ghost use Rattle.list_cells.specs.declared.cell.Cell.{Cell};
 ghost use Rattle.list_cells.specs.declared.click.ClickKeys.{ClickKeys};
 ghost use Rattle.list_cells.specs.declared.click.SelectionFlags.{SelectionFlags};
 ghost use Rattle.list_cells.specs.Blocks.{IsFirst, content_at, is_in, smallest, clicked_cell};
-ghost use Rattle.list_cells.specs.Grids.{Grid, IsGrid, place_of, first_from, rows_added, rows_deleted, columns_deleted};
+ghost use Rattle.list_cells.specs.Grids.{Grid, IsGrid, place_of, first_from, rows_added, rows_deleted, columns_added, columns_deleted};
 
 /// The block that a click extends the selection to holds the clicked cell and all selected ones, and every block that does
 /// holds it.
@@ -64,4 +64,17 @@ pub fn deleted_columns_keep_the_others()
         → at ≤ column → column + n < list.columns
         → content_at (columns_deleted at n list).contents (row * (list.columns - n) + column)
         ≡ content_at list.contents (row * list.columns + (column + n)) }
+{}
+
+/// Rows and columns that are added or deleted never make the cells hold more bytes.
+#[tactic(auto, using(crate::proofs::ByteLemmas::rows_added_held, crate::proofs::ByteLemmas::rows_deleted_held, crate::proofs::ByteLemmas::columns_added_held, crate::proofs::ByteLemmas::columns_deleted_held))]
+pub fn rows_and_columns_bring_no_bytes()
+    ensures rows_added { (list : Grid) (at n : ℕ)
+        → bytes_held (rows_added at n list).contents ≤ bytes_held list.contents }
+    ensures rows_deleted { (list : Grid) (at n : ℕ)
+        → bytes_held (rows_deleted at n list).contents ≤ bytes_held list.contents }
+    ensures columns_added { (list : Grid) (at n : ℕ)
+        → bytes_held (columns_added at n list).contents ≤ bytes_held list.contents }
+    ensures columns_deleted { (list : Grid) (at n : ℕ)
+        → bytes_held (columns_deleted at n list).contents ≤ bytes_held list.contents }
 {}

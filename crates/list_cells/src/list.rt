@@ -17,7 +17,8 @@ pub(crate) const MOST_TEXT: usize = 255;
 /// How many bytes all cells of a list hold together at most.
 const MOST_BYTES: usize = 32000;
 
-/// The cells of a list, by columns and rows. There are at most 4096 columns, 4096 rows and 4096 cells.
+/// The cells of a list, by columns and rows. There are at most 4096 columns, 4096 rows and 4096 cells, and all cells together
+/// hold at most 32000 bytes.
 #[derive(Drop)]
 pub struct ListCells {
     pub(crate) columns: usize,
@@ -92,9 +93,10 @@ impl ListCells {
         }
     }
 
-    /// The data of a cell (LGetCell). NoSuchCell exactly where the list has no such cell.
+    /// The data of a cell, at most 32000 bytes (LGetCell). NoSuchCell exactly where the list has no such cell.
     pub fn cell(&self, cell: Cell) -> Result<&[u8], Refusal>
         ensures bytes { IfOk result (λ bytes. bytes.now ≡ (content_of self.now cell).bytes) }
+        ensures within { IfOk result (λ bytes. length bytes.now ≤ 32000) }
         ensures found { is_ok result ≡ is_cell self.now cell }
         ensures refused { IfErr result (λ e. e ≡ Refusal.NoSuchCell) }
     {

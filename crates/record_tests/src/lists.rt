@@ -77,6 +77,7 @@ fn cells_hold_32000_bytes(rt: HostRuntime) -> Result<(), Fail> {
         list.add_to_cell(cell!(0, 0), &longest)?;
     }
     list.add_to_cell(cell!(0, 0), &longest[..125])?;
+    assert!(rt; list.cell(cell!(0, 0))?.len() == 32000);
     assert!(rt; list.add_to_cell(cell!(0, 0), b"x") == Err(Refusal::TooLong));
     assert!(rt; list.set_cell(cell!(0, 2), b"z") == Err(Refusal::TooLong));
     assert!(rt; list.set_cell(cell!(0, 3), b"z") == Err(Refusal::NoSuchCell));
@@ -243,6 +244,31 @@ fn cells_are_toggled_as_is_told_beforehand(rt: HostRuntime) -> Result<(), Fail> 
     assert!(rt; list.click(cell!(2, 1), PLAIN, keys));
     assert!(rt; list.is_selected(cell!(2, 0)) == Ok(true));
     assert!(rt; list.is_selected(cell!(0, 1)) == Ok(false));
+    Ok(())
+}
+
+/// Whether a call toggles some cell of a list.
+fn changes(list: &ListCells, selecting: Option<Selecting>) -> bool {
+    match selecting {
+        Some(selecting) => list.changes_by(selecting),
+        None => false,
+    }
+}
+
+#[test]
+fn a_list_changes_where_a_cell_is_toggled(rt: HostRuntime) -> Result<(), Fail> {
+    let mut list = ListCells::new(rt.alloc(), 3, 2)?;
+    let without_columns = ListCells::new(rt.alloc(), 0, 2)?;
+    list.select(cell!(1, 0), true, false)?;
+    for (modifiers, cell, cells) in TOGGLED {
+        let keys = ClickKeys::of_modifiers(modifiers);
+        assert!(rt; changes(&list, list.clicking(cell, PLAIN, keys)) == (cells != [false; 6]));
+    }
+    for (cell, selected, alone, cells) in CHOSEN {
+        let selecting = list.choosing(cell, selected, alone);
+        assert!(rt; changes(&list, selecting) == (cells != [false; 6]));
+        assert!(rt; !changes(&without_columns, selecting));
+    }
     Ok(())
 }
 

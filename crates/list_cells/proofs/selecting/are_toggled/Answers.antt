@@ -1,4 +1,4 @@
-use Rattle.std.proofs.Common.{◌<◌, arith}
+use Rattle.std.proofs.Common.{arith}
 use Rattle.list_cells.proofs.SelectionLemmas.{none_more}
 use Rattle.list_cells.proofs.selecting.are_toggled.Goals as goal
 

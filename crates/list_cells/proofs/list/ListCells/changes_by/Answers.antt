@@ -1,5 +1,4 @@
-use Rattle.std.proofs.Common.{List, ap, ◌∙◌, subst}
-use Rattle.list_cells.specs.Contents.{Content}
+use Rattle.std.proofs.Common.{subst}
 use Rattle.list_cells.specs.Grids.{Grid}
 use Rattle.list_cells.specs.Selections.{AreToggled}
 use Rattle.list_cells.proofs.SelectionLemmas.{change_by}

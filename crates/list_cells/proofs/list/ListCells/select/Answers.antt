@@ -1,10 +1,18 @@
-use Rattle.std.proofs.Common.{Bool, List, ap, ◌∙◌, if◌then◌else◌}
+use Rattle.std.proofs.Common.{Bool, List, ap, sym, subst, ◌∙◌, if◌then◌else◌}
 use Rattle.std.proofs.lemmas.List.{with_items_is}
 use Rattle.list_cells.specs.Contents.{Content}
 use Rattle.list_cells.specs.Selections.{chosen_cell}
-use Rattle.list_cells.specs.Grids.{Grid}
-use Rattle.list_cells.proofs.SelectionLemmas.{selected_as_said}
+use Rattle.list_cells.specs.Grids.{Grid, IsGrid}
+use Rattle.list_cells.proofs.SelectionLemmas.{selected_as_said, selected_grid}
 use Rattle.list_cells.proofs.list.ListCells.select.Goals as goal
+
+pub invariant_of-self : goal.invariant_of-self
+invariant_of-self c =
+    let g : Grid = record { columns = c.self.inside.columns; rows = c.self.inside.rows; contents = c.self.inside.contents.items } in
+    subst (λ (cells : List Content). IsGrid (record g { contents = cells }))
+    (sym (with_items_is c.self.inside.contents c.select_cells.new.contents (c.select_cells.auto.contents ∙ c.deref_mut.ensures.len)))
+    (selected_grid g c.deref_mut.result.now c.select_cells.new.contents c.in-Some.selecting
+    c.self.invariant c.deref_mut.ensures.value c.select_cells.auto.contents c.select_cells.ensures)
 
 pub returns-clause-cells : goal.returns-clause-cells
 returns-clause-cells c =
