@@ -3,10 +3,10 @@ use Rattle.std.proofs.Common.{get_or, ◌≡◌, ℕ, ◌+◌, ◌<◌, List, []
 use Rattle.std.specs.List.{filter, fold, range_with_len}
 use Rattle.std.proofs.lemmas.List.{map-id, get_or_default}
 use Rattle.std.proofs.lemmas.List.Sums.{fold-append}
-use Rattle.std.proofs.lemmas.List.FromFn.{filter_of_map_range_with_len_more, fill_by_all}
+use Rattle.std.proofs.lemmas.List.FromFn.{filter_of_map_range_with_len_more}
 use Rattle.list_cells.specs.Contents.{Content, empty_content}
 use Rattle.list_cells.specs.declared.block.Block.{Block}
-use Rattle.list_cells.specs.Blocks.{content_at, block_at, with_place, is_in, with_block}
+use Rattle.list_cells.specs.Blocks.{content_at, block_at, with_place}
 
 -- one number more
 filter_more : (p : ℕ → Bool) (n : ℕ) → filter p (range_with_len 0 (n + 1)) ≡ filter p (range_with_len 0 n) ++ cond (p n) (n ∷ []) []
@@ -24,12 +24,6 @@ fold_more : {A : Type 0} (f : A → ℕ → A) (a : A) (p : ℕ → Bool) (n : �
 fold_more f a p n =
     ap (fold f a) (filter_more p n) ∙ fold-append f a (filter p (range_with_len 0 n)) (cond (p n) (n ∷ []) [])
     ∙ fold_one f (fold f a (filter p (range_with_len 0 n))) (p n) n
-
--- all cells selected as a block says
-pub with_block_is : (columns : ℕ) (b : Block) (old now : List Content) → length now ≡ length old
-    → ((k : ℕ) → k < length old → content_at now k ≡ record (content_at old k) { selected = is_in columns b k }) → now ≡ with_block columns b old
-unfolding with_block
-with_block_is columns b old now len each = fill_by_all (λ k. record (content_at old k) { selected = is_in columns b k }) now (length old) empty_content len each
 
 -- the smallest block that holds a cell and the selected ones among the first n
 abbrev pub smallest_below : ℕ → List Content → ℕ → ℕ → Block

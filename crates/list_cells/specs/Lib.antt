@@ -5,3 +5,4 @@ pub mod Clicks
 pub mod Contents
 pub mod Grids
 pub mod Runs
+pub mod Selections

@@ -1,6 +1,6 @@
 //! Blocks of cells: all cells of some columns and rows that lie side by side.
-ghost use Rattle.std.specs.Prelude.{◌≡◌, ◌<◌, length};
-ghost use Rattle.list_cells.specs.Blocks.{block_at, with_place, is_in, smallest, with_block};
+ghost use Rattle.std.specs.Prelude.{◌≡◌, ◌<◌};
+ghost use Rattle.list_cells.specs.Blocks.{block_at, with_place, is_in, smallest};
 
 use crate::content::CellContent;
 
@@ -15,7 +15,7 @@ pub(crate) struct Block {
 
 impl Block {
     /// The block of one cell, by its place among cells in so many columns.
-    fn at(columns: usize, place: usize) -> Block
+    pub(crate) fn at(columns: usize, place: usize) -> Block
         requires { 0 < columns }
         ensures { result ≡ block_at columns place }
     {
@@ -45,7 +45,7 @@ impl Block {
     }
 
     /// Whether the block holds a cell.
-    fn holds(self, columns: usize, place: usize) -> bool
+    pub(crate) fn holds(self, columns: usize, place: usize) -> bool
         requires { 0 < columns }
         ensures { result ≡ is_in columns self place }
     {
@@ -70,15 +70,4 @@ pub(crate) fn smallest_block(contents: &[CellContent], columns: usize, place: us
         }
     }
     block
-}
-
-/// Selects the cells that lie in a block, and deselects the others.
-pub(crate) fn select_block(contents: &mut [CellContent], columns: usize, block: Block)
-    requires { 0 < columns }
-    ensures { contents.new ≡ with_block columns block contents.old }
-{
-    for place in 0..contents.len() {
-        let content = &mut contents[place];
-        content.select(block.holds(columns, place));
-    }
 }

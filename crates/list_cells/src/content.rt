@@ -2,7 +2,7 @@
 ghost use Rattle.std.specs.Prelude.{◌≡◌, ◌≤◌, ◌<◌, ◌^◌, ◌+◌, ◌*◌, ◌++◌, [], is_ok, if◌then◌else◌, min, IfSome, replicate, length, vec_len, vec_capacity};
 ghost use Rattle.std.specs.List.{position_from};
 ghost use Rattle.std.specs.Str.{bytes_eq};
-ghost use Rattle.list_cells.specs.Contents.{empty_content, passed, opened, closed, in_rows, bytes_held, deselected_contents};
+ghost use Rattle.list_cells.specs.Contents.{empty_content, passed, opened, closed, in_rows, bytes_held};
 
 use std::alloc::{AllocError, Global};
 use std::marker::Model;
@@ -183,15 +183,6 @@ pub(crate) fn bytes_held(contents: &[CellContent]) -> usize
         held = held.saturating_add(content.len());
     }
     held
-}
-
-/// Deselects all cells.
-pub(crate) fn deselect(contents: &mut [CellContent])
-    ensures { contents.new ≡ deselected_contents contents.old }
-{
-    for content in contents.iter_mut() {
-        content.select(false);
-    }
 }
 
 /// How far the first selected cell lies from the first one.

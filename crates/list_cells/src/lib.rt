@@ -8,19 +8,24 @@
 //! does to the selection, and `ListCells::click` does it (LClick). No window, no rectangle and no drawing is known here.
 //!
 //! A call that is refused has changed nothing. What may need memory takes all of it before it changes anything; an empty cell
-//! takes none besides its place.
+//! takes none besides its place. `new_refusal`, `add_rows_refusal` and their like say beforehand why a call would be refused,
+//! want of memory aside. `choosing` and `clicking` say beforehand what a call is about to make of the selection, as a
+//! `Selecting`, so that `is_toggled` tells of each cell whether that call toggles it.
 #![tactic(auto)]
 
 mod block;
 mod cell;
 mod click;
 mod content;
+mod judging;
 pub mod laws;
 mod lines;
 mod list;
 mod runs;
+mod selecting;
 mod selection;
 
 pub use cell::Cell;
 pub use click::{Click, ClickKeys, SelectionFlags};
 pub use list::ListCells;
+pub use selecting::Selecting;

@@ -1,12 +1,12 @@
 //! The cells of a list.
-ghost use Rattle.std.specs.Prelude.{◌≡◌, ◌≤◌, ◌+◌, ◌*◌, ◌<◌, ◌^◌, ◌++◌, [], length, IfOk, IfErr, is_ok, pos, ◌<ℤ◌, nat_abs, None, Some, if◌then◌else◌};
+ghost use Rattle.std.specs.Prelude.{◌≡◌, ◌≤◌, ◌+◌, ◌*◌, ◌<◌, ◌^◌, ◌++◌, [], length, IfOk, IfErr, MatchResult, is_ok, pos, ◌<ℤ◌, nat_abs, None, Some, if◌then◌else◌};
 ghost use Rattle.tb_geom.specs.Refusals.{first_refusal};
 ghost use Rattle.list_cells.specs.Runs.{new_refusals, told};
 ghost use Rattle.list_cells.specs.Grids.{is_cell, place_of, content_of, empty_grid, with_bytes, is_too_long, data_refusals};
 
 use crate::cell::Cell;
 use crate::content::{CellContent, append_empty, bytes_held};
-use crate::runs::{MOST, natural, side};
+use crate::runs::{natural, sides};
 use std::alloc::Global;
 use std::marker::Model;
 use tb_geom::Refusal;
@@ -39,19 +39,13 @@ impl Model for ListCells {
 impl ListCells {
     /// A list of empty cells, none of them selected (LNew). OutOfRange where a number lies outside 0..=4096, TooMany where there
     /// would be more than 4096 cells, NoMemory where there is no memory for them.
-    #[tactic(auto, unfolding(crate::specs::Runs::new_refusals))]
     pub fn new(alloc: Global, columns: i32, rows: i32) -> Result<ListCells, Refusal>
         ensures made { IfOk result (λ made. made ≡ empty_grid (nat_abs columns) (nat_abs rows)) }
         ensures allowed { IfOk result (λ _. first_refusal (new_refusals columns rows) ≡ None) }
         ensures refused { IfErr result (λ e. e ≡ told (new_refusals columns rows)) }
     {
-        let (Some(columns), Some(rows)) = (side(columns), side(rows)) else {
-            return Err(Refusal::OutOfRange);
-        };
+        let (columns, rows) = sides(columns, rows)?;
         let cells = rows * columns;
-        if cells > MOST {
-            return Err(Refusal::TooMany);
-        }
         let mut contents = Vec::with_capacity(alloc, cells)?;
         append_empty(&mut contents, alloc, cells);
         Ok(ListCells {
@@ -118,9 +112,41 @@ impl ListCells {
         added > MOST_TEXT || rest.saturating_add(added) > MOST_BYTES
     }
 
+    /// The place of a cell that may get so many bytes in the place of its own. NoSuchCell where the list has no such cell,
+    /// TooLong where the bytes are more than 255 or all cells would hold more than 32000.
+    #[tactic(auto, unfolding(crate::specs::Grids::data_refusals))]
+    pub(crate) fn place_to_set(&self, cell: Cell, added: usize) -> Result<usize, Refusal>
+        ensures { let refused = first_refusal
+            (data_refusals self.now cell (length (content_of self.now cell).bytes) added) in
+            MatchResult result
+            (λ place. (refused ≡ None) × (place ≡ place_of self.now cell) × (place < self.now.rows * self.now.columns))
+            (λ e. refused ≡ Some e) }
+    {
+        let place = self.place(cell)?;
+        let gone = self.contents[place].len();
+        if self.is_too_long(gone, added) {
+            return Err(Refusal::TooLong);
+        }
+        Ok(place)
+    }
+
+    /// The place of a cell that may get so many bytes behind its own. It is refused as `place_to_set` is.
+    #[tactic(auto, unfolding(crate::specs::Grids::data_refusals))]
+    pub(crate) fn place_to_append(&self, cell: Cell, added: usize) -> Result<usize, Refusal>
+        ensures { let refused = first_refusal (data_refusals self.now cell 0 added) in
+            MatchResult result
+            (λ place. (refused ≡ None) × (place ≡ place_of self.now cell) × (place < self.now.rows * self.now.columns))
+            (λ e. refused ≡ Some e) }
+    {
+        let place = self.place(cell)?;
+        if self.is_too_long(0, added) {
+            return Err(Refusal::TooLong);
+        }
+        Ok(place)
+    }
+
     /// Gives a cell other data (LSetCell). NoSuchCell where the list has no such cell, TooLong where the text is longer than
     /// 255 bytes or all cells would hold more than 32000, NoMemory where there is no memory for it.
-    #[tactic(auto, unfolding(crate::specs::Grids::data_refusals))]
     pub fn set_cell(&mut self, cell: Cell, text: &[u8]) -> Result<(), Refusal>
         ensures cells { self.new ≡ (if is_ok result then with_bytes self.old cell text.now else self.old) }
         ensures allowed { IfOk result (λ _. first_refusal
@@ -128,11 +154,7 @@ impl ListCells {
         ensures refused { IfErr result (λ e. e ≡ told
             (data_refusals self.old cell (length (content_of self.old cell).bytes) (length text.now))) }
     {
-        let place = self.place(cell)?;
-        let gone = self.contents[place].len();
-        if self.is_too_long(gone, text.len()) {
-            return Err(Refusal::TooLong);
-        }
+        let place = self.place_to_set(cell, text.len())?;
         let alloc = self.alloc;
         let content = &mut self.contents[place];
         content.set(alloc, text)?;
@@ -140,17 +162,13 @@ impl ListCells {
     }
 
     /// Adds bytes behind the data of a cell (LAddToCell). It is refused as `set_cell` is.
-    #[tactic(auto, unfolding(crate::specs::Grids::data_refusals))]
     pub fn add_to_cell(&mut self, cell: Cell, text: &[u8]) -> Result<(), Refusal>
         ensures cells { self.new ≡ (if is_ok result
             then with_bytes self.old cell ((content_of self.old cell).bytes ++ text.now) else self.old) }
         ensures allowed { IfOk result (λ _. first_refusal (data_refusals self.old cell 0 (length text.now)) ≡ None) }
         ensures refused { IfErr result (λ e. e ≡ told (data_refusals self.old cell 0 (length text.now))) }
     {
-        let place = self.place(cell)?;
-        if self.is_too_long(0, text.len()) {
-            return Err(Refusal::TooLong);
-        }
+        let place = self.place_to_append(cell, text.len())?;
         let content = &mut self.contents[place];
         content.append(text)?;
         Ok(())

@@ -1,7 +1,7 @@
 //! Rows of lines, which are rows or columns of a list.
 ghost use Rattle.std.specs.Prelude.{◌≡◌, ◌≤◌, ◌+◌, ◌*◌, ◌<◌, IfOk, IfErr, IfSome, MatchResult, pos, nat_abs, if◌then◌else◌, int_le, None, Some};
 ghost use Rattle.tb_geom.specs.Refusals.{first_refusal};
-ghost use Rattle.list_cells.specs.Runs.{is_count, is_side, add_refusals, delete_refusals, place_to_add, count_to_delete};
+ghost use Rattle.list_cells.specs.Runs.{is_count, is_side, new_refusals, add_refusals, delete_refusals, place_to_add, count_to_delete};
 
 use tb_geom::Refusal;
 
@@ -40,13 +40,32 @@ fn counted(number: i32) -> Option<usize>
 }
 
 /// The number, where a new list may have so many columns or rows.
-pub(crate) fn side(number: i32) -> Option<usize>
+fn side(number: i32) -> Option<usize>
     ensures { result ≡ (if is_side number then Some (nat_abs number) else None) }
 {
     match usize::try_from(number) {
         Ok(side) => if side <= MOST { Some(side) } else { None },
         Err(_) => None,
     }
+}
+
+/// The columns and the rows of a new list. OutOfRange where a number lies outside 0..=4096, TooMany where there would be more
+/// than 4096 cells.
+#[tactic(auto, unfolding(crate::specs::Runs::new_refusals))]
+pub(crate) fn sides(columns: i32, rows: i32) -> Result<(usize, usize), Refusal>
+    ensures { MatchResult result
+        (λ sides. (first_refusal (new_refusals columns rows) ≡ None)
+        × (sides ≡ (nat_abs columns, nat_abs rows))
+        × (sides.0 ≤ 4096) × (sides.1 ≤ 4096) × (sides.1 * sides.0 ≤ 4096))
+        (λ e. first_refusal (new_refusals columns rows) ≡ Some e) }
+{
+    let (Some(columns), Some(rows)) = (side(columns), side(rows)) else {
+        return Err(Refusal::OutOfRange);
+    };
+    if rows * columns > MOST {
+        return Err(Refusal::TooMany);
+    }
+    Ok((columns, rows))
 }
 
 impl Run {

@@ -1,16 +1,17 @@
 //! Which cells are selected, and the first cells that are or that hold some bytes.
-ghost use Rattle.std.specs.Prelude.{◌≡◌, ◌<◌, ◌+◌, ◌*◌, ◌&&◌, None, Some, length, IfOk, IfErr, is_ok, if◌then◌else◌};
+ghost use Rattle.std.specs.Prelude.{◌≡◌, ◌<◌, ◌+◌, ◌*◌, None, Some, length, IfOk, IfErr, is_ok, if◌then◌else◌};
 ghost use Rattle.std.specs.Option.{option_map, ForSome};
 ghost use Rattle.std.specs.Str.{bytes_eq};
 ghost use Rattle.tb_geom.specs.Refusals.{first_refusal};
-ghost use Rattle.list_cells.specs.Blocks.{clicked, with_selected, clicked_cell};
-ghost use Rattle.list_cells.specs.Grids.{search_refusals, is_cell, content_of, cell_of, with_selection, deselected, first_from, next_cell};
+ghost use Rattle.list_cells.specs.Blocks.{clicked_cell};
+ghost use Rattle.list_cells.specs.Grids.{search_refusals, is_cell, content_of, cell_of, first_from, next_cell};
+ghost use Rattle.list_cells.specs.Selections.{chosen_cell};
 
-use crate::block::{select_block, smallest_block};
 use crate::cell::Cell;
-use crate::click::{Click, ClickKeys, SelectionFlags};
-use crate::content::{deselect, first_holding, first_selected};
+use crate::click::{ClickKeys, SelectionFlags};
+use crate::content::{first_holding, first_selected};
 use crate::list::{ListCells, MOST_TEXT};
+use crate::selecting::select_cells;
 use tb_geom::Refusal;
 
 impl ListCells {
@@ -105,49 +106,15 @@ impl ListCells {
     /// NoSuchCell exactly where the list has no such cell.
     pub fn select(&mut self, cell: Cell, selected: bool, alone: bool) -> Result<(), Refusal>
         ensures cells { self.new ≡ (if is_cell self.old cell
-            then with_selection (if selected && alone then deselected self.old else self.old) cell selected else self.old) }
+            then chosen_cell cell selected alone self.old else self.old) }
         ensures found { is_ok result ≡ is_cell self.old cell }
         ensures refused { IfErr result (λ e. e ≡ Refusal.NoSuchCell) }
     {
-        let place = self.place(cell)?;
-        if selected && alone {
-            deselect(&mut self.contents);
-        }
-        let content = &mut self.contents[place];
-        content.select(selected);
+        let Some(selecting) = self.choosing(cell, selected, alone) else {
+            return Err(Refusal::NoSuchCell);
+        };
+        select_cells(&mut self.contents, self.columns, selecting);
         Ok(())
-    }
-
-    /// What a click of a kind makes of the selection, at the cell of a place.
-    #[tactic(auto, unfolding(crate::specs::Blocks::clicked))]
-    fn apply(&mut self, click: Click, place: usize)
-        requires { place < self.old.rows * self.old.columns }
-        ensures { self.new ≡ record self.old { contents = clicked click self.old.columns place self.old.contents } }
-    {
-        match click {
-            Click::SelectsAlone => {
-                deselect(&mut self.contents);
-                self.set_selected(place, true);
-            }
-            Click::Toggles => {
-                let selected = self.contents[place].is_selected();
-                self.set_selected(place, !selected);
-            }
-            Click::Deselects => self.set_selected(place, false),
-            Click::Extends => {
-                let block = smallest_block(&self.contents, self.columns, place);
-                select_block(&mut self.contents, self.columns, block);
-            }
-        }
-    }
-
-    /// Selects the cell at a place, or deselects it.
-    fn set_selected(&mut self, place: usize, selected: bool)
-        requires { place < self.old.rows * self.old.columns }
-        ensures { self.new ≡ record self.old { contents = with_selected place selected self.old.contents } }
-    {
-        let content = &mut self.contents[place];
-        content.select(selected);
     }
 
     /// Changes the selection as a click on a cell with these keys does (LClick), and answers whether the list has the cell.
@@ -156,11 +123,10 @@ impl ListCells {
         ensures cells { self.new ≡ (if is_cell self.old cell then clicked_cell flags keys cell self.old else self.old) }
         ensures found { result ≡ is_cell self.old cell }
     {
-        let Ok(place) = self.place(cell) else {
+        let Some(selecting) = self.clicking(cell, flags, keys) else {
             return false;
         };
-        let selected = self.contents[place].is_selected();
-        self.apply(flags.click(keys, selected), place);
+        select_cells(&mut self.contents, self.columns, selecting);
         true
     }
 }

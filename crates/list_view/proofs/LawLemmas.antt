@@ -20,7 +20,7 @@ and_true false b e = absurd (cc)
 -- ---- rectangles
 
 -- what two rectangles share has the pixels of both
-common_holds : (r s : Rect) (p : Point) → rect_holds (common_rect r s) p ≡ (rect_holds r p && rect_holds s p)
+pub common_holds : (r s : Rect) (p : Point) → rect_holds (common_rect r s) p ≡ (rect_holds r p && rect_holds s p)
 unfolding common_rect
 common_holds r s p = by_value (is_empty_rect (shared_rect r s)) refl
   where
@@ -29,11 +29,11 @@ common_holds r s p = by_value (is_empty_rect (shared_rect r s)) refl
     by_value false e = holds-shared r s p
 
 -- a point lies in the view and in a cell
-record IsIn (v : View) (c : Cell) (p : Point) : Type 0 where
+pub record IsIn (v : View) (c : Cell) (p : Point) : Type 0 where
   pub view : rect_holds (view_rect v) p ≡ true
   pub cell : rect_holds (whole_cell v c) p ≡ true
 
-is_in : (v : View) (c : Cell) (p : Point) → rect_holds (cell_rect v c) p ≡ true → IsIn v c p
+pub is_in : (v : View) (c : Cell) (p : Point) → rect_holds (cell_rect v c) p ≡ true → IsIn v c p
 is_in v c p e =
     let both = and_true (rect_holds (view_rect v) p) (rect_holds (whole_cell v c) p) (sym (common_holds (view_rect v) (whole_cell v c) p) ∙ e) in
     record { view = both.0; cell = both.1 }
@@ -44,7 +44,7 @@ same_cell : (c d : Cell) → c.column ≡ d.column → c.row ≡ d.row → c ≡
 same_cell c d column row = λ i. record { column = column i; row = row i }
 
 -- the cell at a point is the one that holds it
-holder_is : (v : View) (c : Cell) (p : Point) → IsView v → rect_holds (cell_rect v c) p ≡ true → c ≡ any_cell_at v p
+pub holder_is : (v : View) (c : Cell) (p : Point) → IsView v → rect_holds (cell_rect v c) p ≡ true → c ≡ any_cell_at v p
 holder_is v c p h e =
     let inside = is_in v c p e in
     let view = sides_of (view_rect v) p inside.view in

@@ -3,3 +3,4 @@ pub mod AxisLemmas
 pub mod ViewLemmas
 pub mod LineLemmas
 pub mod LawLemmas
+pub mod ReachLemmas

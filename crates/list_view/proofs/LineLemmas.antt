@@ -10,7 +10,7 @@ use Rattle.list_view.proofs.AxisLemmas.{IsQuotient, quotient_is, quotient_part}
 
 -- ---- products
 
-mul_le : (m n d : ℤ) → m ≤ℤ n → pos 0 ≤ℤ d → (m *ℤ d) ≤ℤ (n *ℤ d)
+pub mul_le : (m n d : ℤ) → m ≤ℤ n → pos 0 ≤ℤ d → (m *ℤ d) ≤ℤ (n *ℤ d)
 mul_le m n (pos d) l z = let h : (up m + down n) * d ≤ (up n + down m) * d = mul-le-mul_right d (omega (arith, ints)) in omega (arith, ints)
 mul_le m n (negsuc d) l z = absurd (omega (arith, ints))
 
@@ -21,7 +21,7 @@ mul_next y z (negsuc d) e s = absurd (omega (arith, ints))
 -- ---- quotients
 
 -- what goes into a number that often is no more than its quotient
-not_more : (x d q r : ℤ) → pos 1 ≤ℤ d → IsQuotient x d q → (r *ℤ d) ≤ℤ x → r ≤ℤ q
+pub not_more : (x d q r : ℤ) → pos 1 ≤ℤ d → IsQuotient x d q → (r *ℤ d) ≤ℤ x → r ≤ℤ q
 not_more x d q r s h l =
     by_lt_z q r
     (λ less.

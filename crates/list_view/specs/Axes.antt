@@ -1,5 +1,5 @@
 -- A view along one axis. Lines, which are the columns or the rows of a list, lie side by side in it, as long as a cell each.
-use Rattle.std.specs.Prelude.{ℕ, ℤ, pos, negsuc, ◌+ℤ◌, ◌-ℤ◌, ◌*ℤ◌, int_div, Bool, ◌&&◌, int_le, ◌≤ℤ◌}
+use Rattle.std.specs.Prelude.{ℕ, min, ℤ, pos, negsuc, nat_abs, ◌+ℤ◌, ◌-ℤ◌, ◌*ℤ◌, int_div, Bool, ◌&&◌, int_le, ◌≤ℤ◌}
 use Rattle.std.specs.Int.{int_max}
 use Rattle.tb_geom.specs.Rects.{is_coordinate}
 use Rattle.control_values.specs.Settings.{nearest}
@@ -58,3 +58,8 @@ pub record IsNear (place : ℤ) : Type 0 where
 -- the line at a place of the view
 abbrev pub line_at : Axis → ℤ → ℤ → ℤ
 line_at a first place = first +ℤ int_div (place -ℤ a.start) a.cell
+
+-- the first of so many lines past those that show at least in part, with `first` at the start: the one after the line at the
+-- view's last pixel, but no more than there are
+abbrev pub lines_end : Axis → ℕ → ℤ → ℕ
+lines_end a count first = min count (nat_abs (line_at a first (end_of a -ℤ pos 1) +ℤ pos 1))

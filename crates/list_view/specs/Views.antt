@@ -5,7 +5,7 @@ use Rattle.tb_geom.specs.declared.rect.Rect.{Rect}
 use Rattle.tb_geom.specs.Rects.{rect_holds, is_empty_rect, empty_rect, shared_rect}
 use Rattle.list_cells.specs.declared.cell.Cell.{Cell}
 use Rattle.list_view.specs.declared.axis.Axis.{Axis}
-use Rattle.list_view.specs.Axes.{IsAxis, IsLine, end_of, scrolled_line, line_start, line_end, line_at}
+use Rattle.list_view.specs.Axes.{IsAxis, IsLine, end_of, scrolled_line, line_start, line_end, line_at, lines_end}
 
 -- the view across and down, and the cell in its top left corner
 pub record View : Type 0 where
@@ -68,3 +68,10 @@ is_before columns rows c = int_lt c.column (pos columns) && int_lt c.row (pos ro
 -- the cell of so many columns and rows that shows at a point
 unfoldable pub cell_at : ℕ → ℕ → View → Point → Option Cell
 cell_at columns rows v p = if rect_holds (view_rect v) p && is_before columns rows (any_cell_at v p) then Some (any_cell_at v p) else None
+
+-- the first of so many columns, and of so many rows, past those that show at least in part
+abbrev pub columns_end : ℕ → View → ℕ
+columns_end columns v = lines_end v.across columns v.first.column
+
+abbrev pub rows_end : ℕ → View → ℕ
+rows_end rows v = lines_end v.down rows v.first.row

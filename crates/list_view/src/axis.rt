@@ -1,7 +1,7 @@
 //! A view along one axis, with the lines of a list in it, which are its columns or its rows.
 ghost use Rattle.std.specs.Prelude.{◌≡◌, ◌≤◌, ◌≤ℤ◌, ◌<ℤ◌, ◌*ℤ◌, ◌+ℤ◌, ◌&&◌, pos, negsuc, int_div, true};
 ghost use Rattle.tb_geom.specs.Rects.{is_coordinate};
-ghost use Rattle.list_view.specs.Axes.{is_side, is_axis, end_of, shown, bound, scrolled_line, line_start, line_at, IsAxis, IsLine, IsNear};
+ghost use Rattle.list_view.specs.Axes.{is_side, is_axis, end_of, shown, bound, scrolled_line, line_start, line_at, lines_end, IsAxis, IsLine, IsNear};
 
 use tb_geom::{FIRST_SIDE, LAST_SIDE};
 
@@ -127,5 +127,16 @@ impl Axis {
         ensures counted { pos 0 ≤ℤ result }
     {
         first + cells_in(place - self.start, self.cell)
+    }
+    /// The first of so many lines past those that show at least in part, with `first` at the start; how many there are, where
+    /// all from there on show.
+    pub(crate) fn lines_end(self, first: i32, count: usize) -> usize
+        requires axis { IsAxis self }
+        requires first { IsLine first }
+        ensures value { result ≡ lines_end self count first }
+        ensures within { result ≤ count }
+    {
+        let last = self.line_at(first, self.end() - 1);
+        count.min(last as usize + 1)
     }
 }

@@ -6,7 +6,7 @@ ghost use Rattle.list_cells.specs.declared.cell.Cell.{Cell};
 ghost use Rattle.list_cells.specs.Grids.{Grid, IsGrid, is_cell};
 ghost use Rattle.list_view.specs.declared.axis.Axis.{Axis};
 ghost use Rattle.list_view.specs.Axes.{IsAxis, end_of, bound, scrolled_line, line_end};
-ghost use Rattle.list_view.specs.Views.{View, IsView, IsCell, cell_rect, cell_at};
+ghost use Rattle.list_view.specs.Views.{View, IsView, IsCell, cell_rect, cell_at, columns_end, rows_end};
 
 /// A point finds a cell of a list exactly where the cell's rectangle, cut to the view, holds it, and finds nothing but cells of
 /// the list.
@@ -16,6 +16,14 @@ pub fn a_point_finds_the_cell_that_holds_it()
         → (cell_at list.columns list.rows v p ≡ Some c) ↔ (rect_holds (cell_rect v c) p ≡ true) }
     ensures of_the_list { (v : View) (list : Grid) (c : Cell) (p : Point) → IsView v
         → cell_at list.columns list.rows v p ≡ Some c → is_cell list c ≡ true }
+{}
+
+/// The cells from the one in the corner to before `columns_end` and `rows_end` show, if only in part.
+#[tactic(auto, using(crate::proofs::ReachLemmas::shows))]
+pub fn the_cells_within_the_ends_show()
+    ensures { (v : View) (columns rows : ℕ) (c : Cell) → IsView v → v.first.column ≤ℤ c.column
+        → c.column <ℤ pos (columns_end columns v) → v.first.row ≤ℤ c.row → c.row <ℤ pos (rows_end rows v)
+        → (p : Point) × (rect_holds (cell_rect v c) p ≡ true) }
 {}
 
 /// No two cells hold a point.

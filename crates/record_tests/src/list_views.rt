@@ -161,6 +161,33 @@ fn points_find_cells(rt: HostRuntime) -> Result<(), Fail> {
     Ok(())
 }
 
+/// The width of a view and that of a cell, the first column, and how many columns there are then, and the one past those that
+/// show.
+const ENDS: [(i32, i32, i32, usize, usize); 9] = [
+    (48, 16, 0, 10, 3),
+    (47, 16, 0, 10, 3),
+    (49, 16, 0, 10, 4),
+    (48, 16, 2, 10, 5),
+    (48, 16, 7, 10, 10),
+    (33, 16, 6, 8, 8),
+    (15, 16, 9, 10, 10),
+    (48, 16, 7, 5, 5),
+    (1, 1, 0, 0, 0),
+];
+
+#[test]
+fn views_reach_to_their_ends(rt: HostRuntime) -> Result<(), Fail> {
+    for (width, cell, first, columns, end) in ENDS {
+        let across = axis!(4, width, cell);
+        let down = axis!(8, 24, 24);
+        let view = ListView::new(across, down)?.scrolled(4096, 1, first, 0);
+        assert!(rt; view.columns_end(columns) == end && view.rows_end(9) == 1);
+        let turned = ListView::new(down, across)?.scrolled(1, 4096, 0, first);
+        assert!(rt; turned.rows_end(columns) == end && turned.columns_end(9) == 1);
+    }
+    Ok(())
+}
+
 #[test]
 fn bars_lie_beside_the_view(rt: HostRuntime) -> Result<(), Fail> {
     let view = scrolled_view()?;

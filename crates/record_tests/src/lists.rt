@@ -1,6 +1,6 @@
 //! The cells of lists: rows and columns put in and taken out, data, and selections.
 
-use list_cells::{Cell, Click, ClickKeys, ListCells, SelectionFlags};
+use list_cells::{Cell, Click, ClickKeys, ListCells, Selecting, SelectionFlags};
 use std::test::Fail;
 use tb_geom::Refusal;
 
@@ -42,6 +42,30 @@ fn rows_are_refused_in_the_written_order(rt: HostRuntime) -> Result<(), Fail> {
     assert!(rt; list.delete_columns(1, 1) == Err(Refusal::NoSuchCell));
     assert!(rt; ListCells::new(rt.alloc(), 4097, 0).err() == Some(Refusal::OutOfRange));
     assert!(rt; ListCells::new(rt.alloc(), 64, 65).err() == Some(Refusal::TooMany));
+    Ok(())
+}
+
+#[test]
+fn calls_are_judged_beforehand(rt: HostRuntime) -> Result<(), Fail> {
+    let mut list = ListCells::new(rt.alloc(), 2, 3)?;
+    assert!(rt; ListCells::new_refusal(0, 4097) == Some(Refusal::OutOfRange));
+    assert!(rt; ListCells::new_refusal(64, 65) == Some(Refusal::TooMany));
+    assert!(rt; ListCells::new_refusal(64, 64) == None);
+    assert!(rt; list.add_rows_refusal(2046, 0) == Some(Refusal::TooMany));
+    assert!(rt; list.add_rows_refusal(2045, 9) == None);
+    assert!(rt; list.add_columns_refusal(0, 0) == Some(Refusal::OutOfRange));
+    assert!(rt; list.add_columns_refusal(1363, 0) == None);
+    assert!(rt; list.delete_rows_refusal(1, 3) == Some(Refusal::NoSuchCell));
+    assert!(rt; list.delete_rows_refusal(9, 2) == None);
+    assert!(rt; list.delete_columns_refusal(1, 2) == Some(Refusal::NoSuchCell));
+    assert!(rt; list.delete_columns_refusal(1, 1) == None);
+    list.set_cell(cell!(1, 2), &[b'x'; 255])?;
+    assert!(rt; list.set_refusal(cell!(2, 2), b"x") == Some(Refusal::NoSuchCell));
+    assert!(rt; list.set_refusal(cell!(1, 2), &[b'x'; 256]) == Some(Refusal::TooLong));
+    assert!(rt; list.set_refusal(cell!(1, 2), &[b'x'; 255]) == None);
+    assert!(rt; list.append_refusal(cell!(1, 3), b"x") == Some(Refusal::NoSuchCell));
+    assert!(rt; list.append_refusal(cell!(1, 2), &[b'x'; 256]) == Some(Refusal::TooLong));
+    assert!(rt; list.append_refusal(cell!(1, 2), &[b'x'; 255]) == None);
     Ok(())
 }
 
@@ -148,6 +172,78 @@ fn clicks_select_by_flags_and_keys(rt: HostRuntime) {
     for (flags, command, shift, selected, click) in CLICKS {
         assert!(rt; flags.click(ClickKeys { command, shift }, selected) == click);
     }
+}
+
+/// Whether the cells of 3 columns and 2 rows are toggled, by rows.
+fn toggled(list: &ListCells, selecting: Option<Selecting>) -> [bool; 6] {
+    let mut all = [false; 6];
+    let Some(selecting) = selecting else {
+        return all;
+    };
+    for place in 0..6 {
+        let cell = cell!((place % 3) as i32, (place / 3) as i32);
+        all[place] = match list.is_selected(cell) {
+            Ok(_) => list.is_toggled(cell, selecting),
+            Err(_) => false,
+        };
+    }
+    all
+}
+
+/// Modifiers of a click, the clicked one of 3 columns and 2 rows of cells where that at 1 0 alone is selected, and which cells
+/// it toggles, by rows.
+const TOGGLED: [(u16, Cell, [bool; 6]); 5] = [
+    (0, cell!(2, 1), [false, true, false, false, false, true]),
+    (0, cell!(1, 0), [false; 6]),
+    (0x0200, cell!(2, 1), [false, false, true, false, true, true]),
+    (
+        0x0100,
+        cell!(1, 0),
+        [false, true, false, false, false, false],
+    ),
+    (0x0100, cell!(0, 2), [false; 6]),
+];
+
+/// A cell of those, whether it is selected or deselected, and whether that alone, and which cells that toggles, by rows.
+const CHOSEN: [(Cell, bool, bool, [bool; 6]); 5] = [
+    (
+        cell!(0, 1),
+        true,
+        false,
+        [false, false, false, true, false, false],
+    ),
+    (
+        cell!(0, 1),
+        true,
+        true,
+        [false, true, false, true, false, false],
+    ),
+    (cell!(0, 1), false, true, [false; 6]),
+    (cell!(1, 0), true, true, [false; 6]),
+    (
+        cell!(1, 0),
+        false,
+        true,
+        [false, true, false, false, false, false],
+    ),
+];
+
+#[test]
+fn cells_are_toggled_as_is_told_beforehand(rt: HostRuntime) -> Result<(), Fail> {
+    let mut list = ListCells::new(rt.alloc(), 3, 2)?;
+    list.select(cell!(1, 0), true, false)?;
+    for (modifiers, cell, cells) in TOGGLED {
+        let keys = ClickKeys::of_modifiers(modifiers);
+        assert!(rt; toggled(&list, list.clicking(cell, PLAIN, keys)) == cells);
+    }
+    for (cell, selected, alone, cells) in CHOSEN {
+        assert!(rt; toggled(&list, list.choosing(cell, selected, alone)) == cells);
+    }
+    let keys = ClickKeys::of_modifiers(0x0200);
+    assert!(rt; list.click(cell!(2, 1), PLAIN, keys));
+    assert!(rt; list.is_selected(cell!(2, 0)) == Ok(true));
+    assert!(rt; list.is_selected(cell!(0, 1)) == Ok(false));
+    Ok(())
 }
 
 /// Flags, in the order of their fields.
