@@ -9,7 +9,7 @@ use Rattle.tb_geom.specs.declared.point.Point.{Point}
 use Rattle.tb_geom.specs.declared.rect.Rect.{Rect}
 use Rattle.tb_geom.specs.Points.{minus, plus}
 use Rattle.tb_geom.specs.Rects.{between, is_coordinate, in_plane, rect_holds}
-use Rattle.bit_map.specs.Bits.{Bits, on_map}
+use Rattle.bit_map.specs.Bits.{Bits}
 use Rattle.bit_blit.specs.Draws.{Draws}
 use Rattle.bit_blit.proofs.DrawsLemmas.{Draws-same, Draws-where, Draws-more, Draws-none}
 use Rattle.scan_region.specs.Cuts.{cut_holds}

@@ -32,7 +32,7 @@ pub(crate) trait CellPen {
 }
 
 /// All that a cell shows.
-#[derive(Clone, Copy)]
+#[derive(Drop)]
 pub(crate) struct CellPicture<'a, D> {
     pub definition: &'a D,
 }
@@ -50,7 +50,7 @@ impl<D: DrawnList> CellPen for CellPicture<'_, D> {
 }
 
 /// What a call highlights otherwise of a cell that is about to make this of the selection, inverted where it stands.
-#[derive(Clone, Copy)]
+#[derive(Drop)]
 pub(crate) struct CellToggle<'a, D> {
     pub definition: &'a D,
     pub selecting: Selecting,
