@@ -12,7 +12,7 @@ use Rattle.control_values.specs.Settings.{is_in_range as settable}
 use Rattle.list_cells.specs.declared.cell.Cell.{Cell}
 use Rattle.list_view.specs.declared.axis.Axis.{Axis}
 use Rattle.list_view.specs.Axes.{IsAxis, IsLine, end_of, scrolled_line, line_start, line_at}
-use Rattle.list_view.specs.Views.{View, IsView, view_rect, scrolled, common_rect, whole_cell, any_cell_at}
+use Rattle.list_view.specs.Views.{View, IsView, view_rect, scrolled, common_rect, cell_corner, whole_cell, any_cell_at}
 use Rattle.list_view.specs.Bars.{vertical_bar, horizontal_bar}
 
 -- ---- the view's rectangle
@@ -69,10 +69,14 @@ common_is r s t pixels none = by_value (is_empty_rect (shared_rect r s)) refl (i
 
 -- ---- cells
 
-pub whole_cell_is : (v w : View) (c : Cell) (left top : ℤ) → v ≡ w → left ≡ line_start v.across v.first.column c.column → top ≡ line_start v.down v.first.row c.row
-    → record { left = left; top = top; right = left +ℤ v.across.cell; bottom = top +ℤ v.down.cell } ≡ whole_cell w c
-whole_cell_is v w c left top view left_is top_is =
-    (λ i. record { left = left_is i; top = top_is i; right = left_is i +ℤ v.across.cell; bottom = top_is i +ℤ v.down.cell }) ∙ ap (λ (u : View). whole_cell u c) view
+pub cell_corner_is : (v w : View) (c : Cell) (across down : ℤ) → v ≡ w → across ≡ line_start v.across v.first.column c.column → down ≡ line_start v.down v.first.row c.row
+    → record { h = across; v = down } ≡ cell_corner w c
+cell_corner_is v w c across down view across_is down_is = (λ i. record { h = across_is i; v = down_is i }) ∙ ap (λ (u : View). cell_corner u c) view
+
+pub whole_cell_is : (v w : View) (c : Cell) (corner : Point) → v ≡ w → corner ≡ cell_corner w c
+    → record { left = corner.h; top = corner.v; right = corner.h +ℤ v.across.cell; bottom = corner.v +ℤ v.down.cell } ≡ whole_cell w c
+whole_cell_is v w c corner view is =
+    λ i. record { left = (is i).h; top = (is i).v; right = (is i).h +ℤ (view i).across.cell; bottom = (is i).v +ℤ (view i).down.cell }
 
 pub any_cell_is : (v w : View) (p : Point) (column row : ℤ) → v ≡ w → column ≡ line_at v.across v.first.column p.h → row ≡ line_at v.down v.first.row p.v
     → record { column = column; row = row } ≡ any_cell_at w p

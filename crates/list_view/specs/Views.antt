@@ -40,6 +40,10 @@ scrolled columns rows across down v = record v {
 abbrev pub view_rect : View → Rect
 view_rect v = record { left = v.across.start; top = v.down.start; right = end_of v.across; bottom = end_of v.down }
 
+-- the top left corner of a cell, also where it lies outside of the view
+abbrev pub cell_corner : View → Cell → Point
+cell_corner v c = record { h = line_start v.across v.first.column c.column; v = line_start v.down v.first.row c.row }
+
 -- the rectangle of a cell, also where it lies outside of the view
 abbrev pub whole_cell : View → Cell → Rect
 whole_cell v c = record {

@@ -2,8 +2,8 @@
 ghost use Rattle.std.specs.Prelude.{◌≡◌, ◌≤◌, ◌≤ℤ◌, ◌&&◌, pos, true, IfOk, IfErr, is_ok};
 ghost use Rattle.tb_geom.specs.declared.point.Point.{Point};
 ghost use Rattle.tb_geom.specs.Rects.{rect_holds, is_in_range};
-ghost use Rattle.list_view.specs.Axes.{is_axis};
-ghost use Rattle.list_view.specs.Views.{IsView, IsCell, new_view, scrolled, view_rect, whole_cell, cell_rect, any_cell_at, is_before, cell_at};
+ghost use Rattle.list_view.specs.Axes.{is_axis, IsNear};
+ghost use Rattle.list_view.specs.Views.{IsView, IsCell, new_view, scrolled, view_rect, cell_corner, whole_cell, cell_rect, any_cell_at, is_before, cell_at};
 
 use crate::axis::Axis;
 use list_cells::Cell;
@@ -115,18 +115,31 @@ impl ListView {
         }
     }
 
+    /// The top left corner of a cell, also where the cell lies outside of the view: in -4209664..=4209663, both across and
+    /// down.
+    pub fn cell_corner(self, cell: Cell) -> Point
+        requires { IsCell cell }
+        ensures place { result ≡ cell_corner self cell }
+        ensures across { IsNear result.h }
+        ensures down { IsNear result.v }
+    {
+        Point {
+            h: self.across.line_start(self.first.column, cell.column),
+            v: self.down.line_start(self.first.row, cell.row),
+        }
+    }
+
     /// The rectangle of a cell, also where it lies outside of the view.
     fn whole_cell(self, cell: Cell) -> Rect
         requires { IsCell cell }
         ensures { result ≡ whole_cell self cell }
     {
-        let left = self.across.line_start(self.first.column, cell.column);
-        let top = self.down.line_start(self.first.row, cell.row);
+        let corner = self.cell_corner(cell);
         Rect {
-            left,
-            top,
-            right: left + self.across.cell,
-            bottom: top + self.down.cell,
+            left: corner.h,
+            top: corner.v,
+            right: corner.h + self.across.cell,
+            bottom: corner.v + self.down.cell,
         }
     }
 

@@ -1,0 +1,20 @@
+use Rattle.std.proofs.Common.{◌&&◌, ap, ◌∙◌}
+use Rattle.tb_geom.specs.declared.rect.Rect.{Rect}
+use Rattle.tb_geom.specs.Points.{plus, minus}
+use Rattle.tb_geom.specs.Rects.{rect_holds}
+use Rattle.list_view.specs.Views.{cell_corner, cell_rect}
+use Rattle.list_paint.proofs.WalkLemmas.{plus_is_near, cell_placed}
+use Rattle.list_paint.proofs.walk.draw_cell.Goals as goal
+
+pub invariant_of-there : goal.invariant_of-there
+invariant_of-there g c =
+    record { near = rw c.corner_place.ensures (plus_is_near c.args.canvas.now.origin c.cell_corner-corner.result c.requires.origin c.cell_corner-corner.ensures.across c.cell_corner-corner.ensures.down) }
+
+pub returns-clause-drawn : goal.returns-clause-drawn
+returns-clause-drawn g c =
+    let canvas = c.args.canvas.now in
+    cell_placed canvas c.placed_within.result (cell_rect c.args.view c.args.cell) c.corner_place.result (cell_corner c.args.view c.args.cell)
+    (g.P.CellPen.value c.args.pen.now c.args.cells.now canvas.font.now c.args.cell) canvas.map.now c.draw.new.canvas.map.now
+    (λ p. c.placed_within.ensures p ∙ ap (λ (r : Rect). rect_holds canvas.clip p && rect_holds r (minus p canvas.origin)) c.cell_rect.ensures.sides)
+    (c.corner_place.ensures ∙ ap (plus canvas.origin) c.cell_corner-corner.ensures.place)
+    c.draw.ensures.drawn
