@@ -42,7 +42,7 @@ use Rattle.window_mgr.proofs.Contents as contents
 use Rattle.control_mgr.specs.declared.controls.Controls.{Controls}
 use Rattle.control_mgr.specs.declared.spots.Spot.{Spot}
 use Rattle.control_mgr.specs.ControlDesks.{ControlRecord, ControlSlot, ControlsState, controls_show}
-use Rattle.control_mgr.specs.ControlSteps.{AreLayersOf, IsControlShut, IsControlStep, IsLayerOf, behind_controls}
+use Rattle.control_mgr.specs.ControlSteps.{AreLayersOf, IsControlDisposed, IsControlShut, IsControlStep, IsLayerOf, behind_controls}
 use Rattle.control_mgr.specs.InUse.{AreStocked}
 use Rattle.control_mgr.specs.Settled.{AreSettled, IsSettledControl}
 use Rattle.control_mgr.specs.Spots.{IsSpotOf}
@@ -195,7 +195,7 @@ module _ {V : Type 0} {H : V → Type 0} (loan : Taken V H → Loan) {W : Type 0
       → n.list.controls.items ≡ remove m.list.controls.items s.control → n.list.next ≡ m.list.next
       → (before back : List ControlSlot) → IsControlShut (control_loan x.definition) before back
       → AreLeftFor s.window layers.layers (alone (records_of control_loan n)) t u
-      → (o : Opened) → LeavesOver control_loan loan before back (IsControlStep (Dispose c) (Ok Done)) t o m u o n
+      → (o : Opened) → LeavesOver control_loan loan before back (IsControlDisposed c) t o m u o n
   ended kept index index_is layers layers_are u n x there controls_are next_is before back shut set o others slots whole controls =
       let windows = there_is t.windows.records.items s.window is.window.0 in
       let w : Window V H = windows.item in
@@ -214,28 +214,29 @@ module _ {V : Type 0} {H : V → Type 0} (loan : Taken V H → Loan) {W : Type 0
             (subst (AreWholeControls (map (with_layers_of c.window layers.layers) (desk_of loan t []).windows)) (sym state_is)
             (whole_ended s.control c.window (seen control_loan x) layers.layers (desk_of loan t []).windows (controls_state control_loan m before) back controls
             (seen_at control_loan m s.control x there) (in_its_window loan control_loan c t m s is) shut joined)),
-        (
-          nothing_missing loan control_loan c t m s is,
-          (
-            refl,
-            record {
-              at = s.control;
-              found = is.control;
-              control = seen control_loan x;
-              there = seen_at control_loan m s.control x there;
-              shut = shut;
-              controls = state_is;
-              laid = record {
-                layers = layers.layers;
-                joined = subst (λ xs. AreLayersOf (controls_of c.window xs) layers.layers) (sym left) joined;
-                others = layers_named loan t slots whole s.window c.window w is.window.0 lies serial (λ ls. behind_controls layers.layers ≡ behind_controls ls)
-                    (behind_left kept controls.joined w lies index index_is layers (layers_are w lies));
-                set = sets;
-                elsewhere = refl;
-                shows = refl;
-              };
-              activity = record { activity = refl; begun = refl };
-            },
-          ),
-        ),
+        record {
+          at = s.control;
+          found = is.control;
+          control = seen control_loan x;
+          there = seen_at control_loan m s.control x there;
+          shut = shut;
+          controls = state_is;
+          laid = record {
+            layers = layers.layers;
+            joined = subst (λ xs. AreLayersOf (controls_of c.window xs) layers.layers) (sym left) joined;
+            others = layers_named loan t slots whole s.window c.window w is.window.0 lies serial (λ ls. behind_controls layers.layers ≡ behind_controls ls)
+                (behind_left kept controls.joined w lies index index_is layers (layers_are w lies));
+            set = sets;
+            elsewhere = refl;
+            shows = refl;
+          };
+          activity = record { activity = refl; begun = refl };
+        },
       )
+
+  -- so the call made its step
+  pub disposed_step : (u : WindowManager V H) (n : Controls (TakenControl W K)) (before back : List ControlSlot) → ((o : Opened) → LeavesOver control_loan loan before back (IsControlDisposed c) t o m u o n)
+      → (o : Opened) → LeavesOver control_loan loan before back (IsControlStep (Dispose c) (Ok Done)) t o m u o n
+  disposed_step u n before back ended o others slots whole controls =
+      let leaves = ended o others slots whole controls in
+      (leaves.0, leaves.1, (nothing_missing loan control_loan c t m s is, (refl, leaves.2)))

@@ -18,9 +18,12 @@ pub mod Drawn
 pub mod Ended
 pub mod Judging
 pub mod Added
+pub mod LaidSo
 pub mod Made
 pub mod NewSteps
+pub mod Planned
 pub mod Disposed
+pub mod TakenOut
 pub mod Presses
 pub mod Performed
 pub mod SerialsFound

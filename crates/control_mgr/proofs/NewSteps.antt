@@ -1,5 +1,5 @@
 -- The step of a call that makes a control: done, or refused with the definition back in its slot.
-use Rattle.std.proofs.Common.{◌≡◌, ⊎_elim, inl, inr, ℕ, zero, suc, Bool, true, false, not, ◌||◌, cond, List, [], ◌∷◌, ◌++◌, Option, Some, None, Ok, Err, refl, sym, ap, ◌∙◌, subst}
+use Rattle.std.proofs.Common.{◌≡◌, ⊎_elim, inl, inr, ℕ, zero, suc, Bool, true, false, not, ◌||◌, cond, List, [], ◌∷◌, ◌++◌, Option, Some, None, Ok, Err, refl, sym, ap, ◌∙◌, subst, arith}
 use Rattle.std.specs.Prelude.{IfSome, is_none, slice_get, slice_set}
 use Rattle.std.specs.Option.{option_and_then}
 use Rattle.std.proofs.lemmas.Slice.Eq.{bytes_eq-Decides}
@@ -116,12 +116,9 @@ module _ {V : Type 0} {H : V → Type 0} (loan : Taken V H → Loan) {W : Type 0
   beside_planned t m planned kept same whole = record { slots = kept; whole = subst (AreWholeControls (desk_of loan t []).windows) (sym (state_same m planned same kept kept refl)) whole }
 
   module _ (n : NewControl) (t : WindowManager V H) (m planned : Controls (TakenControl W K)) (same : IsRoomier m planned) where
-    judged_same : (d : Option ControlDefinition) → judged_by loan control_loan n d t planned ≡ judged_by loan control_loan n d t m
-    judged_same d = λ i. first_refusal (judged_refusals n d (desk_of loan t []) (all_seen control_loan (same.controls i)) (same.next i))
-
     -- the control was made
     pub made_step : (u : WindowManager V H) (made : Controls (TakenControl W K)) (taken : ControlLoan) (before left : List ControlSlot) (serial : ℕ)
-        → IsTaken (λ (d : ControlDefinition). d.stage) n.kind taken before left → judged_by loan control_loan n (Some taken.definition) t planned ≡ None
+        → IsTaken (λ (d : ControlDefinition). d.stage) n.kind taken before left → judged_by loan control_loan n (Some taken.definition) t m ≡ None
         → ((o : Opened) → LeavesOver control_loan loan before left (IsControlMade n serial) t o planned u o made)
         → (o : Opened) → LeavesOver control_loan loan before left (IsControlStep (New n) (Ok (reply.Made serial))) t o m u o made
     made_step u made taken before left serial took unrefused added o others slots whole controls =
@@ -131,7 +128,7 @@ module _ {V : Type 0} {H : V → Type 0} (loan : Taken V H → Loan) {W : Type 0
           (
             refusal_with n (desk_of loan t []) (controls_state control_loan m before) (taken_was_there (λ (d : ControlDefinition). d.stage) n.kind taken before left took)
                 taken.definition (taken_was_offered (λ (d : ControlDefinition). d.stage) n.kind taken before left took)
-                ∙ sym (judged_same (Some taken.definition)) ∙ unrefused,
+                ∙ unrefused,
             (serial, refl, subst (λ b. IsControlMade n serial b (control_desk control_loan loan others u o slots made left)) (desk_same others t o slots m planned same before before refl) leaves.2),
           ),
         )
@@ -153,7 +150,7 @@ module _ {V : Type 0} {H : V → Type 0} (loan : Taken V H → Loan) {W : Type 0
         )
 
   same_self : (m : Controls (TakenControl W K)) → IsRoomier m m
-  same_self m = record { controls = refl; next = refl; alloc = refl }
+  same_self m = record { controls = refl; next = refl; alloc = refl; room = omega arith }
 
   -- no definition of its kind was left
   pub not_given_step : (n : NewControl) (t : WindowManager V H) (m : Controls (TakenControl W K)) (bytes : List ℕ) (before back : List ControlSlot) (why e : Refusal) → bytes ≡ n.kind → why ≡ NoDefinition

@@ -12,7 +12,7 @@ use Rattle.control_values.specs.declared.part.ControlPart.{ControlPart}
 use Rattle.control_values.specs.declared.part.ControlPart.TheVariants.{Thumb}
 use Rattle.control_values.specs.Parts.{number_of}
 use Rattle.control_values.specs.Settings.{Setting, settled}
-use Rattle.control_list.specs.Lists.{controls_of, edit_at, serial_after, with_highlight, with_place, with_shown, with_size, with_title}
+use Rattle.control_list.specs.Lists.{controls_of, edit_at, serial_after, with_highlight, with_place, with_shown, with_size, with_title, with_values}
 use Rattle.def_iface.specs.declared.part.Part.{Part}
 use Rattle.def_iface.specs.declared.part.Part.TheVariants as part
 use Rattle.def_iface.specs.declared.window_def.Stage.TheVariants.{Closed}
@@ -108,16 +108,25 @@ pub record IsShownAnew (c : ControlOf) (f : ControlRecord → ControlRecord) (be
   pub others : after.others ≡ before.others
   pub shows : ShowsControls after
 
--- what is open is this now, and what was to be redrawn when it began is as it was
-pub record Opens (now : Activity) (before after : ControlDesk) : Type 0 where
-  pub activity : after.desk.activity ≡ now
-  pub begun : after.desk.begun ≡ before.desk.begun
-
 -- nothing but what is open changed
 pub record SameShown (before after : ControlDesk) : Type 0 where
   pub windows : after.desk.windows ≡ before.desk.windows
   pub controls : after.controls ≡ before.controls
   pub others : after.others ≡ before.others
+
+-- the control that stands here, if one does, got this setting and was shown anew
+abbrev pub IsSettingPutAt : Option ℕ → ControlOf → Setting → ControlDesk → ControlDesk → Type 0
+IsSettingPutAt None c setting before after = SameShown before after
+IsSettingPutAt (Some at) c setting before after = IsShownAnew c (with_values setting) before after
+
+-- so did the control, if it is there
+abbrev pub IsSettingPut : ControlOf → Setting → ControlDesk → ControlDesk → Type 0
+IsSettingPut c setting before after = IsSettingPutAt (index_of c before.controls.controls) c setting before after
+
+-- what is open is this now, and what was to be redrawn when it began is as it was
+pub record Opens (now : Activity) (before after : ControlDesk) : Type 0 where
+  pub activity : after.desk.activity ≡ now
+  pub begun : after.desk.begun ≡ before.desk.begun
 
 -- ---- controls that are made and ended
 

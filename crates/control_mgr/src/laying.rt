@@ -61,8 +61,10 @@ fn judged_box(taken: Option<&TakenControl>, size: Size) -> Rect
     }
 }
 
-/// Whether a control with this definition, if it has one, may be at a place of a window that lies there, with this size.
-pub(crate) fn may_be_placed(
+/// Whether a control with this definition, if it has one, may be at a place of a window that lies there, with this size: its width
+/// and its height lie in 1..=1024, its place is a point, and the box of its region, or of its size where it has no definition,
+/// lies in the range of coordinates, by itself, where it is in the window, and on the screen.
+pub fn may_be_placed(
     taken: Option<&TakenControl>,
     place: Point,
     size: Size,
@@ -140,7 +142,8 @@ impl Controls<TakenControl> {
         let layer = self.list.layer_index(spot.control);
         let layers = &windows.list().at(spot.window).layers;
         let relaid = layers.with_shape(self.alloc, layer, shape)?;
-        let relaying = windows.plan_layers(spot.window, &relaid, Some(layer))?;
+        let update = &windows.area(spot.window).update;
+        let relaying = windows.plan_layers(spot.window, update, &relaid, Some(layer))?;
         self.put_lie(spot.control, lie);
         windows.commit_layers(spot.window, relaid.layers, relaying, Some(layer), &*self);
         Ok(ControlReply::Done)

@@ -11,6 +11,10 @@
 //! that the control then owns; what a hidden, moved or disposed control leaves is to be redrawn. Values, highlighting, titles and
 //! tracking show the control anew where it is not to be redrawn, and take no memory: all room that they need the layers keep.
 //!
+//! What another manager makes and ends of controls together with records of its own, it plans before it changes anything: `grow`
+//! and `plan_ending` take the layers and the update region that earlier plans leave a window, `add` and `end_control` make the
+//! changes in the same order, and take no memory.
+//!
 //! Boxes of definitions lie in the records of `control_list`, and wait outside in a `ControlStock`. After each change a definition is
 //! told all of its control: size, title, setting and highlighting. `Controls` shows them to whoever draws windows (`Showing`).
 #![tactic(auto)]
@@ -19,6 +23,7 @@ mod asking;
 mod closing;
 mod controls;
 mod drawing;
+mod ending;
 mod laying;
 mod making;
 mod perform;
@@ -29,4 +34,6 @@ mod tracking;
 
 pub use controls::Controls;
 pub use drawing::DrawnControl;
-pub use making::form_refusal;
+pub use ending::Ending;
+pub use laying::may_be_placed;
+pub use making::{Addition, Ticket, form_refusal};
