@@ -11,14 +11,17 @@ use Rattle.def_iface.specs.ListMeaning.{ListLoan}
 use Rattle.def_iface.specs.Meaning.{Loan}
 use Rattle.def_iface.specs.Stocked.{SlotView}
 use Rattle.layer_list.specs.declared.layer.Layer.{Layer}
+use Rattle.list_cells.specs.declared.selecting.Selecting.{Selecting}
+use Rattle.list_cells.specs.Selections.{IsChange, selected_by}
+use Rattle.list_paint.specs.Shown.{is_turned}
 use Rattle.layer_list.specs.Holders.{belongs_to}
 use Rattle.vis_update.specs.declared.area.Area.{Area}
 use Rattle.window_list.specs.declared.window.Window.{Window}
 use Rattle.window_mgr.specs.declared.manager.WindowManager.{WindowManager}
-use Rattle.window_mgr.specs.Edits.{IsWindowAt}
+use Rattle.window_mgr.specs.Edits.{IsWindowAt, StandsAt}
 use Rattle.window_mgr.specs.FullDesk.{FullState}
 use Rattle.window_mgr.specs.Records.{state_of, state_showing}
-use Rattle.window_mgr.specs.Relayered.{IsLayerRedrawn}
+use Rattle.window_mgr.specs.Relayered.{IsLayerRedrawn, IsLayerToggled}
 use Rattle.window_mgr.specs.Whole.{IsWholeManager}
 use Rattle.list_mgr.specs.declared.lists.Lists.{Lists}
 use Rattle.list_mgr.specs.declared.spots.Spot.{Spot}
@@ -71,3 +74,21 @@ module _ {X : Type 0} {L : X → Type 0} (list_loan : TakenList X L → ListLoan
     IsShownOrMarked None changes s m t u = (x : KeptList) → slice_get (records_of list_loan m) s.list ≡ Some x → IsShownAnewBy m x t u
     IsShownOrMarked (Some update) true s m t u = (x : KeptList) → slice_get (records_of list_loan m) s.list ≡ Some x → IsMarkedBy x t u
     IsShownOrMarked (Some update) false s m t u = u ≡ t
+
+    -- what it leaves of them that what this makes of the list's selection highlights otherwise was inverted
+    abbrev pub IsToggledBy : Selecting → KeptList → WindowManager V H → WindowManager V H → Type 0
+    IsToggledBy s x t u = (at : ℕ) (w : Window V H) → StandsAt t.windows.records.items x.window at → IsWindowAt t.windows.records.items at w → (was is : List ℕ → Part → PixelSet)
+        → LeavesShown (IsLayerToggled x.window w.place (part.List x.serial)
+        (λ font. is_turned font x.definition.definition x.view x.cells (selected_by s x.cells))) was is t u
+
+    -- the list that stands here was toggled, or marked where its drawing is off and something is toggled
+    abbrev pub IsToggledOrMarked : Option Pixels → Selecting → Spot → Lists (TakenList X L) → WindowManager V H → WindowManager V H → Type 0
+    IsToggledOrMarked mark selecting s m t u = (x : KeptList) → slice_get (records_of list_loan m) s.list ≡ Some x → by_mark mark x
+      where
+        by_change : Pixels → KeptList → Bool → Type 0
+        by_change update x true = IsMarkedBy x t u
+        by_change update x false = u ≡ t
+
+        by_mark : Option Pixels → KeptList → Type 0
+        by_mark None x = IsToggledBy selecting x t u
+        by_mark (Some update) x = (changes : Bool) × IsChange changes x.cells (selected_by selecting x.cells) × by_change update x changes

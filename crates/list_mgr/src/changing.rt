@@ -1,13 +1,15 @@
 //! What changes of a list but its selection: its cells, how far it is scrolled, and whether it is drawn.
-ghost use Rattle.std.specs.Prelude.{◌≡◌, ◌<◌, [], true, length, slice_get, IfOk, IfSome};
+ghost use Rattle.std.specs.Prelude.{◌≡◌, ◌<◌, length, IfOk, IfSome};
+ghost use Rattle.std.specs.List.{position};
+ghost use Rattle.def_iface.specs.Desk.{same_part};
+ghost use Rattle.def_iface.specs.declared.part.Part.TheVariants as part;
 ghost use Rattle.desk_call.specs.declared.list.ListCall.TheVariants as asks;
-ghost use Rattle.desk_call.specs.declared.list.ListOf.{ListOf as Named};
 ghost use Rattle.window_mgr.specs.Edits.{IsWindowAt};
 ghost use Rattle.window_mgr.specs.Kept.{IsKept};
 ghost use Rattle.list_mgr.specs.Changing.{IsItsLayer, IsMark, IsShownOrMarked};
 ghost use Rattle.list_mgr.specs.ListSteps.{IsListStep};
 ghost use Rattle.list_mgr.specs.Spots.{IsSpot};
-ghost use Rattle.list_mgr.specs.WholeLists.{AreBeside, AreSettled, IsChangedOver, records_of};
+ghost use Rattle.list_mgr.specs.WholeLists.{AreBeside, IsChangedOver};
 
 use crate::Lists;
 use crate::spots::Spot;
@@ -53,7 +55,7 @@ impl Lists<TakenList> {
         requires kept { IsKept ⟦<Taken as Defined>⟧.loan windows.now }
         requires beside { AreBeside ⟦<TakenList as DefinedList>⟧.list_loan ⟦<Taken as Defined>⟧.loan windows.now self.now }
         requires spot { IsSpot ⟦<Taken as Defined>⟧.loan ⟦<TakenList as DefinedList>⟧.list_loan windows.now self.now spot }
-        ensures { IfOk result (IsMark ⟦<Taken as Defined>⟧.loan ⟦<TakenList as DefinedList>⟧.list_loan windows.now self.now spot) }
+        ensures { IfOk result (IsMark ⟦<TakenList as DefinedList>⟧.list_loan ⟦<Taken as Defined>⟧.loan windows.now self.now spot) }
     {
         if self.list.lists[spot.list].drawing {
             return Ok(None);
@@ -78,8 +80,8 @@ impl Lists<TakenList> {
         requires kept { IsKept ⟦<Taken as Defined>⟧.loan windows.old }
         requires beside { AreBeside ⟦<TakenList as DefinedList>⟧.list_loan ⟦<Taken as Defined>⟧.loan windows.old self.now }
         requires spot { IsSpot ⟦<Taken as Defined>⟧.loan ⟦<TakenList as DefinedList>⟧.list_loan windows.old self.now spot }
-        requires mark { IsMark ⟦<Taken as Defined>⟧.loan ⟦<TakenList as DefinedList>⟧.list_loan windows.old self.now spot mark }
-        ensures { IsShownOrMarked ⟦<Taken as Defined>⟧.loan ⟦<TakenList as DefinedList>⟧.list_loan mark changes spot self.now windows.old windows.new }
+        requires mark { IsMark ⟦<TakenList as DefinedList>⟧.list_loan ⟦<Taken as Defined>⟧.loan windows.old self.now spot mark }
+        ensures { IsShownOrMarked ⟦<TakenList as DefinedList>⟧.list_loan ⟦<Taken as Defined>⟧.loan mark changes spot self.now windows.old windows.new }
     {
         match mark {
             None => {

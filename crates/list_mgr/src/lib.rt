@@ -11,12 +11,7 @@
 #![tactic(auto)]
 
 mod asking;
-mod changing;
-mod drawing;
 mod lists;
-mod selecting;
-mod showing;
 mod spots;
 
-pub use drawing::Contents;
 pub use lists::Lists;

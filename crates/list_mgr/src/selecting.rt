@@ -3,7 +3,10 @@ ghost use Rattle.std.specs.Prelude.{◌≡◌, [], Some, slice_get};
 ghost use Rattle.desk_call.specs.declared.list.ListCall.TheVariants as asks;
 ghost use Rattle.window_mgr.specs.Kept.{IsKept};
 ghost use Rattle.list_mgr.specs.ListSteps.{IsListStep};
-ghost use Rattle.list_mgr.specs.Selecting.{IsToggledOrMarked};
+ghost use Rattle.list_cells.specs.Selections.{selected_by};
+ghost use Rattle.list_paint.specs.Shown.{is_turned};
+ghost use Rattle.list_records.specs.Seen.{seen};
+ghost use Rattle.list_mgr.specs.Changing.{IsMark, IsToggledOrMarked};
 ghost use Rattle.list_mgr.specs.Spots.{IsSpot};
 ghost use Rattle.list_mgr.specs.WholeLists.{AreBeside, IsChangedOver, IsSettledList, records_of};
 
@@ -48,6 +51,11 @@ impl Lists<TakenList> {
         mark: Option<Region>,
         selecting: Selecting,
     )
+        requires kept { IsKept ⟦<Taken as Defined>⟧.loan windows.old }
+        requires beside { AreBeside ⟦<TakenList as DefinedList>⟧.list_loan ⟦<Taken as Defined>⟧.loan windows.old self.now }
+        requires spot { IsSpot ⟦<Taken as Defined>⟧.loan ⟦<TakenList as DefinedList>⟧.list_loan windows.old self.now spot }
+        requires mark { IsMark ⟦<TakenList as DefinedList>⟧.list_loan ⟦<Taken as Defined>⟧.loan windows.old self.now spot mark }
+        ensures { IsToggledOrMarked ⟦<TakenList as DefinedList>⟧.list_loan ⟦<Taken as Defined>⟧.loan mark selecting spot self.now windows.old windows.new }
     {
         let list = &self.list.lists[spot.list];
         match mark {
