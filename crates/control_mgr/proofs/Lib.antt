@@ -25,6 +25,7 @@ pub mod Planned
 pub mod Disposed
 pub mod TakenOut
 pub mod Presses
+pub mod SettingsPut
 pub mod Performed
 pub mod SerialsFound
 pub mod ControlBits

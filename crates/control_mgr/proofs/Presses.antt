@@ -141,27 +141,28 @@ module _ {V : Type 0} {H : V → Type 0} (loan : Taken V H → Loan) {W : Type 0
         ),
       )
 
-  -- ---- a control that is tracked is there
+  -- ---- a control that is there, as one that is tracked
 
-  tracked_there : (k : TrackedControl) (t : WindowManager V H) (m : Controls (TakenControl W K)) (o : Option ℕ) → index_of k.control (records_of control_loan m) ≡ o → is_none o ≡ false → AreBeside control_loan loan t m → is_missing k.control.window (desk_of loan t []).windows ≡ false
-  tracked_there k t m None e there beside = absurd (false≢true (sym there))
-  tracked_there k t m (Some at) e there beside = by_item (slice_get (records_of control_loan m) at) refl
+  -- its window is there
+  pub window_there : (c : ControlOf) (t : WindowManager V H) (m : Controls (TakenControl W K)) (o : Option ℕ) → index_of c (records_of control_loan m) ≡ o → is_none o ≡ false → AreBeside control_loan loan t m → is_missing c.window (desk_of loan t []).windows ≡ false
+  window_there c t m None e there beside = absurd (false≢true (sym there))
+  window_there c t m (Some at) e there beside = by_item (slice_get (records_of control_loan m) at) refl
     where
-      by_item : (o : Option ControlRecord) → slice_get (records_of control_loan m) at ≡ o → is_missing k.control.window (desk_of loan t []).windows ≡ false
+      by_item : (o : Option ControlRecord) → slice_get (records_of control_loan m) at ≡ o → is_missing c.window (desk_of loan t []).windows ≡ false
       by_item (Some x) read =
-          ap (λ w. is_missing w (desk_of loan t []).windows) (sym (found_names k.control.window k.control.control at (records_of control_loan m) x e read).0)
+          ap (λ w. is_missing w (desk_of loan t []).windows) (sym (found_names c.window c.control at (records_of control_loan m) x e read).0)
           ∙ All-there (λ (y : ControlRecord). is_missing y.window (desk_of loan t []).windows ≡ false) at (records_of control_loan m) x read beside.whole.somewhere
-      by_item None read = absurd (none_there (position_there (is_control k.control.window k.control.control) (records_of control_loan m)) read)
+      by_item None read = absurd (none_there (position_there (is_control c.window c.control) (records_of control_loan m)) read)
         where
-          none_there : IfSome (index_of k.control (records_of control_loan m)) (λ i. option_map_or (is_control k.control.window k.control.control) (slice_get (records_of control_loan m) i) false ≡ true) → slice_get (records_of control_loan m) at ≡ None → ⊥
-          none_there h r = false≢true (sym (ap (λ q. option_map_or (is_control k.control.window k.control.control) q false) r) ∙ subst (λ q. IfSome q (λ i. option_map_or (is_control k.control.window k.control.control) (slice_get (records_of control_loan m) i) false ≡ true)) e h)
+          none_there : IfSome (index_of c (records_of control_loan m)) (λ i. option_map_or (is_control c.window c.control) (slice_get (records_of control_loan m) i) false ≡ true) → slice_get (records_of control_loan m) at ≡ None → ⊥
+          none_there h r = false≢true (sym (ap (λ q. option_map_or (is_control c.window c.control) q false) r) ∙ subst (λ q. IfSome q (λ i. option_map_or (is_control c.window c.control) (slice_get (records_of control_loan m) i) false ≡ true)) e h)
 
-  -- so it is not missing
+  -- so one that is tracked is not missing
   pub not_missing : (k : TrackedControl) (t : WindowManager V H) (m : Controls (TakenControl W K)) (e : Refusal) → IsTrackable (TrackingControl k) (records_of control_loan m) → AreBeside control_loan loan t m
       → first_refusal (missing_refusals k.control (desk_of loan t []) (records_of control_loan m)) ≡ Some e → ⊥
   not_missing k t m e trackable beside why =
       no (sym (none_missing k.control (desk_of loan t []) (records_of control_loan m) (is_missing k.control.window (desk_of loan t []).windows) (is_none (index_of k.control (records_of control_loan m)))
-      (tracked_there k t m (index_of k.control (records_of control_loan m)) refl trackable.1 beside) trackable.1) ∙ why)
+      (window_there k.control t m (index_of k.control (records_of control_loan m)) refl trackable.1 beside) trackable.1) ∙ why)
     where
       no : None ≡ Some e → ⊥
       no h = absurd (cc)
