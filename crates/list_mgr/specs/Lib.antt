@@ -5,5 +5,3 @@ pub mod ListRefusals
 pub mod ListSteps
 pub mod WholeLists
 pub mod Spots
-pub mod Changing
-pub mod Lines

@@ -1,5 +1,5 @@
 -- One step of a call about lists: what it leaves, and what it answers.
-use Rattle.std.specs.Prelude.{◌≡◌, ◌⊎◌, ℕ, pos, nat_abs, Bool, true, false, not, List, [], ◌∷◌, ◌++◌, Option, None, Some, Result, is_none, slice_get}
+use Rattle.std.specs.Prelude.{◌≡◌, ◌⊎◌, ℕ, ℤ, pos, nat_abs, Bool, true, false, not, List, [], ◌∷◌, ◌++◌, Option, None, Some, Result, is_none, slice_get}
 use Rattle.std.specs.List.{AllZip, remove}
 use Rattle.std.specs.Option.{option_map, option_map_or, option_and_then}
 use Rattle.tb_geom.specs.declared.point.Point.{Point}
@@ -289,7 +289,7 @@ told_of l f ls = option_map_or f (list_of l ls) reply.Done
 
 -- the answer is these bytes
 abbrev pub IsDataOf : List ℕ → ListReply → Type 0
-IsDataOf bytes (reply.Data data) = data.items ≡ bytes
+IsDataOf bytes (reply.Data told) = told.items ≡ bytes
 IsDataOf bytes _ = ⊥
 
 -- what a call that tells something answers and leaves

@@ -22,10 +22,9 @@ use Rattle.window_mgr.specs.Records.{desk_of, state_of, state_showing}
 use Rattle.window_mgr.specs.Refused.{is_missing}
 use Rattle.window_mgr.specs.Whole.{IsWholeManager}
 use Rattle.control_mgr.specs.declared.controls.Controls.{Controls}
-use Rattle.control_mgr.specs.ControlDesks.{ControlSlot, controls_show}
+use Rattle.control_mgr.specs.ControlDesks.{ControlSlot, ControlsState, controls_show}
 use Rattle.control_mgr.specs.InUse.{AreStocked}
 use Rattle.control_mgr.specs.WholeControls.{AreWholeControls, controls_state}
-use Rattle.control_mgr.specs.WholeControls as controls
 use Rattle.list_mgr.specs.declared.lists.Lists.{Lists}
 use Rattle.list_mgr.specs.ListDesks.{KeptList, ListDesk, ListSlot, ListsState, lists_show}
 use Rattle.list_mgr.specs.ListSteps.{AreListLayers}
@@ -78,50 +77,54 @@ module _ {X : Type 0} {L : X → Type 0} (list_loan : TakenList X L → ListLoan
   abbrev pub lists_state : Lists (TakenList X L) → List ListSlot → ListsState
   lists_state m slots = record { lists = records_of m; next = m.list.next; stock = slots }
 
-  -- the lists are whole beside these windows over some slots
-  pub record AreBeside {V : Type 0} {H : V → Type 0} (loan : Taken V H → Loan) (t : WindowManager V H) (m : Lists (TakenList X L)) : Type 0 where
-    pub slots : List ListSlot
-    pub whole : AreWholeLists (desk_of loan t []).windows (lists_state m slots)
+  -- `loan` says it of a window's
+  module _ {V : Type 0} {H : V → Type 0} (loan : Taken V H → Loan) where
+    -- the lists are whole beside these windows over some slots
+    pub record AreBeside (t : WindowManager V H) (m : Lists (TakenList X L)) : Type 0 where
+      pub slots : List ListSlot
+      pub whole : AreWholeLists (desk_of loan t []).windows (lists_state m slots)
 
-  -- `control_loan` says it of a control's, and `loan` of a window's
-  module _ {W : Type 0} {K : W → Type 0} (control_loan : TakenControl W K → ControlLoan) {V : Type 0} {H : V → Type 0} (loan : Taken V H → Loan) where
     -- windows, controls and lists with what is open, as a desk
-    abbrev pub list_desk : WindowManager V H → Opened → List SlotView → Controls (TakenControl W K) → List ControlSlot
-        → Lists (TakenList X L) → List ListSlot → ListDesk
-    list_desk t o slots c held m kept = record {
-      desk = desk_with o (state_showing (controls_show (lists_show (records_of m)) (controls.records_of control_loan c)) (state_of loan t slots));
-      controls = controls_state control_loan c held;
+    abbrev pub list_desk : WindowManager V H → Opened → List SlotView → ControlsState → Lists (TakenList X L) → List ListSlot → ListDesk
+    list_desk t o slots cs m kept = record {
+      desk = desk_with o (state_showing (controls_show (lists_show (records_of m)) cs.controls) (state_of loan t slots));
+      controls = cs;
       lists = lists_state m kept;
     }
 
-    -- what a call leaves: the stocks before and after, of controls and of lists
-    pub record Stocks : Type 0 where
-      pub held : List ControlSlot
-      pub kept : List ListSlot
-
-    -- over any slots over which the windows are whole, and over these of the stocks of controls and lists, all are whole afterwards,
-    -- and together they are one step of the desk
-    abbrev pub LeavesOver : Stocks → Stocks → (ListDesk → ListDesk → Type 0)
-        → WindowManager V H → Controls (TakenControl W K) → Lists (TakenList X L)
-        → WindowManager V H → Controls (TakenControl W K) → Lists (TakenList X L) → Type 0
-    LeavesOver before after step t c m u d n = (o : Opened) (slots : List SlotView) → IsWholeManager loan t slots
-        → AreWholeControls (desk_of loan t []).windows (controls_state control_loan c before.held)
-        → AreWholeLists (desk_of loan t []).windows (lists_state m before.kept)
-        → IsWholeManager loan u slots
-        × AreWholeControls (desk_of loan u []).windows (controls_state control_loan d after.held)
-        × AreWholeLists (desk_of loan u []).windows (lists_state n after.kept)
-        × step (list_desk t o slots c before.held m before.kept) (list_desk u o slots d after.held n after.kept)
-
-    -- so over any slots of these stocks, which a call leaves alone
-    abbrev pub LeavesLists : (ListDesk → ListDesk → Type 0)
-        → WindowManager V H → Controls (TakenControl W K) → Lists (TakenList X L)
-        → WindowManager V H → Controls (TakenControl W K) → Lists (TakenList X L) → Type 0
-    LeavesLists step t c m u d n = (stocks : Stocks) → LeavesOver stocks stocks step t c m u d n
-
-    -- a call that asks something changes none of them
+    -- a call that asks something changes nothing: over any slots over which windows and lists are whole, and whatever the controls,
+    -- together they are such a step of the desk
     abbrev pub IsToldOver : (ListDesk → ListDesk → Type 0) → WindowManager V H → Lists (TakenList X L) → Type 0
-    IsToldOver step t m = (c : Controls (TakenControl W K)) → LeavesLists step t c m t c m
+    IsToldOver step t m = (o : Opened) (slots : List SlotView) (cs : ControlsState) (kept : List ListSlot) → IsWholeManager loan t slots
+        → AreWholeLists (desk_of loan t []).windows (lists_state m kept)
+        → step (list_desk t o slots cs m kept) (list_desk t o slots cs m kept)
 
-    -- a call that changes no control
+    -- a call that leaves the windows' records, controls and stocks: over any slots over which windows and lists are whole, and
+    -- whatever the controls, they are whole afterwards, and together they are such a step of the desk
     abbrev pub IsChangedOver : (ListDesk → ListDesk → Type 0) → WindowManager V H → Lists (TakenList X L) → WindowManager V H → Lists (TakenList X L) → Type 0
-    IsChangedOver step t m u n = (c : Controls (TakenControl W K)) → LeavesLists step t c m u c n
+    IsChangedOver step t m u n = (o : Opened) (slots : List SlotView) (cs : ControlsState) (kept : List ListSlot) → IsWholeManager loan t slots
+        → AreWholeLists (desk_of loan t []).windows (lists_state m kept)
+        → IsWholeManager loan u slots × ((desk_of loan u []).windows ≡ (desk_of loan t []).windows)
+        × AreWholeLists (desk_of loan u []).windows (lists_state n kept)
+        × step (list_desk t o slots cs m kept) (list_desk u o slots cs n kept)
+
+    -- `control_loan` says it of a control's
+    module _ {W : Type 0} {K : W → Type 0} (control_loan : TakenControl W K → ControlLoan) where
+      -- over any slots over which the windows are whole, and over these of the stocks of controls and of lists, all are whole
+      -- afterwards, and together they are such a step of the desk
+      abbrev pub LeavesOver : List ControlSlot → List ControlSlot → List ListSlot → List ListSlot → (ListDesk → ListDesk → Type 0)
+          → WindowManager V H → Controls (TakenControl W K) → Lists (TakenList X L)
+          → WindowManager V H → Controls (TakenControl W K) → Lists (TakenList X L) → Type 0
+      LeavesOver held left kept rest step t c m u d n = (o : Opened) (slots : List SlotView) → IsWholeManager loan t slots
+          → AreWholeControls (desk_of loan t []).windows (controls_state control_loan c held)
+          → AreWholeLists (desk_of loan t []).windows (lists_state m kept)
+          → IsWholeManager loan u slots
+          × AreWholeControls (desk_of loan u []).windows (controls_state control_loan d left)
+          × AreWholeLists (desk_of loan u []).windows (lists_state n rest)
+          × step (list_desk t o slots (controls_state control_loan c held) m kept) (list_desk u o slots (controls_state control_loan d left) n rest)
+
+      -- so over any slots of these stocks, which a call leaves alone
+      abbrev pub LeavesLists : (ListDesk → ListDesk → Type 0)
+          → WindowManager V H → Controls (TakenControl W K) → Lists (TakenList X L)
+          → WindowManager V H → Controls (TakenControl W K) → Lists (TakenList X L) → Type 0
+      LeavesLists step t c m u d n = (held : List ControlSlot) (kept : List ListSlot) → LeavesOver held held kept kept step t c m u d n

@@ -5,7 +5,7 @@ ghost use Rattle.list_mgr.specs.ListSteps.{IsListStep};
 ghost use Rattle.list_mgr.specs.WholeLists.{IsToldOver};
 
 use crate::Lists;
-use def_iface::{Defined, DefinedControl, DefinedList, Taken, TakenControl, TakenList};
+use def_iface::{Defined, DefinedList, Taken, TakenList};
 use desk_call::{CellOf, CellText, ListReply, NextOfCell};
 use tb_geom::Refusal;
 use window_mgr::WindowManager;
@@ -14,7 +14,7 @@ impl Lists<TakenList> {
     /// The data of a cell.
     pub(crate) fn data(&self, windows: &WindowManager, asked: CellOf) -> Result<ListReply, Refusal>
         requires { IsKept ⟦<Taken as Defined>⟧.loan windows.now }
-        ensures { IsToldOver ⟦<TakenList as DefinedList>⟧.list_loan ⟦<TakenControl as DefinedControl>⟧.control_loan ⟦<Taken as Defined>⟧.loan
+        ensures { IsToldOver ⟦<TakenList as DefinedList>⟧.list_loan ⟦<Taken as Defined>⟧.loan
             (IsListStep (asks.GetCell asked) result) windows.now self.now }
     {
         let spot = self.spot(windows, asked.list)?;
@@ -31,7 +31,7 @@ impl Lists<TakenList> {
         asked: CellOf,
     ) -> Result<ListReply, Refusal>
         requires { IsKept ⟦<Taken as Defined>⟧.loan windows.now }
-        ensures { IsToldOver ⟦<TakenList as DefinedList>⟧.list_loan ⟦<TakenControl as DefinedControl>⟧.control_loan ⟦<Taken as Defined>⟧.loan
+        ensures { IsToldOver ⟦<TakenList as DefinedList>⟧.list_loan ⟦<Taken as Defined>⟧.loan
             (IsListStep (asks.IsSelected asked) result) windows.now self.now }
     {
         let spot = self.spot(windows, asked.list)?;
@@ -46,7 +46,7 @@ impl Lists<TakenList> {
         asked: CellOf,
     ) -> Result<ListReply, Refusal>
         requires { IsKept ⟦<Taken as Defined>⟧.loan windows.now }
-        ensures { IsToldOver ⟦<TakenList as DefinedList>⟧.list_loan ⟦<TakenControl as DefinedControl>⟧.control_loan ⟦<Taken as Defined>⟧.loan
+        ensures { IsToldOver ⟦<TakenList as DefinedList>⟧.list_loan ⟦<Taken as Defined>⟧.loan
             (IsListStep (asks.FirstSelected asked) result) windows.now self.now }
     {
         let spot = self.spot(windows, asked.list)?;
@@ -61,7 +61,7 @@ impl Lists<TakenList> {
         asked: NextOfCell,
     ) -> Result<ListReply, Refusal>
         requires { IsKept ⟦<Taken as Defined>⟧.loan windows.now }
-        ensures { IsToldOver ⟦<TakenList as DefinedList>⟧.list_loan ⟦<TakenControl as DefinedControl>⟧.control_loan ⟦<Taken as Defined>⟧.loan
+        ensures { IsToldOver ⟦<TakenList as DefinedList>⟧.list_loan ⟦<Taken as Defined>⟧.loan
             (IsListStep (asks.NextCell asked) result) windows.now self.now }
     {
         let spot = self.spot(windows, asked.cell.list)?;
@@ -77,7 +77,7 @@ impl Lists<TakenList> {
         asked: &CellText<'_>,
     ) -> Result<ListReply, Refusal>
         requires { IsKept ⟦<Taken as Defined>⟧.loan windows.now }
-        ensures { IsToldOver ⟦<TakenList as DefinedList>⟧.list_loan ⟦<TakenControl as DefinedControl>⟧.control_loan ⟦<Taken as Defined>⟧.loan
+        ensures { IsToldOver ⟦<TakenList as DefinedList>⟧.list_loan ⟦<Taken as Defined>⟧.loan
             (IsListStep (asks.Search asked.now) result) windows.now self.now }
     {
         let spot = self.spot(windows, asked.cell.list)?;
