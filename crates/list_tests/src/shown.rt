@@ -3,7 +3,7 @@
 use crate::listed::{By, Change, empty_cells, paint, text_cells, told, turn, view};
 use crate::plain_list::{PlainView, black_map, plain_map};
 use geometry_tests::pixels::{are_alike, picture};
-use list_cells::ClickKeys;
+use list_cells::{Cell, ClickKeys};
 use std::test::Fail;
 use std_mldef::StdList;
 use strike_font::Font;
@@ -128,6 +128,7 @@ fn empty_cells_are_black_where_they_are_selected(rt: HostRuntime) -> Result<(), 
     let plain = plain!(1, 1, 6, 14, 4, 3, 1, 1);
     let definition = told(alloc, Box::new(alloc, StdList::new())?, plain)?;
     let view = view(plain)?;
+    assert!(rt; view.cell_corner(Cell { column: 0, row: 3 }) == point!(-3, 7));
     let mut cells = empty_cells(alloc)?;
     let mut map = black_map(alloc, &font)?;
     paint(&mut map, &definition, view, &cells, &font);
