@@ -1,9 +1,8 @@
 -- What a change of the selection turns.
-use Rattle.std.proofs.Common.{◌≡◌, ◌≤◌, ◌<◌, ℕ, ◌+◌, ◌*◌, Bool, true, false, not, ◌&&◌, if◌then◌else◌, List, length, Option, Some, None, refl, sym, ap, ◌∙◌, subst, cond, replicate, inl, inr, arith}
+use Rattle.std.proofs.Common.{◌≡◌, ◌≤◌, ℕ, ◌+◌, ◌*◌, Bool, true, false, not, ◌&&◌, if◌then◌else◌, List, length, Option, Some, None, refl, sym, ap, ◌∙◌, subst, cond, replicate, inl, inr, arith}
 use Rattle.std.specs.Prelude.{nat_abs, slice_index}
 use Rattle.std.specs.Option.{option_map_or}
 use Rattle.std.proofs.lemmas.List.{get_or_past, get_or-replicate}
-use Rattle.std.proofs.lemmas.List.Elements.{All-get_or, All-from_get_or}
 use Rattle.std.proofs.lemmas.List.FromFn.{get_or-map-range_with_len, length-map-range_with_len}
 use Rattle.std.proofs.lemmas.Bool.{cases_lt}
 use Rattle.tb_geom.specs.declared.point.Point.{Point}
@@ -27,7 +26,7 @@ use Rattle.list_cells.specs.Selections.{content_after, is_toggled, IsSelecting}
 use Rattle.list_cells.proofs.SelectionLemmas.{selected_as_said}
 use Rattle.list_view.specs.Views.{View, cell_at}
 use Rattle.list_paint.specs.Shown.{in_cell, cell_shown, list_shown, is_turned}
-use Rattle.list_paint.specs.Walks.{HasShortCells, shown_value, selected_as}
+use Rattle.list_paint.specs.Walks.{shown_value, selected_as}
 
 -- ---- white
 
@@ -159,12 +158,3 @@ shown_list old mid d v g a b c f first second =
   where
     shown : List ℕ → Point → Bool → Bool
     shown font p x = shown_value (λ cell q _. cell_bit d (content_of g cell).selected font (content_of g cell).bytes q) v g p x
-
--- after a call that selects cells, they hold as few bytes as before
-pub short_stays : (before after : Grid) (s : Selecting) → IsSelecting before after s → HasShortCells before → HasShortCells after
-short_stays before after s h short =
-    All-from_get_or (λ (x : Content). length x.bytes ≤ 32000) after.contents empty_content
-    (λ k l.
-    let there : k < length before.contents = omega (arith, h.many) in
-    let few = All-get_or (λ (x : Content). length x.bytes ≤ 32000) before.contents k empty_content there short in
-    subst (λ (x : Content). length x.bytes ≤ 32000) (sym (h.each k there)) few)

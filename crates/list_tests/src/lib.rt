@@ -1,0 +1,35 @@
+//! Lists of texts, drawn as `list_paint` draws them and as a slow model does, and selected where they stand. No script reaches
+//! this, since no call of the Toolbox makes lists.
+//!
+//! The model draws each cell of a list by itself, on a map of its own, and puts its pixels one by one where they lie in the
+//! view (`plain_list`); it uses neither `list_view` nor a walk over the cells that show. `listed` makes the lists, draws them
+//! and turns their selection by the library, and `shown` has the tests.
+#![tactic(auto)]
+
+/// A rectangle, by its left side, its top, its right side and its bottom.
+#[cfg(test)]
+macro_rules! rect {
+    ($left:expr, $top:expr, $right:expr, $bottom:expr) => {
+        tb_geom::Rect {
+            left: $left,
+            top: $top,
+            right: $right,
+            bottom: $bottom,
+        }
+    };
+}
+
+/// A point, by its column and its row.
+#[cfg(test)]
+macro_rules! point {
+    ($h:expr, $v:expr) => {
+        tb_geom::Point { h: $h, v: $v }
+    };
+}
+
+#[cfg(test)]
+mod listed;
+#[cfg(test)]
+mod plain_list;
+#[cfg(test)]
+mod shown;
