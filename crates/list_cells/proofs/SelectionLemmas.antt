@@ -53,7 +53,7 @@ selected_as_said before seen after old now s view old_is len each said =
     each k (omega arith) ∙ ap (λ (cells : List Content). content_after before.columns s k (content_at cells k)) old_is ∙ sym (h.each k (omega arith))) in
     λ i. record { columns = sym h.columns i; rows = sym h.rows i; contents = contents i }
 
--- cells that were selected as was said hold as many bytes
+-- a list whose cells were selected as was said is one still, since they hold the same bytes
 pub selected_grid : (g : Grid) (old now : List Content) (s : Selecting) → IsGrid g → old ≡ g.contents → length now ≡ length old
     → ((place : ℕ) → place < length old → content_at now place ≡ content_after g.columns s place (content_at old place)) → IsGrid (record g { contents = now })
 selected_grid g old now s is old_is len each = record {

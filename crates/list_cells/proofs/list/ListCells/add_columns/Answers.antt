@@ -1,5 +1,4 @@
 use Rattle.std.proofs.Common.{◌+◌, arith}
-use Rattle.list_cells.specs.Contents.{opened, in_rows}
 use Rattle.list_cells.specs.Grids.{Grid}
 use Rattle.list_cells.proofs.ByteLemmas.{held_after, opened_held, in_rows_held}
 use Rattle.list_cells.proofs.GridLemmas.{columns_more}
@@ -13,5 +12,4 @@ invariant_of-self-2 c =
     let g : Grid = record { columns = c.self.inside.columns; rows = c.self.inside.rows; contents = c.self.inside.contents.items } in
     columns_more g _ run.count c.self.invariant h.2 h.3 (λ i. g.columns + run.count) (λ i. g.rows)
     (omega (arith, c.open_rows.ensures.len, c.open_rows.new.contents.ok.0, c.reserve.new.self.ok.0, r.len, c.self.inside.contents.ok.0))
-    (held_after (in_rows g.columns (opened run.at run.count) g.rows) (in_rows_held g.columns (opened run.at run.count) g.rows (opened_held run.at run.count))
-    g.contents c.reserve.new.self.items c.open_rows.new.contents.items r.items c.open_rows.ensures.items)
+    (held_after _ (in_rows_held _ _ _ (opened_held _ _)) _ _ _ r.items c.open_rows.ensures.items)

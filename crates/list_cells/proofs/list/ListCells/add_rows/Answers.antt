@@ -1,6 +1,5 @@
 use Rattle.std.proofs.lemmas.Int.{to_z-of_z}
-use Rattle.std.proofs.Common.{◌+◌, ◌*◌, nat_abs, ◌∙◌, arith}
-use Rattle.list_cells.specs.Contents.{opened, passed}
+use Rattle.std.proofs.Common.{◌+◌, nat_abs, ◌∙◌, arith}
 use Rattle.list_cells.specs.Runs.{place_to_add}
 use Rattle.list_cells.specs.Grids.{Grid}
 use Rattle.list_cells.proofs.ByteLemmas.{held_after, opened_held, passed_held}
@@ -13,11 +12,9 @@ invariant_of-self-2 c =
     let run = c.in_ok-run.run' in
     let r = c.in_ok-reserve.ensures in
     let g : Grid = record { columns = c.self.inside.columns; rows = c.self.inside.rows; contents = c.self.inside.contents.items } in
-    let change = opened (run.at * g.columns) (run.count * g.columns) in
     rows_more g _ run.count c.self.invariant h.2 h.3 (λ i. g.columns) (λ i. g.rows + run.count)
     (omega (arith, c.pass_opened.ensures.len, c.pass_opened.new.contents.ok.0, c.reserve.new.self.ok.0, r.len, c.self.inside.contents.ok.0))
-    (held_after (passed c.len-all.result change) (passed_held c.len-all.result change (opened_held (run.at * g.columns) (run.count * g.columns)))
-    g.contents c.reserve.new.self.items c.pass_opened.new.contents.items r.items c.pass_opened.ensures.items)
+    (held_after _ (passed_held _ _ (opened_held _ _)) _ _ _ r.items c.pass_opened.ensures.items)
 
 pub returns-clause-cells : goal.returns-clause-cells
 returns-clause-cells c =

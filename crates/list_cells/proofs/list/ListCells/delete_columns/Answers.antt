@@ -1,5 +1,4 @@
 use Rattle.std.proofs.Common.{◌-◌, refl, arith}
-use Rattle.list_cells.specs.Contents.{closed, in_rows}
 use Rattle.list_cells.specs.Grids.{Grid}
 use Rattle.list_cells.proofs.ByteLemmas.{held_after, closed_held, in_rows_held}
 use Rattle.list_cells.proofs.GridLemmas.{columns_left}
@@ -12,5 +11,4 @@ invariant_of-self c =
     let run = c.in_ok-run.run' in
     columns_left g _ run.count c.self.invariant (omega (arith, h.2)) (λ i. g.columns - run.count) (λ i. g.rows)
     (omega (arith, c.close_rows.ensures.len, c.close_rows.new.contents.ok.0, c.self.inside.contents.ok.0))
-    (held_after (in_rows g.columns (closed run.at run.count) g.rows) (in_rows_held g.columns (closed run.at run.count) g.rows (closed_held run.at run.count))
-    g.contents g.contents c.close_rows.new.contents.items refl c.close_rows.ensures.items)
+    (held_after _ (in_rows_held _ _ _ (closed_held _ _)) _ _ _ refl c.close_rows.ensures.items)

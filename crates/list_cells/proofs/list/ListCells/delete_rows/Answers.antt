@@ -1,6 +1,5 @@
 use Rattle.std.proofs.lemmas.Int.{to_z-of_z}
-use Rattle.std.proofs.Common.{◌-◌, ◌*◌, refl, nat_abs, ◌∙◌, arith}
-use Rattle.list_cells.specs.Contents.{closed, passed}
+use Rattle.std.proofs.Common.{◌-◌, refl, nat_abs, ◌∙◌, arith}
 use Rattle.list_cells.specs.Runs.{count_to_delete}
 use Rattle.list_cells.specs.Grids.{Grid}
 use Rattle.list_cells.proofs.ByteLemmas.{held_after, closed_held, passed_held}
@@ -18,11 +17,9 @@ invariant_of-self c =
     let h = c.in_ok-run.ensures in
     let g : Grid = record { columns = c.self.inside.columns; rows = c.self.inside.rows; contents = c.self.inside.contents.items } in
     let run = c.in_ok-run.run' in
-    let change = closed (run.at * g.columns) (run.count * g.columns) in
     rows_left g _ run.count c.self.invariant (omega (arith, h.2)) (λ i. g.columns) (λ i. g.rows - run.count)
     (omega (arith, c.pass_closed.ensures.len, c.pass_closed.new.contents.ok.0, c.self.inside.contents.ok.0))
-    (held_after (passed c.len-all.result change) (passed_held c.len-all.result change (closed_held (run.at * g.columns) (run.count * g.columns)))
-    g.contents g.contents c.pass_closed.new.contents.items refl c.pass_closed.ensures.items)
+    (held_after _ (passed_held _ _ (closed_held _ _)) _ _ _ refl c.pass_closed.ensures.items)
 
 pub returns-clause-cells : goal.returns-clause-cells
 returns-clause-cells c =
