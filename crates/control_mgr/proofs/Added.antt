@@ -77,7 +77,7 @@ others_named n (c ∷ cs) (l ∷ ls) h e =
     All-cons (λ (l : Layer). same_part l.part (part.Control n) ≡ false) l ls (ap (λ q. same_part q (part.Control n)) h.0.part ∙ both.0) (others_named n cs ls h.1 both.1)
 
 -- what holds of each layer, and of one more, holds where that is put in
-all_with : (P : Layer → Type 0) (i : ℕ) (ls : List Layer) (own : Layer) → All P ls → P own → All P (insert ls i own)
+pub all_with : (P : Layer → Type 0) (i : ℕ) (ls : List Layer) (own : Layer) → All P ls → P own → All P (insert ls i own)
 all_with P i ls own h new = All-append P (take i ls) (own ∷ drop i ls) (All-take P i ls h) (All-cons P own (drop i ls) new (All-drop P i ls h))
 
 apart_front : (ls : List Layer) (own : Layer) → ArePartsApart ls → same_part own.part part.Picture ≡ false → All (λ l. same_part l.part own.part ≡ false) ls → ArePartsApart (own ∷ ls)
@@ -87,7 +87,7 @@ apart_front ls own h e others = (
       (All-weaker (λ (l : Layer). same_part l.part own.part ≡ false) (λ (l : Layer). same_part own.part l.part ≡ false) (λ l its. same_part-turned own.part l.part ∙ its) ls others) h.1,
 )
 
-apart_with : (i : ℕ) (ls : List Layer) (own : Layer) → ArePartsApart ls → same_part own.part part.Picture ≡ false → All (λ l. same_part l.part own.part ≡ false) ls → ArePartsApart (insert ls i own)
+pub apart_with : (i : ℕ) (ls : List Layer) (own : Layer) → ArePartsApart ls → same_part own.part part.Picture ≡ false → All (λ l. same_part l.part own.part ≡ false) ls → ArePartsApart (insert ls i own)
 apart_with zero ls own h e others = apart_front ls own h e others
 apart_with (suc i) [] own h e others = apart_front [] own h e others
 apart_with (suc i) (l ∷ ls) own h e others =
@@ -98,7 +98,7 @@ apart_with (suc i) (l ∷ ls) own h e others =
           (all_with (λ (k : Layer). same_part l.part k.part ≡ false) i ls own front.others (All-head (λ (k : Layer). same_part k.part own.part ≡ false) l ls others)) rest.1,
     )
 
-fit_with : (place : Point) (i : ℕ) (ls : List Layer) (own : Layer) → list_all (fits_at place) ls ≡ true → fits_at place own ≡ true → list_all (fits_at place) (insert ls i own) ≡ true
+pub fit_with : (place : Point) (i : ℕ) (ls : List Layer) (own : Layer) → list_all (fits_at place) ls ≡ true → fits_at place own ≡ true → list_all (fits_at place) (insert ls i own) ≡ true
 fit_with place zero ls own fit e = λ t. e t && fit t
 fit_with place (suc i) [] own fit e = λ t. e t && true
 fit_with place (suc i) (l ∷ ls) own fit e =

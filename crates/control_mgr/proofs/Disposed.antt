@@ -41,12 +41,14 @@ use Rattle.window_mgr.specs.Whole.{IsSettled, IsWholeManager}
 use Rattle.window_mgr.proofs.Contents as contents
 use Rattle.control_mgr.specs.declared.controls.Controls.{Controls}
 use Rattle.control_mgr.specs.declared.spots.Spot.{Spot}
-use Rattle.control_mgr.specs.ControlDesks.{ControlRecord, ControlSlot, ControlsState, controls_show}
-use Rattle.control_mgr.specs.ControlSteps.{AreLayersOf, IsControlDisposed, IsControlShut, IsControlStep, IsLayerOf, behind_controls}
+use Rattle.control_mgr.specs.declared.ending.Ending.{Ending}
+use Rattle.control_mgr.specs.ControlDesks.{ControlRecord, ControlSlot, ControlsState, controls_show, index_of}
+use Rattle.control_mgr.specs.ControlSteps.{AreLayersOf, IsControlDisposed, IsControlShut, IsControlStep, IsEndedAt, IsEndedIfThere, IsLayerOf, behind_controls}
+use Rattle.control_mgr.specs.Ending.{IsEnding, IsPlannedEnd}
 use Rattle.control_mgr.specs.InUse.{AreStocked}
 use Rattle.control_mgr.specs.Settled.{AreSettled, IsSettledControl}
 use Rattle.control_mgr.specs.Spots.{IsSpotOf}
-use Rattle.control_mgr.specs.WholeControls.{AreApart, AreWholeControls, LeavesOver, controls_state, records_of, slots_of}
+use Rattle.control_mgr.specs.WholeControls.{AreApart, AreWholeControls, LeavesOver, control_desk, controls_state, records_of, slots_of}
 use Rattle.control_mgr.proofs.Added.{one_read, or_parts}
 use Rattle.control_mgr.proofs.Edited.{All-remove, All-there, AreNoControls, begin_remove, behind_removed, map-remove}
 use Rattle.control_mgr.proofs.Places.{at_window, in_its_window, layer_there, layers_named, read_is, record_there, there_is, within}
@@ -235,8 +237,32 @@ module _ {V : Type 0} {H : V → Type 0} (loan : Taken V H → Loan) {W : Type 0
       )
 
   -- so the call made its step
-  pub disposed_step : (u : WindowManager V H) (n : Controls (TakenControl W K)) (before back : List ControlSlot) → ((o : Opened) → LeavesOver control_loan loan before back (IsControlDisposed c) t o m u o n)
+  pub disposed_step : (u : WindowManager V H) (n : Controls (TakenControl W K)) (before back : List ControlSlot) → ((o : Opened) → LeavesOver control_loan loan before back (IsEndedIfThere c) t o m u o n)
       → (o : Opened) → LeavesOver control_loan loan before back (IsControlStep (Dispose c) (Ok Done)) t o m u o n
   disposed_step u n before back ended o others slots whole controls =
+      let leaves = ended o others slots whole controls in (
+        leaves.0,
+        leaves.1,
+        (
+          nothing_missing loan control_loan c t m s is,
+          (refl, subst (λ i. IsEndedAt i c (control_desk control_loan loan others t o slots m before) (control_desk control_loan loan others u o slots n back)) is.control leaves.2),
+        ),
+      )
+
+module _ {V : Type 0} {H : V → Type 0} (loan : Taken V H → Loan) {W : Type 0} {K : W → Type 0} (control_loan : TakenControl W K → ControlLoan)
+    (c : ControlOf) (t : WindowManager V H) (m : Controls (TakenControl W K)) (planned : Option Ending) (its : IsPlannedEnd loan control_loan c t m planned) where
+  -- the end of a control that is there
+  pub planned_there : (e : Ending) → planned ≡ Some e → IsEnding loan control_loan c t m e
+  planned_there e is = subst (IsPlannedEnd loan control_loan c t m) is its
+
+  pub ended_there : (e : Ending) → planned ≡ Some e → (u : WindowManager V H) (n : Controls (TakenControl W K)) (before back : List ControlSlot) → ((o : Opened) → LeavesOver control_loan loan before back (IsControlDisposed c) t o m u o n)
+      → (o : Opened) → LeavesOver control_loan loan before back (IsEndedIfThere c) t o m u o n
+  ended_there e is u n before back ended o others slots whole controls =
       let leaves = ended o others slots whole controls in
-      (leaves.0, leaves.1, (nothing_missing loan control_loan c t m s is, (refl, leaves.2)))
+      (leaves.0, leaves.1, subst (λ i. IsEndedAt i c (control_desk control_loan loan others t o slots m before) (control_desk control_loan loan others u o slots n back)) (sym (planned_there e is).spot.control) leaves.2)
+
+  -- nothing of one that is not
+  pub none_ended : planned ≡ None → (before : List ControlSlot) (o : Opened) → LeavesOver control_loan loan before before (IsEndedIfThere c) t o m t o m
+  none_ended is before o others slots whole controls =
+      let none : index_of c (records_of control_loan m) ≡ None = subst (IsPlannedEnd loan control_loan c t m) is its in
+      (whole, controls, subst (λ i. IsEndedAt i c (control_desk control_loan loan others t o slots m before) (control_desk control_loan loan others t o slots m before)) (sym none) refl)

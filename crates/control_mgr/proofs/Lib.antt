@@ -22,6 +22,8 @@ pub mod LaidSo
 pub mod Made
 pub mod NewSteps
 pub mod Planned
+pub mod PlannedNext
+pub mod FurtherLayers
 pub mod Disposed
 pub mod TakenOut
 pub mod Presses

@@ -1,6 +1,6 @@
 -- The layer of a control that is to end: where it stands among its window's, and the plan without it.
 use Rattle.std.proofs.Common.{◌≡◌, ℕ, ◌+◌, ◌<◌, Bool, true, false, ◌==◌, cond, List, [], ◌∷◌, length, Option, Some, None, refl, sym, ap, ◌∙◌, subst, arith}
-use Rattle.std.specs.Prelude.{IfSome, MatchOption, is_none, slice_get}
+use Rattle.std.specs.Prelude.{IfSome, is_none, slice_get}
 use Rattle.std.specs.List.{position, position_from, remove}
 use Rattle.std.specs.Option.{option_map, option_map_or}
 use Rattle.std.proofs.lemmas.Bool.{false≢true}
@@ -69,9 +69,6 @@ index_further n i (c ∷ cs) (l ∷ ls) h =
 -- where its control stands among the window's
 pub index_among : (n : ℕ) (cs : List ControlRecord) (ls : List Layer) → AreLayersOf cs ls → layer_index n ls ≡ position (has_serial n) cs
 index_among n cs ls h = position_from-zero (is_its n) ls ∙ index_further n 0 cs ls h ∙ sym (position_from-zero (has_serial n) cs)
-
-pub no_and_some : (o : Option ℕ) (i : ℕ) → o ≡ None → o ≡ Some i → ⊥
-no_and_some o i e f = absurd (cc)
 
 none_found : (o : Option ℕ) (cs : List ControlRecord) → option_map (λ at. place_among at cs) o ≡ None → o ≡ None
 none_found None cs e = refl
@@ -169,18 +166,6 @@ apart_out i ls layers low apart layers_are = subst (λ (x : PlacedLayers). ArePa
 pub taken_out : (at n i : ℕ) (ls layers : PlacedLayers) (r : Relaying) → layer_index n ls.layers ≡ Some i → i < length ls.layers → ArePartsApart ls.layers
     → layers ≡ record ls { layers = remove ls.layers i } → IsTakenOut at n ls (record { window = at; layers = layers; relaying = r })
 taken_out at n i ls layers r is low apart layers_are = record { window = refl; index = i; found = is; layers = layers_are; apart = apart_out i ls layers low apart layers_are }
-
--- ---- what was planned
-
-module _ {V : Type 0} {H : V → Type 0} (loan : Taken V H → Loan) {W : Type 0} {K : W → Type 0} (control_loan : TakenControl W K → ControlLoan)
-    (c : ControlOf) (t : WindowManager V H) (m : Controls (TakenControl W K)) (planned : Option Ending) where
-  -- the end of a control that is there
-  pub planned_there : (e : Ending) → MatchOption planned (index_of c (records_of control_loan m) ≡ None) (IsEnding loan control_loan c t m) → planned ≡ Some e → IsEnding loan control_loan c t m e
-  planned_there e its is = subst (λ o. MatchOption o (index_of c (records_of control_loan m) ≡ None) (IsEnding loan control_loan c t m)) is its
-
-  -- or nothing
-  pub planned_none : MatchOption planned (index_of c (records_of control_loan m) ≡ None) (IsEnding loan control_loan c t m) → planned ≡ None → index_of c (records_of control_loan m) ≡ None
-  planned_none its is = subst (λ o. MatchOption o (index_of c (records_of control_loan m) ≡ None) (IsEnding loan control_loan c t m)) is its
 
 -- ---- the control is found again
 
