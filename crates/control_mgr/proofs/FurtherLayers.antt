@@ -1,6 +1,5 @@
 -- Layers behind those of a window's controls, put in or taken out by whoever keeps them: the controls are whole beside them still.
-use Rattle.std.proofs.Common.{◌≡◌, ℕ, zero, suc, ◌<◌, ◌≤◌, true, false, ◌==◌, List, [], ◌∷◌, length, get_or, map, take, drop, Option, refl, sym, ap, ◌∙◌, subst, arith}
-use Rattle.std.specs.Prelude.{All}
+use Rattle.std.proofs.Common.{◌≡◌, ℕ, zero, suc, ◌<◌, ◌≤◌, false, List, [], ◌∷◌, length, get_or, map, take, drop, Option, refl, sym, ap, ◌∙◌, subst, arith}
 use Rattle.std.specs.List.{insert, remove}
 use Rattle.std.proofs.lemmas.Bool.{true≢false}
 use Rattle.std.proofs.lemmas.List.Elements.{All-append, All-drop, All-take}
@@ -9,6 +8,7 @@ use Rattle.control_list.specs.Lists.{controls_of}
 use Rattle.def_iface.specs.declared.part.Part.{Part}
 use Rattle.def_iface.specs.declared.taken.Taken.{Taken}
 use Rattle.def_iface.specs.Meaning.{Loan}
+use Rattle.def_iface.specs.Stocked.{SlotView}
 use Rattle.layer_list.specs.declared.layer.Layer.{Layer}
 use Rattle.desk_call.specs.declared.update.Layers.TheVariants.{Controls}
 use Rattle.vis_update.specs.Records.{WindowRecord}
@@ -21,7 +21,7 @@ use Rattle.window_mgr.specs.Relayered.{AreLayersSet}
 use Rattle.control_mgr.specs.ControlDesks.{ControlRecord, ControlsState}
 use Rattle.control_mgr.specs.ControlSteps.{AreLayersOf}
 use Rattle.control_mgr.specs.WholeControls.{AreWholeControls}
-use Rattle.control_mgr.proofs.Added.{all_with}
+use Rattle.control_mgr.proofs.LayerIn.{all_with}
 use Rattle.control_mgr.proofs.Settled.{joined_laid, somewhere_laid}
 
 -- ---- layers that begin with controls'
@@ -56,8 +56,8 @@ whole_relayered window ls ws state whole joined = record {
 }
 
 -- so where the window manager was given these layers
-pub whole_set : {V : Type 0} {H : V → Type 0} (loan : Taken V H → Loan) (window : ℕ) (ls : List Layer) (afresh : Option Part) (was shows : List ℕ → Part → PixelSet) (t u : WindowManager V H) (state : ControlsState)
-    → AreLayersSet window ls afresh (state_showing was (state_of loan t [])) (state_showing shows (state_of loan u [])) → AreWholeControls (desk_of loan t []).windows state
+pub whole_set : {V : Type 0} {H : V → Type 0} (loan : Taken V H → Loan) (window : ℕ) (ls : List Layer) (afresh : Option Part) (was shows : List ℕ → Part → PixelSet) (t u : WindowManager V H) (slots : List SlotView) (state : ControlsState)
+    → AreLayersSet window ls afresh (state_showing was (state_of loan t slots)) (state_showing shows (state_of loan u slots)) → AreWholeControls (desk_of loan t []).windows state
     → AreLayersOf (controls_of window state.controls) ls → AreWholeControls (desk_of loan u []).windows state
-whole_set loan window ls afresh was shows t u state set whole joined =
+whole_set loan window ls afresh was shows t u slots state set whole joined =
     subst (λ ws. AreWholeControls ws state) (sym (ap (λ (d : FullDesk). d.windows) set.desk)) (whole_relayered window ls (desk_of loan t []).windows state whole joined)

@@ -17,6 +17,8 @@ pub mod Tracks
 pub mod Drawn
 pub mod Ended
 pub mod Judging
+pub mod LayerIn
+pub mod LayerOut
 pub mod Added
 pub mod LaidSo
 pub mod Made

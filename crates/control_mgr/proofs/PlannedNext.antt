@@ -1,7 +1,7 @@
 -- What planned changes leave of windows and controls, so that the next one that was planned can be made.
-use Rattle.std.proofs.Common.{◌≡◌, ℕ, ◌+◌, ◌^◌, ◌<◌, ◌≤◌, Bool, true, false, ◌==◌, ◌||◌, cond, List, [], ◌∷◌, ◌++◌, length, Option, Some, None, refl, sym, ap, ◌∙◌, subst, arith}
-use Rattle.std.specs.Prelude.{All, nat_lt, vec_capacity}
-use Rattle.std.specs.List.{insert, list_any}
+use Rattle.std.proofs.Common.{◌≡◌, ℕ, ◌+◌, ◌^◌, ◌<◌, ◌≤◌, Bool, true, false, ◌||◌, cond, List, [], ◌∷◌, length, Option, Some, None, refl, sym, ap, ◌∙◌, subst, arith}
+use Rattle.std.specs.Prelude.{All, IfSome, nat_lt, vec_capacity}
+use Rattle.std.specs.List.{list_any}
 use Rattle.std.proofs.lemmas.Bool.{and_parts, eq-eqb, ltb-true, ne_eqb}
 use Rattle.std.proofs.lemmas.List.{length_push}
 use Rattle.std.proofs.lemmas.List.Edits.{length-insert}
@@ -17,9 +17,8 @@ use Rattle.def_iface.specs.declared.taken_control.TakenControl.{TakenControl}
 use Rattle.def_iface.specs.ControlMeaning.{ControlDefinition, ControlLoan}
 use Rattle.def_iface.specs.Desk.{same_part}
 use Rattle.def_iface.specs.Meaning.{Loan}
-use Rattle.def_iface.specs.Stocked.{SlotView}
 use Rattle.layer_list.specs.declared.layer.Layer.{Layer}
-use Rattle.layer_list.specs.Holders.{PlacedLayers}
+use Rattle.layer_list.specs.Holders.{ArePartsApart, PlacedLayers}
 use Rattle.desk_call.specs.declared.control.ControlOf.{ControlOf}
 use Rattle.desk_call.specs.declared.control.NewControl.{NewControl}
 use Rattle.window_list.specs.declared.window.Window.{Window}
@@ -29,22 +28,22 @@ use Rattle.window_mgr.specs.Edits.{IsWindowAt, StandsAt}
 use Rattle.window_mgr.specs.Kept.{IsKept}
 use Rattle.window_mgr.specs.Records.{desk_of}
 use Rattle.window_mgr.specs.Relayered.{AreLayersPut}
-use Rattle.window_mgr.specs.Whole.{IsWholeManager}
 use Rattle.window_paint.specs.White.{all_white}
 use Rattle.window_mgr.proofs.Contents as contents
 use Rattle.control_mgr.specs.declared.controls.Controls.{Controls}
+use Rattle.control_mgr.specs.declared.ending.Ending.{Ending}
 use Rattle.control_mgr.specs.declared.making.Addition.{Addition}
 use Rattle.control_mgr.specs.declared.making.Ticket.{Ticket}
 use Rattle.control_mgr.specs.ControlDesks.{ControlDesk, ControlRecord, ControlSlot}
 use Rattle.control_mgr.specs.ControlSteps.{IsControlMade, new_control}
-use Rattle.control_mgr.specs.Ending.{IsReadyToEnd}
+use Rattle.control_mgr.specs.Ending.{IsPutIfPlanned, IsReadyToEnd, IsTakenOut, layers_left, update_left}
 use Rattle.control_mgr.specs.Judged.{may_be_placed}
 use Rattle.control_mgr.specs.Making.{IsGrown, IsReadyToAdd, IsTicket, IsTicketAfter, MayGrow}
 use Rattle.control_mgr.specs.Planned.{IsLaidSo}
 use Rattle.control_mgr.specs.WholeControls.{AreBeside, AreWholeControls, LeavesOver, control_desk, controls_state, records_of}
-use Rattle.control_mgr.proofs.Added.{all_with, its, may_grow, none_in_window, others_named}
+use Rattle.control_mgr.proofs.Added.{its, may_grow, none_in_window, others_named}
 use Rattle.control_mgr.proofs.LaidSo.{laid_put, stands_put}
-use Rattle.control_mgr.proofs.Places.{read_is, there_is}
+use Rattle.control_mgr.proofs.LayerIn.{all_with}
 
 -- ---- serials
 
@@ -167,8 +166,24 @@ module _ {V : Type 0} {H : V → Type 0} (loan : Taken V H → Loan) {W : Type 0
 
   pub ending_after : (c : ControlOf) (at : ℕ) (was layers : PlacedLayers) (before update : Pixels) (t u v : WindowManager V H) (m : Controls (TakenControl W K)) → IsLaidSo loan at was before t u → AreLayersPut at layers update u v
       → IsKept loan v → AreBeside control_loan loan v m → StandsAt u.windows.records.items c.window at → IsReadyToEnd loan control_loan c at layers update t v m
-  ending_after c at was layers before update t u v m laid put kept beside stands = record {
-    laid = laid_put loan at was layers before update t u v laid put kept;
+  ending_after c at was layers before update t u v m laid put held beside stands = record {
+    laid = laid_put loan at was layers before update t u v laid put held;
     beside = beside;
     stands = stands_put at layers update u v put laid.has.low c.window stands;
   }
+
+  -- after another control was ended that had to, if it was there
+  pub ending_left : (c : ControlOf) (at n : ℕ) (ls : PlacedLayers) (update : Pixels) (t u v : WindowManager V H) (m m' : Controls (TakenControl W K)) (planned : Option Ending) → IsReadyToEnd loan control_loan c at ls update t u m
+      → IfSome planned (IsTakenOut at n ls) → IsPutIfPlanned planned u v → IsKept loan v → AreBeside control_loan loan v m' → IsReadyToEnd loan control_loan c at (layers_left planned ls) (update_left planned update) t v m'
+  ending_left c at n ls update t u v m m' None ready out put held beside = record {
+    laid = subst (IsLaidSo loan at ls update t) (sym put) ready.laid;
+    beside = beside;
+    stands = subst (λ (x : WindowManager V H). StandsAt x.windows.records.items c.window at) (sym put) ready.stands;
+  }
+  ending_left c at n ls update t u v m m' (Some e) ready out put held beside =
+      ending_after c at ls e.layers update e.relaying.update t u v m' ready.laid (subst (λ k. AreLayersPut k e.layers e.relaying.update u v) out.window put) held beside ready.stands
+
+-- layers of which one was to be taken out are apart still
+pub apart_left : (at n : ℕ) (ls : PlacedLayers) (planned : Option Ending) → ArePartsApart ls.layers → IfSome planned (IsTakenOut at n ls) → ArePartsApart (layers_left planned ls).layers
+apart_left at n ls None apart out = apart
+apart_left at n ls (Some e) apart out = out.apart

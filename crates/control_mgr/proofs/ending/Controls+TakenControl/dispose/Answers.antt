@@ -1,4 +1,4 @@
-use Rattle.std.proofs.Common.{◌≡◌, false, rules}
+use Rattle.std.proofs.Common.{false, rules}
 use Rattle.def_iface.specs.contracts.taken_control.TakenControlDefinedControl.TheImpl as control
 use Rattle.window_mgr.specs.Edits.{IsWindowAt}
 use Rattle.window_mgr.proofs.Contents.{layers_apart}
