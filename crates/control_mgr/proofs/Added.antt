@@ -1,11 +1,8 @@
 -- A control that is made: its layer behind those of the other controls of its window, and the plan.
-use Rattle.std.proofs.Common.{◌≡◌, ℕ, zero, suc, ◌<◌, ◌≤◌, Bool, true, false, ◌&&◌, ◌||◌, cond, List, [], ◌∷◌, length, get_or, take, drop, Option, Some, refl, sym, ap, ◌∙◌, subst, arith}
+use Rattle.std.proofs.Common.{◌≡◌, ℕ, ◌<◌, ◌≤◌, Bool, true, false, ◌||◌, cond, List, [], ◌∷◌, length, Option, Some, refl, sym, ap, ◌∙◌, subst}
 use Rattle.std.specs.Prelude.{All}
-use Rattle.std.specs.List.{insert, list_all, list_any}
-use Rattle.std.proofs.lemmas.Bool.{and_parts}
-use Rattle.std.proofs.lemmas.List.Edits.{get_or-insert_at, length-insert}
-use Rattle.std.proofs.lemmas.List.Elements.{All-append, All-cons, All-drop, All-head, All-tail, All-take, All-weaker}
-use Rattle.std.proofs.lemmas.List.Kept.{AllPairs-cons}
+use Rattle.std.specs.List.{insert, list_any}
+use Rattle.std.proofs.lemmas.List.Elements.{All-cons, All-weaker}
 use Rattle.tb_geom.specs.declared.point.Point.{Point}
 use Rattle.tb_geom.specs.Points.{minus}
 use Rattle.tb_geom.specs.Pixels.{Pixels, holds}
@@ -25,7 +22,6 @@ use Rattle.layer_list.specs.declared.layer.Shape.{Shape}
 use Rattle.layer_list.specs.declared.layers.Relaid.{Relaid}
 use Rattle.layer_list.specs.Changes.{is_gained}
 use Rattle.layer_list.specs.Holders.{ArePartsApart, IsLayerAt, PlacedLayers, fits_at}
-use Rattle.layer_list.proofs.Parts.{front_apart, same_part-turned}
 use Rattle.desk_call.specs.declared.control.NewControl.{NewControl}
 use Rattle.desk_call.specs.declared.update.Layers.TheVariants as kinds
 use Rattle.vis_update.specs.declared.relaying.Relaying.{Relaying}
@@ -35,7 +31,6 @@ use Rattle.window_mgr.specs.declared.manager.WindowManager.{WindowManager}
 use Rattle.window_mgr.specs.Edits.{IsWindowAt}
 use Rattle.window_mgr.specs.Kept.{IsKept}
 use Rattle.window_mgr.specs.Relayered.{HasUpdate, IsGainedAt, IsPartAt, IsPlanOfLayers, MayHaveLayers}
-use Rattle.window_mgr.specs.Whole.{IsSettled}
 use Rattle.window_mgr.proofs.Contents as contents
 use Rattle.control_mgr.specs.declared.controls.Controls.{Controls}
 use Rattle.control_mgr.specs.declared.laying.Lie.{Lie}
@@ -47,6 +42,7 @@ use Rattle.control_mgr.specs.Laying.{IsShapeOf, MayLieSo}
 use Rattle.control_mgr.specs.Making.{IsAddition, IsGrown, IsReadyToAdd, IsTicket, MayGrow}
 use Rattle.control_mgr.specs.WholeControls.{AreBeside, records_of}
 use Rattle.control_mgr.proofs.Edited.{AreNoControls, begin_length, no_control}
+use Rattle.control_mgr.proofs.LayerIn.{apart_in, low_in, may_in, planned_in}
 use Rattle.control_mgr.proofs.Lays.{MayLieAt, lie_parts}
 use Rattle.control_mgr.proofs.Places.{at_window, there_is, read_is}
 
@@ -75,41 +71,6 @@ others_named n (c ∷ cs) [] h e = absurd h
 others_named n (c ∷ cs) (l ∷ ls) h e =
     let both = or_parts (has_serial n c) (list_any (has_serial n) cs) e in
     All-cons (λ (l : Layer). same_part l.part (part.Control n) ≡ false) l ls (ap (λ q. same_part q (part.Control n)) h.0.part ∙ both.0) (others_named n cs ls h.1 both.1)
-
--- what holds of each layer, and of one more, holds where that is put in
-all_with : (P : Layer → Type 0) (i : ℕ) (ls : List Layer) (own : Layer) → All P ls → P own → All P (insert ls i own)
-all_with P i ls own h new = All-append P (take i ls) (own ∷ drop i ls) (All-take P i ls h) (All-cons P own (drop i ls) new (All-drop P i ls h))
-
-apart_front : (ls : List Layer) (own : Layer) → ArePartsApart ls → same_part own.part part.Picture ≡ false → All (λ l. same_part l.part own.part ≡ false) ls → ArePartsApart (own ∷ ls)
-apart_front ls own h e others = (
-  All-cons (λ (l : Layer). same_part l.part part.Picture ≡ false) own ls e h.0,
-  AllPairs-cons (λ (k l : Layer). same_part k.part l.part ≡ false) own ls
-      (All-weaker (λ (l : Layer). same_part l.part own.part ≡ false) (λ (l : Layer). same_part own.part l.part ≡ false) (λ l its. same_part-turned own.part l.part ∙ its) ls others) h.1,
-)
-
-apart_with : (i : ℕ) (ls : List Layer) (own : Layer) → ArePartsApart ls → same_part own.part part.Picture ≡ false → All (λ l. same_part l.part own.part ≡ false) ls → ArePartsApart (insert ls i own)
-apart_with zero ls own h e others = apart_front ls own h e others
-apart_with (suc i) [] own h e others = apart_front [] own h e others
-apart_with (suc i) (l ∷ ls) own h e others =
-    let front = front_apart l ls h in
-    let rest = apart_with i ls own front.rest e (All-tail (λ (k : Layer). same_part k.part own.part ≡ false) l ls others) in (
-      All-cons (λ (k : Layer). same_part k.part part.Picture ≡ false) l (insert ls i own) front.picture rest.0,
-      AllPairs-cons (λ (j k : Layer). same_part j.part k.part ≡ false) l (insert ls i own)
-          (all_with (λ (k : Layer). same_part l.part k.part ≡ false) i ls own front.others (All-head (λ (k : Layer). same_part k.part own.part ≡ false) l ls others)) rest.1,
-    )
-
-fit_with : (place : Point) (i : ℕ) (ls : List Layer) (own : Layer) → list_all (fits_at place) ls ≡ true → fits_at place own ≡ true → list_all (fits_at place) (insert ls i own) ≡ true
-fit_with place zero ls own fit e = λ t. e t && fit t
-fit_with place (suc i) [] own fit e = λ t. e t && true
-fit_with place (suc i) (l ∷ ls) own fit e =
-    let parts = and_parts (fits_at place l) (list_all (fits_at place) ls) fit in
-    let rest = fit_with place i ls own parts.1 e in (λ t. parts.0 t && rest t)
-
--- what stands at a place is one
-pub one_read : {X : Type 0} (xs : List X) (i : ℕ) (x y : X) → i < length xs → x ≡ get_or xs i x → y ≡ get_or xs i y → x ≡ y
-one_read [] i x y low e f = absurd (omega arith)
-one_read (z ∷ zs) zero x y low e f = e ∙ sym f
-one_read (z ∷ zs) (suc i) x y low e f = one_read zs i x y (omega arith) e f
 
 -- how a new control lies
 abbrev pub lie_of : NewControl → Lie
@@ -142,25 +103,11 @@ module _ (n : NewControl) (d : ControlDefinition) (k : Ticket) (ls : PlacedLayer
     own_is slot = record { part = refl; shown = shaped.shown; region = shaped.region; bounds = shaped.bounds }
 
     module _ (relaid : Relaid) (layers_are : relaid.layers ≡ record ls { layers = insert ls.layers k.layer own }) where
-      abbrev new : List Layer
-      new = relaid.layers.layers
+      pub new_low : k.layer < length relaid.layers.layers
+      new_low = low_in ls k.layer own may.index relaid layers_are
 
-      inserted : new ≡ insert ls.layers k.layer own
-      inserted = ap (λ (x : PlacedLayers). x.layers) layers_are
-
-      pub new_low : k.layer < length new
-      new_low =
-          let many = ap length inserted ∙ length-insert ls.layers k.layer own may.index in
-          let low = may.index in omega arith
-
-      pub new_apart : ArePartsApart new
-      new_apart = subst ArePartsApart (sym inserted) (apart_with k.layer ls.layers own may.apart refl may.unused)
-
-      own_read : own ≡ get_or new k.layer own
-      own_read = sym (ap (λ xs. get_or xs k.layer own) inserted ∙ get_or-insert_at ls.layers k.layer own own may.index)
-
-      part_is : (afresh : Option Part) → IsPartAt new (Some k.layer) afresh → afresh ≡ Some (part.Control k.serial)
-      part_is afresh h = h own own_read
+      pub new_apart : ArePartsApart relaid.layers.layers
+      new_apart = apart_in ls k.layer own may.index relaid layers_are may.apart refl may.unused
 
       pub grown : (r : Relaying) → IsGrown n d k ls (record { ticket = k; layers = relaid.layers; relaying = r })
       grown r = record { ticket = refl; layer = own; is = own_is; layers = layers_are; apart = new_apart }
@@ -168,55 +115,21 @@ module _ (n : NewControl) (d : ControlDefinition) (k : Ticket) (ls : PlacedLayer
       -- the windows and controls to which it is added
       module _ {V : Type 0} {H : V → Type 0} (loan : Taken V H → Loan) {W : Type 0} {K : W → Type 0} (control_loan : TakenControl W K → ControlLoan) (update : Pixels) (t u : WindowManager V H)
           (m : Controls (TakenControl W K)) (ready : IsReadyToAdd loan control_loan n d k ls update t u m) where
-        abbrev kept : IsKept loan u
-        kept = ready.laid.has.kept
-
-        -- the layers lie where the window does
-        placed_there : (w : Window V H) → IsWindowAt u.windows.records.items k.window w → ls.place ≡ w.place
-        placed_there w lies =
-            ap (λ (x : PlacedLayers). x.place) (sym (ready.laid.layers w lies))
-            ∙ contents.layers_there loan u kept.slots kept.whole k.window ready.laid.has.low w lies (λ font q p. false)
-
-        may_have : MayHaveLayers k.window u relaid.layers
-        may_have = record {
-          apart = new_apart;
-          there = λ w lies. ap (λ (x : PlacedLayers). x.place) layers_are ∙ placed_there w lies;
-          fit = (λ i. list_all (fits_at (ap (λ (x : PlacedLayers). x.place) layers_are i)) (inserted i)) ∙ fit_with ls.place k.layer ls.layers own fit_there own_fits;
-        }
-          where
-            fit_there : list_all (fits_at ls.place) ls.layers ≡ true
-            fit_there =
-                let windows = there_is u.windows.records.items k.window ready.laid.has.low in
-                let w : Window V H = windows.item in
-                let lies : IsWindowAt u.windows.records.items k.window w = read_is u.windows.records.items k.window w windows.there in
-                (λ i. list_all (fits_at (placed_there w lies i)) (sym (ready.laid.layers w lies) i).layers)
-                ∙ (at_window loan IsSettled u.windows.records.items k.window w ready.laid.has.low lies kept.whole.sound.settled).layers
-
-        gained_at : ((p : Point) → holds relaid.gained p ≡ is_gained (Some (part.Control k.serial)) ls.layers new (minus p ls.place))
-            → (afresh : Option Part) → IsPartAt new (Some k.layer) afresh → IsGainedAt k.window afresh u relaid
-        gained_at gains afresh h w lies p =
-            gains p
-            ∙ ap (λ o. is_gained o ls.layers new (minus p ls.place)) (sym (part_is afresh h))
-            ∙ (λ i. is_gained afresh (sym (ready.laid.layers w lies) i).layers new (minus p (placed_there w lies i)))
-
         -- the plan of it
-        pub added_is : ((p : Point) → holds relaid.gained p ≡ is_gained (Some (part.Control k.serial)) ls.layers new (minus p ls.place)) → (r : Relaying)
+        pub added_is : ((p : Point) → holds relaid.gained p ≡ is_gained (Some (part.Control k.serial)) ls.layers relaid.layers.layers (minus p ls.place)) → (r : Relaying)
             → ((v : WindowManager V H) → HasUpdate loan k.window update t v → MayHaveLayers k.window v relaid.layers
-            → (afresh : Option Part) → IsPartAt new (Some k.layer) afresh → IsGainedAt k.window afresh v relaid → IsPlanOfLayers loan k.window new afresh v r)
+            → (afresh : Option Part) → IsPartAt relaid.layers.layers (Some k.layer) afresh → IsGainedAt k.window afresh v relaid → IsPlanOfLayers loan k.window relaid.layers.layers afresh v r)
             → IsAddition loan control_loan n d u m (record { ticket = k; layers = relaid.layers; relaying = r })
         added_is gains r planned = record {
           ticket = ready.ticket;
           layer = own;
           is = own_is;
-          layers = λ w lies. inserted ∙ ap (λ (x : PlacedLayers). insert x.layers k.layer own) (sym (ready.laid.layers w lies));
+          layers = λ w lies. ap (λ (x : PlacedLayers). x.layers) layers_are ∙ ap (λ (x : PlacedLayers). insert x.layers k.layer own) (sym (ready.laid.layers w lies));
           low = new_low;
-          may = may_have;
-          planned = planned u ready.laid.has may_have (Some (part.Control k.serial)) here (gained_at gains (Some (part.Control k.serial)) here);
+          may = may_in ls k.layer own may.index relaid layers_are loan k.window update t u ready.laid new_apart own_fits;
+          planned = planned_in ls k.layer own may.index relaid layers_are loan k.window update t u ready.laid new_apart own_fits gains r planned;
           room = ready.room;
         }
-          where
-            here : IsPartAt new (Some k.layer) (Some (part.Control k.serial))
-            here l l_is = sym (part_is (Some l.part) (λ j j_is. ap (λ (x : Layer). Some x.part) (one_read new k.layer l j new_low l_is j_is)))
 
 -- ---- a control that may be planned
 

@@ -1,15 +1,13 @@
 -- A window that has planned layers: as it is, and once other layers were put.
-use Rattle.std.proofs.Common.{◌≡◌, ℕ, ◌<◌, length, get_or, set, refl, sym, ap, ◌∙◌, subst}
-use Rattle.std.specs.Vec.{with_item}
+use Rattle.std.proofs.Common.{◌≡◌, ℕ, ◌<◌, length, get_or, set, sym, ap, ◌∙◌, subst}
 use Rattle.std.proofs.lemmas.List.{get_or-set_same, length-set}
-use Rattle.tb_geom.specs.declared.point.Point.{Point}
 use Rattle.tb_geom.specs.Pixels.{Pixels, holds}
 use Rattle.def_iface.specs.declared.taken.Taken.{Taken}
 use Rattle.def_iface.specs.Meaning.{Loan}
 use Rattle.layer_list.specs.Holders.{PlacedLayers}
 use Rattle.vis_update.specs.declared.area.Area.{Area}
 use Rattle.window_list.specs.declared.window.Window.{Window}
-use Rattle.window_list.specs.Lists.{edit, with_layers}
+use Rattle.window_list.specs.Lists.{with_layers}
 use Rattle.window_list.proofs.ListLemmas.{set_is_edit}
 use Rattle.window_mgr.specs.declared.manager.WindowManager.{WindowManager}
 use Rattle.window_mgr.specs.Edits.{IsWindowAt, StandsAt}
@@ -17,7 +15,7 @@ use Rattle.window_mgr.specs.Kept.{IsKept}
 use Rattle.window_mgr.specs.Relayered.{AreLayersPut, HasUpdate}
 use Rattle.window_mgr.proofs.Remarked as remarked
 use Rattle.control_mgr.specs.Planned.{IsLaidSo}
-use Rattle.control_mgr.proofs.Added.{one_read}
+use Rattle.control_mgr.proofs.LayerIn.{one_read}
 use Rattle.control_mgr.proofs.Places.{read_is, there_is}
 
 -- ---- the window as it is
@@ -59,9 +57,9 @@ module _ {V : Type 0} {H : V → Type 0} (at : ℕ) (layers : PlacedLayers) (upd
   stands_put s stands = (
     low_put,
     λ x is.
-      let w = there_is u.windows.records.items at low in
-      let lies = read_is u.windows.records.items at w.item w.there in
-      ap (λ (y : Window V H). y.serial) (window_put w.item x lies is) ∙ stands.1 w.item lies,
+        let w = there_is u.windows.records.items at low in
+        let lies = read_is u.windows.records.items at w.item w.there in
+        ap (λ (y : Window V H). y.serial) (window_put w.item x lies is) ∙ stands.1 w.item lies,
   )
 
   -- and lies where it lay

@@ -17,11 +17,15 @@ pub mod Tracks
 pub mod Drawn
 pub mod Ended
 pub mod Judging
+pub mod LayerIn
+pub mod LayerOut
 pub mod Added
 pub mod LaidSo
 pub mod Made
 pub mod NewSteps
 pub mod Planned
+pub mod PlannedNext
+pub mod FurtherLayers
 pub mod Disposed
 pub mod TakenOut
 pub mod Presses

@@ -49,9 +49,10 @@ use Rattle.control_mgr.specs.InUse.{AreStocked}
 use Rattle.control_mgr.specs.Making.{IsAddition}
 use Rattle.control_mgr.specs.Settled.{AreSettled, IsSettledControl}
 use Rattle.control_mgr.specs.WholeControls.{AreApart, AreBeside, AreWholeControls, LeavesOver, controls_state, records_of, slots_of}
-use Rattle.control_mgr.proofs.Added.{its, may_grow, may_lie_so, one_read, or_parts, unused}
+use Rattle.control_mgr.proofs.Added.{its, may_grow, may_lie_so, or_parts, unused}
 use Rattle.control_mgr.proofs.Edited.{AreNoControls, begin_behind, behind_inserted}
 use Rattle.control_mgr.proofs.Judging.{window_is}
+use Rattle.control_mgr.proofs.LayerIn.{one_read}
 use Rattle.control_mgr.proofs.Lays.{AreSetFor}
 use Rattle.control_mgr.proofs.Places.{layers_named, there_is, read_is}
 use Rattle.control_mgr.proofs.Reshown.{alone, one_control, set_among}

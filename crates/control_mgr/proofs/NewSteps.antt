@@ -1,5 +1,5 @@
 -- The step of a call that makes a control: done, or refused with the definition back in its slot.
-use Rattle.std.proofs.Common.{◌≡◌, ⊎_elim, inl, inr, ℕ, zero, suc, Bool, true, false, not, ◌||◌, cond, List, [], ◌∷◌, ◌++◌, Option, Some, None, Ok, Err, refl, sym, ap, ◌∙◌, subst, arith}
+use Rattle.std.proofs.Common.{◌≡◌, ⊎_elim, inl, inr, ℕ, zero, suc, Bool, true, false, not, ◌||◌, cond, List, [], ◌∷◌, ◌++◌, Some, None, Ok, Err, refl, sym, ap, ◌∙◌, subst, arith}
 use Rattle.std.specs.Prelude.{IfSome, is_none, slice_get, slice_set}
 use Rattle.std.specs.Option.{option_and_then}
 use Rattle.std.proofs.lemmas.Slice.Eq.{bytes_eq-Decides}
@@ -100,10 +100,10 @@ module _ (n : NewControl) (desk : FullDesk) (s : ControlsState) (has : has_kind 
 
 module _ {V : Type 0} {H : V → Type 0} (loan : Taken V H → Loan) {W : Type 0} {K : W → Type 0} (control_loan : TakenControl W K → ControlLoan) where
   -- where nothing but the room for controls changed, the controls are the same, and the desk
-  state_same : (m planned : Controls (TakenControl W K)) → IsRoomier m planned → (kept left : List ControlSlot) → left ≡ kept → controls_state control_loan planned left ≡ controls_state control_loan m kept
+  pub state_same : (m planned : Controls (TakenControl W K)) → IsRoomier m planned → (kept left : List ControlSlot) → left ≡ kept → controls_state control_loan planned left ≡ controls_state control_loan m kept
   state_same m planned same kept left e = λ i. record { controls = all_seen control_loan (same.controls i); next = same.next i; stock = e i }
 
-  desk_same : (others : List ℕ → Part → PixelSet) (t : WindowManager V H) (o : Opened) (slots : List SlotView) (m planned : Controls (TakenControl W K)) → IsRoomier m planned → (kept left : List ControlSlot) → left ≡ kept
+  pub desk_same : (others : List ℕ → Part → PixelSet) (t : WindowManager V H) (o : Opened) (slots : List SlotView) (m planned : Controls (TakenControl W K)) → IsRoomier m planned → (kept left : List ControlSlot) → left ≡ kept
       → control_desk control_loan loan others t o slots planned left ≡ control_desk control_loan loan others t o slots m kept
   desk_same others t o slots m planned same kept left e = λ i. record {
     desk = desk_with o (state_showing (controls_show others (all_seen control_loan (same.controls i))) (state_of loan t slots));

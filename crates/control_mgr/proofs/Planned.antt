@@ -1,5 +1,5 @@
 -- Controls that are planned: for the windows and controls as they are, and for those that earlier changes leave.
-use Rattle.std.proofs.Common.{◌≡◌, ℕ, ◌+◌, ◌<◌, ◌≤◌, List, [], length, get_or, Option, Some, refl, sym, ap, ◌∙◌, subst, arith}
+use Rattle.std.proofs.Common.{◌≡◌, ◌+◌, ◌≤◌, List, [], length, get_or, Option, Some, sym, ap, ◌∙◌, arith}
 use Rattle.std.specs.Prelude.{vec_capacity}
 use Rattle.control_list.specs.Seen.{all_seen}
 use Rattle.control_list.specs.Lists.{count_of}
@@ -22,7 +22,7 @@ use Rattle.control_mgr.specs.ControlDesks.{ControlSlot}
 use Rattle.control_mgr.specs.Ending.{IsReadyToEnd}
 use Rattle.control_mgr.specs.Making.{IsReadyToAdd, IsRoomier, IsTicket}
 use Rattle.control_mgr.specs.Spots.{IsSpotOf}
-use Rattle.control_mgr.specs.WholeControls.{AreBeside, AreWholeControls, controls_state, records_of}
+use Rattle.control_mgr.specs.WholeControls.{AreBeside, AreWholeControls, controls_state}
 use Rattle.control_mgr.proofs.LaidSo.{laid_now}
 use Rattle.control_mgr.proofs.NewSteps.{beside_planned}
 

@@ -1,6 +1,6 @@
 -- The layer of a control that is to end: where it stands among its window's, and the plan without it.
-use Rattle.std.proofs.Common.{◌≡◌, ℕ, ◌+◌, ◌<◌, Bool, true, false, ◌==◌, cond, List, [], ◌∷◌, length, Option, Some, None, refl, sym, ap, ◌∙◌, subst, arith}
-use Rattle.std.specs.Prelude.{IfSome, MatchOption, is_none, slice_get}
+use Rattle.std.proofs.Common.{◌≡◌, ℕ, ◌+◌, ◌<◌, Bool, true, false, ◌==◌, cond, List, [], ◌∷◌, length, Option, Some, None, refl, sym, ap, ◌∙◌, subst}
+use Rattle.std.specs.Prelude.{IfSome, is_none, slice_get}
 use Rattle.std.specs.List.{position, position_from, remove}
 use Rattle.std.specs.Option.{option_map, option_map_or}
 use Rattle.std.proofs.lemmas.Bool.{false≢true}
@@ -23,7 +23,6 @@ use Rattle.layer_list.specs.declared.layer.Layer.{Layer}
 use Rattle.layer_list.specs.declared.layers.Relaid.{Relaid}
 use Rattle.layer_list.specs.Changes.{is_gained}
 use Rattle.layer_list.specs.Holders.{ArePartsApart, PlacedLayers}
-use Rattle.layer_list.proofs.Parts.{remove_apart}
 use Rattle.desk_call.specs.declared.control.ControlOf.{ControlOf}
 use Rattle.desk_call.specs.declared.update.Layers.TheVariants as kinds
 use Rattle.vis_update.specs.declared.relaying.Relaying.{Relaying}
@@ -32,9 +31,7 @@ use Rattle.window_paint.specs.Kinds.{is_of}
 use Rattle.window_mgr.specs.declared.manager.WindowManager.{WindowManager}
 use Rattle.window_mgr.specs.Edits.{IsWindowAt}
 use Rattle.window_mgr.specs.Kept.{IsKept}
-use Rattle.window_mgr.specs.Records.{desk_of}
 use Rattle.window_mgr.specs.Relayered.{HasUpdate, IsGainedAt, IsPartAt, IsPlanOfLayers, MayHaveLayers}
-use Rattle.window_mgr.proofs.Contents as contents
 use Rattle.window_mgr.proofs.Steps.{found}
 use Rattle.control_mgr.specs.declared.controls.Controls.{Controls}
 use Rattle.control_mgr.specs.declared.ending.Ending.{Ending}
@@ -44,8 +41,8 @@ use Rattle.control_mgr.specs.ControlSteps.{AreLayersOf}
 use Rattle.control_mgr.specs.Ending.{IsEnding, IsReadyToEnd, IsTakenOut, layer_index}
 use Rattle.control_mgr.specs.Spots.{IsSpotOf}
 use Rattle.control_mgr.specs.WholeControls.{records_of}
-use Rattle.control_mgr.proofs.Disposed as ending
 use Rattle.control_mgr.proofs.Edited.{AreNoControls, no_control}
+use Rattle.control_mgr.proofs.LayerOut.{apart_out, may_out, planned_out}
 use Rattle.control_mgr.proofs.Places.{at_window, read_is, there_is, within}
 
 -- ---- where it stands
@@ -69,9 +66,6 @@ index_further n i (c ∷ cs) (l ∷ ls) h =
 -- where its control stands among the window's
 pub index_among : (n : ℕ) (cs : List ControlRecord) (ls : List Layer) → AreLayersOf cs ls → layer_index n ls ≡ position (has_serial n) cs
 index_among n cs ls h = position_from-zero (is_its n) ls ∙ index_further n 0 cs ls h ∙ sym (position_from-zero (has_serial n) cs)
-
-pub no_and_some : (o : Option ℕ) (i : ℕ) → o ≡ None → o ≡ Some i → ⊥
-no_and_some o i e f = absurd (cc)
 
 none_found : (o : Option ℕ) (cs : List ControlRecord) → option_map (λ at. place_among at cs) o ≡ None → o ≡ None
 none_found None cs e = refl
@@ -141,46 +135,22 @@ module _ {V : Type 0} {H : V → Type 0} (loan : Taken V H → Loan) {W : Type 0
       layers_of : (v : Window V H) → IsWindowAt u.windows.records.items at v → relaid.layers ≡ record v.layers { layers = remove v.layers.layers (place_among its.0 m.list.controls.items) }
       layers_of v v_is = layers_are ∙ (λ j. record (sym (ready.laid.layers v v_is) j) { layers = remove (sym (ready.laid.layers v v_is) j).layers (place_is j) })
 
-      may_have : MayHaveLayers at u relaid.layers
-      may_have = ending.may_have loan control_loan c u m spot spot_is kept ready.beside.whole.joined w lies (place_among its.0 m.list.controls.items) refl relaid.layers (layers_of w lies)
-
-      gained_at : ((p : Point) → holds relaid.gained p ≡ is_gained None ls.layers relaid.layers.layers (minus p ls.place)) → IsGainedAt at None u relaid
-      gained_at gains v v_is p =
-          gains p
-          ∙ ap (λ (x : PlacedLayers). is_gained None x.layers relaid.layers.layers (minus p x.place)) (sym (ready.laid.layers v v_is))
-          ∙ ap (λ place. is_gained None v.layers.layers relaid.layers.layers (minus p place)) (contents.layers_there loan u kept.slots kept.whole at low v v_is (λ font q p. false))
-
-      pub ending_is : ((p : Point) → holds relaid.gained p ≡ is_gained None ls.layers relaid.layers.layers (minus p ls.place)) → (r : Relaying)
+      pub ending_is : i < length ls.layers → ArePartsApart ls.layers → ((p : Point) → holds relaid.gained p ≡ is_gained None ls.layers relaid.layers.layers (minus p ls.place)) → (r : Relaying)
           → ((v : WindowManager V H) → HasUpdate loan at update t v → MayHaveLayers at v relaid.layers
           → (afresh : Option Part) → IsPartAt relaid.layers.layers None afresh → IsGainedAt at afresh v relaid → IsPlanOfLayers loan at relaid.layers.layers afresh v r)
           → IsEnding loan control_loan c u m (record { window = at; layers = relaid.layers; relaying = r })
-      ending_is gains r planned = record {
+      ending_is inside apart gains r planned = record {
         at = its.0;
         spot = spot_is;
         layers = layers_of;
-        may = may_have;
-        planned = planned u ready.laid.has may_have None refl (gained_at gains);
+        may = may_out ls i inside apart relaid.layers layers_are loan at update t u ready.laid;
+        planned = planned_out ls i inside apart relaid.layers layers_are loan at update t u ready.laid relaid.gained gains r planned;
       }
 
--- the layers without it are apart
-pub apart_out : (i : ℕ) (ls layers : PlacedLayers) → i < length ls.layers → ArePartsApart ls.layers → layers ≡ record ls { layers = remove ls.layers i } → ArePartsApart layers.layers
-apart_out i ls layers low apart layers_are = subst (λ (x : PlacedLayers). ArePartsApart x.layers) (sym layers_are) (remove_apart ls.layers i low apart)
-
+-- the layers without it
 pub taken_out : (at n i : ℕ) (ls layers : PlacedLayers) (r : Relaying) → layer_index n ls.layers ≡ Some i → i < length ls.layers → ArePartsApart ls.layers
     → layers ≡ record ls { layers = remove ls.layers i } → IsTakenOut at n ls (record { window = at; layers = layers; relaying = r })
-taken_out at n i ls layers r is low apart layers_are = record { window = refl; index = i; found = is; layers = layers_are; apart = apart_out i ls layers low apart layers_are }
-
--- ---- what was planned
-
-module _ {V : Type 0} {H : V → Type 0} (loan : Taken V H → Loan) {W : Type 0} {K : W → Type 0} (control_loan : TakenControl W K → ControlLoan)
-    (c : ControlOf) (t : WindowManager V H) (m : Controls (TakenControl W K)) (planned : Option Ending) where
-  -- the end of a control that is there
-  pub planned_there : (e : Ending) → MatchOption planned (index_of c (records_of control_loan m) ≡ None) (IsEnding loan control_loan c t m) → planned ≡ Some e → IsEnding loan control_loan c t m e
-  planned_there e its is = subst (λ o. MatchOption o (index_of c (records_of control_loan m) ≡ None) (IsEnding loan control_loan c t m)) is its
-
-  -- or nothing
-  pub planned_none : MatchOption planned (index_of c (records_of control_loan m) ≡ None) (IsEnding loan control_loan c t m) → planned ≡ None → index_of c (records_of control_loan m) ≡ None
-  planned_none its is = subst (λ o. MatchOption o (index_of c (records_of control_loan m) ≡ None) (IsEnding loan control_loan c t m)) is its
+taken_out at n i ls layers r is low apart layers_are = record { window = refl; index = i; found = is; layers = layers_are; apart = apart_out ls i low apart layers layers_are }
 
 -- ---- the control is found again
 

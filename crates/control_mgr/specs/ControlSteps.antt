@@ -175,6 +175,15 @@ pub record IsControlDisposed (c : ControlOf) (before after : ControlDesk) : Type
   pub laid : AreControlsLaid c.window None before after
   pub activity : SameActivity before.desk after.desk
 
+-- the control that stands here, if one does, was disposed of
+abbrev pub IsEndedAt : Option ℕ → ControlOf → ControlDesk → ControlDesk → Type 0
+IsEndedAt None c before after = after ≡ before
+IsEndedAt (Some at) c before after = IsControlDisposed c before after
+
+-- so was the control, if it is there
+abbrev pub IsEndedIfThere : ControlOf → ControlDesk → ControlDesk → Type 0
+IsEndedIfThere c before after = IsEndedAt (index_of c before.controls.controls) c before after
+
 -- ---- what is asked
 
 -- what is told of a control

@@ -1,12 +1,13 @@
 -- Controls that are made, as the code does it.
-use Rattle.std.specs.Prelude.{◌≡◌, ◌⊎◌, ℕ, ◌<◌, ◌≤◌, true, false, All, [], length, Option, None, Some, vec_capacity}
+use Rattle.std.specs.Prelude.{◌≡◌, ◌⊎◌, ℕ, ◌+◌, ◌<◌, ◌≤◌, true, false, All, [], length, Option, None, Some, vec_capacity}
 use Rattle.std.specs.List.{insert}
+use Rattle.tb_geom.specs.declared.point.Point.{Point}
 use Rattle.tb_geom.specs.declared.refusal.Refusal.{Refusal}
 use Rattle.tb_geom.specs.declared.refusal.Refusal.TheVariants.{NoMemory}
 use Rattle.tb_geom.specs.Pixels.{Pixels}
 use Rattle.tb_geom.specs.Refusals.{first_refusal}
 use Rattle.control_values.specs.Settings.{settled}
-use Rattle.control_list.specs.Lists.{count_of}
+use Rattle.control_list.specs.Lists.{count_of, serial_after}
 use Rattle.def_iface.specs.declared.part.Part.TheVariants as part
 use Rattle.def_iface.specs.declared.taken.Taken.{Taken}
 use Rattle.def_iface.specs.declared.taken_control.TakenControl.{TakenControl}
@@ -93,3 +94,13 @@ module _ {V : Type 0} {H : V → Type 0} (loan : Taken V H → Loan) {W : Type 0
     pub may : MayHaveLayers a.ticket.window t a.layers
     pub planned : IsPlanOfLayers loan a.ticket.window a.layers.layers (Some (part.Control a.ticket.serial)) t a.relaying
     pub room : length m.list.controls.items < vec_capacity m.list.controls
+
+-- a ticket of the control that is added to the same window next after one with the ticket `k`, where the window's layers have this
+-- place: it has the serial after that, and the layer behind
+pub record IsTicketAfter (k : Ticket) (place : Point) (n : NewControl) (d : Option ControlDefinition) (l : Ticket) : Type 0 where
+  pub window : l.window ≡ k.window
+  pub placed : may_be_placed d n.place n.size place ≡ true
+  pub serial : serial_after k.serial ≡ Some l.serial
+  pub values : l.values ≡ settled n.minimum n.maximum n.value
+  pub title : l.title ≡ n.title
+  pub layer : l.layer ≡ k.layer + 1

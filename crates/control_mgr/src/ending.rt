@@ -1,5 +1,5 @@
 //! Controls that are ended: planned with all growth, and then ended, which takes no memory.
-ghost use Rattle.std.specs.Prelude.{◌≡◌, ◌<◌, [], None, Some, IfOk, IfSome, MatchOption, length};
+ghost use Rattle.std.specs.Prelude.{◌≡◌, ◌<◌, [], IfOk, IfSome, length};
 ghost use Rattle.def_iface.specs.Desk.{same_part};
 ghost use Rattle.def_iface.specs.declared.part.Part.TheVariants as parts;
 ghost use Rattle.layer_list.specs.Holders.{ArePartsApart};
@@ -8,9 +8,8 @@ ghost use Rattle.window_mgr.specs.DeskStates.{Opened};
 ghost use Rattle.window_mgr.specs.Kept.{IsKept};
 ghost use Rattle.window_mgr.specs.Records.{desk_of};
 ghost use Rattle.window_mgr.specs.Relayered.{AreLayersPut};
-ghost use Rattle.control_mgr.specs.ControlDesks.{index_of};
-ghost use Rattle.control_mgr.specs.ControlSteps.{IsControlDisposed, IsControlStep};
-ghost use Rattle.control_mgr.specs.Ending.{IsEnding, IsReadyToEnd, IsTakenOut, layer_index};
+ghost use Rattle.control_mgr.specs.ControlSteps.{IsControlDisposed, IsControlStep, IsEndedIfThere};
+ghost use Rattle.control_mgr.specs.Ending.{IsEnding, IsPlannedEnd, IsPutIfPlanned, IsReadyToEnd, IsTakenOut, layer_index, layers_left, update_left};
 ghost use Rattle.control_mgr.specs.WholeControls.{AreWholeControls, LeavesOver, controls_state, records_of};
 
 use crate::Controls;
@@ -34,6 +33,26 @@ pub struct Ending {
     pub layers: Layers,
     /// With the update region that the window then has.
     pub relaying: Relaying,
+}
+
+/// The layers that a window has once a control that is to end, if one is, was ended, where it has these before.
+pub fn layers_left<'a>(planned: &'a Option<Ending>, layers: &'a Layers) -> &'a Layers
+    ensures { result.now ≡ layers_left planned.now layers.now }
+{
+    match planned {
+        Some(ending) => &ending.layers,
+        None => layers,
+    }
+}
+
+/// The update region that a window has once a control that is to end, if one is, was ended, where it has this one before.
+pub fn update_left<'a>(planned: &'a Option<Ending>, update: &'a Region) -> &'a Region
+    ensures { result.now ≡ update_left planned.now update.now }
+{
+    match planned {
+        Some(ending) => &ending.relaying.update,
+        None => update,
+    }
 }
 
 /// Whether the part is the control of this serial.
@@ -78,8 +97,7 @@ impl Controls<TakenControl> {
         ensures out { IfOk result (λ planned. IfSome planned (IsTakenOut window control.control layers.now)) }
         ensures planned { IfOk result (λ planned. (u : _) (m : _)
             → IsReadyToEnd ⟦<Taken as Defined>⟧.loan ⟦<TakenControl as DefinedControl>⟧.control_loan control window layers.now update.now windows.now u m
-            → MatchOption planned (index_of control (records_of ⟦<TakenControl as DefinedControl>⟧.control_loan m) ≡ None)
-            (IsEnding ⟦<Taken as Defined>⟧.loan ⟦<TakenControl as DefinedControl>⟧.control_loan control u m)) }
+            → IsPlannedEnd ⟦<Taken as Defined>⟧.loan ⟦<TakenControl as DefinedControl>⟧.control_loan control u m planned) }
     {
         let Some(layer) = layer_index(layers, control.control) else {
             return Ok(None);
@@ -93,9 +111,31 @@ impl Controls<TakenControl> {
         }))
     }
 
-    /// Ends a control that is there, as planned: its definition is disposed of, and put back Closed into its slot. Takes no
-    /// memory.
-    pub fn end_control(
+    /// Ends a control, as planned: its definition is disposed of, and put back Closed into its slot. Where nothing was planned the
+    /// control is not there, and nothing happens. Takes no memory.
+    pub fn end_planned(
+        &mut self,
+        windows: &mut WindowManager,
+        control: ControlOf,
+        planned: Option<Ending>,
+        stock: &mut ControlStock,
+    )
+        requires kept { IsKept ⟦<Taken as Defined>⟧.loan windows.old }
+        requires whole { AreWholeControls (desk_of ⟦<Taken as Defined>⟧.loan windows.old []).windows
+            (controls_state ⟦<TakenControl as DefinedControl>⟧.control_loan self.old (⟦<ControlStock as StockedControls>⟧.control_slots stock.old)) }
+        requires planned { IsPlannedEnd ⟦<Taken as Defined>⟧.loan ⟦<TakenControl as DefinedControl>⟧.control_loan control windows.old self.old planned }
+        ensures step { (o : Opened) → LeavesOver ⟦<TakenControl as DefinedControl>⟧.control_loan ⟦<Taken as Defined>⟧.loan
+            (⟦<ControlStock as StockedControls>⟧.control_slots stock.old) (⟦<ControlStock as StockedControls>⟧.control_slots stock.new)
+            (IsEndedIfThere control) windows.old o self.old windows.new o self.new }
+        ensures put { IsPutIfPlanned planned windows.old windows.new }
+    {
+        if let Some(ending) = planned {
+            self.end_control(windows, control, ending, stock);
+        }
+    }
+
+    /// Ends a control that is there, as planned.
+    fn end_control(
         &mut self,
         windows: &mut WindowManager,
         control: ControlOf,
@@ -139,12 +179,8 @@ impl Controls<TakenControl> {
         let spot = self.spot(windows, control)?;
         let layers = &windows.list().at(spot.window).layers;
         let update = &windows.area(spot.window).update;
-        match self.plan_ending(windows, spot.window, control, layers, update)? {
-            Some(ending) => {
-                self.end_control(windows, control, ending, stock);
-                Ok(ControlReply::Done)
-            }
-            None => unreachable!(),
-        }
+        let planned = self.plan_ending(windows, spot.window, control, layers, update)?;
+        self.end_planned(windows, control, planned, stock);
+        Ok(ControlReply::Done)
     }
 }

@@ -64,12 +64,7 @@ fn judged_box(taken: Option<&TakenControl>, size: Size) -> Rect
 /// Whether a control with this definition, if it has one, may be at a place of a window that lies there, with this size: its width
 /// and its height lie in 1..=1024, its place is a point, and the box of its region, or of its size where it has no definition,
 /// lies in the range of coordinates, by itself, where it is in the window, and on the screen.
-pub fn may_be_placed(
-    taken: Option<&TakenControl>,
-    place: Point,
-    size: Size,
-    window: Point,
-) -> bool
+pub fn may_be_placed(taken: Option<&TakenControl>, place: Point, size: Size, window: Point) -> bool
     ensures { result ≡ may_be_placed (definition_if ⟦<TakenControl as DefinedControl>⟧.control_loan taken.entry) place size window }
 {
     if !place.is_in_range() || !is_control_size(size) {

@@ -12,7 +12,7 @@
 //! tracking show the control anew where it is not to be redrawn, and take no memory: all room that they need the layers keep.
 //!
 //! What another manager makes and ends of controls together with records of its own, it plans before it changes anything: `grow`
-//! and `plan_ending` take the layers and the update region that earlier plans leave a window, `add` and `end_control` make the
+//! and `plan_ending` take the layers and the update region that earlier plans leave a window, `add` and `end_planned` make the
 //! changes in the same order, and take no memory.
 //!
 //! Boxes of definitions lie in the records of `control_list`, and wait outside in a `ControlStock`. After each change a definition is
@@ -34,6 +34,6 @@ mod tracking;
 
 pub use controls::Controls;
 pub use drawing::DrawnControl;
-pub use ending::Ending;
+pub use ending::{Ending, layers_left, update_left};
 pub use laying::may_be_placed;
 pub use making::{Addition, Ticket, form_refusal};

@@ -53,8 +53,7 @@ returns-in-Some-next g c =
     let value : SFits w32 c.args.new.now.value = search rules in
     let setting : true ≡ is_setting c.args.new.now.minimum c.args.new.now.maximum c.args.new.now.value = simp to_z-of_z at c.in_ok-values.ensures.in_range in
     let made = simp to_z-of_z at c.in_ok-values.ensures.made in
-    let test : c.may_be_placed.result ≡ true = search rules in
-    (
+    let test : c.may_be_placed.result ≡ true = search rules in (
       is_given _ control_loan c.args.new.now d c.args.windows.now c.args.self.now c.requires c.in-Some.window c.in-Some.ensures c.at.result.now (search rules)
           (sym c.may_be_placed.ensures ∙ test) (sym setting) (subst (λ title. length title ≤ 255) c.as_slice.ensures c.in_ok-title.ensures.1) c.in-Some-next.serial c.in-Some-next.is
           (search rules),
