@@ -1,5 +1,5 @@
 -- Cells, drawn one after another.
-use Rattle.std.specs.Prelude.{◌≡◌, ◌≤◌, ℕ, pos, Bool, true, false, ◌&&◌, List, All, length, map}
+use Rattle.std.specs.Prelude.{◌≡◌, ℕ, pos, Bool, true, false, ◌&&◌, List, length, map}
 use Rattle.std.specs.List.{range_with_len}
 use Rattle.std.specs.Option.{option_map_or}
 use Rattle.std.specs.Ordering.{int_eq}
@@ -24,10 +24,6 @@ use Rattle.list_paint.specs.Shown.{in_cell}
 pub record IsReady (d : ListDefinition) : Type 0 where
   pub live : d.stage ≡ Live
   pub told : is_control_size d.size ≡ true
-
--- each cell holds as few bytes as a definition is asked with
-abbrev pub HasShortCells : Grid → Type 0
-HasShortCells g = All (λ c. length c.bytes ≤ 32000) g.contents
 
 -- the list after a call that makes this of the selection
 abbrev pub selected_as : Selecting → Grid → Grid

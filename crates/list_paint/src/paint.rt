@@ -1,5 +1,5 @@
 //! What a list shows, and what a call highlights otherwise.
-ghost use Rattle.std.specs.Prelude.{◌≡◌, ◌≤◌, true, not, if◌then◌else◌, All, length};
+ghost use Rattle.std.specs.Prelude.{◌≡◌, true, not, if◌then◌else◌};
 ghost use Rattle.tb_geom.specs.Rects.{in_plane};
 ghost use Rattle.bit_blit.specs.Draws.{Draws};
 ghost use Rattle.draw_port.specs.Canvases.{canvas_holds, canvas_point, SameFrame};
@@ -18,7 +18,7 @@ use list_cells::{ListCells, Selecting};
 use list_view::ListView;
 
 /// Gives each pixel of the canvas, whose origin is the 0 0 of the list's window, the value that the list shows there in the
-/// canvas's font: what the cell shows that lies there, and white where none does. Each cell holds at most 32000 bytes.
+/// canvas's font: what the cell shows that lies there, and white where none does.
 pub fn paint_list<D: DrawnList>(
     definition: &D,
     view: ListView,
@@ -27,7 +27,6 @@ pub fn paint_list<D: DrawnList>(
 )
     requires live { (D.list_loan definition.now).definition.stage ≡ Stage.Live }
     requires told { is_control_size (D.list_loan definition.now).definition.size ≡ true }
-    requires short { All (λ c. length c.bytes ≤ 32000) cells.now.contents }
     requires origin { in_plane canvas.old.origin ≡ true }
     ensures same_map { canvas.new.map.ghost_name ≡ canvas.old.map.ghost_name }
     ensures same_frame { SameFrame canvas.old canvas.new }
@@ -41,7 +40,7 @@ pub fn paint_list<D: DrawnList>(
 
 /// Inverts what a call highlights otherwise that is about to make this of the selection, on a canvas whose origin is the 0 0
 /// of the list's window: of each cell that the call selects or deselects, the pixels of its highlight where it shows. The
-/// cells have to be those before that call. Each holds at most 32000 bytes.
+/// cells have to be those before that call.
 pub fn toggle_cells<D: DrawnList>(
     definition: &D,
     view: ListView,
@@ -51,7 +50,6 @@ pub fn toggle_cells<D: DrawnList>(
 )
     requires live { (D.list_loan definition.now).definition.stage ≡ Stage.Live }
     requires told { is_control_size (D.list_loan definition.now).definition.size ≡ true }
-    requires short { All (λ c. length c.bytes ≤ 32000) cells.now.contents }
     requires origin { in_plane canvas.old.origin ≡ true }
     ensures same_map { canvas.new.map.ghost_name ≡ canvas.old.map.ghost_name }
     ensures same_frame { SameFrame canvas.old canvas.new }

@@ -5,7 +5,7 @@ ghost use Rattle.draw_port.specs.Canvases.{canvas_holds, canvas_point, SameFrame
 ghost use Rattle.def_iface.specs.ListMeaning.{no_list_news, cell_bit};
 ghost use Rattle.list_cells.specs.Grids.{Grid, is_cell, content_of};
 ghost use Rattle.list_cells.specs.Selections.{is_toggled};
-ghost use Rattle.list_paint.specs.Walks.{CellValue, IsReady, HasShortCells, selected_as};
+ghost use Rattle.list_paint.specs.Walks.{CellValue, IsReady, selected_as};
 
 use crate::drawn::DrawnList;
 use draw_port::Canvas;
@@ -23,7 +23,6 @@ pub(crate) trait CellPen {
     fn draw(&self, cells: &ListCells, cell: Cell, canvas: &mut Canvas<'_>)
         requires ready { is_ready self.now }
         requires cell { is_cell cells.now cell ≡ true }
-        requires short { HasShortCells cells.now }
         ensures same_map { canvas.new.map.ghost_name ≡ canvas.old.map.ghost_name }
         ensures same_frame { SameFrame canvas.old canvas.new }
         ensures drawn { Draws (canvas_holds canvas.old)

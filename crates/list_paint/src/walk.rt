@@ -8,7 +8,7 @@ ghost use Rattle.list_cells.specs.Grids.{is_cell};
 ghost use Rattle.list_view.specs.Axes.{IsNear};
 ghost use Rattle.list_view.specs.Views.{IsCell, cell_rect};
 ghost use Rattle.list_paint.specs.Shown.{in_cell};
-ghost use Rattle.list_paint.specs.Walks.{AreDrawn, HasShortCells, is_in_row, shown_value};
+ghost use Rattle.list_paint.specs.Walks.{AreDrawn, is_in_row, shown_value};
 
 use crate::pens::CellPen;
 use draw_port::{Canvas, placed_within};
@@ -52,7 +52,6 @@ fn draw_cell<P: CellPen>(
     requires ready { P.is_ready pen.now }
     requires cell { is_cell cells.now cell ≡ true }
     requires small { IsCell cell }
-    requires short { HasShortCells cells.now }
     requires origin { in_plane canvas.old.origin ≡ true }
     ensures same_map { canvas.new.map.ghost_name ≡ canvas.old.map.ghost_name }
     ensures same_frame { SameFrame canvas.old canvas.new }
@@ -82,7 +81,6 @@ fn draw_row<P: CellPen>(
     requires ready { P.is_ready pen.now }
     requires row { row < cells.now.rows }
     requires few { row < 4096 }
-    requires short { HasShortCells cells.now }
     requires origin { in_plane canvas.old.origin ≡ true }
     ensures same_map { canvas.new.map.ghost_name ≡ canvas.old.map.ghost_name }
     ensures same_frame { SameFrame canvas.old canvas.new }
@@ -103,7 +101,6 @@ pub(crate) fn draw_rows<P: CellPen>(
     canvas: &mut Canvas<'_>,
 )
     requires ready { P.is_ready pen.now }
-    requires short { HasShortCells cells.now }
     requires origin { in_plane canvas.old.origin ≡ true }
     ensures same_map { canvas.new.map.ghost_name ≡ canvas.old.map.ghost_name }
     ensures same_frame { SameFrame canvas.old canvas.new }

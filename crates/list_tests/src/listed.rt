@@ -1,6 +1,6 @@
 //! Lists as the library has them.
 ghost use Rattle.std.specs.Prelude.{◌≡◌, IfOk};
-ghost use Rattle.list_paint.specs.Walks.{IsReady, HasShortCells};
+ghost use Rattle.list_paint.specs.Walks.{IsReady};
 
 use crate::plain_list::PlainView;
 use bit_map::BitMap;
@@ -92,31 +92,16 @@ pub fn view(plain: PlainView) -> Result<ListView, Refusal> {
     ))
 }
 
-/// Gives a cell a text.
-fn set_text(cells: &mut ListCells, cell: Cell, text: &[u8]) -> Result<(), Refusal>
-    requires { HasShortCells cells.old }
-    ensures { HasShortCells cells.new }
-{
-    if text.len() > 255 {
-        return Err(Refusal::TooLong);
-    }
-    cells.set_cell(cell, text)
-}
-
 /// A list without cells that hold anything.
-pub fn empty_cells(alloc: Global) -> Result<ListCells, Refusal>
-    ensures { IfOk result HasShortCells }
-{
+pub fn empty_cells(alloc: Global) -> Result<ListCells, Refusal> {
     ListCells::new(alloc, i32::from(COLUMNS), i32::from(ROWS))
 }
 
 /// The list of texts.
-pub fn text_cells(alloc: Global) -> Result<ListCells, Refusal>
-    ensures { IfOk result HasShortCells }
-{
+pub fn text_cells(alloc: Global) -> Result<ListCells, Refusal> {
     let mut cells = empty_cells(alloc)?;
     for (column, row, text) in TEXTS {
-        set_text(&mut cells, cell(column, row), text)?;
+        cells.set_cell(cell(column, row), text)?;
     }
     Ok(cells)
 }
@@ -130,7 +115,6 @@ pub fn paint(
     font: &Font,
 )
     requires ready { IsReady (⟦<TakenList as DefinedList>⟧.list_loan definition.now).definition }
-    requires short { HasShortCells cells.now }
 {
     let mut canvas = Canvas {
         map,
@@ -177,7 +161,6 @@ fn toggle(
     font: &Font,
 )
     requires ready { IsReady (⟦<TakenList as DefinedList>⟧.list_loan definition.now).definition }
-    requires short { HasShortCells cells.now }
 {
     let mut canvas = Canvas {
         map,
@@ -199,8 +182,6 @@ pub fn turn(
     font: &Font,
 ) -> bool
     requires ready { IsReady (⟦<TakenList as DefinedList>⟧.list_loan definition.now).definition }
-    requires short { HasShortCells cells.old }
-    ensures { HasShortCells cells.new }
 {
     let cell = cell(change.column, change.row);
     match change.by {

@@ -1,5 +1,5 @@
 //! The model: each cell of a list by itself.
-ghost use Rattle.list_paint.specs.Walks.{IsReady, HasShortCells};
+ghost use Rattle.list_paint.specs.Walks.{IsReady};
 
 use crate::listed::{CLIP, COLUMNS, NOTHING_CUT, ORIGIN, ROWS, cell};
 use bit_map::{BitMap, Mode, Pattern};
@@ -75,7 +75,6 @@ fn cell_map(
     font: &Font,
 ) -> Result<BitMap, Refusal>
     requires ready { IsReady (⟦<TakenList as DefinedList>⟧.list_loan definition.now).definition }
-    requires short { HasShortCells cells.now }
 {
     let bytes = cells.cell(cell)?;
     let selected = cells.is_selected(cell)?;
@@ -125,7 +124,6 @@ pub fn plain_map(
     font: &Font,
 ) -> Result<BitMap, Refusal>
     requires ready { IsReady (⟦<TakenList as DefinedList>⟧.list_loan definition.now).definition }
-    requires short { HasShortCells cells.now }
 {
     let mut map = black_map(alloc, font)?;
     put_cell(&mut map, CLIP, point!(0, 0), &BitMap::new(alloc, 48, 36)?);
