@@ -1,45 +1,36 @@
 -- A layer of a window of which pixels were inverted, also where they are to be redrawn.
-use Rattle.std.proofs.Common.{◌≡◌, ℕ, ◌<◌, ◌&&◌, not, Bool, true, false, if◌then◌else◌, List, length, pos, refl, sym, ap, ◌∙◌, subst}
+use Rattle.std.proofs.Common.{◌≡◌, ℕ, ◌<◌, ◌&&◌, not, Bool, true, false, if◌then◌else◌, List, length, refl, sym, ap, ◌∙◌, subst}
 use Rattle.std.specs.Prelude.{get_or}
-use Rattle.std.proofs.lemmas.Bool.{false≢true}
 use Rattle.tb_geom.specs.declared.point.Point.{Point}
 use Rattle.tb_geom.specs.Points.{PixelSet, minus}
 use Rattle.tb_geom.specs.Pixels.{holds}
-use Rattle.bit_map.specs.Bits.{Bits, on_map, bit}
+use Rattle.bit_map.specs.Bits.{Bits, bit}
 use Rattle.bit_blit.specs.Draws.{Draws}
 use Rattle.def_iface.specs.declared.part.Part.{Part}
-use Rattle.def_iface.specs.declared.part.Part.TheVariants as part
 use Rattle.def_iface.specs.declared.taken.Taken.{Taken}
 use Rattle.def_iface.specs.Meaning.{Loan}
 use Rattle.def_iface.specs.Stocked.{SlotView}
 use Rattle.def_iface.specs.Desk as layers
-use Rattle.def_iface.specs.Desk.{LayeredDesk, same_part}
-use Rattle.def_iface.specs.Owner.{Owner, owner, own_bit, same_owner, is_content}
-use Rattle.def_iface.specs.Owner.Owner.{Desktop, Bar, Frame, Content}
+use Rattle.def_iface.specs.Desk.{LayeredDesk}
+use Rattle.def_iface.specs.Owner.{Owner, owner, same_owner, is_content}
+use Rattle.def_iface.specs.Owner.Owner.{Content}
 use Rattle.def_iface.specs.Scratch.{scratch}
 use Rattle.def_iface.specs.Change as plain
 use Rattle.def_iface.specs.Change.{Change}
-use Rattle.def_iface.proofs.Owning.{same_number, same_owner-true, same_owner-self, same_part-true}
-use Rattle.def_iface.proofs.Painting.{scratch_is_owners}
 use Rattle.layer_list.specs.declared.layer.Layer.{Layer}
-use Rattle.layer_list.specs.Holders.{part_at, belongs_to}
+use Rattle.layer_list.specs.Holders.{belongs_to}
 use Rattle.vis_update.specs.declared.area.Area.{Area}
-use Rattle.vis_update.specs.Areas.{IsArea, IsGray, IsDesktop, AreAreas, is_content_of, stale_in}
+use Rattle.vis_update.specs.Areas.{is_content_of, stale_in}
 use Rattle.window_list.specs.declared.window.Window.{Window}
-use Rattle.window_paint.specs.Shown.{part_shown}
 use Rattle.window_mgr.specs.declared.manager.WindowManager.{WindowManager}
 use Rattle.window_mgr.specs.Edits.{IsWindowAt}
 use Rattle.window_mgr.specs.FullDesk.{FullDesk, FullState, layered_desk, layered_state}
 use Rattle.window_mgr.specs.Relayered.{IsLayerToggled, toggled_change}
 use Rattle.window_mgr.specs.Records.{desk_of, desk_showing, state_of, state_showing}
-use Rattle.window_mgr.specs.Whole.{IsWholeManager, IsSoundDesk}
-use Rattle.window_mgr.proofs.Arranged.{between-is_below}
-use Rattle.window_mgr.proofs.Contents as contents
+use Rattle.window_mgr.specs.Whole.{IsWholeManager}
 use Rattle.window_mgr.proofs.EditSeats.{same_at}
-use Rattle.window_mgr.proofs.Repicturing.{no_content, not_stale}
-use Rattle.window_mgr.proofs.Remarked as remarked
+use Rattle.window_mgr.proofs.Repicturing.{no_content}
 use Rattle.window_mgr.proofs.Remarked.{unless}
-use Rattle.window_mgr.proofs.Showing.{owner_showing, distinct_showing, frames_showing}
 use Rattle.window_mgr.proofs.LayerThere as here
 use Rattle.window_mgr.proofs.LayerThere.{no_part}
 
