@@ -138,7 +138,7 @@ module _ (window : ℕ) (before after : ControlsState) (left : IsWindowLeft wind
       where
         by_content : (b : Bool) → is_content o ≡ b → own_bit (layered_desk now) o p ≡ own_bit (layered_desk s.desk) o p
         by_content false e = bit_showing (controls_show others after.controls) s.desk o p e
-        by_content true e = sym (same_own others s.desk now before.controls after.controls shows refl refl refl joined (joined_left s.desk.windows missing joined) (λ o. false) (stay_left apart)
+        by_content true e = sym (same_own others others s.desk now before.controls after.controls shows refl refl refl joined (joined_left s.desk.windows missing joined) (λ o. false) (stay_left apart) (λ t n q was now other r. refl)
             p o right.plain.desk distinct here (same_owners p ∙ here) e refl)
 
     same_scratch : (p : Point) → scratch (layered_desk now) p ≡ scratch (layered_desk s.desk) p
