@@ -1,5 +1,5 @@
 -- One step of a call about lists: what it leaves, and what it answers.
-use Rattle.std.specs.Prelude.{◌≡◌, ◌⊎◌, ℕ, ℤ, pos, nat_abs, Bool, true, false, not, List, [], ◌∷◌, ◌++◌, Option, None, Some, Result, is_none, slice_get}
+use Rattle.std.specs.Prelude.{◌≡◌, ◌⊎◌, ℕ, ℤ, pos, nat_abs, Bool, true, false, not, List, [], ◌∷◌, ◌++◌, Option, None, Some, Result, Ok, is_none, slice_get}
 use Rattle.std.specs.List.{AllZip, remove}
 use Rattle.std.specs.Option.{option_map, option_map_or, option_and_then}
 use Rattle.tb_geom.specs.declared.point.Point.{Point}
@@ -33,7 +33,9 @@ use Rattle.def_iface.specs.Change.{Change, IsChanged, no_change}
 use Rattle.def_iface.specs.Owner.{same_owner}
 use Rattle.def_iface.specs.Owner.Owner.{Content as ContentOf}
 use Rattle.layer_list.specs.declared.layer.Layer.{Layer}
+use Rattle.desk_call.specs.declared.control.ControlCall.TheVariants as control_calls
 use Rattle.desk_call.specs.declared.control.ControlOf.{ControlOf}
+use Rattle.desk_call.specs.declared.control.ControlReply.TheVariants as control_reply
 use Rattle.desk_call.specs.declared.control.NewControl.{NewControl}
 use Rattle.desk_call.specs.declared.list.ListCall.{ListCall}
 use Rattle.desk_call.specs.declared.list.ListCall.TheVariants.{New, Dispose, AddRows, AddColumns, DeleteRows, DeleteColumns, SetCell, AddToCell, ClearCell, GetCell, Select, IsSelected, FirstSelected, NextCell, Search, Click, Scroll, SetDrawing}
@@ -50,7 +52,7 @@ use Rattle.window_mgr.specs.FullDesk.{FullState, layered_state}
 use Rattle.window_mgr.specs.Relayered.{AreLayersSet, IsLayerRedrawn, IsLayerToggled}
 use Rattle.control_mgr.specs.ControlDesks.{ShowsControls}
 use Rattle.control_mgr.specs.ControlDesks as controls
-use Rattle.control_mgr.specs.ControlSteps.{AreLayersOf, IsControlDisposed, IsControlMade, IsShownAnew, behind_controls}
+use Rattle.control_mgr.specs.ControlSteps.{AreLayersOf, IsControlStep, IsShownAnew, behind_controls}
 use Rattle.list_mgr.specs.ListDesks.{IsListDeskUnchanged, KeptList, ListDesk, ListSlot, index_of, list_of, with_controls}
 use Rattle.list_mgr.specs.ListRefusals.{corner_of, list_refusals, may_list_grow, scroll_kind, size_of, view_of}
 
@@ -205,11 +207,12 @@ horizontal_bar_of n = let setting = horizontal_setting (nat_abs n.columns) (view
   title = [];
 }
 
--- a scroll bar was made where one is wanted, and this is its serial
+-- a scroll bar was made where one is wanted, as NewControl makes a control, and this is its serial
 abbrev pub IsBarMade : Bool → NewControl → Option ℕ → ListDesk → ListDesk → Type 0
 IsBarMade false n serial before after = (serial ≡ None) × IsListDeskUnchanged before after
 IsBarMade true n serial before after =
-    ((c : ℕ) × (serial ≡ Some c) × IsControlMade n c (with_controls before) (with_controls after)) × SameLists before after
+    ((c : ℕ) × (serial ≡ Some c) × IsControlStep (control_calls.New n) (Ok (control_reply.Made c)) (with_controls before) (with_controls after))
+    × SameLists before after
 
 -- the record that a new list gets: its cells are empty and none is selected, and drawing is on
 abbrev pub new_list : NewList → ℕ → SelectionFlags → Option ℕ → Option ℕ → ListLoan → KeptList
@@ -264,10 +267,11 @@ pub record IsListGone (l : ListOf) (x : KeptList) (before after : ListDesk) : Ty
   pub laid : AreLaid l.window None before after
   pub beside : IsBesideLists before after
 
--- a scroll bar was disposed of, where the window has it still
+-- a scroll bar was disposed of, as DisposeControl does it, where the window has it still
 abbrev pub IsBarGoneIf : Bool → ControlOf → ListDesk → ListDesk → Type 0
 IsBarGoneIf true c before after = IsListDeskUnchanged before after
-IsBarGoneIf false c before after = IsControlDisposed c (with_controls before) (with_controls after) × SameLists before after
+IsBarGoneIf false c before after =
+    IsControlStep (control_calls.Dispose c) (Ok control_reply.Done) (with_controls before) (with_controls after) × SameLists before after
 
 abbrev pub IsBarGone : ℕ → Option ℕ → ListDesk → ListDesk → Type 0
 IsBarGone window None before after = IsListDeskUnchanged before after
