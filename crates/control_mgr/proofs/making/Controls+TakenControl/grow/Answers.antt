@@ -5,9 +5,6 @@ use Rattle.control_mgr.proofs.making.Controls+TakenControl.grow.Goals as goal
 pub shape_of-requires : goal.shape_of-requires
 shape_of-requires g c = adding.grow_so c.args.new.now _ c.args.ticket c.args.layers.now c.requires.may
 
-pub with-requires-clause-at : goal.with-requires-clause-at
-with-requires-clause-at g c = c.requires.may.index
-
 pub with-requires-clause-lies : goal.with-requires-clause-lies
 with-requires-clause-lies g c = adding.own_lies c.args.new.now _ c.args.ticket c.args.layers.now c.requires.may c.in_ok-shape.shape c.in_ok-shape.ensures
 
