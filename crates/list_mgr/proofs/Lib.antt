@@ -1,1 +1,2 @@
-
+-- Lemmas on lists beside windows and controls.
+pub mod BarsSet

@@ -9,7 +9,7 @@ use Rattle.tb_geom.specs.Pixels.{holds}
 use Rattle.tb_geom.specs.Rects.{rect_holds}
 use Rattle.tb_geom.specs.Refusals.{first_refusal}
 use Rattle.control_values.specs.Settings.{Setting}
-use Rattle.control_list.specs.Lists.{controls_of, with_values}
+use Rattle.control_list.specs.Lists.{controls_of}
 use Rattle.list_cells.specs.declared.cell.Cell.{Cell}
 use Rattle.list_cells.specs.declared.click.SelectionFlags.{SelectionFlags}
 use Rattle.list_cells.specs.Blocks.{clicked_cell}
@@ -52,7 +52,7 @@ use Rattle.window_mgr.specs.FullDesk.{FullState, layered_state}
 use Rattle.window_mgr.specs.Relayered.{AreLayersSet, IsLayerRedrawn, IsLayerToggled}
 use Rattle.control_mgr.specs.ControlDesks.{ShowsControls}
 use Rattle.control_mgr.specs.ControlDesks as controls
-use Rattle.control_mgr.specs.ControlSteps.{AreLayersOf, IsControlStep, IsShownAnew, behind_controls}
+use Rattle.control_mgr.specs.ControlSteps.{AreLayersOf, IsControlStep, IsSettingPut, behind_controls}
 use Rattle.list_mgr.specs.ListDesks.{IsListDeskUnchanged, KeptList, ListDesk, ListSlot, index_of, list_of, with_controls}
 use Rattle.list_mgr.specs.ListRefusals.{corner_of, list_refusals, may_list_grow, scroll_kind, size_of, view_of}
 
@@ -157,16 +157,12 @@ IsSelectionChanged l g before after = OfList l before (λ x. IsToggledOrNot x.dr
 abbrev pub SameLists : ListDesk → ListDesk → Type 0
 SameLists before after = after.lists ≡ before.lists
 
--- a scroll bar got this setting, where the window has it still
-abbrev pub IsBarSetIf : Bool → ControlOf → Setting → ListDesk → ListDesk → Type 0
-IsBarSetIf true c setting before after = IsListDeskUnchanged before after
-IsBarSetIf false c setting before after =
-    IsShownAnew c (with_values setting) (with_controls before) (with_controls after) × SameActivity before.desk after.desk × SameLists before after
-
+-- a scroll bar that a list was made with got this setting, where the window has it still
 abbrev pub IsBarSet : ℕ → Option ℕ → Setting → ListDesk → ListDesk → Type 0
 IsBarSet window None setting before after = IsListDeskUnchanged before after
-IsBarSet window (Some n) setting before after = let c : ControlOf = record { window = window; control = n } in
-    IsBarSetIf (is_none (controls.index_of c before.controls.controls)) c setting before after
+IsBarSet window (Some n) setting before after =
+    IsSettingPut (record { window = window; control = n }) setting (with_controls before) (with_controls after)
+    × SameActivity before.desk after.desk × SameLists before after
 
 -- the scroll bars of a list were set as its view is now, the vertical one first
 abbrev pub AreBarsSet : ListOf → ListDesk → ListDesk → Type 0

@@ -11,6 +11,7 @@
 #![tactic(auto)]
 
 mod asking;
+mod bars;
 mod lists;
 mod spots;
 
