@@ -13,6 +13,8 @@ use Rattle.def_iface.specs.Meaning.{Loan}
 use Rattle.def_iface.specs.Desk.{same_part}
 use Rattle.def_iface.proofs.Owning.{same_number}
 use Rattle.layer_list.specs.declared.layer.Layer.{Layer}
+use Rattle.list_records.specs.declared.list_record.ListRecord.{ListRecord}
+use Rattle.list_records.specs.Seen.{seen}
 use Rattle.list_records.specs.Lists.{has_serial, is_in, is_in_at, is_list, list_index, lists_of, place_among}
 use Rattle.list_records.proofs.WindowLemmas.{found_in as list_in, position_there, slice_get-lists_of}
 use Rattle.desk_call.specs.declared.list.ListOf.{ListOf}
@@ -31,7 +33,7 @@ use Rattle.list_mgr.specs.ListDesks.{KeptList, ListsState}
 use Rattle.list_mgr.specs.ListSteps.{AreListLayers, IsLayerOf}
 use Rattle.list_mgr.specs.Spots.{IsSpotOf}
 use Rattle.list_mgr.specs.WholeLists.{AreApart, AreWholeLists, records_of}
-use Rattle.list_mgr.proofs.Steps.{list_there}
+use Rattle.list_mgr.proofs.Steps.{list_read, list_there}
 
 -- ---- places in lists
 
@@ -166,3 +168,15 @@ module _ {V : Type 0} {H : V → Type 0} (loan : Taken V H → Loan) {X : Type 0
         let has = some_layer ls w.serial w.layers.layers s.list its.item joined here its.there in
         false≢true (sym (none has.0 has.1 (within w.layers.layers has.0 has.1 has.2))
         ∙ ap (λ (k : Layer). same_part k.part (part.List its.item.serial)) (sym (read_is w.layers.layers has.0 has.1 has.2)) ∙ same_list its.item.serial has.1.part has.3.part)
+
+    its_serial : (x : ListRecord (TakenList X L)) → x ≡ get_or m.list.lists.items s.list x → part.List x.serial ≡ part.List its.item.serial
+    its_serial x read =
+        let both : Some (seen list_loan x) ≡ Some its.item = sym (list_read loan list_loan l t m s is x read) ∙ its.there in
+        let same : seen list_loan x ≡ its.item = cc in
+        ap (λ (y : KeptList). part.List y.serial) same
+
+    -- what was found of the part of the list that was read
+    pub found_its : (x : ListRecord (TakenList X L)) → x ≡ get_or m.list.lists.items s.list x → (o : Option ℕ) → IsLayerFound (part.List x.serial) w.layers.layers o
+        → (at : ℕ) × (o ≡ Some at) × IsItsLayer list_loan m s w.layers.layers at
+    found_its x read None found = absurd (some_is_found (subst (λ q. IsLayerFound q w.layers.layers None) (its_serial x read) found))
+    found_its x read (Some at) found = (at, refl, layer_is_its at (subst (λ q. IsLayerFound q w.layers.layers (Some at)) (its_serial x read) found))

@@ -1,10 +1,11 @@
-use Rattle.std.proofs.Common.{rules, ◌≡◌, ℕ, ◌+◌, ◌-◌, ◌*◌, ◌<◌, ◌≤◌, length, ◌/◌, ◌%◌, Bool, true, false, nat_eq, nat_lt, List, [], ◌∷◌, ◌++◌, slice_index_or, slice_set, bit_and, bit_or, Fits, w8, w32, w64, Bor, MutBor}
-use Rattle.desk_call.specs.declared.list.ListCall.TheVariants as asks
-use Rattle.window_mgr.specs.Kept.{IsKept}
-use Rattle.list_mgr.specs.ListSteps.{IsListStep}
-use Rattle.list_mgr.specs.WholeLists.{IsToldOver}
+use Rattle.std.proofs.Common.{ℕ, List, ◌++◌, ap, sym, ◌∙◌}
+use Rattle.std.specs.Prelude.{is_ok}
+use Rattle.desk_call.specs.declared.list.ListReply.TheVariants as reply
+use Rattle.list_mgr.proofs.Asked.{data_told}
 use Rattle.list_mgr.proofs.asking.Lists+TakenList.data.Goals as goal
 
--- src/asking.rt:15:5
 pub returns : goal.returns
-returns g c = ?
+returns g c =
+    data_told _ _ c.args.windows.now c.args.self.now c.args.asked c.in_ok-spot.spot c.index.result.now c.in_ok-spot.ensures c.index.ensures
+    (sym c.cell.ensures.found ∙ ap is_ok c.in_ok-bytes.was) (reply.Data c.extend_from_slice.new.self)
+    (c.in_ok-extend_from_slice.ensures.items ∙ ap (λ (xs : List ℕ). xs ++ c.in_ok-bytes.bytes.now) c.new-data.ensures.items ∙ c.in_ok-bytes.ensures.bytes)

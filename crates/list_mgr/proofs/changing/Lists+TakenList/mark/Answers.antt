@@ -1,26 +1,26 @@
-use Rattle.std.proofs.Common.{rules, IfOk, ◌≡◌, ℕ, ◌+◌, ◌-◌, ◌*◌, ◌<◌, ◌≤◌, length, ◌/◌, ◌%◌, Bool, true, false, nat_eq, nat_lt, List, [], ◌∷◌, ◌++◌, slice_index_or, slice_set, bit_and, bit_or, Fits, w8, w32, w64, Bor, MutBor}
-use Rattle.def_iface.specs.declared.part.Part.TheVariants as part
-use Rattle.desk_call.specs.declared.list.ListCall.TheVariants as asks
-use Rattle.window_mgr.specs.Edits.{IsWindowAt}
-use Rattle.window_mgr.specs.Kept.{IsKept}
-use Rattle.list_mgr.specs.Changing.{IsItsLayer, IsLayerFound, IsMark, IsShownOrMarked}
-use Rattle.list_mgr.specs.ListSteps.{IsListStep}
-use Rattle.list_mgr.specs.Spots.{IsSpot}
-use Rattle.list_mgr.specs.WholeLists.{AreBeside, IsChangedOver}
+use Rattle.std.proofs.Common.{false, get_or, ap, ◌∙◌}
+use Rattle.def_iface.specs.contracts.taken_list.TakenListDefinedList.TheImpl as list
+use Rattle.list_records.specs.Seen.{seen}
+use Rattle.window_mgr.proofs.Contents.{layers_apart}
+use Rattle.window_mgr.proofs.Remarked.{area_there}
+use Rattle.list_mgr.proofs.Steps.{list_read}
 use Rattle.list_mgr.proofs.changing.Lists+TakenList.mark.Goals as goal
 
--- src/changing.rt:58:13
 pub returns-then-index : goal.returns-then-index
-returns-then-index g c = ?
+returns-then-index g c = (
+  seen (list.list_loan-value g.dyn-1).it c.index.result.now,
+  list_read _ _ c.requires.spot.of c.args.windows.now c.args.self.now c.args.spot c.requires.spot.is c.index.result.now c.index.ensures,
+  c.if-index.true,
+)
 
--- src/changing.rt:61:13
 pub owned-own-requires-clause-apart : goal.owned-own-requires-clause-apart
-owned-own-requires-clause-apart g c = ?
+owned-own-requires-clause-apart g c =
+    let v = c.at.result.now in
+    layers_apart _ c.args.windows.now c.requires.kept.slots c.requires.kept.whole c.args.spot.window c.requires.spot.is.window.0 v
+    (c.at.ensures ∙ ap (λ ls. get_or ls.records.items c.args.spot.window v) c.list.ensures) (λ font q p. false)
 
--- src/changing.rt:62:13
 pub area-area-requires : goal.area-area-requires
-area-area-requires g c = ?
+area-area-requires g c = area_there _ c.args.windows.now c.requires.kept c.args.spot.window c.requires.spot.is.window.0
 
--- src/changing.rt:47:5
 pub returns : goal.returns
 returns g c = ?

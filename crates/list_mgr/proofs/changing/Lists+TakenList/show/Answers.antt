@@ -1,22 +1,25 @@
-use Rattle.std.proofs.Common.{rules, IfOk, ◌≡◌, ℕ, ◌+◌, ◌-◌, ◌*◌, ◌<◌, ◌≤◌, length, ◌/◌, ◌%◌, Bool, true, false, nat_eq, nat_lt, List, [], ◌∷◌, ◌++◌, slice_index_or, slice_set, bit_and, bit_or, Fits, w8, w32, w64, Bor, MutBor}
+use Rattle.std.proofs.Common.{◌≡◌, ap, sym, subst}
+use Rattle.def_iface.specs.contracts.taken.TakenDefined.TheImpl as window
+use Rattle.def_iface.specs.contracts.taken_list.TakenListDefinedList.TheImpl as list
 use Rattle.def_iface.specs.declared.part.Part.TheVariants as part
-use Rattle.desk_call.specs.declared.list.ListCall.TheVariants as asks
-use Rattle.window_mgr.specs.Edits.{IsWindowAt}
-use Rattle.window_mgr.specs.Kept.{IsKept}
-use Rattle.list_mgr.specs.Changing.{IsItsLayer, IsLayerFound, IsMark, IsShownOrMarked}
-use Rattle.list_mgr.specs.ListSteps.{IsListStep}
-use Rattle.list_mgr.specs.Spots.{IsSpot}
-use Rattle.list_mgr.specs.WholeLists.{AreBeside, IsChangedOver}
+use Rattle.control_mgr.proofs.Places.{read_is, there_is}
+use Rattle.list_mgr.specs.Changing.{IsMark}
+use Rattle.list_mgr.proofs.Marked.{region_within}
+use Rattle.list_mgr.proofs.Steps.{list_there}
 use Rattle.list_mgr.proofs.changing.Lists+TakenList.show.Goals as goal
 
--- src/changing.rt:90:21
 pub set_update-requires-clause-within : goal.set_update-requires-clause-within
-set_update-requires-clause-within g c = ?
+set_update-requires-clause-within g c a read p on =
+    let spot = c.requires.spot in
+    let t = c.args.windows.now in
+    let w = there_is t.windows.records.items c.args.spot.window spot.is.window.0 in
+    let lies = read_is t.windows.records.items c.args.spot.window w.item w.there in
+    let x = list_there _ _ spot.of t c.args.self.now c.args.spot spot.is in
+    let mark = subst (IsMark (list.list_loan-value g.dyn-1).it (window.loan-value g.dyn-2).it t c.args.self.now c.args.spot) c.in-Some.is c.requires.mark in
+    region_within _ t c.args.spot.window spot.is.window.0 w.item lies a read (part.List x.item.serial) c.in-Some.update (mark.1 w.item a x.item lies read x.there) c.requires.kept p on
 
--- src/changing.rt:70:5
 pub returns-in-None : goal.returns-in-None
 returns-in-None g c = ?
 
--- src/changing.rt:70:5
 pub returns-then-changes : goal.returns-then-changes
 returns-then-changes g c = ?
