@@ -5,3 +5,9 @@ pub mod Drawn
 pub mod Marked
 pub mod Edited
 pub mod Asked
+pub mod Shown
+pub mod Cells
+pub mod Changed
+pub mod Given
+pub mod DrawingSet
+pub mod Selected
