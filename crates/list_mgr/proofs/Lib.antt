@@ -1,2 +1,14 @@
--- Lemmas on lists beside windows and controls.
+-- Lemmas on the lists of a desk: the steps of calls, where a list stands, and what lists show.
+pub mod Steps
+pub mod Places
+pub mod Drawn
+pub mod Marked
+pub mod Edited
+pub mod Asked
+pub mod Shown
+pub mod Cells
+pub mod Changed
+pub mod Given
+pub mod DrawingSet
+pub mod Selected
 pub mod BarsSet

@@ -6,3 +6,4 @@ pub mod ListSteps
 pub mod WholeLists
 pub mod Spots
 pub mod Lines
+pub mod Changing

@@ -12,7 +12,11 @@
 
 mod asking;
 mod bars;
+mod changing;
+mod drawing;
 mod lists;
+mod selecting;
 mod spots;
 
+pub use drawing::Contents;
 pub use lists::Lists;

@@ -1,12 +1,11 @@
 //! What changes of a list but its selection: its cells, how far it is scrolled, and whether it is drawn.
-ghost use Rattle.std.specs.Prelude.{◌≡◌, ◌<◌, length, IfOk, IfSome};
-ghost use Rattle.std.specs.List.{position};
-ghost use Rattle.def_iface.specs.Desk.{same_part};
+ghost use Rattle.std.specs.Prelude.{◌≡◌, false, not, MatchResult};
+ghost use Rattle.std.specs.Str.{bytes_eq};
 ghost use Rattle.def_iface.specs.declared.part.Part.TheVariants as part;
 ghost use Rattle.desk_call.specs.declared.list.ListCall.TheVariants as asks;
 ghost use Rattle.window_mgr.specs.Edits.{IsWindowAt};
 ghost use Rattle.window_mgr.specs.Kept.{IsKept};
-ghost use Rattle.list_mgr.specs.Changing.{IsItsLayer, IsMark, IsShownOrMarked};
+ghost use Rattle.list_mgr.specs.Changing.{IsDrawing, IsItsLayer, IsLayerFound, IsMark, IsShownOrMarked};
 ghost use Rattle.list_mgr.specs.ListSteps.{IsListStep};
 ghost use Rattle.list_mgr.specs.Spots.{IsSpot};
 ghost use Rattle.list_mgr.specs.WholeLists.{AreBeside, IsChangedOver};
@@ -23,8 +22,7 @@ use window_mgr::WindowManager;
 
 /// The index of a list's layer among these.
 fn layer_of(layers: &Layers, serial: u64) -> Option<usize>
-    ensures first { result ≡ position (λ l. same_part l.part (part.List serial)) layers.now.layers }
-    ensures within { IfSome result (λ at. at < length layers.now.layers) }
+    ensures { IsLayerFound (part.List serial) layers.now.layers result }
 {
     for at in 0..layers.len() {
         if layers.at(at).part.is(Part::List(serial)) {
@@ -32,6 +30,13 @@ fn layer_of(layers: &Layers, serial: u64) -> Option<usize>
         }
     }
     None
+}
+
+/// Whether two texts differ.
+fn differ(old: &[u8], new: &[u8]) -> bool
+    ensures { result ≡ not (bytes_eq old.now new.now) }
+{
+    old != new
 }
 
 impl Lists<TakenList> {
@@ -46,7 +51,8 @@ impl Lists<TakenList> {
         layer_of(&windows.list().at(spot.window).layers, serial).unwrap()
     }
 
-    /// The update region of a list's window with all that the list owns, where its drawing is off.
+    /// The update region of a list's window with all that the list owns, where its drawing is off; while it is on, this takes no
+    /// memory.
     pub(crate) fn mark(
         &self,
         windows: &WindowManager,
@@ -55,7 +61,8 @@ impl Lists<TakenList> {
         requires kept { IsKept ⟦<Taken as Defined>⟧.loan windows.now }
         requires beside { AreBeside ⟦<TakenList as DefinedList>⟧.list_loan ⟦<Taken as Defined>⟧.loan windows.now self.now }
         requires spot { IsSpot ⟦<Taken as Defined>⟧.loan ⟦<TakenList as DefinedList>⟧.list_loan windows.now self.now spot }
-        ensures { IfOk result (IsMark ⟦<TakenList as DefinedList>⟧.list_loan ⟦<Taken as Defined>⟧.loan windows.now self.now spot) }
+        ensures { MatchResult result (IsMark ⟦<TakenList as DefinedList>⟧.list_loan ⟦<Taken as Defined>⟧.loan windows.now self.now spot)
+            (λ _. IsDrawing ⟦<TakenList as DefinedList>⟧.list_loan false self.now spot) }
     {
         if self.list.lists[spot.list].drawing {
             return Ok(None);
@@ -112,7 +119,7 @@ impl Lists<TakenList> {
         if let Some(refusal) = self.list.lists[spot.list].cells.set_refusal(cell, text) {
             return Err(refusal);
         }
-        let changes = self.list.lists[spot.list].cells.cell(cell)? != text;
+        let changes = differ(self.list.lists[spot.list].cells.cell(cell)?, text);
         let mark = self.mark(windows, spot)?;
         self.list.lists[spot.list].cells.set_cell(cell, text)?;
         self.show(windows, spot, mark, changes);
