@@ -1,4 +1,6 @@
 -- Scroll bars that are set.
+use Rattle.std.specs.Prelude.{get_or, slice_get}
+use Rattle.std.specs.Option.{option_and_then}
 use Rattle.std.proofs.Common.{◌≡◌, ℕ, false, [], Option, Some, None, refl, sym, ap, ◌∙◌, subst}
 use Rattle.control_values.specs.Settings.{Setting}
 use Rattle.def_iface.specs.declared.taken.Taken.{Taken}
@@ -10,6 +12,8 @@ use Rattle.def_iface.specs.Meaning.{Loan}
 use Rattle.desk_call.specs.declared.activity.Activity.TheVariants.{Idle}
 use Rattle.desk_call.specs.declared.control.ControlOf.{ControlOf}
 use Rattle.desk_call.specs.declared.list.ListOf.{ListOf}
+use Rattle.list_records.specs.declared.list_record.ListRecord.{ListRecord}
+use Rattle.list_records.specs.Seen.{seen}
 use Rattle.list_view.specs.Bars.{horizontal_setting, vertical_setting}
 use Rattle.window_mgr.specs.declared.manager.WindowManager.{WindowManager}
 use Rattle.window_mgr.specs.DeskStates.{Opened}
@@ -21,6 +25,10 @@ use Rattle.control_mgr.specs.ControlDesks.{ControlDesk, index_of}
 use Rattle.control_mgr.specs.ControlSteps.{IsSettingPut, IsSettingPutAt}
 use Rattle.control_mgr.specs.WholeControls.{AreBeside as AreControlsBeside, LeavesControls}
 use Rattle.list_mgr.specs.declared.lists.Lists.{Lists}
+use Rattle.list_mgr.specs.declared.spots.Spot.{Spot}
+use Rattle.list_mgr.specs.Spots.{IsSpotOf}
+use Rattle.list_mgr.proofs.Places.{found_names}
+use Rattle.list_mgr.proofs.Steps.{list_read}
 use Rattle.list_mgr.specs.ListDesks.{KeptList, ListDesk, list_of, lists_show, with_controls}
 use Rattle.list_mgr.specs.ListSteps.{AreBarsSet, IsBarSet}
 use Rattle.list_mgr.specs.Lines.{IsBarSetOver, desk_beside}
@@ -77,9 +85,23 @@ module _ {W : Type 0} {K : W → Type 0} (control_loan : TakenControl W K → Co
           ),
         )
 
-    -- what holds of windows and controls once a bar was set
-    pub kept_then : (bar : Option ℕ) (t u : WindowManager V H) (c d : Controls (TakenControl W K)) → IsBarSetOver control_loan loan window bar down t c u d → IsKept loan t → AreControlsBeside control_loan loan t c
-        → IsKept loan u × AreControlsBeside control_loan loan u d
-    kept_then bar t u c d set kept beside =
-        let left = set (record { activity = Idle; begun = λ p. false }) kept.slots beside.slots (record { lists = []; next = None; stock = [] }) kept.whole beside.whole in
-        (record { slots = kept.slots; whole = left.0 }, record { slots = beside.slots; whole = left.1 })
+  -- what holds of windows and controls once a bar was set
+  pub kept_then : (window : ℕ) (bar : Option ℕ) (setting : Setting) (t u : WindowManager V H) (c d : Controls (TakenControl W K)) → IsBarSetOver control_loan loan window bar setting t c u d → IsKept loan t → AreControlsBeside control_loan loan t c
+      → IsKept loan u × AreControlsBeside control_loan loan u d
+  kept_then window bar setting t u c d set kept beside =
+      let left = set (record { activity = Idle; begun = λ p. false }) kept.slots beside.slots (record { lists = []; next = None; stock = [] }) kept.whole beside.whole in
+      (record { slots = kept.slots; whole = left.0 }, record { slots = beside.slots; whole = left.1 })
+
+  -- those of a list that stands here, as the code reads it
+  module _ {X : Type 0} {L : X → Type 0} (list_loan : TakenList X L → ListLoan) (l : ListOf) (t : WindowManager V H) (m : Lists (TakenList X L)) (s : Spot) (is : IsSpotOf loan list_loan l t m s)
+      (x : ListRecord (TakenList X L)) (read : x ≡ get_or m.list.lists.items s.list x) where
+    there : slice_get (records_of list_loan m) s.list ≡ Some (seen list_loan x)
+    there = list_read loan list_loan l t m s is x read
+
+    pub bars_set_there : (rows columns : ℕ) (down across : Setting) → rows ≡ x.cells.rows → columns ≡ x.cells.columns → down ≡ vertical_setting rows x.view → across ≡ horizontal_setting columns x.view
+        → (u v : WindowManager V H) (c d e : Controls (TakenControl W K)) → IsBarSetOver control_loan loan x.window x.vertical down t c u d → IsBarSetOver control_loan loan x.window x.horizontal across u d v e
+        → LeavesLists list_loan loan control_loan (AreBarsSet l) t c m v e m
+    bars_set_there rows columns down across rows_are columns_are down_is across_is =
+        bars_set list_loan l m (seen list_loan x) (ap (option_and_then (slice_get (records_of list_loan m))) is.list ∙ there)
+        x.window (found_names l.window l.list s.list (records_of list_loan m) (seen list_loan x) is.list there).0 down across
+        (down_is ∙ ap (λ n. vertical_setting n x.view) rows_are) (across_is ∙ ap (λ n. horizontal_setting n x.view) columns_are) t

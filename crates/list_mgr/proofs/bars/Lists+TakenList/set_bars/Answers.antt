@@ -1,21 +1,16 @@
-use Rattle.std.proofs.Common.{rules, ◌≡◌, ℕ, ◌+◌, ◌-◌, ◌*◌, ◌<◌, ◌≤◌, length, ◌/◌, ◌%◌, Bool, true, false, nat_eq, nat_lt, List, [], ◌∷◌, ◌++◌, slice_index_or, slice_set, bit_and, bit_or, Fits, w8, w32, w64, Bor, MutBor}
-use Rattle.window_mgr.specs.Kept.{IsKept}
-use Rattle.control_mgr.specs.WholeControls.{AreBeside as AreControlsBeside}
-use Rattle.desk_call.specs.declared.list.ListOf.{ListOf as Named}
-use Rattle.list_mgr.specs.Lines.{IsBarSetOver}
-use Rattle.list_mgr.specs.ListSteps.{AreBarsSet}
-use Rattle.list_mgr.specs.Spots.{IsSpot, IsSpotOf}
-use Rattle.list_mgr.specs.WholeLists.{AreBeside, LeavesLists}
+use Rattle.list_mgr.proofs.BarsSet.{bars_set_there, kept_then}
 use Rattle.list_mgr.proofs.bars.Lists+TakenList.set_bars.Goals as goal
 
--- src/bars.rt:54:9
 pub set_bar-requires-2-clause-kept : goal.set_bar-requires-2-clause-kept
-set_bar-requires-2-clause-kept g c = ?
+set_bar-requires-2-clause-kept g c =
+    (kept_then _ _ c.index-list.result.now.window c.index-list.result.now.vertical c.vertical_values-down.result c.args.windows.now c.set_bar.new.windows c.args.controls.now c.set_bar.new.controls c.set_bar.ensures c.requires.kept c.requires.beside).0
 
--- src/bars.rt:54:9
 pub set_bar-requires-2-clause-beside : goal.set_bar-requires-2-clause-beside
-set_bar-requires-2-clause-beside g c = ?
+set_bar-requires-2-clause-beside g c =
+    (kept_then _ _ c.index-list.result.now.window c.index-list.result.now.vertical c.vertical_values-down.result c.args.windows.now c.set_bar.new.windows c.args.controls.now c.set_bar.new.controls c.set_bar.ensures c.requires.kept c.requires.beside).1
 
--- src/bars.rt:37:5
 pub returns : goal.returns
-returns g c = ?
+returns g c l is =
+    bars_set_there _ _ _ l c.args.windows.now c.args.self.now c.args.spot is c.index-list.result.now c.index-list.ensures c.rows.result c.columns.result c.vertical_values-down.result c.horizontal_values-across.result
+    c.rows.ensures.rows c.columns.ensures.columns c.vertical_values-down.ensures c.horizontal_values-across.ensures
+    c.set_bar.new.windows c.set_bar-2.new.windows c.args.controls.now c.set_bar.new.controls c.set_bar-2.new.controls c.set_bar.ensures c.set_bar-2.ensures
