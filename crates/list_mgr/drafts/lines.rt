@@ -19,58 +19,7 @@ use desk_call::{ControlOf, ListLines, ListReply, ScrollList};
 use tb_geom::Refusal;
 use window_mgr::WindowManager;
 
-/// Sets a scroll bar of a list in this window, if the list was made with one and the window has it still.
-fn set_bar(
-    windows: &mut WindowManager,
-    controls: &mut Controls<TakenControl>,
-    window: u64,
-    bar: Option<u64>,
-    values: ControlValues,
-)
-    requires kept { IsKept ⟦<Taken as Defined>⟧.loan windows.old }
-    requires beside { AreControlsBeside ⟦<TakenControl as DefinedControl>⟧.control_loan ⟦<Taken as Defined>⟧.loan windows.old controls.old }
-    ensures { IsBarSetOver ⟦<TakenControl as DefinedControl>⟧.control_loan ⟦<Taken as Defined>⟧.loan window bar values windows.old controls.old windows.new controls.new }
-{
-    if let Some(control) = bar {
-        controls.set_setting(windows, ControlOf { window, control }, values);
-    }
-}
-
 impl Lists<TakenList> {
-    /// Sets the scroll bars of the list that stands here as its view is. It takes no memory.
-    fn set_bars(
-        &self,
-        windows: &mut WindowManager,
-        controls: &mut Controls<TakenControl>,
-        spot: Spot,
-    )
-        requires kept { IsKept ⟦<Taken as Defined>⟧.loan windows.old }
-        requires beside { AreControlsBeside ⟦<TakenControl as DefinedControl>⟧.control_loan ⟦<Taken as Defined>⟧.loan windows.old controls.old }
-        requires lists { AreBeside ⟦<TakenList as DefinedList>⟧.list_loan ⟦<Taken as Defined>⟧.loan windows.old self.now }
-        requires spot { IsSpot ⟦<Taken as Defined>⟧.loan ⟦<TakenList as DefinedList>⟧.list_loan windows.old self.now spot }
-        ensures { (l : Named) → IsSpotOf ⟦<Taken as Defined>⟧.loan ⟦<TakenList as DefinedList>⟧.list_loan l windows.old self.now spot
-            → LeavesLists ⟦<TakenList as DefinedList>⟧.list_loan ⟦<Taken as Defined>⟧.loan ⟦<TakenControl as DefinedControl>⟧.control_loan (AreBarsSet l) windows.old controls.old self.now windows.new controls.new self.now }
-    {
-        let list = &self.list.lists[spot.list];
-        let down = list.view.vertical_values(list.cells.rows());
-        set_bar(windows, controls, list.window, list.vertical, down);
-        let across = list.view.horizontal_values(list.cells.columns());
-        set_bar(windows, controls, list.window, list.horizontal, across);
-    }
-
-    /// Scrolls the list that stands here, as far as there are cells to be seen, and says whether it is scrolled otherwise then.
-    fn scroll_by(&mut self, spot: Spot, columns: i32, rows: i32) -> bool
-        requires { spot.list < length self.old.list.lists.items }
-        ensures lists { records_of ⟦<TakenList as DefinedList>⟧.list_loan self.new ≡ edit_at (with_scroll columns rows) spot.list (records_of ⟦<TakenList as DefinedList>⟧.list_loan self.old) }
-        ensures next { self.new.list.next ≡ self.old.list.next }
-        ensures changes { IfSome (slice_get (records_of ⟦<TakenList as DefinedList>⟧.list_loan self.old) spot.list) (λ x. IsOther result x (with_scroll columns rows x)) }
-    {
-        let list = &self.list.lists[spot.list];
-        let (was, view) = (list.view, list.view.scrolled(list.cells.columns(), list.cells.rows(), columns, rows));
-        self.list.set_view(spot.list, view);
-        view != was
-    }
-
     /// Adds empty rows.
     pub(crate) fn add_rows(
         &mut self,

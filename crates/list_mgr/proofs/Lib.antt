@@ -12,3 +12,4 @@ pub mod Given
 pub mod DrawingSet
 pub mod Selected
 pub mod BarsSet
+pub mod Scrolled

@@ -1,10 +1,9 @@
 -- One step of a call about lists: what it leaves, and what it answers.
 use Rattle.std.specs.Prelude.{◌≡◌, ◌⊎◌, ℕ, ℤ, pos, nat_abs, Bool, true, false, not, List, [], ◌∷◌, ◌++◌, Option, None, Some, Result, Ok, is_none, slice_get}
 use Rattle.std.specs.List.{AllZip, remove}
-use Rattle.std.specs.Option.{option_map, option_map_or, option_and_then}
+use Rattle.std.specs.Option.{option_map_or}
 use Rattle.tb_geom.specs.declared.point.Point.{Point}
 use Rattle.tb_geom.specs.declared.refusal.Refusal.{Refusal}
-use Rattle.tb_geom.specs.Points.{PixelSet}
 use Rattle.tb_geom.specs.Pixels.{holds}
 use Rattle.tb_geom.specs.Rects.{rect_holds}
 use Rattle.tb_geom.specs.Refusals.{first_refusal}
@@ -14,19 +13,17 @@ use Rattle.list_cells.specs.declared.cell.Cell.{Cell}
 use Rattle.list_cells.specs.declared.click.SelectionFlags.{SelectionFlags}
 use Rattle.list_cells.specs.Blocks.{clicked_cell}
 use Rattle.list_cells.specs.Clicks.{flags_number, keys_of}
-use Rattle.list_cells.specs.Contents.{Content}
 use Rattle.list_cells.specs.Grids.{Grid, columns_added, columns_deleted, content_of, empty_grid, first_from, next_cell, rows_added, rows_deleted, with_bytes}
 use Rattle.list_cells.specs.Runs.{count_to_delete, place_to_add}
 use Rattle.list_cells.specs.Selections.{chosen_cell}
 use Rattle.std.specs.Str.{bytes_eq}
 use Rattle.list_records.specs.Lists.{edit_at, lists_of, serial_after, with_cells, with_drawing, with_view}
 use Rattle.list_view.specs.Bars.{horizontal_bar, horizontal_setting, vertical_bar, vertical_setting}
-use Rattle.list_view.specs.Views.{View, cell_at, scrolled, view_rect}
+use Rattle.list_view.specs.Views.{cell_at, scrolled, view_rect}
 use Rattle.list_paint.specs.Shown.{is_turned}
 use Rattle.def_iface.specs.declared.part.Part.{Part}
 use Rattle.def_iface.specs.declared.part.Part.TheVariants as part
 use Rattle.def_iface.specs.declared.window_def.Stage.TheVariants.{Closed}
-use Rattle.def_iface.specs.declared.size.Size.{Size}
 use Rattle.def_iface.specs.ListMeaning.{IsListBegun, ListDefinition, ListLoan}
 use Rattle.def_iface.specs.Slots.{IsPutBack, IsTaken, is_left}
 use Rattle.def_iface.specs.Change.{Change, IsChanged, no_change}

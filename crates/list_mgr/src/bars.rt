@@ -34,7 +34,7 @@ fn set_bar(
 
 impl Lists<TakenList> {
     /// Sets the scroll bars of the list that stands here as its view is. It takes no memory.
-    fn set_bars(
+    pub(crate) fn set_bars(
         &self,
         windows: &mut WindowManager,
         controls: &mut Controls<TakenControl>,

@@ -14,6 +14,7 @@ mod asking;
 mod bars;
 mod changing;
 mod drawing;
+mod lines;
 mod lists;
 mod selecting;
 mod spots;
