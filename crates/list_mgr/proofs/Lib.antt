@@ -11,3 +11,4 @@ pub mod Changed
 pub mod Given
 pub mod DrawingSet
 pub mod Selected
+pub mod Clicks
