@@ -191,9 +191,12 @@ module _ {V : Type 0} {H : V → Type 0} (loan : Taken V H → Loan) {X : Type 0
         left.0,
         windows,
         subst (λ ws. AreWholeLists ws (lists_state list_loan n kept)) (sym windows) (whole_after (desk_of loan t []).windows kept lists),
-        (x, list_named loan list_loan l t m s is x there,
-        subst (λ b. IsSeenOrNot b l f x (list_desk list_loan loan t o slots cs m kept) (list_desk list_loan loan u o slots cs n kept)) (sym on)
-        (record { changed = changed_to u o slots cs kept; redrawn = redrawn; shows = refl })),
+        (
+          x,
+          list_named loan list_loan l t m s is x there,
+          subst (λ b. IsSeenOrNot b l f x (list_desk list_loan loan t o slots cs m kept) (list_desk list_loan loan u o slots cs n kept)) (sym on)
+              (record { changed = changed_to u o slots cs kept; redrawn = redrawn; shows = refl }),
+        ),
       )
   changed_over (Some update) true ((x, there, off), region) agree u marked o slots cs kept whole lists =
       let was = controls_show (lists_show (records_of list_loan m)) cs.controls in
@@ -207,17 +210,26 @@ module _ {V : Type 0} {H : V → Type 0} (loan : Taken V H → Loan) {X : Type 0
         left.0,
         windows,
         subst (λ ws. AreWholeLists ws (lists_state list_loan n kept)) (sym windows) (whole_after (desk_of loan t []).windows kept lists),
-        (x, list_named loan list_loan l t m s is x there,
-        subst (λ b. IsSeenOrNot b l f x (list_desk list_loan loan t o slots cs m kept) (list_desk list_loan loan u o slots cs n kept)) (sym off)
-        (inr (agree x there, record { changed = changed_to u o slots cs kept; marked = its_mark; shows = refl }))),
+        (
+          x,
+          list_named loan list_loan l t m s is x there,
+          subst (λ b. IsSeenOrNot b l f x (list_desk list_loan loan t o slots cs m kept) (list_desk list_loan loan u o slots cs n kept)) (sym off)
+              (inr (agree x there, record { changed = changed_to u o slots cs kept; marked = its_mark; shows = refl })),
+        ),
       )
   changed_over (Some update) false ((x, there, off), region) agree u same o slots cs kept whole lists =
       subst (λ v. IsWholeManager loan v slots × ((desk_of loan v []).windows ≡ (desk_of loan t []).windows) × AreWholeLists (desk_of loan v []).windows (lists_state list_loan n kept)
-      × IsListChanged l f (list_desk list_loan loan t o slots cs m kept) (list_desk list_loan loan v o slots cs n kept)) (sym same)
-      (whole, refl, whole_after (desk_of loan t []).windows kept lists,
-      (x, list_named loan list_loan l t m s is x there,
-      subst (λ b. IsSeenOrNot b l f x (list_desk list_loan loan t o slots cs m kept) (list_desk list_loan loan t o slots cs n kept)) (sym off)
-      (inl (agree x there, unchanged_so loan list_loan t m n (edited ∙ edit_nothing f s.list (records_of list_loan m) agree) next o slots cs kept))))
+      × IsListChanged l f (list_desk list_loan loan t o slots cs m kept) (list_desk list_loan loan v o slots cs n kept)) (sym same) (
+        whole,
+        refl,
+        whole_after (desk_of loan t []).windows kept lists,
+        (
+          x,
+          list_named loan list_loan l t m s is x there,
+          subst (λ b. IsSeenOrNot b l f x (list_desk list_loan loan t o slots cs m kept) (list_desk list_loan loan t o slots cs n kept)) (sym off)
+              (inl (agree x there, unchanged_so loan list_loan t m n (edited ∙ edit_nothing f s.list (records_of list_loan m) agree) next o slots cs kept)),
+        ),
+      )
 
 -- a call that asks for memory only where the drawing of the list that stands here is off may ask for it
 pub grows_off : {V : Type 0} {H : V → Type 0} (loan : Taken V H → Loan) {X : Type 0} {L : X → Type 0} (list_loan : TakenList X L → ListLoan)

@@ -91,10 +91,15 @@ module _ {V : Type 0} {H : V → Type 0} (loan : Taken V H → Loan) {X : Type 0
         whole,
         refl,
         lists,
-        (click_free inside word o slots cs kept,
-        (seen list_loan x, list_named loan list_loan k.list t m s is (seen list_loan x) (list_read loan list_loan k.list t m s is x read),
-        subst (λ c. IsClickOn k c (reply.Clicked false) (list_desk list_loan loan t o slots cs m kept) (list_desk list_loan loan t o slots cs m kept)) (sym none)
-        (refl, unchanged loan list_loan t o slots cs m kept))),
+        (
+          click_free inside word o slots cs kept,
+          (
+            seen list_loan x,
+            list_named loan list_loan k.list t m s is (seen list_loan x) (list_read loan list_loan k.list t m s is x read),
+            subst (λ c. IsClickOn k c (reply.Clicked false) (list_desk list_loan loan t o slots cs m kept) (list_desk list_loan loan t o slots cs m kept)) (sym none)
+                (refl, unchanged loan list_loan t o slots cs m kept),
+          ),
+        ),
       )
 
       -- on one
@@ -103,8 +108,12 @@ module _ {V : Type 0} {H : V → Type 0} (loan : Taken V H → Loan) {X : Type 0
           → IsChangedOver list_loan loan (IsListStep (asks.Click k) (Ok (reply.Clicked true))) t m u n
       clicked_on cell some u n changed =
           changed_as loan list_loan t u m n (IsSelectionChanged k.list (λ (flags : SelectionFlags). clicked_cell flags (keys_of (nat_abs k.modifiers)) cell)) (IsListStep (asks.Click k) (Ok (reply.Clicked true)))
-          (λ o slots cs kept done.
-          (click_free inside word o slots cs kept,
-          (seen list_loan x, list_named loan list_loan k.list t m s is (seen list_loan x) (list_read loan list_loan k.list t m s is x read),
-          subst (λ c. IsClickOn k c (reply.Clicked true) (list_desk list_loan loan t o slots cs m kept) (list_desk list_loan loan u o slots cs n kept)) (sym some) (refl, done))))
+          (λ o slots cs kept done. (
+            click_free inside word o slots cs kept,
+            (
+              seen list_loan x,
+              list_named loan list_loan k.list t m s is (seen list_loan x) (list_read loan list_loan k.list t m s is x read),
+              subst (λ c. IsClickOn k c (reply.Clicked true) (list_desk list_loan loan t o slots cs m kept) (list_desk list_loan loan u o slots cs n kept)) (sym some) (refl, done),
+            ),
+          ))
           changed

@@ -86,11 +86,16 @@ module _ {V : Type 0} {H : V → Type 0} (loan : Taken V H → Loan) {X : Type 0
         whole,
         refl,
         whole_after loan list_loan d.list t m n s is (with_drawing d.drawing) keeps edited next stays (desk_of loan t []).windows kept lists,
-        (nothing_missing loan list_loan d.list t m s is,
-        (refl, changed_to loan list_loan d.list t m n s is (with_drawing d.drawing) keeps edited next stays t o slots cs kept,
-        record {
-          windows = record { desk = λ i. record (desk_of loan t slots) { shows = λ q p. shows cs.controls q p i }; stale = λ p on. refl; image = λ p on. refl };
-          activity = refl;
-          begun = refl;
-        })),
+        (
+          nothing_missing loan list_loan d.list t m s is,
+          (
+            refl,
+            changed_to loan list_loan d.list t m n s is (with_drawing d.drawing) keeps edited next stays t o slots cs kept,
+            record {
+              windows = record { desk = λ i. record (desk_of loan t slots) { shows = λ q p. shows cs.controls q p i }; stale = λ p on. refl; image = λ p on. refl };
+              activity = refl;
+              begun = refl;
+            },
+          ),
+        ),
       )

@@ -119,16 +119,19 @@ module _ {V : Type 0} {H : V → Type 0} (loan : Taken V H → Loan) {X : Type 0
         windows,
         subst (λ ws. AreWholeLists ws (lists_state list_loan n kept)) (sym windows)
             (whole_after loan list_loan l t m n s is (with_grid g) (grid_keeps g) edit refl kept_so (desk_of loan t []).windows kept lists),
-        (y, list_named loan list_loan l t m s is y y_there,
-        subst (λ b. IsToggledOrNot b l g y (list_desk list_loan loan t o slots cs m kept) (list_desk list_loan loan u o slots cs n kept)) (sym drawn)
-        (record {
-          changed = changed_to loan list_loan l t m n s is (with_grid g) (grid_keeps g) edit refl kept_so u o slots cs kept;
-          toggled = λ r r_is.
-              let both : Some (record_of loan w) ≡ Some r = sym (found loan t t slots whole s.window l.window w is.window.0 lies (is.window.1 w lies)) ∙ r_is in
-              let same : record_of loan w ≡ r = cc in
-              subst (λ (k : WindowRecord). IsLayerToggled l.window k.place (part.List l.list) (turned (g y.cells)) (state_showing was (state_of loan t slots)) (state_showing after (state_of loan u slots))) same its;
-          shows = refl;
-        })),
+        (
+          y,
+          list_named loan list_loan l t m s is y y_there,
+          subst (λ b. IsToggledOrNot b l g y (list_desk list_loan loan t o slots cs m kept) (list_desk list_loan loan u o slots cs n kept)) (sym drawn)
+              (record {
+                changed = changed_to loan list_loan l t m n s is (with_grid g) (grid_keeps g) edit refl kept_so u o slots cs kept;
+                toggled = λ r r_is.
+                    let both : Some (record_of loan w) ≡ Some r = sym (found loan t t slots whole s.window l.window w is.window.0 lies (is.window.1 w lies)) ∙ r_is in
+                    let same : record_of loan w ≡ r = cc in
+                    subst (λ (k : WindowRecord). IsLayerToggled l.window k.place (part.List l.list) (turned (g y.cells)) (state_showing was (state_of loan t slots)) (state_showing after (state_of loan u slots))) same its;
+                shows = refl;
+              }),
+        ),
       )
   selected_so (Some update) ((z, there, off), region) u toggled = by_change (toggled y y_there)
     where
@@ -139,10 +142,12 @@ module _ {V : Type 0} {H : V → Type 0} (loan : Taken V H → Loan) {X : Type 0
           → IsSelectionChanged l h (list_desk list_loan loan t o slots cs m kept) (list_desk list_loan loan u o slots cs n kept)
       convert o slots cs kept (k, named, changed) =
           let both : Some k ≡ Some y = sym named ∙ list_named loan list_loan l t m s is y y_there in
-          let same : k ≡ y = cc in
-          (y, list_named loan list_loan l t m s is y y_there,
-          unseen y.drawing l g y (list_desk list_loan loan t o slots cs m kept) (list_desk list_loan loan u o slots cs n kept) drawn
-          (subst (λ k. IsSeenOrNot k.drawing l (with_grid g) k (list_desk list_loan loan t o slots cs m kept) (list_desk list_loan loan u o slots cs n kept)) same changed))
+          let same : k ≡ y = cc in (
+            y,
+            list_named loan list_loan l t m s is y y_there,
+            unseen y.drawing l g y (list_desk list_loan loan t o slots cs m kept) (list_desk list_loan loan u o slots cs n kept) drawn
+                (subst (λ k. IsSeenOrNot k.drawing l (with_grid g) k (list_desk list_loan loan t o slots cs m kept) (list_desk list_loan loan u o slots cs n kept)) same changed),
+          )
 
       by_change : (changes : Bool) × IsChange changes x.cells (selected_by selecting x.cells) × IsMarkedIf list_loan loan changes y t u → IsChangedOver list_loan loan (IsSelectionChanged l h) t m u n
       by_change (changes, change, marked) =

@@ -79,9 +79,10 @@ returns g c =
     let changes : not (length set.text == 0) ≡ not c.is_empty-changes.result =
     ap not (sym (c.is_empty-changes.ensures ∙ ap (λ (text : List ℕ). length text == 0) c.as_slice-text.ensures)) in
     changed_as _ (list.list_loan-value g.dyn-1).it t c.show.new.windows m _ (IsListChanged set.cell.list (with_grid (appended cell set.text))) (IsListStep (asks.AddToCell set) (Ok reply.Done))
-    (λ o slots cs kept done.
-    (its_reasons _ _ set.cell.list t m spot is (λ y. data_refusals y.cells cell 0 (length set.text)) (seen (list.list_loan-value g.dyn-1).it x) (list_read _ _ set.cell.list t m spot is x read) ∙ allowed,
-    (refl, done)))
+    (λ o slots cs kept done. (
+      its_reasons _ _ set.cell.list t m spot is (λ y. data_refusals y.cells cell 0 (length set.text)) (seen (list.list_loan-value g.dyn-1).it x) (list_read _ _ set.cell.list t m spot is x read) ∙ allowed,
+      (refl, done),
+    ))
     (changed_so _ (list.list_loan-value g.dyn-1).it set.cell.list t m spot is x read (appended cell set.text) c.add_to_cell.new.self
     (c.in_ok-add_to_cell.ensures.cells ∙ ap (λ (text : List ℕ). appended cell text x.cells) c.as_slice-text.ensures) (λ good. added_grid x.cells cell set.text good allowed) c.in_ok-mark.mark (not c.is_empty-changes.result) c.in_ok-mark.ensures
     (subst (λ b. IsSameOrNot b (appended cell set.text x.cells) x.cells) changes

@@ -63,9 +63,10 @@ returns g c =
     let has : is_cell x.cells cell ≡ true = sym c.in_ok-clear_cell.ensures.found in
     let same : c.index.result.now ≡ x = one_item m.list.lists.items spot.list c.index.result.now x is.low c.index.ensures read in
     changed_as _ (list.list_loan-value g.dyn-1).it t c.show.new.windows m _ (IsListChanged named.list (with_grid (λ (y : Grid). with_bytes y cell []))) (IsListStep (asks.ClearCell named) (Ok reply.Done))
-    (λ o slots cs kept done.
-    (cell_there _ _ named.list t m spot is cell (seen (list.list_loan-value g.dyn-1).it x) (list_read _ _ named.list t m spot is x read) has,
-    (refl, done)))
+    (λ o slots cs kept done. (
+      cell_there _ _ named.list t m spot is cell (seen (list.list_loan-value g.dyn-1).it x) (list_read _ _ named.list t m spot is x read) has,
+      (refl, done),
+    ))
     (changed_so _ (list.list_loan-value g.dyn-1).it named.list t m spot is x read (λ (y : Grid). with_bytes y cell []) c.clear_cell.new.self
     (c.in_ok-clear_cell.ensures.cells ∙ ap (λ b. if b then with_bytes x.cells cell [] else x.cells) has) (λ good. cleared_grid x.cells cell good has) c.in_ok-mark.mark (not c.is_empty-changes.result) c.in_ok-mark.ensures
     (subst (λ b. IsSameOrNot (not b) (with_bytes x.cells cell []) x.cells) (sym c.is_empty-changes.ensures)

@@ -107,9 +107,10 @@ returns g c =
     sym (c.differ-changes.ensures ∙ ap (λ (old : List ℕ). not (bytes_eq old c.as_slice-text.result.now)) (c.in_ok-cell.ensures.bytes ∙ ap (λ y. (content_of y.cells cell).bytes) same)
     ∙ ap (λ (text : List ℕ). not (bytes_eq (content_of x.cells cell).bytes text)) c.as_slice-text.ensures) in
     changed_as _ (list.list_loan-value g.dyn-1).it t c.show.new.windows m _ (IsListChanged set.cell.list (with_grid (λ (y : Grid). with_bytes y cell set.text))) (IsListStep (asks.SetCell set) (Ok reply.Done))
-    (λ o slots cs kept done.
-    (its_reasons _ _ set.cell.list t m spot is (λ y. data_refusals y.cells cell (length (content_of y.cells cell).bytes) (length set.text)) (seen (list.list_loan-value g.dyn-1).it x) (list_read _ _ set.cell.list t m spot is x read) ∙ allowed,
-    (refl, done)))
+    (λ o slots cs kept done. (
+      its_reasons _ _ set.cell.list t m spot is (λ y. data_refusals y.cells cell (length (content_of y.cells cell).bytes) (length set.text)) (seen (list.list_loan-value g.dyn-1).it x) (list_read _ _ set.cell.list t m spot is x read) ∙ allowed,
+      (refl, done),
+    ))
     (changed_so _ (list.list_loan-value g.dyn-1).it set.cell.list t m spot is x read (λ (y : Grid). with_bytes y cell set.text) c.set_cell.new.self
     (c.in_ok-set_cell.ensures.cells ∙ ap (λ (text : List ℕ). with_bytes x.cells cell text) c.as_slice-text.ensures) (λ good. set_grid x.cells cell set.text good allowed) c.in_ok-mark.mark c.differ-changes.result c.in_ok-mark.ensures
     (subst (λ b. IsSameOrNot b (with_bytes x.cells cell set.text) x.cells) changes
