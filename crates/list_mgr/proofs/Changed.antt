@@ -1,5 +1,5 @@
 -- A list that was changed where it stands, and shown anew or marked: what that leaves of windows and lists.
-use Rattle.std.proofs.Common.{◌≡◌, inl, inr, ℕ, ◌<◌, ◌&&◌, ◌||◌, Bool, true, false, not, List, [], ◌∷◌, length, get_or, set, Option, Some, None, Result, Ok, Err, refl, sym, ap, ◌∙◌, subst}
+use Rattle.std.proofs.Common.{◌≡◌, inl, inr, ℕ, ◌<◌, ◌&&◌, ◌||◌, Bool, true, false, not, List, [], length, get_or, set, Option, Some, None, Result, Err, refl, sym, ap, ◌∙◌, subst}
 use Rattle.std.specs.Option.{option_map_or}
 use Rattle.std.specs.Prelude.{slice_get}
 use Rattle.std.proofs.lemmas.List.{set-get_or}
@@ -37,7 +37,7 @@ use Rattle.control_mgr.proofs.Places.{IsThere, within}
 use Rattle.list_mgr.specs.declared.lists.Lists.{Lists}
 use Rattle.list_mgr.specs.declared.spots.Spot.{Spot}
 use Rattle.list_mgr.specs.Changing.{IsDrawing, IsMark, IsSameOrNot, IsShownOrMarked}
-use Rattle.list_mgr.specs.ListDesks.{IsListDeskUnchanged, KeptList, ListSlot, index_of, lists_show}
+use Rattle.list_mgr.specs.ListDesks.{IsListDeskUnchanged, KeptList, ListDesk, ListSlot, index_of, lists_show}
 use Rattle.list_mgr.specs.ListRefusals.{is_drawing_off, may_list_grow}
 use Rattle.list_mgr.specs.ListSteps.{IsChangedTo, IsLayerMarked, IsListChanged, IsListStep, IsSeenOrNot, with_grid}
 use Rattle.list_mgr.specs.Spots.{IsSpot, IsSpotOf}
@@ -191,9 +191,12 @@ module _ {V : Type 0} {H : V → Type 0} (loan : Taken V H → Loan) {X : Type 0
         left.0,
         windows,
         subst (λ ws. AreWholeLists ws (lists_state list_loan n kept)) (sym windows) (whole_after (desk_of loan t []).windows kept lists),
-        (x, list_named loan list_loan l t m s is x there,
-        subst (λ b. IsSeenOrNot b l f x (list_desk list_loan loan t o slots cs m kept) (list_desk list_loan loan u o slots cs n kept)) (sym on)
-        (record { changed = changed_to u o slots cs kept; redrawn = redrawn; shows = refl })),
+        (
+          x,
+          list_named loan list_loan l t m s is x there,
+          subst (λ b. IsSeenOrNot b l f x (list_desk list_loan loan t o slots cs m kept) (list_desk list_loan loan u o slots cs n kept)) (sym on)
+              (record { changed = changed_to u o slots cs kept; redrawn = redrawn; shows = refl }),
+        ),
       )
   changed_over (Some update) true ((x, there, off), region) agree u marked o slots cs kept whole lists =
       let was = controls_show (lists_show (records_of list_loan m)) cs.controls in
@@ -207,17 +210,26 @@ module _ {V : Type 0} {H : V → Type 0} (loan : Taken V H → Loan) {X : Type 0
         left.0,
         windows,
         subst (λ ws. AreWholeLists ws (lists_state list_loan n kept)) (sym windows) (whole_after (desk_of loan t []).windows kept lists),
-        (x, list_named loan list_loan l t m s is x there,
-        subst (λ b. IsSeenOrNot b l f x (list_desk list_loan loan t o slots cs m kept) (list_desk list_loan loan u o slots cs n kept)) (sym off)
-        (inr (agree x there, record { changed = changed_to u o slots cs kept; marked = its_mark; shows = refl }))),
+        (
+          x,
+          list_named loan list_loan l t m s is x there,
+          subst (λ b. IsSeenOrNot b l f x (list_desk list_loan loan t o slots cs m kept) (list_desk list_loan loan u o slots cs n kept)) (sym off)
+              (inr (agree x there, record { changed = changed_to u o slots cs kept; marked = its_mark; shows = refl })),
+        ),
       )
   changed_over (Some update) false ((x, there, off), region) agree u same o slots cs kept whole lists =
       subst (λ v. IsWholeManager loan v slots × ((desk_of loan v []).windows ≡ (desk_of loan t []).windows) × AreWholeLists (desk_of loan v []).windows (lists_state list_loan n kept)
-      × IsListChanged l f (list_desk list_loan loan t o slots cs m kept) (list_desk list_loan loan v o slots cs n kept)) (sym same)
-      (whole, refl, whole_after (desk_of loan t []).windows kept lists,
-      (x, list_named loan list_loan l t m s is x there,
-      subst (λ b. IsSeenOrNot b l f x (list_desk list_loan loan t o slots cs m kept) (list_desk list_loan loan t o slots cs n kept)) (sym off)
-      (inl (agree x there, unchanged_so loan list_loan t m n (edited ∙ edit_nothing f s.list (records_of list_loan m) agree) next o slots cs kept))))
+      × IsListChanged l f (list_desk list_loan loan t o slots cs m kept) (list_desk list_loan loan v o slots cs n kept)) (sym same) (
+        whole,
+        refl,
+        whole_after (desk_of loan t []).windows kept lists,
+        (
+          x,
+          list_named loan list_loan l t m s is x there,
+          subst (λ b. IsSeenOrNot b l f x (list_desk list_loan loan t o slots cs m kept) (list_desk list_loan loan t o slots cs n kept)) (sym off)
+              (inl (agree x there, unchanged_so loan list_loan t m n (edited ∙ edit_nothing f s.list (records_of list_loan m) agree) next o slots cs kept)),
+        ),
+      )
 
 -- a call that asks for memory only where the drawing of the list that stands here is off may ask for it
 pub grows_off : {V : Type 0} {H : V → Type 0} (loan : Taken V H → Loan) {X : Type 0} {L : X → Type 0} (list_loan : TakenList X L → ListLoan)
@@ -225,3 +237,17 @@ pub grows_off : {V : Type 0} {H : V → Type 0} (loan : Taken V H → Loan) {X :
     → (kept : List ListSlot) → is_drawing_off l (lists_state list_loan m kept) ≡ true
 grows_off loan list_loan l t m s is (x, there, off) kept =
     ap (λ o. option_map_or (λ (y : KeptList). not y.drawing) o false) (list_named loan list_loan l t m s is x there) ∙ ap not off
+
+-- what a call leaves is a step of another kind as well
+pub changed_as : {V : Type 0} {H : V → Type 0} (loan : Taken V H → Loan) {X : Type 0} {L : X → Type 0} (list_loan : TakenList X L → ListLoan)
+    (t u : WindowManager V H) (m n : Lists (TakenList X L)) (P Q : ListDesk → ListDesk → Type 0)
+    → ((o : Opened) (slots : List SlotView) (cs : ControlsState) (kept : List ListSlot) → P (list_desk list_loan loan t o slots cs m kept) (list_desk list_loan loan u o slots cs n kept)
+    → Q (list_desk list_loan loan t o slots cs m kept) (list_desk list_loan loan u o slots cs n kept))
+    → IsChangedOver list_loan loan P t m u n → IsChangedOver list_loan loan Q t m u n
+changed_as loan list_loan t u m n P Q same over o slots cs kept whole lists = again (over o slots cs kept whole lists)
+  where
+    again : IsWholeManager loan u slots × ((desk_of loan u []).windows ≡ (desk_of loan t []).windows) × AreWholeLists (desk_of loan u []).windows (lists_state list_loan n kept)
+        × P (list_desk list_loan loan t o slots cs m kept) (list_desk list_loan loan u o slots cs n kept)
+        → IsWholeManager loan u slots × ((desk_of loan u []).windows ≡ (desk_of loan t []).windows) × AreWholeLists (desk_of loan u []).windows (lists_state list_loan n kept)
+        × Q (list_desk list_loan loan t o slots cs m kept) (list_desk list_loan loan u o slots cs n kept)
+    again (a, b, c, p) = (a, b, c, same o slots cs kept p)

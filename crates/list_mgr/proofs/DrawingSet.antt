@@ -77,18 +77,25 @@ module _ {V : Type 0} {H : V → Type 0} (loan : Taken V H → Loan) {X : Type 0
       both_show cs (records_of list_loan m) (records_of list_loan n) t.font
       (λ q p. ap (λ ls. lists_show ls t.font q p) edited ∙ shows_edit d.drawing s.list (records_of list_loan m) t.font q p) q p
 
+  stays : (x : KeptList) → slice_get (records_of list_loan m) s.list ≡ Some x → IsSettledList x → IsSettledList (with_drawing d.drawing x)
+  stays x there = drawing_stays d.drawing x
+
   pub drawing_set : IsChangedOver list_loan loan (IsListStep (asks.SetDrawing d) (Ok reply.Done)) t m t n
   drawing_set o slots cs kept whole lists =
-      let keeps = drawing_keeps d.drawing in
-      let stays = λ (x : KeptList) e. drawing_stays d.drawing x in (
+      let keeps = drawing_keeps d.drawing in (
         whole,
         refl,
         whole_after loan list_loan d.list t m n s is (with_drawing d.drawing) keeps edited next stays (desk_of loan t []).windows kept lists,
-        (nothing_missing loan list_loan d.list t m s is,
-        (refl, changed_to loan list_loan d.list t m n s is (with_drawing d.drawing) keeps edited next stays t o slots cs kept,
-        record {
-          windows = record { desk = λ i. record (desk_of loan t slots) { shows = λ q p. shows cs.controls q p i }; stale = λ p on. refl; image = λ p on. refl };
-          activity = refl;
-          begun = refl;
-        })),
+        (
+          nothing_missing loan list_loan d.list t m s is,
+          (
+            refl,
+            changed_to loan list_loan d.list t m n s is (with_drawing d.drawing) keeps edited next stays t o slots cs kept,
+            record {
+              windows = record { desk = λ i. record (desk_of loan t slots) { shows = λ q p. shows cs.controls q p i }; stale = λ p on. refl; image = λ p on. refl };
+              activity = refl;
+              begun = refl;
+            },
+          ),
+        ),
       )

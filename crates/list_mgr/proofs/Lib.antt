@@ -1,4 +1,5 @@
--- Lemmas on the lists of a desk: the steps of calls, where a list stands, and what lists show.
+-- Lemmas on the lists of a desk: the steps of calls, where a list stands, what is asked about it, what lists show, and what holds
+-- where one of them is changed, shown anew, marked, toggled and clicked.
 pub mod Steps
 pub mod Places
 pub mod Drawn
@@ -13,3 +14,4 @@ pub mod DrawingSet
 pub mod Selected
 pub mod BarsSet
 pub mod Scrolled
+pub mod Clicks

@@ -1,5 +1,5 @@
 -- A list of which a call changed the selection, as it had said, which was toggled or marked before.
-use Rattle.std.proofs.Common.{◌≡◌, inl, inr, ℕ, ◌<◌, Bool, true, false, List, [], length, get_or, Option, Some, None, refl, sym, ap, ◌∙◌, subst, arith}
+use Rattle.std.proofs.Common.{◌≡◌, ℕ, ◌<◌, Bool, true, false, List, [], length, get_or, Option, Some, None, refl, sym, ap, ◌∙◌, subst, arith}
 use Rattle.std.specs.Prelude.{slice_get}
 use Rattle.std.proofs.lemmas.Bool.{true≢false}
 use Rattle.std.proofs.lemmas.List.{ext_get_or}
@@ -9,10 +9,10 @@ use Rattle.def_iface.specs.declared.taken.Taken.{Taken}
 use Rattle.def_iface.specs.declared.taken_list.TakenList.{TakenList}
 use Rattle.def_iface.specs.ListMeaning.{ListLoan}
 use Rattle.def_iface.specs.Meaning.{Loan}
+use Rattle.def_iface.specs.Stocked.{SlotView}
 use Rattle.list_cells.specs.declared.click.SelectionFlags.{SelectionFlags}
 use Rattle.list_cells.specs.declared.selecting.Selecting.{Selecting}
-use Rattle.list_cells.specs.Blocks.{content_at}
-use Rattle.list_cells.specs.Contents.{Content, bytes_held, empty_content}
+use Rattle.list_cells.specs.Contents.{empty_content}
 use Rattle.list_cells.specs.Grids.{Grid, IsGrid}
 use Rattle.list_cells.specs.Selections.{IsChange, IsSelecting, selected_by}
 use Rattle.list_cells.proofs.SelectionLemmas.{selected_grid, selecting_by}
@@ -23,22 +23,22 @@ use Rattle.desk_call.specs.declared.list.ListOf.{ListOf}
 use Rattle.vis_update.specs.Records.{WindowRecord, record_of}
 use Rattle.window_list.specs.declared.window.Window.{Window}
 use Rattle.window_mgr.specs.declared.manager.WindowManager.{WindowManager}
+use Rattle.window_mgr.specs.DeskStates.{Opened}
 use Rattle.window_mgr.specs.Edits.{IsWindowAt}
-use Rattle.window_mgr.specs.Finding.{record_with}
 use Rattle.window_mgr.specs.FullDesk.{FullDesk}
 use Rattle.window_mgr.specs.Records.{desk_of, state_of, state_showing}
 use Rattle.window_mgr.specs.Relayered.{IsLayerToggled}
 use Rattle.window_mgr.proofs.Steps.{found}
-use Rattle.control_mgr.specs.ControlDesks.{controls_show}
+use Rattle.control_mgr.specs.ControlDesks.{ControlsState, controls_show}
 use Rattle.control_mgr.proofs.Places.{read_is, there_is}
 use Rattle.list_mgr.specs.declared.lists.Lists.{Lists}
 use Rattle.list_mgr.specs.declared.spots.Spot.{Spot}
 use Rattle.list_mgr.specs.Changing.{IsMark, IsMarkedBy, IsMarkedIf, IsSameOrNot, IsShownOrMarked, IsToggledOrMarked}
-use Rattle.list_mgr.specs.ListDesks.{KeptList, ListDesk, lists_show}
-use Rattle.list_mgr.specs.ListSteps.{IsSeenOrNot, IsSelectionChanged, IsToggledOrNot, with_grid}
+use Rattle.list_mgr.specs.ListDesks.{KeptList, ListDesk, ListSlot, lists_show}
+use Rattle.list_mgr.specs.ListSteps.{IsListChanged, IsSeenOrNot, IsSelectionChanged, IsToggledOrNot, with_grid}
 use Rattle.list_mgr.specs.Spots.{IsSpotOf}
 use Rattle.list_mgr.specs.WholeLists.{IsChangedOver, list_desk, lists_state, records_of, AreWholeLists}
-use Rattle.list_mgr.proofs.Changed.{changed_over, changed_to, grid_keeps, grid_or_not, same_item, whole_after}
+use Rattle.list_mgr.proofs.Changed.{changed_as, changed_over, changed_to, grid_keeps, grid_or_not, same_item, whole_after}
 use Rattle.list_mgr.proofs.Edited.{there_edited}
 use Rattle.list_mgr.proofs.Given.{edited, of_read, stays, with_cells_there}
 use Rattle.list_mgr.proofs.Places.{found_names}
@@ -119,28 +119,39 @@ module _ {V : Type 0} {H : V → Type 0} (loan : Taken V H → Loan) {X : Type 0
         windows,
         subst (λ ws. AreWholeLists ws (lists_state list_loan n kept)) (sym windows)
             (whole_after loan list_loan l t m n s is (with_grid g) (grid_keeps g) edit refl kept_so (desk_of loan t []).windows kept lists),
-        (y, list_named loan list_loan l t m s is y y_there,
-        subst (λ b. IsToggledOrNot b l g y (list_desk list_loan loan t o slots cs m kept) (list_desk list_loan loan u o slots cs n kept)) (sym drawn)
-        (record {
-          changed = changed_to loan list_loan l t m n s is (with_grid g) (grid_keeps g) edit refl kept_so u o slots cs kept;
-          toggled = λ r r_is.
-              let both : Some (record_of loan w) ≡ Some r = sym (found loan t t slots whole s.window l.window w is.window.0 lies (is.window.1 w lies)) ∙ r_is in
-              let same : record_of loan w ≡ r = cc in
-              subst (λ (k : WindowRecord). IsLayerToggled l.window k.place (part.List l.list) (turned (g y.cells)) (state_showing was (state_of loan t slots)) (state_showing after (state_of loan u slots))) same its;
-          shows = refl;
-        })),
+        (
+          y,
+          list_named loan list_loan l t m s is y y_there,
+          subst (λ b. IsToggledOrNot b l g y (list_desk list_loan loan t o slots cs m kept) (list_desk list_loan loan u o slots cs n kept)) (sym drawn)
+              (record {
+                changed = changed_to loan list_loan l t m n s is (with_grid g) (grid_keeps g) edit refl kept_so u o slots cs kept;
+                toggled = λ r r_is.
+                    let both : Some (record_of loan w) ≡ Some r = sym (found loan t t slots whole s.window l.window w is.window.0 lies (is.window.1 w lies)) ∙ r_is in
+                    let same : record_of loan w ≡ r = cc in
+                    subst (λ (k : WindowRecord). IsLayerToggled l.window k.place (part.List l.list) (turned (g y.cells)) (state_showing was (state_of loan t slots)) (state_showing after (state_of loan u slots))) same its;
+                shows = refl;
+              }),
+        ),
       )
-  selected_so (Some update) ((z, there, off), region) u toggled o slots cs kept whole lists =
-      let it = toggled y y_there in
-      let drawn : y.drawing ≡ false = ap (λ (k : KeptList). k.drawing) (same_item (records_of list_loan m) s.list y z y_there there) ∙ off in
-      let left = changed_over loan list_loan l t m n s is (with_grid g) (grid_keeps g) (edited loan list_loan l t m s is x read g cells now good) refl (stays loan list_loan l t m s is x read g cells now good)
-      (Some update) it.0 ((z, there, off), region)
-      (of_read loan list_loan l t m s is x read (λ k. IsSameOrNot it.0 (with_grid g k) k) (grid_or_not it.0 g y (either it.0 it.1))) u (marked_or_not update it.0 u it.2) o slots cs kept whole lists in
-      let named : left.3.0 ≡ y = let both : Some left.3.0 ≡ Some y = sym left.3.1 ∙ list_named loan list_loan l t m s is y y_there in cc in (
-        left.0,
-        left.1,
-        left.2,
-        (y, list_named loan list_loan l t m s is y y_there,
-        unseen y.drawing l g y (list_desk list_loan loan t o slots cs m kept) (list_desk list_loan loan u o slots cs n kept) drawn
-        (subst (λ k. IsSeenOrNot k.drawing l (with_grid g) k (list_desk list_loan loan t o slots cs m kept) (list_desk list_loan loan u o slots cs n kept)) named left.3.2)),
-      )
+  selected_so (Some update) ((z, there, off), region) u toggled = by_change (toggled y y_there)
+    where
+      drawn : y.drawing ≡ false
+      drawn = ap (λ (k : KeptList). k.drawing) (same_item (records_of list_loan m) s.list y z y_there there) ∙ off
+
+      convert : (o : Opened) (slots : List SlotView) (cs : ControlsState) (kept : List ListSlot) → IsListChanged l (with_grid g) (list_desk list_loan loan t o slots cs m kept) (list_desk list_loan loan u o slots cs n kept)
+          → IsSelectionChanged l h (list_desk list_loan loan t o slots cs m kept) (list_desk list_loan loan u o slots cs n kept)
+      convert o slots cs kept (k, named, changed) =
+          let both : Some k ≡ Some y = sym named ∙ list_named loan list_loan l t m s is y y_there in
+          let same : k ≡ y = cc in (
+            y,
+            list_named loan list_loan l t m s is y y_there,
+            unseen y.drawing l g y (list_desk list_loan loan t o slots cs m kept) (list_desk list_loan loan u o slots cs n kept) drawn
+                (subst (λ k. IsSeenOrNot k.drawing l (with_grid g) k (list_desk list_loan loan t o slots cs m kept) (list_desk list_loan loan u o slots cs n kept)) same changed),
+          )
+
+      by_change : (changes : Bool) × IsChange changes x.cells (selected_by selecting x.cells) × IsMarkedIf list_loan loan changes y t u → IsChangedOver list_loan loan (IsSelectionChanged l h) t m u n
+      by_change (changes, change, marked) =
+          changed_as loan list_loan t u m n (IsListChanged l (with_grid g)) (IsSelectionChanged l h) convert
+          (changed_over loan list_loan l t m n s is (with_grid g) (grid_keeps g) (edited loan list_loan l t m s is x read g cells now good) refl (stays loan list_loan l t m s is x read g cells now good)
+          (Some update) changes ((z, there, off), region)
+          (of_read loan list_loan l t m s is x read (λ k. IsSameOrNot changes (with_grid g k) k) (grid_or_not changes g y (either changes change))) u (marked_or_not update changes u marked))

@@ -1,5 +1,5 @@
 -- A list that stands somewhere: the region that marks it, and what it leaves that it is marked, shown anew or toggled.
-use Rattle.std.proofs.Common.{◌≡◌, ℕ, ◌<◌, ◌&&◌, ◌||◌, Bool, List, length, get_or, Some, sym, ap, ◌∙◌, subst}
+use Rattle.std.proofs.Common.{◌≡◌, ℕ, ◌<◌, ◌&&◌, ◌||◌, List, length, get_or, Some, sym, ap, ◌∙◌, subst}
 use Rattle.std.specs.Prelude.{slice_get}
 use Rattle.tb_geom.specs.declared.point.Point.{Point}
 use Rattle.tb_geom.specs.Points.{PixelSet, minus}
@@ -79,9 +79,11 @@ module _ {V : Type 0} {H : V → Type 0} (loan : Taken V H → Loan) {X : Type 0
         let shows = lists_show (records_of list_loan m) in
         leaves_redrawn loan list_loan t u x.window (part.List x.serial) shows was is
         (λ slots whole.
-        let left = redrawn w lies k.item read was slots whole in
-        (left.0, subst (λ n. IsLayerRedrawn n (part.List x.serial) (state_showing was (state_of loan t slots)) (state_showing shows (state_of loan u slots))) (in_window window.item lies)
-        (subst (λ q. IsLayerRedrawn w.serial q (state_showing was (state_of loan t slots)) (state_showing shows (state_of loan u slots))) (its_part w.layers.layers layer its k.item read) left.1)))
+        let left = redrawn w lies k.item read was slots whole in (
+          left.0,
+          subst (λ n. IsLayerRedrawn n (part.List x.serial) (state_showing was (state_of loan t slots)) (state_showing shows (state_of loan u slots))) (in_window window.item lies)
+              (subst (λ q. IsLayerRedrawn w.serial q (state_showing was (state_of loan t slots)) (state_showing shows (state_of loan u slots))) (its_part w.layers.layers layer its k.item read) left.1),
+        ))
         same
 
     -- where all that it owns was put into the update region of its window it is marked
@@ -103,9 +105,11 @@ module _ {V : Type 0} {H : V → Type 0} (loan : Taken V H → Loan) {X : Type 0
         let its = layers w w_is in
         let k = there_is w.layers.layers layer its.low in
         let read : k.item ≡ get_or w.layers.layers layer k.item = read_is w.layers.layers layer k.item k.there in
-        let left = toggled w w_is k.item read was is slots whole in
-        (left.0, subst (λ n. IsLayerToggled n w.place (part.List x.serial) toggles (state_showing was (state_of loan t slots)) (state_showing is (state_of loan u slots))) (in_window w w_is)
-        (subst (λ q. IsLayerToggled w.serial w.place q toggles (state_showing was (state_of loan t slots)) (state_showing is (state_of loan u slots))) (its_part w.layers.layers layer its k.item read) left.1))
+        let left = toggled w w_is k.item read was is slots whole in (
+          left.0,
+          subst (λ n. IsLayerToggled n w.place (part.List x.serial) toggles (state_showing was (state_of loan t slots)) (state_showing is (state_of loan u slots))) (in_window w w_is)
+              (subst (λ q. IsLayerToggled w.serial w.place q toggles (state_showing was (state_of loan t slots)) (state_showing is (state_of loan u slots))) (its_part w.layers.layers layer its k.item read) left.1),
+        )
 
   -- the update region of its window with what shows of its layer marks it
   pub marked_region : (v : Window V H) → IsWindowAt t.windows.records.items s.window v → (b : Area) → b ≡ get_or t.areas.items s.window b → s.window < length t.areas.items

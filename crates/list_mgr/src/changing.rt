@@ -161,7 +161,10 @@ impl Lists<TakenList> {
             (IsListStep (asks.ClearCell cleared) result) windows.old self.old windows.new self.new }
     {
         let spot = self.spot(windows, cleared.list)?;
-        let changes = !self.list.lists[spot.list].cells.cell(cleared.cell)?.is_empty();
+        let changes = !self.list.lists[spot.list]
+            .cells
+            .cell(cleared.cell)?
+            .is_empty();
         let mark = self.mark(windows, spot)?;
         self.list.lists[spot.list].cells.clear_cell(cleared.cell)?;
         self.show(windows, spot, mark, changes);

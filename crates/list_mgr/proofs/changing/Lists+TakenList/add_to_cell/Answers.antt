@@ -1,4 +1,4 @@
-use Rattle.std.proofs.Common.{◌≡◌, ℕ, ◌==◌, not, List, None, Some, length, refl, sym, ap, ◌∙◌, subst}
+use Rattle.std.proofs.Common.{◌≡◌, ℕ, ◌==◌, not, List, None, Ok, length, refl, sym, ap, ◌∙◌, subst}
 use Rattle.std.specs.Prelude.{unwrap_or}
 use Rattle.std.proofs.lemmas.Result.{err_from_is_err_and}
 use Rattle.tb_geom.specs.declared.refusal.Refusal.TheVariants.{NoMemory}
@@ -7,11 +7,12 @@ use Rattle.def_iface.specs.contracts.taken_list.TakenListDefinedList.TheImpl as 
 use Rattle.list_cells.specs.Grids.{data_refusals}
 use Rattle.list_records.specs.Seen.{seen}
 use Rattle.desk_call.specs.declared.list.ListCall.TheVariants as asks
+use Rattle.desk_call.specs.declared.list.ListReply.TheVariants as reply
 use Rattle.control_mgr.proofs.Lays.{one_item}
 use Rattle.list_mgr.specs.Changing.{IsSameOrNot}
-use Rattle.list_mgr.specs.ListSteps.{appended}
+use Rattle.list_mgr.specs.ListSteps.{IsListChanged, IsListStep, appended, with_grid}
 use Rattle.list_mgr.proofs.Cells.{added_grid, added_or_not, cell_of_allowed}
-use Rattle.list_mgr.proofs.Changed.{short_over}
+use Rattle.list_mgr.proofs.Changed.{changed_as, short_over}
 use Rattle.list_mgr.proofs.Given.{beside_so, changed_so, kept_there, mark_so, read_grid, spot_so}
 use Rattle.list_mgr.proofs.Steps.{its_reasons, list_read}
 use Rattle.list_mgr.proofs.changing.Lists+TakenList.add_to_cell.Goals as goal
@@ -64,7 +65,7 @@ show-requires-clause-mark g c =
     (c.in_ok-add_to_cell.ensures.cells ∙ ap (λ (text : List ℕ). appended cell text x.cells) c.as_slice-text.ensures) (λ is. added_grid x.cells cell set.text is allowed) c.in_ok-mark.mark c.in_ok-mark.ensures
 
 pub returns : goal.returns
-returns g c o slots cs kept whole lists =
+returns g c =
     let set = c.args.added.now in
     let cell = set.cell.cell in
     let t = c.args.windows.now in
@@ -77,18 +78,13 @@ returns g c o slots cs kept whole lists =
     subst (λ (text : List ℕ). first_refusal (data_refusals x.cells cell 0 (length text)) ≡ None) c.as_slice-text.ensures c.in_ok-add_to_cell.ensures.allowed in
     let changes : not (length set.text == 0) ≡ not c.is_empty-changes.result =
     ap not (sym (c.is_empty-changes.ensures ∙ ap (λ (text : List ℕ). length text == 0) c.as_slice-text.ensures)) in
-    let left = changed_so _ (list.list_loan-value g.dyn-1).it set.cell.list t m spot is x read (appended cell set.text) c.add_to_cell.new.self
+    changed_as _ (list.list_loan-value g.dyn-1).it t c.show.new.windows m _ (IsListChanged set.cell.list (with_grid (appended cell set.text))) (IsListStep (asks.AddToCell set) (Ok reply.Done))
+    (λ o slots cs kept done. (
+      its_reasons _ _ set.cell.list t m spot is (λ y. data_refusals y.cells cell 0 (length set.text)) (seen (list.list_loan-value g.dyn-1).it x) (list_read _ _ set.cell.list t m spot is x read) ∙ allowed,
+      (refl, done),
+    ))
+    (changed_so _ (list.list_loan-value g.dyn-1).it set.cell.list t m spot is x read (appended cell set.text) c.add_to_cell.new.self
     (c.in_ok-add_to_cell.ensures.cells ∙ ap (λ (text : List ℕ). appended cell text x.cells) c.as_slice-text.ensures) (λ good. added_grid x.cells cell set.text good allowed) c.in_ok-mark.mark (not c.is_empty-changes.result) c.in_ok-mark.ensures
     (subst (λ b. IsSameOrNot b (appended cell set.text x.cells) x.cells) changes
     (added_or_not x.cells cell set.text (read_grid _ (list.list_loan-value g.dyn-1).it set.cell.list t m spot is x read c.requires.beside) (cell_of_allowed x.cells cell 0 (length set.text) allowed)))
-    c.show.new.windows c.show.ensures o slots cs kept whole lists in (
-      left.0,
-      left.1,
-      left.2,
-      (
-        its_reasons _ _ set.cell.list t m spot is (λ y. data_refusals y.cells cell 0 (length set.text)) (seen (list.list_loan-value g.dyn-1).it x)
-            (list_read _ _ set.cell.list t m spot is x read) ∙ allowed,
-        (refl, left.3),
-      ),
-    )
-
+    c.show.new.windows c.show.ensures)

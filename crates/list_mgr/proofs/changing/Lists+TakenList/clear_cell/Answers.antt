@@ -1,14 +1,16 @@
-use Rattle.std.proofs.Common.{◌≡◌, ℕ, ◌==◌, true, not, if◌then◌else◌, List, [], length, refl, sym, ap, ◌∙◌, subst}
+use Rattle.std.proofs.Common.{◌≡◌, true, not, if◌then◌else◌, List, [], Ok, refl, sym, ap, ◌∙◌, subst}
 use Rattle.std.specs.Prelude.{is_ok}
 use Rattle.std.proofs.lemmas.Result.{err_from_is_err_and}
 use Rattle.def_iface.specs.contracts.taken_list.TakenListDefinedList.TheImpl as list
 use Rattle.list_cells.specs.Grids.{Grid, content_of, is_cell, with_bytes}
 use Rattle.list_records.specs.Seen.{seen}
 use Rattle.desk_call.specs.declared.list.ListCall.TheVariants as asks
+use Rattle.desk_call.specs.declared.list.ListReply.TheVariants as reply
 use Rattle.control_mgr.proofs.Lays.{one_item}
 use Rattle.list_mgr.proofs.Cells.{cleared_grid, cleared_or_not}
 use Rattle.list_mgr.specs.Changing.{IsSameOrNot}
-use Rattle.list_mgr.proofs.Changed.{grows_off, short_over}
+use Rattle.list_mgr.specs.ListSteps.{IsListChanged, IsListStep, with_grid}
+use Rattle.list_mgr.proofs.Changed.{changed_as, grows_off, short_over}
 use Rattle.list_mgr.proofs.Given.{beside_so, changed_so, mark_so, read_grid, spot_so}
 use Rattle.list_mgr.proofs.Steps.{cell_there, list_read}
 use Rattle.list_mgr.proofs.changing.Lists+TakenList.clear_cell.Goals as goal
@@ -49,7 +51,7 @@ show-requires-clause-mark g c =
     (c.in_ok-clear_cell.ensures.cells ∙ ap (λ b. if b then with_bytes x.cells cell [] else x.cells) has) (λ is. cleared_grid x.cells cell is has) c.in_ok-mark.mark c.in_ok-mark.ensures
 
 pub returns : goal.returns
-returns g c o slots cs kept whole lists =
+returns g c =
     let named = c.args.cleared in
     let cell = named.cell in
     let t = c.args.windows.now in
@@ -60,17 +62,14 @@ returns g c o slots cs kept whole lists =
     let read = c.index_mut.ensures.value in
     let has : is_cell x.cells cell ≡ true = sym c.in_ok-clear_cell.ensures.found in
     let same : c.index.result.now ≡ x = one_item m.list.lists.items spot.list c.index.result.now x is.low c.index.ensures read in
-    let left = changed_so _ (list.list_loan-value g.dyn-1).it named.list t m spot is x read (λ (y : Grid). with_bytes y cell []) c.clear_cell.new.self
+    changed_as _ (list.list_loan-value g.dyn-1).it t c.show.new.windows m _ (IsListChanged named.list (with_grid (λ (y : Grid). with_bytes y cell []))) (IsListStep (asks.ClearCell named) (Ok reply.Done))
+    (λ o slots cs kept done. (
+      cell_there _ _ named.list t m spot is cell (seen (list.list_loan-value g.dyn-1).it x) (list_read _ _ named.list t m spot is x read) has,
+      (refl, done),
+    ))
+    (changed_so _ (list.list_loan-value g.dyn-1).it named.list t m spot is x read (λ (y : Grid). with_bytes y cell []) c.clear_cell.new.self
     (c.in_ok-clear_cell.ensures.cells ∙ ap (λ b. if b then with_bytes x.cells cell [] else x.cells) has) (λ good. cleared_grid x.cells cell good has) c.in_ok-mark.mark (not c.is_empty-changes.result) c.in_ok-mark.ensures
     (subst (λ b. IsSameOrNot (not b) (with_bytes x.cells cell []) x.cells) (sym c.is_empty-changes.ensures)
     (cleared_or_not x.cells cell c.in_ok-cell.field-0.now (c.in_ok-cell.ensures.bytes ∙ ap (λ y. (content_of y.cells cell).bytes) same)
     (read_grid _ (list.list_loan-value g.dyn-1).it named.list t m spot is x read c.requires.beside) has))
-    c.show.new.windows c.show.ensures o slots cs kept whole lists in (
-      left.0,
-      left.1,
-      left.2,
-      (
-        cell_there _ _ named.list t m spot is cell (seen (list.list_loan-value g.dyn-1).it x) (list_read _ _ named.list t m spot is x read) has,
-        (refl, left.3),
-      ),
-    )
+    c.show.new.windows c.show.ensures)

@@ -30,8 +30,7 @@ area-area-requires g c = area_there _ c.args.windows.now c.requires.kept c.args.
 pub returns-in_err-shown : goal.returns-in_err-shown
 returns-in_err-shown g c =
     let e = err_from_is_err_and c.from_residual.result c.from_residual.ensures.1 in
-    subst (λ r. MatchResult r (IsMark (list.list_loan-value g.dyn-1).it (window.loan-value g.dyn-2).it c.args.windows.now c.args.self.now c.args.spot) (λ _. IsDrawing (list.list_loan-value g.dyn-1).it false c.args.self.now c.args.spot)) (sym e.1)
-    (
+    subst (λ r. MatchResult r (IsMark (list.list_loan-value g.dyn-1).it (window.loan-value g.dyn-2).it c.args.windows.now c.args.self.now c.args.spot) (λ _. IsDrawing (list.list_loan-value g.dyn-1).it false c.args.self.now c.args.spot)) (sym e.1) (
       seen (list.list_loan-value g.dyn-1).it c.index.result.now,
       list_read _ _ c.requires.spot.of c.args.windows.now c.args.self.now c.args.spot c.requires.spot.is c.index.result.now c.index.ensures,
       c.if-index.false,
@@ -40,8 +39,7 @@ returns-in_err-shown g c =
 pub returns-in_err-update : goal.returns-in_err-update
 returns-in_err-update g c =
     let e = err_from_is_err_and c.from_residual-in_err-update.result c.from_residual-in_err-update.ensures.1 in
-    subst (λ r. MatchResult r (IsMark (list.list_loan-value g.dyn-1).it (window.loan-value g.dyn-2).it c.args.windows.now c.args.self.now c.args.spot) (λ _. IsDrawing (list.list_loan-value g.dyn-1).it false c.args.self.now c.args.spot)) (sym e.1)
-    (
+    subst (λ r. MatchResult r (IsMark (list.list_loan-value g.dyn-1).it (window.loan-value g.dyn-2).it c.args.windows.now c.args.self.now c.args.spot) (λ _. IsDrawing (list.list_loan-value g.dyn-1).it false c.args.self.now c.args.spot)) (sym e.1) (
       seen (list.list_loan-value g.dyn-1).it c.index.result.now,
       list_read _ _ c.requires.spot.of c.args.windows.now c.args.self.now c.args.spot c.requires.spot.is c.index.result.now c.index.ensures,
       c.if-index.false,

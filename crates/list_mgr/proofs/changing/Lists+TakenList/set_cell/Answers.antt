@@ -1,4 +1,4 @@
-use Rattle.std.proofs.Common.{◌≡◌, ℕ, not, List, None, Some, length, refl, sym, ap, ◌∙◌, subst}
+use Rattle.std.proofs.Common.{◌≡◌, ℕ, not, List, None, Ok, Some, length, refl, sym, ap, ◌∙◌, subst}
 use Rattle.std.specs.Prelude.{unwrap_or}
 use Rattle.std.specs.Str.{bytes_eq}
 use Rattle.std.proofs.lemmas.Result.{err_from_is_err_and}
@@ -8,10 +8,12 @@ use Rattle.def_iface.specs.contracts.taken_list.TakenListDefinedList.TheImpl as 
 use Rattle.list_cells.specs.Grids.{Grid, content_of, data_refusals, with_bytes}
 use Rattle.list_records.specs.Seen.{seen}
 use Rattle.desk_call.specs.declared.list.ListCall.TheVariants as asks
+use Rattle.desk_call.specs.declared.list.ListReply.TheVariants as reply
 use Rattle.control_mgr.proofs.Lays.{one_item}
 use Rattle.list_mgr.specs.Changing.{IsSameOrNot}
+use Rattle.list_mgr.specs.ListSteps.{IsListChanged, IsListStep, with_grid}
 use Rattle.list_mgr.proofs.Cells.{cell_of_allowed, no_cell_refused, set_grid, set_or_not}
-use Rattle.list_mgr.proofs.Changed.{refused_over, short_over}
+use Rattle.list_mgr.proofs.Changed.{changed_as, refused_over, short_over}
 use Rattle.list_mgr.proofs.Given.{beside_so, changed_so, kept_there, mark_so, read_grid, spot_so}
 use Rattle.list_mgr.proofs.Steps.{its_reasons, list_read}
 use Rattle.list_mgr.proofs.changing.Lists+TakenList.set_cell.Goals as goal
@@ -89,7 +91,7 @@ show-requires-clause-mark g c =
     (c.in_ok-set_cell.ensures.cells ∙ ap (λ (text : List ℕ). with_bytes x.cells cell text) c.as_slice-text.ensures) (λ is. set_grid x.cells cell set.text is allowed) c.in_ok-mark.mark c.in_ok-mark.ensures
 
 pub returns : goal.returns
-returns g c o slots cs kept whole lists =
+returns g c =
     let set = c.args.set.now in
     let cell = set.cell.cell in
     let t = c.args.windows.now in
@@ -104,17 +106,13 @@ returns g c o slots cs kept whole lists =
     let changes : not (bytes_eq (content_of x.cells cell).bytes set.text) ≡ c.differ-changes.result =
     sym (c.differ-changes.ensures ∙ ap (λ (old : List ℕ). not (bytes_eq old c.as_slice-text.result.now)) (c.in_ok-cell.ensures.bytes ∙ ap (λ y. (content_of y.cells cell).bytes) same)
     ∙ ap (λ (text : List ℕ). not (bytes_eq (content_of x.cells cell).bytes text)) c.as_slice-text.ensures) in
-    let left = changed_so _ (list.list_loan-value g.dyn-1).it set.cell.list t m spot is x read (λ (y : Grid). with_bytes y cell set.text) c.set_cell.new.self
+    changed_as _ (list.list_loan-value g.dyn-1).it t c.show.new.windows m _ (IsListChanged set.cell.list (with_grid (λ (y : Grid). with_bytes y cell set.text))) (IsListStep (asks.SetCell set) (Ok reply.Done))
+    (λ o slots cs kept done. (
+      its_reasons _ _ set.cell.list t m spot is (λ y. data_refusals y.cells cell (length (content_of y.cells cell).bytes) (length set.text)) (seen (list.list_loan-value g.dyn-1).it x) (list_read _ _ set.cell.list t m spot is x read) ∙ allowed,
+      (refl, done),
+    ))
+    (changed_so _ (list.list_loan-value g.dyn-1).it set.cell.list t m spot is x read (λ (y : Grid). with_bytes y cell set.text) c.set_cell.new.self
     (c.in_ok-set_cell.ensures.cells ∙ ap (λ (text : List ℕ). with_bytes x.cells cell text) c.as_slice-text.ensures) (λ good. set_grid x.cells cell set.text good allowed) c.in_ok-mark.mark c.differ-changes.result c.in_ok-mark.ensures
     (subst (λ b. IsSameOrNot b (with_bytes x.cells cell set.text) x.cells) changes
     (set_or_not x.cells cell set.text (read_grid _ (list.list_loan-value g.dyn-1).it set.cell.list t m spot is x read c.requires.beside) (cell_of_allowed x.cells cell (length (content_of x.cells cell).bytes) (length set.text) allowed)))
-    c.show.new.windows c.show.ensures o slots cs kept whole lists in (
-      left.0,
-      left.1,
-      left.2,
-      (
-        its_reasons _ _ set.cell.list t m spot is (λ y. data_refusals y.cells cell (length (content_of y.cells cell).bytes) (length set.text)) (seen (list.list_loan-value g.dyn-1).it x)
-            (list_read _ _ set.cell.list t m spot is x read) ∙ allowed,
-        (refl, left.3),
-      ),
-    )
+    c.show.new.windows c.show.ensures)

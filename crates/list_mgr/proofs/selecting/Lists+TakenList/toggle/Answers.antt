@@ -50,11 +50,12 @@ returns-then-changes_by g c =
     let x = c.index-list.result.now in
     let mark = subst (IsMark list_loan loan t m s) c.in-Some.is c.requires.mark in
     subst (λ o. IsToggledOrMarked list_loan loan o c.args.selecting s m t c.set_update.new.self) (sym c.in-Some.is)
-    (of_read loan list_loan spot.of t m s spot.is x c.index-list.ensures (λ y. IsToggledAs list_loan loan (Some c.in-Some.update) c.args.selecting s y t c.set_update.new.self)
-    (true,
-    subst (λ b. IsChange b x.cells (selected_by c.args.selecting x.cells)) c.if-changes_by.true (c.changes_by.ensures (selected_by c.args.selecting x.cells) (selecting_by x.cells c.args.selecting)),
-    marked_by loan list_loan t m s spot (seen list_loan x) (list_read loan list_loan spot.of t m s spot.is x c.index-list.ensures) c.in-Some.update mark.1
-    (area_there loan t c.requires.kept s.window spot.is.window.0) c.set_update.new.self c.set_update.ensures))
+    (of_read loan list_loan spot.of t m s spot.is x c.index-list.ensures (λ y. IsToggledAs list_loan loan (Some c.in-Some.update) c.args.selecting s y t c.set_update.new.self) (
+      true,
+      subst (λ b. IsChange b x.cells (selected_by c.args.selecting x.cells)) c.if-changes_by.true (c.changes_by.ensures (selected_by c.args.selecting x.cells) (selecting_by x.cells c.args.selecting)),
+      marked_by loan list_loan t m s spot (seen list_loan x) (list_read loan list_loan spot.of t m s spot.is x c.index-list.ensures) c.in-Some.update mark.1
+          (area_there loan t c.requires.kept s.window spot.is.window.0) c.set_update.new.self c.set_update.ensures,
+    ))
 
 pub returns-else-changes_by : goal.returns-else-changes_by
 returns-else-changes_by g c =
