@@ -1,1 +1,7 @@
-
+-- Lemmas on the lists of a desk: the steps of calls, where a list stands, and what lists show.
+pub mod Steps
+pub mod Places
+pub mod Drawn
+pub mod Marked
+pub mod Edited
+pub mod Asked

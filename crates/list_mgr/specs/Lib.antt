@@ -5,3 +5,4 @@ pub mod ListRefusals
 pub mod ListSteps
 pub mod WholeLists
 pub mod Spots
+pub mod Changing

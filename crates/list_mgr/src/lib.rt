@@ -11,7 +11,11 @@
 #![tactic(auto)]
 
 mod asking;
+mod changing;
+mod drawing;
 mod lists;
+mod selecting;
 mod spots;
 
+pub use drawing::Contents;
 pub use lists::Lists;

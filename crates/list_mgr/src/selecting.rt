@@ -24,6 +24,7 @@ use window_mgr::WindowManager;
 use window_paint::Toggling;
 
 /// A list, and what a call is about to make of its selection.
+#[derive(Drop)]
 struct Toggled<'a, D> {
     list: &'a ListRecord<D>,
     selecting: Selecting,

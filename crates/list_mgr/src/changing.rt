@@ -1,12 +1,10 @@
 //! What changes of a list but its selection: its cells, how far it is scrolled, and whether it is drawn.
-ghost use Rattle.std.specs.Prelude.{◌≡◌, ◌<◌, length, IfOk, IfSome};
-ghost use Rattle.std.specs.List.{position};
-ghost use Rattle.def_iface.specs.Desk.{same_part};
+ghost use Rattle.std.specs.Prelude.{IfOk};
 ghost use Rattle.def_iface.specs.declared.part.Part.TheVariants as part;
 ghost use Rattle.desk_call.specs.declared.list.ListCall.TheVariants as asks;
 ghost use Rattle.window_mgr.specs.Edits.{IsWindowAt};
 ghost use Rattle.window_mgr.specs.Kept.{IsKept};
-ghost use Rattle.list_mgr.specs.Changing.{IsItsLayer, IsMark, IsShownOrMarked};
+ghost use Rattle.list_mgr.specs.Changing.{IsItsLayer, IsLayerFound, IsMark, IsShownOrMarked};
 ghost use Rattle.list_mgr.specs.ListSteps.{IsListStep};
 ghost use Rattle.list_mgr.specs.Spots.{IsSpot};
 ghost use Rattle.list_mgr.specs.WholeLists.{AreBeside, IsChangedOver};
@@ -23,8 +21,7 @@ use window_mgr::WindowManager;
 
 /// The index of a list's layer among these.
 fn layer_of(layers: &Layers, serial: u64) -> Option<usize>
-    ensures first { result ≡ position (λ l. same_part l.part (part.List serial)) layers.now.layers }
-    ensures within { IfSome result (λ at. at < length layers.now.layers) }
+    ensures { IsLayerFound (part.List serial) layers.now.layers result }
 {
     for at in 0..layers.len() {
         if layers.at(at).part.is(Part::List(serial)) {

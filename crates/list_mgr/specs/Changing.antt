@@ -7,6 +7,7 @@ use Rattle.def_iface.specs.declared.part.Part.{Part}
 use Rattle.def_iface.specs.declared.part.Part.TheVariants as part
 use Rattle.def_iface.specs.declared.taken.Taken.{Taken}
 use Rattle.def_iface.specs.declared.taken_list.TakenList.{TakenList}
+use Rattle.def_iface.specs.Desk.{same_part}
 use Rattle.def_iface.specs.ListMeaning.{ListLoan}
 use Rattle.def_iface.specs.Meaning.{Loan}
 use Rattle.def_iface.specs.Stocked.{SlotView}
@@ -28,6 +29,11 @@ use Rattle.list_mgr.specs.declared.spots.Spot.{Spot}
 use Rattle.list_mgr.specs.ListDesks.{KeptList, lists_show}
 use Rattle.list_mgr.specs.ListSteps.{IsLayerMarked, IsLayerOf}
 use Rattle.list_mgr.specs.WholeLists.{records_of}
+
+-- a layer of this part lies here, or none of these is one
+abbrev pub IsLayerFound : Part → List Layer → Option ℕ → Type 0
+IsLayerFound q ls None = (at : ℕ) (l : Layer) → at < length ls → same_part (slice_index_or ls at l).part q ≡ false
+IsLayerFound q ls (Some at) = (at < length ls) × ((l : Layer) → l ≡ slice_index_or ls at l → l.part ≡ q)
 
 module _ {X : Type 0} {L : X → Type 0} (list_loan : TakenList X L → ListLoan) where
   -- the layer at this place is that of the list that stands here
