@@ -5,3 +5,4 @@ pub mod Drawn
 pub mod Marked
 pub mod Edited
 pub mod Asked
+pub mod ListsFound
