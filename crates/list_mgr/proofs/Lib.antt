@@ -6,3 +6,6 @@ pub mod Marked
 pub mod Edited
 pub mod Asked
 pub mod ListsFound
+pub mod ListsStay
+pub mod ListsRight
+pub mod ListsWhole

@@ -113,6 +113,14 @@ with_among n window (x ∷ xs) apart h = by_test (with_among n window xs apart.1
     by_test rest true h = with_alike n x xs (lists_of window xs) (λ other. rest (any_behind n x (lists_of window xs) h other))
     by_test rest false h = rest h ∙ sym (with_behind n x xs (only_one n x xs apart (any_of n window xs h)))
 
+-- a list that stands somewhere is the one that its serial names
+pub with_own : (n at : ℕ) (ls : List KeptList) (x : KeptList) → AreApart ls → slice_get ls at ≡ Some x → has_serial n x ≡ true → with_serial n ls ≡ Some x
+with_own n at [] x apart there its = absurd (cc)
+with_own n zero (y ∷ ys) x apart there its =
+    let same : y ≡ x = cc in
+    with_first n y ys ∙ ap (λ b. cond b (Some y) (with_serial n ys)) (ap (has_serial n) same ∙ its) ∙ ap Some same
+with_own n (suc i) (y ∷ ys) x apart there its = with_behind n y ys (only_one n y ys apart (any_there n i ys x there its)) ∙ with_own n i ys x apart.1 there its
+
 -- ---- lists that are changed
 
 with_edited : (n : ℕ) (g : KeptList → KeptList) → ((l : KeptList) → (g l).serial ≡ l.serial) → (at : ℕ) (ls : List KeptList) (l : KeptList)
