@@ -9,3 +9,4 @@ pub mod ListsFound
 pub mod ListsStay
 pub mod ListsRight
 pub mod ListsWhole
+pub mod ListsKept

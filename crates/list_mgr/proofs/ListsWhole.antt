@@ -172,3 +172,21 @@ whole_behind ws vs state same behind whole = record {
   joined = joined_behind state.lists ws vs behind whole.joined;
   stocked = whole.stocked;
 }
+
+-- ---- one step
+
+module _ (before after : ListDesk) (whole : AreWholeLists before.desk.windows.desk.windows before.lists) where
+  -- the lists are whole afterwards
+  abbrev pub IsWhole : Type 0
+  IsWhole = AreWholeLists after.desk.windows.desk.windows after.lists
+
+  -- nothing of them changed
+  pub same_whole : after.desk.windows.desk.windows ≡ before.desk.windows.desk.windows → after.lists ≡ before.lists → IsWhole
+  same_whole windows same = subst (λ (x : List WindowRecord × ListsState). AreWholeLists x.0 x.1) (λ i. (sym windows i, sym same i)) whole
+
+  -- a list was changed that keeps its place
+  pub edited_whole : (l : ListOf) (f : KeptList → KeptList) → Keeps f → ((x : KeptList) → list_of l before.lists.lists ≡ Some x → IsSettledList x → IsSettledList (f x)) → IsChangedTo l f before after
+      → after.desk.windows.desk.windows ≡ before.desk.windows.desk.windows → IsWhole
+  edited_whole l f keeps stays changed windows =
+      subst (λ (x : List WindowRecord × ListsState). AreWholeLists x.0 x.1) (λ i. (sym windows i, sym changed.lists i))
+      (whole_edited f keeps changed.at before.desk.windows.desk.windows before.lists whole (λ x there. stays x (ap (option_and_then (slice_get before.lists.lists)) changed.found ∙ there)))
