@@ -10,3 +10,6 @@ pub mod ListsStay
 pub mod ListsRight
 pub mod ListsWhole
 pub mod ListsKept
+pub mod ListsApart
+pub mod ListsLaid
+pub mod ListsBars

@@ -25,7 +25,7 @@ behind_first l ls true o = refl
 behind_first l ls false None = refl
 behind_first l ls false (Some at) = refl
 
-with_first : (n : ℕ) (l : KeptList) (ls : List KeptList) → with_serial n (l ∷ ls) ≡ cond (has_serial n l) (Some l) (with_serial n ls)
+pub with_first : (n : ℕ) (l : KeptList) (ls : List KeptList) → with_serial n (l ∷ ls) ≡ cond (has_serial n l) (Some l) (with_serial n ls)
 with_first n l ls = ap (option_and_then (slice_get (l ∷ ls))) (position-cons (has_serial n) l ls) ∙ behind_first l ls (has_serial n l) (position (has_serial n) ls)
 
 -- the first one is another

@@ -108,7 +108,7 @@ module _ (before after : ListDesk) (was : IsRightLists before) where
 
     -- as its drawing is on or off
     pub changed_keeps : IsListChanged l f before after → IsRightLists after
-    changed_keeps done = seen_keeps done.0.drawing done.0 done.2.1
+    changed_keeps done = seen_keeps done.0.drawing done.0 done.2
 
   -- ---- selections
 
