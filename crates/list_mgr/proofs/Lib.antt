@@ -13,3 +13,5 @@ pub mod ListsKept
 pub mod ListsApart
 pub mod ListsLaid
 pub mod ListsBars
+pub mod ListsMade
+pub mod ListsFollowed

@@ -14,10 +14,13 @@ use Rattle.def_iface.specs.Change as plain
 use Rattle.def_iface.proofs.Changing.{stays_right}
 use Rattle.def_iface.proofs.Owning.{same_owner-true}
 use Rattle.desk_call.specs.declared.control.ControlCall.{ControlCall}
+use Rattle.desk_call.specs.declared.control.ControlCall.TheVariants as control_calls
 use Rattle.desk_call.specs.declared.control.ControlOf.{ControlOf}
 use Rattle.desk_call.specs.declared.control.ControlReply.{ControlReply}
+use Rattle.desk_call.specs.declared.control.ControlReply.TheVariants as control_reply
 use Rattle.desk_call.specs.declared.control.NewControl.{NewControl}
 use Rattle.desk_call.specs.declared.list.ListOf.{ListOf}
+use Rattle.list_view.specs.Bars.{horizontal_setting, vertical_setting}
 use Rattle.vis_update.specs.Records.{WindowRecord}
 use Rattle.window_mgr.specs.FullDesk.{AreSerials, FullDesk, IsRightState, layered_desk, layered_state}
 use Rattle.window_mgr.specs.Refused.{is_missing}
@@ -64,11 +67,11 @@ module _ (before after : ListDesk) (was : IsRightLists before) where
     windows_are : e.windows ≡ d.windows
     windows_are = ap (λ (x : FullDesk). x.windows) done.redrawn.desk
 
-    control : ControlRecord
+    abbrev control : ControlRecord
     control = done.changed.changed.control
 
     -- the bar, set
-    bar : ControlRecord
+    abbrev bar : ControlRecord
     bar = with_values setting control
 
     one : (x y : ControlRecord) → slice_get before.controls.controls done.changed.at ≡ Some x → slice_get before.controls.controls done.changed.at ≡ Some y → x ≡ y
@@ -131,7 +134,7 @@ module _ (before after : ListDesk) (was : IsRightLists before) where
 
   gone_if_keeps : (b : Bool) (c : ControlOf) → IsBarGoneIf b c before after → IsRightLists after
   gone_if_keeps true c same = unchanged_keeps before after was same
-  gone_if_keeps false c done = step_keeps _ _ done.0 done.1
+  gone_if_keeps false c done = step_keeps (control_calls.Dispose c) (Ok control_reply.Done) done.0 done.1
 
   -- a bar was disposed of, where the window has it still
   pub bar_gone_keeps : (window : ℕ) (o : Option ℕ) → IsBarGone window o before after → IsRightLists after
@@ -141,20 +144,20 @@ module _ (before after : ListDesk) (was : IsRightLists before) where
   -- a bar was made, where one is wanted
   pub bar_made_keeps : (wanted : Bool) (n : NewControl) (serial : Option ℕ) → IsBarMade wanted n serial before after → IsRightLists after
   bar_made_keeps false n serial done = unchanged_keeps before after was done.1
-  bar_made_keeps true n serial done = step_keeps _ _ done.0.2 done.1
+  bar_made_keeps true n serial done = step_keeps (control_calls.New n) (Ok (control_reply.Made done.0.0)) done.0.2 done.1
 
   -- the windows that are missing are so before and after
   pub bar_made_missing : (wanted : Bool) (n : NewControl) (serial : Option ℕ) → IsBarMade wanted n serial before after → (s : ℕ)
       → is_missing s after.desk.windows.desk.windows ≡ is_missing s before.desk.windows.desk.windows
   bar_made_missing false n serial done s = ap (λ (x : FullDesk). is_missing s x.windows) done.1.desk.windows.desk
-  bar_made_missing true n serial done s = (control_facts _ _ (with_controls before) (with_controls after) done.0.2).0.missing s
+  bar_made_missing true n serial done s = (control_facts (control_calls.New n) (Ok (control_reply.Made done.0.0)) (with_controls before) (with_controls after) done.0.2).0.missing s
 
 -- ---- both bars of a list
 
 -- the bars of a list were set as its view is
 pub bars_set_keep : (l : ListOf) (before after : ListDesk) → IsRightLists before → AreBarsSet l before after → IsRightLists after
-bars_set_keep l before after was (x, named, mid, vertical, horizontal) =
-    bar_set_keeps mid after (bar_set_keeps before mid was l.window x.vertical _ vertical) l.window x.horizontal _ horizontal
+bars_set_keep l before after was (x, named, bars) =
+    bar_set_keeps bars.0 after (bar_set_keeps before bars.0 was l.window x.vertical (vertical_setting x.cells.rows x.view) bars.1) l.window x.horizontal (horizontal_setting x.cells.columns x.view) bars.2
 
 -- a list was changed so, and its bars were set
 pub relined_keeps : (l : ListOf) (f : KeptList → KeptList) → Keeps f → (before after : ListDesk) → IsRightLists before

@@ -43,7 +43,7 @@ there_window (Some w) e = (w, refl)
 
 module _ (before after : ListDesk) (was : IsRightLists before) where
   -- the controls are as they were, and so are the windows
-  controls_same : after.desk.windows.desk.windows ≡ before.desk.windows.desk.windows → after.controls ≡ before.controls → AreWholeControls after.desk.windows.desk.windows after.controls
+  pub controls_same : after.desk.windows.desk.windows ≡ before.desk.windows.desk.windows → after.controls ≡ before.controls → AreWholeControls after.desk.windows.desk.windows after.controls
   controls_same windows same = subst (λ (x : List WindowRecord × ControlsState). AreWholeControls x.0 x.1) (λ i. (sym windows i, sym same i)) was.desk.whole
 
   -- nothing changed
