@@ -1,17 +1,15 @@
 -- What is asked about lists, and answered.
-use Rattle.std.proofs.Common.{◌≡◌, ◌<◌, Bool, true, false, List, [], length, get_or, Option, Some, None, Ok, Err, refl, sym, ap, ◌∙◌}
+use Rattle.std.proofs.Common.{◌≡◌, true, length, get_or, Option, Some, None, Ok, sym, ap, ◌∙◌}
 use Rattle.std.specs.Option.{option_map_or}
 use Rattle.std.specs.Prelude.{slice_get}
 use Rattle.std.specs.Str.{bytes_eq}
-use Rattle.tb_geom.specs.declared.refusal.Refusal.{Refusal}
-use Rattle.tb_geom.specs.declared.refusal.Refusal.TheVariants.{NoMemory, NoSuchCell}
 use Rattle.tb_geom.specs.Refusals.{first_refusal}
 use Rattle.def_iface.specs.declared.taken.Taken.{Taken}
 use Rattle.def_iface.specs.declared.taken_list.TakenList.{TakenList}
 use Rattle.def_iface.specs.ListMeaning.{ListLoan}
 use Rattle.def_iface.specs.Meaning.{Loan}
 use Rattle.list_cells.specs.declared.cell.Cell.{Cell}
-use Rattle.list_cells.specs.Grids.{content_of, first_from, is_cell, next_cell, search_refusals}
+use Rattle.list_cells.specs.Grids.{content_of, first_from, is_cell, search_refusals}
 use Rattle.list_records.specs.declared.list_record.ListRecord.{ListRecord}
 use Rattle.list_records.specs.Seen.{seen}
 use Rattle.desk_call.specs.declared.list.CellOf.{CellOf}
@@ -20,7 +18,6 @@ use Rattle.desk_call.specs.declared.list.ListCall.TheVariants as asks
 use Rattle.desk_call.specs.declared.list.ListOf.{ListOf}
 use Rattle.desk_call.specs.declared.list.ListReply.{ListReply}
 use Rattle.desk_call.specs.declared.list.ListReply.TheVariants as reply
-use Rattle.desk_call.specs.declared.list.NextOfCell.{NextOfCell}
 use Rattle.window_mgr.specs.declared.manager.WindowManager.{WindowManager}
 use Rattle.list_mgr.specs.declared.lists.Lists.{Lists}
 use Rattle.list_mgr.specs.declared.spots.Spot.{Spot}
@@ -28,7 +25,7 @@ use Rattle.list_mgr.specs.ListDesks.{KeptList}
 use Rattle.list_mgr.specs.ListSteps.{IsDataOf, IsListStep, told_of}
 use Rattle.list_mgr.specs.Spots.{IsSpotOf}
 use Rattle.list_mgr.specs.WholeLists.{IsToldOver, records_of}
-use Rattle.list_mgr.proofs.Steps.{cell_missing, cell_there, its_reasons, list_named, list_read, refused, short, told, unchanged}
+use Rattle.list_mgr.proofs.Steps.{cell_there, its_reasons, list_named, list_read, told, unchanged}
 
 module _ {V : Type 0} {H : V → Type 0} (loan : Taken V H → Loan) {X : Type 0} {L : X → Type 0} (list_loan : TakenList X L → ListLoan)
     (t : WindowManager V H) (m : Lists (TakenList X L)) where
@@ -45,55 +42,14 @@ module _ {V : Type 0} {H : V → Type 0} (loan : Taken V H → Loan) {X : Type 0
     there : slice_get (records_of list_loan m) s.list ≡ Some its
     there = list_read loan list_loan c.list t m s is x read
 
-    pub data_refused : is_cell x.cells c.cell ≡ false → IsToldOver list_loan loan (IsListStep (asks.GetCell c) (Err NoSuchCell)) t m
-    data_refused none = refused loan list_loan (asks.GetCell c) NoSuchCell t m (λ o slots cs kept. cell_missing loan list_loan c.list t m s is c.cell its there none)
-
-    pub data_short : is_cell x.cells c.cell ≡ true → IsToldOver list_loan loan (IsListStep (asks.GetCell c) (Err NoMemory)) t m
-    data_short has = short loan list_loan (asks.GetCell c) NoMemory t m (λ kept. refl) refl (λ o slots cs kept. cell_there loan list_loan c.list t m s is c.cell its there has)
-
     pub data_told : is_cell x.cells c.cell ≡ true → (answer : ListReply) → IsDataOf (content_of x.cells c.cell).bytes answer → IsToldOver list_loan loan (IsListStep (asks.GetCell c) (Ok answer)) t m
     data_told has answer are =
         told loan list_loan (asks.GetCell c) answer t m (λ o slots cs kept. cell_there loan list_loan c.list t m s is c.cell its there has)
         (λ o slots cs kept. ((its, list_named loan list_loan c.list t m s is its there, are), unchanged loan list_loan t o slots cs m kept))
 
-    pub selected_refused : is_cell x.cells c.cell ≡ false → IsToldOver list_loan loan (IsListStep (asks.IsSelected c) (Err NoSuchCell)) t m
-    selected_refused none = refused loan list_loan (asks.IsSelected c) NoSuchCell t m (λ o slots cs kept. cell_missing loan list_loan c.list t m s is c.cell its there none)
-
-    pub selected_told : is_cell x.cells c.cell ≡ true → (b : Bool) → b ≡ (content_of x.cells c.cell).selected → IsToldOver list_loan loan (IsListStep (asks.IsSelected c) (Ok (reply.Selected b))) t m
-    selected_told has b same =
-        told loan list_loan (asks.IsSelected c) (reply.Selected b) t m (λ o slots cs kept. cell_there loan list_loan c.list t m s is c.cell its there has)
-        (λ o slots cs kept. (ap reply.Selected same ∙ sym (told_is c.list s x is read (λ l. reply.Selected (content_of l.cells c.cell).selected)), unchanged loan list_loan t o slots cs m kept))
-
-    pub first_refused : is_cell x.cells c.cell ≡ false → IsToldOver list_loan loan (IsListStep (asks.FirstSelected c) (Err NoSuchCell)) t m
-    first_refused none = refused loan list_loan (asks.FirstSelected c) NoSuchCell t m (λ o slots cs kept. cell_missing loan list_loan c.list t m s is c.cell its there none)
-
-    pub first_told : is_cell x.cells c.cell ≡ true → (found : Option Cell) → found ≡ first_from (λ y. y.selected) x.cells c.cell
-        → IsToldOver list_loan loan (IsListStep (asks.FirstSelected c) (Ok (reply.Cell found))) t m
-    first_told has found same =
-        told loan list_loan (asks.FirstSelected c) (reply.Cell found) t m (λ o slots cs kept. cell_there loan list_loan c.list t m s is c.cell its there has)
-        (λ o slots cs kept. (ap reply.Cell same ∙ sym (told_is c.list s x is read (λ l. reply.Cell (first_from (λ y. y.selected) l.cells c.cell))), unchanged loan list_loan t o slots cs m kept))
-
-  module _ (n : NextOfCell) (s : Spot) (x : ListRecord (TakenList X L)) (is : IsSpotOf loan list_loan n.cell.list t m s) (read : x ≡ get_or m.list.lists.items s.list x) where
-    next_there : slice_get (records_of list_loan m) s.list ≡ Some (seen list_loan x)
-    next_there = list_read loan list_loan n.cell.list t m s is x read
-
-    pub next_refused : is_cell x.cells n.cell.cell ≡ false → IsToldOver list_loan loan (IsListStep (asks.NextCell n) (Err NoSuchCell)) t m
-    next_refused none = refused loan list_loan (asks.NextCell n) NoSuchCell t m (λ o slots cs kept. cell_missing loan list_loan n.cell.list t m s is n.cell.cell (seen list_loan x) next_there none)
-
-    pub next_told : is_cell x.cells n.cell.cell ≡ true → (found : Option Cell) → found ≡ next_cell x.cells n.across n.down n.cell.cell
-        → IsToldOver list_loan loan (IsListStep (asks.NextCell n) (Ok (reply.Cell found))) t m
-    next_told has found same =
-        told loan list_loan (asks.NextCell n) (reply.Cell found) t m (λ o slots cs kept. cell_there loan list_loan n.cell.list t m s is n.cell.cell (seen list_loan x) next_there has)
-        (λ o slots cs kept. (ap reply.Cell same ∙ sym (told_is n.cell.list s x is read (λ l. reply.Cell (next_cell l.cells n.across n.down n.cell.cell))), unchanged loan list_loan t o slots cs m kept))
-
   module _ (c : CellText) (s : Spot) (x : ListRecord (TakenList X L)) (is : IsSpotOf loan list_loan c.cell.list t m s) (read : x ≡ get_or m.list.lists.items s.list x) where
     search_there : slice_get (records_of list_loan m) s.list ≡ Some (seen list_loan x)
     search_there = list_read loan list_loan c.cell.list t m s is x read
-
-    pub search_refused : (e : Refusal) → first_refusal (search_refusals x.cells c.cell.cell (length c.text)) ≡ Some e → IsToldOver list_loan loan (IsListStep (asks.Search c) (Err e)) t m
-    search_refused e why =
-        refused loan list_loan (asks.Search c) e t m
-        (λ o slots cs kept. its_reasons loan list_loan c.cell.list t m s is (λ l. search_refusals l.cells c.cell.cell (length c.text)) (seen list_loan x) search_there ∙ why)
 
     pub search_told : first_refusal (search_refusals x.cells c.cell.cell (length c.text)) ≡ None → (found : Option Cell) → found ≡ first_from (λ y. bytes_eq y.bytes c.text) x.cells c.cell.cell
         → IsToldOver list_loan loan (IsListStep (asks.Search c) (Ok (reply.Cell found))) t m

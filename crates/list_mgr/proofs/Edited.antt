@@ -13,7 +13,7 @@ use Rattle.window_mgr.specs.Refused.{is_missing}
 use Rattle.control_mgr.specs.InUse.{AreStocked}
 use Rattle.list_mgr.specs.ListDesks.{KeptList, ListsState}
 use Rattle.list_mgr.specs.ListSteps.{AreListLayers, IsLayerOf}
-use Rattle.list_mgr.specs.WholeLists.{AreApart, AreSettled, AreWholeLists, IsSettledList, slots_of}
+use Rattle.list_mgr.specs.WholeLists.{AreApart, AreSettled, AreWholeLists, IsSettledList}
 use Rattle.list_mgr.proofs.Drawn.{All-there}
 
 module _ {D : Type 0} (P : ListRecord D → Type 0) where

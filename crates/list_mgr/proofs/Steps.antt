@@ -1,9 +1,9 @@
 -- Steps of calls about lists: refused ones, those that tell something, and what is known where nothing is missing.
-use Rattle.std.proofs.Common.{◌≡◌, inl, inr, ◌<◌, Bool, true, false, not, List, [], ◌∷◌, ◌++◌, length, get_or, Some, None, Result, Ok, Err, refl, sym, ap, ◌∙◌, subst}
+use Rattle.std.proofs.Common.{◌≡◌, ◌<◌, Bool, true, not, List, [], ◌∷◌, ◌++◌, length, get_or, Some, None, Ok, refl, sym, ap, ◌∙◌, subst}
 use Rattle.std.specs.Prelude.{is_none, slice_get}
 use Rattle.std.specs.Option.{option_and_then, option_map}
 use Rattle.tb_geom.specs.declared.refusal.Refusal.{Refusal}
-use Rattle.tb_geom.specs.declared.refusal.Refusal.TheVariants.{NoMemory, NoSuchCell, NoSuchList, NoSuchWindow}
+use Rattle.tb_geom.specs.declared.refusal.Refusal.TheVariants.{NoSuchCell, NoSuchList, NoSuchWindow}
 use Rattle.tb_geom.specs.Refusals.{first_refusal}
 use Rattle.def_iface.specs.declared.taken.Taken.{Taken}
 use Rattle.def_iface.specs.declared.taken_list.TakenList.{TakenList}
@@ -23,11 +23,11 @@ use Rattle.window_mgr.specs.DeskStates.{Opened}
 use Rattle.window_mgr.specs.Records.{desk_of}
 use Rattle.control_mgr.specs.ControlDesks.{ControlsState}
 use Rattle.control_mgr.proofs.Places.{IsThere, get_is, there_is}
-use Rattle.control_mgr.proofs.Steps.{first_behind, first_fails, first_of, one_fails, one_holds}
+use Rattle.control_mgr.proofs.Steps.{first_behind, first_fails, one_fails}
 use Rattle.list_mgr.specs.declared.lists.Lists.{Lists}
 use Rattle.list_mgr.specs.declared.spots.Spot.{Spot}
 use Rattle.list_mgr.specs.ListDesks.{IsListDeskUnchanged, KeptList, ListSlot, index_of, list_of}
-use Rattle.list_mgr.specs.ListRefusals.{cell_refusals, list_reasons, list_refusals, may_list_grow, missing_refusals, of_list}
+use Rattle.list_mgr.specs.ListRefusals.{cell_refusals, list_reasons, list_refusals, missing_refusals, of_list}
 use Rattle.list_mgr.specs.ListSteps.{IsListEffect, IsListStep}
 use Rattle.list_mgr.specs.Spots.{IsSpotOf}
 use Rattle.list_mgr.specs.WholeLists.{IsToldOver, list_desk, lists_state, records_of}
@@ -46,29 +46,12 @@ module _ {V : Type 0} {H : V → Type 0} (loan : Taken V H → Loan) {X : Type 0
   IsTold call t m P = (o : Opened) (slots : List SlotView) (cs : ControlsState) (kept : List ListSlot)
       → P (list_refusals call (list_desk list_loan loan t o slots cs m kept).desk.windows.desk cs (lists_state list_loan m kept))
 
-  -- a refused call that asks something
-  pub refused : (call : ListCall) (e : Refusal) (t : WindowManager V H) (m : Lists (TakenList X L)) → IsTold call t m (λ why. first_refusal why ≡ Some e)
-      → IsToldOver list_loan loan (IsListStep call (Err e)) t m
-  refused call e t m why o slots cs kept whole lists = (inl (why o slots cs kept), unchanged t o slots cs m kept)
-
-  -- one for which there was no memory
-  pub short : (call : ListCall) (e : Refusal) (t : WindowManager V H) (m : Lists (TakenList X L)) → ((kept : List ListSlot) → may_list_grow call (lists_state list_loan m kept) ≡ true) → e ≡ NoMemory
-      → IsTold call t m (λ why. first_refusal why ≡ None) → IsToldOver list_loan loan (IsListStep call (Err e)) t m
-  short call e t m grows is why o slots cs kept whole lists = (inr (why o slots cs kept, (grows kept, is)), unchanged t o slots cs m kept)
-
-  -- one that is answered
+  -- a call that is answered
   pub told : (call : ListCall) (answer : ListReply) (t : WindowManager V H) (m : Lists (TakenList X L)) → IsTold call t m (λ why. first_refusal why ≡ None)
       → ((o : Opened) (slots : List SlotView) (cs : ControlsState) (kept : List ListSlot)
       → IsListEffect call answer (list_desk list_loan loan t o slots cs m kept) (list_desk list_loan loan t o slots cs m kept))
       → IsToldOver list_loan loan (IsListStep call (Ok answer)) t m
   told call answer t m why effect o slots cs kept whole lists = (why o slots cs kept, effect o slots cs kept)
-
-  -- a list that is missing
-  pub named_missing : (l : ListOf) (t : WindowManager V H) (m : Lists (TakenList X L)) (e : Refusal) (f : KeptList → List (Bool × Refusal))
-      → first_refusal (missing_refusals l (desk_of loan t []) (records_of list_loan m)) ≡ Some e
-      → first_refusal (list_reasons l f (desk_of loan t []) (records_of list_loan m)) ≡ Some e
-  named_missing l t m e f h =
-      first_of (missing_refusals l (desk_of loan t []) (records_of list_loan m)) (of_list f (list_of l (records_of list_loan m))) e h
 
   -- ---- a list that is there
 
@@ -96,11 +79,7 @@ module _ {V : Type 0} {H : V → Type 0} (loan : Taken V H → Loan) {X : Type 0
     pub its_reasons : (f : KeptList → List (Bool × Refusal)) (x : KeptList) → slice_get ls s.list ≡ Some x → first_refusal (list_reasons l f (desk_of loan t []) ls) ≡ first_refusal (f x)
     its_reasons f x there = other_reasons (of_list f (list_of l ls)) ∙ ap (λ o. first_refusal (of_list f o)) (list_named x there)
 
-    -- it has the cell, or has not
-    pub cell_missing : (c : Cell) (x : KeptList) → slice_get ls s.list ≡ Some x → is_cell x.cells c ≡ false
-        → first_refusal (list_reasons l (cell_refusals c) (desk_of loan t []) ls) ≡ Some NoSuchCell
-    cell_missing c x there none = its_reasons (cell_refusals c) x there ∙ one_holds (not (is_cell x.cells c)) NoSuchCell (ap not none)
-
+    -- and it has the cell
     pub cell_there : (c : Cell) (x : KeptList) → slice_get ls s.list ≡ Some x → is_cell x.cells c ≡ true
         → first_refusal (list_reasons l (cell_refusals c) (desk_of loan t []) ls) ≡ None
     cell_there c x there has = its_reasons (cell_refusals c) x there ∙ one_fails (not (is_cell x.cells c)) NoSuchCell (ap not has)

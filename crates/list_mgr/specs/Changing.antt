@@ -19,7 +19,7 @@ use Rattle.layer_list.specs.Holders.{belongs_to}
 use Rattle.vis_update.specs.declared.area.Area.{Area}
 use Rattle.window_list.specs.declared.window.Window.{Window}
 use Rattle.window_mgr.specs.declared.manager.WindowManager.{WindowManager}
-use Rattle.window_mgr.specs.Edits.{IsWindowAt, StandsAt}
+use Rattle.window_mgr.specs.Edits.{IsWindowAt}
 use Rattle.window_mgr.specs.FullDesk.{FullState}
 use Rattle.window_mgr.specs.Records.{state_of, state_showing}
 use Rattle.window_mgr.specs.Relayered.{IsLayerRedrawn, IsLayerToggled}
@@ -29,6 +29,11 @@ use Rattle.list_mgr.specs.declared.spots.Spot.{Spot}
 use Rattle.list_mgr.specs.ListDesks.{KeptList, lists_show}
 use Rattle.list_mgr.specs.ListSteps.{IsLayerMarked, IsLayerOf}
 use Rattle.list_mgr.specs.WholeLists.{records_of}
+
+-- a change made another thing of one, or the same
+abbrev pub IsSameOrNot : {X : Type 0} → Bool → X → X → Type 0
+IsSameOrNot true after before = after ≡ before → ⊥
+IsSameOrNot false after before = after ≡ before
 
 -- a layer of this part lies here, or none of these is one
 abbrev pub IsLayerFound : Part → List Layer → Option ℕ → Type 0
@@ -81,20 +86,24 @@ module _ {X : Type 0} {L : X → Type 0} (list_loan : TakenList X L → ListLoan
     IsShownOrMarked (Some update) true s m t u = (x : KeptList) → slice_get (records_of list_loan m) s.list ≡ Some x → IsMarkedBy x t u
     IsShownOrMarked (Some update) false s m t u = u ≡ t
 
-    -- what it leaves of them that what this makes of the list's selection highlights otherwise was inverted
-    abbrev pub IsToggledBy : Selecting → KeptList → WindowManager V H → WindowManager V H → Type 0
-    IsToggledBy s x t u = (at : ℕ) (w : Window V H) → StandsAt t.windows.records.items x.window at → IsWindowAt t.windows.records.items at w → (was is : List ℕ → Part → PixelSet)
+    -- what it leaves of them that what this makes of the selection of the list x, in the window that stands here, highlights
+    -- otherwise was inverted
+    abbrev pub IsToggledBy : Selecting → Spot → KeptList → WindowManager V H → WindowManager V H → Type 0
+    IsToggledBy selecting s x t u = (w : Window V H) → IsWindowAt t.windows.records.items s.window w → (was is : List ℕ → Part → PixelSet)
         → LeavesShown (IsLayerToggled x.window w.place (part.List x.serial)
-        (λ font. is_turned font x.definition.definition x.view x.cells (selected_by s x.cells))) was is t u
+        (λ font. is_turned font x.definition.definition x.view x.cells (selected_by selecting x.cells))) was is t u
 
-    -- the list that stands here was toggled, or marked where its drawing is off and something is toggled
+    -- it was marked where something of it changes
+    abbrev pub IsMarkedIf : Bool → KeptList → WindowManager V H → WindowManager V H → Type 0
+    IsMarkedIf true x t u = IsMarkedBy x t u
+    IsMarkedIf false x t u = u ≡ t
+
+    -- the list x was toggled, or marked where its drawing is off and something is toggled
+    abbrev pub IsToggledAs : Option Pixels → Selecting → Spot → KeptList → WindowManager V H → WindowManager V H → Type 0
+    IsToggledAs None selecting s x t u = IsToggledBy selecting s x t u
+    IsToggledAs (Some update) selecting s x t u =
+        (changes : Bool) × IsChange changes x.cells (selected_by selecting x.cells) × IsMarkedIf changes x t u
+
+    -- so was the list that stands here
     abbrev pub IsToggledOrMarked : Option Pixels → Selecting → Spot → Lists (TakenList X L) → WindowManager V H → WindowManager V H → Type 0
-    IsToggledOrMarked mark selecting s m t u = (x : KeptList) → slice_get (records_of list_loan m) s.list ≡ Some x → by_mark mark x
-      where
-        by_change : Pixels → KeptList → Bool → Type 0
-        by_change update x true = IsMarkedBy x t u
-        by_change update x false = u ≡ t
-
-        by_mark : Option Pixels → KeptList → Type 0
-        by_mark None x = IsToggledBy selecting x t u
-        by_mark (Some update) x = (changes : Bool) × IsChange changes x.cells (selected_by selecting x.cells) × by_change update x changes
+    IsToggledOrMarked mark selecting s m t u = (x : KeptList) → slice_get (records_of list_loan m) s.list ≡ Some x → IsToggledAs mark selecting s x t u

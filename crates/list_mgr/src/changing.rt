@@ -1,10 +1,11 @@
 //! What changes of a list but its selection: its cells, how far it is scrolled, and whether it is drawn.
-ghost use Rattle.std.specs.Prelude.{IfOk};
+ghost use Rattle.std.specs.Prelude.{◌≡◌, false, not, MatchResult};
+ghost use Rattle.std.specs.Str.{bytes_eq};
 ghost use Rattle.def_iface.specs.declared.part.Part.TheVariants as part;
 ghost use Rattle.desk_call.specs.declared.list.ListCall.TheVariants as asks;
 ghost use Rattle.window_mgr.specs.Edits.{IsWindowAt};
 ghost use Rattle.window_mgr.specs.Kept.{IsKept};
-ghost use Rattle.list_mgr.specs.Changing.{IsItsLayer, IsLayerFound, IsMark, IsShownOrMarked};
+ghost use Rattle.list_mgr.specs.Changing.{IsDrawing, IsItsLayer, IsLayerFound, IsMark, IsShownOrMarked};
 ghost use Rattle.list_mgr.specs.ListSteps.{IsListStep};
 ghost use Rattle.list_mgr.specs.Spots.{IsSpot};
 ghost use Rattle.list_mgr.specs.WholeLists.{AreBeside, IsChangedOver};
@@ -31,6 +32,13 @@ fn layer_of(layers: &Layers, serial: u64) -> Option<usize>
     None
 }
 
+/// Whether two texts differ.
+fn differ(old: &[u8], new: &[u8]) -> bool
+    ensures { result ≡ not (bytes_eq old.now new.now) }
+{
+    old != new
+}
+
 impl Lists<TakenList> {
     /// The index of a list's layer among the layers of its window.
     pub(crate) fn layer(&self, windows: &WindowManager, spot: Spot) -> usize
@@ -43,7 +51,8 @@ impl Lists<TakenList> {
         layer_of(&windows.list().at(spot.window).layers, serial).unwrap()
     }
 
-    /// The update region of a list's window with all that the list owns, where its drawing is off.
+    /// The update region of a list's window with all that the list owns, where its drawing is off; while it is on, this takes no
+    /// memory.
     pub(crate) fn mark(
         &self,
         windows: &WindowManager,
@@ -52,7 +61,8 @@ impl Lists<TakenList> {
         requires kept { IsKept ⟦<Taken as Defined>⟧.loan windows.now }
         requires beside { AreBeside ⟦<TakenList as DefinedList>⟧.list_loan ⟦<Taken as Defined>⟧.loan windows.now self.now }
         requires spot { IsSpot ⟦<Taken as Defined>⟧.loan ⟦<TakenList as DefinedList>⟧.list_loan windows.now self.now spot }
-        ensures { IfOk result (IsMark ⟦<TakenList as DefinedList>⟧.list_loan ⟦<Taken as Defined>⟧.loan windows.now self.now spot) }
+        ensures { MatchResult result (IsMark ⟦<TakenList as DefinedList>⟧.list_loan ⟦<Taken as Defined>⟧.loan windows.now self.now spot)
+            (λ _. IsDrawing ⟦<TakenList as DefinedList>⟧.list_loan false self.now spot) }
     {
         if self.list.lists[spot.list].drawing {
             return Ok(None);
@@ -109,7 +119,7 @@ impl Lists<TakenList> {
         if let Some(refusal) = self.list.lists[spot.list].cells.set_refusal(cell, text) {
             return Err(refusal);
         }
-        let changes = self.list.lists[spot.list].cells.cell(cell)? != text;
+        let changes = differ(self.list.lists[spot.list].cells.cell(cell)?, text);
         let mark = self.mark(windows, spot)?;
         self.list.lists[spot.list].cells.set_cell(cell, text)?;
         self.show(windows, spot, mark, changes);
@@ -151,7 +161,10 @@ impl Lists<TakenList> {
             (IsListStep (asks.ClearCell cleared) result) windows.old self.old windows.new self.new }
     {
         let spot = self.spot(windows, cleared.list)?;
-        let changes = !self.list.lists[spot.list].cells.cell(cleared.cell)?.is_empty();
+        let changes = !self.list.lists[spot.list]
+            .cells
+            .cell(cleared.cell)?
+            .is_empty();
         let mark = self.mark(windows, spot)?;
         self.list.lists[spot.list].cells.clear_cell(cleared.cell)?;
         self.show(windows, spot, mark, changes);

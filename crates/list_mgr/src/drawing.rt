@@ -42,7 +42,10 @@ impl<D> Lists<D> {
         ensures first { result ≡ position (has_serial serial) self.now.list.lists.items }
         ensures within { IfSome result (λ at. at < length self.now.list.lists.items) }
     {
-        self.list.lists.iter().position(|list| list.serial == serial)
+        self.list
+            .lists
+            .iter()
+            .position(|list| list.serial == serial)
     }
 }
 

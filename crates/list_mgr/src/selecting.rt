@@ -38,7 +38,13 @@ impl<'a, D: DrawnList> Toggling for Toggled<'a, D> {
 
     fn invert(&self, canvas: &mut Canvas<'_>) {
         let list = self.list;
-        toggle_cells(&list.definition, list.view, &list.cells, self.selecting, canvas);
+        toggle_cells(
+            &list.definition,
+            list.view,
+            &list.cells,
+            self.selecting,
+            canvas,
+        );
     }
 }
 
@@ -86,12 +92,17 @@ impl Lists<TakenList> {
         let spot = self.spot(windows, chosen.cell.list)?;
         let list = &self.list.lists[spot.list];
         let alone = list.flags.only_one;
-        let Some(selecting) = list.cells.choosing(chosen.cell.cell, chosen.selected, alone) else {
+        let Some(selecting) = list
+            .cells
+            .choosing(chosen.cell.cell, chosen.selected, alone)
+        else {
             return Err(Refusal::NoSuchCell);
         };
         let mark = self.mark(windows, spot)?;
         self.toggle(windows, spot, mark, selecting);
-        self.list.lists[spot.list].cells.select(chosen.cell.cell, chosen.selected, alone)?;
+        self.list.lists[spot.list]
+            .cells
+            .select(chosen.cell.cell, chosen.selected, alone)?;
         Ok(ListReply::Done)
     }
 
@@ -115,7 +126,10 @@ impl Lists<TakenList> {
         };
         let keys = ClickKeys::of_modifiers(modifiers);
         let list = &self.list.lists[spot.list];
-        let Some(cell) = list.view.cell_at(clicked.point, list.cells.columns(), list.cells.rows()) else {
+        let Some(cell) = list
+            .view
+            .cell_at(clicked.point, list.cells.columns(), list.cells.rows())
+        else {
             return Ok(ListReply::Clicked(false));
         };
         let flags = list.flags;
