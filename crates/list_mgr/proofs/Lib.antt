@@ -15,3 +15,14 @@ pub mod Selected
 pub mod BarsSet
 pub mod Scrolled
 pub mod Clicks
+pub mod ListsFound
+pub mod ListsStay
+pub mod ListsRight
+pub mod ListsWhole
+pub mod ListsKept
+pub mod ListsApart
+pub mod ListsLaid
+pub mod ListsBars
+pub mod ListsMade
+pub mod ListsFollowed
+pub mod ListsSettled
