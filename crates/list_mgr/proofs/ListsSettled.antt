@@ -1,21 +1,26 @@
--- Where nothing refuses a call that gives a cell data, the list stays settled.
-use Rattle.std.proofs.Common.{◌≡◌, ℕ, Bool, true, false, not, List, [], ◌∷◌, Option, None, Some, refl, sym, ap, ◌∙◌}
-use Rattle.std.specs.Prelude.{is_none}
+-- Where nothing refuses a call that gives a cell data, the list stays settled; where none refuses a new list, its window is there.
+use Rattle.std.proofs.Common.{◌≡◌, ℕ, Bool, true, false, not, ◌||◌, List, [], ◌∷◌, ◌++◌, Option, None, Some, refl, sym, ap, ◌∙◌}
+use Rattle.std.specs.Prelude.{is_none, nat_le}
 use Rattle.std.proofs.lemmas.Bool.{false≢true}
 use Rattle.tb_geom.specs.declared.refusal.Refusal.{Refusal}
-use Rattle.tb_geom.specs.declared.refusal.Refusal.TheVariants.{NoSuchCell, NoSuchList, NoSuchName, NoSuchWindow}
+use Rattle.tb_geom.specs.declared.refusal.Refusal.TheVariants.{NoDefinition, NoSuchCell, NoSuchList, NoSuchName, NoSuchWindow, OutOfRange, TooMany}
 use Rattle.tb_geom.specs.Refusals.{first_refusal}
-use Rattle.list_cells.specs.declared.cell.Cell.{Cell}
+use Rattle.control_list.specs.Lists as controls
 use Rattle.list_cells.specs.Grids.{is_cell, with_bytes}
-use Rattle.desk_call.specs.declared.list.ListCall.TheVariants.{AddToCell, ClearCell, SetCell}
+use Rattle.list_cells.specs.Runs.{new_refusals}
+use Rattle.list_records.specs.Lists.{count_of}
+use Rattle.list_view.specs.Bars.{horizontal_bar, vertical_bar}
+use Rattle.desk_call.specs.declared.list.ListCall.TheVariants.{AddToCell, ClearCell, New, SetCell}
 use Rattle.desk_call.specs.declared.list.CellOf.{CellOf}
 use Rattle.desk_call.specs.declared.list.CellText.{CellText}
 use Rattle.desk_call.specs.declared.list.ListOf.{ListOf}
+use Rattle.desk_call.specs.declared.list.NewList.{NewList}
+use Rattle.window_mgr.specs.Finding.{record_with}
 use Rattle.window_mgr.specs.FullDesk.{FullDesk}
 use Rattle.window_mgr.specs.Refused.{is_missing}
 use Rattle.control_mgr.proofs.Steps.{none_hold}
 use Rattle.list_mgr.specs.ListDesks.{KeptList, ListDesk, index_of, list_of}
-use Rattle.list_mgr.specs.ListRefusals.{list_reasons, list_refusals, of_list}
+use Rattle.list_mgr.specs.ListRefusals.{bars_wanted, have_room, horizontal_offer, is_sum_of_flags, judged_refusals, lacks_definition, lacks_kind, list_reasons, list_refusals, may_bar_be_in, may_view_be_in, most_lists, of_list, vertical_offer, view_of}
 use Rattle.list_mgr.specs.ListSteps.{appended, with_grid}
 use Rattle.list_mgr.proofs.Cells.{added_grid, cleared_grid, set_grid}
 use Rattle.list_mgr.proofs.Changed.{grid_stays}
@@ -48,3 +53,23 @@ module _ (d : ListDesk) where
   cleared_settles c none x named its =
       grid_stays (λ g. with_bytes g c.cell []) x its
       (cleared_grid x.cells c.cell its.grid (not_false (is_cell x.cells c.cell) (none_hold (not (is_cell x.cells c.cell)) NoSuchCell [] (reasons_of c.list _ d.desk.windows.desk d.lists.lists x named none)).0))
+
+  -- the window of a list that may be made is there
+  pub new_there : (n : NewList) → first_refusal (list_refusals (New n) d.desk.windows.desk d.controls d.lists) ≡ None → is_missing n.window d.desk.windows.desk.windows ≡ false
+  new_there n none = (none_hold (is_missing n.window d.desk.windows.desk.windows) NoSuchWindow others (none_hold (lacks_kind n d.lists.stock d.controls.stock) NoSuchName all none).1).0
+    where
+      abbrev short : List (Bool × Refusal)
+      short = (lacks_definition n d.lists d.controls, NoDefinition) ∷ []
+
+      abbrev all : List (Bool × Refusal)
+      all = judged_refusals n (vertical_offer n d.controls.stock) (horizontal_offer n d.controls.stock) d.desk.windows.desk d.controls.controls d.controls.next d.lists.lists d.lists.next ++ short
+
+      abbrev others : List (Bool × Refusal)
+      others =
+          (not (may_view_be_in n (record_with n.window d.desk.windows.desk.windows)), OutOfRange)
+          ∷ (not (may_bar_be_in n.vertical_bar (vertical_offer n d.controls.stock) (vertical_bar (view_of n)) (record_with n.window d.desk.windows.desk.windows)), OutOfRange)
+          ∷ (not (may_bar_be_in n.horizontal_bar (horizontal_offer n d.controls.stock) (horizontal_bar (view_of n)) (record_with n.window d.desk.windows.desk.windows)), OutOfRange)
+          ∷ (not (is_sum_of_flags n.flags), OutOfRange)
+          ∷ ((new_refusals n.columns n.rows
+          ++ (nat_le most_lists (count_of n.window d.lists.lists) || is_none d.lists.next, TooMany)
+          ∷ (not (have_room (bars_wanted n) (controls.count_of n.window d.controls.controls) d.controls.next), TooMany) ∷ []) ++ short)
