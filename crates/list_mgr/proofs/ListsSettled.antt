@@ -54,22 +54,23 @@ module _ (d : ListDesk) where
       grid_stays (λ g. with_bytes g c.cell []) x its
       (cleared_grid x.cells c.cell its.grid (not_false (is_cell x.cells c.cell) (none_hold (not (is_cell x.cells c.cell)) NoSuchCell [] (reasons_of c.list _ d.desk.windows.desk d.lists.lists x named none)).0))
 
+  -- why a list may not be made, where the stocks have such kinds
+  abbrev short : NewList → List (Bool × Refusal)
+  short n = (lacks_definition n d.lists d.controls, NoDefinition) ∷ []
+
+  abbrev all : NewList → List (Bool × Refusal)
+  all n = judged_refusals n (vertical_offer n d.controls.stock) (horizontal_offer n d.controls.stock) d.desk.windows.desk d.controls.controls d.controls.next d.lists.lists d.lists.next ++ short n
+
+  abbrev others : NewList → List (Bool × Refusal)
+  others n =
+      (not (may_view_be_in n (record_with n.window d.desk.windows.desk.windows)), OutOfRange)
+      ∷ (not (may_bar_be_in n.vertical_bar (vertical_offer n d.controls.stock) (vertical_bar (view_of n)) (record_with n.window d.desk.windows.desk.windows)), OutOfRange)
+      ∷ (not (may_bar_be_in n.horizontal_bar (horizontal_offer n d.controls.stock) (horizontal_bar (view_of n)) (record_with n.window d.desk.windows.desk.windows)), OutOfRange)
+      ∷ (not (is_sum_of_flags n.flags), OutOfRange)
+      ∷ ((new_refusals n.columns n.rows
+      ++ (nat_le most_lists (count_of n.window d.lists.lists) || is_none d.lists.next, TooMany)
+      ∷ (not (have_room (bars_wanted n) (controls.count_of n.window d.controls.controls) d.controls.next), TooMany) ∷ []) ++ short n)
+
   -- the window of a list that may be made is there
   pub new_there : (n : NewList) → first_refusal (list_refusals (New n) d.desk.windows.desk d.controls d.lists) ≡ None → is_missing n.window d.desk.windows.desk.windows ≡ false
-  new_there n none = (none_hold (is_missing n.window d.desk.windows.desk.windows) NoSuchWindow others (none_hold (lacks_kind n d.lists.stock d.controls.stock) NoSuchName all none).1).0
-    where
-      abbrev short : List (Bool × Refusal)
-      short = (lacks_definition n d.lists d.controls, NoDefinition) ∷ []
-
-      abbrev all : List (Bool × Refusal)
-      all = judged_refusals n (vertical_offer n d.controls.stock) (horizontal_offer n d.controls.stock) d.desk.windows.desk d.controls.controls d.controls.next d.lists.lists d.lists.next ++ short
-
-      abbrev others : List (Bool × Refusal)
-      others =
-          (not (may_view_be_in n (record_with n.window d.desk.windows.desk.windows)), OutOfRange)
-          ∷ (not (may_bar_be_in n.vertical_bar (vertical_offer n d.controls.stock) (vertical_bar (view_of n)) (record_with n.window d.desk.windows.desk.windows)), OutOfRange)
-          ∷ (not (may_bar_be_in n.horizontal_bar (horizontal_offer n d.controls.stock) (horizontal_bar (view_of n)) (record_with n.window d.desk.windows.desk.windows)), OutOfRange)
-          ∷ (not (is_sum_of_flags n.flags), OutOfRange)
-          ∷ ((new_refusals n.columns n.rows
-          ++ (nat_le most_lists (count_of n.window d.lists.lists) || is_none d.lists.next, TooMany)
-          ∷ (not (have_room (bars_wanted n) (controls.count_of n.window d.controls.controls) d.controls.next), TooMany) ∷ []) ++ short)
+  new_there n none = (none_hold (is_missing n.window d.desk.windows.desk.windows) NoSuchWindow (others n) (none_hold (lacks_kind n d.lists.stock d.controls.stock) NoSuchName (all n) none).1).0
