@@ -1,18 +1,14 @@
 -- What holds of a desk with lists between calls holds after a call about lists that leaves its list settled.
-use Rattle.std.proofs.Common.{◌≡◌, ◌≤◌, ◌<◌, ◌*◌, ℕ, ℤ, Bool, false, List, [], length, Option, None, Some, Result, Ok, Err, refl, sym, ap, ◌∙◌, subst}
-use Rattle.std.specs.Prelude.{nat_abs, pos}
+use Rattle.std.proofs.Common.{◌≡◌, ℕ, ℤ, false, [], Option, None, Some, Result, Ok, Err, refl, subst}
+use Rattle.std.specs.Prelude.{nat_abs}
 use Rattle.tb_geom.specs.declared.refusal.Refusal.{Refusal}
-use Rattle.tb_geom.specs.Refusals.{first_refusal}
 use Rattle.list_cells.specs.declared.cell.Cell.{Cell}
 use Rattle.list_cells.specs.declared.selecting.Selecting.{Selecting}
-use Rattle.list_cells.specs.Blocks.{clicked_cell, content_at}
+use Rattle.list_cells.specs.Blocks.{clicked_cell}
 use Rattle.list_cells.specs.Clicks.{keys_of}
-use Rattle.list_cells.specs.Contents.{Content, bytes_held}
-use Rattle.list_cells.specs.Grids.{Grid, IsGrid, with_bytes}
+use Rattle.list_cells.specs.Grids.{Grid, with_bytes}
 use Rattle.list_cells.specs.Selections.{IsSelecting, chosen_cell}
-use Rattle.list_cells.proofs.ByteLemmas.{same_held}
-use Rattle.list_records.specs.Lists.{with_cells, with_view}
-use Rattle.list_view.specs.Views.{View, scrolled}
+use Rattle.list_records.specs.Lists.{with_cells}
 use Rattle.desk_call.specs.declared.list.ListCall.{ListCall}
 use Rattle.desk_call.specs.declared.list.ListCall.TheVariants.{New, Dispose, AddRows, AddColumns, DeleteRows, DeleteColumns, SetCell, AddToCell, ClearCell, GetCell, Select, IsSelected, FirstSelected, NextCell, Search, Click, Scroll, SetDrawing}
 use Rattle.desk_call.specs.declared.list.ListClick.{ListClick}
@@ -21,7 +17,6 @@ use Rattle.desk_call.specs.declared.list.ListReply.{ListReply}
 use Rattle.desk_call.specs.declared.list.NewList.{NewList}
 use Rattle.window_mgr.specs.Refused.{is_missing}
 use Rattle.list_mgr.specs.ListDesks.{KeptList, ListDesk, list_of}
-use Rattle.list_mgr.specs.ListRefusals.{list_refusals}
 use Rattle.list_mgr.specs.ListSteps.{IsClickOn, IsListEffect, IsListPut, IsListStep, appended, clicked_at, new_list, with_columns_fewer, with_columns_more, with_grid, with_rows_fewer, with_rows_more, with_scroll}
 use Rattle.list_mgr.specs.WholeLists.{IsSettledList}
 use Rattle.list_mgr.proofs.Changed.{grid_keeps, grid_stays}
