@@ -1,18 +1,14 @@
 -- What holds of a desk with lists between calls holds after a call about lists that leaves its list settled.
-use Rattle.std.proofs.Common.{◌≡◌, ◌≤◌, ◌<◌, ◌*◌, ℕ, ℤ, Bool, false, List, [], length, Option, None, Some, Result, Ok, Err, refl, sym, ap, ◌∙◌, subst}
-use Rattle.std.specs.Prelude.{nat_abs, pos}
+use Rattle.std.proofs.Common.{◌≡◌, ℕ, ℤ, false, [], Option, None, Some, Result, Ok, Err, refl, subst}
+use Rattle.std.specs.Prelude.{nat_abs}
 use Rattle.tb_geom.specs.declared.refusal.Refusal.{Refusal}
-use Rattle.tb_geom.specs.Refusals.{first_refusal}
 use Rattle.list_cells.specs.declared.cell.Cell.{Cell}
 use Rattle.list_cells.specs.declared.selecting.Selecting.{Selecting}
-use Rattle.list_cells.specs.Blocks.{clicked_cell, content_at}
+use Rattle.list_cells.specs.Blocks.{clicked_cell}
 use Rattle.list_cells.specs.Clicks.{keys_of}
-use Rattle.list_cells.specs.Contents.{Content, bytes_held}
-use Rattle.list_cells.specs.Grids.{Grid, IsGrid, with_bytes}
+use Rattle.list_cells.specs.Grids.{Grid, with_bytes}
 use Rattle.list_cells.specs.Selections.{IsSelecting, chosen_cell}
-use Rattle.list_cells.proofs.ByteLemmas.{same_held}
-use Rattle.list_records.specs.Lists.{with_cells, with_view}
-use Rattle.list_view.specs.Views.{View, scrolled}
+use Rattle.list_records.specs.Lists.{with_cells}
 use Rattle.desk_call.specs.declared.list.ListCall.{ListCall}
 use Rattle.desk_call.specs.declared.list.ListCall.TheVariants.{New, Dispose, AddRows, AddColumns, DeleteRows, DeleteColumns, SetCell, AddToCell, ClearCell, GetCell, Select, IsSelected, FirstSelected, NextCell, Search, Click, Scroll, SetDrawing}
 use Rattle.desk_call.specs.declared.list.ListClick.{ListClick}
@@ -21,23 +17,16 @@ use Rattle.desk_call.specs.declared.list.ListReply.{ListReply}
 use Rattle.desk_call.specs.declared.list.NewList.{NewList}
 use Rattle.window_mgr.specs.Refused.{is_missing}
 use Rattle.list_mgr.specs.ListDesks.{KeptList, ListDesk, list_of}
-use Rattle.list_mgr.specs.ListRefusals.{list_refusals}
 use Rattle.list_mgr.specs.ListSteps.{IsClickOn, IsListEffect, IsListPut, IsListStep, appended, clicked_at, new_list, with_columns_fewer, with_columns_more, with_grid, with_rows_fewer, with_rows_more, with_scroll}
 use Rattle.list_mgr.specs.WholeLists.{IsSettledList}
+use Rattle.list_mgr.proofs.Changed.{grid_keeps, grid_stays}
 use Rattle.list_mgr.proofs.Edited.{Keeps}
 use Rattle.list_mgr.proofs.ListsBars.{relined_keeps}
 use Rattle.list_mgr.proofs.ListsKept.{IsRightLists, changed_keeps, toggled_or_not_keeps, unchanged_keeps}
 use Rattle.list_mgr.proofs.ListsMade.{disposed_keeps, drawing_keeps, made_keeps}
+use Rattle.list_mgr.proofs.Selected.{selecting_grid}
 
 -- ---- changes that keep a list's place
-
-cells_keep : (g : Grid → Grid) → Keeps (with_grid g)
-cells_keep g = record {
-  serial = λ x. refl;
-  window = λ x. refl;
-  definition = λ x. refl;
-  layer = λ x k its. record { part = its.part; shown = its.shown; region = its.region; bounds = its.bounds };
-}
 
 rows_more_keep : (n at : ℤ) → Keeps (with_rows_more n at)
 rows_more_keep n at = record {
@@ -81,28 +70,9 @@ scroll_keep columns rows = record {
 
 -- ---- selections
 
--- cells that differ in their selection alone are as good
-grid_selected : (g after : Grid) (s : Selecting) → IsGrid g → IsSelecting g after s → IsGrid after
-grid_selected g after s is h = record {
-  shape = h.many ∙ is.shape ∙ (λ i. sym h.rows i * sym h.columns i);
-  columns_within = subst (λ n. n ≤ 4096) (sym h.columns) is.columns_within;
-  rows_within = subst (λ n. n ≤ 4096) (sym h.rows) is.rows_within;
-  cells_within = subst (λ n. n ≤ 4096) (sym h.many) is.cells_within;
-  bytes_within = subst (λ n. n ≤ 32000) (sym (held_selected g after s h)) is.bytes_within;
-}
-  where
-    held_selected : (g after : Grid) (s : Selecting) → IsSelecting g after s → bytes_held after.contents ≡ bytes_held g.contents
-    held_selected g after s h = same_held after.contents g.contents h.many (λ place low. ap (λ (c : Content). c.bytes) (h.each place low))
-
+-- a list whose cells differ in their selection alone is as good
 settled_selected : (x : KeptList) (after : Grid) (s : Selecting) → IsSelecting x.cells after s → IsSettledList x → IsSettledList (with_cells after x)
-settled_selected x after s h its = record {
-  live = its.live;
-  told = its.told;
-  goes_by = its.goes_by;
-  view = its.view;
-  grid = grid_selected x.cells after s its.grid h;
-  short = (grid_selected x.cells after s its.grid h).bytes_within;
-}
+settled_selected x after s h its = grid_stays (λ g. after) x its (selecting_grid x.cells after s h its.grid)
 
 -- ---- what is left to say of each call
 
@@ -161,9 +131,9 @@ module _ (before after : ListDesk) (was : IsRightLists before) where
   effect_keeps (AddColumns n) answer may done = relined_keeps n.list (with_columns_more n.count n.at) (columns_more_keep n.count n.at) before after was may done.1
   effect_keeps (DeleteRows n) answer may done = relined_keeps n.list (with_rows_fewer n.count n.at) (rows_fewer_keep n.count n.at) before after was may done.1
   effect_keeps (DeleteColumns n) answer may done = relined_keeps n.list (with_columns_fewer n.count n.at) (columns_fewer_keep n.count n.at) before after was may done.1
-  effect_keeps (SetCell t) answer may done = changed_keeps before after was t.cell.list (with_grid (λ g. with_bytes g t.cell.cell t.text)) (cells_keep (λ g. with_bytes g t.cell.cell t.text)) may done.1
-  effect_keeps (AddToCell t) answer may done = changed_keeps before after was t.cell.list (with_grid (appended t.cell.cell t.text)) (cells_keep (appended t.cell.cell t.text)) may done.1
-  effect_keeps (ClearCell c) answer may done = changed_keeps before after was c.list (with_grid (λ g. with_bytes g c.cell [])) (cells_keep (λ g. with_bytes g c.cell [])) may done.1
+  effect_keeps (SetCell t) answer may done = changed_keeps before after was t.cell.list (with_grid (λ g. with_bytes g t.cell.cell t.text)) (grid_keeps (λ g. with_bytes g t.cell.cell t.text)) may done.1
+  effect_keeps (AddToCell t) answer may done = changed_keeps before after was t.cell.list (with_grid (appended t.cell.cell t.text)) (grid_keeps (appended t.cell.cell t.text)) may done.1
+  effect_keeps (ClearCell c) answer may done = changed_keeps before after was c.list (with_grid (λ g. with_bytes g c.cell [])) (grid_keeps (λ g. with_bytes g c.cell [])) may done.1
   effect_keeps (GetCell c) answer may done = unchanged_keeps before after was done.1
   effect_keeps (Select k) answer may (is, (x, named, done)) =
       let selects = may x named in

@@ -4,12 +4,10 @@ use Rattle.std.specs.Prelude.{is_none, slice_get}
 use Rattle.std.specs.Option.{option_and_then}
 use Rattle.std.proofs.lemmas.Bool.{false≢true}
 use Rattle.std.proofs.lemmas.Bool.Decides.{nat_tests}
-use Rattle.list_cells.specs.declared.click.SelectionFlags.{SelectionFlags}
 use Rattle.list_cells.specs.declared.selecting.Selecting.{Selecting}
 use Rattle.list_cells.specs.Grids.{Grid}
 use Rattle.list_cells.specs.Selections.{IsSelecting}
 use Rattle.list_records.specs.Lists.{with_cells}
-use Rattle.def_iface.specs.Desk.{IsDesk}
 use Rattle.desk_call.specs.declared.list.ListOf.{ListOf}
 use Rattle.vis_update.specs.Records.{WindowRecord}
 use Rattle.window_mgr.specs.Finding.{record_with}
@@ -19,7 +17,7 @@ use Rattle.control_mgr.specs.ControlDesks.{ControlsState, controls_show}
 use Rattle.control_mgr.specs.WholeControls.{AreWholeControls}
 use Rattle.control_mgr.proofs.ControlsKept.{IsRightDesk}
 use Rattle.list_mgr.specs.ListDesks.{IsListDeskUnchanged, KeptList, ListDesk, ListsState, list_of, lists_show, with_controls}
-use Rattle.list_mgr.specs.ListSteps.{IsChangedTo, IsListChanged, IsMarked, IsSeenOrNot, IsSelectionChanged, IsShown, IsToggled, IsToggledOrNot, IsUnseen}
+use Rattle.list_mgr.specs.ListSteps.{IsChangedTo, IsListChanged, IsMarked, IsSeenOrNot, IsShown, IsToggled, IsToggledOrNot, IsUnseen}
 use Rattle.list_mgr.specs.WholeLists.{AreWholeLists, IsSettledList}
 use Rattle.list_mgr.proofs.Drawn.{All-there}
 use Rattle.list_mgr.proofs.Edited.{Keeps, there_edited}

@@ -1,7 +1,7 @@
 -- What holds of a desk with lists between calls holds where a list is put behind the others or taken out.
-use Rattle.std.proofs.Common.{◌≡◌, ℕ, true, false, List, [], ◌∷◌, ◌++◌, map, Option, Some, None, refl, sym, ap, ◌∙◌, subst}
-use Rattle.std.specs.List.{list_any, remove}
-use Rattle.list_records.specs.Lists.{are_before, is_in_at, lists_of}
+use Rattle.std.proofs.Common.{◌≡◌, ℕ, true, false, List, map, Option, Some, None, refl, sym, ap, ◌∙◌, subst}
+use Rattle.std.specs.List.{remove}
+use Rattle.list_records.specs.Lists.{are_before, lists_of}
 use Rattle.list_records.proofs.LawLemmas.{no_others}
 use Rattle.list_records.proofs.WindowLemmas.{found_in}
 use Rattle.control_list.specs.Lists.{controls_of}

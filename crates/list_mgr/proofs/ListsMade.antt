@@ -1,6 +1,6 @@
 -- What holds of a desk with lists between calls holds where a list is made or disposed of with its scroll bars, and where its
 -- drawing is turned on or off.
-use Rattle.std.proofs.Common.{◌≡◌, ℕ, zero, suc, Bool, true, false, ◌==◌, cond, List, [], ◌∷◌, Option, Some, None, refl, sym, ap, ◌∙◌, subst}
+use Rattle.std.proofs.Common.{◌≡◌, ℕ, zero, suc, Bool, true, false, ◌==◌, cond, List, [], ◌∷◌, Option, Some, refl, sym, ap, ◌∙◌, subst}
 use Rattle.tb_geom.specs.declared.point.Point.{Point}
 use Rattle.list_records.specs.Lists.{edit_at, has_serial, with_drawing}
 use Rattle.def_iface.specs.declared.part.Part.{Part}
@@ -11,8 +11,8 @@ use Rattle.window_mgr.specs.DeskStates.{IsDeskUnchanged}
 use Rattle.window_mgr.specs.FullDesk.{FullDesk}
 use Rattle.window_mgr.specs.Refused.{is_missing}
 use Rattle.window_mgr.proofs.Running.{unchanged_stays_right}
-use Rattle.control_mgr.specs.ControlDesks.{ControlsState, ShowsControls, controls_show}
-use Rattle.list_mgr.specs.ListDesks.{KeptList, ListDesk, ListsState, list_bit, list_of, lists_show, with_controls, with_serial}
+use Rattle.control_mgr.specs.ControlDesks.{ControlsState, controls_show}
+use Rattle.list_mgr.specs.ListDesks.{KeptList, ListDesk, ListsState, list_bit, lists_show, with_serial}
 use Rattle.list_mgr.specs.ListSteps.{IsChangedTo, IsListDisposed, IsListMade, IsListPut, horizontal_bar_of, new_list, vertical_bar_of}
 use Rattle.list_mgr.specs.WholeLists.{IsSettledList}
 use Rattle.list_mgr.proofs.Edited.{Keeps}

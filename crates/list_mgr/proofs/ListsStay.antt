@@ -7,7 +7,6 @@ use Rattle.std.proofs.lemmas.Bool.Decides.{nat_tests}
 use Rattle.tb_geom.specs.declared.point.Point.{Point}
 use Rattle.tb_geom.specs.Points.{minus}
 use Rattle.list_records.specs.Lists.{has_serial, lists_of}
-use Rattle.def_iface.specs.declared.part.Part.{Part}
 use Rattle.def_iface.specs.declared.part.Part.TheVariants as part
 use Rattle.def_iface.specs.Owner.{Owner, same_owner}
 use Rattle.def_iface.specs.Owner.Owner.{Content}

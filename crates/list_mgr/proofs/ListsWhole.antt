@@ -1,5 +1,5 @@
 -- Lists that are whole are whole where one of them is changed, put in or taken out, and where controls are called.
-use Rattle.std.proofs.Common.{◌≡◌, ℕ, zero, suc, Bool, true, false, ◌||◌, ◌==◌, cond, List, [], ◌∷◌, ◌++◌, map, Option, Some, None, refl, sym, ap, ◌∙◌, subst, arith, eqb-true}
+use Rattle.std.proofs.Common.{◌≡◌, ℕ, zero, suc, Bool, true, false, ◌||◌, ◌==◌, cond, List, [], ◌∷◌, ◌++◌, map, Some, refl, sym, ap, ◌∙◌, subst, arith, eqb-true}
 use Rattle.std.specs.Prelude.{All, slice_get}
 use Rattle.std.specs.List.{AllZip, list_any, remove}
 use Rattle.std.specs.Option.{option_and_then}
@@ -24,7 +24,7 @@ use Rattle.control_mgr.proofs.ControlsKept.{uncontrolled}
 use Rattle.control_mgr.proofs.LayerOut.{all-remove}
 use Rattle.control_mgr.proofs.Settled.{missing-layers}
 use Rattle.control_mgr.proofs.Stocks.{stocked_with, stocked_without}
-use Rattle.list_mgr.specs.ListDesks.{IsListDeskUnchanged, KeptList, ListDesk, ListSlot, ListsState, list_of}
+use Rattle.list_mgr.specs.ListDesks.{KeptList, ListDesk, ListSlot, ListsState, list_of}
 use Rattle.list_mgr.specs.ListSteps.{AreListLayers, IsChangedTo, IsLayerOf, IsListShut}
 use Rattle.list_mgr.specs.WholeLists.{AreApart, AreWholeLists, IsSettledList, slots_of}
 use Rattle.list_mgr.proofs.Edited.{Keeps, whole_edited}
