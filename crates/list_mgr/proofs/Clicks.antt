@@ -39,10 +39,10 @@ word_fits (pos n) e f = let below : n < 65536 = grind (arith, ints, e, f) in bel
 word_fits (negsuc n) e f = absurd (grind (arith, ints, e))
 
 pub no_word : (z : ℤ) → (FitsUnsignedBits 16 z → ⊥) → is_word z ≡ false
-no_word z no = by_tests (int_le (pos 0) z) (int_le z (pos 65535)) refl refl
+no_word z unfit = by_tests (int_le (pos 0) z) (int_le z (pos 65535)) refl refl
   where
     by_tests : (a b : Bool) → int_le (pos 0) z ≡ a → int_le z (pos 65535) ≡ b → (a && b) ≡ false
-    by_tests true true e f = absurd (no (word_fits z e f))
+    by_tests true true e f = absurd (unfit (word_fits z e f))
     by_tests true false e f = refl
     by_tests false b e f = refl
 

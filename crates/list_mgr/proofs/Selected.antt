@@ -98,7 +98,7 @@ module _ {V : Type 0} {H : V → Type 0} (loan : Taken V H → Loan) {X : Type 0
   -- the selection of the list changed so
   pub selected_so : (mark : Option Pixels) → IsMark list_loan loan t m s mark → (u : WindowManager V H) → IsToggledOrMarked list_loan loan mark selecting s m t u
       → IsChangedOver list_loan loan (IsSelectionChanged l h) t m u n
-  selected_so None (z, there, on) u toggled o slots cs kept whole lists =
+  selected_so None (z, there, on) u toggled = λ o slots cs kept whole lists.
       let was = controls_show (lists_show (records_of list_loan m)) cs.controls in
       let after = controls_show (lists_show (records_of list_loan n)) cs.controls in
       let place = there_is t.windows.records.items s.window is.window.0 in

@@ -13,7 +13,7 @@ use Rattle.list_mgr.specs.Changing.{IsSameOrNot}
 use Rattle.list_mgr.specs.ListSteps.{IsListChanged, IsListStep, appended, with_grid}
 use Rattle.list_mgr.proofs.Cells.{added_grid, added_or_not, cell_of_allowed}
 use Rattle.list_mgr.proofs.Changed.{changed_as, short_over}
-use Rattle.list_mgr.proofs.Given.{beside_so, changed_so, kept_there, mark_so, read_grid, spot_so}
+use Rattle.list_mgr.proofs.Given.{beside_so, changed_so, kept_there, mark_so, read_grid, spot_so, with_cells_there}
 use Rattle.list_mgr.proofs.Steps.{its_reasons, list_read}
 use Rattle.list_mgr.proofs.changing.Lists+TakenList.add_to_cell.Goals as goal
 
@@ -29,7 +29,7 @@ returns-in_err-add_to_cell g c =
     let memory : e.0 ≡ NoMemory =
     e.2 ∙ c.in_err-add_to_cell.ensures.refused
     ∙ ap (λ o. unwrap_or o NoMemory) (subst (λ z. first_refusal (data_refusals z.cells cell 0 (length c.as_slice-text.result.now)) ≡ None) same free) in
-    short_over _ (list.list_loan-value g.dyn-1).it c.args.windows.now c.args.self.now _
+    short_over _ (list.list_loan-value g.dyn-1).it c.args.windows.now c.args.self.now (with_cells_there _ (list.list_loan-value g.dyn-1).it set.cell.list c.args.windows.now c.args.self.now c.in_ok-spot.spot c.in_ok-spot.ensures y c.index_mut.ensures.value c.add_to_cell.new.self)
     (kept_there _ (list.list_loan-value g.dyn-1).it set.cell.list c.args.windows.now c.args.self.now c.in_ok-spot.spot c.in_ok-spot.ensures y c.index_mut.ensures.value c.add_to_cell.new.self c.in_err-add_to_cell.ensures.cells)
     refl (asks.AddToCell set) c.from_residual-in_err-add_to_cell.result e.0 e.1 memory (λ kept. refl)
     (λ o slots cs kept.
@@ -78,7 +78,7 @@ returns g c =
     subst (λ (text : List ℕ). first_refusal (data_refusals x.cells cell 0 (length text)) ≡ None) c.as_slice-text.ensures c.in_ok-add_to_cell.ensures.allowed in
     let changes : not (length set.text == 0) ≡ not c.is_empty-changes.result =
     ap not (sym (c.is_empty-changes.ensures ∙ ap (λ (text : List ℕ). length text == 0) c.as_slice-text.ensures)) in
-    changed_as _ (list.list_loan-value g.dyn-1).it t c.show.new.windows m _ (IsListChanged set.cell.list (with_grid (appended cell set.text))) (IsListStep (asks.AddToCell set) (Ok reply.Done))
+    changed_as _ (list.list_loan-value g.dyn-1).it t c.show.new.windows m (with_cells_there _ (list.list_loan-value g.dyn-1).it set.cell.list t m spot is x read c.add_to_cell.new.self) (IsListChanged set.cell.list (with_grid (appended cell set.text))) (IsListStep (asks.AddToCell set) (Ok reply.Done))
     (λ o slots cs kept done. (
       its_reasons _ _ set.cell.list t m spot is (λ y. data_refusals y.cells cell 0 (length set.text)) (seen (list.list_loan-value g.dyn-1).it x) (list_read _ _ set.cell.list t m spot is x read) ∙ allowed,
       (refl, done),

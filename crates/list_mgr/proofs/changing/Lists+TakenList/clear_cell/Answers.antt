@@ -11,7 +11,7 @@ use Rattle.list_mgr.proofs.Cells.{cleared_grid, cleared_or_not}
 use Rattle.list_mgr.specs.Changing.{IsSameOrNot}
 use Rattle.list_mgr.specs.ListSteps.{IsListChanged, IsListStep, with_grid}
 use Rattle.list_mgr.proofs.Changed.{changed_as, grows_off, short_over}
-use Rattle.list_mgr.proofs.Given.{beside_so, changed_so, mark_so, read_grid, spot_so}
+use Rattle.list_mgr.proofs.Given.{beside_so, changed_so, mark_so, read_grid, spot_so, with_cells_there}
 use Rattle.list_mgr.proofs.Steps.{cell_there, list_read}
 use Rattle.list_mgr.proofs.changing.Lists+TakenList.clear_cell.Goals as goal
 
@@ -62,7 +62,7 @@ returns g c =
     let read = c.index_mut.ensures.value in
     let has : is_cell x.cells cell ≡ true = sym c.in_ok-clear_cell.ensures.found in
     let same : c.index.result.now ≡ x = one_item m.list.lists.items spot.list c.index.result.now x is.low c.index.ensures read in
-    changed_as _ (list.list_loan-value g.dyn-1).it t c.show.new.windows m _ (IsListChanged named.list (with_grid (λ (y : Grid). with_bytes y cell []))) (IsListStep (asks.ClearCell named) (Ok reply.Done))
+    changed_as _ (list.list_loan-value g.dyn-1).it t c.show.new.windows m (with_cells_there _ (list.list_loan-value g.dyn-1).it named.list t m spot is x read c.clear_cell.new.self) (IsListChanged named.list (with_grid (λ (y : Grid). with_bytes y cell []))) (IsListStep (asks.ClearCell named) (Ok reply.Done))
     (λ o slots cs kept done. (
       cell_there _ _ named.list t m spot is cell (seen (list.list_loan-value g.dyn-1).it x) (list_read _ _ named.list t m spot is x read) has,
       (refl, done),

@@ -14,7 +14,7 @@ use Rattle.list_mgr.specs.Changing.{IsSameOrNot}
 use Rattle.list_mgr.specs.ListSteps.{IsListChanged, IsListStep, with_grid}
 use Rattle.list_mgr.proofs.Cells.{cell_of_allowed, no_cell_refused, set_grid, set_or_not}
 use Rattle.list_mgr.proofs.Changed.{changed_as, refused_over, short_over}
-use Rattle.list_mgr.proofs.Given.{beside_so, changed_so, kept_there, mark_so, read_grid, spot_so}
+use Rattle.list_mgr.proofs.Given.{beside_so, changed_so, kept_there, mark_so, read_grid, spot_so, with_cells_there}
 use Rattle.list_mgr.proofs.Steps.{its_reasons, list_read}
 use Rattle.list_mgr.proofs.changing.Lists+TakenList.set_cell.Goals as goal
 
@@ -55,7 +55,7 @@ returns-in_err-set_cell g c =
     let memory : e.0 ≡ NoMemory =
     e.2 ∙ c.in_err-set_cell.ensures.refused
     ∙ ap (λ o. unwrap_or o NoMemory) (subst (λ z. first_refusal (data_refusals z.cells cell (length (content_of z.cells cell).bytes) (length c.as_slice-text.result.now)) ≡ None) same free) in
-    short_over _ (list.list_loan-value g.dyn-1).it c.args.windows.now c.args.self.now _
+    short_over _ (list.list_loan-value g.dyn-1).it c.args.windows.now c.args.self.now (with_cells_there _ (list.list_loan-value g.dyn-1).it set.cell.list c.args.windows.now c.args.self.now c.in_ok-spot.spot c.in_ok-spot.ensures y c.index_mut.ensures.value c.set_cell.new.self)
     (kept_there _ (list.list_loan-value g.dyn-1).it set.cell.list c.args.windows.now c.args.self.now c.in_ok-spot.spot c.in_ok-spot.ensures y c.index_mut.ensures.value c.set_cell.new.self c.in_err-set_cell.ensures.cells)
     refl (asks.SetCell set) c.from_residual-in_err-set_cell.result e.0 e.1 memory (λ kept. refl)
     (λ o slots cs kept.
@@ -106,7 +106,7 @@ returns g c =
     let changes : not (bytes_eq (content_of x.cells cell).bytes set.text) ≡ c.differ-changes.result =
     sym (c.differ-changes.ensures ∙ ap (λ (old : List ℕ). not (bytes_eq old c.as_slice-text.result.now)) (c.in_ok-cell.ensures.bytes ∙ ap (λ y. (content_of y.cells cell).bytes) same)
     ∙ ap (λ (text : List ℕ). not (bytes_eq (content_of x.cells cell).bytes text)) c.as_slice-text.ensures) in
-    changed_as _ (list.list_loan-value g.dyn-1).it t c.show.new.windows m _ (IsListChanged set.cell.list (with_grid (λ (y : Grid). with_bytes y cell set.text))) (IsListStep (asks.SetCell set) (Ok reply.Done))
+    changed_as _ (list.list_loan-value g.dyn-1).it t c.show.new.windows m (with_cells_there _ (list.list_loan-value g.dyn-1).it set.cell.list t m spot is x read c.set_cell.new.self) (IsListChanged set.cell.list (with_grid (λ (y : Grid). with_bytes y cell set.text))) (IsListStep (asks.SetCell set) (Ok reply.Done))
     (λ o slots cs kept done. (
       its_reasons _ _ set.cell.list t m spot is (λ y. data_refusals y.cells cell (length (content_of y.cells cell).bytes) (length set.text)) (seen (list.list_loan-value g.dyn-1).it x) (list_read _ _ set.cell.list t m spot is x read) ∙ allowed,
       (refl, done),

@@ -10,6 +10,7 @@ use Rattle.desk_call.specs.declared.list.ListReply.TheVariants as reply
 use Rattle.control_mgr.proofs.Lays.{one_item}
 use Rattle.list_mgr.specs.ListSteps.{IsListStep, IsSelectionChanged}
 use Rattle.list_mgr.proofs.Changed.{changed_as, grows_off, short_over}
+use Rattle.list_mgr.proofs.Given.{with_cells_there}
 use Rattle.list_mgr.proofs.Selected.{selected_so}
 use Rattle.list_mgr.proofs.Steps.{cell_there, list_read}
 use Rattle.list_mgr.proofs.selecting.Lists+TakenList.select.Goals as goal
@@ -43,7 +44,7 @@ returns g c =
     ∙ ap (λ z. chosen_cell cell chosen.selected z.flags.only_one x.cells) same in
     let said : IsSelecting x.cells (chosen_cell cell chosen.selected x.flags.only_one x.cells) c.in-Some.selecting =
     subst (λ z. IsSelecting z.cells (chosen_cell cell chosen.selected z.flags.only_one z.cells) c.in-Some.selecting) same c.in-Some.ensures.after in
-    changed_as _ (list.list_loan-value g.dyn-1).it t c.toggle.new.windows m _ (IsSelectionChanged chosen.cell.list (λ (flags : SelectionFlags). chosen_cell cell chosen.selected flags.only_one)) (IsListStep (asks.Select chosen) (Ok reply.Done))
+    changed_as _ (list.list_loan-value g.dyn-1).it t c.toggle.new.windows m (with_cells_there _ (list.list_loan-value g.dyn-1).it chosen.cell.list t m spot is x read c.select.new.self) (IsSelectionChanged chosen.cell.list (λ (flags : SelectionFlags). chosen_cell cell chosen.selected flags.only_one)) (IsListStep (asks.Select chosen) (Ok reply.Done))
     (λ o slots cs kept done.
     (cell_there _ _ chosen.cell.list t m spot is cell (seen (list.list_loan-value g.dyn-1).it x) (list_read _ _ chosen.cell.list t m spot is x read) has, (refl, done)))
     (selected_so _ (list.list_loan-value g.dyn-1).it chosen.cell.list t m spot is x read (λ (flags : SelectionFlags). chosen_cell cell chosen.selected flags.only_one) c.select.new.self now c.in-Some.selecting said
