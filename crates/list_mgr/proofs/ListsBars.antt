@@ -22,12 +22,13 @@ use Rattle.desk_call.specs.declared.control.NewControl.{NewControl}
 use Rattle.desk_call.specs.declared.list.ListOf.{ListOf}
 use Rattle.list_view.specs.Bars.{horizontal_setting, vertical_setting}
 use Rattle.vis_update.specs.Records.{WindowRecord}
-use Rattle.window_mgr.specs.FullDesk.{AreSerials, FullDesk, IsRightState, layered_desk, layered_state}
+use Rattle.window_mgr.specs.DeskStates.{SameActivity}
+use Rattle.window_mgr.specs.FullDesk.{AreSerials, FullDesk, FullState, IsRightState, layered_desk, layered_state}
 use Rattle.window_mgr.specs.Refused.{is_missing}
 use Rattle.window_mgr.specs.Relayered.{redrawn_change}
 use Rattle.window_mgr.proofs.Showing.{distinct_showing}
 use Rattle.control_mgr.specs.ControlDesks.{ControlRecord, ControlsState, index_of}
-use Rattle.control_mgr.specs.ControlSteps.{IsControlStep, IsShownAnew}
+use Rattle.control_mgr.specs.ControlSteps.{IsControlStep, IsSettingPutAt, IsShownAnew}
 use Rattle.control_mgr.specs.Spots.{with_state}
 use Rattle.control_mgr.specs.WholeControls.{AreWholeControls}
 use Rattle.control_mgr.proofs.ControlBits.{bare, same_own}
@@ -37,7 +38,7 @@ use Rattle.control_mgr.proofs.SerialsFound as controls
 use Rattle.control_mgr.proofs.Sets.{state_of_control}
 use Rattle.control_mgr.proofs.Settled.{changed_alike, whole_put}
 use Rattle.list_mgr.specs.ListDesks.{KeptList, ListDesk, ListsState, list_of, lists_show, with_controls}
-use Rattle.list_mgr.specs.ListSteps.{AreBarsSet, IsBarGone, IsBarGoneIf, IsBarMade, IsBarSet, IsBarSetIf, IsRelined}
+use Rattle.list_mgr.specs.ListSteps.{AreBarsSet, IsBarGone, IsBarGoneIf, IsBarMade, IsBarSet, IsRelined, SameLists}
 use Rattle.list_mgr.specs.WholeLists.{AreWholeLists, IsSettledList}
 use Rattle.list_mgr.proofs.Edited.{Keeps}
 use Rattle.list_mgr.proofs.ListsKept.{IsRightLists, changed_keeps, unchanged_keeps}
@@ -123,14 +124,29 @@ module _ (before after : ListDesk) (was : IsRightLists before) where
 
   -- ---- each bar
 
-  set_if_keeps : (b : Bool) (c : ControlOf) (setting : Setting) → IsBarSetIf b c setting before after → IsRightLists after
-  set_if_keeps true c setting same = unchanged_keeps before after was same
-  set_if_keeps false c setting done = set_keeps c setting done.0 done.2
+  put_at_keeps : (o : Option ℕ) (c : ControlOf) (setting : Setting) → IsSettingPutAt o c setting (with_controls before) (with_controls after)
+      → SameActivity before.desk after.desk → SameLists before after → IsRightLists after
+  put_at_keeps None c setting same activity lists =
+      unchanged_keeps before after was (record {
+        desk = record {
+          windows = record {
+            desk = ap (λ (x : FullState). x.desk) same.windows;
+            stale = λ p on. ap (λ (x : FullState). x.stale p) same.windows;
+            image = λ p on. ap (λ (x : FullState). x.image p) same.windows;
+          };
+          activity = activity.activity;
+          begun = activity.begun;
+        };
+        controls = same.controls;
+        lists = lists;
+      })
+  put_at_keeps (Some at) c setting done activity lists = set_keeps c setting done lists
 
   -- a bar got a setting, where the window has it still
   pub bar_set_keeps : (window : ℕ) (o : Option ℕ) (setting : Setting) → IsBarSet window o setting before after → IsRightLists after
   bar_set_keeps window None setting same = unchanged_keeps before after was same
-  bar_set_keeps window (Some n) setting done = set_if_keeps (is_none (index_of (record { window = window; control = n }) before.controls.controls)) (record { window = window; control = n }) setting done
+  bar_set_keeps window (Some n) setting done =
+      put_at_keeps (index_of (record { window = window; control = n }) before.controls.controls) (record { window = window; control = n }) setting done.0 done.1 done.2
 
   gone_if_keeps : (b : Bool) (c : ControlOf) → IsBarGoneIf b c before after → IsRightLists after
   gone_if_keeps true c same = unchanged_keeps before after was same

@@ -1,0 +1,3 @@
+-- Lemmas of the scratch crate.
+pub mod TwoMade
+pub mod TwoEnded

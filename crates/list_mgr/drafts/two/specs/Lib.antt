@@ -1,0 +1,2 @@
+-- Two controls and a further layer.
+pub mod Two
