@@ -1,5 +1,5 @@
 //! The controls of a desk.
-ghost use Rattle.std.specs.Prelude.{◌≡◌, ◌<◌, ◌≤◌, ◌++◌, [], ◌∷◌, None, Some, OnOk, IfSome, IsOk, vec_capacity, slice_get, length};
+ghost use Rattle.std.specs.Prelude.{◌≡◌, ◌<◌, ◌≤◌, ◌+◌, ◌++◌, [], ◌∷◌, None, Some, OnOk, IfSome, IsOk, vec_capacity, slice_get, length};
 ghost use Rattle.std.specs.List.{remove};
 ghost use Rattle.control_list.specs.Lists.{control_index, count_of, place_among, last_index_of, youngest_of, without_youngest, serial_after};
 
@@ -53,15 +53,15 @@ impl<D> ControlList<D> {
         count_in(&self.controls[..at], window)
     }
 
-    /// Makes room for one control more. With room for it already it takes no memory.
-    pub fn reserve(&mut self) -> Result<(), AllocError>
+    /// Makes room for so many controls more. With room for them already it takes no memory.
+    pub fn reserve(&mut self, count: usize) -> Result<(), AllocError>
         ensures controls { self.new.controls.items ≡ self.old.controls.items }
         ensures next { self.new.next ≡ self.old.next }
-        ensures made { OnOk result (length self.new.controls.items < vec_capacity self.new.controls) }
-        ensures succeeds { length self.old.controls.items < vec_capacity self.old.controls → IsOk result }
+        ensures made { OnOk result (length self.new.controls.items + count ≤ vec_capacity self.new.controls) }
+        ensures succeeds { length self.old.controls.items + count ≤ vec_capacity self.old.controls → IsOk result }
         ensures room { vec_capacity self.old.controls ≤ vec_capacity self.new.controls }
     {
-        self.controls.reserve(1)
+        self.controls.reserve(count)
     }
 
     /// Puts a control behind all others. There has to be room, and its serial is the next one.

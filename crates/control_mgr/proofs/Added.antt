@@ -1,22 +1,14 @@
--- A control that is made: its layer behind the other controls of its window, and the plan.
-use Rattle.std.proofs.Common.{◌≡◌, ℕ, zero, suc, ◌<◌, ◌≤◌, Bool, true, false, ◌&&◌, ◌||◌, cond, List, [], ◌∷◌, ◌++◌, length, get_or, Option, Some, refl, sym, ap, ◌∙◌, subst, arith}
-use Rattle.std.specs.Prelude.{All, vec_capacity}
-use Rattle.std.specs.List.{AllZip, insert, list_all, list_any}
-use Rattle.std.proofs.lemmas.List.Edits.{get_or-insert_at, insert_end, length-insert}
-use Rattle.std.proofs.lemmas.List.Elements.{All-append, All-cons, All-nil}
-use Rattle.std.proofs.lemmas.List.Folds.{list_all-append}
-use Rattle.std.proofs.lemmas.List.Quantifiers.{all_pairs_push}
+-- A control that is made: its layer behind those of the other controls of its window, and the plan.
+use Rattle.std.proofs.Common.{◌≡◌, ℕ, ◌<◌, ◌≤◌, Bool, true, false, ◌||◌, cond, List, [], ◌∷◌, length, Option, Some, refl, sym, ap, ◌∙◌, subst}
+use Rattle.std.specs.Prelude.{All}
+use Rattle.std.specs.List.{insert, list_any}
+use Rattle.std.proofs.lemmas.List.Elements.{All-cons, All-weaker}
 use Rattle.tb_geom.specs.declared.point.Point.{Point}
 use Rattle.tb_geom.specs.Points.{minus}
-use Rattle.tb_geom.specs.Pixels.{holds}
+use Rattle.tb_geom.specs.Pixels.{Pixels, holds}
 use Rattle.tb_geom.specs.Rects.{is_in_range, moved_rect}
-use Rattle.tb_geom.specs.declared.refusal.Refusal.{Refusal}
-use Rattle.tb_geom.specs.Refusals.{first_refusal}
-use Rattle.control_list.specs.Seen.{all_seen}
-use Rattle.control_list.specs.declared.control.Control.{Control}
-use Rattle.control_list.specs.Lists.{are_before, controls_of, count_of, has_serial, is_in}
+use Rattle.control_list.specs.Lists.{are_before, controls_of, has_serial, is_in}
 use Rattle.control_list.proofs.LawLemmas.{no_others}
-use Rattle.control_list.proofs.SeenLemmas.{count_of-seen}
 use Rattle.control_list.proofs.WindowLemmas.{count_of-length}
 use Rattle.def_iface.specs.declared.part.Part.{Part}
 use Rattle.def_iface.specs.declared.part.Part.TheVariants as part
@@ -31,36 +23,30 @@ use Rattle.layer_list.specs.declared.layers.Relaid.{Relaid}
 use Rattle.layer_list.specs.Changes.{is_gained}
 use Rattle.layer_list.specs.Holders.{ArePartsApart, IsLayerAt, PlacedLayers, fits_at}
 use Rattle.desk_call.specs.declared.control.NewControl.{NewControl}
+use Rattle.desk_call.specs.declared.update.Layers.TheVariants as kinds
 use Rattle.vis_update.specs.declared.relaying.Relaying.{Relaying}
-use Rattle.vis_update.specs.Relayings.{IsGained}
 use Rattle.window_list.specs.declared.window.Window.{Window}
+use Rattle.window_paint.specs.Kinds.{is_of}
 use Rattle.window_mgr.specs.declared.manager.WindowManager.{WindowManager}
 use Rattle.window_mgr.specs.Edits.{IsWindowAt}
 use Rattle.window_mgr.specs.Kept.{IsKept}
-use Rattle.window_mgr.specs.Records.{desk_of}
-use Rattle.window_mgr.specs.Relayered.{IsPartAt, IsPlanOfLayers, MayHaveLayers}
-use Rattle.window_mgr.specs.Whole.{IsSettled}
+use Rattle.window_mgr.specs.Relayered.{HasUpdate, IsGainedAt, IsPartAt, IsPlanOfLayers, MayHaveLayers}
 use Rattle.window_mgr.proofs.Contents as contents
 use Rattle.control_mgr.specs.declared.controls.Controls.{Controls}
 use Rattle.control_mgr.specs.declared.laying.Lie.{Lie}
 use Rattle.control_mgr.specs.declared.making.Ticket.{Ticket}
 use Rattle.control_mgr.specs.ControlDesks.{ControlRecord}
 use Rattle.control_mgr.specs.ControlSteps.{AreLayersOf, IsLayerOf, new_control}
-use Rattle.control_mgr.specs.ControlRefusals.{judged_refusals}
+use Rattle.control_mgr.specs.Judged.{may_be_placed}
 use Rattle.control_mgr.specs.Laying.{IsShapeOf, MayLieSo}
-use Rattle.control_mgr.specs.Making.{IsAddition, IsRoomier, IsTicket}
+use Rattle.control_mgr.specs.Making.{IsAddition, IsGrown, IsReadyToAdd, IsTicket, MayGrow}
 use Rattle.control_mgr.specs.WholeControls.{AreBeside, records_of}
-use Rattle.control_mgr.proofs.Judging.{is_placed}
+use Rattle.control_mgr.proofs.Edited.{AreNoControls, begin_length, no_control}
+use Rattle.control_mgr.proofs.LayerIn.{apart_in, low_in, may_in, planned_in}
 use Rattle.control_mgr.proofs.Lays.{MayLieAt, lie_parts}
 use Rattle.control_mgr.proofs.Places.{at_window, there_is, read_is}
 
--- ---- one more behind all
-
-zip_length : {D : Type 0} (R : Control D → Layer → Type 0) (xs : List (Control D)) (ls : List Layer) → AllZip R xs ls → length xs ≡ length ls
-zip_length R [] [] h = refl
-zip_length R [] (l ∷ ls) h = absurd h
-zip_length R (x ∷ xs) [] h = absurd h
-zip_length R (x ∷ xs) (l ∷ ls) h = ap suc (zip_length R xs ls h.1)
+-- ---- one more layer
 
 pub or_parts : (a b : Bool) → (a || b) ≡ false → (a ≡ false) × (b ≡ false)
 or_parts true b e = absurd (cc)
@@ -79,29 +65,12 @@ none_in_window n window (c ∷ cs) e =
     by_test false f rest = rest
 
 -- and no layer of these is its
-others_named : (n : ℕ) (cs : List ControlRecord) (ls : List Layer) → AllZip IsLayerOf cs ls → list_any (has_serial n) cs ≡ false → All (λ l. same_part l.part (part.Control n) ≡ false) ls
-others_named n [] [] h e = All-nil (λ (l : Layer). same_part l.part (part.Control n) ≡ false)
-others_named n [] (l ∷ ls) h e = absurd h
+pub others_named : (n : ℕ) (cs : List ControlRecord) (ls : List Layer) → AreLayersOf cs ls → list_any (has_serial n) cs ≡ false → All (λ l. same_part l.part (part.Control n) ≡ false) ls
+others_named n [] ls h e = All-weaker (λ (l : Layer). is_of kinds.Controls l.part ≡ false) (λ (l : Layer). same_part l.part (part.Control n) ≡ false) (λ l its. no_control l.part n its) ls h
 others_named n (c ∷ cs) [] h e = absurd h
 others_named n (c ∷ cs) (l ∷ ls) h e =
     let both = or_parts (has_serial n c) (list_any (has_serial n) cs) e in
     All-cons (λ (l : Layer). same_part l.part (part.Control n) ≡ false) l ls (ap (λ q. same_part q (part.Control n)) h.0.part ∙ both.0) (others_named n cs ls h.1 both.1)
-
-apart_behind : (ls : List Layer) (own : Layer) → ArePartsApart ls → same_part own.part part.Picture ≡ false → All (λ l. same_part l.part own.part ≡ false) ls → ArePartsApart (ls ++ own ∷ [])
-apart_behind ls own h e others = (
-  All-append (λ (l : Layer). same_part l.part part.Picture ≡ false) ls (own ∷ []) h.0
-      (All-cons (λ (l : Layer). same_part l.part part.Picture ≡ false) own [] e (All-nil (λ (l : Layer). same_part l.part part.Picture ≡ false))),
-  all_pairs_push (λ (k l : Layer). same_part k.part l.part ≡ false) ls own h.1 others,
-)
-
-fit_behind : (place : Point) (ls : List Layer) (own : Layer) → list_all (fits_at place) ls ≡ true → fits_at place own ≡ true → list_all (fits_at place) (ls ++ own ∷ []) ≡ true
-fit_behind place ls own fit e = list_all-append (fits_at place) ls (own ∷ []) ∙ (λ t. fit t && (e t && true))
-
--- what stands at a place is one
-pub one_read : {X : Type 0} (xs : List X) (i : ℕ) (x y : X) → i < length xs → x ≡ get_or xs i x → y ≡ get_or xs i y → x ≡ y
-one_read [] i x y low e f = absurd (omega arith)
-one_read (z ∷ zs) zero x y low e f = e ∙ sym f
-one_read (z ∷ zs) (suc i) x y low e f = one_read zs i x y (omega arith) e f
 
 -- how a new control lies
 abbrev pub lie_of : NewControl → Lie
@@ -111,9 +80,62 @@ lie_of n = record { place = n.place; size = n.size; shown = n.shown }
 abbrev pub layer_with : ℕ → Shape → Layer
 layer_with serial shape = record { part = part.Control serial; shown = shape.shown; region = shape.region; bounds = shape.bounds }
 
+-- ---- a control that is planned
+
+module _ (n : NewControl) (d : ControlDefinition) (k : Ticket) (ls : PlacedLayers) (may : MayGrow n d k ls) where
+  grow_at : MayLieAt d (lie_of n) ls.place
+  grow_at = lie_parts d (lie_of n) ls.place may.placed
+
+  pub grow_so : MayLieSo d (lie_of n)
+  grow_so = grow_at.so
+
+  module _ (shape : Shape) (shaped : IsShapeOf d (lie_of n) shape) where
+    abbrev own : Layer
+    own = layer_with k.serial shape
+
+    own_fits : fits_at ls.place own ≡ true
+    own_fits = ap (λ b. is_in_range (moved_rect b ls.place.h ls.place.v)) shaped.bounds ∙ grow_at.on_screen
+
+    pub own_lies : IsLayerAt ls.place own
+    own_lies = record { boxed = shaped.boxed; inside = ap is_in_range shaped.bounds ∙ grow_so.inside; fits = own_fits }
+
+    own_is : (slot : ℕ) → IsLayerOf (new_control n k.serial slot d) own
+    own_is slot = record { part = refl; shown = shaped.shown; region = shaped.region; bounds = shaped.bounds }
+
+    module _ (relaid : Relaid) (layers_are : relaid.layers ≡ record ls { layers = insert ls.layers k.layer own }) where
+      pub new_low : k.layer < length relaid.layers.layers
+      new_low = low_in ls k.layer own may.index relaid layers_are
+
+      pub new_apart : ArePartsApart relaid.layers.layers
+      new_apart = apart_in ls k.layer own may.index relaid layers_are may.apart refl may.unused
+
+      pub grown : (r : Relaying) → IsGrown n d k ls (record { ticket = k; layers = relaid.layers; relaying = r })
+      grown r = record { ticket = refl; layer = own; is = own_is; layers = layers_are; apart = new_apart }
+
+      -- the windows and controls to which it is added
+      module _ {V : Type 0} {H : V → Type 0} (loan : Taken V H → Loan) {W : Type 0} {K : W → Type 0} (control_loan : TakenControl W K → ControlLoan) (update : Pixels) (t u : WindowManager V H)
+          (m : Controls (TakenControl W K)) (ready : IsReadyToAdd loan control_loan n d k ls update t u m) where
+        -- the plan of it
+        pub added_is : ((p : Point) → holds relaid.gained p ≡ is_gained (Some (part.Control k.serial)) ls.layers relaid.layers.layers (minus p ls.place)) → (r : Relaying)
+            → ((v : WindowManager V H) → HasUpdate loan k.window update t v → MayHaveLayers k.window v relaid.layers
+            → (afresh : Option Part) → IsPartAt relaid.layers.layers (Some k.layer) afresh → IsGainedAt k.window afresh v relaid → IsPlanOfLayers loan k.window relaid.layers.layers afresh v r)
+            → IsAddition loan control_loan n d u m (record { ticket = k; layers = relaid.layers; relaying = r })
+        added_is gains r planned = record {
+          ticket = ready.ticket;
+          layer = own;
+          is = own_is;
+          layers = λ w lies. ap (λ (x : PlacedLayers). x.layers) layers_are ∙ ap (λ (x : PlacedLayers). insert x.layers k.layer own) (sym (ready.laid.layers w lies));
+          low = new_low;
+          may = may_in ls k.layer own may.index relaid layers_are loan k.window update t u ready.laid new_apart own_fits;
+          planned = planned_in ls k.layer own may.index relaid layers_are loan k.window update t u ready.laid new_apart own_fits gains r planned;
+          room = ready.room;
+        }
+
+-- ---- a control that may be planned
+
 module _ {V : Type 0} {H : V → Type 0} (loan : Taken V H → Loan) {W : Type 0} {K : W → Type 0} (control_loan : TakenControl W K → ControlLoan)
     (n : NewControl) (d : ControlDefinition) (t : WindowManager V H) (m : Controls (TakenControl W K)) (k : Ticket)
-    (kept : IsKept loan t) (beside : AreBeside control_loan loan t m) (ticket : IsTicket loan control_loan n (Some d) t m k) where
+    (kept : IsKept loan t) (beside : AreBeside control_loan loan t m) (ticket : IsTicket control_loan n (Some d) t m k) where
   abbrev cs : List ControlRecord
   cs = records_of control_loan m
 
@@ -122,110 +144,29 @@ module _ {V : Type 0} {H : V → Type 0} (loan : Taken V H → Loan) {W : Type 0
   unused = no_others (new_control n k.serial 0 d) cs (subst (λ o. are_before o cs ≡ true) ticket.serial beside.whole.given)
 
   module _ (w : Window V H) (lies : IsWindowAt t.windows.records.items k.window w) where
-    pub may_at : MayLieAt d (lie_of n) w.place
-    may_at = lie_parts d (lie_of n) w.place (is_placed loan control_loan n (Some d) t m kept k.window ticket.window w lies ticket.unrefused)
-
     pub its : AreLayersOf (controls_of n.window cs) w.layers.layers
     its =
         subst (λ s. AreLayersOf (controls_of s cs) w.layers.layers) (ticket.window.1 w lies)
         (at_window loan (λ r. AreLayersOf (controls_of r.serial cs) r.layers) t.windows.records.items k.window w ticket.window.0 lies beside.whole.joined)
 
-    -- there are as many layers as controls
-    pub as_many : count_of n.window m.list.controls.items ≡ length w.layers.layers
-    as_many = sym (count_of-seen control_loan n.window m.list.controls.items) ∙ count_of-length n.window cs ∙ zip_length IsLayerOf (controls_of n.window cs) w.layers.layers its
+    -- there are no more controls than layers
+    no_more : k.layer ≤ length w.layers.layers
+    no_more =
+        subst (λ k. k ≤ length w.layers.layers) (sym (ticket.layer ∙ count_of-length n.window cs))
+        (begin_length IsLayerOf AreNoControls (controls_of n.window cs) w.layers.layers its)
 
-    pub lies_there : w.layers.place ≡ w.place
-    lies_there = contents.layers_there loan t kept.slots kept.whole k.window ticket.window.0 w lies (λ font q p. false)
-
-    module _ (shape : Shape) (shaped : IsShapeOf d (lie_of n) shape) where
-      abbrev own : Layer
-      own = layer_with k.serial shape
-
-      own_fits : fits_at w.place own ≡ true
-      own_fits = ap (λ b. is_in_range (moved_rect b w.place.h w.place.v)) shaped.bounds ∙ may_at.on_screen
-
-      pub own_lies : IsLayerAt w.layers.place own
-      own_lies = record {
-        boxed = shaped.boxed;
-        inside = ap is_in_range shaped.bounds ∙ may_at.so.inside;
-        fits = ap (λ (p : Point). fits_at p own) lies_there ∙ own_fits;
-      }
-
-      pub own_is : (slot : ℕ) → IsLayerOf (new_control n k.serial slot d) own
-      own_is slot = record { part = refl; shown = shaped.shown; region = shaped.region; bounds = shaped.bounds }
-
-      module _ (at : ℕ) (at_is : at ≡ count_of n.window m.list.controls.items) (relaid : Relaid) (layers_are : relaid.layers ≡ record w.layers { layers = insert w.layers.layers at own }) where
-        abbrev new : List Layer
-        new = relaid.layers.layers
-
-        behind_all : at ≡ length w.layers.layers
-        behind_all = at_is ∙ as_many
-
-        inserted : new ≡ insert w.layers.layers at own
-        inserted = ap (λ (ls : PlacedLayers). ls.layers) layers_are
-
-        new_is : new ≡ w.layers.layers ++ own ∷ []
-        new_is = inserted ∙ ap (λ i. insert w.layers.layers i own) behind_all ∙ insert_end w.layers.layers own
-
-        within : at ≤ length w.layers.layers
-        within = let e = behind_all in omega arith
-
-        pub new_low : at < length new
-        new_low =
-            let many = ap length inserted ∙ length-insert w.layers.layers at own within in
-            let e = behind_all in omega arith
-
-        pub may_have : MayHaveLayers k.window t relaid.layers
-        may_have = record {
-          apart = subst ArePartsApart (sym new_is)
-              (apart_behind w.layers.layers own (contents.layers_apart loan t kept.slots kept.whole k.window ticket.window.0 w lies (λ font q p. false)) refl
-              (others_named k.serial (controls_of n.window cs) w.layers.layers its (none_in_window k.serial n.window cs unused)));
-          there = λ v v_is. ap (λ (ls : PlacedLayers). ls.place) layers_are ∙ lies_there ∙ ap (λ (x : Window V H). x.place) (one_read t.windows.records.items k.window w v ticket.window.0 lies v_is);
-          fit = (λ i. list_all (fits_at (ap (λ (ls : PlacedLayers). ls.place) layers_are i)) (new_is i))
-              ∙ ap (λ p. list_all (fits_at p) (w.layers.layers ++ own ∷ [])) lies_there
-              ∙ fit_behind w.place w.layers.layers own (at_window loan IsSettled t.windows.records.items k.window w ticket.window.0 lies kept.whole.sound.settled).layers own_fits;
-        }
-
-        own_read : own ≡ get_or new at own
-        own_read = sym (ap (λ ls. get_or ls at own) inserted ∙ get_or-insert_at w.layers.layers at own own within)
-
-        pub part_is : (afresh : Option Part) → IsPartAt new (Some at) afresh → afresh ≡ Some (part.Control k.serial)
-        part_is afresh h = h own own_read
-
-        pub gained_is : ((p : Point) → holds relaid.gained p ≡ is_gained (Some (part.Control k.serial)) w.layers.layers new (minus p w.layers.place))
-            → (afresh : Option Part) → IsPartAt new (Some at) afresh → IsGained w.place afresh w.layers.layers new relaid.gained
-        gained_is gains afresh h p =
-            gains p
-            ∙ ap (λ o. is_gained o w.layers.layers new (minus p w.layers.place)) (sym (part_is afresh h))
-            ∙ ap (λ place. is_gained afresh w.layers.layers new (minus p place)) lies_there
-
-        -- the plan of it, where nothing but the room for controls changed since
-        pub added_is : (m' : Controls (TakenControl W K)) → IsRoomier m m' → length m'.list.controls.items < vec_capacity m'.list.controls → (r : Relaying)
-            → ((afresh : Option Part) → IsPartAt new (Some at) afresh → IsPlanOfLayers loan k.window new afresh t r)
-            → IsAddition loan control_loan n d t m' (record { ticket = k; layers = relaid.layers; layer = at; relaying = r })
-        added_is m' same room r planned = record {
-          ticket = record {
-            unrefused = (λ i. judged_from (same.controls i) (same.next i)) ∙ ticket.unrefused;
-            window = ticket.window;
-            serial = same.next ∙ ticket.serial;
-            values = ticket.values;
-            title = ticket.title;
-          };
-          layer = own;
-          is = own_is;
-          index = at_is ∙ ap (count_of n.window) (sym same.controls);
-          layers = λ v v_is. inserted ∙ ap (λ (x : Window V H). insert x.layers.layers at own) (one_read t.windows.records.items k.window w v ticket.window.0 lies v_is);
-          low = new_low;
-          may = may_have;
-          planned = planned (Some (part.Control k.serial)) (λ l l_is. sym (part_is (Some l.part) (λ j j_is. ap (λ (x : Layer). Some x.part) (one_read new at l j new_low l_is j_is))));
-          room = room;
-        }
-          where
-            judged_from : List (Control (TakenControl W K)) → Option ℕ → Option Refusal
-            judged_from xs next = first_refusal (judged_refusals n (Some d) (desk_of loan t []) (all_seen control_loan xs) next)
+    pub may_grow : MayGrow n d k w.layers
+    may_grow = record {
+      index = no_more;
+      apart = contents.layers_apart loan t kept.slots kept.whole k.window ticket.window.0 w lies (λ font q p. false);
+      unused = others_named k.serial (controls_of n.window cs) w.layers.layers its (none_in_window k.serial n.window cs unused);
+      placed =
+          ap (λ place. may_be_placed (Some d) n.place n.size place) (contents.layers_there loan t kept.slots kept.whole k.window ticket.window.0 w lies (λ font q p. false))
+          ∙ ticket.placed w lies;
+    }
 
   -- whatever the window, the definition may be laid so
   pub may_lie_so : MayLieSo d (lie_of n)
   may_lie_so =
       let w = there_is t.windows.records.items k.window ticket.window.0 in
-      (may_at w.item (read_is t.windows.records.items k.window w.item w.there)).so
+      (lie_parts d (lie_of n) w.item.place (ticket.placed w.item (read_is t.windows.records.items k.window w.item w.there))).so

@@ -7,7 +7,7 @@ use Rattle.std.proofs.lemmas.Bool.{false≢true}
 use Rattle.std.proofs.lemmas.Bool.Decides.{nat_tests}
 use Rattle.std.proofs.lemmas.List.Elements.{All-head, All-tail}
 use Rattle.tb_geom.specs.declared.point.Point.{Point}
-use Rattle.tb_geom.specs.Points.{minus}
+use Rattle.tb_geom.specs.Points.{PixelSet, minus}
 use Rattle.draw_port.specs.Ops.{picture_bit}
 use Rattle.control_list.specs.Lists.{controls_of, has_serial}
 use Rattle.def_iface.specs.declared.part.Part.{Part}
@@ -17,9 +17,11 @@ use Rattle.def_iface.specs.Owner.{Owner, content_bit, is_content, layer_bit, own
 use Rattle.def_iface.specs.Owner.Owner.{Desktop, Bar, Frame, Content}
 use Rattle.layer_list.specs.declared.layer.Layer.{Layer}
 use Rattle.layer_list.specs.Holders.{layer_has, part_at}
+use Rattle.desk_call.specs.declared.update.Layers.TheVariants.{Controls}
 use Rattle.vis_update.specs.Records.{Look, WindowRecord, layered_window, picture_layer}
 use Rattle.vis_update.specs.Relayings.{with_layers_of}
 use Rattle.vis_update.proofs.LayerOwners.{owner_first}
+use Rattle.window_paint.specs.Kinds.{is_of}
 use Rattle.window_mgr.specs.Finding.{record_with}
 use Rattle.window_mgr.specs.FullDesk.{FullDesk, layered_desk, look_of}
 use Rattle.window_mgr.specs.Refused.{is_missing}
@@ -27,6 +29,7 @@ use Rattle.window_mgr.proofs.EachChanged.{map-map}
 use Rattle.window_mgr.proofs.LayerParts.{part_bit_is}
 use Rattle.control_mgr.specs.ControlDesks.{ControlRecord, control_bit, controls_show}
 use Rattle.control_mgr.specs.ControlSteps.{AreLayersOf}
+use Rattle.control_mgr.proofs.Edited.{AreNoControls}
 use Rattle.control_mgr.proofs.Settled.{AreJoined}
 use Rattle.control_mgr.proofs.SerialsFound.{StayControls}
 
@@ -155,10 +158,19 @@ shown_by d s of p apart e = by_bar (layers.in_bar (layered_desk d) p) e
 
 -- ---- whose control it is
 
--- the layer at a point is that of one of the controls
+-- where no layer is a control's, that at a point is none
+no_control_at : (n : ℕ) (ls : List Layer) (q : Point) → AreNoControls ls → part_at ls q ≡ part.Control n → ⊥
+no_control_at n [] q none e = false≢true (ap (is_of Controls) e)
+no_control_at n (l ∷ ls) q none e =
+    by_test (no_control_at n ls q (All-tail (λ (x : Layer). is_of Controls x.part ≡ false) l ls none)) (All-head (λ (x : Layer). is_of Controls x.part ≡ false) l ls none) (layer_has l q) e
+  where
+    by_test : (part_at ls q ≡ part.Control n → ⊥) → is_of Controls l.part ≡ false → (b : Bool) → (if b then l.part else part_at ls q) ≡ part.Control n → ⊥
+    by_test rest first true e = false≢true (sym first ∙ ap (is_of Controls) e)
+    by_test rest first false e = rest e
+
+-- the layer of a control at a point is that of one of these
 named : (n : ℕ) (cs : List ControlRecord) (ls : List Layer) (q : Point) → AreLayersOf cs ls → part_at ls q ≡ part.Control n → list_any (has_serial n) cs ≡ true
-named n [] [] q h e = absurd (cc)
-named n [] (l ∷ ls) q h e = absurd h
+named n [] ls q h e = absurd (no_control_at n ls q h e)
 named n (c ∷ cs) [] q h e = absurd h
 named n (c ∷ cs) (l ∷ ls) q h e = by_test (named n cs ls q h.1) (layer_has l q) e
   where
@@ -184,8 +196,13 @@ named_there d cs s n p joined its =
 
 -- ---- what is shown before and after
 
-module _ (d e : FullDesk) (cs ds : List ControlRecord) (shows : d.shows ≡ controls_show cs d.font) (showing : e.shows ≡ controls_show ds e.font) (font : e.font ≡ d.font) (windows : map bare e.windows ≡ map bare d.windows)
-    (was : AreJoined cs d.windows) (are : AreJoined ds e.windows) (own : Owner → Bool) (stay : StayControls own cs ds) where
+-- what lists show stays, where the owner is not of this sort
+abbrev pub StayLists : (Owner → Bool) → FullDesk → FullDesk → (others now : List ℕ → Part → PixelSet) → Type 0
+StayLists own d e others now = (s n : ℕ) (p : Point) → IsShownBy d s (part.List n) p → IsShownBy e s (part.List n) p → own (Content s (part.List n)) ≡ false
+    → (q : Point) → now d.font (part.List n) q ≡ others d.font (part.List n) q
+
+module _ (others now_others : List ℕ → Part → PixelSet) (d e : FullDesk) (cs ds : List ControlRecord) (shows : d.shows ≡ controls_show others cs d.font) (showing : e.shows ≡ controls_show now_others ds e.font) (font : e.font ≡ d.font) (windows : map bare e.windows ≡ map bare d.windows)
+    (was : AreJoined cs d.windows) (are : AreJoined ds e.windows) (own : Owner → Bool) (stay : StayControls own cs ds) (stay_lists : StayLists own d e others now_others) where
   module _ (s : ℕ) (of : Part) (p : Point) (its : IsShownBy d s of p) (now : IsShownBy e s of p) where
     same_bare : bare now.window ≡ bare its.window
     same_bare = same_window s d.windows e.windows its.window now.window windows its.found now.found
@@ -196,16 +213,16 @@ module _ (d e : FullDesk) (cs ds : List ControlRecord) (shows : d.shows ≡ cont
     pictures : (picture_layer (look_of d) its.window).picture (minus p its.window.place) ≡ (picture_layer (look_of e) now.window).picture (minus p now.window.place)
     pictures = λ i. let w = sym same_bare i in picture_bit (sym font i) w.picture (minus (minus p w.place) w.origin)
 
-    shown : controls_show ds d.font of (minus p its.window.place) ≡ controls_show cs d.font of (minus p its.window.place) → d.shows of (minus p its.window.place) ≡ e.shows of (minus p now.window.place)
+    shown : controls_show now_others ds d.font of (minus p its.window.place) ≡ controls_show others cs d.font of (minus p its.window.place) → d.shows of (minus p its.window.place) ≡ e.shows of (minus p now.window.place)
     shown same =
         ap (λ f. f of (minus p its.window.place)) shows
         ∙ sym same
-        ∙ (λ i. controls_show ds (sym font i) of (there i))
+        ∙ (λ i. controls_show now_others ds (sym font i) of (there i))
         ∙ sym (ap (λ f. f of (minus p now.window.place)) showing)
 
   same_bit : (s : ℕ) (of : Part) (p : Point) → IsShownBy d s of p → IsShownBy e s of p → own (Content s of) ≡ false → own_bit (layered_desk d) (Content s of) p ≡ own_bit (layered_desk e) (Content s of) p
   same_bit s part.Picture p its now other = its.bit_is ∙ pictures s part.Picture p its now ∙ sym now.bit_is
-  same_bit s (part.List n) p its now other = its.bit_is ∙ shown s (part.List n) p its now refl ∙ sym now.bit_is
+  same_bit s (part.List n) p its now other = its.bit_is ∙ shown s (part.List n) p its now (stay_lists s n p its now other (minus p its.window.place)) ∙ sym now.bit_is
   same_bit s (part.Control n) p its now other =
       its.bit_is
       ∙ shown s (part.Control n) p its now (ap (λ o. control_bit d.font o (minus p its.window.place)) (stay s n (named_there d cs s n p was its) (named_there e ds s n p are now) other))

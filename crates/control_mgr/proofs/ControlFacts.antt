@@ -88,6 +88,8 @@ pub record IsBesideControls (before after : ControlDesk) : Type 0 where
   pub begun : after.desk.begun ≡ before.desk.begun
   pub activity : IsOpenAfter before.desk.windows.desk.windows before.desk.activity after.desk.activity
   pub kinds : kinds_of after.controls ≡ kinds_of before.controls
+  -- what other layers show
+  pub others : after.others ≡ before.others
 
 -- the same, gathered of the parts
 record Leaves (before after : ControlDesk) : Type 0 where
@@ -95,6 +97,7 @@ record Leaves (before after : ControlDesk) : Type 0 where
   begun : after.desk.begun ≡ before.desk.begun
   activity : IsOpenAfter before.desk.windows.desk.windows before.desk.activity after.desk.activity
   kinds : kinds_of after.controls ≡ kinds_of before.controls
+  others : after.others ≡ before.others
 
 beside : (before after : ControlDesk) → Leaves before after → IsBesideControls before after
 beside before after leaves = record {
@@ -110,6 +113,7 @@ beside before after leaves = record {
   begun = leaves.begun;
   activity = leaves.activity;
   kinds = leaves.kinds;
+  others = leaves.others;
 }
 
 -- ---- the kinds of the stock
@@ -143,6 +147,7 @@ module _ (before after : ControlDesk) where
       begun = same.desk.begun;
       activity = inl same.desk.activity;
       kinds = ap kinds_of same.controls;
+      others = same.others;
     },
     ap (λ (s : ControlsState). s.next) same.controls,
   )
@@ -160,6 +165,7 @@ module _ (before after : ControlDesk) where
       begun = done.activity.begun;
       activity = inl done.activity.activity;
       kinds = changed_kinds c f done.changed;
+      others = done.laid.elsewhere;
     },
     changed_next c f done.changed,
   )
@@ -167,7 +173,7 @@ module _ (before after : ControlDesk) where
   anew_leaves : (c : ControlOf) (f : ControlRecord → ControlRecord) → after.desk.begun ≡ before.desk.begun → IsOpenAfter before.desk.windows.desk.windows before.desk.activity after.desk.activity
       → IsShownAnew c f before after → LeavesBoth
   anew_leaves c f begun activity done = (
-    record { desk = anew_desk c f before after done; begun = begun; activity = activity; kinds = changed_kinds c f done.changed },
+    record { desk = anew_desk c f before after done; begun = begun; activity = activity; kinds = changed_kinds c f done.changed; others = done.others },
     changed_next c f done.changed,
   )
 
@@ -182,6 +188,7 @@ module _ (before after : ControlDesk) where
       begun = begun;
       activity = activity;
       kinds = ap kinds_of same.controls;
+      others = same.others;
     },
     ap (λ (s : ControlsState). s.next) same.controls,
   )
@@ -212,6 +219,7 @@ module _ (before after : ControlDesk) where
       begun = made.activity.begun;
       activity = inl made.activity.activity;
       kinds = taken_kinds n.kind made.loan before.controls.stock after.controls.stock made.taken;
+      others = made.laid.elsewhere;
     }),
     (serial, is, made.serials, made.next),
   )
@@ -221,6 +229,7 @@ module _ (before after : ControlDesk) where
       begun = gone.activity.begun;
       activity = inl gone.activity.activity;
       kinds = shut_kinds gone.control.definition before.controls.stock after.controls.stock gone.shut;
+      others = gone.laid.elsewhere;
     }),
     ap (λ (s : ControlsState). s.next) gone.controls,
   )

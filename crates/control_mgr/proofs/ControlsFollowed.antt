@@ -6,7 +6,9 @@ use Rattle.std.proofs.lemmas.Bool.{and_parts, false≢true}
 use Rattle.std.proofs.lemmas.Bool.Decides.{nat_tests}
 use Rattle.std.proofs.lemmas.List.Elements.{All-cons, All-contains, All-head, All-nil, All-tail, All-weaker}
 use Rattle.tb_geom.specs.declared.point.Point.{Point}
+use Rattle.tb_geom.specs.Points.{PixelSet}
 use Rattle.control_list.specs.Lists.{are_before, controls_of, has_serial, is_before, is_in}
+use Rattle.def_iface.specs.declared.part.Part.{Part}
 use Rattle.def_iface.specs.Desk.{IsDesk}
 use Rattle.def_iface.specs.Owner.{Owner, is_content, owner, own_bit}
 use Rattle.def_iface.specs.Scratch.{scratch}
@@ -28,16 +30,16 @@ use Rattle.control_mgr.proofs.SerialsFound.{StayControls, with_among}
 
 -- ---- lists
 
-all_tests : {X : Type 0} (p : X → Bool) (xs : List X) → list_all p xs ≡ true → All (λ x. p x ≡ true) xs
+pub all_tests : {X : Type 0} (p : X → Bool) (xs : List X) → list_all p xs ≡ true → All (λ x. p x ≡ true) xs
 all_tests p [] h = All-nil (λ x. p x ≡ true)
 all_tests p (x ∷ xs) h = let parts = and_parts (p x) (list_all p xs) h in All-cons (λ x. p x ≡ true) x xs parts.0 (all_tests p xs parts.1)
 
-test_all : {X : Type 0} (p : X → Bool) (xs : List X) → All (λ x. p x ≡ true) xs → list_all p xs ≡ true
+pub test_all : {X : Type 0} (p : X → Bool) (xs : List X) → All (λ x. p x ≡ true) xs → list_all p xs ≡ true
 test_all p [] h = refl
 test_all p (x ∷ xs) h = λ i. All-head (λ x. p x ≡ true) x xs h i && test_all p xs (All-tail (λ x. p x ≡ true) x xs h) i
 
 -- what holds of each control that was there holds of each that stays
-all_within : {X : Type 0} (P : X → Type 0) (xs ys : List X) → All (Contains xs) ys → All P xs → All P ys
+pub all_within : {X : Type 0} (P : X → Type 0) (xs ys : List X) → All (Contains xs) ys → All P xs → All P ys
 all_within P xs ys within h = All-weaker (Contains xs) P (λ y its. All-contains P xs y h its) ys within
 
 -- where a window has no control, each control is in another
@@ -49,9 +51,60 @@ all_elsewhere window (c ∷ cs) none = by_test (all_elsewhere window cs) (is_in 
     by_test rest true e none = absurd (cc)
     by_test rest false e none = All-cons (λ (x : ControlRecord). is_in window x ≡ false) c cs e (rest none)
 
+turned : (a b : ℕ) → (b == a) ≡ false → (a == b) ≡ false
+turned a b e = grind (arith, nat_tests)
+
+-- where a window is missing, each is another
+pub no_such_window : (window : ℕ) (ws : List WindowRecord) → is_missing window ws ≡ true → All (λ w. (window == w.serial) ≡ false) ws
+no_such_window window [] e = All-nil (λ (w : WindowRecord). (window == w.serial) ≡ false)
+no_such_window window (w ∷ ws) e = by_test (no_such_window window ws) (w.serial == window) refl e
+  where
+    by_test : (is_none (record_with window ws) ≡ true → All (λ x. (window == x.serial) ≡ false) ws) → (b : Bool) → (w.serial == window) ≡ b → is_none (cond b (Some w) (record_with window ws)) ≡ true
+        → All (λ x. (window == x.serial) ≡ false) (w ∷ ws)
+    by_test rest true is e = absurd (false≢true e)
+    by_test rest false is e = All-cons (λ (x : WindowRecord). (window == x.serial) ≡ false) w ws (turned window w.serial is) (rest e)
+
+-- ---- what is shown
+
+-- a right state stays right where its layers show other things, but at each pixel that they have what they showed
+module _ (shows : List ℕ → Part → PixelSet) (s : FullState) (right : IsRightState s)
+    (alike : (p : Point) (o : Owner) → owner (layered_desk s.desk) p ≡ o → is_content o ≡ true → own_bit (layered_desk (desk_showing shows s.desk)) o p ≡ own_bit (layered_desk s.desk) o p) where
+  abbrev now : FullDesk
+  now = desk_showing shows s.desk
+
+  distinct : IsDesk (layered_desk now)
+  distinct = distinct_showing shows s.desk right.plain.desk
+
+  same_owners : (p : Point) → owner (layered_desk now) p ≡ owner (layered_desk s.desk) p
+  same_owners p = owner_showing shows s.desk p
+
+  same_shown : (p : Point) (o : Owner) → owner (layered_desk s.desk) p ≡ o → own_bit (layered_desk now) o p ≡ own_bit (layered_desk s.desk) o p
+  same_shown p o here = by_content (is_content o) refl
+    where
+      by_content : (b : Bool) → is_content o ≡ b → own_bit (layered_desk now) o p ≡ own_bit (layered_desk s.desk) o p
+      by_content false e = bit_showing shows s.desk o p e
+      by_content true e = alike p o here e
+
+  same_scratch : (p : Point) → scratch (layered_desk now) p ≡ scratch (layered_desk s.desk) p
+  same_scratch p =
+      scratch_is_owners (layered_desk now) p distinct
+      ∙ ap (λ o. own_bit (layered_desk now) o p) (same_owners p)
+      ∙ same_shown p (owner (layered_desk s.desk) p) refl
+      ∙ sym (scratch_is_owners (layered_desk s.desk) p right.plain.desk)
+
+  pub shown_alike_right : IsRightState (state_showing shows s)
+  shown_alike_right = record {
+    plain = record {
+      desk = distinct;
+      right = λ p on fresh. right.plain.right p on fresh ∙ sym (same_scratch p);
+      content = λ p on old. ap is_content (same_owners p) ∙ right.plain.content p on old;
+    };
+    serials = right.serials;
+  }
+
 -- ---- controls that stay
 
-both_all : {X : Type 0} (P Q R : X → Type 0) → ((x : X) → P x → Q x → R x) → (xs : List X) → All P xs → All Q xs → All R xs
+pub both_all : {X : Type 0} (P Q R : X → Type 0) → ((x : X) → P x → Q x → R x) → (xs : List X) → All P xs → All Q xs → All R xs
 both_all P Q R f [] h k = All-nil R
 both_all P Q R f (x ∷ xs) h k = All-cons R x xs (f x (All-head P x xs h) (All-head Q x xs k)) (both_all P Q R f xs (All-tail P x xs h) (All-tail Q x xs k))
 
@@ -72,27 +125,15 @@ module _ (window : ℕ) (before after : ControlsState) (left : IsWindowLeft wind
           ∙ ap (with_serial n) (left.others s (differ window s e))
           ∙ with_among n s before.controls apart was
 
-  -- the layers of each window that is there are its controls
+  -- the layers of each window that is there begin with its controls', and no other is a control's
   joined_left : (ws : List WindowRecord) → is_missing window ws ≡ true → AreJoined before.controls ws → AreJoined after.controls ws
   joined_left ws missing joined =
       both_all (λ w. (window == w.serial) ≡ false) (λ w. AreLayersOf (controls_of w.serial before.controls) w.layers) (λ w. AreLayersOf (controls_of w.serial after.controls) w.layers)
       (λ w away its. subst (λ cs. AreLayersOf cs w.layers) (sym (left.others w.serial (differ window w.serial away))) its)
-      ws (others ws missing) joined
+      ws (no_such_window window ws missing) joined
     where
       differ : (a b : ℕ) → (a == b) ≡ false → a ≡ b → ⊥
       differ a b e f = grind (arith, nat_tests)
-
-      turned : (a b : ℕ) → (b == a) ≡ false → (a == b) ≡ false
-      turned a b e = grind (arith, nat_tests)
-
-      others : (ws : List WindowRecord) → is_missing window ws ≡ true → All (λ w. (window == w.serial) ≡ false) ws
-      others [] e = All-nil (λ (w : WindowRecord). (window == w.serial) ≡ false)
-      others (w ∷ ws) e = by_test (others ws) (w.serial == window) refl e
-        where
-          by_test : (is_none (record_with window ws) ≡ true → All (λ x. (window == x.serial) ≡ false) ws) → (b : Bool) → (w.serial == window) ≡ b → is_none (cond b (Some w) (record_with window ws)) ≡ true
-              → All (λ x. (window == x.serial) ≡ false) (w ∷ ws)
-          by_test rest true is e = absurd (false≢true e)
-          by_test rest false is e = All-cons (λ (x : WindowRecord). (window == x.serial) ≡ false) w ws (turned window w.serial is) (rest e)
 
   -- each that stays is in a window that is there
   somewhere_left : (ws : List WindowRecord) → All (λ c. is_in window c ≡ false → is_missing c.window ws ≡ false) before.controls → All (λ c. is_missing c.window ws ≡ false) after.controls
@@ -120,48 +161,21 @@ module _ (window : ℕ) (before after : ControlsState) (left : IsWindowLeft wind
 
   -- ---- what is shown
 
-  module _ (s : FullState) (right : IsRightState s) (shows : s.desk.shows ≡ controls_show before.controls s.desk.font) (apart : AreApart before.controls)
-      (joined : AreJoined before.controls s.desk.windows) (missing : is_missing window s.desk.windows ≡ true) where
-    abbrev now : FullDesk
-    now = desk_showing (controls_show after.controls) s.desk
+  right_left : (others : List ℕ → Part → PixelSet) (s : FullState) → IsRightState s → s.desk.shows ≡ controls_show others before.controls s.desk.font → AreApart before.controls
+      → AreJoined before.controls s.desk.windows → is_missing window s.desk.windows ≡ true → IsRightState (state_showing (controls_show others after.controls) s)
+  right_left others s right shows apart joined missing =
+      shown_alike_right (controls_show others after.controls) s right
+      (λ p o here e. sym (same_own others others s.desk (desk_showing (controls_show others after.controls) s.desk) before.controls after.controls shows refl refl refl joined (joined_left s.desk.windows missing joined) (λ o. false)
+      (stay_left apart) (λ t n q was now other r. refl) p o right.plain.desk (distinct_showing (controls_show others after.controls) s.desk right.plain.desk) here
+      (owner_showing (controls_show others after.controls) s.desk p ∙ here) e refl))
 
-    distinct : IsDesk (layered_desk now)
-    distinct = distinct_showing (controls_show after.controls) s.desk right.plain.desk
-
-    same_owners : (p : Point) → owner (layered_desk now) p ≡ owner (layered_desk s.desk) p
-    same_owners p = owner_showing (controls_show after.controls) s.desk p
-
-    same_shown : (p : Point) (o : Owner) → owner (layered_desk s.desk) p ≡ o → own_bit (layered_desk now) o p ≡ own_bit (layered_desk s.desk) o p
-    same_shown p o here = by_content (is_content o) refl
-      where
-        by_content : (b : Bool) → is_content o ≡ b → own_bit (layered_desk now) o p ≡ own_bit (layered_desk s.desk) o p
-        by_content false e = bit_showing (controls_show after.controls) s.desk o p e
-        by_content true e = sym (same_own s.desk now before.controls after.controls shows refl refl refl joined (joined_left s.desk.windows missing joined) (λ o. false) (stay_left apart)
-            p o right.plain.desk distinct here (same_owners p ∙ here) e refl)
-
-    same_scratch : (p : Point) → scratch (layered_desk now) p ≡ scratch (layered_desk s.desk) p
-    same_scratch p =
-        scratch_is_owners (layered_desk now) p distinct
-        ∙ ap (λ o. own_bit (layered_desk now) o p) (same_owners p)
-        ∙ same_shown p (owner (layered_desk s.desk) p) refl
-        ∙ sym (scratch_is_owners (layered_desk s.desk) p right.plain.desk)
-
-    right_left : IsRightState (state_showing (controls_show after.controls) s)
-    right_left = record {
-      plain = record {
-        desk = distinct;
-        right = λ p on fresh. right.plain.right p on fresh ∙ sym (same_scratch p);
-        content = λ p on old. ap is_content (same_owners p) ∙ right.plain.content p on old;
-      };
-      serials = right.serials;
-    }
-
--- the controls of a window that is no more were taken out: a right state stays right, and whole controls whole
-pub followed_right : (window : ℕ) (s : FullState) (before after : ControlsState) → IsRightState s → s.desk.shows ≡ controls_show before.controls s.desk.font
+-- the controls of a window that is no more were taken out: a right state stays right, and whole controls whole, whatever other
+-- layers show
+pub followed_right : (others : List ℕ → Part → PixelSet) (window : ℕ) (s : FullState) (before after : ControlsState) → IsRightState s → s.desk.shows ≡ controls_show others before.controls s.desk.font
     → AreSettled before.controls → AreApart before.controls → are_before before.next before.controls ≡ true → AreJoined before.controls s.desk.windows
     → All (λ c. is_in window c ≡ false → is_missing c.window s.desk.windows ≡ false) before.controls → is_missing window s.desk.windows ≡ true → IsWindowLeft window before after
-    → IsRightState (state_showing (controls_show after.controls) s) × AreWholeControls s.desk.windows after
-followed_right window s before after right shows settled apart given joined there missing left = (
-  right_left window before after left s right shows apart joined missing,
+    → IsRightState (state_showing (controls_show others after.controls) s) × AreWholeControls s.desk.windows after
+followed_right others window s before after right shows settled apart given joined there missing left = (
+  right_left window before after left others s right shows apart joined missing,
   whole_left window before after left s.desk.windows settled apart given joined there missing,
 )

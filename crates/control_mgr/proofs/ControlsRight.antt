@@ -1,8 +1,9 @@
 -- A right state stays right where a call about controls comes.
-use Rattle.std.proofs.Common.{◌≡◌, ◌⊎◌, ⊎_elim, inl, inr, ℕ, Bool, true, false, ◌&&◌, ◌==◌, cond, map, Option, None, Some, Result, Ok, Err, refl, sym, ap, ◌∙◌, subst}
+use Rattle.std.proofs.Common.{◌≡◌, ◌⊎◌, ⊎_elim, inl, inr, ℕ, Bool, true, false, ◌&&◌, ◌==◌, cond, List, map, Option, None, Some, Result, Ok, Err, refl, sym, ap, ◌∙◌, subst}
 use Rattle.std.proofs.lemmas.Bool.{and_parts}
 use Rattle.tb_geom.specs.declared.point.Point.{Point}
 use Rattle.tb_geom.specs.declared.refusal.Refusal.{Refusal}
+use Rattle.tb_geom.specs.Points.{PixelSet}
 use Rattle.control_values.specs.declared.part.ControlPart.{ControlPart}
 use Rattle.control_values.specs.Parts.{number_of}
 use Rattle.def_iface.specs.declared.part.Part.{Part}
@@ -49,12 +50,14 @@ pub record IsRedrawnDesk (before after : ControlDesk) : Type 0 where
   pub window : ℕ
   pub control : ℕ
   pub redrawn : IsLayerRedrawn window (part.Control control) before.desk.windows after.desk.windows
+  pub others : after.others ≡ before.others
   pub shows : ShowsControls after
   pub stay : StayControls (λ o. same_owner o (Content window (part.Control control))) before.controls.controls after.controls.controls
 
 -- nothing that is shown changed, or so
 abbrev pub LeavesShown : ControlDesk → ControlDesk → Type 0
-LeavesShown before after = (IsUnchanged before.desk.windows after.desk.windows × (after.controls ≡ before.controls)) ⊎ (IsRelaidDesk before after ⊎ IsRedrawnDesk before after)
+LeavesShown before after =
+    (IsUnchanged before.desk.windows after.desk.windows × (after.controls ≡ before.controls) × (after.others ≡ before.others)) ⊎ (IsRelaidDesk before after ⊎ IsRedrawnDesk before after)
 
 module _ (before after : ControlDesk) where
   still_leaves : SameShown before after → LeavesShown before after
@@ -65,6 +68,7 @@ module _ (before after : ControlDesk) where
       image = λ p on. ap (λ (s : FullState). s.image p) same.windows;
     },
     same.controls,
+    same.others,
   )
 
   module _ (apart : AreApart before.controls.controls) where
@@ -81,6 +85,7 @@ module _ (before after : ControlDesk) where
       window = c.window;
       control = c.control;
       redrawn = done.redrawn;
+      others = done.others;
       shows = done.shows;
       stay = stay_edited c f same before after apart done.changed;
     }))
@@ -90,7 +95,7 @@ module _ (before after : ControlDesk) where
     highlighted_leaves false c h done = anew_leaves c (with_highlight h) (λ x. refl) done
 
     tracked_leaves : (p : PointAtControl) (o : Option ControlPart) → IsTracked p o before after → LeavesShown before after
-    tracked_leaves p None same = inl (same.desk.windows, same.controls)
+    tracked_leaves p None same = inl (same.desk.windows, same.controls, same.others)
     tracked_leaves p (Some its) done = highlighted_leaves (is_thumb its) p.control (number_of its) done.1
 
     stepped_leaves : (a : Activity) (p : Point) (answer : Option ControlPart) → IsStepped a p answer before after → LeavesShown before after
@@ -123,18 +128,22 @@ module _ (before after : ControlDesk) where
     effect_leaves (SetMaximum n) answer done = anew_leaves n.control _ (λ x. refl) done.2
     effect_leaves (Hilite n) answer done = anew_leaves n.control _ (λ x. refl) done.2.2
     effect_leaves (SetTitle t) answer done = anew_leaves t.control _ (λ x. refl) done.2
-    effect_leaves (Get c) answer (is, same) = inl (same.desk.windows, same.controls)
-    effect_leaves (Find p) answer (is, same) = inl (same.desk.windows, same.controls)
-    effect_leaves (Test p) answer (is, same) = inl (same.desk.windows, same.controls)
+    effect_leaves (Get c) answer (is, same) = inl (same.desk.windows, same.controls, same.others)
+    effect_leaves (Find p) answer (is, same) = inl (same.desk.windows, same.controls, same.others)
+    effect_leaves (Test p) answer (is, same) = inl (same.desk.windows, same.controls, same.others)
     effect_leaves (Track p) answer (is, done) = tracked_leaves p (tested p.control before.controls.controls p.point) done
     effect_leaves (Step p) answer (its, is, done) = stepped_leaves before.desk.activity p its done
     effect_leaves (End p) answer (its, is, done) = released_leaves before.desk.activity p its done
 
 pub step_leaves : (call : ControlCall) (result : Result ControlReply Refusal) (before after : ControlDesk) → AreApart before.controls.controls → IsControlStep call result before after → LeavesShown before after
 step_leaves call (Ok answer) before after apart step = effect_leaves before after apart call answer step.1
-step_leaves call (Err e) before after apart step = inl (step.1.desk.windows, step.1.controls)
+step_leaves call (Err e) before after apart step = inl (step.1.desk.windows, step.1.controls, step.1.others)
 
 -- ---- what is right stays so
+
+-- other layers show what they showed
+still_shown : (before after : ControlDesk) → after.others ≡ before.others → ShowsControls after → after.desk.windows.desk.shows ≡ controls_show before.others after.controls.controls after.desk.windows.desk.font
+still_shown before after same shows = shows ∙ ap (λ others. controls_show others after.controls.controls after.desk.windows.desk.font) same
 
 module _ (before after : ControlDesk) (right : IsRightState before.desk.windows) (shows : ShowsControls before) (was : AreJoined before.controls.controls before.desk.windows.desk.windows)
     (are : AreJoined after.controls.controls after.desk.windows.desk.windows) (distinct : IsDesk (layered_desk after.desk.windows.desk)) where
@@ -171,7 +180,7 @@ module _ (before after : ControlDesk) (right : IsRightState before.desk.windows)
       sound = record {
         desk = distinct;
         kept = λ p on content afresh taken put redrawn there.
-            same_own d e before.controls.controls after.controls.controls shows its.laid.shows (ap (λ (x : FullDesk). x.font) its.laid.set.desk) windows was are (is_part_afresh its.window its.afresh) its.stay
+            same_own before.others before.others d e before.controls.controls after.controls.controls shows (still_shown before after its.laid.elsewhere its.laid.shows) (ap (λ (x : FullDesk). x.font) its.laid.set.desk) windows was are (is_part_afresh its.window its.afresh) its.stay (λ s n q was now other r. refl)
             p (owner (layered_desk e) p) right.plain.desk distinct (its_owner p there) refl content afresh;
         right = λ p on taken. absurd (cc);
       }
@@ -189,13 +198,13 @@ module _ (before after : ControlDesk) (right : IsRightState before.desk.windows)
       sound = record {
         desk = distinct;
         kept = λ p on content afresh taken put redrawn there.
-            same_own d e before.controls.controls after.controls.controls shows its.shows (ap (λ (x : FullDesk). x.font) its.redrawn.desk) (ap (λ (x : FullDesk). map bare x.windows) its.redrawn.desk) was are
-            (λ o. same_owner o (Content its.window (part.Control its.control))) its.stay
+            same_own before.others before.others d e before.controls.controls after.controls.controls shows (still_shown before after its.others its.shows) (ap (λ (x : FullDesk). x.font) its.redrawn.desk) (ap (λ (x : FullDesk). map bare x.windows) its.redrawn.desk) was are
+            (λ o. same_owner o (Content its.window (part.Control its.control))) its.stay (λ s n q was now other r. refl)
             p (owner (layered_desk e) p) right.plain.desk distinct (its_owner p there) refl content redrawn;
         right = λ p on taken. absurd (cc);
       }
 
-  leaves_right : LeavesShown before after → IsRightState after.desk.windows
+  pub leaves_right : LeavesShown before after → IsRightState after.desk.windows
   leaves_right leaves = ⊎_elim
       (λ still. unchanged_stays_right before.desk.windows after.desk.windows right still.0)
       (λ other. ⊎_elim relaid_right redrawn_right other)
@@ -211,6 +220,6 @@ control_right call result before after right shows was are distinct step =
 -- the windows show the controls after any such call
 pub control_shows : (call : ControlCall) (result : Result ControlReply Refusal) (before after : ControlDesk) → AreApart before.controls.controls → ShowsControls before → IsControlStep call result before after → ShowsControls after
 control_shows call result before after apart shows step = ⊎_elim
-    (λ still. subst (λ (x : FullDesk × ControlsState). x.0.shows ≡ controls_show x.1.controls x.0.font) (λ i. (sym still.0.desk i, sym still.1 i)) shows)
+    (λ still. subst (λ (x : FullDesk × ControlsState × (List ℕ → Part → PixelSet)). x.0.shows ≡ controls_show x.2 x.1.controls x.0.font) (λ i. (sym still.0.desk i, sym still.1 i, sym still.2 i)) shows)
     (λ other. ⊎_elim (λ its. its.laid.shows) (λ its. its.shows) other)
     (step_leaves call result before after apart step)

@@ -46,7 +46,7 @@ use Rattle.control_mgr.proofs.Steps.{none_hold}
 -- ---- reasons that do not hold
 
 -- of reasons of which none holds, the first ones do not
-front_fails : (xs ys : List (Bool × Refusal)) → first_refusal (xs ++ ys) ≡ None → first_refusal xs ≡ None
+pub front_fails : (xs ys : List (Bool × Refusal)) → first_refusal (xs ++ ys) ≡ None → first_refusal xs ≡ None
 front_fails [] ys none = refl
 front_fails (x ∷ xs) ys none = by_test (front_fails xs ys) x.0 none
   where
@@ -87,7 +87,7 @@ module _ (before after : ControlDesk) (whole : AreWholeControls before.desk.wind
   unchanged_whole same = same_whole same.desk.windows.desk same.controls
 
   -- a control got another state
-  anew_whole : (c : ControlOf) (f : ControlRecord → ControlRecord) → ((x : ControlRecord) → f x ≡ with_state (state_of_control (f x)) x) → IsShownAnew c f before after → IsWhole
+  pub anew_whole : (c : ControlOf) (f : ControlRecord → ControlRecord) → ((x : ControlRecord) → f x ≡ with_state (state_of_control (f x)) x) → IsShownAnew c f before after → IsWhole
   anew_whole c f keeps done =
       subst (λ (x : List WindowRecord × ControlsState). AreWholeControls x.0 x.1) (λ i. (ap (λ (d : FullDesk). d.windows) (sym done.redrawn.desk) i, sym done.changed.state i))
       (whole_put (state_of_control (f control)) done.changed.at ws before.controls done.changed.controls whole

@@ -1,15 +1,14 @@
 -- A control that is disposed of: its layer taken out, the controls without it, and the step.
-use Rattle.std.proofs.Common.{◌≡◌, ℕ, zero, suc, ◌<◌, Bool, true, false, ◌&&◌, ◌||◌, List, [], ◌∷◌, length, Option, Some, None, Ok, refl, sym, ap, ◌∙◌, subst}
+use Rattle.std.proofs.Common.{◌≡◌, ℕ, zero, suc, ◌<◌, true, false, ◌||◌, List, [], ◌∷◌, length, Option, Some, None, Ok, refl, sym, ap, ◌∙◌, subst}
 use Rattle.std.specs.Prelude.{map, slice_get}
-use Rattle.std.specs.List.{list_all, list_any, remove}
+use Rattle.std.specs.List.{list_any, remove}
 use Rattle.std.specs.Option.{option_map}
-use Rattle.std.proofs.lemmas.Bool.{and_parts}
 use Rattle.tb_geom.specs.Points.{PixelSet}
 use Rattle.control_list.specs.declared.control.Control.{Control}
 use Rattle.control_list.specs.Lists.{controls_of, has_serial, is_before, is_in_at, place_among}
 use Rattle.control_list.specs.Seen.{all_seen, seen}
 use Rattle.control_list.proofs.SeenLemmas.{place_among-seen, remove-seen, slice_get-seen}
-use Rattle.control_list.proofs.WindowLemmas.{controls_of-remove, controls_of-remove_other, is_in_at-other}
+use Rattle.control_list.proofs.WindowLemmas.{controls_of-remove, controls_of-remove_other, is_in_at-other, slice_get-controls_of}
 use Rattle.def_iface.specs.declared.part.Part.{Part}
 use Rattle.def_iface.specs.declared.taken.Taken.{Taken}
 use Rattle.def_iface.specs.declared.taken_control.TakenControl.{TakenControl}
@@ -19,14 +18,15 @@ use Rattle.def_iface.specs.Meaning.{Loan}
 use Rattle.def_iface.specs.Slots.{is_left}
 use Rattle.def_iface.specs.Stocked.{SlotView}
 use Rattle.layer_list.specs.declared.layer.Layer.{Layer}
-use Rattle.layer_list.specs.Holders.{ArePartsApart, PlacedLayers, fits_at}
-use Rattle.layer_list.proofs.Parts.{remove_apart}
+use Rattle.layer_list.specs.Holders.{PlacedLayers}
 use Rattle.desk_call.specs.declared.control.ControlCall.TheVariants.{Dispose}
 use Rattle.desk_call.specs.declared.control.ControlOf.{ControlOf}
 use Rattle.desk_call.specs.declared.control.ControlReply.TheVariants.{Done}
+use Rattle.desk_call.specs.declared.update.Layers.TheVariants as kinds
 use Rattle.vis_update.specs.Records.{WindowRecord}
 use Rattle.vis_update.specs.Relayings.{with_layers_of}
 use Rattle.window_list.specs.declared.window.Window.{Window}
+use Rattle.window_paint.specs.Kinds.{is_of}
 use Rattle.window_mgr.specs.declared.manager.WindowManager.{WindowManager}
 use Rattle.window_mgr.specs.DeskStates.{Opened}
 use Rattle.window_mgr.specs.Edits.{IsWindowAt}
@@ -34,33 +34,28 @@ use Rattle.window_mgr.specs.FullDesk.{FullDesk}
 use Rattle.window_mgr.specs.Kept.{IsKept}
 use Rattle.window_mgr.specs.Records.{desk_of, state_of, state_showing}
 use Rattle.window_mgr.specs.Refused.{is_missing}
-use Rattle.window_mgr.specs.Relayered.{AreLayersSet, IsPartAt, MayHaveLayers}
-use Rattle.window_mgr.specs.Whole.{IsSettled, IsWholeManager}
-use Rattle.window_mgr.proofs.Contents as contents
+use Rattle.window_mgr.specs.Relayered.{AreLayersSet, IsPartAt}
+use Rattle.window_mgr.specs.Whole.{IsWholeManager}
 use Rattle.control_mgr.specs.declared.controls.Controls.{Controls}
 use Rattle.control_mgr.specs.declared.spots.Spot.{Spot}
-use Rattle.control_mgr.specs.ControlDesks.{ControlRecord, ControlSlot, ControlsState, controls_show}
-use Rattle.control_mgr.specs.ControlSteps.{AreLayersOf, IsControlShut, IsControlStep, IsLayerOf}
+use Rattle.control_mgr.specs.declared.ending.Ending.{Ending}
+use Rattle.control_mgr.specs.ControlDesks.{ControlRecord, ControlSlot, ControlsState, controls_show, index_of}
+use Rattle.control_mgr.specs.ControlSteps.{AreLayersOf, IsControlDisposed, IsControlShut, IsControlStep, IsEndedAt, IsEndedIfThere, IsLayerOf, behind_controls}
+use Rattle.control_mgr.specs.Ending.{IsEnding, IsPlannedEnd}
 use Rattle.control_mgr.specs.InUse.{AreStocked}
 use Rattle.control_mgr.specs.Settled.{AreSettled, IsSettledControl}
 use Rattle.control_mgr.specs.Spots.{IsSpotOf}
-use Rattle.control_mgr.specs.WholeControls.{AreApart, AreWholeControls, LeavesOver, controls_state, records_of, slots_of}
-use Rattle.control_mgr.proofs.Added.{one_read, or_parts}
-use Rattle.control_mgr.proofs.Edited.{All-remove, All-there, map-remove, zip_remove}
-use Rattle.control_mgr.proofs.Places.{at_window, in_its_window, layer_there, read_is, there_is, within}
+use Rattle.control_mgr.specs.WholeControls.{AreApart, AreWholeControls, LeavesOver, control_desk, controls_state, records_of, slots_of}
+use Rattle.control_mgr.proofs.Added.{or_parts}
+use Rattle.control_mgr.proofs.Edited.{All-remove, All-there, AreNoControls, begin_remove, behind_removed, map-remove}
+use Rattle.control_mgr.proofs.LayerOut.{all-remove}
+use Rattle.control_mgr.proofs.Places.{at_window, in_its_window, layer_there, layers_named, read_is, record_there, there_is, within}
+use Rattle.control_mgr.proofs.Reshown.{alone, set_among}
 use Rattle.control_mgr.proofs.Settled.{AreJoined, joined_laid, somewhere_laid}
 use Rattle.control_mgr.proofs.Steps.{nothing_missing}
 use Rattle.control_mgr.proofs.Stocks.{slot_is_left, slot_of, stocked_without}
 
 -- ---- one taken out
-
-all-remove : {X : Type 0} (p : X → Bool) (i : ℕ) (xs : List X) → list_all p xs ≡ true → list_all p (remove xs i) ≡ true
-all-remove p zero [] h = refl
-all-remove p (suc i) [] h = refl
-all-remove p zero (x ∷ xs) h = (and_parts (p x) (list_all p xs) h).1
-all-remove p (suc i) (x ∷ xs) h =
-    let parts = and_parts (p x) (list_all p xs) h in
-    let rest = all-remove p i xs parts.1 in (λ t. parts.0 t && rest t)
 
 none-remove : (n i : ℕ) (cs : List ControlRecord) → list_any (has_serial n) cs ≡ false → list_any (has_serial n) (remove cs i) ≡ false
 none-remove n zero [] h = refl
@@ -130,44 +125,28 @@ module _ {V : Type 0} {H : V → Type 0} (loan : Taken V H → Loan) {W : Type 0
     index_seen : place_among s.control cs ≡ index
     index_seen = place_among-seen control_loan s.control m.list.controls.items ∙ sym index_is
 
-    pub index_low : index < length w.layers.layers
-    index_low =
-        let its = layer_there loan control_loan c t m s is w lies joined in
-        subst (λ i. i < length w.layers.layers) index_seen (within w.layers.layers (place_among s.control cs) its.layer its.there)
-
-    pub parts_apart : ArePartsApart w.layers.layers
-    parts_apart = contents.layers_apart loan t kept.slots kept.whole s.window is.window.0 w lies (λ font q p. false)
-
-    lies_there : w.layers.place ≡ w.place
-    lies_there = contents.layers_there loan t kept.slots kept.whole s.window is.window.0 w lies (λ font q p. false)
-
     module _ (layers : PlacedLayers) (layers_are : layers ≡ record w.layers { layers = remove w.layers.layers index }) where
       new_is : layers.layers ≡ remove w.layers.layers index
       new_is = ap (λ (ls : PlacedLayers). ls.layers) layers_are
-
-      pub may_have : MayHaveLayers s.window t layers
-      may_have = record {
-        apart = subst ArePartsApart (sym new_is) (remove_apart w.layers.layers index index_low parts_apart);
-        there = λ v v_is. ap (λ (ls : PlacedLayers). ls.place) layers_are ∙ lies_there ∙ ap (λ (x : Window V H). x.place) (one_read t.windows.records.items s.window w v is.window.0 lies v_is);
-        fit = (λ i. list_all (fits_at (ap (λ (ls : PlacedLayers). ls.place) layers_are i)) (new_is i))
-            ∙ ap (λ p. list_all (fits_at p) (remove w.layers.layers index)) lies_there
-            ∙ all-remove (fits_at w.place) index w.layers.layers (at_window loan IsSettled t.windows.records.items s.window w is.window.0 lies kept.whole.sound.settled).layers;
-      }
 
       pub joined_left : AreLayersOf (controls_of c.window (remove cs s.control)) layers.layers
       joined_left =
           subst (λ ls. AreLayersOf (controls_of c.window (remove cs s.control)) ls) (sym new_is)
           (subst (λ xs. AreLayersOf xs (remove w.layers.layers index))
           (sym (controls_of-remove c.window s.control cs (in_its_window loan control_loan c t m s is) ∙ ap (λ i. remove (controls_of c.window cs) i) index_seen))
-          (zip_remove IsLayerOf index (controls_of c.window cs) w.layers.layers
+          (begin_remove IsLayerOf AreNoControls index (controls_of c.window cs) w.layers.layers
+          (subst (λ i. i < length (controls_of c.window cs)) index_seen
+          (within (controls_of c.window cs) (place_among s.control cs) (record_there loan control_loan c t m s is).item
+          (slice_get-controls_of c.window s.control cs (in_its_window loan control_loan c t m s is) ∙ (record_there loan control_loan c t m s is).there)))
           (subst (λ n. AreLayersOf (controls_of n cs) w.layers.layers) (is.window.1 w lies)
           (at_window loan (λ r. AreLayersOf (controls_of r.serial cs) r.layers) t.windows.records.items s.window w is.window.0 lies joined))))
 
-  -- the layers are those of whichever window stands there, without one
-  pub without_of : (w : Window V H) → IsWindowAt t.windows.records.items s.window w → (index : ℕ) (layers : PlacedLayers) → layers ≡ record w.layers { layers = remove w.layers.layers index }
-      → (v : Window V H) → IsWindowAt t.windows.records.items s.window v → layers ≡ record v.layers { layers = remove v.layers.layers index }
-  without_of w lies index layers layers_are v v_is =
-      layers_are ∙ ap (λ (x : Window V H). record x.layers { layers = remove x.layers.layers index }) (one_read t.windows.records.items s.window w v is.window.0 lies v_is)
+      -- the layers behind the controls are as they were
+      pub behind_left : behind_controls layers.layers ≡ behind_controls w.layers.layers
+      behind_left =
+          let its = layer_there loan control_loan c t m s is w lies joined in
+          ap behind_controls new_is
+          ∙ behind_removed index w.layers.layers its.layer (subst (λ i. slice_get w.layers.layers i ≡ Some its.layer) index_seen its.there) (ap (is_of kinds.Controls) its.is_layer.part)
 
   -- what commit_layers leaves of the window manager, where nothing is drawn afresh
   abbrev pub AreLeftFor : ℕ → List Layer → (List ℕ → Part → PixelSet) → WindowManager V H → WindowManager V H → Type 0
@@ -181,15 +160,17 @@ module _ {V : Type 0} {H : V → Type 0} (loan : Taken V H → Loan) {W : Type 0
       → (u : WindowManager V H) (n : Controls (TakenControl W K)) (x : Control (TakenControl W K)) → slice_get m.list.controls.items s.control ≡ Some x
       → n.list.controls.items ≡ remove m.list.controls.items s.control → n.list.next ≡ m.list.next
       → (before back : List ControlSlot) → IsControlShut (control_loan x.definition) before back
-      → AreLeftFor s.window layers.layers (controls_show (records_of control_loan n)) t u
-      → (o : Opened) → LeavesOver control_loan loan before back (IsControlStep (Dispose c) (Ok Done)) t o m u o n
-  ended kept index index_is layers layers_are u n x there controls_are next_is before back shut set o slots whole controls =
+      → AreLeftFor s.window layers.layers (alone (records_of control_loan n)) t u
+      → (o : Opened) → LeavesOver control_loan loan before back (IsControlDisposed c) t o m u o n
+  ended kept index index_is layers layers_are u n x there controls_are next_is before back shut set o others slots whole controls =
       let windows = there_is t.windows.records.items s.window is.window.0 in
       let w : Window V H = windows.item in
       let lies : IsWindowAt t.windows.records.items s.window w = read_is t.windows.records.items s.window w windows.there in
-      let leaves = set w lies None refl (controls_show cs) slots whole in
+      let leaves = set w lies None refl (controls_show others cs) slots whole in
       let serial : w.serial ≡ c.window = is.window.1 w lies in
-      let sets = subst (λ k. AreLayersSet k layers.layers None (state_showing (controls_show cs) (state_of loan t slots)) (state_showing (controls_show (records_of control_loan n)) (state_of loan u slots))) serial leaves.1 in
+      let was = state_showing (controls_show others cs) (state_of loan t slots) in
+      let sets = set_among others (records_of control_loan n) (state_of loan u slots) leaves.0.sound.distinct c.window was layers.layers None (λ q e. absurd (cc))
+      (subst (λ k. AreLayersSet k layers.layers None was (state_showing (alone (records_of control_loan n)) (state_of loan u slots))) serial leaves.1) in
       let left : records_of control_loan n ≡ remove cs s.control = ap (all_seen control_loan) controls_are ∙ remove-seen control_loan m.list.controls.items s.control in
       let joined : AreLayersOf (controls_of c.window (remove cs s.control)) layers.layers = joined_left kept controls.joined w lies index index_is layers (layers_are w lies) in
       let windows_are : (desk_of loan u []).windows ≡ map (with_layers_of c.window layers.layers) (desk_of loan t []).windows = ap (λ (d : FullDesk). d.windows) sets.desk in
@@ -199,20 +180,53 @@ module _ {V : Type 0} {H : V → Type 0} (loan : Taken V H → Loan) {W : Type 0
             (subst (AreWholeControls (map (with_layers_of c.window layers.layers) (desk_of loan t []).windows)) (sym state_is)
             (whole_ended s.control c.window (seen control_loan x) layers.layers (desk_of loan t []).windows (controls_state control_loan m before) back controls
             (seen_at control_loan m s.control x there) (in_its_window loan control_loan c t m s is) shut joined)),
+        record {
+          at = s.control;
+          found = is.control;
+          control = seen control_loan x;
+          there = seen_at control_loan m s.control x there;
+          shut = shut;
+          controls = state_is;
+          laid = record {
+            layers = layers.layers;
+            joined = subst (λ xs. AreLayersOf (controls_of c.window xs) layers.layers) (sym left) joined;
+            others = layers_named loan t slots whole s.window c.window w is.window.0 lies serial (λ ls. behind_controls layers.layers ≡ behind_controls ls)
+                (behind_left kept controls.joined w lies index index_is layers (layers_are w lies));
+            set = sets;
+            elsewhere = refl;
+            shows = refl;
+          };
+          activity = record { activity = refl; begun = refl };
+        },
+      )
+
+  -- so the call made its step
+  pub disposed_step : (u : WindowManager V H) (n : Controls (TakenControl W K)) (before back : List ControlSlot) → ((o : Opened) → LeavesOver control_loan loan before back (IsEndedIfThere c) t o m u o n)
+      → (o : Opened) → LeavesOver control_loan loan before back (IsControlStep (Dispose c) (Ok Done)) t o m u o n
+  disposed_step u n before back ended o others slots whole controls =
+      let leaves = ended o others slots whole controls in (
+        leaves.0,
+        leaves.1,
         (
           nothing_missing loan control_loan c t m s is,
-          (
-            refl,
-            record {
-              at = s.control;
-              found = is.control;
-              control = seen control_loan x;
-              there = seen_at control_loan m s.control x there;
-              shut = shut;
-              controls = state_is;
-              laid = record { layers = layers.layers; joined = subst (λ xs. AreLayersOf (controls_of c.window xs) layers.layers) (sym left) joined; set = sets; shows = refl };
-              activity = record { activity = refl; begun = refl };
-            },
-          ),
+          (refl, subst (λ i. IsEndedAt i c (control_desk control_loan loan others t o slots m before) (control_desk control_loan loan others u o slots n back)) is.control leaves.2),
         ),
       )
+
+module _ {V : Type 0} {H : V → Type 0} (loan : Taken V H → Loan) {W : Type 0} {K : W → Type 0} (control_loan : TakenControl W K → ControlLoan)
+    (c : ControlOf) (t : WindowManager V H) (m : Controls (TakenControl W K)) (planned : Option Ending) (its : IsPlannedEnd loan control_loan c t m planned) where
+  -- the end of a control that is there
+  pub planned_there : (e : Ending) → planned ≡ Some e → IsEnding loan control_loan c t m e
+  planned_there e is = subst (IsPlannedEnd loan control_loan c t m) is its
+
+  pub ended_there : (e : Ending) → planned ≡ Some e → (u : WindowManager V H) (n : Controls (TakenControl W K)) (before back : List ControlSlot) → ((o : Opened) → LeavesOver control_loan loan before back (IsControlDisposed c) t o m u o n)
+      → (o : Opened) → LeavesOver control_loan loan before back (IsEndedIfThere c) t o m u o n
+  ended_there e is u n before back ended o others slots whole controls =
+      let leaves = ended o others slots whole controls in
+      (leaves.0, leaves.1, subst (λ i. IsEndedAt i c (control_desk control_loan loan others t o slots m before) (control_desk control_loan loan others u o slots n back)) (sym (planned_there e is).spot.control) leaves.2)
+
+  -- nothing of one that is not
+  pub none_ended : planned ≡ None → (before : List ControlSlot) (o : Opened) → LeavesOver control_loan loan before before (IsEndedIfThere c) t o m t o m
+  none_ended is before o others slots whole controls =
+      let none : index_of c (records_of control_loan m) ≡ None = subst (IsPlannedEnd loan control_loan c t m) is its in
+      (whole, controls, subst (λ i. IsEndedAt i c (control_desk control_loan loan others t o slots m before) (control_desk control_loan loan others t o slots m before)) (sym none) refl)

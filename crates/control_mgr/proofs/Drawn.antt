@@ -16,10 +16,11 @@ use Rattle.def_iface.specs.declared.part.Part.TheVariants as part
 use Rattle.def_iface.specs.ControlMeaning.{ControlLoan, is_fitting_control}
 use Rattle.def_iface.specs.ControlNews.{no_control_news}
 use Rattle.window_paint.proofs.PictureLemmas.{minus_twice}
-use Rattle.control_mgr.specs.ControlDesks.{control_bit, controls_show}
+use Rattle.control_mgr.specs.ControlDesks.{control_bit}
 use Rattle.control_mgr.specs.Settled.{AreSettled, IsSettledControl}
 use Rattle.control_mgr.proofs.Edited.{All-there}
 use Rattle.control_mgr.proofs.Places.{get_is}
+use Rattle.control_mgr.proofs.Reshown.{alone}
 
 module _ {B : Type 0} (meaning : B → ControlLoan) where
   -- the control that is read at a place, as it is seen
@@ -57,20 +58,20 @@ module _ {B : Type 0} (meaning : B → ControlLoan) where
 
   -- a control shows its picture
   pub found_shows : (font : List ℕ) (xs : List (Control B)) (n at : ℕ) (of : Part) (p : Point) → of ≡ part.Control n → Some at ≡ position (has_serial n) xs
-      → control_bit font (slice_get (all_seen meaning xs) at) p ≡ controls_show (all_seen meaning xs) font of p
+      → control_bit font (slice_get (all_seen meaning xs) at) p ≡ alone (all_seen meaning xs) font of p
   found_shows font xs n at of p is found =
       let cs = all_seen meaning xs in
-      sym (ap (λ o. controls_show cs font o p) is ∙ ap (λ o. control_bit font (option_and_then (slice_get cs) o) p) (position_seen n xs ∙ sym found))
+      sym (ap (λ o. alone cs font o p) is ∙ ap (λ o. control_bit font (option_and_then (slice_get cs) o) p) (position_seen n xs ∙ sym found))
 
   -- one that there is not is white
   pub none_shows : (font : List ℕ) (xs : List (Control B)) (n : ℕ) (of : Part) (p : Point) → of ≡ part.Control n → None ≡ position (has_serial n) xs
-      → controls_show (all_seen meaning xs) font of p ≡ false
+      → alone (all_seen meaning xs) font of p ≡ false
   none_shows font xs n of p is found =
       let cs = all_seen meaning xs in
-      ap (λ o. controls_show cs font o p) is ∙ ap (λ o. control_bit font (option_and_then (slice_get cs) o) p) (position_seen n xs ∙ sym found)
+      ap (λ o. alone cs font o p) is ∙ ap (λ o. control_bit font (option_and_then (slice_get cs) o) p) (position_seen n xs ∙ sym found)
 
   -- so is what is no control
-  pub others_show : (font : List ℕ) (xs : List (Control B)) (of : Part) (p : Point) → ((n : ℕ) → of ≡ part.Control n → ⊥) → controls_show (all_seen meaning xs) font of p ≡ false
+  pub others_show : (font : List ℕ) (xs : List (Control B)) (of : Part) (p : Point) → ((n : ℕ) → of ≡ part.Control n → ⊥) → alone (all_seen meaning xs) font of p ≡ false
   others_show font xs part.Picture p none = refl
   others_show font xs (part.List n) p none = refl
   others_show font xs (part.Control n) p none = absurd (none n refl)

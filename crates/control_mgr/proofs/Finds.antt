@@ -7,7 +7,7 @@ use Rattle.std.proofs.lemmas.Int.{ints}
 use Rattle.std.proofs.lemmas.Option.{slice_get-map, slice_get-get_or}
 use Rattle.tb_geom.specs.declared.point.Point.{Point}
 use Rattle.tb_geom.specs.declared.refusal.Refusal.TheVariants.{NoSuchWindow, OutOfRange}
-use Rattle.tb_geom.specs.Points.{minus, plus}
+use Rattle.tb_geom.specs.Points.{PixelSet, minus, plus}
 use Rattle.tb_geom.specs.Pixels.{holds}
 use Rattle.tb_geom.specs.Rects.{in_plane}
 use Rattle.control_values.specs.declared.part.ControlPart.{ControlPart}
@@ -60,7 +60,7 @@ use Rattle.control_mgr.specs.Spots.{IsSpotOf}
 use Rattle.control_mgr.specs.WholeControls.{LeavesControls, records_of}
 use Rattle.control_mgr.proofs.Edited.{All-there}
 use Rattle.control_mgr.proofs.Places.{record_read}
-use Rattle.control_mgr.proofs.Steps.{desk_seen, first_fails, one_fails, one_holds, others, refused, told, unchanged}
+use Rattle.control_mgr.proofs.Steps.{desk_seen, first_fails, one_fails, one_holds, other_reasons, refused, told, unchanged}
 
 -- there and back again
 way_back : (a b : ℤ) → (a +ℤ b) -ℤ a ≡ b
@@ -182,7 +182,7 @@ module _ {V : Type 0} {H : V → Type 0} (loan : Taken V H → Loan) {W : Type 0
       → LeavesControls control_loan loan (IsControlStep (asks.Test asked) (Err OutOfRange)) t o m t o m
   test_refused asked s o is out =
       refused loan control_loan (asks.Test asked) OutOfRange t o m
-      (λ slots kept. others loan control_loan asked.control t m s is ((not (in_plane asked.point), OutOfRange) ∷ []) ∙ one_holds (not (in_plane asked.point)) OutOfRange (ap not out))
+      (λ others slots kept. other_reasons loan control_loan asked.control t m s is ((not (in_plane asked.point), OutOfRange) ∷ []) ∙ one_holds (not (in_plane asked.point)) OutOfRange (ap not out))
 
   -- the part of a control that the point lies in
   pub test_told : (asked : PointAtControl) (s : Spot) (o : Opened) (x : Control (TakenControl W K)) (answer : Option ControlPart) → IsSpotOf loan control_loan asked.control t m s
@@ -190,8 +190,8 @@ module _ {V : Type 0} {H : V → Type 0} (loan : Taken V H → Loan) {W : Type 0
       → LeavesControls control_loan loan (IsControlStep (asks.Test asked) (Ok (reply.Part answer))) t o m t o m
   test_told asked s o x answer is read within answers =
       told loan control_loan (asks.Test asked) (reply.Part answer) t o m
-      (λ slots kept. others loan control_loan asked.control t m s is ((not (in_plane asked.point), OutOfRange) ∷ []) ∙ one_fails (not (in_plane asked.point)) OutOfRange (ap not within))
-      (λ slots kept. (ap reply.Part (answers ∙ sym here), unchanged loan control_loan t o slots m kept))
+      (λ others slots kept. other_reasons loan control_loan asked.control t m s is ((not (in_plane asked.point), OutOfRange) ∷ []) ∙ one_fails (not (in_plane asked.point)) OutOfRange (ap not within))
+      (λ others slots kept. (ap reply.Part (answers ∙ sym here), unchanged loan control_loan others t o slots m kept))
     where
       here : tested asked.control (records_of control_loan m) asked.point ≡ part_tested (seen control_loan x) asked.point
       here = ap (option_and_then (λ d. part_tested d asked.point))
@@ -212,7 +212,7 @@ module _ {V : Type 0} {H : V → Type 0} (loan : Taken V H → Loan) {W : Type 0
     pub find_refused : (o : Opened) → in_plane asked.point ≡ false → LeavesControls control_loan loan (IsControlStep (asks.Find asked) (Err OutOfRange)) t o m t o m
     find_refused o out =
         refused loan control_loan (asks.Find asked) OutOfRange t o m
-        (λ slots left. first_fails (is_none (record_with asked.window (map (record_of loan) t.windows.records.items))) NoSuchWindow ((not (in_plane asked.point), OutOfRange) ∷ []) (ap is_none its_record)
+        (λ others slots left. first_fails (is_none (record_with asked.window (map (record_of loan) t.windows.records.items))) NoSuchWindow ((not (in_plane asked.point), OutOfRange) ∷ []) (ap is_none its_record)
         ∙ one_holds (not (in_plane asked.point)) OutOfRange (ap not out))
 
     -- what is found does not depend on what controls show
@@ -221,9 +221,9 @@ module _ {V : Type 0} {H : V → Type 0} (loan : Taken V H → Loan) {W : Type 0
         → LeavesControls control_loan loan (IsControlStep (asks.Find asked) (Ok (reply.Found answer))) t o m t o m
     find_told o answer within found =
         told loan control_loan (asks.Find asked) (reply.Found answer) t o m
-        (λ slots left. first_fails (is_none (record_with asked.window (map (record_of loan) t.windows.records.items))) NoSuchWindow ((not (in_plane asked.point), OutOfRange) ∷ []) (ap is_none its_record)
+        (λ others slots left. first_fails (is_none (record_with asked.window (map (record_of loan) t.windows.records.items))) NoSuchWindow ((not (in_plane asked.point), OutOfRange) ∷ []) (ap is_none its_record)
         ∙ one_fails (not (in_plane asked.point)) OutOfRange (ap not within))
-        (λ slots left. (ap reply.Found (found window.0 window.1 ∙ sym (here slots)), unchanged loan control_loan t o slots m left))
+        (λ others slots left. (ap reply.Found (found window.0 window.1 ∙ sym (here others slots)), unchanged loan control_loan others t o slots m left))
       where
         cs : List ControlRecord
         cs = records_of control_loan m
@@ -231,12 +231,12 @@ module _ {V : Type 0} {H : V → Type 0} (loan : Taken V H → Loan) {W : Type 0
         w : Window V H
         w = window.0
 
-        here : (slots : List SlotView) → found_control (desk_seen loan control_loan t slots m) cs asked.window asked.point ≡ found_from (desk_of loan t []) cs w.serial w.place asked.point
-        here slots =
-            ap (λ r. option_map_or (λ v. found_from (desk_seen loan control_loan t slots m) cs asked.window v.place asked.point) r None) its_record
-            ∙ ap (λ n. found_from (desk_seen loan control_loan t slots m) cs n w.place asked.point) (sym (stands.1 w window.1))
+        here : (others : List ℕ → Part → PixelSet) (slots : List SlotView) → found_control (desk_seen loan control_loan others t slots m) cs asked.window asked.point ≡ found_from (desk_of loan t []) cs w.serial w.place asked.point
+        here others slots =
+            ap (λ r. option_map_or (λ v. found_from (desk_seen loan control_loan others t slots m) cs asked.window v.place asked.point) r None) its_record
+            ∙ ap (λ n. found_from (desk_seen loan control_loan others t slots m) cs n w.place asked.point) (sym (stands.1 w window.1))
             ∙ ap (λ x. if on_screen (layered_desk (desk_of loan t [])) (plus w.place asked.point) then found_by w.serial cs x asked.point else None)
-            (owner_showing (controls_show cs) (desk_of loan t slots) (plus w.place asked.point))
+            (owner_showing (controls_show others cs) (desk_of loan t slots) (plus w.place asked.point))
 
 -- what holds of the window that the code reads holds of the one at its place
 pub of_window : {V : Type 0} {H : V → Type 0} (ws : List (Window V H)) (at : ℕ) (x : Window V H) → at < length ws → IsWindowAt ws at x

@@ -27,14 +27,21 @@ use Rattle.control_mgr.specs.ControlRefusals.{is_full, is_setting, judged_refusa
 use Rattle.control_mgr.specs.Judged.{may_be_in, may_be_placed}
 use Rattle.control_mgr.specs.Making.{IsTicket, judged_by}
 use Rattle.control_mgr.specs.WholeControls.{records_of}
+use Rattle.control_mgr.proofs.Lays.{one_item}
 use Rattle.control_mgr.proofs.Steps.{first_behind, first_of}
+
+module _ {V : Type 0} {H : V → Type 0} {W : Type 0} {K : W → Type 0} (control_loan : TakenControl W K → ControlLoan) (n : NewControl) (d : Option ControlDefinition) (t : WindowManager V H) where
+  -- whichever window stands there, the control may be placed in it
+  pub placed_where : (at : ℕ) → StandsAt t.windows.records.items n.window at → (w : Window V H) → IsWindowAt t.windows.records.items at w → may_be_placed d n.place n.size w.place ≡ true
+      → (v : Window V H) → IsWindowAt t.windows.records.items at v → may_be_placed d n.place n.size v.place ≡ true
+  placed_where at stands w lies may v is = subst (λ (x : Window V H). may_be_placed d n.place n.size x.place ≡ true) (one_item t.windows.records.items at w v stands.0 lies is) may
 
 module _ {V : Type 0} {H : V → Type 0} (loan : Taken V H → Loan) {W : Type 0} {K : W → Type 0} (control_loan : TakenControl W K → ControlLoan)
     (n : NewControl) (d : Option ControlDefinition) (t : WindowManager V H) (m : Controls (TakenControl W K)) where
   -- an answer that is a refusal
   pub refused_so : (r : Result Ticket Refusal) (e : Refusal) → r ≡ Err e → judged_by loan control_loan n d t m ≡ Some e
-      → MatchResult r (λ k. IsTicket loan control_loan n d t m k) (λ why. judged_by loan control_loan n d t m ≡ Some why)
-  refused_so r e is why = subst (λ r. MatchResult r (λ k. IsTicket loan control_loan n d t m k) (λ why. judged_by loan control_loan n d t m ≡ Some why)) (sym is) why
+      → MatchResult r (λ k. (judged_by loan control_loan n d t m ≡ None) × IsTicket control_loan n d t m k) (λ why. judged_by loan control_loan n d t m ≡ Some why)
+  refused_so r e is why = subst (λ r. MatchResult r (λ k. (judged_by loan control_loan n d t m ≡ None) × IsTicket control_loan n d t m k) (λ why. judged_by loan control_loan n d t m ≡ Some why)) (sym is) why
 
   -- where no definition is left, that is the last reason
   pub none_is_left : judged_by loan control_loan n d t m ≡ None
@@ -67,14 +74,6 @@ module _ {V : Type 0} {H : V → Type 0} (loan : Taken V H → Loan) {W : Type 0
 
     by_window : judged_by loan control_loan n d t m ≡ first_refusal (reasons (Some (record_of loan w)) setting long full)
     by_window = ap (λ o. first_refusal (reasons o setting long full)) window_is
-
-    -- where nothing refuses it, it may lie there
-    pub is_placed : judged_by loan control_loan n d t m ≡ None → may_be_placed d n.place n.size w.place ≡ true
-    is_placed e = by_test (may_be_placed d n.place n.size w.place) (sym by_window ∙ e)
-      where
-        by_test : (b : Bool) → first_refusal ((not b, OutOfRange) ∷ (not setting, OutOfRange) ∷ (long, TooLong) ∷ (full, TooMany) ∷ []) ≡ None → b ≡ true
-        by_test true f = refl
-        by_test false f = absurd (cc)
 
     pub out_of_place : may_be_placed d n.place n.size w.place ≡ false → judged_by loan control_loan n d t m ≡ Some OutOfRange
     out_of_place e = by_window ∙ (λ i. first_refusal ((not (e i), OutOfRange) ∷ (not setting, OutOfRange) ∷ (long, TooLong) ∷ (full, TooMany) ∷ []))

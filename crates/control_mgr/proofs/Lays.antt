@@ -26,8 +26,10 @@ use Rattle.layer_list.specs.Changes.{is_gained, reshaped, with_shape}
 use Rattle.layer_list.specs.Holders.{ArePartsApart, IsLayerAt, PlacedLayers, fits_at}
 use Rattle.layer_list.proofs.Parts.{reshaped_apart, reshaped_length, reshaped_part}
 use Rattle.desk_call.specs.declared.control.ControlOf.{ControlOf}
+use Rattle.desk_call.specs.declared.update.Layers.TheVariants as kinds
 use Rattle.vis_update.specs.Relayings.{IsGained, with_layers_of}
 use Rattle.window_list.specs.declared.window.Window.{Window}
+use Rattle.window_paint.specs.Kinds.{is_of}
 use Rattle.window_mgr.specs.declared.manager.WindowManager.{WindowManager}
 use Rattle.window_mgr.specs.DeskStates.{Opened}
 use Rattle.window_mgr.specs.Edits.{IsWindowAt}
@@ -41,16 +43,17 @@ use Rattle.control_mgr.specs.declared.controls.Controls.{Controls}
 use Rattle.control_mgr.specs.declared.laying.Lie.{Lie}
 use Rattle.control_mgr.specs.declared.spots.Spot.{Spot}
 use Rattle.control_mgr.specs.ControlDesks.{ControlRecord, controls_show}
-use Rattle.control_mgr.specs.ControlSteps.{AreLayersOf, IsChangedAt, IsControlLaid, IsLayerOf}
+use Rattle.control_mgr.specs.ControlSteps.{AreLayersOf, IsChangedAt, IsControlLaid, IsLayerOf, behind_controls}
 use Rattle.control_mgr.specs.Judged.{may_be_placed}
 use Rattle.control_mgr.specs.Laying.{IsShapeOf, MayLie, MayLieSo}
 use Rattle.control_mgr.specs.Settled.{AreSettled, IsSettledControl}
 use Rattle.control_mgr.specs.Spots.{IsSpot, IsSpotOf, IsTellable, with_lie}
 use Rattle.control_mgr.specs.WholeControls.{AreBeside, AreWholeControls, LeavesControls, controls_state, records_of}
-use Rattle.control_mgr.proofs.Edited.{All-there, edit_twice, there_edited, zip_reshape}
+use Rattle.control_mgr.proofs.Edited.{All-there, AreNoControls, begin_reshape, behind_reshaped, edit_twice, there_edited}
 use Rattle.control_mgr.proofs.Puts.{changed_then_told}
 use Rattle.control_mgr.proofs.Settled.{AreJoined, MayBeSo, changed_settled, laid_layer, retold, whole_laid}
-use Rattle.control_mgr.proofs.Places.{ItsLayer, at_window, in_its_window, layer_there, names, read_is, record_read, record_there, there_is, within}
+use Rattle.control_mgr.proofs.Places.{ItsLayer, at_window, in_its_window, layer_there, layers_named, names, read_is, record_read, record_there, there_is, within}
+use Rattle.control_mgr.proofs.Reshown.{alone, one_control, set_among}
 
 -- ---- where a control may lie
 
@@ -200,11 +203,18 @@ module _ {V : Type 0} {H : V → Type 0} (loan : Taken V H → Loan) {W : Type 0
               ∙ ap (λ o. is_gained o w.layers.layers new (minus p w.layers.place)) (sym (same_part_at shape index w.layers.layers new its.layer afresh index_low its_read new_is h))
               ∙ ap (λ place. is_gained afresh w.layers.layers new (minus p place)) there
 
+          -- the layers behind the controls are as they were
+          pub behind_new : behind_controls new ≡ behind_controls w.layers.layers
+          behind_new =
+              ap behind_controls new_is
+              ∙ behind_reshaped shape index w.layers.layers its.layer (ap (slice_get w.layers.layers) index_seen ∙ its.there) (ap (is_of kinds.Controls) its.is_layer.part)
+
           pub joined_new : (ds : List ControlRecord) → IsChangedAt (with_lie l) s.control (records_of control_loan m) ds → AreLayersOf (controls_of c.window ds) new
           joined_new ds changed =
               subst (λ xs. AreLayersOf xs new) (sym (ap (controls_of c.window) changed.controls ∙ controls_of-edit_at (retold (with_lie l) changed.definition) (λ x. refl) c.window s.control (records_of control_loan m) here))
               (subst (AreLayersOf (edit_at (retold (with_lie l) changed.definition) place (controls_of c.window (records_of control_loan m)))) (sym (new_is ∙ ap (λ n. reshaped shape n w.layers.layers) index_seen))
-              (zip_reshape IsLayerOf (retold (with_lie l) changed.definition) shape place (controls_of c.window (records_of control_loan m)) w.layers.layers
+              (begin_reshape IsLayerOf AreNoControls (retold (with_lie l) changed.definition) shape place (controls_of c.window (records_of control_loan m)) w.layers.layers
+              (within (controls_of c.window (records_of control_loan m)) place control (slice_get-controls_of c.window s.control (records_of control_loan m) here ∙ (record_there loan control_loan c t m s is).there))
               (subst (λ n. AreLayersOf (controls_of n (records_of control_loan m)) w.layers.layers) (is.window.1 w lies)
               (at_window loan (λ r. AreLayersOf (controls_of r.serial (records_of control_loan m)) r.layers) t.windows.records.items s.window w low lies joined))
               (λ x k e was. new_layer x k (sym (slice_get-controls_of c.window s.control (records_of control_loan m) here) ∙ e) was)))
@@ -235,17 +245,19 @@ module _ {V : Type 0} {H : V → Type 0} (loan : Taken V H → Loan) {W : Type 0
       → (index : ℕ) → index ≡ place_among s.control m.list.controls.items
       → (relaid : Relaid) → ((w : Window V H) → IsWindowAt t.windows.records.items s.window w → relaid.layers ≡ record w.layers { layers = reshaped shape index w.layers.layers })
       → IsChangedAt (with_lie l) s.control (records_of control_loan m) (records_of control_loan n) → n.list.next ≡ m.list.next
-      → AreSetFor s.window relaid.layers.layers index (controls_show (records_of control_loan n)) t u
+      → AreSetFor s.window relaid.layers.layers index (alone (records_of control_loan n)) t u
       → (o : Opened) → LeavesControls control_loan loan (IsControlLaid c (with_lie l)) t o m u o n
-  laid c t u m n s is l may shape shaped index index_is relaid layers_are changed next set o kept slots whole controls =
+  laid c t u m n s is l may shape shaped index index_is relaid layers_are changed next set o kept others slots whole controls =
       let windows = there_is t.windows.records.items s.window is.window.0 in
       let w : Window V H = windows.item in
       let lies : IsWindowAt t.windows.records.items s.window w = read_is t.windows.records.items s.window w windows.there in
       let at = layers_are w lies in
       let q : Option Part = Some (part.Control c.control) in
-      let leaves = set w lies q (λ k k_is. sym (part_is c t m s is l may w lies index index_is slots whole controls.joined shape shaped relaid at (Some k.part) (λ j j_is. sym (ap (λ (x : Layer). Some x.part) (one_item relaid.layers.layers index j k (new_low c t m s is l may w lies index index_is slots whole controls.joined shape shaped relaid at) j_is k_is))))) (controls_show (records_of control_loan m)) slots whole in
+      let leaves = set w lies q (λ k k_is. sym (part_is c t m s is l may w lies index index_is slots whole controls.joined shape shaped relaid at (Some k.part) (λ j j_is. sym (ap (λ (x : Layer). Some x.part) (one_item relaid.layers.layers index j k (new_low c t m s is l may w lies index index_is slots whole controls.joined shape shaped relaid at) j_is k_is))))) (controls_show others (records_of control_loan m)) slots whole in
       let serial : w.serial ≡ c.window = is.window.1 w lies in
-      let sets = subst (λ k. AreLayersSet k relaid.layers.layers q (state_showing (controls_show (records_of control_loan m)) (state_of loan t slots)) (state_showing (controls_show (records_of control_loan n)) (state_of loan u slots))) serial leaves.1 in
+      let was = state_showing (controls_show others (records_of control_loan m)) (state_of loan t slots) in
+      let sets = set_among others (records_of control_loan n) (state_of loan u slots) leaves.0.sound.distinct c.window was relaid.layers.layers q (one_control c.control)
+      (subst (λ k. AreLayersSet k relaid.layers.layers q was (state_showing (alone (records_of control_loan n)) (state_of loan u slots))) serial leaves.1) in
       let joined : AreLayersOf (controls_of c.window (records_of control_loan n)) relaid.layers.layers = joined_new c t m s is l may w lies index index_is slots whole controls.joined shape shaped relaid at (records_of control_loan n) changed in
       let windows_are : (desk_of loan u []).windows ≡ map (with_layers_of c.window relaid.layers.layers) (desk_of loan t []).windows = ap (λ (d : FullDesk). d.windows) sets.desk in (
         leaves.0,
@@ -261,7 +273,15 @@ module _ {V : Type 0} {H : V → Type 0} (loan : Taken V H → Loan) {W : Type 0
             changed = changed;
             state = ap (λ k. record { controls = records_of control_loan n; next = k; stock = kept }) next;
           };
-          laid = record { layers = relaid.layers.layers; joined = joined; set = sets; shows = refl };
+          laid = record {
+            layers = relaid.layers.layers;
+            joined = joined;
+            others = layers_named loan t slots whole s.window c.window w is.window.0 lies serial (λ ls. behind_controls relaid.layers.layers ≡ behind_controls ls)
+                (behind_new c t m s is l may w lies index index_is slots whole controls.joined shape shaped relaid at);
+            set = sets;
+            elsewhere = refl;
+            shows = refl;
+          };
           activity = record { activity = refl; begun = refl };
         },
       )

@@ -1,7 +1,8 @@
--- Lemmas on the controls of a desk: which slots they use, what holds of them where they are changed, put in and taken out, where
--- they stand, and the steps of calls.
+-- Lemmas on the controls of a desk: which slots they use, what holds of them where they are changed, put in and taken out, what
+-- windows show beside them, where they stand, and the steps of calls.
 pub mod Stocks
 pub mod Edited
+pub mod Reshown
 pub mod Settled
 pub mod Places
 pub mod Told
@@ -16,11 +17,19 @@ pub mod Tracks
 pub mod Drawn
 pub mod Ended
 pub mod Judging
+pub mod LayerIn
+pub mod LayerOut
 pub mod Added
+pub mod LaidSo
 pub mod Made
 pub mod NewSteps
+pub mod Planned
+pub mod PlannedNext
+pub mod FurtherLayers
 pub mod Disposed
+pub mod TakenOut
 pub mod Presses
+pub mod SettingsPut
 pub mod Performed
 pub mod SerialsFound
 pub mod ControlBits

@@ -13,7 +13,7 @@ use Rattle.control_list.specs.declared.control.Control.{Control}
 use Rattle.control_list.specs.Lists.{are_before, controls_of, has_serial, serial_after}
 use Rattle.control_list.specs.Seen.{all_seen, seen}
 use Rattle.control_list.proofs.LawLemmas.{still_before}
-use Rattle.control_list.proofs.SeenLemmas.{append-seen, count_of-seen}
+use Rattle.control_list.proofs.SeenLemmas.{append-seen}
 use Rattle.control_list.proofs.WindowLemmas.{controls_of-push, controls_of-push_other, count_of-length}
 use Rattle.control_values.specs.Settings.{Setting, settled}
 use Rattle.def_iface.specs.declared.part.Part.{Part}
@@ -27,9 +27,11 @@ use Rattle.def_iface.specs.Meaning.{Loan}
 use Rattle.def_iface.specs.Slots.{IsTaken}
 use Rattle.layer_list.specs.declared.layer.Layer.{Layer}
 use Rattle.desk_call.specs.declared.control.NewControl.{NewControl}
+use Rattle.desk_call.specs.declared.update.Layers.TheVariants as kinds
 use Rattle.vis_update.specs.Records.{WindowRecord}
 use Rattle.vis_update.specs.Relayings.{with_layers_of}
 use Rattle.window_list.specs.declared.window.Window.{Window}
+use Rattle.window_paint.specs.Kinds.{is_of}
 use Rattle.window_mgr.specs.declared.manager.WindowManager.{WindowManager}
 use Rattle.window_mgr.specs.DeskStates.{Opened}
 use Rattle.window_mgr.specs.Edits.{IsWindowAt}
@@ -42,16 +44,18 @@ use Rattle.control_mgr.specs.declared.controls.Controls.{Controls}
 use Rattle.control_mgr.specs.declared.making.Addition.{Addition}
 use Rattle.control_mgr.specs.declared.making.Ticket.{Ticket}
 use Rattle.control_mgr.specs.ControlDesks.{ControlRecord, ControlSlot, ControlsState, controls_show}
-use Rattle.control_mgr.specs.ControlSteps.{AreLayersOf, IsControlMade, IsLayerOf, new_control}
+use Rattle.control_mgr.specs.ControlSteps.{AreLayersOf, IsControlMade, IsLayerOf, behind_controls, new_control}
 use Rattle.control_mgr.specs.InUse.{AreStocked}
 use Rattle.control_mgr.specs.Making.{IsAddition}
 use Rattle.control_mgr.specs.Settled.{AreSettled, IsSettledControl}
 use Rattle.control_mgr.specs.WholeControls.{AreApart, AreBeside, AreWholeControls, LeavesOver, controls_state, records_of, slots_of}
-use Rattle.control_mgr.proofs.Added.{its, as_many, may_lie_so, one_read, or_parts, unused}
-use Rattle.control_mgr.proofs.Edited.{zip_behind}
+use Rattle.control_mgr.proofs.Added.{its, may_grow, may_lie_so, or_parts, unused}
+use Rattle.control_mgr.proofs.Edited.{AreNoControls, begin_behind, behind_inserted}
 use Rattle.control_mgr.proofs.Judging.{window_is}
+use Rattle.control_mgr.proofs.LayerIn.{one_read}
 use Rattle.control_mgr.proofs.Lays.{AreSetFor}
-use Rattle.control_mgr.proofs.Places.{there_is, read_is}
+use Rattle.control_mgr.proofs.Places.{layers_named, there_is, read_is}
+use Rattle.control_mgr.proofs.Reshown.{alone, one_control, set_among}
 use Rattle.control_mgr.proofs.Settled.{joined_laid, missing-layers, settled_told, somewhere_laid}
 use Rattle.control_mgr.proofs.Stocks.{stocked_with}
 
@@ -130,24 +134,22 @@ module _ {V : Type 0} {H : V → Type 0} (loan : Taken V H → Loan) {W : Type 0
     (n : NewControl) (d : ControlDefinition) (t : WindowManager V H) (m : Controls (TakenControl W K)) (a : Addition)
     (kept : IsKept loan t) (beside : AreBeside control_loan loan t m) (addition : IsAddition loan control_loan n d t m a) where
   -- the part that is drawn afresh
-  pub afresh_is : (q : Option Part) → IsPartAt a.layers.layers (Some a.layer) q → q ≡ Some (part.Control a.ticket.serial)
+  pub afresh_is : (q : Option Part) → IsPartAt a.layers.layers (Some a.ticket.layer) q → q ≡ Some (part.Control a.ticket.serial)
   afresh_is q h =
-      let there = there_is a.layers.layers a.layer addition.low in
+      let there = there_is a.layers.layers a.ticket.layer addition.low in
       let w = there_is t.windows.records.items a.ticket.window addition.ticket.window.0 in
       let lies = read_is t.windows.records.items a.ticket.window w.item w.there in
       h addition.layer (read_own w.item lies)
       ∙ ap Some (addition.is 0).part
     where
-      read_own : (w : Window V H) → IsWindowAt t.windows.records.items a.ticket.window w → addition.layer ≡ get_or a.layers.layers a.layer addition.layer
+      read_own : (w : Window V H) → IsWindowAt t.windows.records.items a.ticket.window w → addition.layer ≡ get_or a.layers.layers a.ticket.layer addition.layer
       read_own w lies =
-          let many = as_many loan control_loan n d t m a.ticket kept beside addition.ticket w lies in
-          let e = addition.index in
-          sym (ap (λ ls. get_or ls a.layer addition.layer) (addition.layers w lies) ∙ get_or-insert_at w.layers.layers a.layer addition.layer addition.layer (omega arith))
+          sym (ap (λ ls. get_or ls a.ticket.layer addition.layer) (addition.layers w lies) ∙ get_or-insert_at w.layers.layers a.ticket.layer addition.layer addition.layer (may_grow loan control_loan n d t m a.ticket kept beside addition.ticket w lies).index)
 
-  pub part_at : IsPartAt a.layers.layers (Some a.layer) (Some (part.Control a.ticket.serial))
-  part_at l l_is = sym (afresh_is (Some l.part) (λ j j_is. ap (λ (x : Layer). Some x.part) (one_read a.layers.layers a.layer l j addition.low l_is j_is)))
+  pub part_at : IsPartAt a.layers.layers (Some a.ticket.layer) (Some (part.Control a.ticket.serial))
+  part_at l l_is = sym (afresh_is (Some l.part) (λ j j_is. ap (λ (x : Layer). Some x.part) (one_read a.layers.layers a.ticket.layer l j addition.low l_is j_is)))
 
-  pub planned_is : (q : Option Part) → IsPartAt a.layers.layers (Some a.layer) q → IsPlanOfLayers loan a.ticket.window a.layers.layers q t a.relaying
+  pub planned_is : (q : Option Part) → IsPartAt a.layers.layers (Some a.ticket.layer) q → IsPlanOfLayers loan a.ticket.window a.layers.layers q t a.relaying
   planned_is q h = subst (λ o. IsPlanOfLayers loan a.ticket.window a.layers.layers o t a.relaying) (sym (afresh_is q h)) addition.planned
 
   pub fits_begun : is_fitting_control d n.size ≡ true
@@ -181,17 +183,19 @@ module _ {V : Type 0} {H : V → Type 0} (loan : Taken V H → Loan) {W : Type 0
 
     module _ (u : WindowManager V H) (m' : Controls (TakenControl W K)) (controls_are : records_of control_loan m' ≡ records_of control_loan m ++ made ∷ [])
         (next_is : m'.list.next ≡ serial_after a.ticket.serial)
-        (set : AreSetFor loan control_loan a.ticket.window a.layers.layers a.layer (controls_show (records_of control_loan m')) t u) where
+        (set : AreSetFor loan control_loan a.ticket.window a.layers.layers a.ticket.layer (alone (records_of control_loan m')) t u) where
       pub made_over : (before left : List ControlSlot) → IsTaken (λ (d : ControlDefinition). d.stage) n.kind (record { definition = d; slot = slot }) before left
           → (o : Opened) → LeavesOver control_loan loan before left (IsControlMade n a.ticket.serial) t o m u o m'
-      made_over before left took o slots whole controls =
+      made_over before left took o others slots whole controls =
           let windows = there_is t.windows.records.items a.ticket.window addition.ticket.window.0 in
           let w : Window V H = windows.item in
           let lies : IsWindowAt t.windows.records.items a.ticket.window w = read_is t.windows.records.items a.ticket.window w windows.there in
           let q : Option Part = Some (part.Control a.ticket.serial) in
-          let leaves = set w lies q part_at (controls_show (records_of control_loan m)) slots whole in
+          let leaves = set w lies q part_at (controls_show others (records_of control_loan m)) slots whole in
           let serial : w.serial ≡ n.window = addition.ticket.window.1 w lies in
-          let sets = subst (λ k. AreLayersSet k a.layers.layers q (state_showing (controls_show (records_of control_loan m)) (state_of loan t slots)) (state_showing (controls_show (records_of control_loan m')) (state_of loan u slots))) serial leaves.1 in
+          let was = state_showing (controls_show others (records_of control_loan m)) (state_of loan t slots) in
+          let sets = set_among others (records_of control_loan m') (state_of loan u slots) leaves.0.sound.distinct n.window was a.layers.layers q (one_control a.ticket.serial)
+          (subst (λ k. AreLayersSet k a.layers.layers q was (state_showing (alone (records_of control_loan m')) (state_of loan u slots))) serial leaves.1) in
           let joined : AreLayersOf (controls_of n.window (records_of control_loan m) ++ made ∷ []) a.layers.layers = joined_new w lies in
           let windows_are : (desk_of loan u []).windows ≡ map (with_layers_of n.window a.layers.layers) (desk_of loan t []).windows = ap (λ (d : FullDesk). d.windows) sets.desk in
           let there : is_missing n.window (desk_of loan t []).windows ≡ false = ap is_none (window_is loan control_loan n (Some d) t m kept a.ticket.window addition.ticket.window w lies) in (
@@ -213,7 +217,9 @@ module _ {V : Type 0} {H : V → Type 0} (loan : Taken V H → Loan) {W : Type 0
                 layers = a.layers.layers;
                 joined = subst (λ xs. AreLayersOf xs a.layers.layers)
                     (sym (ap (controls_of n.window) controls_are ∙ controls_of-push n.window (records_of control_loan m) made (same_number n.window n.window refl))) joined;
+                others = layers_named loan t slots whole a.ticket.window n.window w addition.ticket.window.0 lies serial (λ ls. behind_controls a.layers.layers ≡ behind_controls ls) (behind_new w lies);
                 set = sets;
+                elsewhere = refl;
                 shows = refl;
               };
               activity = record { activity = refl; begun = refl };
@@ -223,6 +229,12 @@ module _ {V : Type 0} {H : V → Type 0} (loan : Taken V H → Loan) {W : Type 0
           joined_new : (w : Window V H) → IsWindowAt t.windows.records.items a.ticket.window w → AreLayersOf (controls_of n.window (records_of control_loan m) ++ made ∷ []) a.layers.layers
           joined_new w lies =
               subst (AreLayersOf (controls_of n.window (records_of control_loan m) ++ made ∷ []))
-              (sym (addition.layers w lies ∙ ap (λ i. insert w.layers.layers i addition.layer) (addition.index ∙ sym (count_of-seen control_loan n.window m.list.controls.items) ∙ count_of-length n.window (records_of control_loan m))))
-              (zip_behind IsLayerOf (controls_of n.window (records_of control_loan m)) w.layers.layers made addition.layer
+              (sym (addition.layers w lies ∙ ap (λ i. insert w.layers.layers i addition.layer) (addition.ticket.layer ∙ count_of-length n.window (records_of control_loan m))))
+              (begin_behind IsLayerOf AreNoControls (controls_of n.window (records_of control_loan m)) w.layers.layers made addition.layer
               (its loan control_loan n d t m a.ticket kept beside addition.ticket w lies) layer_is)
+
+          -- the layers behind the controls are as they were
+          behind_new : (w : Window V H) → IsWindowAt t.windows.records.items a.ticket.window w → behind_controls a.layers.layers ≡ behind_controls w.layers.layers
+          behind_new w lies =
+              ap behind_controls (addition.layers w lies)
+              ∙ behind_inserted a.ticket.layer w.layers.layers addition.layer (ap (is_of kinds.Controls) (addition.is 0).part)

@@ -5,9 +5,11 @@ use Rattle.std.specs.List.{list_all}
 use Rattle.std.proofs.lemmas.Bool.{and_parts}
 use Rattle.tb_geom.specs.declared.point.Point.{Point}
 use Rattle.tb_geom.specs.declared.refusal.Refusal.{Refusal}
+use Rattle.tb_geom.specs.Points.{PixelSet}
 use Rattle.tb_geom.specs.Rects.{is_in_range, moved_rect}
 use Rattle.tb_geom.specs.Refusals.{first_refusal}
 use Rattle.control_list.specs.Lists.{with_place, with_shown, with_size}
+use Rattle.def_iface.specs.declared.part.Part.{Part}
 use Rattle.def_iface.specs.declared.size.Size.{Size}
 use Rattle.def_iface.specs.declared.taken.Taken.{Taken}
 use Rattle.def_iface.specs.declared.taken_control.TakenControl.{TakenControl}
@@ -137,22 +139,22 @@ module _ {V : Type 0} {H : V → Type 0} (loan : Taken V H → Loan) {W : Type 0
 
     -- a call that lays a control so, where nothing but memory refuses it
     pub laid_step : (call : ControlCall) (f g : ControlRecord → ControlRecord) (result : Result ControlReply Refusal) (u : WindowManager V H) (n : Controls (TakenControl W K)) (o : Opened) → may_control_grow call ≡ true
-        → ((slots : List SlotView) (kept : List ControlSlot) → first_refusal (control_refusals call (desk_seen loan control_loan t slots m) (controls_state control_loan m kept)) ≡ None)
+        → ((others : List ℕ → Part → PixelSet) (slots : List SlotView) (kept : List ControlSlot) → first_refusal (control_refusals call (desk_seen loan control_loan others t slots m) (controls_state control_loan m kept)) ≡ None)
         → ((x : ControlRecord) → slice_get (records_of control_loan m) s.control ≡ Some x → f x ≡ g x)
         → ((answer : ControlReply) (before after : ControlDesk) → answer ≡ Done → IsControlLaid c g before after → IsControlEffect call answer before after)
         → LeavesControls control_loan loan (IsLaidOrShort c f result) t o m u o n → LeavesControls control_loan loan (IsControlStep call result) t o m u o n
-    laid_step call f g (Ok answer) u n o grows none agrees effect leaves kept slots whole controls =
-        let l = leaves kept slots whole controls in
-        let before : ControlDesk = control_desk control_loan loan t o slots m kept in
-        let after : ControlDesk = control_desk control_loan loan u o slots n kept in
-        (l.0, l.1, (none slots kept, effect answer before after l.2.0 (laid_alike f g before after refl agrees l.2.1)))
-    laid_step call f g (Err e) u n o grows none agrees effect leaves kept slots whole controls =
-        let l = leaves kept slots whole controls in
-        (l.0, l.1, (inr (none slots kept, (grows, l.2.0)), l.2.1))
+    laid_step call f g (Ok answer) u n o grows none agrees effect leaves kept others slots whole controls =
+        let l = leaves kept others slots whole controls in
+        let before : ControlDesk = control_desk control_loan loan others t o slots m kept in
+        let after : ControlDesk = control_desk control_loan loan others u o slots n kept in
+        (l.0, l.1, (none others slots kept, effect answer before after l.2.0 (laid_alike f g before after refl agrees l.2.1)))
+    laid_step call f g (Err e) u n o grows none agrees effect leaves kept others slots whole controls =
+        let l = leaves kept others slots whole controls in
+        (l.0, l.1, (inr (none others slots kept, (grows, l.2.0)), l.2.1))
 
     -- one that shows it or hides it
     pub show_step : (shown : Bool) (f : ControlRecord → ControlRecord) (result : Result ControlReply Refusal) (u : WindowManager V H) (n : Controls (TakenControl W K)) (o : Opened)
         → ((x : ControlRecord) → slice_get (records_of control_loan m) s.control ≡ Some x → f x ≡ with_shown shown x)
         → LeavesControls control_loan loan (IsLaidOrShort c f result) t o m u o n → LeavesControls control_loan loan (IsControlStep (shown_call shown c) result) t o m u o n
-    show_step true f result u n o agrees leaves = laid_step (Show c) f (with_shown true) result u n o refl (λ slots kept. nothing_missing loan control_loan c t m s is) agrees (λ answer before after e h. (e, h)) leaves
-    show_step false f result u n o agrees leaves = laid_step (Hide c) f (with_shown false) result u n o refl (λ slots kept. nothing_missing loan control_loan c t m s is) agrees (λ answer before after e h. (e, h)) leaves
+    show_step true f result u n o agrees leaves = laid_step (Show c) f (with_shown true) result u n o refl (λ others slots kept. nothing_missing loan control_loan c t m s is) agrees (λ answer before after e h. (e, h)) leaves
+    show_step false f result u n o agrees leaves = laid_step (Hide c) f (with_shown false) result u n o refl (λ others slots kept. nothing_missing loan control_loan c t m s is) agrees (λ answer before after e h. (e, h)) leaves

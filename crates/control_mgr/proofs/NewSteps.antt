@@ -1,11 +1,13 @@
 -- The step of a call that makes a control: done, or refused with the definition back in its slot.
-use Rattle.std.proofs.Common.{◌≡◌, ⊎_elim, inl, inr, ℕ, zero, suc, Bool, true, false, not, ◌||◌, cond, List, [], ◌∷◌, ◌++◌, Option, Some, None, Ok, Err, refl, sym, ap, ◌∙◌, subst}
+use Rattle.std.proofs.Common.{◌≡◌, ⊎_elim, inl, inr, ℕ, zero, suc, Bool, true, false, not, ◌||◌, cond, List, [], ◌∷◌, ◌++◌, Some, None, Ok, Err, refl, sym, ap, ◌∙◌, subst, arith}
 use Rattle.std.specs.Prelude.{IfSome, is_none, slice_get, slice_set}
 use Rattle.std.specs.Option.{option_and_then}
 use Rattle.std.proofs.lemmas.Slice.Eq.{bytes_eq-Decides}
 use Rattle.tb_geom.specs.declared.refusal.Refusal.{Refusal}
 use Rattle.tb_geom.specs.declared.refusal.Refusal.TheVariants.{NoDefinition, NoSuchName}
+use Rattle.tb_geom.specs.Points.{PixelSet}
 use Rattle.tb_geom.specs.Refusals.{first_refusal}
+use Rattle.def_iface.specs.declared.part.Part.{Part}
 use Rattle.def_iface.specs.declared.taken.Taken.{Taken}
 use Rattle.def_iface.specs.declared.taken_control.TakenControl.{TakenControl}
 use Rattle.def_iface.specs.declared.window_def.Stage.{Stage}
@@ -98,14 +100,15 @@ module _ (n : NewControl) (desk : FullDesk) (s : ControlsState) (has : has_kind 
 
 module _ {V : Type 0} {H : V → Type 0} (loan : Taken V H → Loan) {W : Type 0} {K : W → Type 0} (control_loan : TakenControl W K → ControlLoan) where
   -- where nothing but the room for controls changed, the controls are the same, and the desk
-  state_same : (m planned : Controls (TakenControl W K)) → IsRoomier m planned → (kept left : List ControlSlot) → left ≡ kept → controls_state control_loan planned left ≡ controls_state control_loan m kept
+  pub state_same : (m planned : Controls (TakenControl W K)) → IsRoomier m planned → (kept left : List ControlSlot) → left ≡ kept → controls_state control_loan planned left ≡ controls_state control_loan m kept
   state_same m planned same kept left e = λ i. record { controls = all_seen control_loan (same.controls i); next = same.next i; stock = e i }
 
-  desk_same : (t : WindowManager V H) (o : Opened) (slots : List SlotView) (m planned : Controls (TakenControl W K)) → IsRoomier m planned → (kept left : List ControlSlot) → left ≡ kept
-      → control_desk control_loan loan t o slots planned left ≡ control_desk control_loan loan t o slots m kept
-  desk_same t o slots m planned same kept left e = λ i. record {
-    desk = desk_with o (state_showing (controls_show (all_seen control_loan (same.controls i))) (state_of loan t slots));
+  pub desk_same : (others : List ℕ → Part → PixelSet) (t : WindowManager V H) (o : Opened) (slots : List SlotView) (m planned : Controls (TakenControl W K)) → IsRoomier m planned → (kept left : List ControlSlot) → left ≡ kept
+      → control_desk control_loan loan others t o slots planned left ≡ control_desk control_loan loan others t o slots m kept
+  desk_same others t o slots m planned same kept left e = λ i. record {
+    desk = desk_with o (state_showing (controls_show others (all_seen control_loan (same.controls i))) (state_of loan t slots));
     controls = state_same m planned same kept left e i;
+    others = others;
   }
 
   pub beside_planned : (t : WindowManager V H) (m planned : Controls (TakenControl W K)) (kept : List ControlSlot) → IsRoomier m planned
@@ -113,23 +116,20 @@ module _ {V : Type 0} {H : V → Type 0} (loan : Taken V H → Loan) {W : Type 0
   beside_planned t m planned kept same whole = record { slots = kept; whole = subst (AreWholeControls (desk_of loan t []).windows) (sym (state_same m planned same kept kept refl)) whole }
 
   module _ (n : NewControl) (t : WindowManager V H) (m planned : Controls (TakenControl W K)) (same : IsRoomier m planned) where
-    judged_same : (d : Option ControlDefinition) → judged_by loan control_loan n d t planned ≡ judged_by loan control_loan n d t m
-    judged_same d = λ i. first_refusal (judged_refusals n d (desk_of loan t []) (all_seen control_loan (same.controls i)) (same.next i))
-
     -- the control was made
     pub made_step : (u : WindowManager V H) (made : Controls (TakenControl W K)) (taken : ControlLoan) (before left : List ControlSlot) (serial : ℕ)
-        → IsTaken (λ (d : ControlDefinition). d.stage) n.kind taken before left → judged_by loan control_loan n (Some taken.definition) t planned ≡ None
+        → IsTaken (λ (d : ControlDefinition). d.stage) n.kind taken before left → judged_by loan control_loan n (Some taken.definition) t m ≡ None
         → ((o : Opened) → LeavesOver control_loan loan before left (IsControlMade n serial) t o planned u o made)
         → (o : Opened) → LeavesOver control_loan loan before left (IsControlStep (New n) (Ok (reply.Made serial))) t o m u o made
-    made_step u made taken before left serial took unrefused added o slots whole controls =
-        let leaves = added o slots whole (subst (AreWholeControls (desk_of loan t []).windows) (sym (state_same m planned same before before refl)) controls) in (
+    made_step u made taken before left serial took unrefused added o others slots whole controls =
+        let leaves = added o others slots whole (subst (AreWholeControls (desk_of loan t []).windows) (sym (state_same m planned same before before refl)) controls) in (
           leaves.0,
           leaves.1,
           (
             refusal_with n (desk_of loan t []) (controls_state control_loan m before) (taken_was_there (λ (d : ControlDefinition). d.stage) n.kind taken before left took)
                 taken.definition (taken_was_offered (λ (d : ControlDefinition). d.stage) n.kind taken before left took)
-                ∙ sym (judged_same (Some taken.definition)) ∙ unrefused,
-            (serial, refl, subst (λ b. IsControlMade n serial b (control_desk control_loan loan u o slots made left)) (desk_same t o slots m planned same before before refl) leaves.2),
+                ∙ unrefused,
+            (serial, refl, subst (λ b. IsControlMade n serial b (control_desk control_loan loan others u o slots made left)) (desk_same others t o slots m planned same before before refl) leaves.2),
           ),
         )
 
@@ -137,7 +137,7 @@ module _ {V : Type 0} {H : V → Type 0} (loan : Taken V H → Loan) {W : Type 0
     pub unmade_step : (taken : ControlLoan) (before left back : List ControlSlot) (e : Refusal)
         → IsTaken (λ (d : ControlDefinition). d.stage) n.kind taken before left → IsPutBack taken left back → IsNotAdded loan control_loan n taken.definition t m e
         → (o : Opened) → LeavesOver control_loan loan before back (IsControlStep (New n) (Err e)) t o m t o planned
-    unmade_step taken before left back e took put refused o slots whole controls =
+    unmade_step taken before left back e took put refused o others slots whole controls =
         let is : back ≡ before = put_back_is_old (λ (d : ControlDefinition). d.stage) n.kind taken before left took back put in
         let because = refusal_with n (desk_of loan t []) (controls_state control_loan m before) (taken_was_there (λ (d : ControlDefinition). d.stage) n.kind taken before left took)
         taken.definition (taken_was_offered (λ (d : ControlDefinition). d.stage) n.kind taken before left took) in (
@@ -145,25 +145,25 @@ module _ {V : Type 0} {H : V → Type 0} (loan : Taken V H → Loan) {W : Type 0
           subst (AreWholeControls (desk_of loan t []).windows) (sym (state_same m planned same before back is)) controls,
           (
             ⊎_elim (λ first. inl (because ∙ first)) (λ memory. inr (because ∙ memory.0, (refl, memory.1))) refused,
-            subst (λ a. IsControlDeskUnchanged (control_desk control_loan loan t o slots m before) a) (sym (desk_same t o slots m planned same before back is)) (unchanged loan control_loan t o slots m before),
+            subst (λ a. IsControlDeskUnchanged (control_desk control_loan loan others t o slots m before) a) (sym (desk_same others t o slots m planned same before back is)) (unchanged loan control_loan others t o slots m before),
           ),
         )
 
   same_self : (m : Controls (TakenControl W K)) → IsRoomier m m
-  same_self m = record { controls = refl; next = refl; alloc = refl }
+  same_self m = record { controls = refl; next = refl; alloc = refl; room = omega arith }
 
   -- no definition of its kind was left
   pub not_given_step : (n : NewControl) (t : WindowManager V H) (m : Controls (TakenControl W K)) (bytes : List ℕ) (before back : List ControlSlot) (why e : Refusal) → bytes ≡ n.kind → why ≡ NoDefinition
       → IsNotTaken (λ (d : ControlDefinition). d.stage) bytes before why
       → first_refusal (judged_refusals n None (desk_of loan t []) (records_of control_loan m) m.list.next ++ (true, NoDefinition) ∷ []) ≡ Some e → back ≡ before
       → (o : Opened) → LeavesOver control_loan loan before back (IsControlStep (New n) (Err e)) t o m t o m
-  not_given_step n t m bytes before back why e named is none judged same o slots whole controls =
+  not_given_step n t m bytes before back why e named is none judged same o others slots whole controls =
       let there : IsNotTaken (λ (d : ControlDefinition). d.stage) n.kind before NoDefinition = subst (λ (x : List ℕ × Refusal). IsNotTaken (λ (d : ControlDefinition). d.stage) x.0 before x.1) (λ i. (named i, is i)) none in
       let at_hand : offered_control n.kind before ≡ None = ap (λ o. option_and_then (λ at. option_and_then (λ (s : ControlSlot). s.held) (slice_get before at)) o) there.1 in (
         whole,
         subst (AreWholeControls (desk_of loan t []).windows) (sym (state_same m m (same_self m) before back same)) controls,
         (
           inl (refusal_without n (desk_of loan t []) (controls_state control_loan m before) there.0 at_hand ∙ judged),
-          subst (λ a. IsControlDeskUnchanged (control_desk control_loan loan t o slots m before) a) (sym (desk_same t o slots m m (same_self m) before back same)) (unchanged loan control_loan t o slots m before),
+          subst (λ a. IsControlDeskUnchanged (control_desk control_loan loan others t o slots m before) a) (sym (desk_same others t o slots m m (same_self m) before back same)) (unchanged loan control_loan others t o slots m before),
         ),
       )

@@ -1,7 +1,6 @@
 -- Where a control stands: its record, its window, and its layer there.
 use Rattle.std.proofs.Common.{◌≡◌, ℕ, zero, suc, ◌<◌, true, false, ◌==◌, List, [], ◌∷◌, length, get_or, Option, Some, refl, sym, ap, ◌∙◌, subst, arith, eqb-true}
 use Rattle.std.specs.Prelude.{All, IfSome, map, slice_get}
-use Rattle.std.specs.List.{AllZip}
 use Rattle.std.specs.Option.{option_map, option_map_or}
 use Rattle.std.proofs.lemmas.Bool.{and_parts}
 use Rattle.std.proofs.lemmas.List.Elements.{All-head, All-tail}
@@ -14,20 +13,24 @@ use Rattle.def_iface.specs.declared.taken.Taken.{Taken}
 use Rattle.def_iface.specs.declared.taken_control.TakenControl.{TakenControl}
 use Rattle.def_iface.specs.ControlMeaning.{ControlLoan}
 use Rattle.def_iface.specs.Meaning.{Loan}
+use Rattle.def_iface.specs.Stocked.{SlotView}
 use Rattle.layer_list.specs.declared.layer.Layer.{Layer}
 use Rattle.desk_call.specs.declared.control.ControlOf.{ControlOf}
 use Rattle.vis_update.specs.Records.{WindowRecord, record_of}
 use Rattle.window_list.specs.declared.window.Window.{Window}
 use Rattle.window_mgr.specs.declared.manager.WindowManager.{WindowManager}
 use Rattle.window_mgr.specs.Edits.{IsWindowAt}
+use Rattle.window_mgr.specs.Finding.{record_with}
 use Rattle.window_mgr.specs.Records.{desk_of}
+use Rattle.window_mgr.specs.Whole.{IsWholeManager}
+use Rattle.window_mgr.proofs.Steps.{found}
 use Rattle.control_mgr.specs.declared.controls.Controls.{Controls}
 use Rattle.control_mgr.specs.declared.spots.Spot.{Spot}
 use Rattle.control_mgr.specs.ControlDesks.{ControlRecord}
-use Rattle.control_mgr.specs.ControlSteps.{IsLayerOf}
+use Rattle.control_mgr.specs.ControlSteps.{AreLayersOf, IsLayerOf}
 use Rattle.control_mgr.specs.Spots.{IsSpotOf}
 use Rattle.control_mgr.specs.WholeControls.{records_of}
-use Rattle.control_mgr.proofs.Edited.{zip_there}
+use Rattle.control_mgr.proofs.Edited.{AreNoControls, begin_there}
 use Rattle.control_mgr.proofs.Settled.{AreJoined}
 
 -- ---- places in lists
@@ -64,6 +67,15 @@ module _ {V : Type 0} {H : V → Type 0} (loan : Taken V H → Loan) where
   at_window P [] i w low e h = absurd (omega arith)
   at_window P (v ∷ vs) zero w low e h = subst (λ x. P (record_of loan x)) (sym e) (All-head P (record_of loan v) (map (record_of loan) vs) h)
   at_window P (v ∷ vs) (suc i) w low e h = at_window P vs i w (omega arith) e (All-tail P (record_of loan v) (map (record_of loan) vs) h)
+
+  -- and what holds of the layers of the window at a place holds of those of the window that has its serial
+  pub layers_named : (t : WindowManager V H) (slots : List SlotView) → IsWholeManager loan t slots → (at serial : ℕ) (w : Window V H) → at < length t.windows.records.items
+      → IsWindowAt t.windows.records.items at w → w.serial ≡ serial → (P : List Layer → Type 0) → P w.layers.layers
+      → (r : WindowRecord) → record_with serial (desk_of loan t slots).windows ≡ Some r → P r.layers
+  layers_named t slots whole at serial w low lies named P h r is =
+      let both : Some (record_of loan w) ≡ Some r = sym (found loan t t slots whole at serial w low lies named) ∙ is in
+      let same : record_of loan w ≡ r = cc in
+      subst (λ (x : WindowRecord). P x.layers) same h
 
 -- ---- a control that was found
 
@@ -106,7 +118,7 @@ module _ {V : Type 0} {H : V → Type 0} (loan : Taken V H → Loan) {W : Type 0
 
   pub layer_there : (w : Window V H) → IsWindowAt t.windows.records.items s.window w → AreJoined cs (desk_of loan t []).windows → ItsLayer w
   layer_there w lies joined =
-      let its : AllZip IsLayerOf (controls_of w.serial cs) w.layers.layers = at_window loan (λ r. AllZip IsLayerOf (controls_of r.serial cs) r.layers) t.windows.records.items s.window w is.window.0 lies joined in
+      let its : AreLayersOf (controls_of w.serial cs) w.layers.layers = at_window loan (λ r. AreLayersOf (controls_of r.serial cs) r.layers) t.windows.records.items s.window w is.window.0 lies joined in
       let here : is_in_at w.serial s.control cs ≡ true = ap (λ n. is_in_at n s.control cs) (is.window.1 w lies) ∙ in_its_window in
-      let found = zip_there IsLayerOf (place_among s.control cs) (controls_of w.serial cs) w.layers.layers record_there.item its (slice_get-controls_of w.serial s.control cs here ∙ record_there.there) in
+      let found = begin_there IsLayerOf AreNoControls (place_among s.control cs) (controls_of w.serial cs) w.layers.layers record_there.item its (slice_get-controls_of w.serial s.control cs here ∙ record_there.there) in
       record { layer = found.0; there = found.1; is_layer = found.2 }

@@ -24,6 +24,7 @@ use Rattle.desk_call.specs.declared.control.ControlCall.TheVariants.{Track, Step
 use Rattle.desk_call.specs.declared.control.ControlOf.{ControlOf}
 use Rattle.desk_call.specs.declared.control.ControlReply.TheVariants.{Part}
 use Rattle.desk_call.specs.declared.control.PointAtControl.{PointAtControl}
+use Rattle.window_paint.specs.White.{all_white}
 use Rattle.window_mgr.specs.declared.manager.WindowManager.{WindowManager}
 use Rattle.window_mgr.specs.DeskStates.{Opened}
 use Rattle.window_mgr.specs.Kept.{IsKept}
@@ -42,7 +43,7 @@ use Rattle.control_mgr.proofs.Edited.{All-there}
 use Rattle.control_mgr.proofs.Places.{found_names}
 use Rattle.control_mgr.proofs.Sets.{highlight_agrees, state_of_control, state_read}
 use Rattle.control_mgr.proofs.Settled.{retold}
-use Rattle.control_mgr.proofs.Steps.{anew_alike, none_missing, one_fails, others, unchanged}
+use Rattle.control_mgr.proofs.Steps.{anew_alike, none_missing, one_fails, other_reasons, unchanged}
 
 -- nothing is open
 abbrev pub idle_now : Opened
@@ -64,9 +65,9 @@ module _ {V : Type 0} {H : V → Type 0} (loan : Taken V H → Loan) {W : Type 0
     pub leaves_alike : (f g : ControlRecord → ControlRecord) (u : WindowManager V H) (n : Controls (TakenControl W K)) (o r : Opened)
         → ((x : ControlRecord) → slice_get (records_of control_loan m) s.control ≡ Some x → f x ≡ g x)
         → LeavesControls control_loan loan (IsShownAnew c f) t o m u r n → LeavesControls control_loan loan (IsShownAnew c g) t o m u r n
-    leaves_alike f g u n o r agrees leaves kept slots whole controls =
-        let l = leaves kept slots whole controls in
-        (l.0, l.1, anew_alike c f g (control_desk control_loan loan t o slots m kept) (control_desk control_loan loan u r slots n kept) s.control is.control agrees l.2)
+    leaves_alike f g u n o r agrees leaves kept others slots whole controls =
+        let l = leaves kept others slots whole controls in
+        (l.0, l.1, anew_alike c f g (control_desk control_loan loan others t o slots m kept) (control_desk control_loan loan others u r slots n kept) s.control is.control agrees l.2)
 
     -- the state with another highlighting
     pub highlighted : (h : ℕ) (was now : State) (u : WindowManager V H) (n : Controls (TakenControl W K)) (o r : Opened) → IfSome (slice_get (records_of control_loan m) s.control) (λ x. was ≡ state_of_control x)
@@ -95,11 +96,12 @@ module _ {V : Type 0} {H : V → Type 0} (loan : Taken V H → Loan) {W : Type 0
   pub index_left : (c k : ControlOf) (h : ℕ) (t u : WindowManager V H) (m n : Controls (TakenControl W K)) (o r : Opened) → IsKept loan t → AreBeside control_loan loan t m
       → LeavesControls control_loan loan (IsShownAnew c (with_highlight h)) t o m u r n → index_of k (records_of control_loan n) ≡ index_of k (records_of control_loan m)
   index_left c k h t u m n o r kept beside leaves =
-      index_kept c k (with_highlight h) (λ x. refl) (λ x. refl) (control_desk control_loan loan t o kept.slots m beside.slots) (control_desk control_loan loan u r kept.slots n beside.slots) (leaves beside.slots kept.slots kept.whole beside.whole).2
+      index_kept c k (with_highlight h) (λ x. refl) (λ x. refl) (control_desk control_loan loan (λ font. all_white) t o kept.slots m beside.slots) (control_desk control_loan loan (λ font. all_white) u r kept.slots n beside.slots)
+      (leaves beside.slots (λ font. all_white) kept.slots kept.whole beside.whole).2
 
   -- a control of which a thumb is tracked is left alone, and another is highlighted
   pub left_alone : (c : ControlOf) (h : ℕ) (t : WindowManager V H) (m : Controls (TakenControl W K)) (o r : Opened) (b : Bool) → b ≡ true → (thumb : Bool) → thumb ≡ b → LeavesControls control_loan loan (IsHighlighted thumb c h) t o m t r m
-  left_alone c h t m o r b is thumb e = subst (λ x. LeavesControls control_loan loan (IsHighlighted x c h) t o m t r m) (sym (e ∙ is)) (λ kept slots whole controls. (whole, controls, record { windows = refl; controls = refl }))
+  left_alone c h t m o r b is thumb e = subst (λ x. LeavesControls control_loan loan (IsHighlighted x c h) t o m t r m) (sym (e ∙ is)) (λ kept others slots whole controls. (whole, controls, record { windows = refl; controls = refl; others = refl }))
 
   pub shown_so : (c : ControlOf) (h : ℕ) (t u : WindowManager V H) (m n : Controls (TakenControl W K)) (o r : Opened) (b : Bool) → b ≡ false → (thumb : Bool) → thumb ≡ b → LeavesControls control_loan loan (IsShownAnew c (with_highlight h)) t o m u r n
       → LeavesControls control_loan loan (IsHighlighted thumb c h) t o m u r n
@@ -109,57 +111,58 @@ module _ {V : Type 0} {H : V → Type 0} (loan : Taken V H → Loan) {W : Type 0
 
   pub tracked_step : (p : PointAtControl) (part : Option ControlPart) (t u : WindowManager V H) (m n : Controls (TakenControl W K)) (s : Spot) (o r : Opened) → IsSpotOf loan control_loan p.control t m s → in_plane p.point ≡ true
       → tested p.control (records_of control_loan m) p.point ≡ part → LeavesControls control_loan loan (IsTracked p part) t o m u r n → LeavesControls control_loan loan (IsControlStep (Track p) (Ok (Part part))) t o m u r n
-  tracked_step p part t u m n s o r is on is_part leaves kept slots whole controls =
-      let l = leaves kept slots whole controls in (
+  tracked_step p part t u m n s o r is on is_part leaves kept others slots whole controls =
+      let l = leaves kept others slots whole controls in (
         l.0,
         l.1,
         (
-          others loan control_loan p.control t m s is (point_refusals p.point) ∙ near p.point on,
-          (ap (λ q. Part q) (sym is_part), subst (λ q. IsTracked p q (control_desk control_loan loan t o slots m kept) (control_desk control_loan loan u r slots n kept)) (sym is_part) l.2),
+          other_reasons loan control_loan p.control t m s is (point_refusals p.point) ∙ near p.point on,
+          (ap (λ q. Part q) (sym is_part), subst (λ q. IsTracked p q (control_desk control_loan loan others t o slots m kept) (control_desk control_loan loan others u r slots n kept)) (sym is_part) l.2),
         ),
       )
 
   -- on no part
   pub pressed_on_none : (p : PointAtControl) (t : WindowManager V H) (m : Controls (TakenControl W K)) (o : Opened) → LeavesControls control_loan loan (IsTracked p None) t o m t o m
-  pressed_on_none p t m o kept slots whole controls = (whole, controls, unchanged loan control_loan t o slots m kept)
+  pressed_on_none p t m o kept others slots whole controls = (whole, controls, unchanged loan control_loan others t o slots m kept)
 
   -- on a part, which is tracked then
   pub pressed_on : (p : PointAtControl) (part : ControlPart) (t u : WindowManager V H) (m n : Controls (TakenControl W K)) (was : Activity) (begun : PixelSet) (h : ℕ) → h ≡ number_of part
       → ((o r : Opened) → LeavesControls control_loan loan (IsHighlighted (is_thumb part) p.control h) t o m u r n)
       → LeavesControls control_loan loan (IsTracked p (Some part)) t (opened was begun) m u (opened (TrackingControl (record { control = p.control; part = part; from = p.point })) begun) n
-  pressed_on p part t u m n was begun h is leaves kept slots whole controls =
+  pressed_on p part t u m n was begun h is leaves kept others slots whole controls =
       let before : Opened = opened was begun in
       let after : Opened = opened (TrackingControl (record { control = p.control; part = part; from = p.point })) begun in
-      let l = leaves before after kept slots whole controls in (
+      let l = leaves before after kept others slots whole controls in (
         l.0,
         l.1,
         (
           record { activity = refl; begun = refl },
-          subst (λ k. IsHighlighted (is_thumb part) p.control k (control_desk control_loan loan t before slots m kept) (control_desk control_loan loan u after slots n kept)) is l.2,
+          subst (λ k. IsHighlighted (is_thumb part) p.control k (control_desk control_loan loan others t before slots m kept) (control_desk control_loan loan others u after slots n kept)) is l.2,
         ),
       )
 
-  -- ---- a control that is tracked is there
+  -- ---- a control that is there, as one that is tracked
 
-  tracked_there : (k : TrackedControl) (t : WindowManager V H) (m : Controls (TakenControl W K)) (o : Option ℕ) → index_of k.control (records_of control_loan m) ≡ o → is_none o ≡ false → AreBeside control_loan loan t m → is_missing k.control.window (desk_of loan t []).windows ≡ false
-  tracked_there k t m None e there beside = absurd (false≢true (sym there))
-  tracked_there k t m (Some at) e there beside = by_item (slice_get (records_of control_loan m) at) refl
+  -- its window is there
+  pub window_there : (c : ControlOf) (t : WindowManager V H) (m : Controls (TakenControl W K)) (o : Option ℕ) → index_of c (records_of control_loan m) ≡ o → is_none o ≡ false → AreBeside control_loan loan t m → is_missing c.window (desk_of loan t []).windows ≡ false
+  window_there c t m None e there beside = absurd (false≢true (sym there))
+  window_there c t m (Some at) e there beside = by_item (slice_get (records_of control_loan m) at) refl
     where
-      by_item : (o : Option ControlRecord) → slice_get (records_of control_loan m) at ≡ o → is_missing k.control.window (desk_of loan t []).windows ≡ false
+      by_item : (o : Option ControlRecord) → slice_get (records_of control_loan m) at ≡ o → is_missing c.window (desk_of loan t []).windows ≡ false
       by_item (Some x) read =
-          ap (λ w. is_missing w (desk_of loan t []).windows) (sym (found_names k.control.window k.control.control at (records_of control_loan m) x e read).0)
+          ap (λ w. is_missing w (desk_of loan t []).windows) (sym (found_names c.window c.control at (records_of control_loan m) x e read).0)
           ∙ All-there (λ (y : ControlRecord). is_missing y.window (desk_of loan t []).windows ≡ false) at (records_of control_loan m) x read beside.whole.somewhere
-      by_item None read = absurd (none_there (position_there (is_control k.control.window k.control.control) (records_of control_loan m)) read)
+      by_item None read = absurd (none_there (position_there (is_control c.window c.control) (records_of control_loan m)) read)
         where
-          none_there : IfSome (index_of k.control (records_of control_loan m)) (λ i. option_map_or (is_control k.control.window k.control.control) (slice_get (records_of control_loan m) i) false ≡ true) → slice_get (records_of control_loan m) at ≡ None → ⊥
-          none_there h r = false≢true (sym (ap (λ q. option_map_or (is_control k.control.window k.control.control) q false) r) ∙ subst (λ q. IfSome q (λ i. option_map_or (is_control k.control.window k.control.control) (slice_get (records_of control_loan m) i) false ≡ true)) e h)
+          none_there : IfSome (index_of c (records_of control_loan m)) (λ i. option_map_or (is_control c.window c.control) (slice_get (records_of control_loan m) i) false ≡ true) → slice_get (records_of control_loan m) at ≡ None → ⊥
+          none_there h r = false≢true (sym (ap (λ q. option_map_or (is_control c.window c.control) q false) r) ∙ subst (λ q. IfSome q (λ i. option_map_or (is_control c.window c.control) (slice_get (records_of control_loan m) i) false ≡ true)) e h)
 
-  -- so it is not missing
+  -- so one that is tracked is not missing
   pub not_missing : (k : TrackedControl) (t : WindowManager V H) (m : Controls (TakenControl W K)) (e : Refusal) → IsTrackable (TrackingControl k) (records_of control_loan m) → AreBeside control_loan loan t m
       → first_refusal (missing_refusals k.control (desk_of loan t []) (records_of control_loan m)) ≡ Some e → ⊥
   not_missing k t m e trackable beside why =
       no (sym (none_missing k.control (desk_of loan t []) (records_of control_loan m) (is_missing k.control.window (desk_of loan t []).windows) (is_none (index_of k.control (records_of control_loan m)))
-      (tracked_there k t m (index_of k.control (records_of control_loan m)) refl trackable.1 beside) trackable.1) ∙ why)
+      (window_there k.control t m (index_of k.control (records_of control_loan m)) refl trackable.1 beside) trackable.1) ∙ why)
     where
       no : None ≡ Some e → ⊥
       no h = absurd (cc)
@@ -170,9 +173,9 @@ module _ {V : Type 0} {H : V → Type 0} (loan : Taken V H → Loan) {W : Type 0
       → part ≡ tracked_part k (control_of k.control (records_of control_loan m)) p → h ≡ highlight_of part
       → ((o r : Opened) → LeavesControls control_loan loan (IsHighlighted (is_thumb k.part) k.control h) t o m u r n)
       → LeavesControls control_loan loan (IsControlStep (Step p) (Ok (Part part))) t (opened (TrackingControl k) begun) m u (opened (TrackingControl k) begun) n
-  stepped k p part t u m n begun h on is lit leaves kept slots whole controls =
+  stepped k p part t u m n begun h on is lit leaves kept others slots whole controls =
       let same : Opened = opened (TrackingControl k) begun in
-      let l = leaves same same kept slots whole controls in (
+      let l = leaves same same kept others slots whole controls in (
         l.0,
         l.1,
         (
@@ -183,7 +186,7 @@ module _ {V : Type 0} {H : V → Type 0} (loan : Taken V H → Loan) {W : Type 0
             (
               is,
               record { activity = refl; begun = refl },
-              subst (λ g. IsHighlighted (is_thumb k.part) k.control g (control_desk control_loan loan t same slots m kept) (control_desk control_loan loan u same slots n kept)) lit l.2,
+              subst (λ g. IsHighlighted (is_thumb k.part) k.control g (control_desk control_loan loan others t same slots m kept) (control_desk control_loan loan others u same slots n kept)) lit l.2,
             ),
           ),
         ),
@@ -193,8 +196,8 @@ module _ {V : Type 0} {H : V → Type 0} (loan : Taken V H → Loan) {W : Type 0
       → part ≡ tracked_part k (control_of k.control (records_of control_loan m)) p
       → LeavesControls control_loan loan (IsShownAnew k.control (released k p part)) t (opened (TrackingControl k) begun) m u (opened Idle begun) n
       → LeavesControls control_loan loan (IsControlStep (End p) (Ok (Part part))) t (opened (TrackingControl k) begun) m u (opened Idle begun) n
-  let_go k p part t u m n begun on is leaves kept slots whole controls =
-      let l = leaves kept slots whole controls in
+  let_go k p part t u m n begun on is leaves kept others slots whole controls =
+      let l = leaves kept others slots whole controls in
       (l.0, l.1, (near p on, (part, refl, (is, record { activity = refl; begun = refl }, l.2))))
 
   pub let_go_of : (k : TrackedControl) (p : Point) (part : Option ControlPart) (t u : WindowManager V H) (m n : Controls (TakenControl W K)) (begun : PixelSet) (was : Activity) → was ≡ TrackingControl k → in_plane p ≡ true

@@ -34,6 +34,7 @@ use Rattle.control_mgr.specs.WholeControls.{AreBeside, AreWholeControls, LeavesC
 use Rattle.control_mgr.proofs.Edited.{All-there, edit_alike, edit_twice, there_edited}
 use Rattle.control_mgr.proofs.Settled.{changed_settled, retold, whole_put}
 use Rattle.control_mgr.proofs.Places.{IsThere, ItsLayer, layer_there, names, read_is, there_is, within}
+use Rattle.control_mgr.proofs.Reshown.{alone, redrawn_among}
 
 -- ---- what the list has after the setters
 
@@ -107,17 +108,18 @@ module _ {W : Type 0} {K : W → Type 0} (control_loan : TakenControl W K → Co
 
     pub put_shown : (c : ControlOf) (s : State) (t u : WindowManager V H) (m n : Controls (TakenControl W K)) (spot : Spot) → IsSpotOf loan control_loan c t m spot
         → IsChangedAt (with_state s) spot.control (records_of control_loan m) (records_of control_loan n) → n.list.next ≡ m.list.next
-        → (index : ℕ) → index ≡ place_among spot.control m.list.controls.items → IsRedrawnFor spot.window index (controls_show (records_of control_loan n)) t u
+        → (index : ℕ) → index ≡ place_among spot.control m.list.controls.items → IsRedrawnFor spot.window index (alone (records_of control_loan n)) t u
         → (o r : Opened) → LeavesControls control_loan loan (IsShownAnew c (with_state s)) t o m u r n
-    put_shown c s t u m n spot is changed next index index_is redrawn o r kept slots whole controls =
+    put_shown c s t u m n spot is changed next index index_is redrawn o r kept others slots whole controls =
         let windows = there_is t.windows.records.items spot.window is.window.0 in
         let w : Window V H = windows.item in
         let lies : IsWindowAt t.windows.records.items spot.window w = read_is t.windows.records.items spot.window w windows.there in
         let its : ItsLayer loan control_loan c t m spot is w = layer_there loan control_loan c t m spot is w lies controls.joined in
         let there : its.layer ≡ get_or w.layers.layers index its.layer = subst (λ n. its.layer ≡ get_or w.layers.layers n its.layer) (place_among-seen control_loan spot.control m.list.controls.items ∙ sym index_is) (read_is w.layers.layers _ its.layer its.there) in
-        let leaves = redrawn w lies its.layer there (controls_show (records_of control_loan m)) slots whole in
+        let leaves = redrawn w lies its.layer there (controls_show others (records_of control_loan m)) slots whole in
         let serial : w.serial ≡ c.window = is.window.1 w lies in
         let named : its.layer.part ≡ part.Control c.control = its.is_layer.part ∙ ap (λ k. part.Control k) (names loan control_loan c t m spot is).1 in
+        let was = state_showing (controls_show others (records_of control_loan m)) (state_of loan t slots) in
         let windows_are : (desk_of loan u []).windows ≡ (desk_of loan t []).windows = ap (λ (d : FullDesk). d.windows) leaves.1.desk in (
           leaves.0,
           subst (λ ws. AreWholeControls ws (controls_state control_loan n kept)) (sym windows_are)
@@ -131,8 +133,10 @@ module _ {W : Type 0} {K : W → Type 0} (control_loan : TakenControl W K → Co
               changed = changed;
               state = ap (λ k. record { controls = records_of control_loan n; next = k; stock = kept }) next;
             };
-            redrawn = subst (λ k. IsLayerRedrawn k (part.Control c.control) (state_showing (controls_show (records_of control_loan m)) (state_of loan t slots)) (state_showing (controls_show (records_of control_loan n)) (state_of loan u slots))) serial
-                (subst (λ q. IsLayerRedrawn w.serial q (state_showing (controls_show (records_of control_loan m)) (state_of loan t slots)) (state_showing (controls_show (records_of control_loan n)) (state_of loan u slots))) named leaves.1);
+            redrawn = redrawn_among others (records_of control_loan n) (state_of loan u slots) leaves.0.sound.distinct c.window was (part.Control c.control) refl
+                (subst (λ k. IsLayerRedrawn k (part.Control c.control) was (state_showing (alone (records_of control_loan n)) (state_of loan u slots))) serial
+                (subst (λ q. IsLayerRedrawn w.serial q was (state_showing (alone (records_of control_loan n)) (state_of loan u slots))) named leaves.1));
+            others = refl;
             shows = refl;
           },
         )

@@ -3,9 +3,11 @@ use Rattle.std.proofs.Common.{◌≡◌, ℕ, Bool, true, false, not, ◌&&◌, 
 use Rattle.std.specs.Prelude.{IfSome, int_le, slice_get}
 use Rattle.std.specs.Option.{option_and_then}
 use Rattle.tb_geom.specs.declared.refusal.Refusal.TheVariants.{OutOfRange, TooLong}
+use Rattle.tb_geom.specs.Points.{PixelSet}
 use Rattle.tb_geom.specs.Refusals.{first_refusal}
 use Rattle.control_values.specs.Settings.{Setting, is_in_range}
 use Rattle.control_list.specs.Lists.{with_highlight, with_title}
+use Rattle.def_iface.specs.declared.part.Part.{Part}
 use Rattle.def_iface.specs.declared.taken.Taken.{Taken}
 use Rattle.def_iface.specs.declared.taken_control.TakenControl.{TakenControl}
 use Rattle.def_iface.specs.ControlMeaning.{ControlLoan}
@@ -26,7 +28,7 @@ use Rattle.control_mgr.specs.ControlSteps.{IsControlEffect, IsControlStep, IsSet
 use Rattle.control_mgr.specs.Spots.{IsSpotOf, with_state}
 use Rattle.control_mgr.specs.WholeControls.{LeavesControls, control_desk, controls_state, records_of}
 use Rattle.control_mgr.proofs.Places.{record_there}
-use Rattle.control_mgr.proofs.Steps.{anew_alike, desk_seen, one_fails, one_holds, others}
+use Rattle.control_mgr.proofs.Steps.{anew_alike, desk_seen, one_fails, one_holds, other_reasons}
 
 -- the state of a control
 abbrev pub state_of_control : ControlRecord → State
@@ -71,14 +73,14 @@ module _ {V : Type 0} {H : V → Type 0} (loan : Taken V H → Loan) {W : Type 0
 
   -- a number that fits refuses nothing, where the control is there, and one that does not is refused
   pub number_fits : (fits : Bool) → fits ≡ true → first_refusal (missing_refusals c (desk_of loan t []) (records_of control_loan m) ++ (not fits, OutOfRange) ∷ []) ≡ None
-  number_fits fits e = others loan control_loan c t m s is ((not fits, OutOfRange) ∷ []) ∙ one_fails (not fits) OutOfRange (ap not e)
+  number_fits fits e = other_reasons loan control_loan c t m s is ((not fits, OutOfRange) ∷ []) ∙ one_fails (not fits) OutOfRange (ap not e)
 
   pub number_refused : (fits : Bool) → fits ≡ false → first_refusal (missing_refusals c (desk_of loan t []) (records_of control_loan m) ++ (not fits, OutOfRange) ∷ []) ≡ Some OutOfRange
-  number_refused fits e = others loan control_loan c t m s is ((not fits, OutOfRange) ∷ []) ∙ one_holds (not fits) OutOfRange (ap not e)
+  number_refused fits e = other_reasons loan control_loan c t m s is ((not fits, OutOfRange) ∷ []) ∙ one_holds (not fits) OutOfRange (ap not e)
 
   -- so of a title
   pub title_fits : (long : Bool) → long ≡ false → first_refusal (missing_refusals c (desk_of loan t []) (records_of control_loan m) ++ (long, TooLong) ∷ []) ≡ None
-  title_fits long e = others loan control_loan c t m s is ((long, TooLong) ∷ []) ∙ one_fails long TooLong e
+  title_fits long e = other_reasons loan control_loan c t m s is ((long, TooLong) ∷ []) ∙ one_fails long TooLong e
 
   pub minimum_judged : (k : ℤ) (was : State) → IfSome (slice_get (records_of control_loan m) s.control) (λ x. was ≡ state_of_control x)
       → may_be_minimum k (control_of c (records_of control_loan m)) ≡ (is_in_range k && int_le k was.values.maximum)
@@ -94,12 +96,12 @@ module _ {V : Type 0} {H : V → Type 0} (loan : Taken V H → Loan) {W : Type 0
 
   -- a control that was given a state was set so, where the state agrees
   pub set_done : (u : WindowManager V H) (n : Controls (TakenControl W K)) (call : ControlCall) (f g : ControlRecord → ControlRecord) (o : Opened)
-      → ((slots : List SlotView) (kept : List ControlSlot) → first_refusal (control_refusals call (desk_seen loan control_loan t slots m) (controls_state control_loan m kept)) ≡ None)
+      → ((others : List ℕ → Part → PixelSet) (slots : List SlotView) (kept : List ControlSlot) → first_refusal (control_refusals call (desk_seen loan control_loan others t slots m) (controls_state control_loan m kept)) ≡ None)
       → ((x : ControlRecord) → slice_get (records_of control_loan m) s.control ≡ Some x → f x ≡ g x)
       → ((before after : ControlDesk) → IsSet c g Done before after → IsControlEffect call Done before after)
       → LeavesControls control_loan loan (IsShownAnew c f) t o m u o n → LeavesControls control_loan loan (IsControlStep call (Ok Done)) t o m u o n
-  set_done u n call f g o none agrees effect leaves kept slots whole controls =
-      let l = leaves kept slots whole controls in
-      let before : ControlDesk = control_desk control_loan loan t o slots m kept in
-      let after : ControlDesk = control_desk control_loan loan u o slots n kept in
-      (l.0, l.1, (none slots kept, effect before after (refl, record { activity = refl; begun = refl }, anew_alike c f g before after s.control is.control agrees l.2)))
+  set_done u n call f g o none agrees effect leaves kept others slots whole controls =
+      let l = leaves kept others slots whole controls in
+      let before : ControlDesk = control_desk control_loan loan others t o slots m kept in
+      let after : ControlDesk = control_desk control_loan loan others u o slots n kept in
+      (l.0, l.1, (none others slots kept, effect before after (refl, record { activity = refl; begun = refl }, anew_alike c f g before after s.control is.control agrees l.2)))

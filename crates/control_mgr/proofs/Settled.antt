@@ -29,7 +29,7 @@ use Rattle.control_mgr.specs.Laying.{IsShapeOf}
 use Rattle.control_mgr.specs.Spots.{with_lie, with_state}
 use Rattle.control_mgr.specs.Settled.{AreSettled, IsSettledControl}
 use Rattle.control_mgr.specs.WholeControls.{AreApart, AreWholeControls, slots_of}
-use Rattle.control_mgr.proofs.Edited.{All-edit, All-there, any-edit, edit_alike, map-edit, zip_edit}
+use Rattle.control_mgr.proofs.Edited.{All-edit, All-there, AreNoControls, any-edit, begin_edit, edit_alike, map-edit}
 
 -- ---- one control
 
@@ -118,11 +118,11 @@ record_with-layers s t ls (w ∷ ws) = by_test (w.serial == s) (record_with-laye
 pub missing-layers : (s t : ℕ) (ls : List Layer) (ws : List WindowRecord) → is_missing t (map (with_layers_of s ls) ws) ≡ is_missing t ws
 missing-layers s t ls ws = record_with-layers s t ls ws
 
--- the layers of each window are its controls
+-- the layers of each window begin with its controls', and no other is a control's
 abbrev pub AreJoined : List ControlRecord → List WindowRecord → Type 0
 AreJoined cs ws = All (λ w. AreLayersOf (controls_of w.serial cs) w.layers) ws
 
--- where a window's layers become those of its controls as they are now, and those of other windows stay
+-- where a window's layers come to begin with those of its controls as they are now, and those of other windows stay
 pub joined_laid : (s : ℕ) (ls : List Layer) (cs ds : List ControlRecord) (ws : List WindowRecord) → AreLayersOf (controls_of s ds) ls
     → ((t : ℕ) → (t ≡ s → ⊥) → controls_of t ds ≡ controls_of t cs) → AreJoined cs ws → AreJoined ds (map (with_layers_of s ls) ws)
 joined_laid s ls cs ds ws new others joined =
@@ -149,7 +149,7 @@ joined_edit g window at cs same ws joined =
     by_test : (w : WindowRecord) → AreLayersOf (controls_of w.serial cs) w.layers → (b : Bool) → is_in_at w.serial at cs ≡ b → AreLayersOf (controls_of w.serial (edit_at g at cs)) w.layers
     by_test w h true e =
         subst (λ xs. AreLayersOf xs w.layers) (sym (controls_of-edit_at g window w.serial at cs e))
-        (zip_edit IsLayerOf g _ (controls_of w.serial cs) w.layers h (λ c l r. same c l (sym (slice_get-controls_of w.serial at cs e) ∙ r)))
+        (begin_edit IsLayerOf AreNoControls g _ (controls_of w.serial cs) w.layers h (λ c l r. same c l (sym (slice_get-controls_of w.serial at cs e) ∙ r)))
     by_test w h false e = subst (λ xs. AreLayersOf xs w.layers) (sym (controls_of-edit_at_other g window w.serial at cs e)) h
 
 -- ---- the whole

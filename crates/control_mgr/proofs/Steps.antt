@@ -3,7 +3,9 @@ use Rattle.std.proofs.Common.{◌≡◌, inl, inr, ℕ, Bool, true, false, cond,
 use Rattle.std.specs.Prelude.{is_none, slice_get}
 use Rattle.tb_geom.specs.declared.refusal.Refusal.{Refusal}
 use Rattle.tb_geom.specs.declared.refusal.Refusal.TheVariants.{NoMemory, NoSuchControl, NoSuchWindow}
+use Rattle.tb_geom.specs.Points.{PixelSet}
 use Rattle.tb_geom.specs.Refusals.{first_refusal}
+use Rattle.def_iface.specs.declared.part.Part.{Part}
 use Rattle.def_iface.specs.declared.taken.Taken.{Taken}
 use Rattle.def_iface.specs.declared.taken_control.TakenControl.{TakenControl}
 use Rattle.def_iface.specs.ControlMeaning.{ControlLoan}
@@ -64,40 +66,41 @@ pub none_missing : (c : ControlOf) (desk : FullDesk) (cs : List ControlRecord) (
 none_missing c desk cs gone none e f = first_fails gone NoSuchWindow ((none, NoSuchControl) ∷ []) e ∙ one_fails none NoSuchControl f
 
 module _ {V : Type 0} {H : V → Type 0} (loan : Taken V H → Loan) {W : Type 0} {K : W → Type 0} (control_loan : TakenControl W K → ControlLoan) where
-  -- the desk of windows and controls, as refusals and steps see it
-  abbrev pub desk_seen : WindowManager V H → List SlotView → Controls (TakenControl W K) → FullDesk
-  desk_seen t slots m = desk_showing (controls_show (records_of control_loan m)) (desk_of loan t slots)
+  -- the desk of windows and controls, as refusals and steps see it, where other layers show this
+  abbrev pub desk_seen : (List ℕ → Part → PixelSet) → WindowManager V H → List SlotView → Controls (TakenControl W K) → FullDesk
+  desk_seen others t slots m = desk_showing (controls_show others (records_of control_loan m)) (desk_of loan t slots)
 
-  pub unchanged : (t : WindowManager V H) (o : Opened) (slots : List SlotView) (m : Controls (TakenControl W K)) (kept : List ControlSlot)
-      → IsControlDeskUnchanged (control_desk control_loan loan t o slots m kept) (control_desk control_loan loan t o slots m kept)
-  unchanged t o slots m kept = record {
+  pub unchanged : (others : List ℕ → Part → PixelSet) (t : WindowManager V H) (o : Opened) (slots : List SlotView) (m : Controls (TakenControl W K)) (kept : List ControlSlot)
+      → IsControlDeskUnchanged (control_desk control_loan loan others t o slots m kept) (control_desk control_loan loan others t o slots m kept)
+  unchanged others t o slots m kept = record {
     desk = record { windows = record { desk = refl; stale = λ p on. refl; image = λ p on. refl }; activity = refl; begun = refl };
     controls = refl;
+    others = refl;
   }
 
   -- a refused call changes nothing
   pub refused : (call : ControlCall) (e : Refusal) (t : WindowManager V H) (o : Opened) (m : Controls (TakenControl W K))
-      → ((slots : List SlotView) (kept : List ControlSlot) → first_refusal (control_refusals call (desk_seen t slots m) (controls_state control_loan m kept)) ≡ Some e)
+      → ((others : List ℕ → Part → PixelSet) (slots : List SlotView) (kept : List ControlSlot) → first_refusal (control_refusals call (desk_seen others t slots m) (controls_state control_loan m kept)) ≡ Some e)
       → LeavesControls control_loan loan (IsControlStep call (Err e)) t o m t o m
-  refused call e t o m why kept slots windows controls = (windows, controls, (inl (why slots kept), unchanged t o slots m kept))
+  refused call e t o m why kept others slots windows controls = (windows, controls, (inl (why others slots kept), unchanged others t o slots m kept))
 
   pub refused_by : (call : ControlCall) (result : Result ControlReply Refusal) (e : Refusal) (t : WindowManager V H) (o : Opened) (m : Controls (TakenControl W K)) → result ≡ Err e
-      → ((slots : List SlotView) (kept : List ControlSlot) → first_refusal (control_refusals call (desk_seen t slots m) (controls_state control_loan m kept)) ≡ Some e)
+      → ((others : List ℕ → Part → PixelSet) (slots : List SlotView) (kept : List ControlSlot) → first_refusal (control_refusals call (desk_seen others t slots m) (controls_state control_loan m kept)) ≡ Some e)
       → LeavesControls control_loan loan (IsControlStep call result) t o m t o m
   refused_by call result e t o m is why = subst (λ r. LeavesControls control_loan loan (IsControlStep call r) t o m t o m) (sym is) (refused call e t o m why)
 
   -- so is one for which there was no memory
   pub short : (call : ControlCall) (e : Refusal) (t : WindowManager V H) (o : Opened) (m : Controls (TakenControl W K)) → may_control_grow call ≡ true → e ≡ NoMemory
-      → ((slots : List SlotView) (kept : List ControlSlot) → first_refusal (control_refusals call (desk_seen t slots m) (controls_state control_loan m kept)) ≡ None)
+      → ((others : List ℕ → Part → PixelSet) (slots : List SlotView) (kept : List ControlSlot) → first_refusal (control_refusals call (desk_seen others t slots m) (controls_state control_loan m kept)) ≡ None)
       → LeavesControls control_loan loan (IsControlStep call (Err e)) t o m t o m
-  short call e t o m grows is why kept slots windows controls = (windows, controls, (inr (why slots kept, (grows, is)), unchanged t o slots m kept))
+  short call e t o m grows is why kept others slots windows controls = (windows, controls, (inr (why others slots kept, (grows, is)), unchanged others t o slots m kept))
 
   -- a call that tells something
   pub told : (call : ControlCall) (answer : ControlReply) (t : WindowManager V H) (o : Opened) (m : Controls (TakenControl W K))
-      → ((slots : List SlotView) (kept : List ControlSlot) → first_refusal (control_refusals call (desk_seen t slots m) (controls_state control_loan m kept)) ≡ None)
-      → ((slots : List SlotView) (kept : List ControlSlot) → IsControlEffect call answer (control_desk control_loan loan t o slots m kept) (control_desk control_loan loan t o slots m kept))
+      → ((others : List ℕ → Part → PixelSet) (slots : List SlotView) (kept : List ControlSlot) → first_refusal (control_refusals call (desk_seen others t slots m) (controls_state control_loan m kept)) ≡ None)
+      → ((others : List ℕ → Part → PixelSet) (slots : List SlotView) (kept : List ControlSlot) → IsControlEffect call answer (control_desk control_loan loan others t o slots m kept) (control_desk control_loan loan others t o slots m kept))
       → LeavesControls control_loan loan (IsControlStep call (Ok answer)) t o m t o m
-  told call answer t o m why effect kept slots windows controls = (windows, controls, (why slots kept, effect slots kept))
+  told call answer t o m why effect kept others slots windows controls = (windows, controls, (why others slots kept, effect others slots kept))
 
   -- a control that is missing
   pub named_missing : (c : ControlOf) (t : WindowManager V H) (m : Controls (TakenControl W K)) (ys : List (Bool × Refusal)) (e : Refusal)
@@ -111,8 +114,8 @@ module _ {V : Type 0} {H : V → Type 0} (loan : Taken V H → Loan) {W : Type 0
     nothing_missing = none_missing c (desk_of loan t []) (records_of control_loan m) _ (is_none (index_of c (records_of control_loan m))) is.there (ap is_none is.control)
 
     -- where nothing is missing the other reasons are looked at
-    pub others : (ys : List (Bool × Refusal)) → first_refusal (missing_refusals c (desk_of loan t []) (records_of control_loan m) ++ ys) ≡ first_refusal ys
-    others ys = first_behind (missing_refusals c (desk_of loan t []) (records_of control_loan m)) ys nothing_missing
+    pub other_reasons : (ys : List (Bool × Refusal)) → first_refusal (missing_refusals c (desk_of loan t []) (records_of control_loan m) ++ ys) ≡ first_refusal ys
+    other_reasons ys = first_behind (missing_refusals c (desk_of loan t []) (records_of control_loan m)) ys nothing_missing
 
 -- ---- controls shown anew
 
@@ -128,6 +131,7 @@ anew_alike c f g before after at found same anew = record {
     state = anew.changed.state;
   };
   redrawn = anew.redrawn;
+  others = anew.others;
   shows = anew.shows;
 }
   where

@@ -52,10 +52,10 @@ abbrev pub control_bit : List ℕ → Option ControlRecord → PixelSet
 control_bit font None p = false
 control_bit font (Some c) p = c.definition.definition.picture no_control_news font (minus p c.place)
 
--- what these controls show in a font
-abbrev pub controls_show : List ControlRecord → List ℕ → Part → PixelSet
-controls_show cs font (part.Control n) p = control_bit font (with_serial n cs) p
-controls_show cs font _ p = false
+-- what these controls show in a font, and other layers this
+abbrev pub controls_show : (List ℕ → Part → PixelSet) → List ControlRecord → List ℕ → Part → PixelSet
+controls_show others cs font (part.Control n) p = control_bit font (with_serial n cs) p
+controls_show others cs font q p = others font q p
 
 -- ---- the desk
 
@@ -63,12 +63,15 @@ controls_show cs font _ p = false
 pub record ControlDesk : Type 0 where
   pub desk : DeskState
   pub controls : ControlsState
+  -- what layers that are no controls' show in a font
+  pub others : List ℕ → Part → PixelSet
 
--- what its windows show of controls is what these show
+-- its windows show of controls what these show, and of other layers what is said of those
 abbrev pub ShowsControls : ControlDesk → Type 0
-ShowsControls d = d.desk.windows.desk.shows ≡ controls_show d.controls.controls d.desk.windows.desk.font
+ShowsControls d = d.desk.windows.desk.shows ≡ controls_show d.others d.controls.controls d.desk.windows.desk.font
 
 -- nothing changed
 pub record IsControlDeskUnchanged (before after : ControlDesk) : Type 0 where
   pub desk : IsDeskUnchanged before.desk after.desk
   pub controls : after.controls ≡ before.controls
+  pub others : after.others ≡ before.others

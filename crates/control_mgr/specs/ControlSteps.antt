@@ -1,6 +1,6 @@
 -- One step of a call about controls: what it leaves, and what it answers.
-use Rattle.std.specs.Prelude.{◌≡◌, ◌==◌, ℕ, ℤ, pos, Bool, true, false, ◌&&◌, if◌then◌else◌, List, [], ◌∷◌, ◌++◌, Option, None, Some, Result, slice_get, is_some}
-use Rattle.std.specs.List.{AllZip, remove}
+use Rattle.std.specs.Prelude.{◌≡◌, ◌==◌, ℕ, ℤ, pos, Bool, true, false, not, ◌&&◌, if◌then◌else◌, List, [], ◌∷◌, ◌++◌, All, Option, None, Some, Result, slice_get, is_some}
+use Rattle.std.specs.List.{filter, remove}
 use Rattle.std.specs.Option.{option_map, option_map_or, option_and_then}
 use Rattle.tb_geom.specs.declared.point.Point.{Point}
 use Rattle.tb_geom.specs.declared.refusal.Refusal.{Refusal}
@@ -12,7 +12,7 @@ use Rattle.control_values.specs.declared.part.ControlPart.{ControlPart}
 use Rattle.control_values.specs.declared.part.ControlPart.TheVariants.{Thumb}
 use Rattle.control_values.specs.Parts.{number_of}
 use Rattle.control_values.specs.Settings.{Setting, settled}
-use Rattle.control_list.specs.Lists.{controls_of, edit_at, serial_after, with_highlight, with_place, with_shown, with_size, with_title}
+use Rattle.control_list.specs.Lists.{controls_of, edit_at, serial_after, with_highlight, with_place, with_shown, with_size, with_title, with_values}
 use Rattle.def_iface.specs.declared.part.Part.{Part}
 use Rattle.def_iface.specs.declared.part.Part.TheVariants as part
 use Rattle.def_iface.specs.declared.window_def.Stage.TheVariants.{Closed}
@@ -34,7 +34,10 @@ use Rattle.desk_call.specs.declared.control.ControlReply.TheVariants as reply
 use Rattle.desk_call.specs.declared.control.FoundControl.{FoundControl}
 use Rattle.desk_call.specs.declared.control.NewControl.{NewControl}
 use Rattle.desk_call.specs.declared.control.PointAtControl.{PointAtControl}
+use Rattle.desk_call.specs.declared.update.Layers.TheVariants.{Controls}
 use Rattle.desk_call.specs.Steps.{IsStepOf}
+use Rattle.vis_update.specs.Records.{WindowRecord}
+use Rattle.window_paint.specs.Kinds.{is_of}
 use Rattle.window_mgr.specs.DeskStates.{SameActivity}
 use Rattle.window_mgr.specs.Finding.{record_with}
 use Rattle.window_mgr.specs.FullDesk.{FullDesk, layered_desk}
@@ -52,9 +55,15 @@ pub record IsLayerOf (c : ControlRecord) (l : Layer) : Type 0 where
   pub region : (p : Point) → holds l.region p ≡ c.definition.definition.region c.size (minus p c.place)
   pub bounds : l.bounds ≡ moved_rect (c.definition.definition.bounds c.size) c.place.h c.place.v
 
--- the layers are these controls, from front to back the oldest first
+-- the layers begin with these controls', from front to back the oldest first, and no other is a control's
 abbrev pub AreLayersOf : List ControlRecord → List Layer → Type 0
-AreLayersOf cs ls = AllZip IsLayerOf cs ls
+AreLayersOf [] ls = All (λ l. is_of Controls l.part ≡ false) ls
+AreLayersOf (c ∷ cs) [] = ⊥
+AreLayersOf (c ∷ cs) (l ∷ ls) = IsLayerOf c l × AreLayersOf cs ls
+
+-- the layers behind them
+abbrev pub behind_controls : List Layer → List Layer
+behind_controls ls = filter (λ l. not (is_of Controls l.part)) ls
 
 -- ---- what is common to several calls
 
@@ -74,11 +83,16 @@ pub record IsChangedTo (c : ControlOf) (f : ControlRecord → ControlRecord) (be
   pub changed : IsChangedAt f at before.controls.controls controls
   pub state : after.controls ≡ record before.controls { controls = controls }
 
--- the window's layers are its controls, as they are now, and one of them was drawn afresh, if one is named
+-- the window's layers begin with its controls', as these are now, and one of them was drawn afresh, if one is named
 pub record AreControlsLaid (window : ℕ) (afresh : Option Part) (before after : ControlDesk) : Type 0 where
   pub layers : List Layer
   pub joined : AreLayersOf (controls_of window after.controls.controls) layers
+  -- and those behind them are as they were
+  pub others : (w : WindowRecord) → record_with window before.desk.windows.desk.windows ≡ Some w
+      → behind_controls layers ≡ behind_controls w.layers
   pub set : AreLayersSet window layers afresh before.desk.windows after.desk.windows
+  -- what layers show that are no controls' is as it was
+  pub elsewhere : after.others ≡ before.others
   pub shows : ShowsControls after
 
 -- the control was changed so, and all that it then owns was drawn
@@ -91,17 +105,28 @@ pub record IsControlLaid (c : ControlOf) (f : ControlRecord → ControlRecord) (
 pub record IsShownAnew (c : ControlOf) (f : ControlRecord → ControlRecord) (before after : ControlDesk) : Type 0 where
   pub changed : IsChangedTo c f before after
   pub redrawn : IsLayerRedrawn c.window (part.Control c.control) before.desk.windows after.desk.windows
+  pub others : after.others ≡ before.others
   pub shows : ShowsControls after
-
--- what is open is this now, and what was to be redrawn when it began is as it was
-pub record Opens (now : Activity) (before after : ControlDesk) : Type 0 where
-  pub activity : after.desk.activity ≡ now
-  pub begun : after.desk.begun ≡ before.desk.begun
 
 -- nothing but what is open changed
 pub record SameShown (before after : ControlDesk) : Type 0 where
   pub windows : after.desk.windows ≡ before.desk.windows
   pub controls : after.controls ≡ before.controls
+  pub others : after.others ≡ before.others
+
+-- the control that stands here, if one does, got this setting and was shown anew
+abbrev pub IsSettingPutAt : Option ℕ → ControlOf → Setting → ControlDesk → ControlDesk → Type 0
+IsSettingPutAt None c setting before after = SameShown before after
+IsSettingPutAt (Some at) c setting before after = IsShownAnew c (with_values setting) before after
+
+-- so did the control, if it is there
+abbrev pub IsSettingPut : ControlOf → Setting → ControlDesk → ControlDesk → Type 0
+IsSettingPut c setting before after = IsSettingPutAt (index_of c before.controls.controls) c setting before after
+
+-- what is open is this now, and what was to be redrawn when it began is as it was
+pub record Opens (now : Activity) (before after : ControlDesk) : Type 0 where
+  pub activity : after.desk.activity ≡ now
+  pub begun : after.desk.begun ≡ before.desk.begun
 
 -- ---- controls that are made and ended
 
@@ -149,6 +174,15 @@ pub record IsControlDisposed (c : ControlOf) (before after : ControlDesk) : Type
   pub controls : after.controls ≡ record before.controls { controls = remove before.controls.controls at; stock = after.controls.stock }
   pub laid : AreControlsLaid c.window None before after
   pub activity : SameActivity before.desk after.desk
+
+-- the control that stands here, if one does, was disposed of
+abbrev pub IsEndedAt : Option ℕ → ControlOf → ControlDesk → ControlDesk → Type 0
+IsEndedAt None c before after = after ≡ before
+IsEndedAt (Some at) c before after = IsControlDisposed c before after
+
+-- so was the control, if it is there
+abbrev pub IsEndedIfThere : ControlOf → ControlDesk → ControlDesk → Type 0
+IsEndedIfThere c before after = IsEndedAt (index_of c before.controls.controls) c before after
 
 -- ---- what is asked
 

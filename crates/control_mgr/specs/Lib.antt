@@ -9,5 +9,7 @@ pub mod Settled
 pub mod WholeControls
 pub mod Spots
 pub mod Laying
+pub mod Planned
 pub mod Making
+pub mod Ending
 pub mod ControlClosing

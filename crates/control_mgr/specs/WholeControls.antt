@@ -1,9 +1,11 @@
 -- What holds of the controls of a desk and of their stock between calls, and their state as plain data.
 use Rattle.std.specs.Prelude.{◌≡◌, ℕ, true, false, List, [], ◌∷◌, map, All, is_none}
 use Rattle.std.specs.List.{list_any}
+use Rattle.tb_geom.specs.Points.{PixelSet}
 use Rattle.tb_geom.specs.Rects.{in_plane}
 use Rattle.control_list.specs.Lists.{are_before, controls_of, has_serial}
 use Rattle.control_list.specs.Seen.{all_seen}
+use Rattle.def_iface.specs.declared.part.Part.{Part}
 use Rattle.def_iface.specs.declared.taken.Taken.{Taken}
 use Rattle.def_iface.specs.declared.taken_control.TakenControl.{TakenControl}
 use Rattle.def_iface.specs.declared.window_def.Stage.TheVariants.{Live}
@@ -37,7 +39,8 @@ abbrev pub slots_of : List ControlRecord → List ℕ
 slots_of cs = map (λ c. c.definition.slot) cs
 
 -- the controls of these windows, between calls: settled, each of another serial that was given before, in a window that is
--- there; the layers of each window are its controls; and the empty slots of the stock are those of their definitions
+-- there; the layers of each window begin with its controls', and no other is a control's; and the empty slots of the stock are
+-- those of their definitions
 pub record AreWholeControls (windows : List WindowRecord) (s : ControlsState) : Type 0 where
   pub settled : AreSettled s.controls
   pub apart : AreApart s.controls
@@ -62,21 +65,24 @@ module _ {W : Type 0} {K : W → Type 0} (control_loan : TakenControl W K → Co
 
   -- `loan` says what a window's definition that was taken means
   module _ {V : Type 0} {H : V → Type 0} (loan : Taken V H → Loan) where
-    -- windows and controls with what is open, as a desk
-    abbrev pub control_desk : WindowManager V H → Opened → List SlotView → Controls (TakenControl W K) → List ControlSlot → ControlDesk
-    control_desk t o slots m kept = record {
-      desk = desk_with o (state_showing (controls_show (records_of m)) (state_of loan t slots));
+    -- windows and controls with what is open, as a desk where other layers show this
+    abbrev pub control_desk : (List ℕ → Part → PixelSet) → WindowManager V H → Opened → List SlotView → Controls (TakenControl W K)
+        → List ControlSlot → ControlDesk
+    control_desk others t o slots m kept = record {
+      desk = desk_with o (state_showing (controls_show others (records_of m)) (state_of loan t slots));
       controls = controls_state m kept;
+      others = others;
     }
 
-    -- over any slots over which the windows are whole, and over these of the controls' stock, both are whole afterwards, and
-    -- together they are one step of the desk
+    -- whatever other layers show, over any slots over which the windows are whole, and over these of the controls' stock, both
+    -- are whole afterwards, and together they are one step of the desk
     abbrev pub LeavesOver : List ControlSlot → List ControlSlot → (ControlDesk → ControlDesk → Type 0)
         → WindowManager V H → Opened → Controls (TakenControl W K) → WindowManager V H → Opened → Controls (TakenControl W K) → Type 0
-    LeavesOver kept left step old before m new after n = (slots : List SlotView) → IsWholeManager loan old slots
+    LeavesOver kept left step old before m new after n = (others : List ℕ → Part → PixelSet) (slots : List SlotView)
+        → IsWholeManager loan old slots
         → AreWholeControls (desk_of loan old []).windows (controls_state m kept)
         → IsWholeManager loan new slots × AreWholeControls (desk_of loan new []).windows (controls_state n left)
-        × step (control_desk old before slots m kept) (control_desk new after slots n left)
+        × step (control_desk others old before slots m kept) (control_desk others new after slots n left)
 
     -- so over any slots of the controls' stock, which a call leaves alone
     abbrev pub LeavesControls : (ControlDesk → ControlDesk → Type 0)

@@ -1,12 +1,14 @@
 //! What is asked about controls.
-ghost use Rattle.std.specs.Prelude.{◌≡◌, ◌<◌, [], length, true, slice_get, IfSome, MatchResult};
+ghost use Rattle.std.specs.Prelude.{◌≡◌, ◌<◌, [], length, true, slice_get, is_some, IfSome, MatchResult};
 ghost use Rattle.tb_geom.specs.Rects.{in_plane};
+ghost use Rattle.control_list.specs.Lists.{count_of};
 ghost use Rattle.control_list.specs.Seen.{seen};
 ghost use Rattle.desk_call.specs.declared.control.ControlCall.TheVariants as asks;
 ghost use Rattle.window_mgr.specs.DeskStates.{Opened};
 ghost use Rattle.window_mgr.specs.Edits.{IsWindowAt};
 ghost use Rattle.window_mgr.specs.Kept.{IsKept};
 ghost use Rattle.window_mgr.specs.Records.{desk_of};
+ghost use Rattle.control_mgr.specs.ControlDesks.{index_of};
 ghost use Rattle.control_mgr.specs.ControlSteps.{IsControlStep, found_from, found_in};
 ghost use Rattle.control_mgr.specs.Judged.{is_within, part_tested, part_under};
 ghost use Rattle.control_mgr.specs.Settled.{AreSettled, IsSettledControl};
@@ -81,6 +83,20 @@ fn found_in(control: &Control<TakenControl>, point: Point) -> Option<FoundContro
 }
 
 impl Controls<TakenControl> {
+    /// Whether the control is there.
+    pub fn has(&self, control: ControlOf) -> bool
+        ensures { result ≡ is_some (index_of control (records_of ⟦<TakenControl as DefinedControl>⟧.control_loan self.now)) }
+    {
+        self.list.find(control.window, control.control).is_some()
+    }
+
+    /// How many controls the window has.
+    pub fn count(&self, window: u64) -> usize
+        ensures { result ≡ count_of window (records_of ⟦<TakenControl as DefinedControl>⟧.control_loan self.now) }
+    {
+        self.list.count(window)
+    }
+
     /// What is told of a control.
     pub(crate) fn get(
         &self,

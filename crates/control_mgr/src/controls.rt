@@ -1,8 +1,9 @@
 //! What a Control Manager keeps, and how it begins.
-ghost use Rattle.std.specs.Prelude.{◌≡◌, [], Some};
+ghost use Rattle.std.specs.Prelude.{◌≡◌, ◌≤◌, ◌+◌, [], length, Some, OnOk, IsOk, vec_capacity};
+ghost use Rattle.control_mgr.specs.Making.{IsRoomier};
 
 use control_list::ControlList;
-use std::alloc::Global;
+use std::alloc::{AllocError, Global};
 
 /// The controls of a desk's windows. Those of a desk have a `TakenControl` each.
 #[derive(Drop)]
@@ -21,5 +22,21 @@ impl<D> Controls<D> {
             alloc,
             list: ControlList::new(alloc),
         }
+    }
+
+    /// The serial of the next control, if one is left to give.
+    pub fn next_serial(&self) -> Option<u64>
+        ensures { result ≡ self.now.list.next }
+    {
+        self.list.next
+    }
+
+    /// Makes room for so many controls more, so that they can be added without memory. With room for them already it takes none.
+    pub fn reserve(&mut self, count: usize) -> Result<(), AllocError>
+        ensures same { IsRoomier self.old self.new }
+        ensures made { OnOk result (length self.new.list.controls.items + count ≤ vec_capacity self.new.list.controls) }
+        ensures succeeds { length self.old.list.controls.items + count ≤ vec_capacity self.old.list.controls → IsOk result }
+    {
+        self.list.reserve(count)
     }
 }

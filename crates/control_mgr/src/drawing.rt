@@ -8,6 +8,7 @@ ghost use Rattle.control_list.specs.Lists.{has_serial};
 ghost use Rattle.control_list.specs.Seen.{all_seen};
 ghost use Rattle.def_iface.specs.ControlMeaning.{is_fitting_control};
 ghost use Rattle.def_iface.specs.ControlNews.{no_control_news};
+ghost use Rattle.window_paint.specs.White.{all_white};
 ghost use Rattle.control_mgr.specs.ControlDesks.{control_bit, controls_show};
 ghost use Rattle.control_mgr.specs.Settled.{AreSettled};
 
@@ -41,7 +42,7 @@ impl DrawnControl for TakenControl {
 impl<D: DrawnControl> Showing for Controls<D> {
     ghost is_whole = { λ m. AreSettled (all_seen D.control_loan m.list.controls.items) };
 
-    ghost shows = { λ m. controls_show (all_seen D.control_loan m.list.controls.items) };
+    ghost shows = { λ m. controls_show (λ font. all_white) (all_seen D.control_loan m.list.controls.items) };
 
     fn draw(&self, part: Part, canvas: &mut Canvas<'_>) {
         match part {

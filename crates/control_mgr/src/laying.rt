@@ -61,13 +61,10 @@ fn judged_box(taken: Option<&TakenControl>, size: Size) -> Rect
     }
 }
 
-/// Whether a control with this definition, if it has one, may be at a place of a window that lies there, with this size.
-pub(crate) fn may_be_placed(
-    taken: Option<&TakenControl>,
-    place: Point,
-    size: Size,
-    window: Point,
-) -> bool
+/// Whether a control with this definition, if it has one, may be at a place of a window that lies there, with this size: its width
+/// and its height lie in 1..=1024, its place is a point, and the box of its region, or of its size where it has no definition,
+/// lies in the range of coordinates, by itself, where it is in the window, and on the screen.
+pub fn may_be_placed(taken: Option<&TakenControl>, place: Point, size: Size, window: Point) -> bool
     ensures { result ≡ may_be_placed (definition_if ⟦<TakenControl as DefinedControl>⟧.control_loan taken.entry) place size window }
 {
     if !place.is_in_range() || !is_control_size(size) {
@@ -140,7 +137,8 @@ impl Controls<TakenControl> {
         let layer = self.list.layer_index(spot.control);
         let layers = &windows.list().at(spot.window).layers;
         let relaid = layers.with_shape(self.alloc, layer, shape)?;
-        let relaying = windows.plan_layers(spot.window, &relaid, Some(layer))?;
+        let update = &windows.area(spot.window).update;
+        let relaying = windows.plan_layers(spot.window, update, &relaid, Some(layer))?;
         self.put_lie(spot.control, lie);
         windows.commit_layers(spot.window, relaid.layers, relaying, Some(layer), &*self);
         Ok(ControlReply::Done)

@@ -5,10 +5,15 @@
 //! Manager"): a call that nothing refuses has its effect; a refused one changes nothing, and its answer is the first refusal of the
 //! written order whose condition holds (`control_refusals`), or NoMemory where none holds and the call may ask for memory.
 //!
-//! A control is a layer of its window's content, in front of the window's picture; the oldest lies in front. Which pixels a layer has
-//! the window keeps (`layer_list`): `AreLayersOf` joins the two, one layer for each control. New, show, move and size draw all that the
-//! control then owns; what a hidden, moved or disposed control leaves is to be redrawn. Values, highlighting, titles and tracking show
-//! the control anew where it is not to be redrawn, and take no memory: all room that they need the layers keep.
+//! A control is a layer of its window's content, in front of the window's lists and of its picture; the oldest lies in front. Which
+//! pixels a layer has the window keeps (`layer_list`): `AreLayersOf` joins the two, one layer for each control in front of all others.
+//! Those others stay as they are, and so does what they show, which a `ControlDesk` has as `others`. New, show, move and size draw all
+//! that the control then owns; what a hidden, moved or disposed control leaves is to be redrawn. Values, highlighting, titles and
+//! tracking show the control anew where it is not to be redrawn, and take no memory: all room that they need the layers keep.
+//!
+//! What another manager makes and ends of controls together with records of its own, it plans before it changes anything: `grow`
+//! and `plan_ending` take the layers and the update region that earlier plans leave a window, `add` and `end_planned` make the
+//! changes in the same order, and take no memory.
 //!
 //! Boxes of definitions lie in the records of `control_list`, and wait outside in a `ControlStock`. After each change a definition is
 //! told all of its control: size, title, setting and highlighting. `Controls` shows them to whoever draws windows (`Showing`).
@@ -18,6 +23,7 @@ mod asking;
 mod closing;
 mod controls;
 mod drawing;
+mod ending;
 mod laying;
 mod making;
 mod perform;
@@ -28,4 +34,6 @@ mod tracking;
 
 pub use controls::Controls;
 pub use drawing::DrawnControl;
-pub use making::form_refusal;
+pub use ending::{Ending, layers_left, update_left};
+pub use laying::may_be_placed;
+pub use making::{Addition, MOST_CONTROLS, Ticket, form_refusal};

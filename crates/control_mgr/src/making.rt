@@ -1,53 +1,58 @@
-//! Controls that are made and ended.
-ghost use Rattle.std.specs.Prelude.{◌≡◌, ◌++◌, ◌∷◌, [], true, None, Some, MatchResult, IfOk, IfErr};
+//! Controls that are made: judged, planned with all growth, and added, which takes no memory.
+ghost use Rattle.std.specs.Prelude.{◌≡◌, ◌<◌, ◌≤◌, ◌++◌, ◌∷◌, [], true, None, Some, MatchResult, IfOk, IfErr, length, vec_capacity};
 ghost use Rattle.tb_geom.specs.Refusals.{first_refusal};
 ghost use Rattle.def_iface.specs.Slots.{IsTaken};
 ghost use Rattle.desk_call.specs.declared.control.ControlCall.TheVariants as asks;
 ghost use Rattle.window_mgr.specs.DeskStates.{Opened};
 ghost use Rattle.window_mgr.specs.Kept.{IsKept};
 ghost use Rattle.window_mgr.specs.Records.{desk_of};
+ghost use Rattle.window_mgr.specs.Relayered.{AreLayersPut};
 ghost use Rattle.control_mgr.specs.ControlRefusals.{control_form_refusals, judged_refusals};
 ghost use Rattle.control_mgr.specs.ControlSteps.{IsControlMade, IsControlStep};
 ghost use Rattle.control_mgr.specs.Laying.{definition_if};
-ghost use Rattle.control_mgr.specs.Making.{IsAddition, IsNotAdded, IsRoomier, IsTicket, judged_by};
+ghost use Rattle.control_mgr.specs.Making.{IsAddition, IsGrown, IsNotAdded, IsReadyToAdd, IsRoomier, IsTicket, MayGrow, judged_by};
 ghost use Rattle.control_mgr.specs.WholeControls.{AreBeside, AreWholeControls, LeavesOver, controls_state, records_of};
 
 use crate::Controls;
-use crate::closing::put_away;
 use crate::laying::{Lie, may_be_placed, shape_of};
 use control_list::Control;
 use control_values::{ControlValues, Highlight};
 use def_iface::{
     ControlStock, Defined, DefinedControl, Part, Stage, StockedControls, Taken, TakenControl,
 };
-use desk_call::{ControlCall, ControlOf, ControlReply, NewControl};
+use desk_call::{ControlCall, ControlReply, NewControl};
 use draw_port::ShortText;
 use layer_list::{Layer, Layers};
+use scan_region::Region;
+use std::alloc::AllocError;
 use tb_geom::Refusal;
 use vis_update::Relaying;
 use window_mgr::WindowManager;
 
 /// As many controls as a window may have.
-const MOST_CONTROLS: usize = 64;
+pub const MOST_CONTROLS: usize = 64;
 
-/// What a new control is given, where nothing but memory can refuse it.
+/// What a new control is given, where nothing but memory can refuse it. Of several controls that are planned before the first
+/// of them is added, each has the serial after that of the one before, and of those in one window each has the layer behind.
 #[derive(Drop)]
-pub(crate) struct Ticket {
-    /// The index of its window.
+pub struct Ticket {
+    /// The index of its window, counted from the front.
     pub window: usize,
+    /// The next serial when it is added.
     pub serial: u64,
     pub values: ControlValues,
     pub title: ShortText,
+    /// The index of its layer among those of its window: how many controls the window has when it is added.
+    pub layer: usize,
 }
 
-/// All that a new control needs.
+/// All that a new control needs beside its definition and room in the list.
 #[derive(Drop)]
-pub(crate) struct Addition {
+pub struct Addition {
     pub ticket: Ticket,
     /// The layers of its window with it.
     pub layers: Layers,
-    /// The index of its own.
-    pub layer: usize,
+    /// What changes by them on the screen, with the update region that the window then has.
     pub relaying: Relaying,
 }
 
@@ -114,7 +119,8 @@ impl Controls<TakenControl> {
     ) -> Result<Ticket, Refusal>
         requires { IsKept ⟦<Taken as Defined>⟧.loan windows.now }
         ensures { let d = definition_if ⟦<TakenControl as DefinedControl>⟧.control_loan taken.entry in MatchResult result
-            (λ ticket. IsTicket ⟦<Taken as Defined>⟧.loan ⟦<TakenControl as DefinedControl>⟧.control_loan new.now d windows.now self.now ticket)
+            (λ ticket. (judged_by ⟦<Taken as Defined>⟧.loan ⟦<TakenControl as DefinedControl>⟧.control_loan new.now d windows.now self.now ≡ None)
+            × IsTicket ⟦<TakenControl as DefinedControl>⟧.control_loan new.now d windows.now self.now ticket)
             (λ e. judged_by ⟦<Taken as Defined>⟧.loan ⟦<TakenControl as DefinedControl>⟧.control_loan new.now d windows.now self.now ≡ Some e) }
     {
         let Some(window) = windows.find(new.window) else {
@@ -126,12 +132,14 @@ impl Controls<TakenControl> {
         }
         let values = ControlValues::new(new.minimum, new.maximum, new.value)?;
         let title = ShortText::new(new.title.as_slice())?;
+        let layer = self.list.count(new.window);
         match self.list.next {
-            Some(serial) if self.list.count(new.window) < MOST_CONTROLS => Ok(Ticket {
+            Some(serial) if layer < MOST_CONTROLS => Ok(Ticket {
                 window,
                 serial,
                 values,
                 title,
+                layer,
             }),
             _ => Err(Refusal::TooMany),
         }
@@ -147,10 +155,39 @@ impl Controls<TakenControl> {
         requires kept { IsKept ⟦<Taken as Defined>⟧.loan windows.now }
         requires beside { AreBeside ⟦<TakenControl as DefinedControl>⟧.control_loan ⟦<Taken as Defined>⟧.loan windows.now self.old }
         ensures same { IsRoomier self.old self.new }
+        ensures judged { IfOk result (λ _. judged_by ⟦<Taken as Defined>⟧.loan ⟦<TakenControl as DefinedControl>⟧.control_loan new.now (Some (⟦<TakenControl as DefinedControl>⟧.control_loan taken.now).definition) windows.now self.old ≡ None) }
         ensures ok { IfOk result (IsAddition ⟦<Taken as Defined>⟧.loan ⟦<TakenControl as DefinedControl>⟧.control_loan new.now (⟦<TakenControl as DefinedControl>⟧.control_loan taken.now).definition windows.now self.new) }
         ensures err { IfErr result (IsNotAdded ⟦<Taken as Defined>⟧.loan ⟦<TakenControl as DefinedControl>⟧.control_loan new.now (⟦<TakenControl as DefinedControl>⟧.control_loan taken.now).definition windows.now self.old) }
     {
         let ticket = self.judge(windows, new, Some(taken))?;
+        let layers = &windows.list().at(ticket.window).layers;
+        let update = &windows.area(ticket.window).update;
+        let addition = self.grow(windows, ticket, new, taken, layers, update)?;
+        self.reserve(1)?;
+        Ok(addition)
+    }
+
+    /// The layers of its window with a new control's in its place, and what changes by them on the screen. `layers` are the
+    /// window's layers when the control will be added, and `update` is its update region then: those that it has, or those that
+    /// earlier plans leave it, so that several changes can be planned before the first of them is made. It changes nothing, and
+    /// makes no room in the list, which `reserve` does.
+    pub fn grow(
+        &self,
+        windows: &WindowManager,
+        ticket: Ticket,
+        new: &NewControl<'_>,
+        taken: &TakenControl,
+        layers: &Layers,
+        update: &Region,
+    ) -> Result<Addition, AllocError>
+        requires kept { IsKept ⟦<Taken as Defined>⟧.loan windows.now }
+        requires at { ticket.window < length windows.now.windows.records.items }
+        requires may { MayGrow new.now (⟦<TakenControl as DefinedControl>⟧.control_loan taken.now).definition ticket layers.now }
+        ensures grown { IfOk result (IsGrown new.now (⟦<TakenControl as DefinedControl>⟧.control_loan taken.now).definition ticket layers.now) }
+        ensures planned { IfOk result (λ addition. (u : _) (m : _)
+            → IsReadyToAdd ⟦<Taken as Defined>⟧.loan ⟦<TakenControl as DefinedControl>⟧.control_loan new.now (⟦<TakenControl as DefinedControl>⟧.control_loan taken.now).definition ticket layers.now update.now windows.now u m
+            → IsAddition ⟦<Taken as Defined>⟧.loan ⟦<TakenControl as DefinedControl>⟧.control_loan new.now (⟦<TakenControl as DefinedControl>⟧.control_loan taken.now).definition u m addition) }
+    {
         let lie = Lie {
             place: new.place,
             size: new.size,
@@ -163,21 +200,18 @@ impl Controls<TakenControl> {
             region: shape.region,
             bounds: shape.bounds,
         };
-        let layer = self.list.count(new.window);
-        let layers = &windows.list().at(ticket.window).layers;
-        let relaid = layers.with(self.alloc, layer, own)?;
-        let relaying = windows.plan_layers(ticket.window, &relaid, Some(layer))?;
-        self.list.reserve()?;
+        let relaid = layers.with(self.alloc, ticket.layer, own)?;
+        let relaying = windows.plan_layers(ticket.window, update, &relaid, Some(ticket.layer))?;
         Ok(Addition {
             ticket,
             layers: relaid.layers,
-            layer,
             relaying,
         })
     }
 
-    /// Begins the definition of a new control, puts it behind the others, and draws all that it owns. Takes no memory.
-    fn add(
+    /// Begins the definition of a new control, puts it behind the others, and draws all that it owns, as planned. Takes no
+    /// memory.
+    pub fn add(
         &mut self,
         windows: &mut WindowManager,
         new: &NewControl<'_>,
@@ -188,15 +222,16 @@ impl Controls<TakenControl> {
         requires beside { AreBeside ⟦<TakenControl as DefinedControl>⟧.control_loan ⟦<Taken as Defined>⟧.loan windows.old self.old }
         requires addition { IsAddition ⟦<Taken as Defined>⟧.loan ⟦<TakenControl as DefinedControl>⟧.control_loan new.now (⟦<TakenControl as DefinedControl>⟧.control_loan taken).definition windows.old self.old addition }
         requires fresh { (⟦<TakenControl as DefinedControl>⟧.control_loan taken).definition.stage ≡ Stage.Fresh }
-        ensures { (before left : _) → IsTaken (λ d. d.stage) new.now.kind (⟦<TakenControl as DefinedControl>⟧.control_loan taken) before left
+        ensures step { (before left : _) → IsTaken (λ d. d.stage) new.now.kind (⟦<TakenControl as DefinedControl>⟧.control_loan taken) before left
             → (o : Opened) → LeavesOver ⟦<TakenControl as DefinedControl>⟧.control_loan ⟦<Taken as Defined>⟧.loan before left
             (IsControlMade new.now addition.ticket.serial) windows.old o self.old windows.new o self.new }
+        ensures put { AreLayersPut addition.ticket.window addition.layers addition.relaying.update windows.old windows.new }
+        ensures room { vec_capacity self.old.list.controls ≤ vec_capacity self.new.list.controls }
     {
         let mut taken = taken;
         let Addition {
             ticket,
             layers,
-            layer,
             relaying,
         } = addition;
         taken.begin(new.size, new.title.as_slice(), ticket.values);
@@ -211,31 +246,6 @@ impl Controls<TakenControl> {
             title: ticket.title,
             definition: taken,
         });
-        windows.commit_layers(ticket.window, layers, relaying, Some(layer), &*self);
-    }
-
-    /// Ends a control: its definition is disposed of, and put back Closed into its slot.
-    pub(crate) fn dispose(
-        &mut self,
-        windows: &mut WindowManager,
-        control: ControlOf,
-        stock: &mut ControlStock,
-    ) -> Result<ControlReply, Refusal>
-        requires kept { IsKept ⟦<Taken as Defined>⟧.loan windows.old }
-        requires whole { AreWholeControls (desk_of ⟦<Taken as Defined>⟧.loan windows.old []).windows
-            (controls_state ⟦<TakenControl as DefinedControl>⟧.control_loan self.old (⟦<ControlStock as StockedControls>⟧.control_slots stock.old)) }
-        ensures { (o : Opened) → LeavesOver ⟦<TakenControl as DefinedControl>⟧.control_loan ⟦<Taken as Defined>⟧.loan
-            (⟦<ControlStock as StockedControls>⟧.control_slots stock.old) (⟦<ControlStock as StockedControls>⟧.control_slots stock.new)
-            (IsControlStep (asks.Dispose control) result) windows.old o self.old windows.new o self.new }
-    {
-        let spot = self.spot(windows, control)?;
-        let layer = self.list.layer_index(spot.control);
-        let layers = &windows.list().at(spot.window).layers;
-        let relaid = layers.without(self.alloc, layer)?;
-        let relaying = windows.plan_layers(spot.window, &relaid, None)?;
-        let ended = self.list.remove(spot.control);
-        windows.commit_layers(spot.window, relaid.layers, relaying, None, &*self);
-        put_away(ended.definition, stock);
-        Ok(ControlReply::Done)
+        windows.commit_layers(ticket.window, layers, relaying, Some(ticket.layer), &*self);
     }
 }

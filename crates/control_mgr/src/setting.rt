@@ -4,7 +4,7 @@ ghost use Rattle.desk_call.specs.declared.control.ControlOf.{ControlOf as Named}
 ghost use Rattle.desk_call.specs.declared.control.ControlCall.TheVariants as asks;
 ghost use Rattle.window_mgr.specs.Kept.{IsKept};
 ghost use Rattle.window_mgr.specs.DeskStates.{Opened};
-ghost use Rattle.control_mgr.specs.ControlSteps.{IsControlStep, IsShownAnew};
+ghost use Rattle.control_mgr.specs.ControlSteps.{IsControlStep, IsSettingPut, IsShownAnew};
 ghost use Rattle.control_mgr.specs.Spots.{IsSpot, IsSpotOf, with_state};
 ghost use Rattle.control_mgr.specs.WholeControls.{AreBeside, LeavesControls, records_of};
 
@@ -12,7 +12,7 @@ use crate::Controls;
 use crate::spots::Spot;
 use control_values::{ControlValues, Highlight};
 use def_iface::{Defined, DefinedControl, Taken, TakenControl};
-use desk_call::{ControlNumber, ControlReply, ControlTitle};
+use desk_call::{ControlNumber, ControlOf, ControlReply, ControlTitle};
 use draw_port::ShortText;
 use tb_geom::Refusal;
 use window_mgr::WindowManager;
@@ -55,6 +55,26 @@ impl Controls<TakenControl> {
         self.list.set_title(spot.control, state.title);
         self.tell(spot.control);
         windows.redraw_layer(spot.window, layer, &*self);
+    }
+
+    /// Gives a control this setting, and shows it anew where it is not to be redrawn. Where the control is not there, nothing
+    /// happens. Takes no memory.
+    pub fn set_setting(
+        &mut self,
+        windows: &mut WindowManager,
+        control: ControlOf,
+        values: ControlValues,
+    )
+        requires kept { IsKept ⟦<Taken as Defined>⟧.loan windows.old }
+        requires beside { AreBeside ⟦<TakenControl as DefinedControl>⟧.control_loan ⟦<Taken as Defined>⟧.loan windows.old self.old }
+        ensures { (o u : Opened) → LeavesControls ⟦<TakenControl as DefinedControl>⟧.control_loan ⟦<Taken as Defined>⟧.loan
+            (IsSettingPut control values) windows.old o self.old windows.new u self.new }
+    {
+        if let Ok(spot) = self.spot(windows, control) {
+            let mut state = self.state(spot.control);
+            state.values = values;
+            self.put(windows, spot, state);
+        }
     }
 
     /// Sets the value of a control.

@@ -5,7 +5,7 @@ ghost use Rattle.def_iface.specs.Slots as slots;
 ghost use Rattle.def_iface.specs.Stocked.{IsFull};
 ghost use Rattle.watched_io.specs.Reads.{IsOpen};
 ghost use Rattle.desk.specs.Program.{EndsOver, ProgramEnds, StandardEnds};
-ghost use Rattle.desk.specs.StandardStock.{standard_controls, standard_menus};
+ghost use Rattle.desk.specs.StandardStock.{standard_controls, standard_lists, standard_menus};
 
 use def_iface::{
     ControlStock, ListStock, MenuStock, Stock, Stocked, StockedControls, StockedMenus, WindowStock,
@@ -51,8 +51,8 @@ pub enum Stopped {
 }
 
 /// Runs what the words of the command line choose, of which the first is the program's name, over a stock of 16
-/// definitions of each kind of window, 32 of menus, and 64 of each kind of control. Where the words are not taken, nothing is
-/// read or written.
+/// definitions of each kind of window, 32 of menus, 64 of each kind of control and 16 of lists. Where the words are not taken,
+/// nothing is read or written.
 pub fn run_words<F: Opener, R: Source, W: Sink, S: AsStr>(
     alloc: Global,
     words: &[S],
@@ -109,8 +109,8 @@ fn run_standard<F: Opener, R: Source, W: Sink>(
     run_with_windows(alloc, windows, files, standard, sink, chosen)
 }
 
-/// Runs what was chosen over a stock with these windows, and with the standard menus and controls. NoMemory also where there
-/// is none for those, and then nothing is read or written.
+/// Runs what was chosen over a stock with these windows, and with the standard menus, controls and lists. NoMemory also where
+/// there is none for those, and then nothing is read or written.
 fn run_with_windows<F: Opener, R: Source, W: Sink>(
     alloc: Global,
     windows: WindowStock,
@@ -125,7 +125,7 @@ fn run_with_windows<F: Opener, R: Source, W: Sink>(
     requires unfailed { (W.output sink.old).has_failed ≡ false }
     ensures { EndsOver (F.opens files.now) F.Opened.input
         (R.input standard.old) (R.input standard.new) (W.output sink.old) (W.output sink.new)
-        (⟦<WindowStock as Stocked>⟧.slots windows) standard_menus standard_controls chosen.now result }
+        (⟦<WindowStock as Stocked>⟧.slots windows) standard_menus standard_controls standard_lists chosen.now result }
 {
     let mut menus = MenuStock::new(alloc);
     for round in 0..MENUS {
@@ -137,8 +137,8 @@ fn run_with_windows<F: Opener, R: Source, W: Sink>(
     run_with_menus(alloc, windows, menus, files, standard, sink, chosen)
 }
 
-/// Runs what was chosen over a stock with these windows and these menus, and with the standard controls. NoMemory also where
-/// there is none for those, and then nothing is read or written.
+/// Runs what was chosen over a stock with these windows and these menus, and with the standard controls and lists. NoMemory
+/// also where there is none for those, and then nothing is read or written.
 fn run_with_menus<F: Opener, R: Source, W: Sink>(
     alloc: Global,
     windows: WindowStock,
@@ -156,7 +156,7 @@ fn run_with_menus<F: Opener, R: Source, W: Sink>(
     ensures { EndsOver (F.opens files.now) F.Opened.input
         (R.input standard.old) (R.input standard.new) (W.output sink.old) (W.output sink.new)
         (⟦<WindowStock as Stocked>⟧.slots windows) (⟦<MenuStock as StockedMenus>⟧.menu_slots menus)
-        standard_controls chosen.now result }
+        standard_controls standard_lists chosen.now result }
 {
     let mut controls = ControlStock::new(alloc);
     for round in 0..CONTROLS {
@@ -177,14 +177,14 @@ fn run_with_menus<F: Opener, R: Source, W: Sink>(
             return Err(Refusal::NoMemory);
         };
     }
-    run_over(
+    run_with_controls(
         alloc, windows, menus, controls, files, standard, sink, chosen,
     )
 }
 
 /// Runs what was chosen over a stock with these windows, these menus and these controls, and with the standard lists. NoMemory
 /// also where there is none for those, and then nothing is read or written.
-fn run_over<F: Opener, R: Source, W: Sink>(
+fn run_with_controls<F: Opener, R: Source, W: Sink>(
     alloc: Global,
     windows: WindowStock,
     menus: MenuStock,
@@ -203,10 +203,10 @@ fn run_over<F: Opener, R: Source, W: Sink>(
     ensures { EndsOver (F.opens files.now) F.Opened.input
         (R.input standard.old) (R.input standard.new) (W.output sink.old) (W.output sink.new)
         (⟦<WindowStock as Stocked>⟧.slots windows) (⟦<MenuStock as StockedMenus>⟧.menu_slots menus)
-        (⟦<ControlStock as StockedControls>⟧.control_slots controls) chosen.now result }
+        (⟦<ControlStock as StockedControls>⟧.control_slots controls) standard_lists chosen.now result }
 {
     let mut lists = ListStock::new(alloc);
-    for _ in 0..LISTS {
+    for round in 0..LISTS {
         let list = Box::new(alloc, StdList::new())?;
         let Ok(()) = lists.add(b"text", list) else {
             return Err(Refusal::NoMemory);

@@ -7,11 +7,13 @@ use Rattle.desk_call.specs.declared.activity.Activity.TheVariants.{Idle, Updatin
 use Rattle.desk_call.specs.declared.activity.Standing.{Standing}
 use Rattle.desk_call.specs.declared.activity.Standing.TheVariants.{Asks, Updates, Tracks, Pulls, TracksControl, Changes}
 use Rattle.desk_call.specs.declared.call.Call.{Call}
-use Rattle.desk_call.specs.declared.call.Call.TheVariants.{Window, Update, Frame, Control, Menu, Event}
+use Rattle.desk_call.specs.declared.call.Call.TheVariants.{Window, Update, Frame, Control, List, Menu, Event}
 use Rattle.desk_call.specs.declared.control.ControlCall.{ControlCall}
 use Rattle.desk_call.specs.declared.control.ControlCall.TheVariants as controls
 use Rattle.desk_call.specs.declared.frame.FrameCall.{FrameCall}
 use Rattle.desk_call.specs.declared.frame.FrameCall.TheVariants.{StepGoAway, EndGoAway}
+use Rattle.desk_call.specs.declared.list.ListCall.{ListCall}
+use Rattle.desk_call.specs.declared.list.ListCall.TheVariants as lists
 use Rattle.desk_call.specs.declared.menu.MenuCall.{MenuCall}
 use Rattle.desk_call.specs.declared.menu.MenuCall.TheVariants as menus
 use Rattle.desk_call.specs.declared.update.UpdateCall.{UpdateCall}
@@ -55,12 +57,22 @@ control_standing (controls.Step p) = TracksControl
 control_standing (controls.End p) = TracksControl
 control_standing _ = Changes
 
+-- the calls on lists that ask may come at any time
+abbrev pub list_standing : ListCall → Standing
+list_standing (lists.GetCell c) = Asks
+list_standing (lists.IsSelected c) = Asks
+list_standing (lists.FirstSelected c) = Asks
+list_standing (lists.NextCell n) = Asks
+list_standing (lists.Search t) = Asks
+list_standing _ = Changes
+
 -- when a call may come; one about events may at any time
 abbrev pub standing_of : Call → Standing
 standing_of (Window call) = window_standing call
 standing_of (Update call) = update_standing call
 standing_of (Frame call) = frame_standing call
 standing_of (Control call) = control_standing call
+standing_of (List call) = list_standing call
 standing_of (Menu call) = menu_standing call
 standing_of (Event call) = Asks
 

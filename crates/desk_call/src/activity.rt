@@ -1,8 +1,8 @@
 //! Which calls may come while something is open.
 ghost use Rattle.std.specs.Prelude.{◌≡◌, None, MatchResult, Some};
-ghost use Rattle.desk_call.specs.Gates.{gate, standing_of, window_standing, update_standing, frame_standing, menu_standing, control_standing};
+ghost use Rattle.desk_call.specs.Gates.{gate, standing_of, window_standing, update_standing, frame_standing, menu_standing, control_standing, list_standing};
 
-use crate::{Call, ControlCall, ControlOf, FrameCall, MenuCall, UpdateCall, WindowCall};
+use crate::{Call, ControlCall, ControlOf, FrameCall, ListCall, MenuCall, UpdateCall, WindowCall};
 use control_values::ControlPart;
 use def_iface::Size;
 use tb_geom::{Point, Refusal};
@@ -90,6 +90,7 @@ impl Call<'_> {
             Call::Update(call) => call.standing(),
             Call::Frame(call) => call.standing(),
             Call::Control(call) => call.standing(),
+            Call::List(call) => call.standing(),
             Call::Menu(call) => call.standing(),
             Call::Event(_) => Standing::Asks,
         }
@@ -154,6 +155,20 @@ impl ControlCall<'_> {
         match self {
             ControlCall::Get(_) | ControlCall::Find(_) | ControlCall::Test(_) => Standing::Asks,
             ControlCall::Step(_) | ControlCall::End(_) => Standing::TracksControl,
+            _ => Standing::Changes,
+        }
+    }
+}
+
+impl ListCall<'_> {
+    /// When the call may come.
+    pub fn standing(&self) -> Standing
+        ensures { result ≡ list_standing self.now }
+    {
+        match self {
+            ListCall::GetCell(_) | ListCall::IsSelected(_) => Standing::Asks,
+            ListCall::FirstSelected(_) | ListCall::NextCell(_) => Standing::Asks,
+            ListCall::Search(_) => Standing::Asks,
             _ => Standing::Changes,
         }
     }

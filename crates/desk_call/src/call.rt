@@ -1,8 +1,8 @@
 //! What a Toolbox can be asked, and what it answers.
 
 use crate::{
-    ControlCall, ControlReply, EventCall, EventReply, FrameCall, FrameReply, MenuCall, MenuReply,
-    UpdateCall, WindowCall, WindowReply,
+    ControlCall, ControlReply, EventCall, EventReply, FrameCall, FrameReply, ListCall, ListReply,
+    MenuCall, MenuReply, UpdateCall, WindowCall, WindowReply,
 };
 
 /// A call of the Toolbox, by what it is about. Titles, and the bytes of operations and regions, are borrowed, so that
@@ -17,6 +17,8 @@ pub enum Call<'a> {
     Frame(FrameCall<'a>),
     /// About controls.
     Control(ControlCall<'a>),
+    /// About lists.
+    List(ListCall<'a>),
     /// About menus.
     Menu(MenuCall<'a>),
     /// About events.
@@ -32,6 +34,8 @@ pub enum Reply {
     Frame(FrameReply),
     /// To a `Call::Control`.
     Control(ControlReply),
+    /// To a `Call::List`.
+    List(ListReply),
     /// To a `Call::Menu`.
     Menu(MenuReply),
     /// To a `Call::Event`.

@@ -1,8 +1,8 @@
 //! What a Toolbox can be asked, and what it answers: plain values, with texts and bytes borrowed.
 //!
 //! A `Call` says what it is about, and a `Reply` of which kind the answer is. What a call does, the crate says that performs
-//! it: `window_mgr` for windows, `window_update` for updates, `window_frame` for frames, `control_mgr` for controls, `menu_mgr`
-//! for menus, `desk_toolbox` for events. A program that only reads or writes calls needs no more than this.
+//! it: `window_mgr` for windows, `window_update` for updates, `window_frame` for frames, `control_mgr` for controls, `list_mgr`
+//! for lists, `menu_mgr` for menus, `desk_toolbox` for events. A program that only reads or writes calls needs no more than this.
 #![tactic(auto)]
 
 mod activity;
@@ -10,6 +10,7 @@ mod call;
 mod control;
 mod event;
 mod frame;
+mod list;
 mod menu;
 mod update;
 mod window;
@@ -22,6 +23,10 @@ pub use control::{
 };
 pub use event::{EventCall, EventReply, FlushEvents, PostEvent};
 pub use frame::{FrameCall, FrameReply, GoAwayPoint, HiliteWindow, NewTitle};
+pub use list::{
+    CellOf, CellText, ListCall, ListClick, ListDrawing, ListLines, ListOf, ListReply, NewList,
+    NextOfCell, ScrollList, SelectCell,
+};
 pub use menu::{
     AppendItems, CheckItem, Choice, InsertMenu, ItemOfMenu, ItemText, MenuCall, MenuReply, NewMenu,
 };

@@ -13,6 +13,7 @@ pub unchanged : (s : ToolboxState) → IsToolboxUnchanged s s
 unchanged s = record {
   desk = record { windows = record { desk = refl; stale = λ p on. refl; image = λ p on. refl }; activity = refl; begun = refl };
   controls = refl;
+  lists = refl;
   menus = refl;
   events = refl;
 }

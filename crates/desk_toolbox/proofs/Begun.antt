@@ -7,12 +7,18 @@ use Rattle.def_iface.specs.declared.taken_menu.TakenMenu.{TakenMenu}
 use Rattle.tb_geom.specs.Points.{PixelSet}
 use Rattle.def_iface.specs.declared.part.Part.{Part}
 use Rattle.def_iface.specs.declared.taken_control.TakenControl.{TakenControl}
+use Rattle.def_iface.specs.declared.taken_list.TakenList.{TakenList}
 use Rattle.def_iface.specs.Change as plain
 use Rattle.def_iface.specs.ControlMeaning.{ControlLoan}
+use Rattle.def_iface.specs.ListMeaning.{ListLoan}
 use Rattle.control_list.specs.Seen.{all_seen}
 use Rattle.control_mgr.specs.ControlClosing.{IsControlFull}
 use Rattle.control_mgr.specs.ControlDesks.{ControlSlot, controls_show}
 use Rattle.control_mgr.specs.WholeControls.{records_of}
+use Rattle.list_mgr.specs.ListClosing.{IsListFull}
+use Rattle.list_mgr.specs.ListDesks.{ListSlot, lists_show}
+use Rattle.list_mgr.specs.WholeLists as lists
+use Rattle.list_records.specs.Seen as seen_lists
 use Rattle.vis_update.specs.Records.{layered_window}
 use Rattle.window_mgr.specs.Records.{state_of, state_showing}
 use Rattle.def_iface.specs.Meaning.{Loan}
@@ -29,7 +35,7 @@ use Rattle.desk_toolbox.specs.EventSteps.{first_events}
 use Rattle.desk_toolbox.specs.Reached.{IsJustBegun}
 use Rattle.desk_toolbox.specs.WholeToolbox.{toolbox_state}
 
--- where there are no windows a right state is right, whatever is shown of controls
+-- where there are no windows a right state is right, whatever is shown of controls and lists
 right_bare : (shows : List ℕ → Part → PixelSet) (s : FullState) → s.desk.windows ≡ [] → IsRightState s → IsRightState (state_showing shows s)
 right_bare shows s none right = record {
   plain = subst plain.IsRight (λ i. record (layered_state s) { desk = record (layered_desk s.desk) { windows = same i } }) right.plain;
@@ -42,19 +48,22 @@ right_bare shows s none right = record {
     same : map (layered_window (look_of s.desk)) s.desk.windows ≡ map (layered_window (look_of now)) s.desk.windows
     same = ap (map (layered_window (look_of s.desk))) none ∙ sym (ap (map (layered_window (look_of now))) none)
 
-module _ {V : Type 0} {H : V → Type 0} (loan : Taken V H → Loan) {W : Type 0} {K : W → Type 0} (menu_loan : TakenMenu W K → MenuLoan) {U : Type 0} {J : U → Type 0} (control_loan : TakenControl U J → ControlLoan) (width height bar : ℤ) (font : List ℕ) where
-  has_just_begun : (t : Toolbox V U W H J K) (slots : List SlotView) (kept : List MenuSlot) (held : List ControlSlot) → All IsControlFull held → IsEmptyDesk loan width height bar font t.windows slots → t.activity ≡ Idle → t.events ≡ first_events → AreNoMenus width height t.menus
-      → t.controls.list.controls.items ≡ [] → t.controls.list.next ≡ Some 1 → IsJustBegun (toolbox_state loan menu_loan control_loan t slots kept held)
-  has_just_begun t slots kept held full empty idle events none bare next =
+module _ {V : Type 0} {H : V → Type 0} (loan : Taken V H → Loan) {W : Type 0} {K : W → Type 0} (menu_loan : TakenMenu W K → MenuLoan) {U : Type 0} {J : U → Type 0} (control_loan : TakenControl U J → ControlLoan) {X : Type 0} {L : X → Type 0} (list_loan : TakenList X L → ListLoan) (width height bar : ℤ) (font : List ℕ) where
+  has_just_begun : (t : Toolbox V U W X H J K L) (slots : List SlotView) (kept : List MenuSlot) (held : List ControlSlot) (listed : List ListSlot) → All IsControlFull held → All IsListFull listed → IsEmptyDesk loan width height bar font t.windows slots → t.activity ≡ Idle → t.events ≡ first_events → AreNoMenus width height t.menus
+      → t.controls.list.controls.items ≡ [] → t.controls.list.next ≡ Some 1 → t.lists.list.lists.items ≡ [] → t.lists.list.next ≡ Some 1 → IsJustBegun (toolbox_state loan menu_loan control_loan list_loan t slots kept held listed)
+  has_just_begun t slots kept held listed full full_lists empty idle events none bare next no_lists next_list =
       let windows = ap (λ (d : FullDesk). d.windows) empty.desk in
       record {
-        right = right_bare (controls_show (records_of control_loan t.controls)) (state_of loan t.windows slots) windows empty.right;
+        right = right_bare (controls_show (lists_show (lists.records_of list_loan t.lists)) (records_of control_loan t.controls)) (state_of loan t.windows slots) windows empty.right;
         windows = windows;
         active = ap (λ (d : FullDesk). d.active) empty.desk;
         idle = idle;
         controls = ap (all_seen control_loan) bare;
         next_control = next;
         held = full;
+        lists = ap (seen_lists.all_seen list_loan) no_lists;
+        next_list = next_list;
+        listed = full_lists;
         shown = refl;
         titles = ap (λ (d : FullDesk). d.bar.titles) empty.desk;
         menus = ap (menus_of menu_loan) none.none;
@@ -62,9 +71,10 @@ module _ {V : Type 0} {H : V → Type 0} (loan : Taken V H → Loan) {W : Type 0
         events = events;
       }
 
-  pub begins : {E : Type 0} (events : Events) (menus : Menus W K) (r : Result (Toolbox V U W H J K) E) → IfOk r (λ t. (slots : List SlotView) → All IsFull slots → IsEmptyDesk loan width height bar font t.windows slots)
-      → IfOk r (λ t. t.activity ≡ Idle) → IfOk r (λ t. t.events ≡ events) → IfOk r (λ t. t.menus ≡ menus) → IfOk r (λ t. (t.controls.list.controls.items ≡ []) × (t.controls.list.next ≡ Some 1)) → events ≡ first_events → AreNoMenus width height menus
-      → IfOk r (λ t. (slots : List SlotView) (kept : List MenuSlot) (held : List ControlSlot) → All IsFull slots → All IsControlFull held → IsJustBegun (toolbox_state loan menu_loan control_loan t slots kept held))
-  begins events menus (Ok t) empty idle kept same bare are_first none = λ slots stored held full full_controls.
-      has_just_begun t slots stored held full_controls (empty slots full) idle (kept ∙ are_first) (subst (λ m. AreNoMenus width height m) (sym same) none) bare.0 bare.1
-  begins events menus (Err e) empty idle kept same bare are_first none = tt
+  pub begins : {E : Type 0} (events : Events) (menus : Menus W K) (r : Result (Toolbox V U W X H J K L) E) → IfOk r (λ t. (slots : List SlotView) → All IsFull slots → IsEmptyDesk loan width height bar font t.windows slots)
+      → IfOk r (λ t. t.activity ≡ Idle) → IfOk r (λ t. t.events ≡ events) → IfOk r (λ t. t.menus ≡ menus) → IfOk r (λ t. (t.controls.list.controls.items ≡ []) × (t.controls.list.next ≡ Some 1))
+      → IfOk r (λ t. (t.lists.list.lists.items ≡ []) × (t.lists.list.next ≡ Some 1)) → events ≡ first_events → AreNoMenus width height menus
+      → IfOk r (λ t. (slots : List SlotView) (kept : List MenuSlot) (held : List ControlSlot) (listed : List ListSlot) → All IsFull slots → All IsControlFull held → All IsListFull listed → IsJustBegun (toolbox_state loan menu_loan control_loan list_loan t slots kept held listed))
+  begins events menus (Ok t) empty idle kept same bare bare_lists are_first none = λ slots stored held listed full full_controls full_lists.
+      has_just_begun t slots stored held listed full_controls full_lists (empty slots full) idle (kept ∙ are_first) (subst (λ m. AreNoMenus width height m) (sym same) none) bare.0 bare.1 bare_lists.0 bare_lists.1
+  begins events menus (Err e) empty idle kept same bare bare_lists are_first none = tt

@@ -19,8 +19,9 @@ use Rattle.desk_toolbox.proofs.Runs.{step_stays_right}
 use Rattle.desk_toolbox.proofs.Stands.{Stands, stands, consistent, stands_still, event_stands, window_stands}
 use Rattle.desk_toolbox.proofs.StandsOpen.{update_stands, frame_stands}
 use Rattle.desk_toolbox.proofs.MenuStands.{menu_stands}
-use Rattle.desk_toolbox.proofs.ControlsBeside.{IsRightToolbox}
-use Rattle.desk_toolbox.proofs.TrackedControls.{control_stands, begun_controls}
+use Rattle.desk_toolbox.proofs.ContentsBeside.{IsRightToolbox}
+use Rattle.desk_toolbox.proofs.TrackedControls.{control_stands}
+use Rattle.desk_toolbox.proofs.ListStands.{begun_contents, list_stands}
 use Rattle.control_mgr.specs.WholeControls.{IsTrackable}
 
 abbrev GoesOnStanding : Call → Result Reply Refusal → ToolboxState → ToolboxState → Type 0
@@ -34,13 +35,14 @@ each_stands = record {
   window = λ call answer before after may step was right. window_stands call answer before after may was right step;
   update = λ call answer before after may step rest was right. update_stands call answer before after may was right step rest;
   frame = λ call answer before after may step rest was right. frame_stands call answer before after may was right step rest;
-  control = λ call answer before after may step events menus was right. control_stands call answer before after may was right step events menus;
-  menu = λ call answer before after may step events controls was right. menu_stands call answer before after may was right step events;
+  control = λ call answer before after may step events lists menus was right. control_stands call answer before after may was right step events menus;
+  list = λ call answer before after may step events menus was right. list_stands call answer before after may was right step events menus;
+  menu = λ call answer before after may step events controls lists was right. menu_stands call answer before after may was right step events;
   event = λ call answer before after step was right. event_stands call answer before after was right step;
 }
 
 step_stands : (call : Call) (answer : Result Reply Refusal) (before after : ToolboxState) → Stands before → IsStep call answer before after → Stands after
-step_stands call answer before after was step = of_step GoesOnStanding each_stands call answer before after step was (step_stays_right call answer before after (record { right = was.right; controls = was.controls }) step)
+step_stands call answer before after was step = of_step GoesOnStanding each_stands call answer before after step was (step_stays_right call answer before after (record { right = was.right; contents = was.contents }) step)
 
 pub step_keeps_consistent : (call : Call) (answer : Result Reply Refusal) (before after : ToolboxState) → IsConsistent before → IsStep call answer before after → IsConsistent after
 step_keeps_consistent call answer before after was step = consistent after (step_stands call answer before after (stands before was) step)
@@ -62,7 +64,7 @@ just_begun_is_consistent s begun =
       active = subst (λ o. IsThere o windows) (sym begun.active) tt;
       told = subst (λ (e : Events). IsThere e.told windows) (sym begun.events) tt;
       opened = subst (λ a. IsThere (open_window a) windows) (sym begun.idle) tt;
-      controls = begun_controls s begun;
+      contents = begun_contents s begun;
       trackable = subst (λ a. IsTrackable a s.controls.controls) (sym begun.idle) tt;
       queued = All-same (λ (e : Event). is_posted e.what ≡ true) s.events.queue.events [] (ap (λ (e : Events). e.queue.events) begun.events) (All-nil (λ (e : Event). is_posted e.what ≡ true));
       informed = All-same (λ (w : WindowRecord). Knows Highlighting w × Knows Zooming w) windows [] begun.windows (All-nil (λ (w : WindowRecord). Knows Highlighting w × Knows Zooming w));

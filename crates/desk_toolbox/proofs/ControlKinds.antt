@@ -8,8 +8,9 @@ use Rattle.desk_call.specs.declared.window.WindowCall.TheVariants.{Dispose}
 use Rattle.desk_call.specs.declared.window.WindowReply.{WindowReply}
 use Rattle.control_mgr.specs.ControlDesks.{ControlSlot, ControlsState}
 use Rattle.control_mgr.proofs.ControlFacts.{control_facts}
+use Rattle.list_mgr.proofs.ListFacts.{list_facts}
 use Rattle.desk_toolbox.specs.Run.{AreControlsLeft, IsWindowMade, IsStep}
-use Rattle.desk_toolbox.specs.ToolboxStates.{ToolboxState, with_controls}
+use Rattle.desk_toolbox.specs.ToolboxStates.{ToolboxState, with_controls, with_lists}
 use Rattle.desk_toolbox.proofs.EachManager.{HoldsOfEach, of_step}
 
 abbrev pub control_kinds : List ControlSlot → List (List ℕ)
@@ -37,8 +38,9 @@ each_keeps = record {
   window = λ call answer before after may step. window_keeps call answer before after step;
   update = λ call answer before after may step rest. same_controls before.controls after.controls rest.1.0;
   frame = λ call answer before after may step rest. same_controls before.controls after.controls rest.1.0;
-  control = λ call answer before after may step events menus. (control_facts call answer (with_controls before) (with_controls after) step).0.kinds;
-  menu = λ call answer before after may step events controls. same_controls before.controls after.controls controls;
+  control = λ call answer before after may step events lists menus. (control_facts call answer (with_controls before) (with_controls after) step).0.kinds;
+  list = λ call answer before after may step events menus. (list_facts call answer (with_lists before) (with_lists after) step).0.kinds;
+  menu = λ call answer before after may step events controls lists. same_controls before.controls after.controls controls;
   event = λ call answer before after step. same_controls before.controls after.controls step.1.0;
 }
 

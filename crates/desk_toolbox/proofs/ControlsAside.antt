@@ -1,6 +1,9 @@
--- What is kept for updates, and the menus, stay whole beside calls about controls.
-use Rattle.std.proofs.Common.{◌≡◌, ◌⊎◌, ⊎_elim, inl, inr, List, None, Result, Ok, Err, sym, ap, subst}
+-- What is kept for updates, the menus and the lists stay whole beside calls about controls.
+use Rattle.std.proofs.Common.{◌≡◌, ◌⊎◌, ⊎_elim, inl, inr, ℕ, List, None, Result, Ok, Err, sym, ap, subst}
 use Rattle.tb_geom.specs.declared.refusal.Refusal.{Refusal}
+use Rattle.tb_geom.specs.Points.{PixelSet}
+use Rattle.def_iface.specs.declared.part.Part.{Part}
+use Rattle.def_iface.specs.Desk.{IsDesk}
 use Rattle.def_iface.specs.declared.taken.Taken.{Taken}
 use Rattle.def_iface.specs.declared.taken_control.TakenControl.{TakenControl}
 use Rattle.def_iface.specs.declared.taken_menu.TakenMenu.{TakenMenu}
@@ -15,7 +18,7 @@ use Rattle.desk_call.specs.Gates.{control_standing, gate}
 use Rattle.window_mgr.specs.declared.manager.WindowManager.{WindowManager}
 use Rattle.window_mgr.specs.DeskStates.{Opened}
 use Rattle.window_mgr.specs.Effects.{IsUnchanged}
-use Rattle.window_mgr.specs.FullDesk.{FullDesk}
+use Rattle.window_mgr.specs.FullDesk.{FullDesk, layered_desk}
 use Rattle.window_mgr.specs.Records.{state_of}
 use Rattle.window_mgr.proofs.ScreenSides.{SameSides}
 use Rattle.window_paint.specs.White.{all_white}
@@ -24,8 +27,12 @@ use Rattle.window_update.specs.WholeUpdates.{IsWholeUpdates}
 use Rattle.control_mgr.specs.declared.controls.Controls.{Controls}
 use Rattle.control_mgr.specs.ControlDesks.{ControlDesk, ControlSlot, IsControlDeskUnchanged}
 use Rattle.control_mgr.specs.ControlSteps.{IsControlStep}
-use Rattle.control_mgr.specs.WholeControls.{control_desk}
+use Rattle.control_mgr.specs.WholeControls.{AreApart, control_desk}
 use Rattle.control_mgr.proofs.ControlFacts.{control_facts}
+use Rattle.control_mgr.proofs.ControlsKept.{control_behind}
+use Rattle.list_mgr.specs.ListDesks.{ListsState}
+use Rattle.list_mgr.specs.WholeLists.{AreWholeLists}
+use Rattle.list_mgr.proofs.ListsWhole.{whole_behind}
 use Rattle.menu_mgr.specs.declared.menus.Menus.{Menus}
 use Rattle.menu_mgr.specs.MenuDesks.{MenuSlot}
 use Rattle.menu_mgr.specs.WholeMenus.{IsWholeMenus}
@@ -34,16 +41,22 @@ use Rattle.desk_toolbox.proofs.TrackedControls.{AtMostControl, comes_then, open_
 use Rattle.desk_toolbox.proofs.UpdatesBeside as updates
 use Rattle.desk_toolbox.proofs.UpdatesBeside.{UpdatesNone}
 
+-- lists that are whole are so after a call about controls
+pub control_leaves_lists : (call : ControlCall) (answer : Result ControlReply Refusal) (before after : ControlDesk) (s : ListsState) → IsDesk (layered_desk before.desk.windows.desk) → AreApart before.controls.controls
+    → IsControlStep call answer before after → AreWholeLists before.desk.windows.desk.windows s → AreWholeLists after.desk.windows.desk.windows s
+control_leaves_lists call answer before after s distinct apart step whole =
+    whole_behind before.desk.windows.desk.windows after.desk.windows.desk.windows s (control_facts call answer before after step).0.windows (control_behind call answer before after distinct apart step) whole
+
 not_updating : (a : Activity) → AtMostControl a → UpdatesNone a
 not_updating a most = ⊎_elim (λ idle. subst UpdatesNone (sym idle) tt) (λ (k, is). subst UpdatesNone (sym is) tt) most
 
-module _ {V : Type 0} {H : V → Type 0} (loan : Taken V H → Loan) {W : Type 0} {K : W → Type 0} (menu_loan : TakenMenu W K → MenuLoan) {U : Type 0} {J : U → Type 0} (control_loan : TakenControl U J → ControlLoan)
+module _ {V : Type 0} {H : V → Type 0} (loan : Taken V H → Loan) {W : Type 0} {K : W → Type 0} (menu_loan : TakenMenu W K → MenuLoan) {U : Type 0} {J : U → Type 0} (control_loan : TakenControl U J → ControlLoan) (others : List ℕ → Part → PixelSet)
     (t new : WindowManager V H) (before after : List SlotView) (o n : Opened) (cs now : Controls (TakenControl U J)) (held left : List ControlSlot) where
   abbrev first : ControlDesk
-  first = control_desk control_loan loan t o before cs held
+  first = control_desk control_loan loan others t o before cs held
 
   abbrev last : ControlDesk
-  last = control_desk control_loan loan new n after now left
+  last = control_desk control_loan loan others new n after now left
 
   -- the windows did not change, whatever they show of controls
   unchanged : IsControlDeskUnchanged first last → IsUnchanged (state_of loan t before) (state_of loan new after)

@@ -4,6 +4,7 @@ use Rattle.tb_geom.specs.declared.point.Point.{Point}
 use Rattle.tb_geom.specs.declared.refusal.Refusal.{Refusal}
 use Rattle.desk_call.specs.declared.call.Call.{Call}
 use Rattle.desk_call.specs.declared.call.Call.TheVariants.{Window, Update, Frame, Control, Menu, Event}
+use Rattle.desk_call.specs.declared.call.Call.TheVariants as calls
 use Rattle.desk_call.specs.declared.call.Reply.{Reply}
 use Rattle.desk_call.specs.declared.call.Reply.TheVariants as reply
 use Rattle.desk_call.specs.declared.control.ControlCall.{ControlCall}
@@ -15,6 +16,8 @@ use Rattle.desk_call.specs.declared.event.EventCall.{EventCall}
 use Rattle.desk_call.specs.declared.event.EventReply.{EventReply}
 use Rattle.desk_call.specs.declared.frame.FrameCall.{FrameCall}
 use Rattle.desk_call.specs.declared.frame.FrameReply.{FrameReply}
+use Rattle.desk_call.specs.declared.list.ListCall.{ListCall}
+use Rattle.desk_call.specs.declared.list.ListReply.{ListReply}
 use Rattle.desk_call.specs.declared.menu.MenuCall.{MenuCall}
 use Rattle.desk_call.specs.declared.menu.MenuReply.{MenuReply}
 use Rattle.desk_call.specs.declared.update.UpdateCall.{UpdateCall}
@@ -25,9 +28,10 @@ use Rattle.desk_call.specs.Gates.{gate, standing_of}
 use Rattle.window_update.specs.UpdateSteps.{IsUpdateStep}
 use Rattle.window_frame.specs.FrameSteps.{IsFrameStep}
 use Rattle.control_mgr.specs.ControlSteps.{IsControlStep}
+use Rattle.list_mgr.specs.ListSteps.{IsListStep}
 use Rattle.menu_mgr.specs.MenuSteps.{IsMenuStep}
 use Rattle.desk_toolbox.specs.Fronts.{is_on_menu}
-use Rattle.desk_toolbox.specs.ToolboxStates.{ToolboxState, IsToolboxUnchanged, with_controls, with_menus}
+use Rattle.desk_toolbox.specs.ToolboxStates.{ToolboxState, IsToolboxUnchanged, with_controls, with_lists, with_menus}
 use Rattle.desk_toolbox.specs.Run.{IsWindowMade, IsWindowTold, IsControlTold, IsEventAnswer, IsAdmitted, IsGated, IsRestKept, IsStep, found_menu, is_covered, is_hidden_by_menu, is_under_menu, replied}
 
 -- `R` relates a call, what it is answered, and the states before and after it
@@ -43,11 +47,14 @@ module _ (R : Call → Result Reply Refusal → ToolboxState → ToolboxState �
     pub frame : (call : FrameCall) (answer : Result FrameReply Refusal) (before after : ToolboxState) → gate before.desk.activity (standing_of (Frame call)) ≡ None
         → IsFrameStep call answer before.desk after.desk → IsRestKept before after → R (Frame call) (replied reply.Frame answer) before after
     pub menu : (call : MenuCall) (answer : Result MenuReply Refusal) (before after : ToolboxState) → gate before.desk.activity (standing_of (Menu call)) ≡ None
-        → IsMenuStep call answer (with_menus before) (with_menus after) → after.events ≡ before.events → after.controls ≡ before.controls → R (Menu call) (replied reply.Menu answer) before after
+        → IsMenuStep call answer (with_menus before) (with_menus after) → after.events ≡ before.events → after.controls ≡ before.controls → after.lists ≡ before.lists → R (Menu call) (replied reply.Menu answer) before after
     pub hidden : (p : PointInWindow) (before after : ToolboxState) → IsToolboxUnchanged before after → R (Control (controls.Find p)) (Ok (reply.Control (control_reply.Found None))) before after
     pub control : (call : ControlCall) (answer : Result ControlReply Refusal) (before after : ToolboxState) → gate before.desk.activity (standing_of (Control call)) ≡ None
-        → IsControlStep call answer (with_controls before) (with_controls after) → after.events ≡ before.events → after.menus ≡ before.menus
+        → IsControlStep call answer (with_controls before) (with_controls after) → after.events ≡ before.events → after.lists ≡ before.lists → after.menus ≡ before.menus
         → R (Control call) (replied reply.Control answer) before after
+    pub list : (call : ListCall) (answer : Result ListReply Refusal) (before after : ToolboxState) → gate before.desk.activity (standing_of (calls.List call)) ≡ None
+        → IsListStep call answer (with_lists before) (with_lists after) → after.events ≡ before.events → after.menus ≡ before.menus
+        → R (calls.List call) (replied reply.List answer) before after
     pub event : (call : EventCall) (answer : Result EventReply Refusal) (before after : ToolboxState)
         → IsEventAnswer call answer before after → R (Event call) (replied reply.Event answer) before after
 
@@ -63,21 +70,22 @@ module _ (R : Call → Result Reply Refusal → ToolboxState → ToolboxState �
 
     -- whether the point lies under a pulled menu, or the controls answer
     of_controls : (covered : Bool) (call : ControlCall) (p : PointInWindow) → call ≡ controls.Find p → (own : Result ControlReply Refusal) (before after : ToolboxState) → gate before.desk.activity (standing_of (Control call)) ≡ None → IsControlTold covered call own before after → R (Control call) (replied reply.Control own) before after
-    of_controls false call p is own before after may (step, (events, menus)) = each.control call own before after may step events menus
+    of_controls false call p is own before after may (step, (events, (lists, menus))) = each.control call own before after may step events lists menus
     of_controls true call p is own before after may (told, same) =
         subst (λ c. R (Control c) (replied reply.Control own) before after) (sym is)
         (subst (λ r. R (Control (controls.Find p)) (replied reply.Control r) before after) (sym told) (each.hidden p before after same))
 
     of_control : (call : ControlCall) (own : Result ControlReply Refusal) (before after : ToolboxState) → gate before.desk.activity (standing_of (Control call)) ≡ None → IsControlTold (is_hidden_by_menu call before) call own before after → R (Control call) (replied reply.Control own) before after
     of_control (controls.Find p) own before after may step = of_controls (is_under_menu before p) (controls.Find p) p refl own before after may step
-    of_control call own before after may (step, (events, menus)) = each.control call own before after may step events menus
+    of_control call own before after may (step, (events, (lists, menus))) = each.control call own before after may step events lists menus
 
     pub of_admitted : (call : Call) (answer : Result Reply Refusal) (before after : ToolboxState) → gate before.desk.activity (standing_of call) ≡ None → IsAdmitted call answer before after → R call answer before after
     of_admitted (Window call) answer before after may (own, is, step) = subst (λ r. R (Window call) r before after) (sym is) (of_window call own before after may step)
     of_admitted (Update call) answer before after may (own, is, step) = subst (λ r. R (Update call) r before after) (sym is) (each.update call own before after may step.0 step.1)
     of_admitted (Frame call) answer before after may (own, is, step) = subst (λ r. R (Frame call) r before after) (sym is) (each.frame call own before after may step.0 step.1)
     of_admitted (Control call) answer before after may (own, is, step) = subst (λ r. R (Control call) r before after) (sym is) (of_control call own before after may step)
-    of_admitted (Menu call) answer before after may (own, is, step) = subst (λ r. R (Menu call) r before after) (sym is) (each.menu call own before after may step.0 step.1.0 step.1.1)
+    of_admitted (calls.List call) answer before after may (own, is, (step, (events, menus))) = subst (λ r. R (calls.List call) r before after) (sym is) (each.list call own before after may step events menus)
+    of_admitted (Menu call) answer before after may (own, is, step) = subst (λ r. R (Menu call) r before after) (sym is) (each.menu call own before after may step.0 step.1.0 step.1.1.0 step.1.1.1)
     of_admitted (Event call) answer before after may (own, is, step) = subst (λ r. R (Event call) r before after) (sym is) (each.event call own before after step)
 
     of_gated : (stopped : Option Refusal) (call : Call) (answer : Result Reply Refusal) (before after : ToolboxState) → gate before.desk.activity (standing_of call) ≡ stopped → IsGated stopped call answer before after → R call answer before after

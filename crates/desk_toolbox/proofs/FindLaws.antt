@@ -85,9 +85,9 @@ module _ (before : ToolboxState) (asked : PointInWindow) where
         → IsControlTold covered (controls.Find asked) own before after
         → (own ≡ Ok (control_reply.Found (found_on_screen before asked))) × IsToolboxUnchanged before after
     told_so true own on (is, same) = (is ∙ ap (λ f. Ok (control_reply.Found f)) (none_so (record_with asked.window before.desk.windows.desk.windows) on), same)
-    told_so false (Ok own) away ((may, (is, same)), (events, menus)) = (
+    told_so false (Ok own) away ((may, (is, same)), (events, (lists, menus))) = (
       ap Ok (is ∙ ap control_reply.Found (found_so (record_with asked.window before.desk.windows.desk.windows) inside away)),
-      record { desk = same.desk; controls = same.controls; menus = menus; events = events },
+      record { desk = same.desk; controls = same.controls; lists = lists; menus = menus; events = events },
     )
     told_so false (Err e) away ((inl why, same), rest) = absurd (some_is_none (unrefused (Some e) why))
       where

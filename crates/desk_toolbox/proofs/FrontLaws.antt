@@ -25,7 +25,7 @@ use Rattle.window_update.specs.Served.{AreAllServed}
 use Rattle.menu_mgr.specs.Pulling.{is_in}
 use Rattle.desk_toolbox.specs.Fronts.{IsScreenAllRight, IsScreenRight, is_on_menu, pulled, pulled_value, screen_bit, screen_of, screen_owner, screen_scratch}
 use Rattle.desk_toolbox.specs.Fronts.ScreenOwner.{PulledMenu, Base}
-use Rattle.desk_toolbox.specs.Reached.{AreControlsRight}
+use Rattle.desk_toolbox.specs.Reached.{AreContentsRight}
 use Rattle.desk_toolbox.specs.ToolboxStates.{ToolboxState, IsToolboxUnchanged}
 use Rattle.desk_toolbox.specs.Run.{IsAdmitted, IsGated, IsRunOfCalls, IsStep, IsWindowTold, found_menu, replied}
 use Rattle.desk_toolbox.proofs.Runs.{served_run_is_all_right}
@@ -52,7 +52,7 @@ screen_is_right s right p on fresh =
     shown_alike s.desk.windows.desk.font (pulled s) s.desk.windows.image (scratch desk) p
     (λ away. right.plain.right p on (not_stale (s.desk.windows.stale p) (is_on_menu s p) fresh (λ i. on i && away i)))
 
-pub served_run_shows_all_right : (first last : ToolboxState) (calls : List Call) (answers : List (Result Reply Refusal)) → IsRightState first.desk.windows → AreControlsRight first → IsRunOfCalls first calls answers last → AreAllServed last.desk.windows → IsScreenAllRight last
+pub served_run_shows_all_right : (first last : ToolboxState) (calls : List Call) (answers : List (Result Reply Refusal)) → IsRightState first.desk.windows → AreContentsRight first → IsRunOfCalls first calls answers last → AreAllServed last.desk.windows → IsScreenAllRight last
 served_run_shows_all_right first last calls answers right controls run served p on =
     shown_alike last.desk.windows.desk.font (pulled last) last.desk.windows.image (scratch (layered_desk last.desk.windows.desk)) p
     (λ away. served_run_is_all_right first last calls answers right controls run served p on)

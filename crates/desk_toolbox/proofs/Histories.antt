@@ -31,6 +31,7 @@ use Rattle.desk_toolbox.proofs.UpdatedDesks.{update_keeps_desk}
 use Rattle.desk_toolbox.proofs.StepCounts.{Recount, HasSame, IsGone, same_desk, frame_counts, menu_counts, window_recounts, gone_stays, disposed_is_gone, present_is_not_gone, right_is_numbered}
 use Rattle.desk_toolbox.proofs.Stands.{Stands, stands}
 use Rattle.desk_toolbox.proofs.TrackedControls.{control_counts}
+use Rattle.desk_toolbox.proofs.ListStands.{list_counts}
 use Rattle.desk_toolbox.proofs.KeptDesks.{refused_keeps_desk}
 use Rattle.desk_toolbox.proofs.Telling.{forgotten_if, left_after, telling_on, event_tells, told_if}
 use Rattle.desk_toolbox.proofs.Consistent.{step_keeps_consistent, just_begun_is_consistent}
@@ -57,9 +58,9 @@ quiet None told active new_active new rest is = ap (λ t. telling t new_active r
 quiet (Some w) told active new_active new rest is = ap (λ t. telling t new_active rest) (sym is)
 
 window_step : (call : WindowCall) (answer : Result WindowReply Refusal) (before after : ToolboxState) → IsWindowMade call answer before after → IsOneStep (asks.Window call) (replied reply.Window answer) before after
-window_step call (Ok answer) before after ((middle, answered, (told, same, caught, shown, gone)), (events, menus)) = record {
+window_step call (Ok answer) before after ((middle, answered, (told, same, caught, shown, gone, ended)), (events, menus)) = record {
   tells = λ rest. quiet (to_dispose call) before.events.told before.desk.windows.desk.active after.desk.windows.desk.active after.events.told rest (ap (λ (e : Events). e.told) (events ∙ left_after call before.events));
-  recount = window_recounts call answer before.desk middle told after.desk.windows after.controls.controls answered caught shown;
+  recount = window_recounts call answer before.desk middle told after.desk.windows after.controls.controls after.lists.lists answered caught shown;
 }
 window_step call (Err e) before after (answered, (events, menus)) = record {
   tells = λ rest. quiet None before.events.told before.desk.windows.desk.active after.desk.windows.desk.active after.events.told rest (ap (λ (e : Events). e.told) events);
@@ -95,6 +96,7 @@ refused_step : (call : Call) (e : Refusal) (before after : ToolboxState) → aft
 refused_step (asks.Window call) e before after events same = still_step (asks.Window call) (Err e) before after refl refl (λ rest. refl) events same
 refused_step (asks.Update call) e before after events same = still_step (asks.Update call) (Err e) before after refl refl (λ rest. refl) events same
 refused_step (asks.Frame call) e before after events same = still_step (asks.Frame call) (Err e) before after refl refl (λ rest. refl) events same
+refused_step (asks.List call) e before after events same = still_step (asks.List call) (Err e) before after refl refl (λ rest. refl) events same
 refused_step (asks.Control call) e before after events same = still_step (asks.Control call) (Err e) before after refl refl (λ rest. refl) events same
 refused_step (asks.Menu call) e before after events same = still_step (asks.Menu call) (Err e) before after refl refl (λ rest. refl) events same
 refused_step (asks.Event (Post p)) e before after events same = still_step (asks.Event (Post p)) (Err e) before after refl refl (λ rest. refl) events same
@@ -114,8 +116,9 @@ each_goes_on = record {
   window = λ call answer before after may step was. window_step call answer before after step;
   update = λ call answer before after may step kept was. still_step (asks.Update call) (replied reply.Window answer) before after refl refl (λ rest. refl) kept.0 (same_desk before.desk.windows.desk after.desk.windows.desk (update_keeps_desk call answer before.desk after.desk step));
   frame = λ call answer before after may step kept was. still_step (asks.Frame call) (replied reply.Frame answer) before after refl refl (λ rest. refl) kept.0 (frame_counts call answer before.desk after.desk step);
-  control = λ call answer before after may step events menus was. still_step (asks.Control call) (replied reply.Control answer) before after refl refl (λ rest. refl) events (control_counts call answer before after step);
-  menu = λ call answer before after may step events controls was. still_step (asks.Menu call) (replied reply.Menu answer) before after refl refl (λ rest. refl) events (menu_counts call answer (with_menus before) (with_menus after) step);
+  control = λ call answer before after may step events lists menus was. still_step (asks.Control call) (replied reply.Control answer) before after refl refl (λ rest. refl) events (control_counts call answer before after step);
+  list = λ call answer before after may step events menus was. still_step (asks.List call) (replied reply.List answer) before after refl refl (λ rest. refl) events (list_counts call answer before after step);
+  menu = λ call answer before after may step events controls lists was. still_step (asks.Menu call) (replied reply.Menu answer) before after refl refl (λ rest. refl) events (menu_counts call answer (with_menus before) (with_menus after) step);
   event = λ call answer before after step was. event_step_is call answer before after was step;
 }
 

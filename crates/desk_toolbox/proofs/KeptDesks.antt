@@ -43,9 +43,9 @@ module _ {A : Type 0} (f : FullDesk → A) (apart : (d : FullDesk) (ws : List Wi
       caught_up_keeps f (λ d ws. apart d ws d.active d.next d.stock) (window_standing call) middle.windows told caught
       ∙ answer_keeps (narrowed call before.activity before.begun) call answer before middle answered
 
-  -- whatever it shows of controls then
+  -- whatever it shows of controls and lists then
   pub made_keeps : ((d : FullDesk) (shows : Part → PixelSet) → f (record d { shows = shows }) ≡ f d) → (call : WindowCall) (answer : Result WindowReply Refusal) (before after : ToolboxState) → IsWindowMade call answer before after → f after.desk.windows.desk ≡ f before.desk.windows.desk
-  made_keeps beside call (Ok answer) before after ((middle, answered, (told, same, caught, shown, left)), rest) =
+  made_keeps beside call (Ok answer) before after ((middle, answered, (told, same, caught, shown, left, ended)), rest) =
       ap (λ (s : FullState). f s.desk) shown ∙ beside told.desk _ ∙ told_keeps call (Ok answer) before.desk middle told answered caught
   made_keeps beside call (Err e) before after step = answer_keeps (narrowed call before.desk.activity before.desk.begun) call (Err e) before.desk after.desk step.0
 

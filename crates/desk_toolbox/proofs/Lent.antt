@@ -5,8 +5,11 @@ use Rattle.bit_map.specs.Bits.{bit, on_map}
 use Rattle.def_iface.specs.declared.taken.Taken.{Taken}
 use Rattle.def_iface.specs.declared.taken_menu.TakenMenu.{TakenMenu}
 use Rattle.def_iface.specs.declared.taken_control.TakenControl.{TakenControl}
+use Rattle.def_iface.specs.declared.taken_list.TakenList.{TakenList}
 use Rattle.def_iface.specs.ControlMeaning.{ControlLoan}
+use Rattle.def_iface.specs.ListMeaning.{ListLoan}
 use Rattle.control_mgr.specs.ControlDesks.{ControlSlot}
+use Rattle.list_mgr.specs.ListDesks.{ListSlot}
 use Rattle.def_iface.specs.Meaning.{Loan}
 use Rattle.def_iface.specs.MenuMeaning.{MenuLoan}
 use Rattle.def_iface.specs.Stocked.{SlotView}
@@ -29,12 +32,12 @@ none_pulled (Updating s) menus none = refl
 none_pulled (Tracking s) menus none = refl
 none_pulled (TrackingControl c) menus none = refl
 
-module _ {V : Type 0} {H : V → Type 0} (loan : Taken V H → Loan) {W : Type 0} {K : W → Type 0} (menu_loan : TakenMenu W K → MenuLoan) {U : Type 0} {J : U → Type 0} (control_loan : TakenControl U J → ControlLoan) (t : Toolbox V U W H J K)
-    (slots : List SlotView) (kept : List MenuSlot) (held : List ControlSlot) (p : Point) where
-  pub front_shows : (m : PulledMenu) → t.activity ≡ Pulling m → IsFrontShown menu_loan t.activity t.windows t.menus → on_map t.menus.overlay.front p ≡ true → bit t.menus.overlay.front p ≡ screen_of (toolbox_state loan menu_loan control_loan t slots kept held) p
+module _ {V : Type 0} {H : V → Type 0} (loan : Taken V H → Loan) {W : Type 0} {K : W → Type 0} (menu_loan : TakenMenu W K → MenuLoan) {U : Type 0} {J : U → Type 0} (control_loan : TakenControl U J → ControlLoan) {X : Type 0} {L : X → Type 0} (list_loan : TakenList X L → ListLoan) (t : Toolbox V U W X H J K L)
+    (slots : List SlotView) (kept : List MenuSlot) (held : List ControlSlot) (listed : List ListSlot) (p : Point) where
+  pub front_shows : (m : PulledMenu) → t.activity ≡ Pulling m → IsFrontShown menu_loan t.activity t.windows t.menus → on_map t.menus.overlay.front p ≡ true → bit t.menus.overlay.front p ≡ screen_of (toolbox_state loan menu_loan control_loan list_loan t slots kept held listed) p
   front_shows m e shown on =
       let front : IsFrontShown menu_loan (Pulling m) t.windows t.menus = subst (λ a. IsFrontShown menu_loan a t.windows t.menus) e shown in
       front.pixels p on ∙ sym (ap (λ a. shown_bit t.windows.font (pulled_of a (menus_of menu_loan t.menus.list.menus.items)) (bit t.windows.screen) p) e)
 
-  pub base_shows : PullsNone t.activity → bit t.windows.screen p ≡ screen_of (toolbox_state loan menu_loan control_loan t slots kept held) p
+  pub base_shows : PullsNone t.activity → bit t.windows.screen p ≡ screen_of (toolbox_state loan menu_loan control_loan list_loan t slots kept held listed) p
   base_shows none = sym (ap (λ m. shown_bit t.windows.font m (bit t.windows.screen) p) (none_pulled t.activity (menus_of menu_loan t.menus.list.menus.items) none))

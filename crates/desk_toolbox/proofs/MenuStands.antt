@@ -22,7 +22,7 @@ use Rattle.desk_toolbox.specs.declared.events.Events.{Events}
 use Rattle.desk_toolbox.specs.Reached.{open_window}
 use Rattle.control_mgr.specs.ControlDesks.{ControlRecord}
 use Rattle.control_mgr.specs.WholeControls.{IsTrackable}
-use Rattle.desk_toolbox.proofs.ControlsBeside.{IsRightToolbox}
+use Rattle.desk_toolbox.proofs.ContentsBeside.{IsRightToolbox}
 use Rattle.desk_toolbox.specs.ToolboxStates.{ToolboxState, with_menus}
 use Rattle.desk_toolbox.proofs.MenuNumbers.{menu_keeps_apart}
 use Rattle.desk_toolbox.proofs.PulledSteps.{menu_keeps_pull}
@@ -118,7 +118,7 @@ menu_stands call answer before after may was right step events =
     let opens = step_opens call answer (with_menus before) (with_menus after) may step in
     record {
       right = right.right;
-      controls = right.controls;
+      contents = right.contents;
       trackable = none_tracked after.desk.activity after.controls.controls opens;
       active = subst (λ vs. Present after.desk.windows.desk.active vs) (sym windows) (subst (λ o. Present o ws) (sym active) was.active);
       told = subst (λ vs. Present after.events.told vs) (sym windows) (subst (λ (e : Events). Present e.told ws) (sym events) was.told);

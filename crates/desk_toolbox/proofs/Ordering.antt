@@ -1,5 +1,5 @@
 -- The reasons to refuse, and the written order.
-use Rattle.std.proofs.Common.{◌≡◌, Bool, true, false, if◌then◌else◌, List, [], ◌∷◌, ◌++◌, map, Some, refl, subst, arith}
+use Rattle.std.proofs.Common.{◌≡◌, Bool, true, false, if◌then◌else◌, List, [], ◌∷◌, ◌++◌, map, Option, Some, None, refl, subst, arith}
 use Rattle.std.specs.Prelude.{All}
 use Rattle.std.proofs.lemmas.Bool.{and_parts, le-leb, leb-true}
 use Rattle.std.proofs.lemmas.List.Elements.{All-nil, All-cons}
@@ -11,6 +11,13 @@ use Rattle.desk_call.specs.declared.control.ControlCall.TheVariants as controls
 use Rattle.desk_call.specs.declared.control.NewControl.{NewControl}
 use Rattle.control_mgr.specs.ControlDesks.{ControlSlot, ControlsState}
 use Rattle.control_mgr.specs.ControlRefusals.{control_form_refusals, control_refusals}
+use Rattle.desk_call.specs.declared.list.ListCall.{ListCall}
+use Rattle.desk_call.specs.declared.list.ListCall.TheVariants as lists
+use Rattle.desk_call.specs.declared.list.ListOf.{ListOf}
+use Rattle.list_cells.specs.Grids.{data_refusals, search_refusals}
+use Rattle.list_cells.specs.Runs.{add_refusals, delete_refusals, new_refusals}
+use Rattle.list_mgr.specs.ListDesks.{KeptList, ListsState, list_of}
+use Rattle.list_mgr.specs.ListRefusals.{list_reasons, list_refusals, missing_refusals, of_list}
 use Rattle.desk_call.specs.declared.frame.FrameCall.{FrameCall}
 use Rattle.desk_call.specs.declared.frame.FrameCall.TheVariants.{SetTitle, Hilite, TrackGoAway, StepGoAway, EndGoAway}
 use Rattle.desk_call.specs.declared.menu.MenuCall.{MenuCall}
@@ -71,6 +78,35 @@ control_reasons_in_order (controls.End p) desk s = refl
 -- what is judged of a new control whatever is open, what is open, and the rest
 pub control_form_in_order : (n : NewControl) (slots : List ControlSlot) (busy missing : Bool) → AreInOrder (control_form_refusals (controls.New n) slots ++ (busy, Busy) ∷ (missing, NoSuchWindow) ∷ [])
 control_form_in_order n slots busy missing = refl
+
+-- of a list that is named, where what is told of it once it is there is in order
+of_list_in_order : (l : ListOf) (f : KeptList → List (Bool × Refusal)) (desk : FullDesk) (ls : List KeptList) → ((x : KeptList) → AreInOrder (missing_refusals l desk ls ++ f x)) → AreInOrder (list_reasons l f desk ls)
+of_list_in_order l f desk ls ok = by_list (list_of l ls)
+  where
+    by_list : (o : Option KeptList) → AreInOrder (missing_refusals l desk ls ++ of_list f o)
+    by_list None = refl
+    by_list (Some x) = ok x
+
+pub list_reasons_in_order : (call : ListCall) (desk : FullDesk) (c : ControlsState) (s : ListsState) → AreInOrder (list_refusals call desk c s)
+unfolding add_refusals delete_refusals data_refusals search_refusals new_refusals
+list_reasons_in_order (lists.New n) desk c s = refl
+list_reasons_in_order (lists.Dispose l) desk c s = refl
+list_reasons_in_order (lists.AddRows n) desk c s = of_list_in_order n.list _ desk s.lists (λ x. refl)
+list_reasons_in_order (lists.AddColumns n) desk c s = of_list_in_order n.list _ desk s.lists (λ x. refl)
+list_reasons_in_order (lists.DeleteRows n) desk c s = of_list_in_order n.list _ desk s.lists (λ x. refl)
+list_reasons_in_order (lists.DeleteColumns n) desk c s = of_list_in_order n.list _ desk s.lists (λ x. refl)
+list_reasons_in_order (lists.SetCell t) desk c s = of_list_in_order t.cell.list _ desk s.lists (λ x. refl)
+list_reasons_in_order (lists.AddToCell t) desk c s = of_list_in_order t.cell.list _ desk s.lists (λ x. refl)
+list_reasons_in_order (lists.ClearCell k) desk c s = of_list_in_order k.list _ desk s.lists (λ x. refl)
+list_reasons_in_order (lists.GetCell k) desk c s = of_list_in_order k.list _ desk s.lists (λ x. refl)
+list_reasons_in_order (lists.Select k) desk c s = of_list_in_order k.cell.list _ desk s.lists (λ x. refl)
+list_reasons_in_order (lists.IsSelected k) desk c s = of_list_in_order k.list _ desk s.lists (λ x. refl)
+list_reasons_in_order (lists.FirstSelected k) desk c s = of_list_in_order k.list _ desk s.lists (λ x. refl)
+list_reasons_in_order (lists.NextCell n) desk c s = of_list_in_order n.cell.list _ desk s.lists (λ x. refl)
+list_reasons_in_order (lists.Search t) desk c s = of_list_in_order t.cell.list _ desk s.lists (λ x. refl)
+list_reasons_in_order (lists.Click k) desk c s = refl
+list_reasons_in_order (lists.Scroll m) desk c s = refl
+list_reasons_in_order (lists.SetDrawing d) desk c s = refl
 
 -- ---- what is told comes first
 

@@ -10,6 +10,8 @@ use Rattle.desk_call.specs.declared.event.EventCall.{EventCall}
 use Rattle.desk_call.specs.declared.event.EventReply.{EventReply}
 use Rattle.desk_call.specs.declared.frame.FrameCall.{FrameCall}
 use Rattle.desk_call.specs.declared.frame.FrameReply.{FrameReply}
+use Rattle.desk_call.specs.declared.list.ListCall.{ListCall}
+use Rattle.desk_call.specs.declared.list.ListReply.{ListReply}
 use Rattle.desk_call.specs.declared.menu.MenuCall.{MenuCall}
 use Rattle.desk_call.specs.declared.menu.MenuReply.{MenuReply}
 use Rattle.desk_call.specs.declared.update.UpdateCall.{UpdateCall}
@@ -40,16 +42,18 @@ use Rattle.window_frame.proofs.FrameLaws.{caught_up_stays_right, frame_stays_rig
 use Rattle.control_mgr.specs.ControlSteps.{IsControlStep}
 use Rattle.menu_mgr.specs.MenuSteps.{IsMenuStep}
 use Rattle.menu_mgr.proofs.MenuKeeps.{menu_keeps, menu_stays_right}
-use Rattle.desk_toolbox.specs.Reached.{AreControlsRight}
-use Rattle.desk_toolbox.specs.ToolboxStates.{ToolboxState, with_controls, with_menus}
+use Rattle.desk_toolbox.specs.Reached.{AreContentsRight}
+use Rattle.desk_toolbox.specs.ToolboxStates.{ToolboxState, with_controls, with_lists, with_menus}
 use Rattle.desk_toolbox.specs.Run.{IsWindowAnswer, IsWindowMade, IsEventAnswer, IsAdmitted, replied, IsStep, IsRunOfCalls, serial_made, made, AreCounted}
 use Rattle.window_update.proofs.ServedLaws.{all_served_is_right}
 use Rattle.window_update.proofs.UpdateLaws.{update_stays_right}
 use Rattle.desk_toolbox.proofs.EachManager.{HoldsOfEach, of_admitted, of_step}
 use Rattle.desk_toolbox.proofs.UpdatedDesks.{update_keeps_desk}
-use Rattle.desk_toolbox.proofs.ControlsBeside.{IsRightToolbox, still, beside_frames, beside_menus}
-use Rattle.desk_toolbox.proofs.ControlsLeft.{made_stays_right, control_stays_right}
+use Rattle.desk_toolbox.proofs.ContentsBeside.{IsRightToolbox, still, beside_frames, beside_menus}
+use Rattle.desk_toolbox.proofs.ContentsLeft.{control_stays_right, list_stays_right, made_stays_right}
 use Rattle.control_mgr.proofs.ControlFacts.{control_facts}
+use Rattle.list_mgr.specs.ListSteps.{IsListStep}
+use Rattle.list_mgr.proofs.ListFacts.{list_facts}
 use Rattle.desk_toolbox.proofs.KeptDesks.{refused_keeps_desk}
 
 -- ---- what is right stays so
@@ -62,21 +66,21 @@ unchanged_desk_stays_right : (before after : ToolboxState) → IsRightState befo
 unchanged_desk_stays_right before after right same = unchanged_stays_right before.desk.windows after.desk.windows right same.windows
 
 window_stays_right : (call : WindowCall) (answer : Result WindowReply Refusal) (before after : ToolboxState) → IsRightToolbox before → IsWindowMade call answer before after → IsRightToolbox after
-window_stays_right call (Ok answer) before after was (((middle, answered, (told, same, caught, shown, left)), rest)) =
+window_stays_right call (Ok answer) before after was (((middle, answered, (told, same, caught, shown, left, lists)), rest)) =
     let asked = narrowed call before.desk.activity before.desk.begun in
-    made_stays_right call answer before middle told after was answered caught shown left
+    made_stays_right call answer before middle told after was answered caught shown left lists
     (caught_up_stays_right (window_standing call) middle.windows told (answer_stays_right asked call (Ok answer) before.desk middle was.right answered) caught)
-window_stays_right call (Err e) before after was (answered, (events, (controls, menus))) =
+window_stays_right call (Err e) before after was (answered, (events, (controls, (lists, menus)))) =
     let asked = narrowed call before.desk.activity before.desk.begun in
     record {
       right = answer_stays_right asked call (Err e) before.desk after.desk was.right answered;
-      controls = still before after (refused_keeps_desk asked call e before.desk after.desk answered) controls was.controls;
+      contents = still before after (refused_keeps_desk asked call e before.desk after.desk answered) controls lists was.contents;
     }
 
-unchanged_stays : (before after : ToolboxState) → IsDeskUnchanged before.desk after.desk → after.controls ≡ before.controls → IsRightToolbox before → IsRightToolbox after
-unchanged_stays before after same controls was = record {
+unchanged_stays : (before after : ToolboxState) → IsDeskUnchanged before.desk after.desk → after.controls ≡ before.controls → after.lists ≡ before.lists → IsRightToolbox before → IsRightToolbox after
+unchanged_stays before after same controls lists was = record {
   right = unchanged_desk_stays_right before after was.right same;
-  controls = still before after same.windows.desk controls was.controls;
+  contents = still before after same.windows.desk controls lists was.contents;
 }
 
 abbrev StaysRight : Call → Result Reply Refusal → ToolboxState → ToolboxState → Type 0
@@ -84,24 +88,25 @@ StaysRight call answer before after = IsRightToolbox before → IsRightToolbox a
 
 each_stays_right : HoldsOfEach StaysRight
 each_stays_right = record {
-  unchanged = λ call e before after same was. unchanged_stays before after same.desk same.controls was;
-  covered = λ p before after same was. unchanged_stays before after same.desk same.controls was;
-  hidden = λ p before after same was. unchanged_stays before after same.desk same.controls was;
+  unchanged = λ call e before after same was. unchanged_stays before after same.desk same.controls same.lists was;
+  covered = λ p before after same was. unchanged_stays before after same.desk same.controls same.lists was;
+  hidden = λ p before after same was. unchanged_stays before after same.desk same.controls same.lists was;
   window = λ call answer before after may step was. window_stays_right call answer before after was step;
   update = λ call answer before after may step rest was. record {
     right = update_stays_right call answer before.desk after.desk was.right step;
-    controls = still before after (update_keeps_desk call answer before.desk after.desk step) rest.1.0 was.controls;
+    contents = still before after (update_keeps_desk call answer before.desk after.desk step) rest.1.0 rest.1.1.0 was.contents;
   };
   frame = λ call answer before after may step rest was. record {
     right = frame_stays_right call answer before.desk after.desk was.right step;
-    controls = beside_frames call answer before after step rest.1.0 was.controls;
+    contents = beside_frames call answer before after step rest.1.0 rest.1.1.0 was.contents;
   };
-  control = λ call answer before after may step events menus was. control_stays_right call answer before after was step;
-  menu = λ call answer before after may step events controls was. record {
+  control = λ call answer before after may step events lists menus was. control_stays_right call answer before after was step lists;
+  list = λ call answer before after may step events menus was. list_stays_right call answer before after was step;
+  menu = λ call answer before after may step events controls lists was. record {
     right = menu_stays_right call answer (with_menus before) (with_menus after) was.right step;
-    controls = beside_menus call answer before after step controls was.controls;
+    contents = beside_menus call answer before after step controls lists was.contents;
   };
-  event = λ call answer before after step was. unchanged_stays before after step.0 step.1.0 was;
+  event = λ call answer before after step was. unchanged_stays before after step.0 step.1.0 step.1.1.0 was;
 }
 
 pub admitted_stays_right : (call : Call) (answer : Result Reply Refusal) (before after : ToolboxState) → gate before.desk.activity (standing_of call) ≡ None → IsRightToolbox before → IsAdmitted call answer before after → IsRightToolbox after
@@ -119,7 +124,7 @@ answer_keeps_kinds None call answer before after step = kinds.step_keeps_kinds c
 answer_keeps_kinds (Some set) call answer before after step = same_kinds before.windows after.windows step.1.windows.desk
 
 window_keeps_kinds : (call : WindowCall) (answer : Result WindowReply Refusal) (before after : ToolboxState) → IsWindowMade call answer before after → kinds_of after.desk.windows ≡ kinds_of before.desk.windows
-window_keeps_kinds call (Ok answer) before after ((middle, answered, (told, same, caught, shown, left)), rest) =
+window_keeps_kinds call (Ok answer) before after ((middle, answered, (told, same, caught, shown, left, lists)), rest) =
     ap kinds_of shown
     ∙ caught_up_keeps (λ d. map (λ slot. slot.kind) d.stock) (λ d ws. refl) (window_standing call) middle.windows told caught
     ∙ answer_keeps_kinds (narrowed call before.desk.activity before.desk.begun) call (Ok answer) before.desk middle answered
@@ -136,8 +141,9 @@ each_keeps_kinds = record {
   hidden = λ p before after same. same_kinds before.desk.windows after.desk.windows same.desk.windows.desk;
   update = λ call answer before after may step rest. same_kinds before.desk.windows after.desk.windows (update_keeps_desk call answer before.desk after.desk step);
   frame = λ call answer before after may step rest. frame_keeps (λ d. map (λ slot. slot.kind) d.stock) (λ d ws. refl) call answer before.desk after.desk step;
-  control = λ call answer before after may step events menus. ap (λ stock. map (λ slot. slot.kind) stock) (control_facts call answer (with_controls before) (with_controls after) step).0.stock;
-  menu = λ call answer before after may step events controls. menu_keeps (λ d. map (λ slot. slot.kind) d.stock) (λ d titles. refl) call answer (with_menus before) (with_menus after) step;
+  control = λ call answer before after may step events lists menus. ap (λ stock. map (λ slot. slot.kind) stock) (control_facts call answer (with_controls before) (with_controls after) step).0.stock;
+  list = λ call answer before after may step events menus. ap (λ (d : FullDesk). map (λ slot. slot.kind) d.stock) (list_facts call answer (with_lists before) (with_lists after) step).0.rest;
+  menu = λ call answer before after may step events controls lists. menu_keeps (λ d. map (λ slot. slot.kind) d.stock) (λ d titles. refl) call answer (with_menus before) (with_menus after) step;
   event = λ call answer before after step. same_kinds before.desk.windows after.desk.windows step.0.windows.desk;
 }
 
@@ -151,21 +157,21 @@ run_stays_right first last (call ∷ calls) [] right run = absurd run
 run_stays_right first last (call ∷ calls) (answer ∷ answers) right run =
     run_stays_right run.0 last calls answers (step_stays_right call answer first run.0 right run.1) run.2
 
--- the same, of the windows and of the controls
-pub step_is_right : (call : Call) (answer : Result Reply Refusal) (before after : ToolboxState) → IsRightState before.desk.windows → AreControlsRight before → IsStep call answer before after → IsRightState after.desk.windows
-step_is_right call answer before after right controls step = (step_stays_right call answer before after (record { right = right; controls = controls }) step).right
+-- the same, of the windows and of what they show
+pub step_is_right : (call : Call) (answer : Result Reply Refusal) (before after : ToolboxState) → IsRightState before.desk.windows → AreContentsRight before → IsStep call answer before after → IsRightState after.desk.windows
+step_is_right call answer before after right contents step = (step_stays_right call answer before after (record { right = right; contents = contents }) step).right
 
-pub step_controls_are_right : (call : Call) (answer : Result Reply Refusal) (before after : ToolboxState) → IsRightState before.desk.windows → AreControlsRight before → IsStep call answer before after → AreControlsRight after
-step_controls_are_right call answer before after right controls step = (step_stays_right call answer before after (record { right = right; controls = controls }) step).controls
+pub step_contents_are_right : (call : Call) (answer : Result Reply Refusal) (before after : ToolboxState) → IsRightState before.desk.windows → AreContentsRight before → IsStep call answer before after → AreContentsRight after
+step_contents_are_right call answer before after right contents step = (step_stays_right call answer before after (record { right = right; contents = contents }) step).contents
 
-pub run_is_right : (first last : ToolboxState) (calls : List Call) (answers : List (Result Reply Refusal)) → IsRightState first.desk.windows → AreControlsRight first → IsRunOfCalls first calls answers last → IsRightState last.desk.windows
-run_is_right first last calls answers right controls run = (run_stays_right first last calls answers (record { right = right; controls = controls }) run).right
+pub run_is_right : (first last : ToolboxState) (calls : List Call) (answers : List (Result Reply Refusal)) → IsRightState first.desk.windows → AreContentsRight first → IsRunOfCalls first calls answers last → IsRightState last.desk.windows
+run_is_right first last calls answers right contents run = (run_stays_right first last calls answers (record { right = right; contents = contents }) run).right
 
-pub run_controls_are_right : (first last : ToolboxState) (calls : List Call) (answers : List (Result Reply Refusal)) → IsRightState first.desk.windows → AreControlsRight first → IsRunOfCalls first calls answers last → AreControlsRight last
-run_controls_are_right first last calls answers right controls run = (run_stays_right first last calls answers (record { right = right; controls = controls }) run).controls
+pub run_contents_are_right : (first last : ToolboxState) (calls : List Call) (answers : List (Result Reply Refusal)) → IsRightState first.desk.windows → AreContentsRight first → IsRunOfCalls first calls answers last → AreContentsRight last
+run_contents_are_right first last calls answers right contents run = (run_stays_right first last calls answers (record { right = right; contents = contents }) run).contents
 
 -- and all of the screen is right once every update is served
-pub served_run_is_all_right : (first last : ToolboxState) (calls : List Call) (answers : List (Result Reply Refusal)) → IsRightState first.desk.windows → AreControlsRight first → IsRunOfCalls first calls answers last → AreAllServed last.desk.windows → IsAllRight last.desk.windows
+pub served_run_is_all_right : (first last : ToolboxState) (calls : List Call) (answers : List (Result Reply Refusal)) → IsRightState first.desk.windows → AreContentsRight first → IsRunOfCalls first calls answers last → AreAllServed last.desk.windows → IsAllRight last.desk.windows
 served_run_is_all_right first last calls answers right controls run served = all_served_is_right last.desk.windows (run_is_right first last calls answers right controls run) served
 
 -- ---- runs that go on
@@ -290,6 +296,7 @@ abbrev made_by : Result Reply Refusal → List ℕ
 made_by (Ok (reply.Window answer)) = serial_made answer
 made_by (Ok (reply.Frame answer)) = []
 made_by (Ok (reply.Control answer)) = []
+made_by (Ok (reply.List answer)) = []
 made_by (Ok (reply.Menu answer)) = []
 made_by (Ok (reply.Event answer)) = []
 made_by (Err e) = []
@@ -299,7 +306,7 @@ next_counted : (before after : FullState) (numbers : List ℕ) → after.desk.ne
 next_counted before after numbers same h = subst (λ n. AreCounted n numbers) same h
 
 window_is_counted : (call : WindowCall) (answer : Result WindowReply Refusal) (before after : ToolboxState) (numbers : List ℕ) → IsWindowMade call answer before after → AreCounted after.desk.windows.desk.next numbers → AreCounted before.desk.windows.desk.next (made_by (replied reply.Window answer) ++ numbers)
-window_is_counted call (Ok answer) before after numbers ((middle, answered, (told, same, caught, shown, left)), rest) h =
+window_is_counted call (Ok answer) before after numbers ((middle, answered, (told, same, caught, shown, left, lists)), rest) h =
     answer_is_counted (narrowed call before.desk.activity before.desk.begun) call (Ok answer) before.desk middle numbers answered
     (next_counted middle.windows after.desk.windows numbers
     (ap (λ (s : FullState). s.desk.next) shown ∙ caught_up_keeps (λ d. d.next) (λ d ws. refl) (window_standing call) middle.windows told caught) h)
@@ -326,6 +333,10 @@ control_is_counted : (call : ControlCall) (answer : Result ControlReply Refusal)
 control_is_counted call (Ok answer) before after numbers step h = next_counted before.desk.windows after.desk.windows numbers (control_facts call (Ok answer) (with_controls before) (with_controls after) step).0.next h
 control_is_counted call (Err e) before after numbers step h = next_counted before.desk.windows after.desk.windows numbers (control_facts call (Err e) (with_controls before) (with_controls after) step).0.next h
 
+list_is_counted : (call : ListCall) (answer : Result ListReply Refusal) (before after : ToolboxState) (numbers : List ℕ) → IsListStep call answer (with_lists before) (with_lists after) → AreCounted after.desk.windows.desk.next numbers → AreCounted before.desk.windows.desk.next (made_by (replied reply.List answer) ++ numbers)
+list_is_counted call (Ok answer) before after numbers step h = next_counted before.desk.windows after.desk.windows numbers (ap (λ (d : FullDesk). d.next) (list_facts call (Ok answer) (with_lists before) (with_lists after) step).0.rest) h
+list_is_counted call (Err e) before after numbers step h = next_counted before.desk.windows after.desk.windows numbers (ap (λ (d : FullDesk). d.next) (list_facts call (Err e) (with_lists before) (with_lists after) step).0.rest) h
+
 -- the numbers of what this was answered follow, in front of others
 abbrev GoesOnCounting : Call → Result Reply Refusal → ToolboxState → ToolboxState → Type 0
 GoesOnCounting call answer before after = (numbers : List ℕ) → AreCounted after.desk.windows.desk.next numbers → AreCounted before.desk.windows.desk.next (made_by answer ++ numbers)
@@ -338,8 +349,9 @@ each_is_counted = record {
   hidden = λ p before after same numbers h. counted_on before.desk.windows after.desk.windows numbers same.desk.windows h;
   update = λ call answer before after may step rest numbers h. update_is_counted call answer before.desk after.desk numbers step h;
   frame = λ call answer before after may step rest numbers h. frame_is_counted call answer before.desk after.desk numbers step h;
-  control = λ call answer before after may step events menus numbers h. control_is_counted call answer before after numbers step h;
-  menu = λ call answer before after may step events controls numbers h. menu_is_counted call answer before after numbers step h;
+  control = λ call answer before after may step events lists menus numbers h. control_is_counted call answer before after numbers step h;
+  list = λ call answer before after may step events menus numbers h. list_is_counted call answer before after numbers step h;
+  menu = λ call answer before after may step events controls lists numbers h. menu_is_counted call answer before after numbers step h;
   event = λ call answer before after step numbers h. event_is_counted call answer before after numbers step h;
 }
 
@@ -347,6 +359,7 @@ made_first : (answer : Result Reply Refusal) (answers : List (Result Reply Refus
 made_first (Ok (reply.Window answer)) answers = refl
 made_first (Ok (reply.Frame answer)) answers = refl
 made_first (Ok (reply.Control answer)) answers = refl
+made_first (Ok (reply.List answer)) answers = refl
 made_first (Ok (reply.Menu answer)) answers = refl
 made_first (Ok (reply.Event answer)) answers = refl
 made_first (Err e) answers = refl

@@ -1,16 +1,18 @@
--- What the definitions of windows and of controls show, by what the records say.
-use Rattle.std.proofs.Common.{◌≡◌, get_or, subst}
+-- What the definitions of windows, of controls and of lists show, by what the records say.
+use Rattle.std.proofs.Common.{◌≡◌, get_or, not, subst}
 use Rattle.std.specs.Prelude.{All}
 use Rattle.def_iface.specs.Meaning.{GoesBy}
 use Rattle.def_iface.specs.News.{AllNews}
 use Rattle.def_iface.specs.ControlMeaning.{ControlGoesBy}
+use Rattle.def_iface.specs.ListMeaning.{ListGoesBy}
 use Rattle.vis_update.specs.Records.{WindowRecord, news_of}
 use Rattle.window_mgr.specs.FullDesk.{FullDesk}
 use Rattle.window_mgr.specs.Whole.{IsSoundDesk, IsSettled}
 use Rattle.window_frame.specs.Followers.{Knows, AreInformed}
 use Rattle.window_frame.specs.Followers.Flag.{Highlighting, Zooming}
 use Rattle.control_mgr.specs.ControlDesks.{news_of_control}
-use Rattle.desk_toolbox.specs.Reached.{AreControlsRight, news_by_record}
+use Rattle.list_mgr.specs.WholeLists.{cell_size}
+use Rattle.desk_toolbox.specs.Reached.{AreContentsRight, news_by_record}
 use Rattle.desk_toolbox.specs.ToolboxStates.{ToolboxState}
 
 goes_by_record : (w : WindowRecord) → IsSettled w → Knows Highlighting w → Knows Zooming w → GoesBy (news_by_record w) w.definition
@@ -24,5 +26,8 @@ desk_goes_by_records desk sound informed = λ k d within.
     let knows = informed k d within in
     goes_by_record w (sound.settled k d within) knows.0 knows.1
 
-pub controls_go_by_records : (s : ToolboxState) → AreControlsRight s → All (λ c. ControlGoesBy (news_of_control c) c.definition.definition) s.controls.controls
-controls_go_by_records s right = λ k d within. (right.whole.settled k d within).goes_by
+pub controls_go_by_records : (s : ToolboxState) → AreContentsRight s → All (λ c. ControlGoesBy (news_of_control c) c.definition.definition) s.controls.controls
+controls_go_by_records s right = λ k d within. (right.controls.settled k d within).goes_by
+
+pub lists_go_by_records : (s : ToolboxState) → AreContentsRight s → All (λ l. ListGoesBy (cell_size l.view) (not l.flags.no_nil_hilite) l.definition.definition) s.lists.lists
+lists_go_by_records s right = λ k d within. (right.lists.settled k d within).goes_by

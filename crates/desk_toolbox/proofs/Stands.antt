@@ -26,13 +26,13 @@ use Rattle.window_frame.proofs.FrameKeeps.{caught_up_keeps}
 use Rattle.desk_toolbox.specs.declared.events.Events.{Events}
 use Rattle.desk_toolbox.specs.Activations.{to_dispose}
 use Rattle.desk_toolbox.specs.EventSteps.{event_step}
-use Rattle.desk_toolbox.specs.Reached.{AreApart, AreControlsRight, IsThere, IsConsistent, open_window}
+use Rattle.desk_toolbox.specs.Reached.{AreApart, AreContentsRight, IsThere, IsConsistent, open_window}
 use Rattle.desk_toolbox.specs.Run.{AreControlsLeft, IsWindowAnswer, IsWindowMade, IsEventAnswer}
 use Rattle.desk_toolbox.specs.ToolboxStates.{ToolboxState}
 use Rattle.desk_toolbox.proofs.PulledMenus.{IsPullRight, same_pull}
 use Rattle.desk_toolbox.proofs.Totals.{total, Present, present_when, found_counts, counted_is_found}
 use Rattle.desk_toolbox.proofs.Recounts.{done_counts, done_keeps_active}
-use Rattle.desk_toolbox.proofs.ControlsBeside.{IsRightToolbox}
+use Rattle.desk_toolbox.proofs.ContentsBeside.{IsRightToolbox}
 use Rattle.desk_toolbox.proofs.KeptDesks.{made_keeps, refused_keeps_desk}
 use Rattle.desk_toolbox.proofs.StepCounts.{Apart, caught_up_counts, caught_up_total, same_and_same, shown_counts, window_recounts, stays_present}
 use Rattle.desk_toolbox.proofs.Told.{ArePosted, step_are_posted}
@@ -44,7 +44,7 @@ pub record Stands (s : ToolboxState) : Type 0 where
   pub active : Present s.desk.windows.desk.active s.desk.windows.desk.windows
   pub told : Present s.events.told s.desk.windows.desk.windows
   pub opened : Present (open_window s.desk.activity) s.desk.windows.desk.windows
-  pub controls : AreControlsRight s
+  pub contents : AreContentsRight s
   pub trackable : IsTrackable s.desk.activity s.controls.controls
   pub queued : ArePosted s.events.queue.events
   pub informed : AreInformed s.desk.windows.desk.windows
@@ -67,7 +67,7 @@ stands s h = record {
   active = there_is_present s.desk.windows.desk.active s.desk.windows.desk.windows h.active;
   told = there_is_present s.events.told s.desk.windows.desk.windows h.told;
   opened = there_is_present (open_window s.desk.activity) s.desk.windows.desk.windows h.opened;
-  controls = h.controls;
+  contents = h.contents;
   trackable = h.trackable;
   queued = h.queued;
   informed = h.informed;
@@ -83,7 +83,7 @@ consistent s h = record {
   active = present_is_there s.desk.windows.desk.active s.desk.windows.desk.windows h.active;
   told = present_is_there s.events.told s.desk.windows.desk.windows h.told;
   opened = present_is_there (open_window s.desk.activity) s.desk.windows.desk.windows h.opened;
-  controls = h.controls;
+  contents = h.contents;
   trackable = h.trackable;
   queued = h.queued;
   informed = h.informed;
@@ -112,7 +112,7 @@ module _ (before after : ToolboxState) (desk : after.desk.windows.desk ≡ befor
   pub stands_on : Stands before → IsRightToolbox after → Present after.events.told before.desk.windows.desk.windows → ArePosted after.events.queue.events → Stands after
   stands_on was right told queued = record {
     right = right.right;
-    controls = right.controls;
+    contents = right.contents;
     trackable = trackable_stays before after activity controls was.trackable;
     active = subst (λ (d : FullDesk). Present d.active d.windows) (sym desk) was.active;
     told = subst (λ (d : FullDesk). Present after.events.told d.windows) (sym desk) told;
@@ -133,7 +133,7 @@ module _ (before after : ToolboxState) (desk : after.desk.windows.desk ≡ befor
 -- ---- calls about events
 
 pub event_stands : (call : EventCall) (answer : Result EventReply Refusal) (before after : ToolboxState) → Stands before → IsRightToolbox after → IsEventAnswer call answer before after → Stands after
-event_stands call answer before after was right (same, (controls, menus), (update, first, is)) =
+event_stands call answer before after was right (same, (controls, (lists, menus)), (update, first, is)) =
     let active = before.desk.windows.desk.active in
     let events : after.events ≡ (event_step call active update before.events).1 = ap (λ (x : Result EventReply Refusal × Events). x.1) is in
     stands_on before after same.windows.desk same.activity controls menus was right
@@ -196,17 +196,17 @@ left_trackable (asks.Dispose s) before after may activity gone was = subst (λ a
 left_trackable call before after may activity gone was = trackable_stays before after activity gone was
 
 done_stands : (call : WindowCall) (answer : WindowReply) (before after : ToolboxState) → gate before.desk.activity (window_standing call) ≡ None → Stands before → IsRightToolbox after → IsWindowMade call (Ok answer) before after → Stands after
-done_stands call answer before after may was right ((middle, answered, (told, same, caught, shown, gone)), (events, menus)) =
+done_stands call answer before after may was right ((middle, answered, (told, same, caught, shown, gone, ended)), (events, menus)) =
     let asked = narrowed call before.desk.activity before.desk.begun in
     let was_desk = before.desk.windows.desk in
     let desk = after.desk.windows.desk in
-    let recount = window_recounts call answer before.desk middle told after.desk.windows after.controls.controls answered caught shown in
-    let followed = same_and_same middle.windows.desk told.desk desk (caught_up_counts (window_standing call) middle.windows told caught) (shown_counts after.controls.controls told after.desk.windows shown) in
+    let recount = window_recounts call answer before.desk middle told after.desk.windows after.controls.controls after.lists.lists answered caught shown in
+    let followed = same_and_same middle.windows.desk told.desk desk (caught_up_counts (window_standing call) middle.windows told caught) (shown_counts after.controls.controls after.lists.lists told after.desk.windows shown) in
     let activity : after.desk.activity ≡ before.desk.activity = same.activity ∙ answer_keeps_activity asked call (Ok answer) before.desk middle answered in
     let left : after.events ≡ record before.events { told = _ } = events ∙ left_after call before.events in
     record {
       right = right.right;
-      controls = right.controls;
+      contents = right.contents;
       trackable = left_trackable call before after may activity gone was.trackable;
       active =
           subst (λ o. Present o desk.windows) (sym (ap (λ (s : FullState). s.desk.active) shown ∙ caught_up_keeps (λ d. d.active) (λ d ws. refl) (window_standing call) middle.windows told caught))
@@ -224,13 +224,13 @@ done_stands call answer before after may was right ((middle, answered, (told, sa
           ∙ ap (λ (s : FullState). total (misled before.desk.activity) s.desk.windows) shown
           ∙ caught_up_total (misled before.desk.activity) (window_standing call) middle.windows told caught
           ∙ answer_misleads_none asked call answer before.desk.activity before.desk middle answered was.tracked;
-      bar = bar_stays before after (made_keeps (λ d. d.bar.titles) (λ d ws active next stock. refl) (λ d shows. refl) call (Ok answer) before after ((middle, answered, (told, same, caught, shown, gone)), (events, menus))) menus was.bar;
+      bar = bar_stays before after (made_keeps (λ d. d.bar.titles) (λ d ws active next stock. refl) (λ d shows. refl) call (Ok answer) before after ((middle, answered, (told, same, caught, shown, gone, ended)), (events, menus))) menus was.bar;
       apart = apart_stays before after menus was.apart;
       pull = same_pull before.desk.activity after.desk.activity before.menus after.menus activity menus was.pull;
     }
 
 pub window_stands : (call : WindowCall) (answer : Result WindowReply Refusal) (before after : ToolboxState) → gate before.desk.activity (window_standing call) ≡ None → Stands before → IsRightToolbox after → IsWindowMade call answer before after → Stands after
 window_stands call (Ok answer) before after may was right made = done_stands call answer before after may was right made
-window_stands call (Err e) before after may was right (answered, (events, (controls, menus))) =
+window_stands call (Err e) before after may was right (answered, (events, (controls, (lists, menus)))) =
     let asked = narrowed call before.desk.activity before.desk.begun in
     stands_still before after (refused_keeps_desk asked call e before.desk after.desk answered) (answer_keeps_activity asked call (Err e) before.desk after.desk answered) controls menus events was right

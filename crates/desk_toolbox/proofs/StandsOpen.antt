@@ -41,7 +41,7 @@ use Rattle.desk_toolbox.proofs.StepCounts.{frame_counts, told_total}
 use Rattle.desk_toolbox.proofs.Told.{ArePosted}
 use Rattle.desk_toolbox.proofs.Tracked.{misled, tracking_told, tracking_begins, tracking_ends}
 use Rattle.desk_toolbox.proofs.MenusBeside.{update_comes_then, frame_comes_then, update_pulls_none, frame_pulls_none}
-use Rattle.desk_toolbox.proofs.ControlsBeside.{IsRightToolbox}
+use Rattle.desk_toolbox.proofs.ContentsBeside.{IsRightToolbox}
 use Rattle.control_mgr.specs.ControlDesks.{ControlsState}
 use Rattle.control_mgr.specs.WholeControls.{IsTrackable}
 use Rattle.desk_toolbox.proofs.TrackedControls.{update_trackable, frame_trackable}
@@ -85,13 +85,13 @@ update_misleads_none (update.Serve s) before after may (idle, drawn) none =
     ap (λ a. total (misled a) before.windows.desk.windows) idle ∙ sym (ap (λ a. total (misled a) before.windows.desk.windows) (idle_now before.activity may)) ∙ none
 
 pub update_stands : (call : UpdateCall) (answer : Result WindowReply Refusal) (before after : ToolboxState) → gate before.desk.activity (update_standing call) ≡ None → Stands before → IsRightToolbox after → IsUpdateStep call answer before.desk after.desk → IsRestKept before after → Stands after
-update_stands call (Ok answer) before after may was right step (events, (controls, menus)) =
+update_stands call (Ok answer) before after may was right step (events, (controls, (lists, menus))) =
     let ws = before.desk.windows.desk.windows in
     let desk = update_keeps_desk call (Ok answer) before.desk after.desk step in
     let none = update_misleads_none call before.desk after.desk may step.1.1 was.tracked in
     record {
       right = right.right;
-      controls = right.controls;
+      contents = right.contents;
       trackable = subst (λ (s : ControlsState). IsTrackable after.desk.activity s.controls) (sym controls) (update_trackable before.desk after.desk before.controls.controls was.trackable call (Ok answer) step);
       active = subst (λ (d : FullDesk). Present d.active d.windows) (sym desk) was.active;
       told = subst (λ (d : FullDesk). Present after.events.told d.windows) (sym desk) (subst (λ (e : Events). Present e.told ws) (sym events) was.told);
@@ -106,7 +106,7 @@ update_stands call (Ok answer) before after may was right step (events, (control
           (still_unpulled before.desk.activity after.desk.activity before.menus (update_comes_then call before.desk.activity may)
           (update_pulls_none call (Ok answer) before.desk after.desk may step) was.pull);
     }
-update_stands call (Err e) before after may was right step (events, (controls, menus)) = stands_still before after step.1.windows.desk step.1.activity controls menus events was right
+update_stands call (Err e) before after may was right step (events, (controls, (lists, menus))) = stands_still before after step.1.windows.desk step.1.activity controls menus events was right
 
 -- ---- calls about frames
 
@@ -197,7 +197,7 @@ frame_misleads_none (StepGoAway p) Done before after may right wrong none = absu
 frame_misleads_none (EndGoAway p) Done before after may right wrong none = absurd wrong
 
 pub frame_stands : (call : FrameCall) (answer : Result FrameReply Refusal) (before after : ToolboxState) → gate before.desk.activity (frame_standing call) ≡ None → Stands before → IsRightToolbox after → IsFrameStep call answer before.desk after.desk → IsRestKept before after → Stands after
-frame_stands call (Ok answer) before after may was right step (events, (controls, menus)) =
+frame_stands call (Ok answer) before after may was right step (events, (controls, (lists, menus))) =
     let was_ws = before.desk.windows.desk.windows in
     let ws = after.desk.windows.desk.windows in
     let counts = frame_counts call (Ok answer) before.desk after.desk step in
@@ -205,7 +205,7 @@ frame_stands call (Ok answer) before after may was right step (events, (controls
     let stay = λ (o : Option ℕ) (h : Present o was_ws). present_when o was_ws ws (λ s. let count = counts.count s in omega arith) h in
     record {
       right = right.right;
-      controls = right.controls;
+      contents = right.contents;
       trackable = subst (λ (s : ControlsState). IsTrackable after.desk.activity s.controls) (sym controls) (frame_trackable before.desk after.desk before.controls.controls was.trackable call (Ok answer) step);
       active = subst (λ o. Present o ws) (sym active) (stay before.desk.windows.desk.active was.active);
       told = subst (λ (e : Events). Present e.told ws) (sym events) (stay before.events.told was.told);
@@ -220,4 +220,4 @@ frame_stands call (Ok answer) before after may was right step (events, (controls
           (still_unpulled before.desk.activity after.desk.activity before.menus (frame_comes_then call before.desk.activity may)
           (frame_pulls_none call (Ok answer) before.desk after.desk may step) was.pull);
     }
-frame_stands call (Err e) before after may was right step (events, (controls, menus)) = stands_still before after step.1.windows.desk step.1.activity controls menus events was right
+frame_stands call (Err e) before after may was right step (events, (controls, (lists, menus))) = stands_still before after step.1.windows.desk step.1.activity controls menus events was right

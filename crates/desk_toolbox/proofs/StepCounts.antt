@@ -33,6 +33,7 @@ use Rattle.window_frame.specs.Followers.Flag.{Highlighting, Zooming}
 use Rattle.window_frame.proofs.FrameKeeps.{caught_up_keeps}
 use Rattle.window_frame.specs.FrameSteps.{IsFrameStep, IsFrameEffect, IsBegunAt, IsTrackingNotified, with_flag, with_title, with_tracked}
 use Rattle.control_mgr.specs.ControlDesks.{ControlRecord}
+use Rattle.list_mgr.specs.ListDesks.{KeptList}
 use Rattle.menu_mgr.specs.MenuDesks.{MenuDesk}
 use Rattle.menu_mgr.specs.MenuSteps.{IsMenuStep}
 use Rattle.menu_mgr.proofs.MenuKeeps.{menu_keeps}
@@ -178,17 +179,17 @@ told_recounts call answer before middle told answered caught =
     (answer_recounts (narrowed call before.activity before.begun) call answer before middle (narrowed_keeps call before.activity before.begun) answered)
     (caught_up_counts (window_standing call) middle.windows told caught)
 
--- whatever is shown of controls then
-pub shown_counts : (cs : List ControlRecord) (told after : FullState) → after ≡ shown_with cs told → HasSame told.desk after.desk
-shown_counts cs told after shown = record {
+-- whatever is shown of controls and lists then
+pub shown_counts : (cs : List ControlRecord) (ls : List KeptList) (told after : FullState) → after ≡ shown_with cs ls told → HasSame told.desk after.desk
+shown_counts cs ls told after shown = record {
   next = ap (λ (s : FullState). s.desk.next) shown;
   count = λ s. ap (λ (x : FullState). copies s x.desk.windows) shown;
 }
 
-pub window_recounts : (call : WindowCall) (answer : WindowReply) (before middle : DeskState) (told after : FullState) (cs : List ControlRecord) → IsWindowAnswered call (Ok answer) before middle → IsCaughtUpBy (window_standing call) middle.windows told
-    → after ≡ shown_with cs told → Recount (to_dispose call) before.windows.desk after.desk
-window_recounts call answer before middle told after cs answered caught shown =
-    recount_and_same (to_dispose call) before.windows.desk told.desk after.desk (told_recounts call answer before middle told answered caught) (shown_counts cs told after shown)
+pub window_recounts : (call : WindowCall) (answer : WindowReply) (before middle : DeskState) (told after : FullState) (cs : List ControlRecord) (ls : List KeptList) → IsWindowAnswered call (Ok answer) before middle → IsCaughtUpBy (window_standing call) middle.windows told
+    → after ≡ shown_with cs ls told → Recount (to_dispose call) before.windows.desk after.desk
+window_recounts call answer before middle told after cs ls answered caught shown =
+    recount_and_same (to_dispose call) before.windows.desk told.desk after.desk (told_recounts call answer before middle told answered caught) (shown_counts cs ls told after shown)
 
 -- ---- which windows stay, and which are gone
 

@@ -9,7 +9,9 @@ use Rattle.tb_geom.specs.Refusals.{first_refusal}
 use Rattle.control_values.specs.declared.part.ControlPart.{ControlPart}
 use Rattle.control_list.specs.Lists.{are_before, controls_of, with_highlight}
 use Rattle.control_list.proofs.WindowLemmas.{control_index-edit_at}
+use Rattle.def_iface.specs.declared.window_def.Stage.{Stage}
 use Rattle.def_iface.specs.ControlMeaning.{ControlDefinition}
+use Rattle.def_iface.specs.Slots.{IsFull, SlotOf}
 use Rattle.desk_call.specs.declared.activity.Activity.{Activity}
 use Rattle.desk_call.specs.declared.activity.Activity.TheVariants.{Idle, Updating, Tracking, Pulling, TrackingControl}
 use Rattle.desk_call.specs.declared.activity.Standing.TheVariants.{TracksControl}
@@ -45,9 +47,9 @@ use Rattle.control_mgr.proofs.ControlBits.{bare}
 use Rattle.control_mgr.proofs.ControlFacts.{IsBesideControls, IsOpenAfter, control_facts}
 use Rattle.control_mgr.proofs.Settled.{retold}
 use Rattle.desk_toolbox.specs.declared.events.Events.{Events}
-use Rattle.desk_toolbox.specs.Reached.{AreControlsRight, IsJustBegun, open_window}
+use Rattle.desk_toolbox.specs.Reached.{open_window}
 use Rattle.desk_toolbox.specs.ToolboxStates.{ToolboxState, with_controls}
-use Rattle.desk_toolbox.proofs.ControlsBeside.{IsRightToolbox}
+use Rattle.desk_toolbox.proofs.ContentsBeside.{IsRightToolbox}
 use Rattle.desk_toolbox.proofs.MenusBeside.{PullsNone}
 use Rattle.desk_toolbox.proofs.PulledMenus.{IsPullRight, still_unpulled}
 use Rattle.desk_toolbox.proofs.StepCounts.{HasSame}
@@ -99,17 +101,17 @@ module _ (before after : DeskState) (cs : List ControlRecord) (was : IsTrackable
 
 -- ---- windows that are the same but for their layers
 
-bare_total : (g : Weight) (ws vs : List WindowRecord) → map bare vs ≡ map bare ws → total g vs ≡ total g ws
+pub bare_total : (g : Weight) (ws vs : List WindowRecord) → map bare vs ≡ map bare ws → total g vs ≡ total g ws
 bare_total g ws vs same = sym (total_map g bare (λ w. refl) vs) ∙ ap (total g) same ∙ total_map g bare (λ w. refl) ws
 
-informed_bare : (ws : List WindowRecord) → AreInformed ws → AreInformed (map bare ws)
+pub informed_bare : (ws : List WindowRecord) → AreInformed ws → AreInformed (map bare ws)
 informed_bare [] h = All-nil (λ (w : WindowRecord). Knows Highlighting w × Knows Zooming w)
 informed_bare (w ∷ ws) h =
     let P = λ (v : WindowRecord). Knows Highlighting v × Knows Zooming v in
     let head = All-head P w ws h in
     All-cons P (bare w) (map bare ws) (head.0, head.1) (informed_bare ws (All-tail P w ws h))
 
-bare_informed : (ws : List WindowRecord) → AreInformed (map bare ws) → AreInformed ws
+pub bare_informed : (ws : List WindowRecord) → AreInformed (map bare ws) → AreInformed ws
 bare_informed [] h = All-nil (λ (w : WindowRecord). Knows Highlighting w × Knows Zooming w)
 bare_informed (w ∷ ws) h =
     let P = λ (v : WindowRecord). Knows Highlighting v × Knows Zooming v in
@@ -264,7 +266,7 @@ control_stands call (Ok answer) before after may was right step events menus = �
         let then = open_then ws before.desk.activity after.desk.activity most facts.activity in
         record {
           right = right.right;
-          controls = right.controls;
+          contents = right.contents;
           trackable = step_there call (Ok answer) (with_controls before) (with_controls after) may was.trackable step;
           active = subst (λ o. Present o vs) (sym facts.active) (stay before.desk.windows.desk.active was.active);
           told = subst (λ (e : Events). Present e.told vs) (sym events) (stay before.events.told was.told);
@@ -281,10 +283,11 @@ control_stands call (Ok answer) before after may was right step events menus = �
 
 -- ---- at the beginning
 
-none_used_at : (slots : List ControlSlot) (k : ℕ) → All IsControlFull slots → IsUsedBy (λ (d : ControlDefinition). d.stage) 0 (slice_get slots k)
-none_used_at [] k full = refl
-none_used_at (s ∷ slots) zero full = inl (refl, All-head IsControlFull s slots full)
-none_used_at (s ∷ slots) (suc k) full = none_used_at slots k (All-tail IsControlFull s slots full)
+-- of a stock that is full none is used
+pub none_used_at : {D : Type 0} (stage : D → Stage) (slots : List (SlotOf D)) (k : ℕ) → All (IsFull stage) slots → IsUsedBy stage 0 (slice_get slots k)
+none_used_at stage [] k full = refl
+none_used_at stage (s ∷ slots) zero full = inl (refl, All-head (IsFull stage) s slots full)
+none_used_at stage (s ∷ slots) (suc k) full = none_used_at stage slots k (All-tail (IsFull stage) s slots full)
 
 -- no controls, in no windows
 pub none_whole : (windows : List WindowRecord) (s : ControlsState) → windows ≡ [] → s.controls ≡ [] → s.next ≡ Some 1 → All IsControlFull s.stock → AreWholeControls windows s
@@ -294,11 +297,5 @@ none_whole windows s bare none next full = record {
   given = (λ i. are_before (next i) (none i));
   somewhere = All-same (λ (c : ControlRecord). is_missing c.window windows ≡ false) s.controls [] none (All-nil (λ (c : ControlRecord). is_missing c.window windows ≡ false));
   joined = All-same (λ (w : WindowRecord). AreLayersOf (controls_of w.serial s.controls) w.layers) windows [] bare (All-nil (λ (w : WindowRecord). AreLayersOf (controls_of w.serial s.controls) w.layers));
-  stocked = subst (λ own. AreStocked (λ (d : ControlDefinition). d.stage) (slots_of own) s.stock) (sym none) (λ k. none_used_at s.stock k full);
-}
-
-pub begun_controls : (s : ToolboxState) → IsJustBegun s → AreControlsRight s
-begun_controls s begun = record {
-  whole = none_whole s.desk.windows.desk.windows s.controls begun.windows begun.controls begun.next_control begun.held;
-  shown = begun.shown;
+  stocked = subst (λ own. AreStocked (λ (d : ControlDefinition). d.stage) (slots_of own) s.stock) (sym none) (λ k. none_used_at (λ (d : ControlDefinition). d.stage) s.stock k full);
 }

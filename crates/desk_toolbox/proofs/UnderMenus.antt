@@ -8,8 +8,10 @@ use Rattle.tb_geom.specs.Points.{plus}
 use Rattle.tb_geom.specs.Rects.{in_plane}
 use Rattle.def_iface.specs.declared.taken.Taken.{Taken}
 use Rattle.def_iface.specs.declared.taken_control.TakenControl.{TakenControl}
+use Rattle.def_iface.specs.declared.taken_list.TakenList.{TakenList}
 use Rattle.def_iface.specs.declared.taken_menu.TakenMenu.{TakenMenu}
 use Rattle.def_iface.specs.ControlMeaning.{ControlLoan}
+use Rattle.def_iface.specs.ListMeaning.{ListLoan}
 use Rattle.def_iface.specs.Meaning.{Loan}
 use Rattle.def_iface.specs.MenuMeaning.{MenuLoan}
 use Rattle.def_iface.specs.Stocked.{SlotView}
@@ -22,6 +24,7 @@ use Rattle.window_mgr.specs.Records.{desk_of, look_on}
 use Rattle.window_mgr.specs.Whole.{IsWholeManager}
 use Rattle.window_mgr.proofs.FindLemmas.{record_at}
 use Rattle.control_mgr.specs.ControlDesks.{ControlSlot}
+use Rattle.list_mgr.specs.ListDesks.{ListSlot}
 use Rattle.menu_mgr.specs.MenuDesks.{MenuSlot}
 use Rattle.menu_mgr.specs.Pulling.{is_pulled_at, pulled_of}
 use Rattle.menu_mgr.specs.WholeMenus.{menus_of}
@@ -31,8 +34,8 @@ use Rattle.desk_toolbox.specs.Run.{is_under_menu}
 use Rattle.desk_toolbox.specs.ToolboxStates.{ToolboxState}
 use Rattle.desk_toolbox.specs.WholeToolbox.{toolbox_state}
 
-module _ {V : Type 0} {H : V → Type 0} (loan : Taken V H → Loan) {W : Type 0} {K : W → Type 0} (menu_loan : TakenMenu W K → MenuLoan) {U : Type 0} {J : U → Type 0} (control_loan : TakenControl U J → ControlLoan)
-    (t : Toolbox V U W H J K) (full : List SlotView) (whole : IsWholeManager loan t.windows full) (asked : PointInWindow) (at : ℕ) (stands : StandsAt t.windows.windows.records.items asked.window at)
+module _ {V : Type 0} {H : V → Type 0} (loan : Taken V H → Loan) {W : Type 0} {K : W → Type 0} (menu_loan : TakenMenu W K → MenuLoan) {U : Type 0} {J : U → Type 0} (control_loan : TakenControl U J → ControlLoan) {X : Type 0} {L : X → Type 0} (list_loan : TakenList X L → ListLoan)
+    (t : Toolbox V U W X H J K L) (full : List SlotView) (whole : IsWholeManager loan t.windows full) (asked : PointInWindow) (at : ℕ) (stands : StandsAt t.windows.windows.records.items asked.window at)
     (x : Window V H) (read : IsWindowAt t.windows.windows.records.items at x) where
   its_record : record_with asked.window (map (record_of loan) t.windows.windows.records.items) ≡ Some (record_of loan x)
   its_record =
@@ -44,9 +47,9 @@ module _ {V : Type 0} {H : V → Type 0} (loan : Taken V H → Loan) {W : Type 0
 
   pub found_under : (covered : Bool) (pixel : Point) → in_plane asked.point ≡ true → pixel ≡ plus x.place asked.point
       → covered ≡ is_pulled_at (desk_of loan t.windows []) (pulled_of t.activity (menus_of menu_loan t.menus.list.menus.items)) pixel
-      → (slots : List SlotView) (kept : List MenuSlot) (held : List ControlSlot) → covered ≡ is_under_menu (toolbox_state loan menu_loan control_loan t slots kept held) asked
-  found_under covered pixel within place is slots kept held =
-      let s : ToolboxState = toolbox_state loan menu_loan control_loan t slots kept held in
+      → (slots : List SlotView) (kept : List MenuSlot) (held : List ControlSlot) (listed : List ListSlot) → covered ≡ is_under_menu (toolbox_state loan menu_loan control_loan list_loan t slots kept held listed) asked
+  found_under covered pixel within place is slots kept held listed =
+      let s : ToolboxState = toolbox_state loan menu_loan control_loan list_loan t slots kept held listed in
       is
       ∙ ap (is_pulled_at (desk_of loan t.windows []) (pulled_of t.activity (menus_of menu_loan t.menus.list.menus.items))) place
       ∙ sym (ap (λ b. b && option_map_or (λ w. is_on_menu s (plus w.place asked.point)) (record_with asked.window s.desk.windows.desk.windows) false) within

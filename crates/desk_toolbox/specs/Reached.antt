@@ -13,6 +13,8 @@ use Rattle.window_frame.specs.Followers.{AreInformed}
 use Rattle.control_mgr.specs.ControlClosing.{IsControlFull}
 use Rattle.control_mgr.specs.ControlDesks.{ShowsControls}
 use Rattle.control_mgr.specs.WholeControls.{AreWholeControls, IsTrackable}
+use Rattle.list_mgr.specs.ListClosing.{IsListFull}
+use Rattle.list_mgr.specs.WholeLists.{AreWholeLists}
 use Rattle.menu_list.specs.Lists.{has_number, is_in_bar}
 use Rattle.menu_mgr.specs.MenuDesks.{IsBarOf, MenuRecord, MenusState}
 use Rattle.desk_toolbox.specs.EventSteps.{first_events}
@@ -58,14 +60,15 @@ abbrev pub IsPulledThere : Activity → MenusState → Type 0
 IsPulledThere (Pulling m) menus = (is_in_bar (pos m.menu) menus.menus ≡ true) × (menus.highlighted ≡ Some m.menu)
 IsPulledThere _ menus = Unit {0}
 
--- the controls of a state are whole beside its windows, which show them
-pub record AreControlsRight (s : ToolboxState) : Type 0 where
-  pub whole : AreWholeControls s.desk.windows.desk.windows s.controls
+-- the controls and the lists of a state are whole beside its windows, which show them
+pub record AreContentsRight (s : ToolboxState) : Type 0 where
+  pub controls : AreWholeControls s.desk.windows.desk.windows s.controls
+  pub lists : AreWholeLists s.desk.windows.desk.windows s.lists
   pub shown : ShowsControls (with_controls s)
 
 -- a right state, in which the active window, the one last told active and that of what is open are windows of the desk, and
 -- only events of kinds that are posted are queued. Each window's definition knows how the window stands, and none heard last
--- that a go-away box is tracked which is not. Its controls are whole, the one that is tracked is there, and its windows show them.
+-- that a go-away box is tracked which is not. Its controls and lists are whole, the control that is tracked is there, and its windows show them.
 -- The menu bar has the titles of the menus that are inserted, and no two menus have
 -- one number. The menu that is pulled down is there, and each menu's definition goes by which of its items is highlighted.
 pub record IsConsistent (s : ToolboxState) : Type 0 where
@@ -76,15 +79,15 @@ pub record IsConsistent (s : ToolboxState) : Type 0 where
   pub queued : All (λ e. is_posted e.what ≡ true) s.events.queue.events
   pub informed : AreInformed s.desk.windows.desk.windows
   pub tracked : All (IsTrackedIfHeard s.desk.activity) s.desk.windows.desk.windows
-  pub controls : AreControlsRight s
+  pub contents : AreContentsRight s
   pub trackable : IsTrackable s.desk.activity s.controls.controls
   pub bar : IsBarOf s.menus s.desk.windows.desk
   pub apart : AreApart s.menus.menus
   pub pulled : IsPulledThere s.desk.activity s.menus
   pub lit : All (IsLit s.desk.activity) s.menus.menus
 
--- a right state of a desk that just began: it has no windows, no controls and no menus, the stock of controls is full, and
--- nothing is open, told or queued
+-- a right state of a desk that just began: it has no windows, no controls, no lists and no menus, the stocks of controls and of
+-- lists are full, and nothing is open, told or queued
 pub record IsJustBegun (s : ToolboxState) : Type 0 where
   pub right : IsRightState s.desk.windows
   pub windows : s.desk.windows.desk.windows ≡ []
@@ -93,6 +96,9 @@ pub record IsJustBegun (s : ToolboxState) : Type 0 where
   pub controls : s.controls.controls ≡ []
   pub next_control : s.controls.next ≡ Some 1
   pub held : All IsControlFull s.controls.stock
+  pub lists : s.lists.lists ≡ []
+  pub next_list : s.lists.next ≡ Some 1
+  pub listed : All IsListFull s.lists.stock
   pub shown : ShowsControls (with_controls s)
   pub titles : s.desk.windows.desk.bar.titles ≡ []
   pub menus : s.menus.menus ≡ []

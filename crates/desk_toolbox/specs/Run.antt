@@ -1,5 +1,5 @@
 -- A step of whichever manager, and a run of steps.
-use Rattle.std.specs.Prelude.{◌≡◌, ℕ, Bool, true, false, ◌&&◌, List, [], ◌∷◌, ◌++◌, Option, None, Some, Result, Ok, Err}
+use Rattle.std.specs.Prelude.{◌≡◌, ℕ, zero, suc, Bool, true, false, ◌&&◌, List, [], ◌∷◌, ◌++◌, Option, None, Some, Result, Ok, Err}
 use Rattle.std.specs.Option.{option_map_or, unwrap_or}
 use Rattle.tb_geom.specs.declared.refusal.Refusal.{Refusal}
 use Rattle.tb_geom.specs.Points.{PixelSet, plus}
@@ -7,6 +7,7 @@ use Rattle.tb_geom.specs.Rects.{in_plane}
 use Rattle.tb_geom.specs.Refusals.{first_refusal}
 use Rattle.desk_call.specs.declared.call.Call.{Call}
 use Rattle.desk_call.specs.declared.call.Call.TheVariants.{Window, Update, Frame, Control, Menu, Event}
+use Rattle.desk_call.specs.declared.call.Call.TheVariants as asks
 use Rattle.desk_call.specs.declared.call.Reply.{Reply}
 use Rattle.desk_call.specs.declared.call.Reply.TheVariants as reply
 use Rattle.desk_call.specs.declared.control.ControlCall.{ControlCall}
@@ -17,7 +18,12 @@ use Rattle.desk_call.specs.declared.control.PointInWindow.{PointInWindow}
 use Rattle.desk_call.specs.declared.event.EventCall.{EventCall}
 use Rattle.desk_call.specs.declared.event.EventReply.{EventReply}
 use Rattle.desk_call.specs.declared.frame.FrameReply.{FrameReply}
+use Rattle.desk_call.specs.declared.list.ListCall.{ListCall}
+use Rattle.desk_call.specs.declared.list.ListCall.TheVariants as list_calls
+use Rattle.desk_call.specs.declared.list.ListReply.{ListReply}
+use Rattle.desk_call.specs.declared.list.ListReply.TheVariants as list_reply
 use Rattle.desk_call.specs.declared.menu.MenuReply.{MenuReply}
+use Rattle.desk_call.specs.declared.update.UpdateCall.{UpdateCall}
 use Rattle.desk_call.specs.declared.window.WindowCall.{WindowCall}
 use Rattle.desk_call.specs.declared.window.WindowCall.TheVariants.{Dispose, Find}
 use Rattle.desk_call.specs.declared.window.WindowReply.{WindowReply}
@@ -40,11 +46,15 @@ use Rattle.control_mgr.specs.ControlClosing.{IsWindowLeft}
 use Rattle.control_mgr.specs.ControlDesks.{ControlRecord, ControlsState, controls_show}
 use Rattle.control_mgr.specs.ControlRefusals.{control_form_refusals}
 use Rattle.control_mgr.specs.ControlSteps.{IsControlStep}
+use Rattle.list_mgr.specs.ListClosing.{AreListsOfLeft}
+use Rattle.list_mgr.specs.ListDesks.{KeptList, ListsState, lists_show}
+use Rattle.list_mgr.specs.ListRefusals.{bars_wanted, list_form_refusals}
+use Rattle.list_mgr.specs.ListSteps.{IsListStep}
 use Rattle.menu_mgr.specs.MenuRefusals.{menu_form_refusals}
 use Rattle.menu_mgr.specs.MenuSteps.{IsMenuStep}
 use Rattle.desk_toolbox.specs.EventSteps.{event_step, events_left}
 use Rattle.desk_toolbox.specs.Fronts.{is_on_menu}
-use Rattle.desk_toolbox.specs.ToolboxStates.{ToolboxState, IsToolboxUnchanged, with_controls, with_menus}
+use Rattle.desk_toolbox.specs.ToolboxStates.{ToolboxState, IsToolboxUnchanged, with_controls, with_lists, with_menus}
 
 -- ---- one step
 
@@ -59,7 +69,7 @@ IsWindowAnswered call result before after = IsWindowAnswer (narrowed call before
 
 -- a call about events leaves the desk as it is, and its answer and the events that it leaves are those of its step
 abbrev pub IsEventAnswer : EventCall → Result EventReply Refusal → ToolboxState → ToolboxState → Type 0
-IsEventAnswer call result before after = IsDeskUnchanged before.desk after.desk × ((after.controls ≡ before.controls) × (after.menus ≡ before.menus))
+IsEventAnswer call result before after = IsDeskUnchanged before.desk after.desk × ((after.controls ≡ before.controls) × ((after.lists ≡ before.lists) × (after.menus ≡ before.menus)))
     × ((update : Option ℕ) × IsFirstToUpdate before.desk update
     × ((result, after.events) ≡ event_step call before.desk.windows.desk.active update before.events))
 
@@ -68,21 +78,27 @@ abbrev pub AreControlsLeft : WindowCall → ControlsState → ControlsState → 
 AreControlsLeft (Dispose s) before after = IsWindowLeft s before after
 AreControlsLeft _ before after = after ≡ before
 
--- the windows, showing these controls
-abbrev pub shown_with : List ControlRecord → FullState → FullState
-shown_with cs s = state_showing (controls_show cs) s
+-- so do its lists
+abbrev pub AreListsLeft : WindowCall → ListsState → ListsState → Type 0
+AreListsLeft (Dispose s) before after = AreListsOfLeft s before after
+AreListsLeft _ before after = after ≡ before
+
+-- the windows, showing these controls and lists
+abbrev pub shown_with : List ControlRecord → List KeptList → FullState → FullState
+shown_with cs ls s = state_showing (controls_show (lists_show ls) cs) s
 
 -- a call on windows that may come: once it was done, definitions are told how their windows stand, and a window that is gone
--- is forgotten, with its controls
+-- is forgotten, with its controls and its lists
 abbrev pub IsWindowMade : WindowCall → Result WindowReply Refusal → ToolboxState → ToolboxState → Type 0
 IsWindowMade call (Ok answer) before after =
     ((middle : DeskState) × IsWindowAnswered call (Ok answer) before.desk middle
     × ((told : FullState) × SameActivity middle after.desk × IsCaughtUpBy (window_standing call) middle.windows told
-    × (after.desk.windows ≡ shown_with after.controls.controls told) × AreControlsLeft call before.controls after.controls))
+    × (after.desk.windows ≡ shown_with after.controls.controls after.lists.lists told) × AreControlsLeft call before.controls after.controls
+    × AreListsLeft call before.lists after.lists))
     × ((after.events ≡ events_left call before.events) × (after.menus ≡ before.menus))
 IsWindowMade call (Err e) before after =
     IsWindowAnswered call (Err e) before.desk after.desk
-    × ((after.events ≡ before.events) × ((after.controls ≡ before.controls) × (after.menus ≡ before.menus)))
+    × ((after.events ≡ before.events) × ((after.controls ≡ before.controls) × ((after.lists ≡ before.lists) × (after.menus ≡ before.menus))))
 
 -- FindWindow is asked for a point of the menu that is pulled down
 abbrev pub is_covered : WindowCall → ToolboxState → Bool
@@ -108,8 +124,14 @@ is_hidden_by_menu _ s = false
 -- a call about controls, where the pulled menu lies or not
 abbrev pub IsControlTold : Bool → ControlCall → Result ControlReply Refusal → ToolboxState → ToolboxState → Type 0
 IsControlTold false call result before after =
-    IsControlStep call result (with_controls before) (with_controls after) × ((after.events ≡ before.events) × (after.menus ≡ before.menus))
+    IsControlStep call result (with_controls before) (with_controls after)
+    × ((after.events ≡ before.events) × ((after.lists ≡ before.lists) × (after.menus ≡ before.menus)))
 IsControlTold true call result before after = (result ≡ Ok (control_reply.Found None)) × IsToolboxUnchanged before after
+
+-- a call about lists
+abbrev pub IsListTold : ListCall → Result ListReply Refusal → ToolboxState → ToolboxState → Type 0
+IsListTold call result before after =
+    IsListStep call result (with_lists before) (with_lists after) × ((after.events ≡ before.events) × (after.menus ≡ before.menus))
 
 -- the answer of a manager, as one of the Toolbox
 abbrev pub replied : {R : Type 0} → (R → Reply) → Result R Refusal → Result Reply Refusal
@@ -118,21 +140,27 @@ replied reply_of (Err e) = Err e
 
 -- nothing but the desk changed
 abbrev pub IsRestKept : ToolboxState → ToolboxState → Type 0
-IsRestKept before after = (after.events ≡ before.events) × ((after.controls ≡ before.controls) × (after.menus ≡ before.menus))
+IsRestKept before after = (after.events ≡ before.events) × ((after.controls ≡ before.controls) × ((after.lists ≡ before.lists) × (after.menus ≡ before.menus)))
+
+-- a call about what is to be redrawn
+abbrev pub IsUpdateTold : UpdateCall → Result WindowReply Refusal → ToolboxState → ToolboxState → Type 0
+IsUpdateTold call result before after = IsUpdateStep call result before.desk after.desk × IsRestKept before after
 
 -- a call that may come is a step of its manager, which answers it
 abbrev pub IsAdmitted : Call → Result Reply Refusal → ToolboxState → ToolboxState → Type 0
 IsAdmitted (Window call) result before after =
     (own : Result WindowReply Refusal) × (result ≡ replied reply.Window own) × IsWindowTold (is_covered call before) call own before after
 IsAdmitted (Update call) result before after =
-    (own : Result WindowReply Refusal) × (result ≡ replied reply.Window own) × (IsUpdateStep call own before.desk after.desk × IsRestKept before after)
+    (own : Result WindowReply Refusal) × (result ≡ replied reply.Window own) × IsUpdateTold call own before after
 IsAdmitted (Frame call) result before after =
     (own : Result FrameReply Refusal) × (result ≡ replied reply.Frame own) × (IsFrameStep call own before.desk after.desk × IsRestKept before after)
 IsAdmitted (Control call) result before after =
     (own : Result ControlReply Refusal) × (result ≡ replied reply.Control own) × IsControlTold (is_hidden_by_menu call before) call own before after
+IsAdmitted (asks.List call) result before after =
+    (own : Result ListReply Refusal) × (result ≡ replied reply.List own) × IsListTold call own before after
 IsAdmitted (Menu call) result before after =
     (own : Result MenuReply Refusal) × (result ≡ replied reply.Menu own)
-    × (IsMenuStep call own (with_menus before) (with_menus after) × ((after.events ≡ before.events) × (after.controls ≡ before.controls)))
+    × (IsMenuStep call own (with_menus before) (with_menus after) × ((after.events ≡ before.events) × ((after.controls ≡ before.controls) × (after.lists ≡ before.lists))))
 IsAdmitted (Event call) result before after =
     (own : Result EventReply Refusal) × (result ≡ replied reply.Event own) × IsEventAnswer call own before after
 
@@ -142,6 +170,7 @@ IsFormFault (Window call) before form = IsFormRefusal call before.desk.windows.d
 IsFormFault (Update call) before form = IsUpdateForm call form
 IsFormFault (Frame call) before form = form ≡ None
 IsFormFault (Control call) before form = form ≡ first_refusal (control_form_refusals call before.controls.stock)
+IsFormFault (asks.List call) before form = form ≡ first_refusal (list_form_refusals call before.lists.stock before.controls.stock)
 IsFormFault (Menu call) before form = form ≡ first_refusal (menu_form_refusals call before.menus.stock)
 IsFormFault (Event call) before form = form ≡ None
 
@@ -180,6 +209,7 @@ made [] = []
 made (Ok (reply.Window answer) ∷ answers) = serial_made answer ++ made answers
 made (Ok (reply.Frame answer) ∷ answers) = made answers
 made (Ok (reply.Control answer) ∷ answers) = made answers
+made (Ok (reply.List answer) ∷ answers) = made answers
 made (Ok (reply.Menu answer) ∷ answers) = made answers
 made (Ok (reply.Event answer) ∷ answers) = made answers
 made (Err e ∷ answers) = made answers
@@ -189,17 +219,50 @@ abbrev pub AreCounted : Option ℕ → List ℕ → Type 0
 AreCounted next [] = Unit {0}
 AreCounted next (n ∷ ns) = (next ≡ Some n) × AreCounted (serial_after n) ns
 
+-- the serial of the list that was made, if one was
+abbrev pub list_serial : ListReply → List ℕ
+list_serial (list_reply.Made n) = n ∷ []
+list_serial _ = []
+
+-- the serials of the lists that were made
+abbrev pub lists_made : List (Result Reply Refusal) → List ℕ
+lists_made [] = []
+lists_made (Ok (reply.Window answer) ∷ answers) = lists_made answers
+lists_made (Ok (reply.Frame answer) ∷ answers) = lists_made answers
+lists_made (Ok (reply.Control answer) ∷ answers) = lists_made answers
+lists_made (Ok (reply.List answer) ∷ answers) = list_serial answer ++ lists_made answers
+lists_made (Ok (reply.Menu answer) ∷ answers) = lists_made answers
+lists_made (Ok (reply.Event answer) ∷ answers) = lists_made answers
+lists_made (Err e ∷ answers) = lists_made answers
+
+-- so do these, some of which were told, and others taken and not told, as the scroll bars of a list take theirs
+abbrev pub AreCountedAlong : Option ℕ → List (Option ℕ) → Type 0
+AreCountedAlong next [] = Unit {0}
+AreCountedAlong next (Some n ∷ ns) = (next ≡ Some n) × AreCountedAlong (serial_after n) ns
+AreCountedAlong next (None ∷ ns) = (n : ℕ) × (next ≡ Some n) × AreCountedAlong (serial_after n) ns
+
 -- the serial of the control that was made, if one was
-abbrev pub control_serial : ControlReply → List ℕ
-control_serial (control_reply.Made n) = n ∷ []
+abbrev pub control_serial : ControlReply → List (Option ℕ)
+control_serial (control_reply.Made n) = Some n ∷ []
 control_serial _ = []
 
--- the serials of the controls that were made
-abbrev pub controls_made : List (Result Reply Refusal) → List ℕ
-controls_made [] = []
-controls_made (Ok (reply.Window answer) ∷ answers) = controls_made answers
-controls_made (Ok (reply.Frame answer) ∷ answers) = controls_made answers
-controls_made (Ok (reply.Control answer) ∷ answers) = control_serial answer ++ controls_made answers
-controls_made (Ok (reply.Menu answer) ∷ answers) = controls_made answers
-controls_made (Ok (reply.Event answer) ∷ answers) = controls_made answers
-controls_made (Err e ∷ answers) = controls_made answers
+-- as many serials that nobody was told
+abbrev pub untold : ℕ → List (Option ℕ)
+untold zero = []
+untold (suc n) = None ∷ untold n
+
+-- those of the scroll bars that were made with a list, if one was
+abbrev pub bars_made : Call → List (Option ℕ)
+bars_made (asks.List (list_calls.New n)) = untold (bars_wanted n)
+bars_made _ = []
+
+-- the serials of controls that a call took which was answered so
+abbrev pub controls_taken : Result Reply Refusal → Call → List (Option ℕ)
+controls_taken (Ok (reply.Control answer)) call = control_serial answer
+controls_taken (Ok (reply.List answer)) call = bars_made call
+controls_taken _ call = []
+
+-- those that a run took
+abbrev pub controls_made : List Call → List (Result Reply Refusal) → List (Option ℕ)
+controls_made (call ∷ calls) (answer ∷ answers) = controls_taken answer call ++ controls_made calls answers
+controls_made _ _ = []

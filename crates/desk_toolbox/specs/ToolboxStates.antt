@@ -2,13 +2,16 @@
 use Rattle.std.specs.Prelude.{◌≡◌}
 use Rattle.window_mgr.specs.DeskStates.{DeskState, IsDeskUnchanged}
 use Rattle.control_mgr.specs.ControlDesks.{ControlDesk, ControlsState}
+use Rattle.list_mgr.specs.ListDesks.{ListDesk, ListsState}
+use Rattle.list_mgr.specs.ListDesks as lists
 use Rattle.menu_mgr.specs.MenuDesks.{MenuDesk, MenusState}
 use Rattle.desk_toolbox.specs.declared.events.Events.{Events}
 
--- its desk, its controls, its menus, and what it keeps of events
+-- its desk, its controls, its lists, its menus, and what it keeps of events
 pub record ToolboxState : Type 0 where
   pub desk : DeskState
   pub controls : ControlsState
+  pub lists : ListsState
   pub menus : MenusState
   pub events : Events
 
@@ -16,13 +19,18 @@ pub record ToolboxState : Type 0 where
 abbrev pub with_menus : ToolboxState → MenuDesk
 with_menus s = record { desk = s.desk; menus = s.menus }
 
--- the desk with its controls
+-- the desk with its controls and its lists
+abbrev pub with_lists : ToolboxState → ListDesk
+with_lists s = record { desk = s.desk; controls = s.controls; lists = s.lists }
+
+-- the desk with its controls, beside which its lists lie
 abbrev pub with_controls : ToolboxState → ControlDesk
-with_controls s = record { desk = s.desk; controls = s.controls }
+with_controls s = lists.with_controls (with_lists s)
 
 -- nothing changed
 pub record IsToolboxUnchanged (before after : ToolboxState) : Type 0 where
   pub desk : IsDeskUnchanged before.desk after.desk
   pub controls : after.controls ≡ before.controls
+  pub lists : after.lists ≡ before.lists
   pub menus : after.menus ≡ before.menus
   pub events : after.events ≡ before.events

@@ -1,27 +1,32 @@
 //! The answers to calls, each by its manager.
 ghost use Rattle.std.specs.Prelude.{◌≡◌, None, List};
 ghost use Rattle.def_iface.specs.Stocked.{SlotView};
-ghost use Rattle.desk_call.specs.Gates.{control_standing, gate, standing_of, window_standing};
+ghost use Rattle.desk_call.specs.Gates.{control_standing, gate, list_standing, standing_of, update_standing, window_standing};
 ghost use Rattle.control_mgr.specs.ControlDesks.{ControlSlot};
 ghost use Rattle.control_mgr.specs.InUse.{AreStocked};
 ghost use Rattle.control_mgr.specs.WholeControls.{AreLiveControls, controls_state, records_of, slots_of};
+ghost use Rattle.list_mgr.specs.ListDesks.{ListSlot};
+ghost use Rattle.list_mgr.specs.WholeLists.{AreLiveLists, lists_state};
+ghost use Rattle.list_mgr.specs.WholeLists as whole_lists;
 ghost use Rattle.menu_mgr.specs.MenuDesks.{MenuSlot};
 ghost use Rattle.menu_mgr.specs.WholeMenus.{IsWholeMenus};
 ghost use Rattle.window_mgr.specs.Whole.{IsWholeManager};
 ghost use Rattle.window_update.specs.WholeUpdates.{IsWholeUpdates};
-ghost use Rattle.desk_toolbox.specs.Run.{AreControlsLeft, IsAdmitted, IsControlTold, IsEventAnswer, IsFormFault, IsWindowAnswered, IsWindowMade, IsWindowTold, is_covered, is_hidden_by_menu, is_under_menu};
+ghost use Rattle.desk_toolbox.specs.Run.{AreControlsLeft, AreListsLeft, IsAdmitted, IsControlTold, IsEventAnswer, IsFormFault, IsListTold, IsUpdateTold, IsWindowAnswered, IsWindowMade, IsWindowTold, is_covered, is_hidden_by_menu, is_under_menu};
 ghost use Rattle.desk_toolbox.specs.ToolboxStates.{ToolboxState};
 ghost use Rattle.desk_toolbox.specs.WholeToolbox.{IsKeptToolbox, IsWholeToolbox, toolbox_state};
 
 use crate::{
-    Call, ControlCall, ControlReply, EventCall, EventReply, Found, PointInWindow, Reply, Toolbox,
-    WindowCall, WindowPart, WindowReply,
+    Call, ControlCall, ControlReply, EventCall, EventReply, Found, ListCall, ListReply,
+    PointInWindow, Reply, Toolbox, UpdateCall, WindowCall, WindowPart, WindowReply,
 };
 use control_mgr::Controls;
 use def_iface::{
-    ControlStock, Defined, DefinedControl, DefinedMenu, MenuStock, Stock, Stocked, StockedControls,
-    StockedMenus, Taken, TakenControl, TakenMenu,
+    ControlStock, Defined, DefinedControl, DefinedList, DefinedMenu, ListStock, MenuStock, Stock,
+    Stocked, StockedControls, StockedLists, StockedMenus, Taken, TakenControl, TakenList,
+    TakenMenu,
 };
+use list_mgr::{Contents, Lists};
 use tb_geom::Refusal;
 use window_frame::follow;
 use window_list::picture_place;
@@ -31,33 +36,26 @@ use window_update::{first_to_update, update_form_refusal};
 impl Toolbox {
     /// Performs one call that may come.
     pub(crate) fn perform(&mut self, call: &Call<'_>, stock: &mut Stock) -> Result<Reply, Refusal>
-        requires whole { IsWholeToolbox ⟦<Taken as Defined>⟧.loan ⟦<TakenMenu as DefinedMenu>⟧.menu_loan ⟦<TakenControl as DefinedControl>⟧.control_loan self.old
-            (⟦<Stock as Stocked>⟧.slots stock.old) (⟦<MenuStock as StockedMenus>⟧.menu_slots stock.old.menus) (⟦<ControlStock as StockedControls>⟧.control_slots stock.old.controls) }
+        requires whole { IsWholeToolbox ⟦<Taken as Defined>⟧.loan ⟦<TakenMenu as DefinedMenu>⟧.menu_loan ⟦<TakenControl as DefinedControl>⟧.control_loan ⟦<TakenList as DefinedList>⟧.list_loan self.old
+            (⟦<Stock as Stocked>⟧.slots stock.old) (⟦<MenuStock as StockedMenus>⟧.menu_slots stock.old.menus) (⟦<ControlStock as StockedControls>⟧.control_slots stock.old.controls) (⟦<ListStock as StockedLists>⟧.list_slots stock.old.lists) }
         requires admitted { gate self.old.activity (standing_of call.now) ≡ None }
-        ensures whole { IsWholeToolbox ⟦<Taken as Defined>⟧.loan ⟦<TakenMenu as DefinedMenu>⟧.menu_loan ⟦<TakenControl as DefinedControl>⟧.control_loan self.new
-            (⟦<Stock as Stocked>⟧.slots stock.new) (⟦<MenuStock as StockedMenus>⟧.menu_slots stock.new.menus) (⟦<ControlStock as StockedControls>⟧.control_slots stock.new.controls) }
+        ensures whole { IsWholeToolbox ⟦<Taken as Defined>⟧.loan ⟦<TakenMenu as DefinedMenu>⟧.menu_loan ⟦<TakenControl as DefinedControl>⟧.control_loan ⟦<TakenList as DefinedList>⟧.list_loan self.new
+            (⟦<Stock as Stocked>⟧.slots stock.new) (⟦<MenuStock as StockedMenus>⟧.menu_slots stock.new.menus) (⟦<ControlStock as StockedControls>⟧.control_slots stock.new.controls) (⟦<ListStock as StockedLists>⟧.list_slots stock.new.lists) }
         ensures step { IsAdmitted call.now result
-            (toolbox_state ⟦<Taken as Defined>⟧.loan ⟦<TakenMenu as DefinedMenu>⟧.menu_loan ⟦<TakenControl as DefinedControl>⟧.control_loan self.old
-            (⟦<Stock as Stocked>⟧.slots stock.old) (⟦<MenuStock as StockedMenus>⟧.menu_slots stock.old.menus) (⟦<ControlStock as StockedControls>⟧.control_slots stock.old.controls))
-            (toolbox_state ⟦<Taken as Defined>⟧.loan ⟦<TakenMenu as DefinedMenu>⟧.menu_loan ⟦<TakenControl as DefinedControl>⟧.control_loan self.new
-            (⟦<Stock as Stocked>⟧.slots stock.new) (⟦<MenuStock as StockedMenus>⟧.menu_slots stock.new.menus) (⟦<ControlStock as StockedControls>⟧.control_slots stock.new.controls)) }
+            (toolbox_state ⟦<Taken as Defined>⟧.loan ⟦<TakenMenu as DefinedMenu>⟧.menu_loan ⟦<TakenControl as DefinedControl>⟧.control_loan ⟦<TakenList as DefinedList>⟧.list_loan self.old
+            (⟦<Stock as Stocked>⟧.slots stock.old) (⟦<MenuStock as StockedMenus>⟧.menu_slots stock.old.menus) (⟦<ControlStock as StockedControls>⟧.control_slots stock.old.controls) (⟦<ListStock as StockedLists>⟧.list_slots stock.old.lists))
+            (toolbox_state ⟦<Taken as Defined>⟧.loan ⟦<TakenMenu as DefinedMenu>⟧.menu_loan ⟦<TakenControl as DefinedControl>⟧.control_loan ⟦<TakenList as DefinedList>⟧.list_loan self.new
+            (⟦<Stock as Stocked>⟧.slots stock.new) (⟦<MenuStock as StockedMenus>⟧.menu_slots stock.new.menus) (⟦<ControlStock as StockedControls>⟧.control_slots stock.new.controls) (⟦<ListStock as StockedLists>⟧.list_slots stock.new.lists)) }
     {
         match call {
             Call::Window(call) => match self.tell_window(call, stock) {
                 Ok(reply) => Ok(Reply::Window(reply)),
                 Err(refusal) => Err(refusal),
             },
-            Call::Update(call) => {
-                match self.updates.perform(
-                    &mut self.windows,
-                    &mut self.activity,
-                    call,
-                    &self.controls,
-                ) {
-                    Ok(reply) => Ok(Reply::Window(reply)),
-                    Err(refusal) => Err(refusal),
-                }
-            }
+            Call::Update(call) => match self.tell_update(call) {
+                Ok(reply) => Ok(Reply::Window(reply)),
+                Err(refusal) => Err(refusal),
+            },
             Call::Frame(call) => {
                 match window_frame::perform(&mut self.windows, &mut self.activity, call) {
                     Ok(reply) => Ok(Reply::Frame(reply)),
@@ -66,6 +64,10 @@ impl Toolbox {
             }
             Call::Control(call) => match self.tell_control(call, stock) {
                 Ok(reply) => Ok(Reply::Control(reply)),
+                Err(refusal) => Err(refusal),
+            },
+            Call::List(call) => match self.tell_list(call, stock) {
+                Ok(reply) => Ok(Reply::List(reply)),
                 Err(refusal) => Err(refusal),
             },
             Call::Menu(call) => {
@@ -92,16 +94,16 @@ impl Toolbox {
         call: &WindowCall<'_>,
         stock: &mut Stock,
     ) -> Result<WindowReply, Refusal>
-        requires whole { IsWholeToolbox ⟦<Taken as Defined>⟧.loan ⟦<TakenMenu as DefinedMenu>⟧.menu_loan ⟦<TakenControl as DefinedControl>⟧.control_loan self.old
-            (⟦<Stock as Stocked>⟧.slots stock.old) (⟦<MenuStock as StockedMenus>⟧.menu_slots stock.old.menus) (⟦<ControlStock as StockedControls>⟧.control_slots stock.old.controls) }
+        requires whole { IsWholeToolbox ⟦<Taken as Defined>⟧.loan ⟦<TakenMenu as DefinedMenu>⟧.menu_loan ⟦<TakenControl as DefinedControl>⟧.control_loan ⟦<TakenList as DefinedList>⟧.list_loan self.old
+            (⟦<Stock as Stocked>⟧.slots stock.old) (⟦<MenuStock as StockedMenus>⟧.menu_slots stock.old.menus) (⟦<ControlStock as StockedControls>⟧.control_slots stock.old.controls) (⟦<ListStock as StockedLists>⟧.list_slots stock.old.lists) }
         requires admitted { gate self.old.activity (window_standing call.now) ≡ None }
-        ensures whole { IsWholeToolbox ⟦<Taken as Defined>⟧.loan ⟦<TakenMenu as DefinedMenu>⟧.menu_loan ⟦<TakenControl as DefinedControl>⟧.control_loan self.new
-            (⟦<Stock as Stocked>⟧.slots stock.new) (⟦<MenuStock as StockedMenus>⟧.menu_slots stock.new.menus) (⟦<ControlStock as StockedControls>⟧.control_slots stock.new.controls) }
-        ensures step { let before = toolbox_state ⟦<Taken as Defined>⟧.loan ⟦<TakenMenu as DefinedMenu>⟧.menu_loan ⟦<TakenControl as DefinedControl>⟧.control_loan self.old
-            (⟦<Stock as Stocked>⟧.slots stock.old) (⟦<MenuStock as StockedMenus>⟧.menu_slots stock.old.menus) (⟦<ControlStock as StockedControls>⟧.control_slots stock.old.controls) in
+        ensures whole { IsWholeToolbox ⟦<Taken as Defined>⟧.loan ⟦<TakenMenu as DefinedMenu>⟧.menu_loan ⟦<TakenControl as DefinedControl>⟧.control_loan ⟦<TakenList as DefinedList>⟧.list_loan self.new
+            (⟦<Stock as Stocked>⟧.slots stock.new) (⟦<MenuStock as StockedMenus>⟧.menu_slots stock.new.menus) (⟦<ControlStock as StockedControls>⟧.control_slots stock.new.controls) (⟦<ListStock as StockedLists>⟧.list_slots stock.new.lists) }
+        ensures step { let before = toolbox_state ⟦<Taken as Defined>⟧.loan ⟦<TakenMenu as DefinedMenu>⟧.menu_loan ⟦<TakenControl as DefinedControl>⟧.control_loan ⟦<TakenList as DefinedList>⟧.list_loan self.old
+            (⟦<Stock as Stocked>⟧.slots stock.old) (⟦<MenuStock as StockedMenus>⟧.menu_slots stock.old.menus) (⟦<ControlStock as StockedControls>⟧.control_slots stock.old.controls) (⟦<ListStock as StockedLists>⟧.list_slots stock.old.lists) in
             IsWindowTold (is_covered call.now before) call.now result before
-            (toolbox_state ⟦<Taken as Defined>⟧.loan ⟦<TakenMenu as DefinedMenu>⟧.menu_loan ⟦<TakenControl as DefinedControl>⟧.control_loan self.new
-            (⟦<Stock as Stocked>⟧.slots stock.new) (⟦<MenuStock as StockedMenus>⟧.menu_slots stock.new.menus) (⟦<ControlStock as StockedControls>⟧.control_slots stock.new.controls)) }
+            (toolbox_state ⟦<Taken as Defined>⟧.loan ⟦<TakenMenu as DefinedMenu>⟧.menu_loan ⟦<TakenControl as DefinedControl>⟧.control_loan ⟦<TakenList as DefinedList>⟧.list_loan self.new
+            (⟦<Stock as Stocked>⟧.slots stock.new) (⟦<MenuStock as StockedMenus>⟧.menu_slots stock.new.menus) (⟦<ControlStock as StockedControls>⟧.control_slots stock.new.controls) (⟦<ListStock as StockedLists>⟧.list_slots stock.new.lists)) }
     {
         if self.is_covered(call) {
             return Ok(WindowReply::Found(Found {
@@ -114,9 +116,9 @@ impl Toolbox {
 
     /// Whether a call asks whose a point of the pulled menu is.
     fn is_covered(&self, call: &WindowCall<'_>) -> bool
-        requires { IsKeptToolbox ⟦<Taken as Defined>⟧.loan ⟦<TakenMenu as DefinedMenu>⟧.menu_loan ⟦<TakenControl as DefinedControl>⟧.control_loan self.now }
-        ensures { (slots : List SlotView) (kept : List MenuSlot) (held : List ControlSlot) → result
-            ≡ is_covered call.now (toolbox_state ⟦<Taken as Defined>⟧.loan ⟦<TakenMenu as DefinedMenu>⟧.menu_loan ⟦<TakenControl as DefinedControl>⟧.control_loan self.now slots kept held) }
+        requires { IsKeptToolbox ⟦<Taken as Defined>⟧.loan ⟦<TakenMenu as DefinedMenu>⟧.menu_loan ⟦<TakenControl as DefinedControl>⟧.control_loan ⟦<TakenList as DefinedList>⟧.list_loan self.now }
+        ensures { (slots : List SlotView) (kept : List MenuSlot) (held : List ControlSlot) (listed : List ListSlot) → result
+            ≡ is_covered call.now (toolbox_state ⟦<Taken as Defined>⟧.loan ⟦<TakenMenu as DefinedMenu>⟧.menu_loan ⟦<TakenControl as DefinedControl>⟧.control_loan ⟦<TakenList as DefinedList>⟧.list_loan self.now slots kept held listed) }
     {
         match call {
             WindowCall::Find(point) => self.menus.has_point(&self.windows, self.activity, *point),
@@ -131,26 +133,48 @@ impl Toolbox {
         call: &WindowCall<'_>,
         stock: &mut Stock,
     ) -> Result<WindowReply, Refusal>
-        requires whole { IsWholeToolbox ⟦<Taken as Defined>⟧.loan ⟦<TakenMenu as DefinedMenu>⟧.menu_loan ⟦<TakenControl as DefinedControl>⟧.control_loan self.old
-            (⟦<Stock as Stocked>⟧.slots stock.old) (⟦<MenuStock as StockedMenus>⟧.menu_slots stock.old.menus) (⟦<ControlStock as StockedControls>⟧.control_slots stock.old.controls) }
+        requires whole { IsWholeToolbox ⟦<Taken as Defined>⟧.loan ⟦<TakenMenu as DefinedMenu>⟧.menu_loan ⟦<TakenControl as DefinedControl>⟧.control_loan ⟦<TakenList as DefinedList>⟧.list_loan self.old
+            (⟦<Stock as Stocked>⟧.slots stock.old) (⟦<MenuStock as StockedMenus>⟧.menu_slots stock.old.menus) (⟦<ControlStock as StockedControls>⟧.control_slots stock.old.controls) (⟦<ListStock as StockedLists>⟧.list_slots stock.old.lists) }
         requires admitted { gate self.old.activity (window_standing call.now) ≡ None }
-        ensures whole { IsWholeToolbox ⟦<Taken as Defined>⟧.loan ⟦<TakenMenu as DefinedMenu>⟧.menu_loan ⟦<TakenControl as DefinedControl>⟧.control_loan self.new
-            (⟦<Stock as Stocked>⟧.slots stock.new) (⟦<MenuStock as StockedMenus>⟧.menu_slots stock.new.menus) (⟦<ControlStock as StockedControls>⟧.control_slots stock.new.controls) }
+        ensures whole { IsWholeToolbox ⟦<Taken as Defined>⟧.loan ⟦<TakenMenu as DefinedMenu>⟧.menu_loan ⟦<TakenControl as DefinedControl>⟧.control_loan ⟦<TakenList as DefinedList>⟧.list_loan self.new
+            (⟦<Stock as Stocked>⟧.slots stock.new) (⟦<MenuStock as StockedMenus>⟧.menu_slots stock.new.menus) (⟦<ControlStock as StockedControls>⟧.control_slots stock.new.controls) (⟦<ListStock as StockedLists>⟧.list_slots stock.new.lists) }
         ensures step { IsWindowMade call.now result
-            (toolbox_state ⟦<Taken as Defined>⟧.loan ⟦<TakenMenu as DefinedMenu>⟧.menu_loan ⟦<TakenControl as DefinedControl>⟧.control_loan self.old
-            (⟦<Stock as Stocked>⟧.slots stock.old) (⟦<MenuStock as StockedMenus>⟧.menu_slots stock.old.menus) (⟦<ControlStock as StockedControls>⟧.control_slots stock.old.controls))
-            (toolbox_state ⟦<Taken as Defined>⟧.loan ⟦<TakenMenu as DefinedMenu>⟧.menu_loan ⟦<TakenControl as DefinedControl>⟧.control_loan self.new
-            (⟦<Stock as Stocked>⟧.slots stock.new) (⟦<MenuStock as StockedMenus>⟧.menu_slots stock.new.menus) (⟦<ControlStock as StockedControls>⟧.control_slots stock.new.controls)) }
+            (toolbox_state ⟦<Taken as Defined>⟧.loan ⟦<TakenMenu as DefinedMenu>⟧.menu_loan ⟦<TakenControl as DefinedControl>⟧.control_loan ⟦<TakenList as DefinedList>⟧.list_loan self.old
+            (⟦<Stock as Stocked>⟧.slots stock.old) (⟦<MenuStock as StockedMenus>⟧.menu_slots stock.old.menus) (⟦<ControlStock as StockedControls>⟧.control_slots stock.old.controls) (⟦<ListStock as StockedLists>⟧.list_slots stock.old.lists))
+            (toolbox_state ⟦<Taken as Defined>⟧.loan ⟦<TakenMenu as DefinedMenu>⟧.menu_loan ⟦<TakenControl as DefinedControl>⟧.control_loan ⟦<TakenList as DefinedList>⟧.list_loan self.new
+            (⟦<Stock as Stocked>⟧.slots stock.new) (⟦<MenuStock as StockedMenus>⟧.menu_slots stock.new.menus) (⟦<ControlStock as StockedControls>⟧.control_slots stock.new.controls) (⟦<ListStock as StockedLists>⟧.list_slots stock.new.lists)) }
     {
         match self.answer_window(call, stock) {
             Ok(reply) => {
                 follow(&mut self.windows, call);
                 self.events.follow(call);
                 forget_controls(&mut self.controls, call, &mut stock.controls);
+                forget_lists(&mut self.lists, call, &mut stock.lists);
                 Ok(reply)
             }
             Err(refusal) => Err(refusal),
         }
+    }
+
+    /// Answers a call about what is to be redrawn.
+    fn tell_update(&mut self, call: &UpdateCall<'_>) -> Result<WindowReply, Refusal>
+        requires kept { IsKeptToolbox ⟦<Taken as Defined>⟧.loan ⟦<TakenMenu as DefinedMenu>⟧.menu_loan ⟦<TakenControl as DefinedControl>⟧.control_loan ⟦<TakenList as DefinedList>⟧.list_loan self.old }
+        requires admitted { gate self.old.activity (update_standing call.now) ≡ None }
+        ensures whole { (slots : List SlotView) (kept : List MenuSlot) (held : List ControlSlot) (listed : List ListSlot)
+            → IsWholeToolbox ⟦<Taken as Defined>⟧.loan ⟦<TakenMenu as DefinedMenu>⟧.menu_loan ⟦<TakenControl as DefinedControl>⟧.control_loan ⟦<TakenList as DefinedList>⟧.list_loan self.old slots kept held listed
+            → IsWholeToolbox ⟦<Taken as Defined>⟧.loan ⟦<TakenMenu as DefinedMenu>⟧.menu_loan ⟦<TakenControl as DefinedControl>⟧.control_loan ⟦<TakenList as DefinedList>⟧.list_loan self.new slots kept held listed }
+        ensures step { (slots : List SlotView) (kept : List MenuSlot) (held : List ControlSlot) (listed : List ListSlot)
+            → IsWholeToolbox ⟦<Taken as Defined>⟧.loan ⟦<TakenMenu as DefinedMenu>⟧.menu_loan ⟦<TakenControl as DefinedControl>⟧.control_loan ⟦<TakenList as DefinedList>⟧.list_loan self.old slots kept held listed
+            → IsUpdateTold call.now result
+            (toolbox_state ⟦<Taken as Defined>⟧.loan ⟦<TakenMenu as DefinedMenu>⟧.menu_loan ⟦<TakenControl as DefinedControl>⟧.control_loan ⟦<TakenList as DefinedList>⟧.list_loan self.old slots kept held listed)
+            (toolbox_state ⟦<Taken as Defined>⟧.loan ⟦<TakenMenu as DefinedMenu>⟧.menu_loan ⟦<TakenControl as DefinedControl>⟧.control_loan ⟦<TakenList as DefinedList>⟧.list_loan self.new slots kept held listed) }
+    {
+        let contents = Contents {
+            controls: &self.controls,
+            lists: &self.lists,
+        };
+        self.updates
+            .perform(&mut self.windows, &mut self.activity, call, &contents)
     }
 
     /// Answers a call about controls: whose a point of the pulled menu is, the menus tell, and all else is performed.
@@ -159,16 +183,16 @@ impl Toolbox {
         call: &ControlCall<'_>,
         stock: &mut Stock,
     ) -> Result<ControlReply, Refusal>
-        requires whole { IsWholeToolbox ⟦<Taken as Defined>⟧.loan ⟦<TakenMenu as DefinedMenu>⟧.menu_loan ⟦<TakenControl as DefinedControl>⟧.control_loan self.old
-            (⟦<Stock as Stocked>⟧.slots stock.old) (⟦<MenuStock as StockedMenus>⟧.menu_slots stock.old.menus) (⟦<ControlStock as StockedControls>⟧.control_slots stock.old.controls) }
+        requires whole { IsWholeToolbox ⟦<Taken as Defined>⟧.loan ⟦<TakenMenu as DefinedMenu>⟧.menu_loan ⟦<TakenControl as DefinedControl>⟧.control_loan ⟦<TakenList as DefinedList>⟧.list_loan self.old
+            (⟦<Stock as Stocked>⟧.slots stock.old) (⟦<MenuStock as StockedMenus>⟧.menu_slots stock.old.menus) (⟦<ControlStock as StockedControls>⟧.control_slots stock.old.controls) (⟦<ListStock as StockedLists>⟧.list_slots stock.old.lists) }
         requires admitted { gate self.old.activity (control_standing call.now) ≡ None }
-        ensures whole { IsWholeToolbox ⟦<Taken as Defined>⟧.loan ⟦<TakenMenu as DefinedMenu>⟧.menu_loan ⟦<TakenControl as DefinedControl>⟧.control_loan self.new
-            (⟦<Stock as Stocked>⟧.slots stock.new) (⟦<MenuStock as StockedMenus>⟧.menu_slots stock.new.menus) (⟦<ControlStock as StockedControls>⟧.control_slots stock.new.controls) }
-        ensures step { let before = toolbox_state ⟦<Taken as Defined>⟧.loan ⟦<TakenMenu as DefinedMenu>⟧.menu_loan ⟦<TakenControl as DefinedControl>⟧.control_loan self.old
-            (⟦<Stock as Stocked>⟧.slots stock.old) (⟦<MenuStock as StockedMenus>⟧.menu_slots stock.old.menus) (⟦<ControlStock as StockedControls>⟧.control_slots stock.old.controls) in
+        ensures whole { IsWholeToolbox ⟦<Taken as Defined>⟧.loan ⟦<TakenMenu as DefinedMenu>⟧.menu_loan ⟦<TakenControl as DefinedControl>⟧.control_loan ⟦<TakenList as DefinedList>⟧.list_loan self.new
+            (⟦<Stock as Stocked>⟧.slots stock.new) (⟦<MenuStock as StockedMenus>⟧.menu_slots stock.new.menus) (⟦<ControlStock as StockedControls>⟧.control_slots stock.new.controls) (⟦<ListStock as StockedLists>⟧.list_slots stock.new.lists) }
+        ensures step { let before = toolbox_state ⟦<Taken as Defined>⟧.loan ⟦<TakenMenu as DefinedMenu>⟧.menu_loan ⟦<TakenControl as DefinedControl>⟧.control_loan ⟦<TakenList as DefinedList>⟧.list_loan self.old
+            (⟦<Stock as Stocked>⟧.slots stock.old) (⟦<MenuStock as StockedMenus>⟧.menu_slots stock.old.menus) (⟦<ControlStock as StockedControls>⟧.control_slots stock.old.controls) (⟦<ListStock as StockedLists>⟧.list_slots stock.old.lists) in
             IsControlTold (is_hidden_by_menu call.now before) call.now result before
-            (toolbox_state ⟦<Taken as Defined>⟧.loan ⟦<TakenMenu as DefinedMenu>⟧.menu_loan ⟦<TakenControl as DefinedControl>⟧.control_loan self.new
-            (⟦<Stock as Stocked>⟧.slots stock.new) (⟦<MenuStock as StockedMenus>⟧.menu_slots stock.new.menus) (⟦<ControlStock as StockedControls>⟧.control_slots stock.new.controls)) }
+            (toolbox_state ⟦<Taken as Defined>⟧.loan ⟦<TakenMenu as DefinedMenu>⟧.menu_loan ⟦<TakenControl as DefinedControl>⟧.control_loan ⟦<TakenList as DefinedList>⟧.list_loan self.new
+            (⟦<Stock as Stocked>⟧.slots stock.new) (⟦<MenuStock as StockedMenus>⟧.menu_slots stock.new.menus) (⟦<ControlStock as StockedControls>⟧.control_slots stock.new.controls) (⟦<ListStock as StockedLists>⟧.list_slots stock.new.lists)) }
     {
         if self.is_hidden_by_menu(call) {
             return Ok(ControlReply::Found(None));
@@ -183,9 +207,9 @@ impl Toolbox {
 
     /// Whether a call asks for a control at a point of the pulled menu.
     fn is_hidden_by_menu(&self, call: &ControlCall<'_>) -> bool
-        requires { IsKeptToolbox ⟦<Taken as Defined>⟧.loan ⟦<TakenMenu as DefinedMenu>⟧.menu_loan ⟦<TakenControl as DefinedControl>⟧.control_loan self.now }
-        ensures { (slots : List SlotView) (kept : List MenuSlot) (held : List ControlSlot) → result
-            ≡ is_hidden_by_menu call.now (toolbox_state ⟦<Taken as Defined>⟧.loan ⟦<TakenMenu as DefinedMenu>⟧.menu_loan ⟦<TakenControl as DefinedControl>⟧.control_loan self.now slots kept held) }
+        requires { IsKeptToolbox ⟦<Taken as Defined>⟧.loan ⟦<TakenMenu as DefinedMenu>⟧.menu_loan ⟦<TakenControl as DefinedControl>⟧.control_loan ⟦<TakenList as DefinedList>⟧.list_loan self.now }
+        ensures { (slots : List SlotView) (kept : List MenuSlot) (held : List ControlSlot) (listed : List ListSlot) → result
+            ≡ is_hidden_by_menu call.now (toolbox_state ⟦<Taken as Defined>⟧.loan ⟦<TakenMenu as DefinedMenu>⟧.menu_loan ⟦<TakenControl as DefinedControl>⟧.control_loan ⟦<TakenList as DefinedList>⟧.list_loan self.now slots kept held listed) }
     {
         match call {
             ControlCall::Find(asked) => self.is_under_menu(*asked),
@@ -195,9 +219,9 @@ impl Toolbox {
 
     /// Whether a point of a window lies where the menu does that is pulled down.
     fn is_under_menu(&self, asked: PointInWindow) -> bool
-        requires { IsKeptToolbox ⟦<Taken as Defined>⟧.loan ⟦<TakenMenu as DefinedMenu>⟧.menu_loan ⟦<TakenControl as DefinedControl>⟧.control_loan self.now }
-        ensures { (slots : List SlotView) (kept : List MenuSlot) (held : List ControlSlot) → result
-            ≡ is_under_menu (toolbox_state ⟦<Taken as Defined>⟧.loan ⟦<TakenMenu as DefinedMenu>⟧.menu_loan ⟦<TakenControl as DefinedControl>⟧.control_loan self.now slots kept held) asked }
+        requires { IsKeptToolbox ⟦<Taken as Defined>⟧.loan ⟦<TakenMenu as DefinedMenu>⟧.menu_loan ⟦<TakenControl as DefinedControl>⟧.control_loan ⟦<TakenList as DefinedList>⟧.list_loan self.now }
+        ensures { (slots : List SlotView) (kept : List MenuSlot) (held : List ControlSlot) (listed : List ListSlot) → result
+            ≡ is_under_menu (toolbox_state ⟦<Taken as Defined>⟧.loan ⟦<TakenMenu as DefinedMenu>⟧.menu_loan ⟦<TakenControl as DefinedControl>⟧.control_loan ⟦<TakenList as DefinedList>⟧.list_loan self.now slots kept held listed) asked }
     {
         if !asked.point.is_in_range() {
             return false;
@@ -218,23 +242,25 @@ impl Toolbox {
         call: &WindowCall<'_>,
         stock: &mut Stock,
     ) -> Result<WindowReply, Refusal>
-        requires whole { IsWholeToolbox ⟦<Taken as Defined>⟧.loan ⟦<TakenMenu as DefinedMenu>⟧.menu_loan ⟦<TakenControl as DefinedControl>⟧.control_loan self.old
-            (⟦<Stock as Stocked>⟧.slots stock.old) (⟦<MenuStock as StockedMenus>⟧.menu_slots stock.old.menus) (⟦<ControlStock as StockedControls>⟧.control_slots stock.old.controls) }
+        requires whole { IsWholeToolbox ⟦<Taken as Defined>⟧.loan ⟦<TakenMenu as DefinedMenu>⟧.menu_loan ⟦<TakenControl as DefinedControl>⟧.control_loan ⟦<TakenList as DefinedList>⟧.list_loan self.old
+            (⟦<Stock as Stocked>⟧.slots stock.old) (⟦<MenuStock as StockedMenus>⟧.menu_slots stock.old.menus) (⟦<ControlStock as StockedControls>⟧.control_slots stock.old.controls) (⟦<ListStock as StockedLists>⟧.list_slots stock.old.lists) }
         requires admitted { gate self.old.activity (window_standing call.now) ≡ None }
         ensures windows { IsWholeManager ⟦<Taken as Defined>⟧.loan self.new.windows (⟦<Stock as Stocked>⟧.slots stock.new) }
         ensures updates { IsWholeUpdates ⟦<Taken as Defined>⟧.loan self.new.activity self.new.windows self.new.updates }
         ensures menus_whole { IsWholeMenus ⟦<TakenMenu as DefinedMenu>⟧.menu_loan self.new.windows self.new.activity self.new.menus
             (⟦<MenuStock as StockedMenus>⟧.menu_slots stock.new.menus) }
         ensures step { IsWindowAnswered call.now result
-            (toolbox_state ⟦<Taken as Defined>⟧.loan ⟦<TakenMenu as DefinedMenu>⟧.menu_loan ⟦<TakenControl as DefinedControl>⟧.control_loan self.old
-            (⟦<Stock as Stocked>⟧.slots stock.old) (⟦<MenuStock as StockedMenus>⟧.menu_slots stock.old.menus) (⟦<ControlStock as StockedControls>⟧.control_slots stock.old.controls)).desk
-            (toolbox_state ⟦<Taken as Defined>⟧.loan ⟦<TakenMenu as DefinedMenu>⟧.menu_loan ⟦<TakenControl as DefinedControl>⟧.control_loan self.new
-            (⟦<Stock as Stocked>⟧.slots stock.new) (⟦<MenuStock as StockedMenus>⟧.menu_slots stock.new.menus) (⟦<ControlStock as StockedControls>⟧.control_slots stock.new.controls)).desk }
+            (toolbox_state ⟦<Taken as Defined>⟧.loan ⟦<TakenMenu as DefinedMenu>⟧.menu_loan ⟦<TakenControl as DefinedControl>⟧.control_loan ⟦<TakenList as DefinedList>⟧.list_loan self.old
+            (⟦<Stock as Stocked>⟧.slots stock.old) (⟦<MenuStock as StockedMenus>⟧.menu_slots stock.old.menus) (⟦<ControlStock as StockedControls>⟧.control_slots stock.old.controls) (⟦<ListStock as StockedLists>⟧.list_slots stock.old.lists)).desk
+            (toolbox_state ⟦<Taken as Defined>⟧.loan ⟦<TakenMenu as DefinedMenu>⟧.menu_loan ⟦<TakenControl as DefinedControl>⟧.control_loan ⟦<TakenList as DefinedList>⟧.list_loan self.new
+            (⟦<Stock as Stocked>⟧.slots stock.new) (⟦<MenuStock as StockedMenus>⟧.menu_slots stock.new.menus) (⟦<ControlStock as StockedControls>⟧.control_slots stock.new.controls) (⟦<ListStock as StockedLists>⟧.list_slots stock.new.lists)).desk }
         ensures activity { self.new.activity ≡ self.old.activity }
         ensures events { self.new.events ≡ self.old.events }
         ensures menus { self.new.menus ≡ self.old.menus }
         ensures controls { self.new.controls ≡ self.old.controls }
         ensures control_stock { ⟦<ControlStock as StockedControls>⟧.control_slots stock.new.controls ≡ ⟦<ControlStock as StockedControls>⟧.control_slots stock.old.controls }
+        ensures lists { self.new.lists ≡ self.old.lists }
+        ensures list_stock { ⟦<ListStock as StockedLists>⟧.list_slots stock.new.lists ≡ ⟦<ListStock as StockedLists>⟧.list_slots stock.old.lists }
         ensures menu_stock { ⟦<MenuStock as StockedMenus>⟧.menu_slots stock.new.menus ≡ ⟦<MenuStock as StockedMenus>⟧.menu_slots stock.old.menus }
     {
         match self.updates.tell(self.activity, call) {
@@ -243,15 +269,37 @@ impl Toolbox {
         }
     }
 
+    /// Answers a call about lists.
+    fn tell_list(&mut self, call: &ListCall<'_>, stock: &mut Stock) -> Result<ListReply, Refusal>
+        requires whole { IsWholeToolbox ⟦<Taken as Defined>⟧.loan ⟦<TakenMenu as DefinedMenu>⟧.menu_loan ⟦<TakenControl as DefinedControl>⟧.control_loan ⟦<TakenList as DefinedList>⟧.list_loan self.old
+            (⟦<Stock as Stocked>⟧.slots stock.old) (⟦<MenuStock as StockedMenus>⟧.menu_slots stock.old.menus) (⟦<ControlStock as StockedControls>⟧.control_slots stock.old.controls) (⟦<ListStock as StockedLists>⟧.list_slots stock.old.lists) }
+        requires admitted { gate self.old.activity (list_standing call.now) ≡ None }
+        ensures whole { IsWholeToolbox ⟦<Taken as Defined>⟧.loan ⟦<TakenMenu as DefinedMenu>⟧.menu_loan ⟦<TakenControl as DefinedControl>⟧.control_loan ⟦<TakenList as DefinedList>⟧.list_loan self.new
+            (⟦<Stock as Stocked>⟧.slots stock.new) (⟦<MenuStock as StockedMenus>⟧.menu_slots stock.new.menus) (⟦<ControlStock as StockedControls>⟧.control_slots stock.new.controls) (⟦<ListStock as StockedLists>⟧.list_slots stock.new.lists) }
+        ensures step { IsListTold call.now result
+            (toolbox_state ⟦<Taken as Defined>⟧.loan ⟦<TakenMenu as DefinedMenu>⟧.menu_loan ⟦<TakenControl as DefinedControl>⟧.control_loan ⟦<TakenList as DefinedList>⟧.list_loan self.old
+            (⟦<Stock as Stocked>⟧.slots stock.old) (⟦<MenuStock as StockedMenus>⟧.menu_slots stock.old.menus) (⟦<ControlStock as StockedControls>⟧.control_slots stock.old.controls) (⟦<ListStock as StockedLists>⟧.list_slots stock.old.lists))
+            (toolbox_state ⟦<Taken as Defined>⟧.loan ⟦<TakenMenu as DefinedMenu>⟧.menu_loan ⟦<TakenControl as DefinedControl>⟧.control_loan ⟦<TakenList as DefinedList>⟧.list_loan self.new
+            (⟦<Stock as Stocked>⟧.slots stock.new) (⟦<MenuStock as StockedMenus>⟧.menu_slots stock.new.menus) (⟦<ControlStock as StockedControls>⟧.control_slots stock.new.controls) (⟦<ListStock as StockedLists>⟧.list_slots stock.new.lists)) }
+    {
+        self.lists.perform(
+            &mut self.windows,
+            &mut self.controls,
+            call,
+            &mut stock.lists,
+            &mut stock.controls,
+        )
+    }
+
     /// Answers a call about events.
     fn answer_event(&mut self, call: EventCall) -> Result<EventReply, Refusal>
-        requires { IsKeptToolbox ⟦<Taken as Defined>⟧.loan ⟦<TakenMenu as DefinedMenu>⟧.menu_loan ⟦<TakenControl as DefinedControl>⟧.control_loan self.old }
-        ensures whole { (slots : List SlotView) (kept : List MenuSlot) (held : List ControlSlot)
-            → IsWholeToolbox ⟦<Taken as Defined>⟧.loan ⟦<TakenMenu as DefinedMenu>⟧.menu_loan ⟦<TakenControl as DefinedControl>⟧.control_loan self.old slots kept held
-            → IsWholeToolbox ⟦<Taken as Defined>⟧.loan ⟦<TakenMenu as DefinedMenu>⟧.menu_loan ⟦<TakenControl as DefinedControl>⟧.control_loan self.new slots kept held }
-        ensures step { (slots : List SlotView) (kept : List MenuSlot) (held : List ControlSlot) → IsEventAnswer call result
-            (toolbox_state ⟦<Taken as Defined>⟧.loan ⟦<TakenMenu as DefinedMenu>⟧.menu_loan ⟦<TakenControl as DefinedControl>⟧.control_loan self.old slots kept held)
-            (toolbox_state ⟦<Taken as Defined>⟧.loan ⟦<TakenMenu as DefinedMenu>⟧.menu_loan ⟦<TakenControl as DefinedControl>⟧.control_loan self.new slots kept held) }
+        requires { IsKeptToolbox ⟦<Taken as Defined>⟧.loan ⟦<TakenMenu as DefinedMenu>⟧.menu_loan ⟦<TakenControl as DefinedControl>⟧.control_loan ⟦<TakenList as DefinedList>⟧.list_loan self.old }
+        ensures whole { (slots : List SlotView) (kept : List MenuSlot) (held : List ControlSlot) (listed : List ListSlot)
+            → IsWholeToolbox ⟦<Taken as Defined>⟧.loan ⟦<TakenMenu as DefinedMenu>⟧.menu_loan ⟦<TakenControl as DefinedControl>⟧.control_loan ⟦<TakenList as DefinedList>⟧.list_loan self.old slots kept held listed
+            → IsWholeToolbox ⟦<Taken as Defined>⟧.loan ⟦<TakenMenu as DefinedMenu>⟧.menu_loan ⟦<TakenControl as DefinedControl>⟧.control_loan ⟦<TakenList as DefinedList>⟧.list_loan self.new slots kept held listed }
+        ensures step { (slots : List SlotView) (kept : List MenuSlot) (held : List ControlSlot) (listed : List ListSlot) → IsEventAnswer call result
+            (toolbox_state ⟦<Taken as Defined>⟧.loan ⟦<TakenMenu as DefinedMenu>⟧.menu_loan ⟦<TakenControl as DefinedControl>⟧.control_loan ⟦<TakenList as DefinedList>⟧.list_loan self.old slots kept held listed)
+            (toolbox_state ⟦<Taken as Defined>⟧.loan ⟦<TakenMenu as DefinedMenu>⟧.menu_loan ⟦<TakenControl as DefinedControl>⟧.control_loan ⟦<TakenList as DefinedList>⟧.list_loan self.new slots kept held listed) }
     {
         let active = self.windows.list().active();
         let update = first_to_update(&self.windows, self.activity);
@@ -277,16 +325,32 @@ fn forget_controls(
     }
 }
 
+/// So do its lists.
+fn forget_lists(lists: &mut Lists<TakenList>, call: &WindowCall<'_>, stock: &mut ListStock)
+    requires live { AreLiveLists (whole_lists.records_of ⟦<TakenList as DefinedList>⟧.list_loan lists.old) }
+    requires stocked { AreStocked (λ d. d.stage) (whole_lists.slots_of (whole_lists.records_of ⟦<TakenList as DefinedList>⟧.list_loan lists.old))
+        (⟦<ListStock as StockedLists>⟧.list_slots stock.old) }
+    ensures { AreListsLeft call.now
+        (lists_state ⟦<TakenList as DefinedList>⟧.list_loan lists.old (⟦<ListStock as StockedLists>⟧.list_slots stock.old))
+        (lists_state ⟦<TakenList as DefinedList>⟧.list_loan lists.new (⟦<ListStock as StockedLists>⟧.list_slots stock.new)) }
+{
+    if let WindowCall::Dispose(window) = call {
+        lists.end_of(*window, stock);
+    }
+}
+
 /// Why a call is refused for its names and bytes alone, whatever is open.
 pub(crate) fn form_refusal_of(call: &Call<'_>, stock: &Stock) -> Option<Refusal>
     ensures { (before : ToolboxState) → before.desk.windows.desk.stock ≡ ⟦<Stock as Stocked>⟧.slots stock.now
         → before.menus.stock ≡ ⟦<MenuStock as StockedMenus>⟧.menu_slots stock.now.menus
-        → before.controls.stock ≡ ⟦<ControlStock as StockedControls>⟧.control_slots stock.now.controls → IsFormFault call.now before result }
+        → before.controls.stock ≡ ⟦<ControlStock as StockedControls>⟧.control_slots stock.now.controls
+        → before.lists.stock ≡ ⟦<ListStock as StockedLists>⟧.list_slots stock.now.lists → IsFormFault call.now before result }
 {
     match call {
         Call::Window(call) => form_refusal(call, &stock.windows),
         Call::Update(call) => update_form_refusal(call),
         Call::Control(call) => control_mgr::form_refusal(call, &stock.controls),
+        Call::List(call) => list_mgr::form_refusal(call, &stock.lists, &stock.controls),
         Call::Menu(call) => menu_mgr::form_refusal(call, &stock.menus),
         Call::Frame(_) | Call::Event(_) => None,
     }

@@ -1,11 +1,12 @@
 //! What the definitions of a desk, of its steps and of runs say of each other.
-ghost use Rattle.std.specs.Prelude.{◌≡◌, ℕ, Bool, true, false, List, [], ◌∷◌, ◌++◌, map, Option, Some, Result, Ok, All};
+ghost use Rattle.std.specs.Prelude.{◌≡◌, ℕ, Bool, true, false, not, List, [], ◌∷◌, ◌++◌, map, Option, Some, Result, Ok, All};
 ghost use Rattle.std.specs.List.{find};
 ghost use Rattle.std.specs.Option.{option_map};
 ghost use Rattle.tb_geom.specs.declared.point.Point.{Point};
 ghost use Rattle.tb_geom.specs.declared.refusal.Refusal.{Refusal};
 ghost use Rattle.def_iface.specs.Desk.{IsDesk};
 ghost use Rattle.def_iface.specs.ControlMeaning.{ControlGoesBy};
+ghost use Rattle.def_iface.specs.ListMeaning.{ListGoesBy};
 ghost use Rattle.def_iface.specs.Meaning.{GoesBy};
 ghost use Rattle.def_iface.specs.Owner.{is_content, owner, own_bit};
 ghost use Rattle.def_iface.specs.Scratch.{scratch};
@@ -22,7 +23,13 @@ ghost use Rattle.desk_call.specs.declared.control.NewControl.{NewControl};
 ghost use Rattle.desk_call.specs.declared.control.PointInWindow.{PointInWindow};
 ghost use Rattle.control_mgr.specs.ControlDesks.{ControlSlot, ControlsState, news_of_control};
 ghost use Rattle.control_mgr.specs.ControlRefusals.{control_form_refusals, control_refusals};
+ghost use Rattle.list_mgr.specs.ListDesks.{ListSlot, ListsState};
+ghost use Rattle.list_mgr.specs.ListRefusals.{list_form_refusals, list_refusals};
+ghost use Rattle.list_mgr.specs.WholeLists.{cell_size};
 ghost use Rattle.desk_call.specs.declared.frame.FrameCall.{FrameCall};
+ghost use Rattle.desk_call.specs.declared.list.ListCall.{ListCall};
+ghost use Rattle.desk_call.specs.declared.list.ListCall.TheVariants as list_calls;
+ghost use Rattle.desk_call.specs.declared.list.NewList.{NewList};
 ghost use Rattle.desk_call.specs.declared.menu.MenuCall.{MenuCall};
 ghost use Rattle.desk_call.specs.declared.menu.MenuCall.TheVariants as asks;
 ghost use Rattle.desk_call.specs.declared.menu.NewMenu.{NewMenu};
@@ -49,12 +56,12 @@ ghost use Rattle.desk_call.specs.declared.call.Reply.{Reply};
 ghost use Rattle.window_update.specs.Served.{AreAllServed, IsAllRight};
 ghost use Rattle.window_frame.specs.Followers.{AreInformed};
 ghost use Rattle.desk_toolbox.specs.Activations.{activate_events_told, IsNeverDisposed};
-ghost use Rattle.desk_toolbox.specs.Reached.{AreControlsRight, IsConsistent, IsJustBegun, news_by_record};
+ghost use Rattle.desk_toolbox.specs.Reached.{AreContentsRight, IsConsistent, IsJustBegun, news_by_record};
 ghost use Rattle.def_iface.specs.Desk.{on_screen};
 ghost use Rattle.desk_toolbox.specs.Fronts.{IsScreenAllRight, IsScreenRight, found_on_screen, is_on_menu, screen_bit, screen_of, screen_owner, screen_scratch};
 ghost use Rattle.desk_toolbox.specs.Fronts.ScreenOwner.{PulledMenu, Base};
 ghost use Rattle.desk_toolbox.specs.ToolboxStates.{ToolboxState, IsToolboxUnchanged};
-ghost use Rattle.desk_toolbox.specs.Run.{IsStep, IsRunOfCalls, controls_made, found_menu, made, AreCounted};
+ghost use Rattle.desk_toolbox.specs.Run.{IsStep, IsRunOfCalls, controls_made, found_menu, lists_made, made, AreCounted, AreCountedAlong};
 
 /// Painting the desk from nothing, back to front, gives each pixel the value of its owner.
 #[tactic(auto, using(crate::proofs::Sayings::scratch_is_owners_on))]
@@ -78,7 +85,7 @@ pub fn a_refusal_is_the_first_that_holds()
 {}
 
 /// The reasons to refuse each call stand in the written order.
-#[tactic(auto, using(crate::proofs::Ordering::frame_reasons_in_order, crate::proofs::Ordering::control_reasons_in_order, crate::proofs::Ordering::menu_reasons_in_order))]
+#[tactic(auto, using(crate::proofs::Ordering::frame_reasons_in_order, crate::proofs::Ordering::control_reasons_in_order, crate::proofs::Ordering::list_reasons_in_order, crate::proofs::Ordering::menu_reasons_in_order))]
 pub fn reasons_stand_in_the_written_order()
     ensures new_window { (w : NewWindow) (desk : FullDesk) → AreInOrder (new_window_refusals w desk) }
     ensures draw { (judged : Option Refusal) (window : Option WindowRecord) → AreInOrder (draw_refusals judged window) }
@@ -95,6 +102,9 @@ pub fn reasons_stand_in_the_written_order()
     ensures control { (call : ControlCall) (desk : FullDesk) (s : ControlsState) → AreInOrder (control_refusals call desk s) }
     ensures control_form { (n : NewControl) (slots : List ControlSlot) (busy missing : Bool)
         → AreInOrder (control_form_refusals (controls.New n) slots ++ (busy, Busy) ∷ (missing, NoSuchWindow) ∷ []) }
+    ensures list { (call : ListCall) (desk : FullDesk) (c : ControlsState) (s : ListsState) → AreInOrder (list_refusals call desk c s) }
+    ensures list_form { (n : NewList) (slots : List ListSlot) (bars : List ControlSlot) (busy missing : Bool)
+        → AreInOrder (list_form_refusals (list_calls.New n) slots bars ++ (busy, Busy) ∷ (missing, NoSuchWindow) ∷ []) }
     ensures menu { (call : MenuCall) (menus : MenusState) → AreInOrder (menu_refusals call menus) }
     ensures menu_form { (n : NewMenu) (slots : List MenuSlot) (busy missing : Bool)
         → AreInOrder (menu_form_refusals (asks.New n) slots ++ (busy, Busy) ∷ (missing, NoSuchMenu) ∷ []) }
@@ -110,8 +120,8 @@ pub fn what_is_told_comes_first_in_the_order()
         → All (λ r. r.0 ≡ true → is_before e r.1 ≡ true) reasons }
 {}
 
-/// Whatever a call does, the stock has the same slots, for the same kinds: those of windows, of controls and of menus.
-#[tactic(auto, using(crate::proofs::Runs::step_keeps_kinds, crate::proofs::ControlKinds::step_keeps_control_kinds, crate::proofs::MenuKinds::step_keeps_menu_kinds))]
+/// Whatever a call does, the stock has the same slots, for the same kinds: those of windows, of controls, of lists and of menus.
+#[tactic(auto, using(crate::proofs::Runs::step_keeps_kinds, crate::proofs::ControlKinds::step_keeps_control_kinds, crate::proofs::ListKinds::step_keeps_list_kinds, crate::proofs::MenuKinds::step_keeps_menu_kinds))]
 pub fn steps_keep_the_kinds()
     ensures windows { (call : Call) (answer : Result Reply Refusal) (before after : ToolboxState)
         → IsStep call answer before after
@@ -119,18 +129,21 @@ pub fn steps_keep_the_kinds()
     ensures controls { (call : Call) (answer : Result Reply Refusal) (before after : ToolboxState)
         → IsStep call answer before after
         → map (λ slot. slot.kind) after.controls.stock ≡ map (λ slot. slot.kind) before.controls.stock }
+    ensures lists { (call : Call) (answer : Result Reply Refusal) (before after : ToolboxState)
+        → IsStep call answer before after
+        → map (λ slot. slot.kind) after.lists.stock ≡ map (λ slot. slot.kind) before.lists.stock }
     ensures menus { (call : Call) (answer : Result Reply Refusal) (before after : ToolboxState)
         → IsStep call answer before after
         → map (λ slot. slot.kind) after.menus.stock ≡ map (λ slot. slot.kind) before.menus.stock }
 {}
 
-/// A step keeps a right state right, whose controls are whole and shown, and these so.
-#[tactic(auto, using(crate::proofs::Runs::step_is_right, crate::proofs::Runs::step_controls_are_right))]
+/// A step keeps a right state right, whose controls and lists are whole and shown, and these so.
+#[tactic(auto, using(crate::proofs::Runs::step_is_right, crate::proofs::Runs::step_contents_are_right))]
 pub fn steps_stay_right()
     ensures right { (call : Call) (answer : Result Reply Refusal) (before after : ToolboxState)
-        → IsRightState before.desk.windows → AreControlsRight before → IsStep call answer before after → IsRightState after.desk.windows }
-    ensures controls { (call : Call) (answer : Result Reply Refusal) (before after : ToolboxState)
-        → IsRightState before.desk.windows → AreControlsRight before → IsStep call answer before after → AreControlsRight after }
+        → IsRightState before.desk.windows → AreContentsRight before → IsStep call answer before after → IsRightState after.desk.windows }
+    ensures contents { (call : Call) (answer : Result Reply Refusal) (before after : ToolboxState)
+        → IsRightState before.desk.windows → AreContentsRight before → IsStep call answer before after → AreContentsRight after }
 {}
 
 /// The windows that a run makes have serials that follow each other: none is used again.
@@ -140,21 +153,29 @@ pub fn windows_are_counted()
         → IsRunOfCalls first calls answers last → AreCounted first.desk.windows.desk.next (made answers) }
 {}
 
-/// So have the controls that a run makes, in whichever windows.
+/// So have the controls that a run makes, in whichever windows, those among them that it makes as scroll bars of lists, whose
+/// serials no call answers.
 #[tactic(auto, using(crate::proofs::ControlNumbers::controls_are_counted))]
 pub fn controls_are_counted()
     ensures { (first last : ToolboxState) (calls : List Call) (answers : List (Result Reply Refusal))
-        → IsRunOfCalls first calls answers last → AreCounted first.controls.next (controls_made answers) }
+        → IsRunOfCalls first calls answers last → AreCountedAlong first.controls.next (controls_made calls answers) }
+{}
+
+/// So have the lists that a run makes.
+#[tactic(auto, using(crate::proofs::ListNumbers::lists_are_counted))]
+pub fn lists_are_counted()
+    ensures { (first last : ToolboxState) (calls : List Call) (answers : List (Result Reply Refusal))
+        → IsRunOfCalls first calls answers last → AreCounted first.lists.next (lists_made answers) }
 {}
 
 /// After any run from a right state each pixel of the screen in no update set has the value that
-/// painting the desk from nothing gives, and the controls are whole and shown.
-#[tactic(auto, using(crate::proofs::Runs::run_is_right, crate::proofs::Runs::run_controls_are_right))]
+/// painting the desk from nothing gives, and the controls and lists are whole and shown.
+#[tactic(auto, using(crate::proofs::Runs::run_is_right, crate::proofs::Runs::run_contents_are_right))]
 pub fn runs_stay_right()
     ensures right { (first last : ToolboxState) (calls : List Call) (answers : List (Result Reply Refusal))
-        → IsRightState first.desk.windows → AreControlsRight first → IsRunOfCalls first calls answers last → IsRightState last.desk.windows }
-    ensures controls { (first last : ToolboxState) (calls : List Call) (answers : List (Result Reply Refusal))
-        → IsRightState first.desk.windows → AreControlsRight first → IsRunOfCalls first calls answers last → AreControlsRight last }
+        → IsRightState first.desk.windows → AreContentsRight first → IsRunOfCalls first calls answers last → IsRightState last.desk.windows }
+    ensures contents { (first last : ToolboxState) (calls : List Call) (answers : List (Result Reply Refusal))
+        → IsRightState first.desk.windows → AreContentsRight first → IsRunOfCalls first calls answers last → AreContentsRight last }
 {}
 
 /// After any run from a right state that leaves no pixel in any window's update region, the whole screen shows what
@@ -162,7 +183,7 @@ pub fn runs_stay_right()
 #[tactic(auto, using(crate::proofs::Runs::served_run_is_all_right))]
 pub fn runs_that_leave_every_update_served_are_all_right()
     ensures { (first last : ToolboxState) (calls : List Call) (answers : List (Result Reply Refusal))
-        → IsRightState first.desk.windows → AreControlsRight first → IsRunOfCalls first calls answers last
+        → IsRightState first.desk.windows → AreContentsRight first → IsRunOfCalls first calls answers last
         → AreAllServed last.desk.windows → IsAllRight last.desk.windows }
 {}
 
@@ -177,7 +198,7 @@ pub fn the_screen_of_a_right_state_is_right()
 #[tactic(auto, using(crate::proofs::FrontLaws::served_run_shows_all_right))]
 pub fn runs_that_leave_every_update_served_show_a_right_screen()
     ensures { (first last : ToolboxState) (calls : List Call) (answers : List (Result Reply Refusal))
-        → IsRightState first.desk.windows → AreControlsRight first → IsRunOfCalls first calls answers last
+        → IsRightState first.desk.windows → AreContentsRight first → IsRunOfCalls first calls answers last
         → AreAllServed last.desk.windows → IsScreenAllRight last }
 {}
 
@@ -256,11 +277,18 @@ pub fn windows_are_shown_by_their_records()
         → All (λ w. GoesBy (news_by_record w) w.definition) desk.windows }
 {}
 
-/// So is each control of a state whose controls are right, by what its record says.
+/// So is each control of such a state, by what its record says.
 #[tactic(auto, using(crate::proofs::Shown::controls_go_by_records))]
 pub fn controls_are_shown_by_their_records()
-    ensures { (s : ToolboxState) → AreControlsRight s
+    ensures { (s : ToolboxState) → AreContentsRight s
         → All (λ c. ControlGoesBy (news_of_control c) c.definition.definition) s.controls.controls }
+{}
+
+/// And each list: its definition goes by the size of its cells, and by its flag for empty ones.
+#[tactic(auto, using(crate::proofs::Shown::lists_go_by_records))]
+pub fn lists_are_shown_by_their_records()
+    ensures { (s : ToolboxState) → AreContentsRight s
+        → All (λ l. ListGoesBy (cell_size l.view) (not l.flags.no_nil_hilite) l.definition.definition) s.lists.lists }
 {}
 
 /// Over any run of a desk that just began, the activate events that are told of one window are in turn an activation and a

@@ -1,8 +1,8 @@
 //! The Toolbox: a desk, and the calls of all its managers, one by one and in a row.
 //!
 //! A `Call` says which manager it is for. What each does, its manager says (`window_mgr` for windows, `window_update` for
-//! update regions, `window_frame` for titles, highlighting and go-away boxes, `control_mgr` for controls, `menu_mgr` for
-//! menus, `event_queue` for events); here steps are strung together (`Run`), and the law that steps keep a right state right
+//! update regions, `window_frame` for titles, highlighting and go-away boxes, `control_mgr` for controls, `list_mgr` for
+//! lists, `menu_mgr` for menus, `event_queue` for events); here steps are strung together (`Run`), and the law that steps keep a right state right
 //! (`laws`) becomes one of runs: outside the update regions each pixel has the value that painting the desk from nothing
 //! gives.
 //!
@@ -22,8 +22,8 @@ pub use desk_call::{
     Activity, AppendItems, AreaRef, Call, CheckItem, Choice, ControlCall, ControlInfo,
     ControlNumber, ControlOf, ControlReply, ControlTitle, Drawing, EventCall, EventReply,
     FlushEvents, Found, FoundControl, FrameCall, FrameReply, GoAwayPoint, HiliteWindow, InsertMenu,
-    ItemOfMenu, ItemText, LayerDraw, Layers, MenuCall, MenuReply, MoveControl, MoveWindow,
-    NewControl, NewMenu, NewPicture, NewTitle, NewWindow, PictureRef, PointAtControl,
+    ItemOfMenu, ItemText, LayerDraw, Layers, ListCall, ListReply, MenuCall, MenuReply, MoveControl,
+    MoveWindow, NewControl, NewMenu, NewPicture, NewTitle, NewWindow, PictureRef, PointAtControl,
     PointInWindow, PostEvent, PulledMenu, Reply, ScrollPicture, SendBehind, ShowHide, SizeControl,
     SizeWindow, TrackedControl, UpdateCall, WindowArea, WindowCall, WindowInfo, WindowPart,
     WindowReply, Zoom, ZoomWindow,

@@ -1,7 +1,7 @@
 //! The layers of a window's content, followed on the screen: a window with a picture, controls and a list, and one that covers
 //! a part of it, are changed by calls of `window_mgr` and `window_update`, and after each call every pixel of the screen and
-//! every region that is kept is what a slow model says. No script reaches all of this, since no call of the Toolbox makes lists,
-//! and what a test's layers show is as plain as the model needs it.
+//! every region that is kept is what a slow model says. A script makes such layers too, and tells less of them: here what they
+//! show is as plain as the model needs it.
 //!
 //! The model goes by single pixels and uses no region: `plain_desk` says whose a pixel is, `plain_steps` what calls change of
 //! the desk, and `plain_pixels` what each pixel shows after them. `stripes` says what the controls and lists of these tests show,

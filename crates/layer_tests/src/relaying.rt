@@ -154,7 +154,7 @@ fn relay(windows: &mut WindowManager, at: usize, relaying: Relaying) -> Result<(
     if !relaid.layers.fit_at(windows.list().at(at).place) {
         return Err(Refusal::OutOfRange);
     }
-    let plan = windows.plan_layers(at, &relaid, afresh)?;
+    let plan = windows.plan_layers(at, &windows.area(at).update, &relaid, afresh)?;
     windows.commit_layers(at, relaid.layers, plan, afresh, &Stripes);
     Ok(())
 }

@@ -1,12 +1,14 @@
-//! The program `desk` over a kind of window, a kind of control and a kind of menu that are not its own: a script comes in on
-//! standard input, and what each of its lines answers goes out, with the check of the screen at the end.
+//! The program `desk` over a kind of window, a kind of control, a kind of menu and a kind of list that are not its own: a script
+//! comes in on standard input, and what each of its lines answers goes out, with the check of the screen at the end.
 //!
 //! Each kind of window that a script can name is the hollow one here (`hollow_window`), whose structure has a hole and whose
-//! content has two parts, each kind of control is the ring (`ring_control`), whose region has a hole between two parts, and
-//! each menu is a strip (`strip_menu`), whose items stand side by side. So every script runs, and `tests/own-kind` sees that
-//! it is answered as it has to be whatever windows, controls and menus are.
+//! content has two parts, each kind of control is the ring (`ring_control`), whose region has a hole between two parts, each menu
+//! is a strip (`strip_menu`), whose items stand side by side, and each list is a gauge (`gauge_list`), whose cells show bars. So
+//! every script runs, and `tests/own-kind` sees that it is answered as it has to be whatever windows, controls, menus and lists
+//! are.
 #![tactic(auto)]
 
+mod gauge_list;
 mod hollow_window;
 mod ring_control;
 mod ring_tables;
@@ -14,7 +16,8 @@ mod strip_menu;
 mod tables;
 
 use anyhow::{Result, bail};
-use def_iface::{ControlStock, MenuStock, Stock, WindowStock};
+use def_iface::{ControlStock, ListStock, MenuStock, Stock, WindowStock};
+use gauge_list::GaugeList;
 use hollow_window::HollowWindow;
 use ring_control::RingControl;
 use script_runner::run;
@@ -31,6 +34,9 @@ const CONTROLS: u8 = 64;
 /// How many of menus.
 const MENUS: u8 = 32;
 
+/// How many of each kind of list.
+const LISTS: u8 = 16;
+
 /// The names of the kinds of window, as scripts have them.
 static WINDOW_KINDS: [&[u8]; 7] = [
     b"document",
@@ -44,6 +50,9 @@ static WINDOW_KINDS: [&[u8]; 7] = [
 
 /// Those of the kinds of control.
 static CONTROL_KINDS: [&[u8]; 4] = [b"button", b"check", b"radio", b"scroll"];
+
+/// Those of the kinds of list: the one of scripts, and one that is its own.
+static LIST_KINDS: [&[u8]; 2] = [b"text", b"gauge"];
 
 fn main(rt: HostRuntime) -> Result<()> {
     let alloc = rt.alloc();
@@ -72,9 +81,19 @@ fn main(rt: HostRuntime) -> Result<()> {
             bail!("no memory for the stock");
         };
     }
+    let mut lists = ListStock::new(alloc);
+    for _ in 0..LISTS {
+        for kind in &LIST_KINDS {
+            let list = Box::new(alloc, GaugeList::new())?;
+            let Ok(()) = lists.add(kind, list) else {
+                bail!("no memory for the stock");
+            };
+        }
+    }
     let mut stock = Stock::new(alloc);
     stock.windows = windows;
     stock.controls = controls;
+    stock.lists = lists;
     stock.menus = menus;
     let mut source = WatchedReader::new(rt.reader());
     let mut sink = WatchedWriter::new(io::writer(&rt));

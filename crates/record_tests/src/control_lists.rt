@@ -26,7 +26,7 @@ fn add(list: &mut ControlList<u64>, window: u64) -> Result<(), Refusal> {
         title: ShortText::new(b"Quiet")?,
         definition: serial.wrapping_mul(10),
     };
-    list.reserve()?;
+    list.reserve(1)?;
     list.push(control);
     Ok(())
 }

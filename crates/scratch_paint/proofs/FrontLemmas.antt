@@ -6,8 +6,10 @@ use Rattle.bit_map.proofs.BitsLemmas.{on_map-same}
 use Rattle.def_iface.specs.declared.part.Part.{Part}
 use Rattle.def_iface.specs.declared.taken.Taken.{Taken}
 use Rattle.def_iface.specs.declared.taken_control.TakenControl.{TakenControl}
+use Rattle.def_iface.specs.declared.taken_list.TakenList.{TakenList}
 use Rattle.def_iface.specs.declared.taken_menu.TakenMenu.{TakenMenu}
 use Rattle.def_iface.specs.ControlMeaning.{ControlLoan}
+use Rattle.def_iface.specs.ListMeaning.{ListLoan}
 use Rattle.def_iface.specs.Meaning.{Loan}
 use Rattle.def_iface.specs.MenuMeaning.{MenuLoan}
 use Rattle.def_iface.specs.Scratch.{scratch}
@@ -39,14 +41,14 @@ over_base s base new painted shown = record {
 }
 
 -- and that is the screen of a Toolbox, where what was painted is its own
-pub screen_painted : {V : Type 0} {H : V → Type 0} (loan : Taken V H → Loan) {W : Type 0} {K : W → Type 0} (menu_loan : TakenMenu W K → MenuLoan) {U : Type 0} {J : U → Type 0} (control_loan : TakenControl U J → ControlLoan) (shows : List ℕ → Part → PixelSet)
-    (t : Toolbox V U W H J K) (windows : WindowManager V H) (menus : Menus W K) (activity : Activity) (font : List ℕ) (base new : Bits)
+pub screen_painted : {V : Type 0} {H : V → Type 0} (loan : Taken V H → Loan) {W : Type 0} {K : W → Type 0} (menu_loan : TakenMenu W K → MenuLoan) {U : Type 0} {J : U → Type 0} (control_loan : TakenControl U J → ControlLoan) {X : Type 0} {L : X → Type 0} (list_loan : TakenList X L → ListLoan) (shows : List ℕ → Part → PixelSet)
+    (t : Toolbox V U W X H J K L) (windows : WindowManager V H) (menus : Menus W K) (activity : Activity) (font : List ℕ) (base new : Bits)
     → windows ≡ t.windows → menus ≡ t.menus → activity ≡ t.activity → font ≡ windows.font
     → IsPaintedDesk (desk_showing shows (desk_of loan windows [])) base
     → IsShown font (pulled_of activity (menus_of menu_loan menus.list.menus.items)) base new
-    → IsPaintedScreen (toolbox_showing shows (toolbox_state loan menu_loan control_loan t [] [] [])) new
-screen_painted loan menu_loan control_loan shows t windows menus activity font base new same_windows same_menus same_activity letters painted shown =
-    over_base (toolbox_showing shows (toolbox_state loan menu_loan control_loan t [] [] [])) base new
+    → IsPaintedScreen (toolbox_showing shows (toolbox_state loan menu_loan control_loan list_loan t [] [] [] [])) new
+screen_painted loan menu_loan control_loan list_loan shows t windows menus activity font base new same_windows same_menus same_activity letters painted shown =
+    over_base (toolbox_showing shows (toolbox_state loan menu_loan control_loan list_loan t [] [] [] [])) base new
     (subst (λ w. IsPaintedDesk (desk_showing shows (desk_of loan w [])) base) same_windows painted)
     (subst (λ (x : List ℕ × Option Pulled). IsShown x.0 x.1 base new)
     (λ i. ((letters ∙ ap (λ w. w.font) same_windows) i, pulled_of (same_activity i) (menus_of menu_loan (same_menus i).list.menus.items))) shown)

@@ -7,7 +7,9 @@ ghost use Rattle.scratch_paint.specs.Screens.{IsAsLarge, toolbox_showing};
 
 use crate::paint;
 use bit_map::BitMap;
-use def_iface::{Defined, DefinedControl, DefinedMenu, Taken, TakenControl, TakenMenu};
+use def_iface::{
+    Defined, DefinedControl, DefinedList, DefinedMenu, Taken, TakenControl, TakenList, TakenMenu,
+};
 use desk_toolbox::Toolbox;
 use std::alloc::{AllocError, Global};
 use tb_geom::Point;
@@ -20,10 +22,10 @@ pub fn differences<S: Showing>(
     toolbox: &Toolbox,
     layers: &S,
 ) -> Result<usize, AllocError>
-    requires kept { IsKeptToolbox ⟦<Taken as Defined>⟧.loan ⟦<TakenMenu as DefinedMenu>⟧.menu_loan ⟦<TakenControl as DefinedControl>⟧.control_loan toolbox.now }
+    requires kept { IsKeptToolbox ⟦<Taken as Defined>⟧.loan ⟦<TakenMenu as DefinedMenu>⟧.menu_loan ⟦<TakenControl as DefinedControl>⟧.control_loan ⟦<TakenList as DefinedList>⟧.list_loan toolbox.now }
     requires layers { S.is_whole layers.now }
     ensures { IfOk result (λ n. n ≡ difference_count (toolbox_showing (S.shows layers.now)
-        (toolbox_state ⟦<Taken as Defined>⟧.loan ⟦<TakenMenu as DefinedMenu>⟧.menu_loan ⟦<TakenControl as DefinedControl>⟧.control_loan toolbox.now [] [] []))) }
+        (toolbox_state ⟦<Taken as Defined>⟧.loan ⟦<TakenMenu as DefinedMenu>⟧.menu_loan ⟦<TakenControl as DefinedControl>⟧.control_loan ⟦<TakenList as DefinedList>⟧.list_loan toolbox.now [] [] [] []))) }
 {
     let painted = paint(alloc, toolbox, layers)?;
     Ok(differences_from(toolbox, &painted))
@@ -31,11 +33,11 @@ pub fn differences<S: Showing>(
 
 /// How many differ from this map.
 fn differences_from(toolbox: &Toolbox, painted: &BitMap) -> usize
-    requires kept { IsKeptToolbox ⟦<Taken as Defined>⟧.loan ⟦<TakenMenu as DefinedMenu>⟧.menu_loan ⟦<TakenControl as DefinedControl>⟧.control_loan toolbox.now }
+    requires kept { IsKeptToolbox ⟦<Taken as Defined>⟧.loan ⟦<TakenMenu as DefinedMenu>⟧.menu_loan ⟦<TakenControl as DefinedControl>⟧.control_loan ⟦<TakenList as DefinedList>⟧.list_loan toolbox.now }
     requires large { IsAsLarge
-        (toolbox_state ⟦<Taken as Defined>⟧.loan ⟦<TakenMenu as DefinedMenu>⟧.menu_loan ⟦<TakenControl as DefinedControl>⟧.control_loan toolbox.now [] [] []) painted.now }
+        (toolbox_state ⟦<Taken as Defined>⟧.loan ⟦<TakenMenu as DefinedMenu>⟧.menu_loan ⟦<TakenControl as DefinedControl>⟧.control_loan ⟦<TakenList as DefinedList>⟧.list_loan toolbox.now [] [] [] []) painted.now }
     ensures { result ≡ differences_of
-        (toolbox_state ⟦<Taken as Defined>⟧.loan ⟦<TakenMenu as DefinedMenu>⟧.menu_loan ⟦<TakenControl as DefinedControl>⟧.control_loan toolbox.now [] [] [])
+        (toolbox_state ⟦<Taken as Defined>⟧.loan ⟦<TakenMenu as DefinedMenu>⟧.menu_loan ⟦<TakenControl as DefinedControl>⟧.control_loan ⟦<TakenList as DefinedList>⟧.list_loan toolbox.now [] [] [] [])
         (bit painted.now) painted.now.width painted.now.height }
 {
     let rows = painted.bounds().bottom as u16;
@@ -48,12 +50,12 @@ fn differences_from(toolbox: &Toolbox, painted: &BitMap) -> usize
 
 /// The same of a row.
 fn differences_in_row(toolbox: &Toolbox, painted: &BitMap, row: u16) -> usize
-    requires kept { IsKeptToolbox ⟦<Taken as Defined>⟧.loan ⟦<TakenMenu as DefinedMenu>⟧.menu_loan ⟦<TakenControl as DefinedControl>⟧.control_loan toolbox.now }
+    requires kept { IsKeptToolbox ⟦<Taken as Defined>⟧.loan ⟦<TakenMenu as DefinedMenu>⟧.menu_loan ⟦<TakenControl as DefinedControl>⟧.control_loan ⟦<TakenList as DefinedList>⟧.list_loan toolbox.now }
     requires large { IsAsLarge
-        (toolbox_state ⟦<Taken as Defined>⟧.loan ⟦<TakenMenu as DefinedMenu>⟧.menu_loan ⟦<TakenControl as DefinedControl>⟧.control_loan toolbox.now [] [] []) painted.now }
+        (toolbox_state ⟦<Taken as Defined>⟧.loan ⟦<TakenMenu as DefinedMenu>⟧.menu_loan ⟦<TakenControl as DefinedControl>⟧.control_loan ⟦<TakenList as DefinedList>⟧.list_loan toolbox.now [] [] [] []) painted.now }
     requires row { row < painted.now.height }
     ensures count { result ≡ row_differences
-        (toolbox_state ⟦<Taken as Defined>⟧.loan ⟦<TakenMenu as DefinedMenu>⟧.menu_loan ⟦<TakenControl as DefinedControl>⟧.control_loan toolbox.now [] [] [])
+        (toolbox_state ⟦<Taken as Defined>⟧.loan ⟦<TakenMenu as DefinedMenu>⟧.menu_loan ⟦<TakenControl as DefinedControl>⟧.control_loan ⟦<TakenList as DefinedList>⟧.list_loan toolbox.now [] [] [] [])
         (bit painted.now) painted.now.width row }
     ensures few { result ≤ painted.now.width }
 {
@@ -73,12 +75,12 @@ fn differences_in_row(toolbox: &Toolbox, painted: &BitMap, row: u16) -> usize
 
 /// Whether a pixel of the screen differs, and is in no update region.
 fn differs_at(toolbox: &Toolbox, painted: &BitMap, point: Point) -> bool
-    requires kept { IsKeptToolbox ⟦<Taken as Defined>⟧.loan ⟦<TakenMenu as DefinedMenu>⟧.menu_loan ⟦<TakenControl as DefinedControl>⟧.control_loan toolbox.now }
+    requires kept { IsKeptToolbox ⟦<Taken as Defined>⟧.loan ⟦<TakenMenu as DefinedMenu>⟧.menu_loan ⟦<TakenControl as DefinedControl>⟧.control_loan ⟦<TakenList as DefinedList>⟧.list_loan toolbox.now }
     requires large { IsAsLarge
-        (toolbox_state ⟦<Taken as Defined>⟧.loan ⟦<TakenMenu as DefinedMenu>⟧.menu_loan ⟦<TakenControl as DefinedControl>⟧.control_loan toolbox.now [] [] []) painted.now }
+        (toolbox_state ⟦<Taken as Defined>⟧.loan ⟦<TakenMenu as DefinedMenu>⟧.menu_loan ⟦<TakenControl as DefinedControl>⟧.control_loan ⟦<TakenList as DefinedList>⟧.list_loan toolbox.now [] [] [] []) painted.now }
     requires point { on_map painted.now point ≡ true }
     ensures { result ≡ differs
-        (toolbox_state ⟦<Taken as Defined>⟧.loan ⟦<TakenMenu as DefinedMenu>⟧.menu_loan ⟦<TakenControl as DefinedControl>⟧.control_loan toolbox.now [] [] [])
+        (toolbox_state ⟦<Taken as Defined>⟧.loan ⟦<TakenMenu as DefinedMenu>⟧.menu_loan ⟦<TakenControl as DefinedControl>⟧.control_loan ⟦<TakenList as DefinedList>⟧.list_loan toolbox.now [] [] [] [])
         (bit painted.now) point }
 {
     toolbox.screen().get(point) != painted.get(point) && !toolbox.windows().is_stale(point)

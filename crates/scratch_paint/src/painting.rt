@@ -12,7 +12,9 @@ ghost use Rattle.scratch_paint.specs.Screens.{IsPaintedScreen, toolbox_showing};
 
 use crate::windows::paint_window;
 use bit_map::BitMap;
-use def_iface::{Defined, DefinedControl, DefinedMenu, Taken, TakenControl, TakenMenu};
+use def_iface::{
+    Defined, DefinedControl, DefinedList, DefinedMenu, Taken, TakenControl, TakenList, TakenMenu,
+};
 use desk_ground::{Ground, empty_ground};
 use desk_toolbox::Toolbox;
 use menu_bar::draw_bar;
@@ -28,10 +30,10 @@ use window_paint::Showing;
 /// bar and the desktop show, and over that the menu that is pulled down. Controls and lists show what `layers` says. It
 /// reads neither the screen's pixels nor any region that the Toolbox keeps.
 pub fn paint<S: Showing>(alloc: Global, toolbox: &Toolbox, layers: &S) -> Result<BitMap, AllocError>
-    requires kept { IsKeptToolbox ⟦<Taken as Defined>⟧.loan ⟦<TakenMenu as DefinedMenu>⟧.menu_loan ⟦<TakenControl as DefinedControl>⟧.control_loan toolbox.now }
+    requires kept { IsKeptToolbox ⟦<Taken as Defined>⟧.loan ⟦<TakenMenu as DefinedMenu>⟧.menu_loan ⟦<TakenControl as DefinedControl>⟧.control_loan ⟦<TakenList as DefinedList>⟧.list_loan toolbox.now }
     requires layers { S.is_whole layers.now }
     ensures { IfOk result (IsPaintedScreen (toolbox_showing (S.shows layers.now)
-        (toolbox_state ⟦<Taken as Defined>⟧.loan ⟦<TakenMenu as DefinedMenu>⟧.menu_loan ⟦<TakenControl as DefinedControl>⟧.control_loan toolbox.now [] [] []))) }
+        (toolbox_state ⟦<Taken as Defined>⟧.loan ⟦<TakenMenu as DefinedMenu>⟧.menu_loan ⟦<TakenControl as DefinedControl>⟧.control_loan ⟦<TakenList as DefinedList>⟧.list_loan toolbox.now [] [] [] []))) }
 {
     let windows = toolbox.windows();
     let mut image = paint_base(alloc, windows, layers)?;

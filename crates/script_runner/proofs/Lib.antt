@@ -1,8 +1,7 @@
 mod Checked
 mod ChoicesLemmas
-mod ControlStocks
 mod Ends
-mod MenuStocks
+mod FullStocks
 mod SameImages
 mod Sessions
 mod StockKinds

@@ -8,12 +8,15 @@ use Rattle.def_iface.specs.declared.part.Part.{Part}
 use Rattle.def_iface.specs.declared.part.Part.TheVariants as parts
 use Rattle.def_iface.specs.declared.taken.Taken.{Taken}
 use Rattle.def_iface.specs.declared.taken_control.TakenControl.{TakenControl}
+use Rattle.def_iface.specs.declared.taken_list.TakenList.{TakenList}
 use Rattle.def_iface.specs.declared.taken_menu.TakenMenu.{TakenMenu}
 use Rattle.def_iface.specs.ControlMeaning.{ControlLoan}
+use Rattle.def_iface.specs.ListMeaning.{ListLoan}
 use Rattle.def_iface.specs.Meaning.{Loan}
 use Rattle.def_iface.specs.MenuMeaning.{MenuLoan}
 use Rattle.def_iface.specs.Stocked.{SlotView}
 use Rattle.control_mgr.specs.ControlDesks.{ControlSlot, controls_show}
+use Rattle.list_mgr.specs.ListDesks.{ListSlot, lists_show}
 use Rattle.menu_mgr.specs.MenuDesks.{MenuSlot}
 use Rattle.desk_toolbox.specs.declared.toolbox.Toolbox.{Toolbox}
 use Rattle.window_mgr.specs.Begin.{IsEmptyDesk}
@@ -21,7 +24,7 @@ use Rattle.window_mgr.specs.Records.{desk_of}
 use Rattle.desk_toolbox.specs.Reached.{IsJustBegun}
 use Rattle.desk_toolbox.specs.ToolboxStates.{ToolboxState}
 use Rattle.desk_toolbox.specs.WholeToolbox.{toolbox_state}
-use Rattle.desk_toolbox.proofs.TrackedControls.{begun_controls}
+use Rattle.desk_toolbox.proofs.ListStands.{begun_contents}
 use Rattle.script_text.specs.declared.command.Command.{Command}
 use Rattle.script_text.specs.declared.command.DeskSize.{DeskSize}
 use Rattle.script_runner.specs.Session.{unmade, made, IsNewDesk, Opens, reply_shown, first_size, is_known, may_be, why_unmade}
@@ -29,57 +32,58 @@ use Rattle.script_runner.specs.Endings.{IsFirstAnswered, CommandEnds}
 use Rattle.script_text.specs.Replies.{refused_text}
 use Rattle.watched_io.specs.Writes.{Output, Sends}
 
--- no controls show nothing
-none_show : (font : List ℕ) (part : Part) (p : Point) → controls_show [] font part p ≡ false
+-- no controls and no lists show nothing
+none_show : (font : List ℕ) (part : Part) (p : Point) → controls_show (lists_show []) [] font part p ≡ false
 none_show font parts.Picture p = refl
 none_show font (parts.Control n) p = refl
 none_show font (parts.List n) p = refl
 
 -- the desk that the Toolbox made
-pub new_desk : {V : Type 0} {H : V → Type 0} (loan : Taken V H → Loan) {W : Type 0} {K : W → Type 0} (menu_loan : TakenMenu W K → MenuLoan) {U : Type 0} {J : U → Type 0} (control_loan : TakenControl U J → ControlLoan) (t : Toolbox V U W H J K) (font : List ℕ) (slots : List SlotView) (kept : List MenuSlot) (held : List ControlSlot) (size wanted : DeskSize) → size ≡ wanted
-    → IsEmptyDesk loan size.width size.height size.bar font t.windows slots → IsJustBegun (toolbox_state loan menu_loan control_loan t slots kept held) → IsNewDesk wanted font slots kept held (toolbox_state loan menu_loan control_loan t slots kept held)
-new_desk loan menu_loan control_loan t font slots kept held size wanted same empty begun =
-    subst (λ s. IsNewDesk s font slots kept held (toolbox_state loan menu_loan control_loan t slots kept held)) same (record {
+pub new_desk : {V : Type 0} {H : V → Type 0} (loan : Taken V H → Loan) {W : Type 0} {K : W → Type 0} (menu_loan : TakenMenu W K → MenuLoan) {U : Type 0} {J : U → Type 0} (control_loan : TakenControl U J → ControlLoan) {X : Type 0} {L : X → Type 0} (list_loan : TakenList X L → ListLoan) (t : Toolbox V U W X H J K L) (font : List ℕ) (slots : List SlotView) (kept : List MenuSlot) (held : List ControlSlot) (listed : List ListSlot) (size wanted : DeskSize) → size ≡ wanted
+    → IsEmptyDesk loan size.width size.height size.bar font t.windows slots → IsJustBegun (toolbox_state loan menu_loan control_loan list_loan t slots kept held listed) → IsNewDesk wanted font slots kept held listed (toolbox_state loan menu_loan control_loan list_loan t slots kept held listed)
+new_desk loan menu_loan control_loan list_loan t font slots kept held listed size wanted same empty begun =
+    subst (λ s. IsNewDesk s font slots kept held listed (toolbox_state loan menu_loan control_loan list_loan t slots kept held listed)) same (record {
       desk =
-          (λ i. record (desk_of loan t.windows slots) { shows = controls_show (begun.controls i) t.windows.font })
+          (λ i. record (desk_of loan t.windows slots) { shows = controls_show (lists_show (begun.lists i)) (begun.controls i) t.windows.font })
           ∙ (λ i. record (desk_of loan t.windows slots) { shows = λ part p. none_show t.windows.font part p i })
           ∙ empty.desk;
       idle = begun.idle;
       drawn = empty.drawn;
       right = begun.right;
-      whole = begun_controls (toolbox_state loan menu_loan control_loan t slots kept held) begun;
+      contents = begun_contents (toolbox_state loan menu_loan control_loan list_loan t slots kept held listed) begun;
       menus = λ i. record { menus = begun.menus i; highlighted = begun.highlighted i; stock = kept };
       controls = λ i. record { controls = begun.controls i; next = begun.next_control i; stock = held };
+      lists = λ i. record { lists = begun.lists i; next = begun.next_list i; stock = listed };
       events = begun.events;
     })
 
 -- the desk was made, and the command answered on it
-pub opened : {X : Type 0} (raw : Bool) (font : List ℕ) (slots : List SlotView) (kept : List MenuSlot) (held : List ControlSlot) (command : Command) (first after : ToolboxState) (old new : Output) (r : Result X Refusal)
-    → is_known command slots kept held ≡ true → may_be (first_size command) ≡ true → IsNewDesk (first_size command) font slots kept held first
-    → IsFirstAnswered raw first command after old new r → CommandEnds raw (unmade font slots kept held) command (made after) old new r
-opened raw font slots kept held command first after old new r known fits fresh answered =
-    let none : why_unmade command slots kept held ≡ None = rw (known, fits) refl in
-    inl (answered.0, subst (λ why. Opens raw why font slots kept held command answered.0 (made after)) (sym none) (first, after, fresh, answered.1, refl), answered.2)
+pub opened : {X : Type 0} (raw : Bool) (font : List ℕ) (slots : List SlotView) (kept : List MenuSlot) (held : List ControlSlot) (listed : List ListSlot) (command : Command) (first after : ToolboxState) (old new : Output) (r : Result X Refusal)
+    → is_known command slots kept held listed ≡ true → may_be (first_size command) ≡ true → IsNewDesk (first_size command) font slots kept held listed first
+    → IsFirstAnswered raw first command after old new r → CommandEnds raw (unmade font slots kept held listed) command (made after) old new r
+opened raw font slots kept held listed command first after old new r known fits fresh answered =
+    let none : why_unmade command slots kept held listed ≡ None = rw (known, fits) refl in
+    inl (answered.0, subst (λ why. Opens raw why font slots kept held listed command answered.0 (made after)) (sym none) (first, after, fresh, answered.1, refl), answered.2)
 
 -- there was no memory for the desk
-pub memory_refused : (X : Type 0) (raw : Bool) (font : List ℕ) (slots : List SlotView) (kept : List MenuSlot) (held : List ControlSlot) (command : Command) (out : Output)
-    → is_known command slots kept held ≡ true → NoMemory ≡ cond (may_be (first_size command)) NoMemory OutOfRange
-    → CommandEnds {X = X} raw (unmade font slots kept held) command (unmade font slots kept held) out out (Err NoMemory)
-memory_refused X raw font slots kept held command out known why =
+pub memory_refused : (X : Type 0) (raw : Bool) (font : List ℕ) (slots : List SlotView) (kept : List MenuSlot) (held : List ControlSlot) (listed : List ListSlot) (command : Command) (out : Output)
+    → is_known command slots kept held listed ≡ true → NoMemory ≡ cond (may_be (first_size command)) NoMemory OutOfRange
+    → CommandEnds {X = X} raw (unmade font slots kept held listed) command (unmade font slots kept held listed) out out (Err NoMemory)
+memory_refused X raw font slots kept held listed command out known why =
     elim (cases_Bool (may_be (first_size command))) [
       | inl fits ↦ inr (record { makes = rw (known, fits) refl; same = refl; silent = refl; memory = refl })
       | inr off ↦ let bad : NoMemory ≡ OutOfRange = why ∙ rw off refl in absurd (cc)
     ]
 
 -- a screen may not have the size
-pub size_refused : {X : Type 0} (raw : Bool) (font : List ℕ) (slots : List SlotView) (kept : List MenuSlot) (held : List ControlSlot) (command : Command) (e : Refusal) (old new : Output) (r : Result X Refusal)
-    → is_known command slots kept held ≡ true → e ≡ cond (may_be (first_size command)) NoMemory OutOfRange → e ≢ NoMemory
-    → Sends old new r (reply_shown raw (refused_text e)) → CommandEnds raw (unmade font slots kept held) command (unmade font slots kept held) old new r
-size_refused raw font slots kept held command e old new r known why other sent =
+pub size_refused : {X : Type 0} (raw : Bool) (font : List ℕ) (slots : List SlotView) (kept : List MenuSlot) (held : List ControlSlot) (listed : List ListSlot) (command : Command) (e : Refusal) (old new : Output) (r : Result X Refusal)
+    → is_known command slots kept held listed ≡ true → e ≡ cond (may_be (first_size command)) NoMemory OutOfRange → e ≢ NoMemory
+    → Sends old new r (reply_shown raw (refused_text e)) → CommandEnds raw (unmade font slots kept held listed) command (unmade font slots kept held listed) old new r
+size_refused raw font slots kept held listed command e old new r known why other sent =
     elim (cases_Bool (may_be (first_size command))) [
       | inl fits ↦ absurd (other (why ∙ rw fits refl))
       | inr off ↦
           let out : e ≡ OutOfRange = why ∙ rw off refl in
-          let some : why_unmade command slots kept held ≡ Some OutOfRange = rw (known, off) refl in
-          inl (reply_shown raw (refused_text e), subst (λ w. Opens raw w font slots kept held command (reply_shown raw (refused_text e)) (unmade font slots kept held)) (sym some) (rw out (refl, refl)), sent)
+          let some : why_unmade command slots kept held listed ≡ Some OutOfRange = rw (known, off) refl in
+          inl (reply_shown raw (refused_text e), subst (λ w. Opens raw w font slots kept held listed command (reply_shown raw (refused_text e)) (unmade font slots kept held listed)) (sym some) (rw out (refl, refl)), sent)
     ]

@@ -22,6 +22,7 @@ mod check_line;
 mod chosen_run;
 mod command_line;
 mod files;
+mod known;
 pub mod laws;
 mod runner;
 mod session;

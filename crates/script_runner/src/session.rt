@@ -3,8 +3,9 @@ ghost use Rattle.std.specs.Prelude.{◌≡◌, ℕ, true, List, All, None, Some,
 ghost use Rattle.def_iface.specs.Stocked.{IsFull, SlotView};
 ghost use Rattle.control_mgr.specs.ControlClosing.{IsControlFull};
 ghost use Rattle.control_mgr.specs.ControlDesks.{ControlSlot};
+ghost use Rattle.list_mgr.specs.ListClosing.{IsListFull};
+ghost use Rattle.list_mgr.specs.ListDesks.{ListSlot};
 ghost use Rattle.menu_mgr.specs.MenuDesks.{IsMenuFull, MenuSlot};
-ghost use Rattle.desk_call.specs.declared.call.Call.TheVariants as asks;
 ghost use Rattle.desk_toolbox.specs.WholeToolbox.{IsKeptToolbox, IsWholeToolbox, toolbox_state};
 ghost use Rattle.watched_io.specs.Writes.{Sends};
 ghost use Rattle.script_runner.specs.Checks.{IsCheckLine};
@@ -13,12 +14,14 @@ ghost use Rattle.script_runner.specs.SessionViews.{session_of, IsReady};
 ghost use Rattle.script_runner.specs.Endings.{IsAnswered, IsFirstAnswered, CommandEnds, LineEnds};
 
 use crate::check_line::write_check;
+use crate::known::is_known;
 use crate::shown::{show_done, show_image, show_reply};
 use def_iface::{
-    ControlStock, Defined, DefinedControl, DefinedMenu, MenuStock, Stock, Stocked, StockedControls,
-    StockedMenus, Taken, TakenControl, TakenMenu,
+    ControlStock, Defined, DefinedControl, DefinedList, DefinedMenu, ListStock, MenuStock, Stock,
+    Stocked, StockedControls, StockedLists, StockedMenus, Taken, TakenControl, TakenList,
+    TakenMenu,
 };
-use desk_toolbox::{Call, ControlCall, MenuCall, NotBegun, Toolbox, WindowCall};
+use desk_toolbox::{NotBegun, Toolbox};
 use scratch_paint::differences;
 use script_text::{Command, DeskSize};
 use std::alloc::Global;
@@ -32,9 +35,6 @@ const USUAL_DESK: DeskSize = DeskSize {
     height: 342,
     bar: 20,
 };
-
-/// The kind of each menu, by its name in the stock.
-const MENU_KIND: &[u8] = b"menu";
 
 /// A script's desk, once a command has made it.
 #[derive(Drop)]
@@ -69,21 +69,21 @@ impl Session {
         sink: &mut S,
         raw: bool,
     ) -> Result<(), Refusal>
-        requires ready { IsReady ⟦<Taken as Defined>⟧.loan ⟦<TakenMenu as DefinedMenu>⟧.menu_loan ⟦<TakenControl as DefinedControl>⟧.control_loan self.old
+        requires ready { IsReady ⟦<Taken as Defined>⟧.loan ⟦<TakenMenu as DefinedMenu>⟧.menu_loan ⟦<TakenControl as DefinedControl>⟧.control_loan ⟦<TakenList as DefinedList>⟧.list_loan self.old
             (⟦<Stock as Stocked>⟧.slots stock.old) (⟦<MenuStock as StockedMenus>⟧.menu_slots stock.old.menus)
-            (⟦<ControlStock as StockedControls>⟧.control_slots stock.old.controls) }
+            (⟦<ControlStock as StockedControls>⟧.control_slots stock.old.controls) (⟦<ListStock as StockedLists>⟧.list_slots stock.old.lists) }
         requires unfailed { (S.output sink.old).has_failed ≡ false }
-        ensures ready { IsReady ⟦<Taken as Defined>⟧.loan ⟦<TakenMenu as DefinedMenu>⟧.menu_loan ⟦<TakenControl as DefinedControl>⟧.control_loan self.new
+        ensures ready { IsReady ⟦<Taken as Defined>⟧.loan ⟦<TakenMenu as DefinedMenu>⟧.menu_loan ⟦<TakenControl as DefinedControl>⟧.control_loan ⟦<TakenList as DefinedList>⟧.list_loan self.new
             (⟦<Stock as Stocked>⟧.slots stock.new) (⟦<MenuStock as StockedMenus>⟧.menu_slots stock.new.menus)
-            (⟦<ControlStock as StockedControls>⟧.control_slots stock.new.controls) }
+            (⟦<ControlStock as StockedControls>⟧.control_slots stock.new.controls) (⟦<ListStock as StockedLists>⟧.list_slots stock.new.lists) }
         ensures quiet { OnOk result ((S.output sink.new).has_failed ≡ false) }
         ensures ends { LineEnds raw
-            (session_of ⟦<Taken as Defined>⟧.loan ⟦<TakenMenu as DefinedMenu>⟧.menu_loan ⟦<TakenControl as DefinedControl>⟧.control_loan self.old
+            (session_of ⟦<Taken as Defined>⟧.loan ⟦<TakenMenu as DefinedMenu>⟧.menu_loan ⟦<TakenControl as DefinedControl>⟧.control_loan ⟦<TakenList as DefinedList>⟧.list_loan self.old
             (⟦<Stock as Stocked>⟧.slots stock.old) (⟦<MenuStock as StockedMenus>⟧.menu_slots stock.old.menus)
-            (⟦<ControlStock as StockedControls>⟧.control_slots stock.old.controls)) said.entry
-            (session_of ⟦<Taken as Defined>⟧.loan ⟦<TakenMenu as DefinedMenu>⟧.menu_loan ⟦<TakenControl as DefinedControl>⟧.control_loan self.new
+            (⟦<ControlStock as StockedControls>⟧.control_slots stock.old.controls) (⟦<ListStock as StockedLists>⟧.list_slots stock.old.lists)) said.entry
+            (session_of ⟦<Taken as Defined>⟧.loan ⟦<TakenMenu as DefinedMenu>⟧.menu_loan ⟦<TakenControl as DefinedControl>⟧.control_loan ⟦<TakenList as DefinedList>⟧.list_loan self.new
             (⟦<Stock as Stocked>⟧.slots stock.new) (⟦<MenuStock as StockedMenus>⟧.menu_slots stock.new.menus)
-            (⟦<ControlStock as StockedControls>⟧.control_slots stock.new.controls))
+            (⟦<ControlStock as StockedControls>⟧.control_slots stock.new.controls) (⟦<ListStock as StockedLists>⟧.list_slots stock.new.lists))
             (S.output sink.old) (S.output sink.new) result }
     {
         match said {
@@ -101,21 +101,21 @@ impl Session {
         sink: &mut S,
         raw: bool,
     ) -> Result<(), Refusal>
-        requires ready { IsReady ⟦<Taken as Defined>⟧.loan ⟦<TakenMenu as DefinedMenu>⟧.menu_loan ⟦<TakenControl as DefinedControl>⟧.control_loan self.old
+        requires ready { IsReady ⟦<Taken as Defined>⟧.loan ⟦<TakenMenu as DefinedMenu>⟧.menu_loan ⟦<TakenControl as DefinedControl>⟧.control_loan ⟦<TakenList as DefinedList>⟧.list_loan self.old
             (⟦<Stock as Stocked>⟧.slots stock.old) (⟦<MenuStock as StockedMenus>⟧.menu_slots stock.old.menus)
-            (⟦<ControlStock as StockedControls>⟧.control_slots stock.old.controls) }
+            (⟦<ControlStock as StockedControls>⟧.control_slots stock.old.controls) (⟦<ListStock as StockedLists>⟧.list_slots stock.old.lists) }
         requires unfailed { (S.output sink.old).has_failed ≡ false }
-        ensures ready { IsReady ⟦<Taken as Defined>⟧.loan ⟦<TakenMenu as DefinedMenu>⟧.menu_loan ⟦<TakenControl as DefinedControl>⟧.control_loan self.new
+        ensures ready { IsReady ⟦<Taken as Defined>⟧.loan ⟦<TakenMenu as DefinedMenu>⟧.menu_loan ⟦<TakenControl as DefinedControl>⟧.control_loan ⟦<TakenList as DefinedList>⟧.list_loan self.new
             (⟦<Stock as Stocked>⟧.slots stock.new) (⟦<MenuStock as StockedMenus>⟧.menu_slots stock.new.menus)
-            (⟦<ControlStock as StockedControls>⟧.control_slots stock.new.controls) }
+            (⟦<ControlStock as StockedControls>⟧.control_slots stock.new.controls) (⟦<ListStock as StockedLists>⟧.list_slots stock.new.lists) }
         ensures quiet { OnOk result ((S.output sink.new).has_failed ≡ false) }
         ensures ends { CommandEnds raw
-            (session_of ⟦<Taken as Defined>⟧.loan ⟦<TakenMenu as DefinedMenu>⟧.menu_loan ⟦<TakenControl as DefinedControl>⟧.control_loan self.old
+            (session_of ⟦<Taken as Defined>⟧.loan ⟦<TakenMenu as DefinedMenu>⟧.menu_loan ⟦<TakenControl as DefinedControl>⟧.control_loan ⟦<TakenList as DefinedList>⟧.list_loan self.old
             (⟦<Stock as Stocked>⟧.slots stock.old) (⟦<MenuStock as StockedMenus>⟧.menu_slots stock.old.menus)
-            (⟦<ControlStock as StockedControls>⟧.control_slots stock.old.controls)) command.now
-            (session_of ⟦<Taken as Defined>⟧.loan ⟦<TakenMenu as DefinedMenu>⟧.menu_loan ⟦<TakenControl as DefinedControl>⟧.control_loan self.new
+            (⟦<ControlStock as StockedControls>⟧.control_slots stock.old.controls) (⟦<ListStock as StockedLists>⟧.list_slots stock.old.lists)) command.now
+            (session_of ⟦<Taken as Defined>⟧.loan ⟦<TakenMenu as DefinedMenu>⟧.menu_loan ⟦<TakenControl as DefinedControl>⟧.control_loan ⟦<TakenList as DefinedList>⟧.list_loan self.new
             (⟦<Stock as Stocked>⟧.slots stock.new) (⟦<MenuStock as StockedMenus>⟧.menu_slots stock.new.menus)
-            (⟦<ControlStock as StockedControls>⟧.control_slots stock.new.controls))
+            (⟦<ControlStock as StockedControls>⟧.control_slots stock.new.controls) (⟦<ListStock as StockedLists>⟧.list_slots stock.new.lists))
             (S.output sink.old) (S.output sink.new) result }
     {
         match &mut self.desk {
@@ -135,24 +135,24 @@ impl Session {
         raw: bool,
     ) -> Result<(), Refusal>
         requires unmade { self.old.desk ≡ None }
-        requires ready { IsReady ⟦<Taken as Defined>⟧.loan ⟦<TakenMenu as DefinedMenu>⟧.menu_loan ⟦<TakenControl as DefinedControl>⟧.control_loan self.old
+        requires ready { IsReady ⟦<Taken as Defined>⟧.loan ⟦<TakenMenu as DefinedMenu>⟧.menu_loan ⟦<TakenControl as DefinedControl>⟧.control_loan ⟦<TakenList as DefinedList>⟧.list_loan self.old
             (⟦<Stock as Stocked>⟧.slots stock.old) (⟦<MenuStock as StockedMenus>⟧.menu_slots stock.old.menus)
-            (⟦<ControlStock as StockedControls>⟧.control_slots stock.old.controls) }
+            (⟦<ControlStock as StockedControls>⟧.control_slots stock.old.controls) (⟦<ListStock as StockedLists>⟧.list_slots stock.old.lists) }
         requires known { is_known command.now (⟦<Stock as Stocked>⟧.slots stock.old)
             (⟦<MenuStock as StockedMenus>⟧.menu_slots stock.old.menus)
-            (⟦<ControlStock as StockedControls>⟧.control_slots stock.old.controls) ≡ true }
+            (⟦<ControlStock as StockedControls>⟧.control_slots stock.old.controls) (⟦<ListStock as StockedLists>⟧.list_slots stock.old.lists) ≡ true }
         requires unfailed { (S.output sink.old).has_failed ≡ false }
-        ensures ready { IsReady ⟦<Taken as Defined>⟧.loan ⟦<TakenMenu as DefinedMenu>⟧.menu_loan ⟦<TakenControl as DefinedControl>⟧.control_loan self.new
+        ensures ready { IsReady ⟦<Taken as Defined>⟧.loan ⟦<TakenMenu as DefinedMenu>⟧.menu_loan ⟦<TakenControl as DefinedControl>⟧.control_loan ⟦<TakenList as DefinedList>⟧.list_loan self.new
             (⟦<Stock as Stocked>⟧.slots stock.new) (⟦<MenuStock as StockedMenus>⟧.menu_slots stock.new.menus)
-            (⟦<ControlStock as StockedControls>⟧.control_slots stock.new.controls) }
+            (⟦<ControlStock as StockedControls>⟧.control_slots stock.new.controls) (⟦<ListStock as StockedLists>⟧.list_slots stock.new.lists) }
         ensures quiet { OnOk result ((S.output sink.new).has_failed ≡ false) }
         ensures ends { CommandEnds raw
-            (session_of ⟦<Taken as Defined>⟧.loan ⟦<TakenMenu as DefinedMenu>⟧.menu_loan ⟦<TakenControl as DefinedControl>⟧.control_loan self.old
+            (session_of ⟦<Taken as Defined>⟧.loan ⟦<TakenMenu as DefinedMenu>⟧.menu_loan ⟦<TakenControl as DefinedControl>⟧.control_loan ⟦<TakenList as DefinedList>⟧.list_loan self.old
             (⟦<Stock as Stocked>⟧.slots stock.old) (⟦<MenuStock as StockedMenus>⟧.menu_slots stock.old.menus)
-            (⟦<ControlStock as StockedControls>⟧.control_slots stock.old.controls)) command.now
-            (session_of ⟦<Taken as Defined>⟧.loan ⟦<TakenMenu as DefinedMenu>⟧.menu_loan ⟦<TakenControl as DefinedControl>⟧.control_loan self.new
+            (⟦<ControlStock as StockedControls>⟧.control_slots stock.old.controls) (⟦<ListStock as StockedLists>⟧.list_slots stock.old.lists)) command.now
+            (session_of ⟦<Taken as Defined>⟧.loan ⟦<TakenMenu as DefinedMenu>⟧.menu_loan ⟦<TakenControl as DefinedControl>⟧.control_loan ⟦<TakenList as DefinedList>⟧.list_loan self.new
             (⟦<Stock as Stocked>⟧.slots stock.new) (⟦<MenuStock as StockedMenus>⟧.menu_slots stock.new.menus)
-            (⟦<ControlStock as StockedControls>⟧.control_slots stock.new.controls))
+            (⟦<ControlStock as StockedControls>⟧.control_slots stock.new.controls) (⟦<ListStock as StockedLists>⟧.list_slots stock.new.lists))
             (S.output sink.old) (S.output sink.new) result }
     {
         let size = first_size(command);
@@ -180,34 +180,35 @@ impl Session {
     /// painted from nothing, or NoMemory where there is none for painting. Without a desk none differs.
     pub fn check<S: Sink>(&self, sink: &mut S) -> Result<(), Refusal>
         requires kept { (desk : _) → self.now.desk ≡ Some desk
-            → IsKeptToolbox ⟦<Taken as Defined>⟧.loan ⟦<TakenMenu as DefinedMenu>⟧.menu_loan ⟦<TakenControl as DefinedControl>⟧.control_loan desk }
+            → IsKeptToolbox ⟦<Taken as Defined>⟧.loan ⟦<TakenMenu as DefinedMenu>⟧.menu_loan ⟦<TakenControl as DefinedControl>⟧.control_loan ⟦<TakenList as DefinedList>⟧.list_loan desk }
         requires unfailed { (S.output sink.old).has_failed ≡ false }
-        ensures { (slots : List SlotView) (kept : List MenuSlot) (held : List ControlSlot) → (text : List ℕ)
-            × IsCheckLine (session_of ⟦<Taken as Defined>⟧.loan ⟦<TakenMenu as DefinedMenu>⟧.menu_loan ⟦<TakenControl as DefinedControl>⟧.control_loan self.now slots kept held) text
+        ensures { (slots : List SlotView) (kept : List MenuSlot) (held : List ControlSlot) (listed : List ListSlot) → (text : List ℕ)
+            × IsCheckLine (session_of ⟦<Taken as Defined>⟧.loan ⟦<TakenMenu as DefinedMenu>⟧.menu_loan ⟦<TakenControl as DefinedControl>⟧.control_loan ⟦<TakenList as DefinedList>⟧.list_loan self.now slots kept held listed) text
             × Sends (S.output sink.old) (S.output sink.new) result text }
     {
         let count = match &self.desk {
-            Some(desk) => differences(self.alloc, desk, desk.controls()),
+            Some(desk) => differences(self.alloc, desk, &desk.contents()),
             None => Ok(0),
         };
         write_check(sink, count.ok())
     }
 
-    /// Ends the session: the definition of every window, of every control and of every menu is disposed of,
-    /// and put back Closed into its slot, while every other slot stays as it was.
+    /// Ends the session: the definition of every window, control, list and menu is disposed of, and put back
+    /// Closed into its slot, while every other slot stays as it was.
     pub fn close(self, stock: &mut Stock)
-        requires { IsReady ⟦<Taken as Defined>⟧.loan ⟦<TakenMenu as DefinedMenu>⟧.menu_loan ⟦<TakenControl as DefinedControl>⟧.control_loan self
+        requires { IsReady ⟦<Taken as Defined>⟧.loan ⟦<TakenMenu as DefinedMenu>⟧.menu_loan ⟦<TakenControl as DefinedControl>⟧.control_loan ⟦<TakenList as DefinedList>⟧.list_loan self
             (⟦<Stock as Stocked>⟧.slots stock.old) (⟦<MenuStock as StockedMenus>⟧.menu_slots stock.old.menus)
-            (⟦<ControlStock as StockedControls>⟧.control_slots stock.old.controls) }
+            (⟦<ControlStock as StockedControls>⟧.control_slots stock.old.controls) (⟦<ListStock as StockedLists>⟧.list_slots stock.old.lists) }
         ensures full { All IsFull (⟦<Stock as Stocked>⟧.slots stock.new) }
         ensures full_menus { All IsMenuFull (⟦<MenuStock as StockedMenus>⟧.menu_slots stock.new.menus) }
         ensures full_controls { All IsControlFull (⟦<ControlStock as StockedControls>⟧.control_slots stock.new.controls) }
+        ensures full_lists { All IsListFull (⟦<ListStock as StockedLists>⟧.list_slots stock.new.lists) }
         ensures left { LeavesStock
-            (session_of ⟦<Taken as Defined>⟧.loan ⟦<TakenMenu as DefinedMenu>⟧.menu_loan ⟦<TakenControl as DefinedControl>⟧.control_loan self
+            (session_of ⟦<Taken as Defined>⟧.loan ⟦<TakenMenu as DefinedMenu>⟧.menu_loan ⟦<TakenControl as DefinedControl>⟧.control_loan ⟦<TakenList as DefinedList>⟧.list_loan self
             (⟦<Stock as Stocked>⟧.slots stock.old) (⟦<MenuStock as StockedMenus>⟧.menu_slots stock.old.menus)
-            (⟦<ControlStock as StockedControls>⟧.control_slots stock.old.controls))
+            (⟦<ControlStock as StockedControls>⟧.control_slots stock.old.controls) (⟦<ListStock as StockedLists>⟧.list_slots stock.old.lists))
             (⟦<Stock as Stocked>⟧.slots stock.new) (⟦<MenuStock as StockedMenus>⟧.menu_slots stock.new.menus)
-            (⟦<ControlStock as StockedControls>⟧.control_slots stock.new.controls) }
+            (⟦<ControlStock as StockedControls>⟧.control_slots stock.new.controls) (⟦<ListStock as StockedLists>⟧.list_slots stock.new.lists) }
     {
         let Session { desk, .. } = self;
         if let Some(desk) = desk {
@@ -227,60 +228,6 @@ fn first_size(command: &Command<'_>) -> DeskSize
     }
 }
 
-/// Whether the stock has a slot of the kind that a command names, if it names one.
-fn is_known(command: &Command<'_>, stock: &Stock) -> bool
-    ensures { result ≡ is_known command.now (⟦<Stock as Stocked>⟧.slots stock.now)
-        (⟦<MenuStock as StockedMenus>⟧.menu_slots stock.now.menus)
-        (⟦<ControlStock as StockedControls>⟧.control_slots stock.now.controls) }
-{
-    match command {
-        Command::Call(Call::Window(call)) => is_known_call(call, stock),
-        Command::Call(Call::Update(_)) => true,
-        Command::Call(Call::Frame(_)) => true,
-        Command::Call(Call::Control(call)) => is_known_control_call(call, stock),
-        Command::Call(Call::Menu(call)) => is_known_menu_call(call, stock),
-        Command::Call(Call::Event(_)) => true,
-        Command::Desk(_) => true,
-        Command::Image => true,
-    }
-}
-
-/// Whether the stock has a slot of the kind that a call names, if it names one.
-fn is_known_call(call: &WindowCall<'_>, stock: &Stock) -> bool
-    ensures { result ≡ is_known (Command.Call (asks.Window call.now)) (⟦<Stock as Stocked>⟧.slots stock.now)
-        (⟦<MenuStock as StockedMenus>⟧.menu_slots stock.now.menus)
-        (⟦<ControlStock as StockedControls>⟧.control_slots stock.now.controls) }
-{
-    match call {
-        WindowCall::New(window) => stock.windows.has(window.kind.as_slice()),
-        _ => true,
-    }
-}
-
-/// Whether the stock has a slot of the kind of control that a call names, if it names one.
-fn is_known_control_call(call: &ControlCall<'_>, stock: &Stock) -> bool
-    ensures { result ≡ is_known (Command.Call (asks.Control call.now)) (⟦<Stock as Stocked>⟧.slots stock.now)
-        (⟦<MenuStock as StockedMenus>⟧.menu_slots stock.now.menus)
-        (⟦<ControlStock as StockedControls>⟧.control_slots stock.now.controls) }
-{
-    match call {
-        ControlCall::New(control) => stock.controls.has(control.kind.as_slice()),
-        _ => true,
-    }
-}
-
-/// Whether the stock has a slot of the kind of menus, if a call makes one.
-fn is_known_menu_call(call: &MenuCall<'_>, stock: &Stock) -> bool
-    ensures { result ≡ is_known (Command.Call (asks.Menu call.now)) (⟦<Stock as Stocked>⟧.slots stock.now)
-        (⟦<MenuStock as StockedMenus>⟧.menu_slots stock.now.menus)
-        (⟦<ControlStock as StockedControls>⟧.control_slots stock.now.controls) }
-{
-    match call {
-        MenuCall::New(_) => stock.menus.has(MENU_KIND),
-        _ => true,
-    }
-}
-
 /// Answers the command that made the desk.
 fn first_answer<S: Sink>(
     desk: &mut Toolbox,
@@ -289,21 +236,21 @@ fn first_answer<S: Sink>(
     sink: &mut S,
     raw: bool,
 ) -> Result<(), Refusal>
-    requires whole { IsWholeToolbox ⟦<Taken as Defined>⟧.loan ⟦<TakenMenu as DefinedMenu>⟧.menu_loan ⟦<TakenControl as DefinedControl>⟧.control_loan desk.old
+    requires whole { IsWholeToolbox ⟦<Taken as Defined>⟧.loan ⟦<TakenMenu as DefinedMenu>⟧.menu_loan ⟦<TakenControl as DefinedControl>⟧.control_loan ⟦<TakenList as DefinedList>⟧.list_loan desk.old
         (⟦<Stock as Stocked>⟧.slots stock.old) (⟦<MenuStock as StockedMenus>⟧.menu_slots stock.old.menus)
-        (⟦<ControlStock as StockedControls>⟧.control_slots stock.old.controls) }
+        (⟦<ControlStock as StockedControls>⟧.control_slots stock.old.controls) (⟦<ListStock as StockedLists>⟧.list_slots stock.old.lists) }
     requires unfailed { (S.output sink.old).has_failed ≡ false }
-    ensures whole { IsWholeToolbox ⟦<Taken as Defined>⟧.loan ⟦<TakenMenu as DefinedMenu>⟧.menu_loan ⟦<TakenControl as DefinedControl>⟧.control_loan desk.new
+    ensures whole { IsWholeToolbox ⟦<Taken as Defined>⟧.loan ⟦<TakenMenu as DefinedMenu>⟧.menu_loan ⟦<TakenControl as DefinedControl>⟧.control_loan ⟦<TakenList as DefinedList>⟧.list_loan desk.new
         (⟦<Stock as Stocked>⟧.slots stock.new) (⟦<MenuStock as StockedMenus>⟧.menu_slots stock.new.menus)
-        (⟦<ControlStock as StockedControls>⟧.control_slots stock.new.controls) }
+        (⟦<ControlStock as StockedControls>⟧.control_slots stock.new.controls) (⟦<ListStock as StockedLists>⟧.list_slots stock.new.lists) }
     ensures quiet { OnOk result ((S.output sink.new).has_failed ≡ false) }
     ensures answered { IsFirstAnswered raw
-        (toolbox_state ⟦<Taken as Defined>⟧.loan ⟦<TakenMenu as DefinedMenu>⟧.menu_loan ⟦<TakenControl as DefinedControl>⟧.control_loan desk.old
+        (toolbox_state ⟦<Taken as Defined>⟧.loan ⟦<TakenMenu as DefinedMenu>⟧.menu_loan ⟦<TakenControl as DefinedControl>⟧.control_loan ⟦<TakenList as DefinedList>⟧.list_loan desk.old
         (⟦<Stock as Stocked>⟧.slots stock.old) (⟦<MenuStock as StockedMenus>⟧.menu_slots stock.old.menus)
-        (⟦<ControlStock as StockedControls>⟧.control_slots stock.old.controls)) command.now
-        (toolbox_state ⟦<Taken as Defined>⟧.loan ⟦<TakenMenu as DefinedMenu>⟧.menu_loan ⟦<TakenControl as DefinedControl>⟧.control_loan desk.new
+        (⟦<ControlStock as StockedControls>⟧.control_slots stock.old.controls) (⟦<ListStock as StockedLists>⟧.list_slots stock.old.lists)) command.now
+        (toolbox_state ⟦<Taken as Defined>⟧.loan ⟦<TakenMenu as DefinedMenu>⟧.menu_loan ⟦<TakenControl as DefinedControl>⟧.control_loan ⟦<TakenList as DefinedList>⟧.list_loan desk.new
         (⟦<Stock as Stocked>⟧.slots stock.new) (⟦<MenuStock as StockedMenus>⟧.menu_slots stock.new.menus)
-        (⟦<ControlStock as StockedControls>⟧.control_slots stock.new.controls))
+        (⟦<ControlStock as StockedControls>⟧.control_slots stock.new.controls) (⟦<ListStock as StockedLists>⟧.list_slots stock.new.lists))
         (S.output sink.old) (S.output sink.new) result }
 {
     match command {
@@ -321,21 +268,21 @@ fn answer_on<S: Sink>(
     sink: &mut S,
     raw: bool,
 ) -> Result<(), Refusal>
-    requires whole { IsWholeToolbox ⟦<Taken as Defined>⟧.loan ⟦<TakenMenu as DefinedMenu>⟧.menu_loan ⟦<TakenControl as DefinedControl>⟧.control_loan desk.old
+    requires whole { IsWholeToolbox ⟦<Taken as Defined>⟧.loan ⟦<TakenMenu as DefinedMenu>⟧.menu_loan ⟦<TakenControl as DefinedControl>⟧.control_loan ⟦<TakenList as DefinedList>⟧.list_loan desk.old
         (⟦<Stock as Stocked>⟧.slots stock.old) (⟦<MenuStock as StockedMenus>⟧.menu_slots stock.old.menus)
-        (⟦<ControlStock as StockedControls>⟧.control_slots stock.old.controls) }
+        (⟦<ControlStock as StockedControls>⟧.control_slots stock.old.controls) (⟦<ListStock as StockedLists>⟧.list_slots stock.old.lists) }
     requires unfailed { (S.output sink.old).has_failed ≡ false }
-    ensures whole { IsWholeToolbox ⟦<Taken as Defined>⟧.loan ⟦<TakenMenu as DefinedMenu>⟧.menu_loan ⟦<TakenControl as DefinedControl>⟧.control_loan desk.new
+    ensures whole { IsWholeToolbox ⟦<Taken as Defined>⟧.loan ⟦<TakenMenu as DefinedMenu>⟧.menu_loan ⟦<TakenControl as DefinedControl>⟧.control_loan ⟦<TakenList as DefinedList>⟧.list_loan desk.new
         (⟦<Stock as Stocked>⟧.slots stock.new) (⟦<MenuStock as StockedMenus>⟧.menu_slots stock.new.menus)
-        (⟦<ControlStock as StockedControls>⟧.control_slots stock.new.controls) }
+        (⟦<ControlStock as StockedControls>⟧.control_slots stock.new.controls) (⟦<ListStock as StockedLists>⟧.list_slots stock.new.lists) }
     ensures quiet { OnOk result ((S.output sink.new).has_failed ≡ false) }
     ensures answered { IsAnswered raw
-        (toolbox_state ⟦<Taken as Defined>⟧.loan ⟦<TakenMenu as DefinedMenu>⟧.menu_loan ⟦<TakenControl as DefinedControl>⟧.control_loan desk.old
+        (toolbox_state ⟦<Taken as Defined>⟧.loan ⟦<TakenMenu as DefinedMenu>⟧.menu_loan ⟦<TakenControl as DefinedControl>⟧.control_loan ⟦<TakenList as DefinedList>⟧.list_loan desk.old
         (⟦<Stock as Stocked>⟧.slots stock.old) (⟦<MenuStock as StockedMenus>⟧.menu_slots stock.old.menus)
-        (⟦<ControlStock as StockedControls>⟧.control_slots stock.old.controls)) command.now
-        (toolbox_state ⟦<Taken as Defined>⟧.loan ⟦<TakenMenu as DefinedMenu>⟧.menu_loan ⟦<TakenControl as DefinedControl>⟧.control_loan desk.new
+        (⟦<ControlStock as StockedControls>⟧.control_slots stock.old.controls) (⟦<ListStock as StockedLists>⟧.list_slots stock.old.lists)) command.now
+        (toolbox_state ⟦<Taken as Defined>⟧.loan ⟦<TakenMenu as DefinedMenu>⟧.menu_loan ⟦<TakenControl as DefinedControl>⟧.control_loan ⟦<TakenList as DefinedList>⟧.list_loan desk.new
         (⟦<Stock as Stocked>⟧.slots stock.new) (⟦<MenuStock as StockedMenus>⟧.menu_slots stock.new.menus)
-        (⟦<ControlStock as StockedControls>⟧.control_slots stock.new.controls))
+        (⟦<ControlStock as StockedControls>⟧.control_slots stock.new.controls) (⟦<ListStock as StockedLists>⟧.list_slots stock.new.lists))
         (S.output sink.old) (S.output sink.new) result }
 {
     match command {

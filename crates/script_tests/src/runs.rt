@@ -5,7 +5,7 @@ ghost use Rattle.std.specs.Prelude.{◌<◌};
 
 use crate::paper::Paper;
 use crate::script::Script;
-use def_iface::{ControlStock, MenuStock, Stock, WindowDef};
+use def_iface::{ControlStock, ListStock, MenuStock, Stock, WindowDef};
 use font_tests::small::SMALL;
 use script_runner::{OptionsError, run};
 use std::alloc::{AllocError, Global};
@@ -56,6 +56,7 @@ fn run_with(
 ) -> Result<Ended, Fail> {
     let mut stock = Stock::new(alloc);
     stock.controls = ControlStock::new(alloc);
+    stock.lists = ListStock::new(alloc);
     stock.menus = MenuStock::new(alloc);
     let plain: Box<dyn WindowDef> = Box::new(alloc, StdWindow::new(Variation::Plain))?;
     let Ok(()) = stock.windows.add(b"plain", plain) else {
@@ -141,23 +142,16 @@ fn a_script_ends_within_a_million_reads(rt: HostRuntime) -> Result<(), Fail> {
     ];
     for (length, outcome, left, answers) in cases {
         assert!(rt; length <= comment.len());
-        let mut stock = Stock::new(rt.alloc());
-        stock.controls = ControlStock::new(rt.alloc());
-        stock.menus = MenuStock::new(rt.alloc());
         let mut script = Script::new(&comment[..length], 1, 1_000_001);
-        let mut source = WatchedReader::new(&mut script);
         let mut paper = Paper::new(rt.alloc(), 4096, 1000);
-        let mut sink = WatchedWriter::new(&mut paper);
-        let ended = run(
-            rt.alloc(),
-            &mut source,
-            &mut sink,
-            &mut stock,
-            None,
-            false,
-            false,
+        let ended = run_with(rt.alloc(), None, Shows::Replies, &mut script, &mut paper)?;
+        assert!(rt;
+            ended
+                == Ended {
+                    outcome,
+                    is_used: false
+                }
         );
-        assert!(rt; ended == outcome);
         assert!(rt; script.reads_left == left);
         assert!(rt; paper.text.as_slice() == answers);
     }

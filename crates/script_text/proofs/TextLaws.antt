@@ -9,6 +9,7 @@ use Rattle.window_words.specs.WindowWords.{window_verbs}
 use Rattle.window_words.specs.UpdateWords.{update_verbs}
 use Rattle.window_words.specs.FrameWords.{frame_verbs}
 use Rattle.control_words.specs.ControlWords.{control_verbs}
+use Rattle.list_words.specs.ListWords.{list_verbs}
 use Rattle.menu_words.specs.MenuWords.{menu_verbs}
 use Rattle.event_words.specs.EventWords.{event_verbs}
 use Rattle.script_text.specs.declared.verb.Verb.{Verb}
@@ -19,7 +20,7 @@ use Rattle.script_text.specs.Lines.{add_front, cut, whole_lines, last_part, if_a
 
 -- no word stands twice in the table
 verbs_are_distinct : are_distinct verbs ≡ true
-unfolding tagged window_verbs update_verbs frame_verbs control_verbs menu_verbs event_verbs
+unfolding tagged window_verbs update_verbs frame_verbs control_verbs list_verbs menu_verbs event_verbs
 verbs_are_distinct = refl
 
 pub verb_is_of_the_table : (word : List ℕ) (verb : Verb) → named word verbs ≡ Some verb ↔ Contains verbs (word, verb)

@@ -3,9 +3,10 @@ use Rattle.std.specs.Prelude.{ℕ, List, ◌++◌, Result, Ok, Err, codes, decim
 use Rattle.tb_geom.specs.declared.refusal.Refusal.{Refusal}
 use Rattle.tb_geom.specs.Refusals.{name_of, number_of}
 use Rattle.desk_call.specs.declared.call.Reply.{Reply}
-use Rattle.desk_call.specs.declared.call.Reply.TheVariants.{Window, Frame, Control, Menu, Event}
+use Rattle.desk_call.specs.declared.call.Reply.TheVariants as replies
 use Rattle.window_words.specs.WindowLines.{window_reply_text, frame_reply_text}
 use Rattle.control_words.specs.ControlLines.{control_reply_text}
+use Rattle.list_words.specs.ListLines.{list_reply_text}
 use Rattle.menu_words.specs.MenuLines.{menu_reply_text}
 use Rattle.event_words.specs.EventLines.{event_reply_text}
 
@@ -15,9 +16,10 @@ refused_text e = codes "refused " ++ (decimal (number_of e) ++ (codes " " ++ (na
 
 -- what a call answered
 abbrev pub reply_text : Result Reply Refusal → List ℕ
-reply_text (Ok (Window reply)) = window_reply_text reply
-reply_text (Ok (Frame reply)) = frame_reply_text reply
-reply_text (Ok (Control reply)) = control_reply_text reply
-reply_text (Ok (Menu reply)) = menu_reply_text reply
-reply_text (Ok (Event reply)) = event_reply_text reply
+reply_text (Ok (replies.Window reply)) = window_reply_text reply
+reply_text (Ok (replies.Frame reply)) = frame_reply_text reply
+reply_text (Ok (replies.Control reply)) = control_reply_text reply
+reply_text (Ok (replies.List reply)) = list_reply_text reply
+reply_text (Ok (replies.Menu reply)) = menu_reply_text reply
+reply_text (Ok (replies.Event reply)) = event_reply_text reply
 reply_text (Err e) = refused_text e

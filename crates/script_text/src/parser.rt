@@ -20,6 +20,7 @@ use control_words::ControlVerb;
 use desk_call::Call;
 use event_words::EventVerb;
 use line_words::Words;
+use list_words::ListVerb;
 use menu_words::MenuVerb;
 use tb_geom::Refusal;
 use window_words::{FrameVerb, UpdateVerb, WindowVerb};
@@ -78,6 +79,15 @@ fn control<'a>(verb: ControlVerb, words: Words<'a>) -> Result<Command<'a>, Refus
     Ok(Command::Call(Call::Control(call)))
 }
 
+/// The words after a verb for lists.
+#[tactic(auto, using(line_words::proofs::Mapped::reading_mapped))]
+fn list<'a>(verb: ListVerb, words: Words<'a>) -> Result<Command<'a>, Refusal>
+    ensures { result ≡ reading (shape_of (verbs.List verb)) words.entry }
+{
+    let call = verb.call(words)?;
+    Ok(Command::Call(Call::List(call)))
+}
+
 /// The words after a verb for menus.
 #[tactic(auto, using(line_words::proofs::Mapped::reading_mapped))]
 fn menu<'a>(verb: MenuVerb, words: Words<'a>) -> Result<Command<'a>, Refusal>
@@ -107,6 +117,7 @@ fn command<'a>(verb: Verb, words: Words<'a>) -> Result<Command<'a>, Refusal>
         Verb::Update(verb) => update(verb, words),
         Verb::Frame(verb) => frame(verb, words),
         Verb::Control(verb) => control(verb, words),
+        Verb::List(verb) => list(verb, words),
         Verb::Menu(verb) => menu(verb, words),
         Verb::Event(verb) => event(verb, words),
     }

@@ -7,6 +7,7 @@ use control_words::write_control_reply;
 use desk_call::Reply;
 use event_words::write_event_reply;
 use itoa::Buffer;
+use list_words::write_list_reply;
 use menu_words::write_menu_reply;
 use tb_geom::Refusal;
 use watched_io::{Sink, send_all};
@@ -22,6 +23,7 @@ pub fn write_reply<S: Sink>(sink: &mut S, reply: &Result<Reply, Refusal>) -> Res
         Ok(Reply::Window(reply)) => write_window_reply(sink, reply),
         Ok(Reply::Frame(reply)) => write_frame_reply(sink, *reply),
         Ok(Reply::Control(reply)) => write_control_reply(sink, reply),
+        Ok(Reply::List(reply)) => write_list_reply(sink, reply),
         Ok(Reply::Menu(reply)) => write_menu_reply(sink, *reply),
         Ok(Reply::Event(reply)) => write_event_reply(sink, reply),
         Err(refusal) => write_refusal(sink, *refusal),

@@ -6,6 +6,7 @@ ghost use Rattle.script_text.specs.Commands.{verbs};
 use control_words::ControlVerb;
 use event_words::EventVerb;
 use line_words::named;
+use list_words::ListVerb;
 use menu_words::MenuVerb;
 use window_words::{FrameVerb, UpdateVerb, WindowVerb};
 
@@ -18,6 +19,7 @@ pub enum Verb {
     Update(UpdateVerb),
     Frame(FrameVerb),
     Control(ControlVerb),
+    List(ListVerb),
     Menu(MenuVerb),
     Event(EventVerb),
 }
@@ -41,6 +43,9 @@ pub fn verb_of(word: &[u8]) -> Option<Verb>
     }
     if let Some(verb) = ControlVerb::from_word(word) {
         return Some(Verb::Control(verb));
+    }
+    if let Some(verb) = ListVerb::from_word(word) {
+        return Some(Verb::List(verb));
     }
     if let Some(verb) = MenuVerb::from_word(word) {
         return Some(Verb::Menu(verb));

@@ -19,11 +19,10 @@ use Rattle.layer_list.specs.declared.layer.Shape.{Shape}
 use Rattle.layer_list.specs.Holders.{layer_has, part_at, belongs_to, ArePartsApart}
 use Rattle.layer_list.specs.Changes.{with_shape, reshaped, is_drawn_afresh, is_gained}
 use Rattle.layer_list.proofs.Parts.{front_apart, belongs_to-none}
-use Rattle.vis_update.specs.declared.area.Area.{Area}
 use Rattle.vis_update.specs.declared.relaying.Relaying.{Relaying}
 use Rattle.vis_update.specs.Records.{WindowRecord, Look, layered_window}
-use Rattle.vis_update.specs.Areas.{IsArea, is_content_of}
-use Rattle.vis_update.specs.Relayings.{with_layers_of, HasLayersAt, is_part_afresh, IsRelayered, IsGained, IsRelaid}
+use Rattle.vis_update.specs.Areas.{is_content_of}
+use Rattle.vis_update.specs.Relayings.{with_layers_of, HasLayersAt, is_part_afresh, AreOfContent, IsRelayered, IsGained, IsRelaid}
 use Rattle.vis_update.proofs.LayerOwners.{owner_first}
 
 -- ---- owners, from records
@@ -211,16 +210,16 @@ module _ (n : ℕ) (afresh : Option Part) (old new : List Layer) (place : Point)
 -- ---- the whole call
 
 -- what the three regions have is what the call makes white, stale, and draws afresh
-pub relaid : (n : ℕ) (place : Point) (afresh : Option Part) (old new : List Layer) (before : State) (after : LayeredDesk) (a : Area) (gained : Pixels) (drawn : PixelSet) (r : Relaying)
-    → IsArea before.desk before.stale n a → IsGained place afresh old new gained → ((p : Point) → drawn p ≡ is_drawn_afresh afresh new (minus p place)) → IsRelayered n place old new before.desk after
-    → ((p : Point) → holds r.erase p ≡ (holds a.visible p && holds gained p))
-    → ((p : Point) → holds r.draw p ≡ (holds a.visible p && drawn p))
-    → ((p : Point) → holds r.update p ≡ ((holds a.update p || holds r.erase p) && not (holds r.draw p)))
+pub relaid : (n : ℕ) (place : Point) (afresh : Option Part) (old new : List Layer) (before : State) (after : LayeredDesk) (visible update gained : Pixels) (drawn : PixelSet) (r : Relaying)
+    → AreOfContent before n visible update → IsGained place afresh old new gained → ((p : Point) → drawn p ≡ is_drawn_afresh afresh new (minus p place)) → IsRelayered n place old new before.desk after
+    → ((p : Point) → holds r.erase p ≡ (holds visible p && holds gained p))
+    → ((p : Point) → holds r.draw p ≡ (holds visible p && drawn p))
+    → ((p : Point) → holds r.update p ≡ ((holds update p || holds r.erase p) && not (holds r.draw p)))
     → IsRelaid n afresh before after r
-relaid n place afresh old new before after a gained drawn r area gained_is drawn_are its erases draws updates = record {
+relaid n place afresh old new before after visible update gained drawn r area gained_is drawn_are its erases draws updates = record {
   erase = λ p. white p ∙ white_is n afresh old new place p (on_screen before.desk p) (on_screen after p) (owner before.desk p) (owner after p) (here p);
   update = λ p. updates p
-      ∙ (λ i. ((area.update p ∙ ap (λ b. b && before.stale p) (area.visible p)) i || white p i) && not (drawn_afresh p i))
+      ∙ (λ i. ((area.waiting p ∙ ap (λ b. b && before.stale p) (area.owned p)) i || white p i) && not (drawn_afresh p i))
       ∙ stale_is n afresh old new place p (on_screen before.desk p) (on_screen after p) (owner before.desk p) (owner after p) (before.stale p) (here p);
   draw = λ p. drawn_afresh p ∙ drawn_is n afresh old new place p (on_screen before.desk p) (on_screen after p) (owner before.desk p) (owner after p) (here p);
 }
@@ -229,10 +228,10 @@ relaid n place afresh old new before after a gained drawn r area gained_is drawn
     here p = pixel_of n place old new before.desk after p its
 
     white : (p : Point) → holds r.erase p ≡ ((on_screen before.desk p && is_content_of n (owner before.desk p)) && is_gained afresh old new (minus p place))
-    white p = erases p ∙ (λ i. area.visible p i && gained_is p i)
+    white p = erases p ∙ (λ i. area.owned p i && gained_is p i)
 
     drawn_afresh : (p : Point) → holds r.draw p ≡ ((on_screen before.desk p && is_content_of n (owner before.desk p)) && is_drawn_afresh afresh new (minus p place))
-    drawn_afresh p = draws p ∙ (λ i. area.visible p i && drawn_are p i)
+    drawn_afresh p = draws p ∙ (λ i. area.owned p i && drawn_are p i)
 
 -- ---- a layer that is hidden
 

@@ -44,6 +44,11 @@ pub record IsRelayered (n : ℕ) (place : Point) (old new : List Layer) (before 
   pub others : (p : Point) → on_screen before p ≡ true → is_content_of n (owner before p) ≡ false
       → owner after p ≡ owner before p
 
+-- what of the screen the content of the window owns, and what of that is stale
+pub record AreOfContent (state : State) (n : ℕ) (visible update : Pixels) : Type 0 where
+  pub owned : (p : Point) → holds visible p ≡ (on_screen state.desk p && is_content_of n (owner state.desk p))
+  pub waiting : (p : Point) → holds update p ≡ (holds visible p && state.stale p)
+
 -- the pixels of a region, if there is one
 abbrev pub region_has : Option (Bor Pixels) → PixelSet
 region_has None p = false

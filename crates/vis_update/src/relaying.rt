@@ -9,10 +9,8 @@ ghost use Rattle.def_iface.specs.declared.part.Part.{Part};
 ghost use Rattle.def_iface.specs.Desk.{LayeredDesk};
 ghost use Rattle.def_iface.specs.Change.{State};
 ghost use Rattle.layer_list.specs.declared.layer.Layer.{Layer};
-ghost use Rattle.vis_update.specs.Areas.{IsArea};
-ghost use Rattle.vis_update.specs.Relayings.{IsRelayered, IsRelaid, IsDrawn, IsGained, region_has};
+ghost use Rattle.vis_update.specs.Relayings.{IsRelayered, IsRelaid, IsDrawn, IsGained, AreOfContent, region_has};
 
-use crate::Area;
 use scan_region::Region;
 use std::alloc::{AllocError, Global};
 
@@ -29,23 +27,25 @@ pub struct Relaying {
 }
 
 /// What changes where layers gain these pixels, and those that are drawn afresh, if there are any, lie within the content of
-/// the window of this area. Regions lie in the coordinates of the screen. Only memory may run out.
+/// a window, of which this is visible and of that this is to be redrawn. Regions lie in the coordinates of the screen. Only
+/// memory may run out.
 pub fn relaying_of(
     alloc: Global,
-    area: &Area,
+    visible: &Region,
+    update: &Region,
     gained: &Region,
     drawn: Option<&Region>,
 ) -> Result<Relaying, AllocError>
     ensures { IfOk result (λ r. (n : ℕ) (place : Point) (afresh : Option Part) (old new : List Layer)
         (before : State) (after : LayeredDesk)
-        → IsArea before.desk before.stale n area.now
+        → AreOfContent before n visible.now update.now
         → IsGained place afresh old new gained.now → IsDrawn place afresh new drawn.entry
         → IsRelayered n place old new before.desk after
         → IsRelaid n afresh before after r) }
 {
-    let erase = area.visible.sect(alloc, gained)?;
-    let draw = drawn_of(alloc, &area.visible, drawn)?;
-    let stale = area.update.union(alloc, &erase)?;
+    let erase = visible.sect(alloc, gained)?;
+    let draw = drawn_of(alloc, visible, drawn)?;
+    let stale = update.union(alloc, &erase)?;
     let update = stale.less(alloc, &draw)?;
     Ok(Relaying {
         erase,

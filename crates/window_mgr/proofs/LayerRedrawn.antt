@@ -1,11 +1,11 @@
 -- A layer of a window, shown anew on the pixels that it owns and that are not to be redrawn.
-use Rattle.std.proofs.Common.{◌≡◌, ℕ, ◌<◌, ◌&&◌, not, Bool, true, false, if◌then◌else◌, List, length, pos, refl, sym, ap, ◌∙◌, subst}
+use Rattle.std.proofs.Common.{◌≡◌, ℕ, ◌<◌, ◌&&◌, not, Bool, true, false, if◌then◌else◌, List, length, refl, sym, ap, ◌∙◌, subst}
 use Rattle.std.specs.Prelude.{get_or}
 use Rattle.std.proofs.lemmas.Bool.{false≢true}
 use Rattle.tb_geom.specs.declared.point.Point.{Point}
 use Rattle.tb_geom.specs.Points.{PixelSet, minus}
 use Rattle.tb_geom.specs.Pixels.{holds}
-use Rattle.bit_map.specs.Bits.{Bits, on_map, bit}
+use Rattle.bit_map.specs.Bits.{Bits, bit}
 use Rattle.bit_blit.specs.Draws.{Draws}
 use Rattle.def_iface.specs.declared.part.Part.{Part}
 use Rattle.def_iface.specs.declared.part.Part.TheVariants as part
@@ -14,17 +14,16 @@ use Rattle.def_iface.specs.Meaning.{Loan}
 use Rattle.def_iface.specs.Stocked.{SlotView}
 use Rattle.def_iface.specs.Desk as layers
 use Rattle.def_iface.specs.Desk.{LayeredDesk, same_part}
-use Rattle.def_iface.specs.Owner.{Owner, owner, own_bit, same_owner, is_content}
-use Rattle.def_iface.specs.Owner.Owner.{Desktop, Bar, Frame, Content}
+use Rattle.def_iface.specs.Owner.{Owner, owner, same_owner, is_content}
+use Rattle.def_iface.specs.Owner.Owner.{Content}
 use Rattle.def_iface.specs.Scratch.{scratch}
 use Rattle.def_iface.specs.Change as plain
 use Rattle.def_iface.specs.Change.{Change}
-use Rattle.def_iface.proofs.Owning.{same_number, same_owner-true, same_owner-self, same_part-true}
-use Rattle.def_iface.proofs.Painting.{scratch_is_owners}
+use Rattle.def_iface.proofs.Owning.{same_number, same_owner-true, same_part-true}
 use Rattle.layer_list.specs.declared.layer.Layer.{Layer}
 use Rattle.layer_list.specs.Holders.{part_at, belongs_to}
 use Rattle.vis_update.specs.declared.area.Area.{Area}
-use Rattle.vis_update.specs.Areas.{IsArea, IsGray, IsDesktop, AreAreas, is_content_of, stale_in}
+use Rattle.vis_update.specs.Areas.{is_content_of, stale_in}
 use Rattle.window_list.specs.declared.window.Window.{Window}
 use Rattle.window_paint.specs.Shown.{part_shown}
 use Rattle.window_mgr.specs.declared.manager.WindowManager.{WindowManager}
@@ -32,24 +31,17 @@ use Rattle.window_mgr.specs.Edits.{IsWindowAt}
 use Rattle.window_mgr.specs.FullDesk.{FullDesk, FullState, layered_desk, layered_state}
 use Rattle.window_mgr.specs.Relayered.{IsLayerRedrawn, redrawn_change}
 use Rattle.window_mgr.specs.Records.{desk_of, desk_showing, state_of, state_showing}
-use Rattle.window_mgr.specs.Whole.{IsWholeManager, IsSoundDesk}
-use Rattle.window_mgr.proofs.Arranged.{between-is_below}
+use Rattle.window_mgr.specs.Whole.{IsWholeManager}
 use Rattle.window_mgr.proofs.Contents as contents
 use Rattle.window_mgr.proofs.EditSeats.{same_at}
-use Rattle.window_mgr.proofs.Repicturing.{no_content, not_stale}
-use Rattle.window_mgr.proofs.Remarked as remarked
+use Rattle.window_mgr.proofs.Repicturing.{no_content}
 use Rattle.window_mgr.proofs.Remarked.{unless}
-use Rattle.window_mgr.proofs.Showing.{owner_showing, distinct_showing, frames_showing}
-
--- no content of the window is no part of it
-no_part : (s : ℕ) (q : Part) (o : Owner) → is_content_of s o ≡ false → same_owner o (Content s q) ≡ false
-no_part s q Desktop e = refl
-no_part s q Bar e = refl
-no_part s q (Frame t) e = refl
-no_part s q (Content t b) e = ap (λ x. x && same_part b q) e
+use Rattle.window_mgr.proofs.LayerThere as here
+use Rattle.window_mgr.proofs.LayerThere.{no_part}
 
 module _ {V : Type 0} {H : V → Type 0} (loan : Taken V H → Loan) (t : WindowManager V H) (slots : List SlotView) (whole : IsWholeManager loan t slots) (at : ℕ) (low : at < length t.windows.records.items) (w : Window V H) (there : IsWindowAt t.windows.records.items at w) (a : Area) (read : a ≡ get_or t.areas.items at a)
-    (was now : List ℕ → Part → PixelSet) (q : Part) (layered : same_part q part.Picture ≡ false) where
+    (was now : List ℕ → Part → PixelSet) (q : Part) (layered : same_part q part.Picture ≡ false) (screen : Bits)
+    (drawn : Draws (λ p. (holds a.visible p && belongs_to q w.layers.layers (minus p w.layers.place)) && not (holds a.update p)) (λ p _. now t.font q (minus p w.place)) t.screen screen) where
   abbrev full : FullDesk
   full = desk_of loan t slots
 
@@ -62,137 +54,74 @@ module _ {V : Type 0} {H : V → Type 0} (loan : Taken V H → Loan) (t : Window
   abbrev stale : PixelSet
   stale = stale_in t.areas.items
 
-  abbrev change : Change
-  change = redrawn_change w.serial q
-
   abbrev mine : Owner → Bool
   mine o = same_owner o (Content w.serial q)
 
-  -- what is drawn
-  abbrev own : PixelSet
-  own p = (holds a.visible p && belongs_to q w.layers.layers (minus p w.layers.place)) && not (holds a.update p)
+  abbrev change : Change
+  change = redrawn_change w.serial q
 
-  distinct : layers.IsDesk desk
-  distinct = distinct_showing now full whole.sound.distinct
+  module _ (p : Point) (on : layers.on_screen desk p ≡ true) where
+    abbrev its : Owner
+    its = owner desk p
 
-  plain_area : IsArea (layered_desk full) stale w.serial a
-  plain_area = remarked.area_is loan t slots whole at low w there a read
+    -- what is drawn
+    drawn_is : ((holds a.visible p && belongs_to q w.layers.layers (minus p w.layers.place)) && not (holds a.update p)) ≡ (mine its && not (stale p))
+    drawn_is = by_test (is_content_of w.serial its) refl
+      where
+        by_test : (b : Bool) → is_content_of w.serial its ≡ b
+            → ((holds a.visible p && belongs_to q w.layers.layers (minus p w.layers.place)) && not (holds a.update p)) ≡ (mine its && not (stale p))
+        by_test true e = λ i. here.own_is loan t slots whole at low w there a read was now q p on i && not ((here.update_is loan t slots whole at low w there a read was now q p on ∙ ap (λ b. b && stale p) e) i)
+        by_test false e =
+            ap (λ b. b && not (holds a.update p)) (here.own_is loan t slots whole at low w there a read was now q p on ∙ no_part w.serial q its e)
+            ∙ sym (ap (λ b. b && not (stale p)) (no_part w.serial q its e))
 
-  on_map_is : (p : Point) → layers.on_screen desk p ≡ on_map t.screen p
-  unfolding on_map
-  on_map_is p = λ i. between-is_below t.screen.width p.h i && between-is_below t.screen.height p.v i
+    bit_is : bit screen p ≡ (if mine its && not (stale p) then now t.font q (minus p w.place) else bit t.screen p)
+    bit_is = drawn.pixels p (here.on_screen loan t slots whole at low w there a read was now q p on) ∙ ap (λ b. if b then now t.font q (minus p w.place) else bit t.screen p) drawn_is
 
-  module _ (screen : Bits) (drawn : Draws own (λ p _. now t.font q (minus p w.place)) t.screen screen) where
-    module _ (p : Point) (on : layers.on_screen desk p ≡ true) where
-      abbrev its : Owner
-      its = owner desk p
+    -- what it shows is what painting from nothing gives
+    shown_is : mine its ≡ true → now t.font q (minus p w.place) ≡ scratch desk p
+    shown_is e =
+        let content : is_content_of w.serial its ≡ true = ap (is_content_of w.serial) (same_owner-true its (Content w.serial q) e) ∙ same_number w.serial in
+        let its_part : part_at w.layers.layers (minus p w.layers.place) ≡ q =
+        same_part-true (part_at w.layers.layers (minus p w.layers.place)) q (here.mine_is loan t slots whole at low w there a read was now q p on content ∙ e) in
+        sym (ap (λ b. part_shown t.font (now t.font) w b p) its_part ∙ by_part q layered)
+        ∙ contents.content_right loan t slots whole at low w there now p content
+      where
+        by_part : (b : Part) → same_part b part.Picture ≡ false → part_shown t.font (now t.font) w b p ≡ now t.font b (minus p w.place)
+        by_part part.Picture e = absurd (false≢true (sym e))
+        by_part (part.Control n) e = refl
+        by_part (part.List n) e = refl
 
-      visible_is : holds a.visible p ≡ is_content_of w.serial its
-      visible_is = plain_area.visible p ∙ (λ i. on i && is_content_of w.serial (sym (owner_showing now full p) i))
+    still : is_content_of w.serial its ≡ false → bit screen p ≡ bit t.screen p
+    still e = bit_is ∙ ap (λ b. if b && not (stale p) then now t.font q (minus p w.place) else bit t.screen p) (no_part w.serial q its e)
 
-      update_is : holds a.update p ≡ (is_content_of w.serial its && stale p)
-      update_is = plain_area.update p ∙ ap (λ b. b && stale p) visible_is
+    image_is : bit screen p ≡ plain.image_by change (layered_state before) desk its p
+    image_is = by_content (is_content its) refl
+      where
+        by_test : (m old : Bool) → (m ≡ true → now t.font q (minus p w.place) ≡ scratch desk p)
+            → (if m && not old then now t.font q (minus p w.place) else bit t.screen p) ≡ (if m then (if old then bit t.screen p else scratch desk p) else bit t.screen p)
+        by_test true true e = refl
+        by_test true false e = e refl
+        by_test false old e = refl
 
-      -- the part there is this one just where the owner is
-      mine_is : is_content_of w.serial its ≡ true → belongs_to q w.layers.layers (minus p w.layers.place) ≡ mine its
-      mine_is e =
-          ap (λ place. same_part (part_at w.layers.layers (minus p place)) q) (contents.layers_there loan t slots whole at low w there now)
-          ∙ sym (ap mine (contents.owner_there loan t slots whole at low w there now p e)
-          ∙ ap (λ b. b && same_part (part_at w.layers.layers (minus p w.place)) q) (same_number w.serial))
+        by_content : (b : Bool) → is_content its ≡ b → bit screen p ≡ plain.image_by change (layered_state before) desk its p
+        by_content false c =
+            still (no_content w.serial its c)
+            ∙ here.plain_bit loan t slots whole at low w there a read was now q p on c
+            ∙ sym (unless (is_content its) (scratch desk p) _ c)
+        by_content true c =
+            bit_is
+            ∙ by_test (mine its) (stale p) shown_is
+            ∙ sym (λ i. if not (c i) then scratch desk p else (if not (here.had_is loan t slots whole at low w there a read was now q p on i) then false else (if mine its then (if here.stale_by_is loan t slots whole at low w there a read was now q p on c i then bit t.screen p else scratch desk p) else bit t.screen p)))
 
-      own_is : own p ≡ (mine its && not (stale p))
-      own_is = by_test (is_content_of w.serial its) refl
-        where
-          by_test : (b : Bool) → is_content_of w.serial its ≡ b → own p ≡ (mine its && not (stale p))
-          by_test true e = λ i. ((visible_is ∙ e) i && mine_is e i) && not ((update_is ∙ ap (λ b. b && stale p) e) i)
-          by_test false e =
-              ap (λ b. (b && belongs_to q w.layers.layers (minus p w.layers.place)) && not (holds a.update p)) (visible_is ∙ e)
-              ∙ sym (ap (λ b. b && not (stale p)) (no_part w.serial q its e))
-
-      bit_is : bit screen p ≡ (if mine its && not (stale p) then now t.font q (minus p w.place) else bit t.screen p)
-      bit_is = drawn.pixels p (sym (on_map_is p) ∙ on) ∙ ap (λ b. if b then now t.font q (minus p w.place) else bit t.screen p) own_is
-
-      -- what it shows is what painting from nothing gives
-      shown_is : mine its ≡ true → now t.font q (minus p w.place) ≡ scratch desk p
-      shown_is e =
-          let here : its ≡ Content w.serial q = same_owner-true its (Content w.serial q) e in
-          let content : is_content_of w.serial its ≡ true = ap (is_content_of w.serial) here ∙ same_number w.serial in
-          let its_part : part_at w.layers.layers (minus p w.layers.place) ≡ q =
-          same_part-true (part_at w.layers.layers (minus p w.layers.place)) q (mine_is content ∙ e) in
-          sym (ap (λ b. part_shown t.font (now t.font) w b p) its_part ∙ by_part q layered)
-          ∙ contents.content_right loan t slots whole at low w there now p content
-        where
-          by_part : (b : Part) → same_part b part.Picture ≡ false → part_shown t.font (now t.font) w b p ≡ now t.font b (minus p w.place)
-          by_part part.Picture e = absurd (false≢true (sym e))
-          by_part (part.Control n) e = refl
-          by_part (part.List n) e = refl
-
-      had_is : plain.had change (layered_state before).desk its p ≡ true
-      had_is = λ i. on i && (ap (λ o. same_owner o its) (owner_showing was full p ∙ sym (owner_showing now full p)) ∙ same_owner-self its) i
-
-      still : is_content_of w.serial its ≡ false → bit screen p ≡ bit t.screen p
-      still e = bit_is ∙ ap (λ b. if b && not (stale p) then now t.font q (minus p w.place) else bit t.screen p) (no_part w.serial q its e)
-
-      stale_by_is : is_content its ≡ true → plain.stale_by change (layered_state before) its p ≡ stale p
-      stale_by_is c = λ i. if not (c i) then false else (if had_is i then stale p else true)
-
-      stale_is : stale p ≡ plain.stale_by change (layered_state before) its p
-      stale_is = by_content (is_content its) refl
-        where
-          by_content : (b : Bool) → is_content its ≡ b → stale p ≡ plain.stale_by change (layered_state before) its p
-          by_content true c = sym (stale_by_is c)
-          by_content false c =
-              not_stale (layered_desk full) stale full.windows t.areas.items p whole.areas (ap is_content (sym (owner_showing now full p)) ∙ c)
-              ∙ sym (unless (is_content its) false _ c)
-
-      image_is : bit screen p ≡ plain.image_by change (layered_state before) desk its p
-      image_is = by_content (is_content its) refl
-        where
-          by_test : (m old : Bool) → (m ≡ true → now t.font q (minus p w.place) ≡ scratch desk p)
-              → (if m && not old then now t.font q (minus p w.place) else bit t.screen p) ≡ (if m then (if old then bit t.screen p else scratch desk p) else bit t.screen p)
-          by_test true true e = refl
-          by_test true false e = e refl
-          by_test false old e = refl
-
-          by_content : (b : Bool) → is_content its ≡ b → bit screen p ≡ plain.image_by change (layered_state before) desk its p
-          by_content false c =
-              still (no_content w.serial its c)
-              ∙ frames_showing now (state_of loan t slots) whole.frames p on c
-              ∙ sym (scratch_is_owners desk p distinct)
-              ∙ sym (unless (is_content its) (scratch desk p) _ c)
-          by_content true c =
-              bit_is
-              ∙ by_test (mine its) (stale p) shown_is
-              ∙ sym (λ i. if not (c i) then scratch desk p else (if not (had_is i) then false else (if mine its then (if stale_by_is c i then bit t.screen p else scratch desk p) else bit t.screen p)))
-
-    abbrev new : WindowManager V H
-    new = record t { screen = screen }
-
-    desk_is : desk_of loan new slots ≡ full
-    desk_is = λ i. record full { width = pos (drawn.width i); height = pos (drawn.height i) }
-
-    unmoved : (p : Point) → layers.on_screen (layered_desk full) p ≡ true → is_content (owner (layered_desk full) p) ≡ false → bit screen p ≡ own_bit (layered_desk full) (owner (layered_desk full) p) p
-    unmoved p on c =
-        still p on (no_content w.serial (owner desk p) (ap is_content (owner_showing now full p) ∙ c)) ∙ whole.frames p on c
-
-    pub layer_redrawn : IsWholeManager loan new slots × IsLayerRedrawn w.serial q before (state_showing now (state_of loan new slots))
-    layer_redrawn = (
-      record {
-        sound = subst IsSoundDesk (sym desk_is) whole.sound;
-        gray = subst (λ (x : FullDesk). IsGray (layered_desk x) t.gray) (sym desk_is) whole.gray;
-        desktop = subst (λ (x : FullDesk). IsDesktop (layered_desk x) t.desktop) (sym desk_is) whole.desktop;
-        areas = subst (λ (x : FullDesk). AreAreas (layered_desk x) stale x.windows t.areas.items) (sym desk_is) whole.areas;
-        frames = subst (λ (x : FullDesk). (p : Point) → layers.on_screen (layered_desk x) p ≡ true → is_content (owner (layered_desk x) p) ≡ false → bit screen p ≡ own_bit (layered_desk x) (owner (layered_desk x) p) p) (sym desk_is) unmoved;
-        layers = whole.layers;
-      },
-      record {
-        desk = ap (desk_showing now) desk_is;
-        pixels = record {
-          stale = subst (λ (d : FullDesk). (p : Point) → layers.on_screen (layered_desk (desk_showing now d)) p ≡ true → stale p ≡ plain.stale_by change (layered_state before) (owner (layered_desk (desk_showing now d)) p) p) (sym desk_is) stale_is;
-          image = subst (λ (d : FullDesk). (p : Point) → layers.on_screen (layered_desk (desk_showing now d)) p ≡ true → bit screen p ≡ plain.image_by change (layered_state before) (layered_desk (desk_showing now d)) (owner (layered_desk (desk_showing now d)) p) p) (sym desk_is) image_is;
-        };
-      },
-    )
+  pub layer_redrawn : IsWholeManager loan (record t { screen = screen }) slots × IsLayerRedrawn w.serial q before (state_showing now (state_of loan (record t { screen = screen }) slots))
+  layer_redrawn = (
+    here.still_whole loan t slots whole at low w there a read was now q screen drawn.width drawn.height still,
+    record {
+      desk = here.same_desk loan t slots whole at low w there a read was now q screen drawn.width drawn.height still;
+      pixels = here.changed loan t slots whole at low w there a read was now q screen drawn.width drawn.height still change (here.stale_is loan t slots whole at low w there a read was now q) image_is;
+    },
+  )
 
 -- the layer at this index of the window was, where the window goes by another name too
 pub index_redrawn : {V : Type 0} {H : V → Type 0} (loan : Taken V H → Loan) (t : WindowManager V H) (slots : List SlotView) (whole : IsWholeManager loan t slots) (at : ℕ) → at < length t.windows.records.items

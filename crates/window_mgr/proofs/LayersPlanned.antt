@@ -1,5 +1,5 @@
 -- The plan of other layers of a window: what of them is drawn afresh, and what changes on the screen.
-use Rattle.std.proofs.Common.{◌≡◌, ℕ, ◌<◌, List, [], length, Option, None, Some, Result, sym, ap, ◌∙◌, subst}
+use Rattle.std.proofs.Common.{◌≡◌, ℕ, ◌<◌, ◌&&◌, List, [], length, Option, None, Some, Result, sym, ap, ◌∙◌, subst}
 use Rattle.std.specs.Prelude.{IfOk, get_or}
 use Rattle.std.specs.Borrow.{Bor}
 use Rattle.std.specs.declared.alloc.AllocError.{AllocError}
@@ -18,13 +18,14 @@ use Rattle.layer_list.specs.Holders.{PlacedLayers, belongs_to}
 use Rattle.layer_list.specs.Changes.{is_drawn_afresh}
 use Rattle.vis_update.specs.declared.area.Area.{Area}
 use Rattle.vis_update.specs.declared.relaying.Relaying.{Relaying}
-use Rattle.vis_update.specs.Areas.{IsArea}
-use Rattle.vis_update.specs.Relayings.{IsRelayered, IsRelaid, IsDrawn, IsGained, region_has}
+use Rattle.vis_update.specs.Areas.{stale_in}
+use Rattle.vis_update.specs.Relayings.{AreOfContent, IsRelayered, IsRelaid, IsDrawn, IsGained, region_has}
+use Rattle.window_list.specs.declared.window.Window.{Window}
 use Rattle.window_mgr.specs.declared.manager.WindowManager.{WindowManager}
+use Rattle.window_mgr.specs.Edits.{IsWindowAt}
 use Rattle.window_mgr.specs.FullDesk.{layered_state}
-use Rattle.window_mgr.specs.Kept.{IsKept}
 use Rattle.window_mgr.specs.Records.{state_of}
-use Rattle.window_mgr.specs.Relayered.{IsPartAt, MayHaveLayers, IsGainedAt, IsPlanOfLayers}
+use Rattle.window_mgr.specs.Relayered.{HasUpdate, IsPartAt, MayHaveLayers, IsGainedAt, IsPlanOfLayers}
 use Rattle.window_mgr.proofs.EditSeats.{there_is}
 use Rattle.window_mgr.proofs.Remarked as remarked
 
@@ -49,16 +50,27 @@ none_drawn ls afresh drawn is drawn_is part part_is p =
 
 -- ---- the plan
 
-module _ {V : Type 0} {H : V → Type 0} (loan : Taken V H → Loan) (t : WindowManager V H) (held : IsKept loan t) (at : ℕ) (low : at < length t.windows.records.items) (a : Area) (read : a ≡ get_or t.areas.items at a) where
-  -- the plan of other layers of the window of this area is one of the window at this place
-  pub planned : (relaid : Relaid) (afresh : Option ℕ) (drawn : Option (Bor Pixels)) (result : Result Relaying AllocError) → MayHaveLayers at t relaid.layers → AreDrawn relaid.layers afresh drawn
-      → ((part : Option Part) → IsPartAt relaid.layers.layers afresh part → IsGainedAt at part t relaid)
+module _ {V : Type 0} {H : V → Type 0} (loan : Taken V H → Loan) (t : WindowManager V H) (at : ℕ) (a : Area) (read : a ≡ get_or t.areas.items at a) (update : Pixels) where
+  -- the plan of other layers of the window at this place is one where as much of its content is visible, and this is to be
+  -- redrawn
+  pub planned : (relaid : Relaid) (afresh : Option ℕ) (drawn : Option (Bor Pixels)) (result : Result Relaying AllocError) → AreDrawn relaid.layers afresh drawn
       → IfOk result (λ r. (n : ℕ) (place : Point) (part : Option Part) (old new : List Layer) (before : State) (after : LayeredDesk)
-      → IsArea before.desk before.stale n a → IsGained place part old new relaid.gained → IsDrawn place part new drawn → IsRelayered n place old new before.desk after
+      → AreOfContent before n a.visible update → IsGained place part old new relaid.gained → IsDrawn place part new drawn → IsRelayered n place old new before.desk after
       → IsRelaid n part before after r)
-      → IfOk result (λ r. (part : Option Part) → IsPartAt relaid.layers.layers afresh part → IsPlanOfLayers loan at relaid.layers.layers part t r)
-  planned relaid afresh drawn result may draws gains plan =
-      IfOk-weaker result _ (λ r. (part : Option Part) → IsPartAt relaid.layers.layers afresh part → IsPlanOfLayers loan at relaid.layers.layers part t r)
-      (λ r its part part_is w w_is after relayered. its w.serial w.place part w.layers.layers relaid.layers.layers (layered_state (state_of loan t [])) after
-      (remarked.area_is loan t held.slots held.whole at low w w_is a read) (gains part part_is w w_is)
+      → IfOk result (λ r. (u : WindowManager V H) → HasUpdate loan at update t u → MayHaveLayers at u relaid.layers
+      → (part : Option Part) → IsPartAt relaid.layers.layers afresh part → IsGainedAt at part u relaid → IsPlanOfLayers loan at relaid.layers.layers part u r)
+  planned relaid afresh drawn result draws plan =
+      IfOk-weaker result _ (λ r. (u : WindowManager V H) → HasUpdate loan at update t u → MayHaveLayers at u relaid.layers
+      → (part : Option Part) → IsPartAt relaid.layers.layers afresh part → IsGainedAt at part u relaid → IsPlanOfLayers loan at relaid.layers.layers part u r)
+      (λ r its u has may part part_is gains w w_is after relayered. its w.serial w.place part w.layers.layers relaid.layers.layers (layered_state (state_of loan u [])) after
+      (of_content u has w w_is) (gains w w_is)
       (subst (λ place. IsDrawn place part relaid.layers.layers drawn) (may.there w w_is) (draws part part_is)) relayered) plan
+    where
+      of_content : (u : WindowManager V H) → HasUpdate loan at update t u → (w : Window V H) → IsWindowAt u.windows.records.items at w → AreOfContent (layered_state (state_of loan u [])) w.serial a.visible update
+      of_content u has w w_is =
+          let b = there_is u.areas.items at (remarked.area_there loan u has.kept at has.low) in
+          let its = remarked.area_is loan u has.kept.slots has.kept.whole at has.low w w_is b.0 b.1 in
+          record {
+            owned = λ p. has.shown a b.0 read b.1 p ∙ its.visible p;
+            waiting = λ p. has.stale b.0 b.1 p ∙ its.update p ∙ ap (λ x. x && stale_in u.areas.items p) (sym (has.shown a b.0 read b.1 p));
+          }

@@ -39,7 +39,7 @@ use Rattle.window_mgr.specs.Edits.{IsWindowAt}
 use Rattle.window_mgr.specs.FullDesk.{FullDesk, layered_desk, layered_state}
 use Rattle.window_mgr.specs.Kept.{IsKept}
 use Rattle.window_mgr.specs.Records.{desk_of, desk_showing, state_of, state_showing, look_on}
-use Rattle.window_mgr.specs.Relayered.{IsPartAt, MayHaveLayers, IsPlanOfLayers, AreLayersSet}
+use Rattle.window_mgr.specs.Relayered.{IsPartAt, MayHaveLayers, IsPlanOfLayers, AreLayersPut, AreLayersSet}
 use Rattle.window_mgr.specs.Updating.{IsUpdatePut}
 use Rattle.window_mgr.specs.Whole.{IsWholeManager, IsSoundDesk, LieThere}
 use Rattle.window_mgr.proofs.DrawLemmas.{still_low, changed_there}
@@ -201,3 +201,17 @@ committed {V} {H} loan t slots whole at low w there placed may part r plan shows
     subst (λ (x : WindowManager V H). IsUpdatePut at r.update x v) (is ∙ ap (λ ws. record t { windows = ws; screen = end }) changed) done in
     subst (λ (x : WindowManager V H). IsWholeManager loan x slots × AreLayersSet w.serial placed.layers part (state_showing was (state_of loan t slots)) (state_showing shows (state_of loan x slots))) (sym it.state)
     (layers_set loan t slots whole at low w there it.area it.there placed may part r plan shows mid end white drawn was)
+
+-- what the call leaves, but for the screen
+pub layers_put : {V : Type 0} {H : V → Type 0} (t : WindowManager V H) (at : ℕ) (placed : PlacedLayers) (update : Pixels) (end : Bits) (windows : WindowList V H) (u v : WindowManager V H)
+    → windows ≡ record t.windows { records = edit_at (with_layers placed) at t.windows.records } → u ≡ record t { windows = windows; screen = end } → IsUpdatePut at update u v → AreLayersPut at placed update t v
+layers_put {V} {H} t at placed update end windows u v changed is done = record {
+  area = done.area;
+  there = done.there ∙ ap (λ (x : WindowManager V H). get_or x.areas.items at done.area) is;
+  state = state ∙ sym (ap (λ (x : WindowManager V H). record t { windows = record t.windows { records = edit_at (with_layers placed) at t.windows.records }; screen = x.screen; areas = with_item t.areas at (record done.area { update = update }) }) state);
+}
+  where
+    state : v ≡ record t { windows = record t.windows { records = edit_at (with_layers placed) at t.windows.records }; screen = end; areas = with_item t.areas at (record done.area { update = update }) }
+    state =
+        done.state
+        ∙ ap (λ (x : WindowManager V H). record x { areas = with_item x.areas at (record done.area { update = update }) }) (is ∙ ap (λ (ws : WindowList V H). record t { windows = ws; screen = end }) changed)

@@ -60,4 +60,6 @@ pub mod BarTitles
 pub mod FrameRight
 pub mod ScreenSides
 pub mod StepsShowing
+pub mod LayerThere
 pub mod LayerRedrawn
+pub mod LayerToggled

@@ -5,45 +5,51 @@ ghost use Rattle.tb_geom.specs.Points.{PixelSet};
 ghost use Rattle.def_iface.specs.declared.part.Part.{Part};
 ghost use Rattle.def_iface.specs.Stocked.{SlotView};
 ghost use Rattle.layer_list.specs.declared.layer.Layer.{Layer};
+ghost use Rattle.layer_list.specs.Holders.{ArePartsApart};
 ghost use Rattle.window_mgr.specs.Edits.{IsWindowAt};
 ghost use Rattle.window_mgr.specs.Kept.{IsKept};
 ghost use Rattle.window_mgr.specs.Records.{state_of, state_showing};
 ghost use Rattle.window_mgr.specs.Whole.{IsWholeManager};
-ghost use Rattle.window_mgr.specs.Relayered.{IsPartAt, MayHaveLayers, IsGainedAt, IsPlanOfLayers, AreLayersSet, IsLayerRedrawn};
+ghost use Rattle.window_mgr.specs.Relayered.{IsPartAt, MayHaveLayers, IsGainedAt, IsPlanOfLayers, AreLayersSet, AreLayersPut, HasUpdate, IsLayerRedrawn, IsLayerToggled};
 
 use crate::WindowManager;
 use bit_blit::fill;
 use bit_map::{Mode, Pattern};
 use def_iface::{Defined, Taken};
 use layer_list::{Layers, Relaid};
+use scan_region::Region;
 use std::alloc::AllocError;
 use tb_geom::Point;
 use vis_update::{Relaying, relaying_of};
-use window_paint::{Showing, paint_layer, repaint_layer};
+use window_paint::{Showing, Toggling, invert_layer, paint_layer, repaint_layer};
 
 impl WindowManager {
     /// What changes on the screen where the window at this index gets these layers, of which the one at the index `afresh`,
-    /// if there is one, is to be drawn afresh. It changes nothing.
+    /// if there is one, is to be drawn afresh. `update` is the window's update region then: the one that it has, or the one
+    /// that an earlier plan leaves it, so that several changes can be planned before the first of them is made. It changes
+    /// nothing.
     pub fn plan_layers(
         &self,
         at: usize,
+        update: &Region,
         relaid: &Relaid,
         afresh: Option<usize>,
     ) -> Result<Relaying, AllocError>
         requires kept { IsKept ⟦<Taken as Defined>⟧.loan self.now }
         requires at { at < length self.now.windows.records.items }
-        requires may { MayHaveLayers at self.now relaid.now.layers }
+        requires apart { ArePartsApart relaid.now.layers.layers }
         requires afresh { IfSome afresh (λ i. i < length relaid.now.layers.layers) }
-        requires gained { (part : Option Part) → IsPartAt relaid.now.layers.layers afresh part
-            → IsGainedAt at part self.now relaid.now }
-        ensures { IfOk result (λ r. (part : Option Part) → IsPartAt relaid.now.layers.layers afresh part
-            → IsPlanOfLayers ⟦<Taken as Defined>⟧.loan at relaid.now.layers.layers part self.now r) }
+        ensures { IfOk result (λ r. (u : _) → HasUpdate ⟦<Taken as Defined>⟧.loan at update.now self.now u
+            → MayHaveLayers at u relaid.now.layers
+            → (part : Option Part) → IsPartAt relaid.now.layers.layers afresh part → IsGainedAt at part u relaid.now
+            → IsPlanOfLayers ⟦<Taken as Defined>⟧.loan at relaid.now.layers.layers part u r) }
     {
         let drawn = match afresh {
             Some(index) => Some(relaid.layers.owned(index)),
             None => None,
         };
-        relaying_of(self.alloc, self.area(at), &relaid.gained, drawn)
+        let visible = &self.area(at).visible;
+        relaying_of(self.alloc, visible, update, &relaid.gained, drawn)
     }
 
     /// Shows the layer at this index of a window anew, on the pixels that it owns and that are not to be redrawn. It takes no
@@ -73,6 +79,33 @@ impl WindowManager {
         );
     }
 
+    /// Inverts what the change of a list's selection does of the layer at this index of a window, on all visible pixels that the
+    /// layer owns, also where they are to be redrawn. It takes no memory.
+    pub fn toggle_layer<T: Toggling>(&mut self, at: usize, index: usize, toggling: &T)
+        requires kept { IsKept ⟦<Taken as Defined>⟧.loan self.old }
+        requires at { at < length self.old.windows.records.items }
+        requires index { (w : _) → IsWindowAt self.old.windows.records.items at w → index < length w.layers.layers }
+        requires ready { T.is_ready toggling.now }
+        ensures { (w : _) → IsWindowAt self.old.windows.records.items at w
+            → (l : Layer) → l ≡ slice_index_or w.layers.layers index l
+            → (was is : List ℕ → Part → PixelSet) (slots : List SlotView)
+            → IsWholeManager ⟦<Taken as Defined>⟧.loan self.old slots
+            → IsWholeManager ⟦<Taken as Defined>⟧.loan self.new slots
+            × IsLayerToggled w.serial w.place l.part (T.toggles toggling.now)
+            (state_showing was (state_of ⟦<Taken as Defined>⟧.loan self.old slots))
+            (state_showing is (state_of ⟦<Taken as Defined>⟧.loan self.new slots)) }
+    {
+        let area = &self.areas[at];
+        invert_layer(
+            &mut self.screen,
+            &area.visible,
+            self.windows.at(at),
+            index,
+            toggling,
+            &self.font,
+        );
+    }
+
     /// Gives the window at this index these layers, as planned: what others gain becomes white and is to be redrawn, and the
     /// one at the index `afresh`, if there is one, is drawn afresh. It takes no memory.
     pub fn commit_layers<S: Showing>(
@@ -90,7 +123,8 @@ impl WindowManager {
         requires planned { (part : Option Part) → IsPartAt layers.layers afresh part
             → IsPlanOfLayers ⟦<Taken as Defined>⟧.loan at layers.layers part self.old relaying }
         requires whole { S.is_whole showing.now }
-        ensures { (w : _) → IsWindowAt self.old.windows.records.items at w
+        ensures put { AreLayersPut at layers relaying.update self.old self.new }
+        ensures set { (w : _) → IsWindowAt self.old.windows.records.items at w
             → (part : Option Part) → IsPartAt layers.layers afresh part
             → (was : List ℕ → Part → PixelSet) (slots : List SlotView)
             → IsWholeManager ⟦<Taken as Defined>⟧.loan self.old slots

@@ -1,5 +1,5 @@
 //! The layers of a window's content, drawn where they own the pixels, and the whole content.
-ghost use Rattle.std.specs.Prelude.{◌≡◌, ◌<◌, ◌&&◌, not, true, length, slice_index_or};
+ghost use Rattle.std.specs.Prelude.{◌≡◌, ◌<◌, ◌&&◌, not, if◌then◌else◌, true, length, slice_index_or};
 ghost use Rattle.tb_geom.specs.Points.{minus};
 ghost use Rattle.tb_geom.specs.Pixels.{holds};
 ghost use Rattle.tb_geom.specs.Rects.{in_plane, rect_holds};
@@ -11,7 +11,7 @@ ghost use Rattle.layer_list.specs.Holders.{belongs_to, ArePartsApart};
 ghost use Rattle.window_paint.specs.Shown.{content_shown};
 
 use crate::pictures::paint_picture;
-use crate::showing::Showing;
+use crate::showing::{Showing, Toggling};
 use bit_map::BitMap;
 use draw_port::Canvas;
 use scan_region::{Cut, Region};
@@ -64,6 +64,37 @@ pub fn repaint_layer<S: Showing>(
 {
     let cut = meeting_but(region, window.layers.owned(at), but);
     draw_layer(map, region.bbox(), &cut, window, at, layers, font);
+}
+
+/// Inverts what a change of a selection does of the layer at this index of a window, on the pixels of a region of the screen that
+/// the layer owns.
+pub fn invert_layer<T: Toggling>(
+    map: &mut BitMap,
+    region: &Region,
+    window: &Window,
+    at: usize,
+    toggling: &T,
+    font: &Font,
+)
+    requires placed { in_plane window.now.place ≡ true }
+    requires at { at < length window.now.layers.layers }
+    requires apart { ArePartsApart window.now.layers.layers }
+    requires ready { T.is_ready toggling.now }
+    ensures { (l : Layer) → l ≡ slice_index_or window.now.layers.layers at l
+        → Draws (λ p. holds region.now p && belongs_to l.part window.now.layers.layers (minus p window.now.layers.place))
+        (λ p d. if T.toggles toggling.now font.now (minus p window.now.place) then not d else d)
+        map.old map.new }
+{
+    let own = meeting(region, window.layers.owned(at));
+    let origin = window.place;
+    let mut canvas = Canvas {
+        map,
+        clip: region.bbox(),
+        origin,
+        cut: &own,
+        font,
+    };
+    toggling.invert(&mut canvas);
 }
 
 /// Draws the layer at this index of a window on the pixels of a rectangle of the screen that a cut leaves.

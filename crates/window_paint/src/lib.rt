@@ -9,7 +9,9 @@
 //! added to the picture is drawn by itself, over what stands there (`paint_last_operation`).
 //!
 //! A window's record has of its controls and lists where they lie, and no more. What they show is known to whoever keeps
-//! them, who has the trait `Showing`; `NothingShown` is for where nobody keeps any.
+//! them, who has the trait `Showing`; `NothingShown` is for where nobody keeps any. Where the selection of a list changed, what
+//! it highlights otherwise is inverted where it stands (`invert_layer`); which pixels these are says whoever keeps the list
+//! (`Toggling`).
 //!
 //! Around the content lies the window's frame, which its definition draws: `paint_frame` draws it within a rectangle of the
 //! window, and `paint_anew` over white content that is new. Where contents or pictures move, their pixels move on the map
@@ -28,7 +30,7 @@ mod showing;
 
 pub use frames::{paint_anew, paint_frame};
 pub use kinds::{is_of, paint_kind};
-pub use layers::{meeting, paint_content, paint_layer, repaint_layer};
+pub use layers::{invert_layer, meeting, paint_content, paint_layer, repaint_layer};
 pub use moves::{move_content, scroll_content};
 pub use pictures::{paint_last_operation, paint_picture};
-pub use showing::{NothingShown, Showing};
+pub use showing::{NothingShown, Showing, Toggling};

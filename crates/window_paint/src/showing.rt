@@ -1,5 +1,5 @@
-//! What controls and lists show.
-ghost use Rattle.std.specs.Prelude.{◌≡◌, ℕ, true, List};
+//! What controls and lists show, and what the selection of a list inverts.
+ghost use Rattle.std.specs.Prelude.{◌≡◌, ℕ, true, not, if◌then◌else◌, List};
 ghost use Rattle.tb_geom.specs.Points.{PixelSet};
 ghost use Rattle.tb_geom.specs.Rects.{in_plane};
 ghost use Rattle.bit_blit.specs.Draws.{Draws};
@@ -28,6 +28,25 @@ pub trait Showing {
         ensures same_frame { SameFrame canvas.old canvas.new }
         ensures drawn { Draws (canvas_holds canvas.old)
             (λ p _. shows self.now canvas.old.font.now part (canvas_point canvas.old p))
+            canvas.old.map.now canvas.new.map.now };
+}
+
+/// Whoever keeps the selection of a list, and so can invert what a change of it highlights otherwise.
+pub trait Toggling {
+    /// The list is as it is between calls.
+    ghost is_ready: { Self → Type 0 };
+
+    /// The pixels that are inverted, in a font, in the window's own coordinates.
+    ghost toggles: { Self → List ℕ → PixelSet };
+
+    /// Inverts these pixels of the canvas, in the canvas's font. The canvas's origin is the window's 0 0.
+    fn invert(&self, canvas: &mut Canvas<'_>)
+        requires ready { is_ready self.now }
+        requires origin { in_plane canvas.old.origin ≡ true }
+        ensures same_map { canvas.new.map.ghost_name ≡ canvas.old.map.ghost_name }
+        ensures same_frame { SameFrame canvas.old canvas.new }
+        ensures drawn { Draws (canvas_holds canvas.old)
+            (λ p d. if toggles self.now canvas.old.font.now (canvas_point canvas.old p) then not d else d)
             canvas.old.map.now canvas.new.map.now };
 }
 

@@ -1,5 +1,6 @@
 use Rattle.std.specs.Prelude.{All}
 use Rattle.def_iface.specs.contracts.control_stock.ControlStockStockedControls.TheImpl as control_stock
+use Rattle.def_iface.specs.contracts.list_stock.ListStockStockedLists.TheImpl as list_stock
 use Rattle.def_iface.specs.contracts.menu_stock.MenuStockStockedMenus.TheImpl as menu_stock
 use Rattle.def_iface.specs.contracts.window_stock.WindowStockStocked.TheImpl as stock
 use Rattle.def_iface.specs.Slots as slots
@@ -21,3 +22,9 @@ invariant-loop-kind-2 l = All (slots.IsFull (λ d. d.stage)) ((control_stock.con
 
 abbrev pub invariant-loop-3 : goal.invariant-loop-3
 invariant-loop-3 l = All (slots.IsFull (λ d. d.stage)) ((menu_stock.menu_slots-value (own.own-3, own.lawful-own-3)).it l.menus)
+
+abbrev pub invariant-loop-4 : goal.invariant-loop-4
+invariant-loop-4 l = All (slots.IsFull (λ d. d.stage)) ((list_stock.list_slots-value (own.own-4, own.lawful-own-4)).it l.lists)
+
+abbrev pub invariant-loop-kind-3 : goal.invariant-loop-kind-3
+invariant-loop-kind-3 l = All (slots.IsFull (λ d. d.stage)) ((list_stock.list_slots-value (own.own-4, own.lawful-own-4)).it l.lists)

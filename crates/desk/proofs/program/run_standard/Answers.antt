@@ -5,13 +5,13 @@ use Rattle.def_iface.specs.Meaning.{Definition}
 use Rattle.def_iface.specs.Stocked.{IsFull}
 use Rattle.std_wdef.specs.Told.{window_meaning}
 use Rattle.std_wdef.specs.Notched.{notched_meaning}
-use Rattle.desk.specs.StandardStock.{so_many_of_each}
+use Rattle.desk.specs.StandardStock.{one_of_each, so_many}
 use Rattle.desk.proofs.Filling.{kind_added, round_done, so_many_full, run_over_standard}
 use Rattle.desk.proofs.program.run_standard.OwnLists as own
 use Rattle.desk.proofs.program.run_standard.Goals as goal
 
 pub loop-round-init : goal.loop-round-init
-unfolding so_many_of_each
+unfolding so_many
 loop-round-init g c = c.new-windows.ensures.empty
 
 -- what a box means is what the window in it does: `own.at-1-1` is where the prover has standard windows in boxes
@@ -34,4 +34,4 @@ run_with_windows-requires-clause-full g c = subst (All IsFull) (sym c.loop-round
 pub returns : goal.returns
 returns g c =
     let all : c.loop-round.round ≡ 16 = omega arith in
-    run_over_standard _ _ _ _ _ _ _ _ (c.loop-round.invariant ∙ ap so_many_of_each all) c.run_with_windows.result c.run_with_windows.ensures
+    run_over_standard _ _ _ _ _ _ _ _ (c.loop-round.invariant ∙ ap (λ n. so_many n one_of_each) all) c.run_with_windows.result c.run_with_windows.ensures

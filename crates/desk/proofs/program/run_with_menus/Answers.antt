@@ -3,13 +3,13 @@ use Rattle.std.specs.Prelude.{All}
 use denote.Param.Object.{read_made}
 use Rattle.def_iface.specs.ControlMeaning.{ControlDefinition}
 use Rattle.std_cdef.specs.Told.{button_meaning, check_meaning, scroll_meaning}
-use Rattle.desk.specs.StandardStock.{so_many_controls}
+use Rattle.desk.specs.StandardStock.{controls_of_each, so_many}
 use Rattle.desk.proofs.Filling.{IsControlFull, round_of_controls, run_over_controls, so_many_controls_full}
 use Rattle.desk.proofs.program.run_with_menus.OwnLists as own
 use Rattle.desk.proofs.program.run_with_menus.Goals as goal
 
 pub loop-round-init : goal.loop-round-init
-unfolding so_many_controls
+unfolding so_many
 loop-round-init g c = c.new-controls.ensures.empty
 
 -- what a box means is what the control in it does: `own.at-3-1`, `own.at-3-2` and `own.at-3-3` are where the prover has buttons,
@@ -26,10 +26,10 @@ loop-round-preserved g c =
     c.in-Ok-add-2.ensures.added (radio ∙ ap check_meaning (c.in_ok-radio.ensures.ok ∙ c.new-in-loop-round-4.ensures.value))
     c.in-Ok-add-3.ensures.added (scroll ∙ ap scroll_meaning (c.in_ok-scroll.ensures.ok ∙ c.new-in-loop-round-6.ensures.value))
 
-pub run_over-requires-clause-full_controls : goal.run_over-requires-clause-full_controls
-run_over-requires-clause-full_controls g c = subst (All IsControlFull) (sym c.loop-round.invariant) (so_many_controls_full c.loop-round.round)
+pub run_with_controls-requires-clause-full_controls : goal.run_with_controls-requires-clause-full_controls
+run_with_controls-requires-clause-full_controls g c = subst (All IsControlFull) (sym c.loop-round.invariant) (so_many_controls_full c.loop-round.round)
 
 pub returns : goal.returns
 returns g c =
     let all : c.loop-round.round ≡ 64 = omega arith in
-    run_over_controls _ _ _ _ _ _ _ _ _ _ (c.loop-round.invariant ∙ ap so_many_controls all) c.run_over.result c.run_over.ensures
+    run_over_controls _ _ _ _ _ _ _ _ _ _ (c.loop-round.invariant ∙ ap (λ n. so_many n controls_of_each) all) c.run_with_controls.result c.run_with_controls.ensures

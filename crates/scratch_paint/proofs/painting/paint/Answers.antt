@@ -1,5 +1,6 @@
 use Rattle.def_iface.specs.contracts.taken.TakenDefined.TheImpl as taken
 use Rattle.def_iface.specs.contracts.taken_control.TakenControlDefinedControl.TheImpl as taken_control
+use Rattle.def_iface.specs.contracts.taken_list.TakenListDefinedList.TheImpl as taken_list
 use Rattle.def_iface.specs.contracts.taken_menu.TakenMenuDefinedMenu.TheImpl as taken_menu
 use Rattle.window_mgr.proofs.KeptLemmas.{kept}
 use Rattle.scratch_paint.proofs.FrontLemmas.{screen_painted}
@@ -16,5 +17,5 @@ paint_pulled-requires-clause-placed g c = rw c.activity.ensures c.requires.kept.
 
 pub returns : goal.returns
 returns g c =
-    screen_painted (taken.loan-value g.dyn-1).it (taken_menu.menu_loan-value g.dyn-3).it (taken_control.control_loan-value g.dyn-2).it (g.S.Showing.shows c.args.layers.now) c.args.toolbox.now c.windows-windows.result.now c.menus.result.now c.activity.result _ _ c.paint_pulled.new.map
+    screen_painted (taken.loan-value g.dyn-1).it (taken_menu.menu_loan-value g.dyn-3).it (taken_control.control_loan-value g.dyn-2).it (taken_list.list_loan-value g.dyn-4).it (g.S.Showing.shows c.args.layers.now) c.args.toolbox.now c.windows-windows.result.now c.menus.result.now c.activity.result _ _ c.paint_pulled.new.map
     c.windows-windows.ensures c.menus.ensures c.activity.ensures c.parts.ensures.font c.in_ok-image.ensures c.paint_pulled.ensures

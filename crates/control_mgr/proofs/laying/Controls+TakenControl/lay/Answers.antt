@@ -1,5 +1,7 @@
 use Rattle.std.proofs.Common.{◌≡◌, get_or, refl, ap, ◌∙◌, subst}
 use Rattle.layer_list.specs.Changes.{reshaped}
+use Rattle.window_mgr.proofs.Remarked.{area_there}
+use Rattle.control_mgr.proofs.LaidSo.{has_now}
 use Rattle.control_mgr.proofs.Lays.{after_laying, before_laying, its_shape, laid, may_so, may_tell, one_item, settled_laid}
 use Rattle.control_mgr.proofs.laying.Controls+TakenControl.lay.Goals as goal
 
@@ -22,23 +24,20 @@ with_shape-requires-clause-apart g c =
     (before_laying _ _ c.args.windows.now c.args.self.now c.args.spot c.requires.spot c.args.lie c.requires.may c.index.result.now c.index.ensures c.in_ok-shape.shape c.in_ok-shape.ensures
     c.requires.kept c.requires.beside c.at.result.now (c.at.ensures ∙ ap (λ ls. get_or ls.records.items c.args.spot.window c.at.result.now) c.list.ensures) c.layer_index-layer.result c.layer_index-layer.ensures).apart
 
-pub plan_layers-requires-clause-may : goal.plan_layers-requires-clause-may
-plan_layers-requires-clause-may g c =
+pub area-requires : goal.area-requires
+area-requires g c = area_there _ c.args.windows.now c.requires.kept c.args.spot.window c.requires.spot.is.window.0
+
+pub plan_layers-requires-clause-apart : goal.plan_layers-requires-clause-apart
+plan_layers-requires-clause-apart g c =
     (after_laying _ _ c.args.windows.now c.args.self.now c.args.spot c.requires.spot c.args.lie c.requires.may c.index.result.now c.index.ensures c.in_ok-shape.shape c.in_ok-shape.ensures
     c.requires.kept c.requires.beside c.at.result.now (c.at.ensures ∙ ap (λ ls. get_or ls.records.items c.args.spot.window c.at.result.now) c.list.ensures) c.layer_index-layer.result c.layer_index-layer.ensures
-    c.in_ok-relaid.relaid c.in_ok-relaid.ensures.layers c.in_ok-relaid.ensures.gained).may
+    c.in_ok-relaid.relaid c.in_ok-relaid.ensures.layers c.in_ok-relaid.ensures.gained).may.apart
 
 pub plan_layers-requires-clause-afresh : goal.plan_layers-requires-clause-afresh
 plan_layers-requires-clause-afresh g c =
     (after_laying _ _ c.args.windows.now c.args.self.now c.args.spot c.requires.spot c.args.lie c.requires.may c.index.result.now c.index.ensures c.in_ok-shape.shape c.in_ok-shape.ensures
     c.requires.kept c.requires.beside c.at.result.now (c.at.ensures ∙ ap (λ ls. get_or ls.records.items c.args.spot.window c.at.result.now) c.list.ensures) c.layer_index-layer.result c.layer_index-layer.ensures
     c.in_ok-relaid.relaid c.in_ok-relaid.ensures.layers c.in_ok-relaid.ensures.gained).low
-
-pub plan_layers-requires-clause-gained : goal.plan_layers-requires-clause-gained
-plan_layers-requires-clause-gained g c =
-    (after_laying _ _ c.args.windows.now c.args.self.now c.args.spot c.requires.spot c.args.lie c.requires.may c.index.result.now c.index.ensures c.in_ok-shape.shape c.in_ok-shape.ensures
-    c.requires.kept c.requires.beside c.at.result.now (c.at.ensures ∙ ap (λ ls. get_or ls.records.items c.args.spot.window c.at.result.now) c.list.ensures) c.layer_index-layer.result c.layer_index-layer.ensures
-    c.in_ok-relaid.relaid c.in_ok-relaid.ensures.layers c.in_ok-relaid.ensures.gained).gained
 
 pub put_lie-requires-clause-tellable : goal.put_lie-requires-clause-tellable
 put_lie-requires-clause-tellable g c =
@@ -56,12 +55,19 @@ commit_layers-requires-clause-afresh g c =
     c.requires.kept c.requires.beside c.at.result.now (c.at.ensures ∙ ap (λ ls. get_or ls.records.items c.args.spot.window c.at.result.now) c.list.ensures) c.layer_index-layer.result c.layer_index-layer.ensures
     c.in_ok-relaid.relaid c.in_ok-relaid.ensures.layers c.in_ok-relaid.ensures.gained).low
 
+pub commit_layers-requires-clause-planned : goal.commit_layers-requires-clause-planned
+commit_layers-requires-clause-planned g c part part_is =
+    let after = after_laying _ _ c.args.windows.now c.args.self.now c.args.spot c.requires.spot c.args.lie c.requires.may c.index.result.now c.index.ensures c.in_ok-shape.shape c.in_ok-shape.ensures
+    c.requires.kept c.requires.beside c.at.result.now (c.at.ensures ∙ ap (λ ls. get_or ls.records.items c.args.spot.window c.at.result.now) c.list.ensures) c.layer_index-layer.result c.layer_index-layer.ensures
+    c.in_ok-relaid.relaid c.in_ok-relaid.ensures.layers c.in_ok-relaid.ensures.gained in
+    c.in_ok-relaying.ensures c.args.windows.now (has_now _ c.args.windows.now c.requires.kept c.args.spot.window c.requires.spot.is.window.0 c.area.result.now c.area.ensures) after.may part part_is (after.gained part part_is)
+
 pub commit_layers-requires-clause-whole : goal.commit_layers-requires-clause-whole
 commit_layers-requires-clause-whole g c =
     settled_laid _ _ c.args.windows.now c.args.self.now c.args.spot c.requires.spot c.args.lie c.requires.may c.index.result.now c.index.ensures c.put_lie.new.self c.requires.beside.whole.settled c.put_lie.ensures.changed
 
 pub returns : goal.returns
-returns g c named is o kept slots whole controls =
+returns g c named is o kept others slots whole controls =
     let t = c.args.windows.now in
     let m = c.args.self.now in
     let spot = c.args.spot in
@@ -71,5 +77,5 @@ returns g c named is o kept slots whole controls =
     c.layer_index-layer.result c.layer_index-layer.ensures c.in_ok-relaid.relaid
     (λ w w_is. subst (λ v. c.in_ok-relaid.relaid.layers ≡ record v.layers { layers = reshaped c.in_ok-shape.shape c.layer_index-layer.result v.layers.layers })
     (one_item t.windows.records.items spot.window c.at.result.now w is.window.0 lies w_is) c.in_ok-relaid.ensures.layers)
-    c.put_lie.ensures.changed c.put_lie.ensures.next c.commit_layers.ensures o kept slots whole controls in
+    c.put_lie.ensures.changed c.put_lie.ensures.next c.commit_layers.ensures.set o kept others slots whole controls in
     (left.0, left.1, (refl, left.2))

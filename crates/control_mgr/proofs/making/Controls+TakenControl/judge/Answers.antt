@@ -2,9 +2,10 @@ use Rattle.std.proofs.Common.{rules, ◌≡◌, ◌<◌, ◌≤◌, length, true
 use Rattle.std.proofs.lemmas.Int.{to_z-of_z}
 use Rattle.control_mgr.specs.ControlRefusals.{is_setting}
 use Rattle.def_iface.specs.contracts.taken_control.TakenControlDefinedControl.TheImpl as control
+use Rattle.control_list.proofs.SeenLemmas.{count_of-seen}
 use Rattle.control_mgr.specs.Laying.{definition_if}
-use Rattle.control_mgr.proofs.Judging.{bad_setting, is_given, long_title, many, no_serial, out_of_place, refused_so}
-use Rattle.control_mgr.proofs.making.Controls+TakenControl.judge.Goals.{in_default-next-via-in-Some-next+else-count-lt-MOST_CONTROLS, in_default-next-via-in_default-next}
+use Rattle.control_mgr.proofs.Judging.{bad_setting, is_given, long_title, many, no_serial, out_of_place, placed_where, refused_so}
+use Rattle.control_mgr.proofs.making.Controls+TakenControl.judge.Goals.{in_default-next-via-in-Some-next+else-layer-lt-MOST_CONTROLS, in_default-next-via-in_default-next}
 use Rattle.control_mgr.proofs.making.Controls+TakenControl.judge.Goals as goal
 
 pub returns-then-not-may_be_placed : goal.returns-then-not-may_be_placed
@@ -52,16 +53,19 @@ returns-in-Some-next g c =
     let value : SFits w32 c.args.new.now.value = search rules in
     let setting : true ≡ is_setting c.args.new.now.minimum c.args.new.now.maximum c.args.new.now.value = simp to_z-of_z at c.in_ok-values.ensures.in_range in
     let made = simp to_z-of_z at c.in_ok-values.ensures.made in
-    let test : c.may_be_placed.result ≡ true = search rules in
-    record {
-      unrefused = is_given _ control_loan c.args.new.now d c.args.windows.now c.args.self.now c.requires c.in-Some.window c.in-Some.ensures c.at.result.now (search rules)
+    let test : c.may_be_placed.result ≡ true = search rules in (
+      is_given _ control_loan c.args.new.now d c.args.windows.now c.args.self.now c.requires c.in-Some.window c.in-Some.ensures c.at.result.now (search rules)
           (sym c.may_be_placed.ensures ∙ test) (sym setting) (subst (λ title. length title ≤ 255) c.as_slice.ensures c.in_ok-title.ensures.1) c.in-Some-next.serial c.in-Some-next.is
-          (search rules);
-      window = c.in-Some.ensures;
-      serial = c.in-Some-next.is;
-      values = made;
-      title = c.in_ok-title.ensures.0 ∙ c.as_slice.ensures;
-    }
+          (search rules),
+      record {
+        window = c.in-Some.ensures;
+        placed = λ w lies. placed_where control_loan c.args.new.now d c.args.windows.now c.in-Some.window c.in-Some.ensures c.at.result.now (search rules) (sym c.may_be_placed.ensures ∙ test) w lies;
+        serial = c.in-Some-next.is;
+        values = made;
+        title = c.in_ok-title.ensures.0 ∙ c.as_slice.ensures;
+        layer = c.count-layer.ensures ∙ sym (count_of-seen control_loan c.args.new.now.window c.args.self.now.list.controls.items);
+      },
+    )
 
 pub returns-in_default-next : goal.returns-in_default-next
 returns-in_default-next g c =
@@ -75,9 +79,9 @@ returns-in_default-next g c =
     let short : length c.args.new.now.title ≤ 255 = subst (λ title. length title ≤ 255) c.as_slice.ensures c.in_ok-title.ensures.1 in
     let placed = sym c.may_be_placed.ensures ∙ test in
     elim c.in_default-next.branch [
-      | in_default-next-via-in-Some-next+else-count-lt-MOST_CONTROLS w ↦
+      | in_default-next-via-in-Some-next+else-layer-lt-MOST_CONTROLS w ↦
           many _ control_loan c.args.new.now d c.args.windows.now c.args.self.now c.requires c.in-Some.window c.in-Some.ensures c.at.result.now (search rules) placed (sym setting) short
-          (subst (λ k. 64 ≤ k) w.count.ensures w.if-count-lt-MOST_CONTROLS.false)
+          (subst (λ k. 64 ≤ k) c.count-layer.ensures w.if-layer-lt-MOST_CONTROLS.false)
       | in_default-next-via-in_default-next w ↦
           no_serial _ control_loan c.args.new.now d c.args.windows.now c.args.self.now c.requires c.in-Some.window c.in-Some.ensures c.at.result.now (search rules) placed (sym setting) short
           w.in_default-next.is

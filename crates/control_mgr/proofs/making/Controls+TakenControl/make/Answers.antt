@@ -10,7 +10,7 @@ pub returns-in-Ok-plan : goal.returns-in-Ok-plan
 returns-in-Ok-plan g c =
     let took = taken_named _ _ _ _ _ c.as_slice.ensures c.in-Ok.ensures.taken in
     made_step _ (control.control_loan-value g.dyn-1).it c.args.new.now c.args.windows.now c.args.self.now c.plan.new.self c.plan.ensures.same c.add.new.windows c.add.new.self _ _ _ _
-    took c.in-Ok-plan.ensures.ok.ticket.unrefused (λ o. c.add.ensures _ _ took o)
+    took c.in-Ok-plan.ensures.judged (λ o. c.add.ensures.step _ _ took o)
 
 pub returns-in-Err-plan : goal.returns-in-Err-plan
 returns-in-Err-plan g c =

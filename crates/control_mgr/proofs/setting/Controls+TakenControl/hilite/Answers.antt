@@ -13,7 +13,7 @@ use Rattle.control_mgr.proofs.setting.Controls+TakenControl.hilite.Goals as goal
 pub returns-in_err-spot : goal.returns-in_err-spot
 returns-in_err-spot g c o =
     let e = err_from_is_err_and c.from_residual.result c.from_residual.ensures.1 in
-    refused_by _ _ (asks.Hilite c.args.set) c.from_residual.result e.0 c.args.windows.now o c.args.self.now e.1 (λ slots kept. named_missing _ _ c.args.set.control c.args.windows.now c.args.self.now ((not (is_highlight c.args.set.number), OutOfRange) ∷ []) _ c.in_err-spot.ensures ∙ ap Some (sym e.2))
+    refused_by _ _ (asks.Hilite c.args.set) c.from_residual.result e.0 c.args.windows.now o c.args.self.now e.1 (λ others slots kept. named_missing _ _ c.args.set.control c.args.windows.now c.args.self.now ((not (is_highlight c.args.set.number), OutOfRange) ∷ []) _ c.in_err-spot.ensures ∙ ap Some (sym e.2))
 
 pub returns : goal.returns
 returns g c o =
@@ -25,7 +25,7 @@ returns g c o =
     let judged = simp to_z-of_z at c.of_number.ensures.in_range in
     let fits : is_highlight c.args.set.number ≡ true = sym judged ∙ ap is_ok c.in_ok-state.was in
     set_done _ _ set.control c.args.windows.now c.args.self.now spot is c.put.new.windows c.put.new.self (asks.Hilite set) _ (with_highlight c.in_ok-state.field-0) o
-    (λ slots kept. number_fits _ _ set.control c.args.windows.now c.args.self.now spot is (is_highlight set.number) fits)
+    (λ others slots kept. number_fits _ _ set.control c.args.windows.now c.args.self.now spot is (is_highlight set.number) fits)
     (λ x e. highlight_agrees c.in_ok-state.field-0 c.state-state.result _ x (state_read _ _ set.control c.args.windows.now c.args.self.now spot is c.state-state.result c.state-state.ensures x e) refl refl refl)
     (λ before after h. (c.in_ok-state.field-0, sym value, h))
     (c.put.ensures set.control is o o)

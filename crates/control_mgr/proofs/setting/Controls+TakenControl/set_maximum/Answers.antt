@@ -19,7 +19,7 @@ returns g c o =
     let judged = simp to_z-of_z at c.set_maximum.ensures.in_range in
     let fits : (is_in_range c.args.set.number && int_le c.state-state.result.values.minimum c.args.set.number) ≡ true = sym judged ∙ ap is_ok c.in_ok-set_maximum.was in
     set_done _ _ set.control c.args.windows.now c.args.self.now spot is c.put.new.windows c.put.new.self (asks.SetMaximum set) _ (with_maximum set.number) o
-    (λ slots kept. number_fits _ _ set.control c.args.windows.now c.args.self.now spot is _ (maximum_judged _ _ set.control c.args.windows.now c.args.self.now spot is set.number c.state-state.result c.state-state.ensures ∙ fits))
+    (λ others slots kept. number_fits _ _ set.control c.args.windows.now c.args.self.now spot is _ (maximum_judged _ _ set.control c.args.windows.now c.args.self.now spot is set.number c.state-state.result c.state-state.ensures ∙ fits))
     (λ x e. values_agree (λ v. settled v.minimum set.number v.value) c.state-state.result _ x (state_read _ _ set.control c.args.windows.now c.args.self.now spot is c.state-state.result c.state-state.ensures x e)
     (chosen ((is_in_range c.args.set.number && int_le c.state-state.result.values.minimum c.args.set.number)) _ _ _ setting fits) refl refl)
     (λ before after h. h)
@@ -35,4 +35,4 @@ returns-in_err-set_maximum g c o =
     let fits : (is_in_range c.args.set.number && int_le c.state-state.result.values.minimum c.args.set.number) ≡ false = sym judged ∙ ap is_ok c.in_err-set_maximum.was in
     let e = err_from_is_err_and c.from_residual-in_err-set_maximum.result c.from_residual-in_err-set_maximum.ensures.1 in
     refused_by _ _ (asks.SetMaximum set) _ e.0 c.args.windows.now o c.args.self.now e.1
-    (λ slots kept. number_refused _ _ set.control c.args.windows.now c.args.self.now spot is _ (maximum_judged _ _ set.control c.args.windows.now c.args.self.now spot is set.number c.state-state.result c.state-state.ensures ∙ fits) ∙ ap Some (sym (e.2 ∙ c.in_err-set_maximum.ensures.refused)))
+    (λ others slots kept. number_refused _ _ set.control c.args.windows.now c.args.self.now spot is _ (maximum_judged _ _ set.control c.args.windows.now c.args.self.now spot is set.number c.state-state.result c.state-state.ensures ∙ fits) ∙ ap Some (sym (e.2 ∙ c.in_err-set_maximum.ensures.refused)))

@@ -19,7 +19,7 @@ returns g c o =
     let judged = simp to_z-of_z at c.set_minimum.ensures.in_range in
     let fits : (is_in_range c.args.set.number && int_le c.args.set.number c.state-state.result.values.maximum) ≡ true = sym judged ∙ ap is_ok c.in_ok-set_minimum.was in
     set_done _ _ set.control c.args.windows.now c.args.self.now spot is c.put.new.windows c.put.new.self (asks.SetMinimum set) _ (with_minimum set.number) o
-    (λ slots kept. number_fits _ _ set.control c.args.windows.now c.args.self.now spot is _ (minimum_judged _ _ set.control c.args.windows.now c.args.self.now spot is set.number c.state-state.result c.state-state.ensures ∙ fits))
+    (λ others slots kept. number_fits _ _ set.control c.args.windows.now c.args.self.now spot is _ (minimum_judged _ _ set.control c.args.windows.now c.args.self.now spot is set.number c.state-state.result c.state-state.ensures ∙ fits))
     (λ x e. values_agree (λ v. settled set.number v.maximum v.value) c.state-state.result _ x (state_read _ _ set.control c.args.windows.now c.args.self.now spot is c.state-state.result c.state-state.ensures x e)
     (chosen ((is_in_range c.args.set.number && int_le c.args.set.number c.state-state.result.values.maximum)) _ _ _ setting fits) refl refl)
     (λ before after h. h)
@@ -35,4 +35,4 @@ returns-in_err-set_minimum g c o =
     let fits : (is_in_range c.args.set.number && int_le c.args.set.number c.state-state.result.values.maximum) ≡ false = sym judged ∙ ap is_ok c.in_err-set_minimum.was in
     let e = err_from_is_err_and c.from_residual-in_err-set_minimum.result c.from_residual-in_err-set_minimum.ensures.1 in
     refused_by _ _ (asks.SetMinimum set) _ e.0 c.args.windows.now o c.args.self.now e.1
-    (λ slots kept. number_refused _ _ set.control c.args.windows.now c.args.self.now spot is _ (minimum_judged _ _ set.control c.args.windows.now c.args.self.now spot is set.number c.state-state.result c.state-state.ensures ∙ fits) ∙ ap Some (sym (e.2 ∙ c.in_err-set_minimum.ensures.refused)))
+    (λ others slots kept. number_refused _ _ set.control c.args.windows.now c.args.self.now spot is _ (minimum_judged _ _ set.control c.args.windows.now c.args.self.now spot is set.number c.state-state.result c.state-state.ensures ∙ fits) ∙ ap Some (sym (e.2 ∙ c.in_err-set_minimum.ensures.refused)))

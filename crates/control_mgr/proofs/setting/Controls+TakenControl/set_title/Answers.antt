@@ -14,7 +14,7 @@ returns g c o =
     let made = c.in_ok-state.ensures in
     let short : nat_lt 255 (length set.title) ≡ false = le-ltb 255 (length set.title) (subst (λ n. n ≤ 255) (ap length c.as_slice.ensures) made.1) in
     set_done _ _ set.control c.args.windows.now c.args.self.now spot is c.put.new.windows c.put.new.self (asks.SetTitle set) _ (with_title set.title) o
-    (λ slots kept. title_fits _ _ set.control c.args.windows.now c.args.self.now spot is (nat_lt 255 (length set.title)) short)
+    (λ others slots kept. title_fits _ _ set.control c.args.windows.now c.args.self.now spot is (nat_lt 255 (length set.title)) short)
     (λ x e. title_agrees set.title c.state-state.result _ x (state_read _ _ set.control c.args.windows.now c.args.self.now spot is c.state-state.result c.state-state.ensures x e) refl refl (made.0 ∙ c.as_slice.ensures))
     (λ before after h. h)
     (c.put.ensures set.control is o o)

@@ -17,7 +17,7 @@ returns g c o =
     let judged = simp to_z-of_z at c.set_value.ensures.in_range in
     let fits : is_in_range c.args.set.number ≡ true = sym judged ∙ ap is_ok c.in_ok-set_value.was in
     set_done _ _ set.control c.args.windows.now c.args.self.now spot is c.put.new.windows c.put.new.self (asks.SetValue set) _ (with_value set.number) o
-    (λ slots kept. number_fits _ _ set.control c.args.windows.now c.args.self.now spot is (is_in_range set.number) fits)
+    (λ others slots kept. number_fits _ _ set.control c.args.windows.now c.args.self.now spot is (is_in_range set.number) fits)
     (λ x e. values_agree (λ v. settled v.minimum v.maximum set.number) c.state-state.result _ x (state_read _ _ set.control c.args.windows.now c.args.self.now spot is c.state-state.result c.state-state.ensures x e)
     (chosen (is_in_range c.args.set.number) _ _ _ setting fits) refl refl)
     (λ before after h. h)

@@ -3,19 +3,22 @@ use Rattle.desk_toolbox.specs.EventSteps.{event_step}
 use Rattle.tb_geom.specs.Pixels.{holds}
 use Rattle.def_iface.specs.contracts.taken.TakenDefined.TheImpl as taken
 use Rattle.def_iface.specs.contracts.taken_control.TakenControlDefinedControl.TheImpl as taken_control
+use Rattle.def_iface.specs.contracts.taken_list.TakenListDefinedList.TheImpl as taken_list
 use Rattle.window_mgr.specs.DeskStates.{desk_state}
 use Rattle.window_update.specs.WholeUpdates.{opened}
 use Rattle.control_mgr.specs.ControlDesks.{controls_show}
 use Rattle.control_mgr.specs.WholeControls.{records_of}
+use Rattle.list_mgr.specs.ListDesks.{lists_show}
+use Rattle.list_mgr.specs.WholeLists as lists
 use Rattle.desk_toolbox.proofs.WaitingShown.{first_showing}
 use Rattle.desk_toolbox.proofs.toolbox.Toolbox.answer_event.Goals as goal
 
 pub returns-clause-step : goal.returns-clause-step
-returns-clause-step g c slots kept held =
+returns-clause-step g c slots kept held listed =
     let self = c.args.self.now in
-    let shows = controls_show (records_of (taken_control.control_loan-value g.dyn-2).it self.controls) in (
+    let shows = controls_show (lists_show (lists.records_of (taken_list.list_loan-value g.dyn-4).it self.lists)) (records_of (taken_control.control_loan-value g.dyn-2).it self.controls) in (
       record { windows = record { desk = refl; stale = λ p on. refl; image = λ p on. refl }; activity = refl; begun = refl },
-      (refl, refl),
+      (refl, (refl, refl)),
       (
         c.first_to_update-update.result,
         first_showing shows (desk_state (taken.loan-value g.dyn-1).it self.windows (opened self.activity self.updates) slots) c.first_to_update-update.result (c.first_to_update-update.ensures (λ p. holds self.updates.begun p) slots),

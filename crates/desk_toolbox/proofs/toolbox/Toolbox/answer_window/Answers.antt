@@ -1,10 +1,13 @@
 use Rattle.std.proofs.Common.{refl}
 use Rattle.def_iface.specs.contracts.taken.TakenDefined.TheImpl as taken
 use Rattle.def_iface.specs.contracts.taken_control.TakenControlDefinedControl.TheImpl as taken_control
+use Rattle.def_iface.specs.contracts.taken_list.TakenListDefinedList.TheImpl as taken_list
 use Rattle.window_mgr.specs.Records.{state_of}
 use Rattle.window_mgr.proofs.StepsShowing.{step_showing}
 use Rattle.control_mgr.specs.ControlDesks.{controls_show}
 use Rattle.control_mgr.specs.WholeControls.{records_of}
+use Rattle.list_mgr.specs.ListDesks.{lists_show}
+use Rattle.list_mgr.specs.WholeLists as lists
 use Rattle.desk_toolbox.proofs.MenusBeside.{window_whole}
 use Rattle.desk_toolbox.proofs.UpdatesBeside.{updates_after_window}
 use Rattle.desk_toolbox.proofs.toolbox.Toolbox.answer_window.Goals as goal
@@ -19,7 +22,7 @@ returns-in-None-clause-menus_whole g c =
 
 pub returns-in-None-clause-step : goal.returns-in-None-clause-step
 returns-in-None-clause-step g c =
-    let shows = controls_show (records_of (taken_control.control_loan-value g.dyn-2).it c.args.self.now.controls) in
+    let shows = controls_show (lists_show (lists.records_of (taken_list.list_loan-value g.dyn-4).it c.args.self.now.lists)) (records_of (taken_control.control_loan-value g.dyn-2).it c.args.self.now.controls) in
     rw c.in-None.ensures (
       record { activity = refl; begun = refl },
       step_showing shows c.args.call.now c.perform.result (state_of (taken.loan-value g.dyn-1).it c.args.self.now.windows _) (state_of (taken.loan-value g.dyn-1).it c.perform.new.self _)

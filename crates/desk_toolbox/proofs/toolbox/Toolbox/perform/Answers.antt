@@ -3,177 +3,161 @@ use Rattle.tb_geom.specs.Pixels.{holds}
 use Rattle.desk_call.specs.Gates.{gate, standing_of}
 use Rattle.def_iface.specs.contracts.taken.TakenDefined.TheImpl as taken
 use Rattle.def_iface.specs.contracts.taken_control.TakenControlDefinedControl.TheImpl as taken_control
+use Rattle.def_iface.specs.contracts.taken_list.TakenListDefinedList.TheImpl as taken_list
 use Rattle.window_mgr.specs.DeskStates.{Opened, desk_with}
 use Rattle.window_mgr.specs.Records.{state_of}
 use Rattle.window_frame.proofs.FramesShowing.{frame_step_showing}
 use Rattle.control_mgr.specs.ControlDesks.{controls_show}
 use Rattle.control_mgr.specs.WholeControls.{records_of}
+use Rattle.list_mgr.specs.ListDesks.{lists_show}
+use Rattle.list_mgr.specs.WholeLists as lists
 use Rattle.menu_mgr.proofs.MenusShowing.{menu_step_showing}
-use Rattle.desk_toolbox.proofs.ControlsBeside.{frames_leave, menus_leave, updates_leave}
+use Rattle.desk_toolbox.proofs.ContentsBeside.{frames_leave, frames_leave_lists, menus_leave, menus_leave_lists}
 use Rattle.desk_toolbox.proofs.MenuStands.{menu_trackable}
-use Rattle.desk_toolbox.proofs.TrackedControls.{frame_trackable, update_trackable}
-use Rattle.window_update.specs.WholeUpdates.{opened}
-use Rattle.desk_toolbox.proofs.MenusBeside.{frame_whole, update_whole}
+use Rattle.desk_toolbox.proofs.TrackedControls.{frame_trackable}
+use Rattle.desk_toolbox.proofs.MenusBeside.{frame_whole}
 use Rattle.desk_toolbox.proofs.UpdatesBeside.{updates_after_frame, updates_after_menu}
 use Rattle.desk_toolbox.proofs.toolbox.Toolbox.perform.Goals as goal
 
+pub returns-in-Ok-tell_update-clause-whole : goal.returns-in-Ok-tell_update-clause-whole
+returns-in-Ok-tell_update-clause-whole g c = c.in-Ok-tell_update.ensures.whole _ _ _ _ c.requires.whole
+
+pub returns-in-Ok-tell_update-clause-step : goal.returns-in-Ok-tell_update-clause-step
+returns-in-Ok-tell_update-clause-step g c = rw c.in-Update.is (Ok c.in-Ok-tell_update.reply, refl, c.in-Ok-tell_update.ensures.step _ _ _ _ c.requires.whole)
+
+pub returns-in-Err-tell_update-clause-whole : goal.returns-in-Err-tell_update-clause-whole
+returns-in-Err-tell_update-clause-whole g c = c.in-Err-tell_update.ensures.whole _ _ _ _ c.requires.whole
+
+pub returns-in-Err-tell_update-clause-step : goal.returns-in-Err-tell_update-clause-step
+returns-in-Err-tell_update-clause-step g c = rw c.in-Update.is (Err c.in-Err-tell_update.refusal, refl, c.in-Err-tell_update.ensures.step _ _ _ _ c.requires.whole)
+
 pub returns-in-Ok-perform-clause-whole : goal.returns-in-Ok-perform-clause-whole
 returns-in-Ok-perform-clause-whole g c =
-    let done = c.in-Ok-perform.ensures.step _ c.requires.whole.windows in
-    let may = subst (λ call. gate c.args.self.now.activity (standing_of call) ≡ None) c.in-Update.is c.requires.admitted in
+    let done = c.in-Ok-perform.ensures.step (λ p. false) _ c.requires.whole.windows in
+    let may = subst (λ call. gate c.args.self.now.activity (standing_of call) ≡ None) c.in-Frame.is c.requires.admitted in
+    let before : Opened = record { activity = c.args.self.now.activity; begun = λ p. false } in
+    let after : Opened = record { activity = c.perform.new.activity; begun = λ p. false } in
     record {
       windows = done.0;
-      updates = c.in-Ok-perform.ensures.whole;
-      controls = updates_leave c.in-Update.call (Ok c.in-Ok-perform.reply) _ _ _ done.1 c.requires.whole.controls;
-      trackable = update_trackable _ _ _ c.requires.whole.trackable c.in-Update.call (Ok c.in-Ok-perform.reply) done.1;
-      menus = update_whole _ _ c.args.self.now.windows c.perform.new.windows _ _ _ _ (controls_show (records_of (taken_control.control_loan-value g.dyn-2).it c.args.self.now.controls)) (opened c.args.self.now.activity c.args.self.now.updates) (opened c.perform.new.activity c.perform.new.self) c.in-Update.call (Ok c.in-Ok-perform.reply) may done.1 c.requires.whole.menus;
+      updates = updates_after_frame _ c.args.self.now.windows c.perform.new.windows c.args.self.now.updates _ _ before after c.in-Frame.call (Ok c.in-Ok-perform.reply) may done.1 c.requires.whole.updates;
+      controls = frames_leave c.in-Frame.call (Ok c.in-Ok-perform.reply) _ _ _ done.1 c.requires.whole.controls;
+      lists = frames_leave_lists c.in-Frame.call (Ok c.in-Ok-perform.reply) _ _ _ done.1 c.requires.whole.lists;
+      trackable = frame_trackable _ _ _ c.requires.whole.trackable c.in-Frame.call (Ok c.in-Ok-perform.reply) done.1;
+      menus = frame_whole _ _ c.args.self.now.windows c.perform.new.windows _ _ _ _ before after c.in-Frame.call (Ok c.in-Ok-perform.reply) may done.1 c.requires.whole.menus;
     }
 
 pub returns-in-Ok-perform-clause-step : goal.returns-in-Ok-perform-clause-step
 returns-in-Ok-perform-clause-step g c =
-    let done = c.in-Ok-perform.ensures.step _ c.requires.whole.windows in
-    rw c.in-Update.is (Ok c.in-Ok-perform.reply, refl, (done.1, (refl, (refl, refl))))
+    let kept = holds c.args.self.now.updates.begun in
+    let done = c.in-Ok-perform.ensures.step kept _ c.requires.whole.windows in
+    let before : Opened = record { activity = c.args.self.now.activity; begun = kept } in
+    let after : Opened = record { activity = c.perform.new.activity; begun = kept } in
+    rw c.in-Frame.is (
+      Ok c.in-Ok-perform.reply,
+      refl,
+      (
+        frame_step_showing (controls_show (lists_show (lists.records_of (taken_list.list_loan-value g.dyn-4).it c.args.self.now.lists)) (records_of (taken_control.control_loan-value g.dyn-2).it c.args.self.now.controls)) c.in-Frame.call (Ok c.in-Ok-perform.reply) (desk_with before (state_of (taken.loan-value g.dyn-1).it c.args.self.now.windows _)) (desk_with after (state_of (taken.loan-value g.dyn-1).it c.perform.new.windows _))
+            c.requires.whole.windows.sound.distinct done.1,
+        (refl, (refl, (refl, refl))),
+      ),
+    )
 
 pub returns-in-Err-perform-clause-whole : goal.returns-in-Err-perform-clause-whole
 returns-in-Err-perform-clause-whole g c =
-    let done = c.in-Err-perform.ensures.step _ c.requires.whole.windows in
-    let may = subst (λ call. gate c.args.self.now.activity (standing_of call) ≡ None) c.in-Update.is c.requires.admitted in
+    let done = c.in-Err-perform.ensures.step (λ p. false) _ c.requires.whole.windows in
+    let may = subst (λ call. gate c.args.self.now.activity (standing_of call) ≡ None) c.in-Frame.is c.requires.admitted in
+    let before : Opened = record { activity = c.args.self.now.activity; begun = λ p. false } in
+    let after : Opened = record { activity = c.perform.new.activity; begun = λ p. false } in
     record {
       windows = done.0;
-      updates = c.in-Err-perform.ensures.whole;
-      controls = updates_leave c.in-Update.call (Err c.in-Err-perform.refusal) _ _ _ done.1 c.requires.whole.controls;
-      trackable = update_trackable _ _ _ c.requires.whole.trackable c.in-Update.call (Err c.in-Err-perform.refusal) done.1;
-      menus = update_whole _ _ c.args.self.now.windows c.perform.new.windows _ _ _ _ (controls_show (records_of (taken_control.control_loan-value g.dyn-2).it c.args.self.now.controls)) (opened c.args.self.now.activity c.args.self.now.updates) (opened c.perform.new.activity c.perform.new.self) c.in-Update.call (Err c.in-Err-perform.refusal) may done.1 c.requires.whole.menus;
+      updates = updates_after_frame _ c.args.self.now.windows c.perform.new.windows c.args.self.now.updates _ _ before after c.in-Frame.call (Err c.in-Err-perform.refusal) may done.1 c.requires.whole.updates;
+      controls = frames_leave c.in-Frame.call (Err c.in-Err-perform.refusal) _ _ _ done.1 c.requires.whole.controls;
+      lists = frames_leave_lists c.in-Frame.call (Err c.in-Err-perform.refusal) _ _ _ done.1 c.requires.whole.lists;
+      trackable = frame_trackable _ _ _ c.requires.whole.trackable c.in-Frame.call (Err c.in-Err-perform.refusal) done.1;
+      menus = frame_whole _ _ c.args.self.now.windows c.perform.new.windows _ _ _ _ before after c.in-Frame.call (Err c.in-Err-perform.refusal) may done.1 c.requires.whole.menus;
     }
 
 pub returns-in-Err-perform-clause-step : goal.returns-in-Err-perform-clause-step
 returns-in-Err-perform-clause-step g c =
-    let done = c.in-Err-perform.ensures.step _ c.requires.whole.windows in
-    rw c.in-Update.is (Err c.in-Err-perform.refusal, refl, (done.1, (refl, (refl, refl))))
+    let kept = holds c.args.self.now.updates.begun in
+    let done = c.in-Err-perform.ensures.step kept _ c.requires.whole.windows in
+    let before : Opened = record { activity = c.args.self.now.activity; begun = kept } in
+    let after : Opened = record { activity = c.perform.new.activity; begun = kept } in
+    rw c.in-Frame.is (
+      Err c.in-Err-perform.refusal,
+      refl,
+      (
+        frame_step_showing (controls_show (lists_show (lists.records_of (taken_list.list_loan-value g.dyn-4).it c.args.self.now.lists)) (records_of (taken_control.control_loan-value g.dyn-2).it c.args.self.now.controls)) c.in-Frame.call (Err c.in-Err-perform.refusal) (desk_with before (state_of (taken.loan-value g.dyn-1).it c.args.self.now.windows _)) (desk_with after (state_of (taken.loan-value g.dyn-1).it c.perform.new.windows _))
+            c.requires.whole.windows.sound.distinct done.1,
+        (refl, (refl, (refl, refl))),
+      ),
+    )
 
 pub returns-in-Ok-perform-2-clause-whole : goal.returns-in-Ok-perform-2-clause-whole
 returns-in-Ok-perform-2-clause-whole g c =
-    let done = c.in-Ok-perform-2.ensures.step (λ p. false) _ c.requires.whole.windows in
-    let may = subst (λ call. gate c.args.self.now.activity (standing_of call) ≡ None) c.in-Frame.is c.requires.admitted in
-    let before : Opened = record { activity = c.args.self.now.activity; begun = λ p. false } in
-    let after : Opened = record { activity = c.perform-in-Frame.new.activity; begun = λ p. false } in
+    let done = c.in-Ok-perform-2.ensures (λ p. holds c.args.self.now.updates.begun p) _ c.requires.whole.windows in
+    let may = subst (λ call. gate c.args.self.now.activity (standing_of call) ≡ None) c.in-Menu.is c.requires.admitted in
+    let before : Opened = record { activity = c.args.self.now.activity; begun = λ p. holds c.args.self.now.updates.begun p } in
+    let after : Opened = record { activity = c.perform-in-Menu.new.activity; begun = λ p. holds c.args.self.now.updates.begun p } in
     record {
       windows = done.0;
-      updates = updates_after_frame _ c.args.self.now.windows c.perform-in-Frame.new.windows c.args.self.now.updates _ _ before after c.in-Frame.call (Ok c.in-Ok-perform-2.reply) may done.1 c.requires.whole.updates;
-      controls = frames_leave c.in-Frame.call (Ok c.in-Ok-perform-2.reply) _ _ _ done.1 c.requires.whole.controls;
-      trackable = frame_trackable _ _ _ c.requires.whole.trackable c.in-Frame.call (Ok c.in-Ok-perform-2.reply) done.1;
-      menus = frame_whole _ _ c.args.self.now.windows c.perform-in-Frame.new.windows _ _ _ _ before after c.in-Frame.call (Ok c.in-Ok-perform-2.reply) may done.1 c.requires.whole.menus;
+      updates = updates_after_menu _ c.args.self.now.windows c.perform-in-Menu.new.windows c.args.self.now.updates _ _ before after _ _ c.in-Menu.call (Ok c.in-Ok-perform-2.reply) may done.2 c.requires.whole.updates;
+      controls = menus_leave c.in-Menu.call (Ok c.in-Ok-perform-2.reply) _ _ _ done.2 c.requires.whole.controls;
+      lists = menus_leave_lists c.in-Menu.call (Ok c.in-Ok-perform-2.reply) _ _ _ done.2 c.requires.whole.lists;
+      trackable = menu_trackable c.in-Menu.call (Ok c.in-Ok-perform-2.reply) _ _ _ may done.2;
+      menus = done.1;
     }
 
 pub returns-in-Ok-perform-2-clause-step : goal.returns-in-Ok-perform-2-clause-step
 returns-in-Ok-perform-2-clause-step g c =
-    let kept = holds c.args.self.now.updates.begun in
-    let done = c.in-Ok-perform-2.ensures.step kept _ c.requires.whole.windows in
-    let before : Opened = record { activity = c.args.self.now.activity; begun = kept } in
-    let after : Opened = record { activity = c.perform-in-Frame.new.activity; begun = kept } in
-    rw c.in-Frame.is (
+    let done = c.in-Ok-perform-2.ensures (λ p. holds c.args.self.now.updates.begun p) _ c.requires.whole.windows in
+    rw c.in-Menu.is (
       Ok c.in-Ok-perform-2.reply,
       refl,
       (
-        frame_step_showing (controls_show (records_of (taken_control.control_loan-value g.dyn-2).it c.args.self.now.controls)) c.in-Frame.call (Ok c.in-Ok-perform-2.reply) (desk_with before (state_of (taken.loan-value g.dyn-1).it c.args.self.now.windows _)) (desk_with after (state_of (taken.loan-value g.dyn-1).it c.perform-in-Frame.new.windows _))
-            c.requires.whole.windows.sound.distinct done.1,
+        menu_step_showing (controls_show (lists_show (lists.records_of (taken_list.list_loan-value g.dyn-4).it c.args.self.now.lists)) (records_of (taken_control.control_loan-value g.dyn-2).it c.args.self.now.controls)) _ _ c.requires.whole.windows.sound.distinct c.in-Menu.call (Ok c.in-Ok-perform-2.reply) done.2,
         (refl, (refl, refl)),
       ),
     )
 
 pub returns-in-Err-perform-2-clause-whole : goal.returns-in-Err-perform-2-clause-whole
 returns-in-Err-perform-2-clause-whole g c =
-    let done = c.in-Err-perform-2.ensures.step (λ p. false) _ c.requires.whole.windows in
-    let may = subst (λ call. gate c.args.self.now.activity (standing_of call) ≡ None) c.in-Frame.is c.requires.admitted in
-    let before : Opened = record { activity = c.args.self.now.activity; begun = λ p. false } in
-    let after : Opened = record { activity = c.perform-in-Frame.new.activity; begun = λ p. false } in
+    let done = c.in-Err-perform-2.ensures (λ p. holds c.args.self.now.updates.begun p) _ c.requires.whole.windows in
+    let may = subst (λ call. gate c.args.self.now.activity (standing_of call) ≡ None) c.in-Menu.is c.requires.admitted in
+    let before : Opened = record { activity = c.args.self.now.activity; begun = λ p. holds c.args.self.now.updates.begun p } in
+    let after : Opened = record { activity = c.perform-in-Menu.new.activity; begun = λ p. holds c.args.self.now.updates.begun p } in
     record {
       windows = done.0;
-      updates = updates_after_frame _ c.args.self.now.windows c.perform-in-Frame.new.windows c.args.self.now.updates _ _ before after c.in-Frame.call (Err c.in-Err-perform-2.refusal) may done.1 c.requires.whole.updates;
-      controls = frames_leave c.in-Frame.call (Err c.in-Err-perform-2.refusal) _ _ _ done.1 c.requires.whole.controls;
-      trackable = frame_trackable _ _ _ c.requires.whole.trackable c.in-Frame.call (Err c.in-Err-perform-2.refusal) done.1;
-      menus = frame_whole _ _ c.args.self.now.windows c.perform-in-Frame.new.windows _ _ _ _ before after c.in-Frame.call (Err c.in-Err-perform-2.refusal) may done.1 c.requires.whole.menus;
+      updates = updates_after_menu _ c.args.self.now.windows c.perform-in-Menu.new.windows c.args.self.now.updates _ _ before after _ _ c.in-Menu.call (Err c.in-Err-perform-2.refusal) may done.2 c.requires.whole.updates;
+      controls = menus_leave c.in-Menu.call (Err c.in-Err-perform-2.refusal) _ _ _ done.2 c.requires.whole.controls;
+      lists = menus_leave_lists c.in-Menu.call (Err c.in-Err-perform-2.refusal) _ _ _ done.2 c.requires.whole.lists;
+      trackable = menu_trackable c.in-Menu.call (Err c.in-Err-perform-2.refusal) _ _ _ may done.2;
+      menus = done.1;
     }
 
 pub returns-in-Err-perform-2-clause-step : goal.returns-in-Err-perform-2-clause-step
 returns-in-Err-perform-2-clause-step g c =
-    let kept = holds c.args.self.now.updates.begun in
-    let done = c.in-Err-perform-2.ensures.step kept _ c.requires.whole.windows in
-    let before : Opened = record { activity = c.args.self.now.activity; begun = kept } in
-    let after : Opened = record { activity = c.perform-in-Frame.new.activity; begun = kept } in
-    rw c.in-Frame.is (
+    let done = c.in-Err-perform-2.ensures (λ p. holds c.args.self.now.updates.begun p) _ c.requires.whole.windows in
+    rw c.in-Menu.is (
       Err c.in-Err-perform-2.refusal,
       refl,
       (
-        frame_step_showing (controls_show (records_of (taken_control.control_loan-value g.dyn-2).it c.args.self.now.controls)) c.in-Frame.call (Err c.in-Err-perform-2.refusal) (desk_with before (state_of (taken.loan-value g.dyn-1).it c.args.self.now.windows _)) (desk_with after (state_of (taken.loan-value g.dyn-1).it c.perform-in-Frame.new.windows _))
-            c.requires.whole.windows.sound.distinct done.1,
+        menu_step_showing (controls_show (lists_show (lists.records_of (taken_list.list_loan-value g.dyn-4).it c.args.self.now.lists)) (records_of (taken_control.control_loan-value g.dyn-2).it c.args.self.now.controls)) _ _ c.requires.whole.windows.sound.distinct c.in-Menu.call (Err c.in-Err-perform-2.refusal) done.2,
         (refl, (refl, refl)),
       ),
     )
 
-pub returns-in-Ok-perform-3-clause-whole : goal.returns-in-Ok-perform-3-clause-whole
-returns-in-Ok-perform-3-clause-whole g c =
-    let done = c.in-Ok-perform-3.ensures (λ p. holds c.args.self.now.updates.begun p) _ c.requires.whole.windows in
-    let may = subst (λ call. gate c.args.self.now.activity (standing_of call) ≡ None) c.in-Menu.is c.requires.admitted in
-    let before : Opened = record { activity = c.args.self.now.activity; begun = λ p. holds c.args.self.now.updates.begun p } in
-    let after : Opened = record { activity = c.perform-in-Menu.new.activity; begun = λ p. holds c.args.self.now.updates.begun p } in
-    record {
-      windows = done.0;
-      updates = updates_after_menu _ c.args.self.now.windows c.perform-in-Menu.new.windows c.args.self.now.updates _ _ before after _ _ c.in-Menu.call (Ok c.in-Ok-perform-3.reply) may done.2 c.requires.whole.updates;
-      controls = menus_leave c.in-Menu.call (Ok c.in-Ok-perform-3.reply) _ _ _ done.2 c.requires.whole.controls;
-      trackable = menu_trackable c.in-Menu.call (Ok c.in-Ok-perform-3.reply) _ _ _ may done.2;
-      menus = done.1;
-    }
-
-pub returns-in-Ok-perform-3-clause-step : goal.returns-in-Ok-perform-3-clause-step
-returns-in-Ok-perform-3-clause-step g c =
-    let done = c.in-Ok-perform-3.ensures (λ p. holds c.args.self.now.updates.begun p) _ c.requires.whole.windows in
-    rw c.in-Menu.is (
-      Ok c.in-Ok-perform-3.reply,
-      refl,
-      (
-        menu_step_showing (controls_show (records_of (taken_control.control_loan-value g.dyn-2).it c.args.self.now.controls)) _ _ c.requires.whole.windows.sound.distinct c.in-Menu.call (Ok c.in-Ok-perform-3.reply) done.2,
-        (refl, refl),
-      ),
-    )
-
-pub returns-in-Err-perform-3-clause-whole : goal.returns-in-Err-perform-3-clause-whole
-returns-in-Err-perform-3-clause-whole g c =
-    let done = c.in-Err-perform-3.ensures (λ p. holds c.args.self.now.updates.begun p) _ c.requires.whole.windows in
-    let may = subst (λ call. gate c.args.self.now.activity (standing_of call) ≡ None) c.in-Menu.is c.requires.admitted in
-    let before : Opened = record { activity = c.args.self.now.activity; begun = λ p. holds c.args.self.now.updates.begun p } in
-    let after : Opened = record { activity = c.perform-in-Menu.new.activity; begun = λ p. holds c.args.self.now.updates.begun p } in
-    record {
-      windows = done.0;
-      updates = updates_after_menu _ c.args.self.now.windows c.perform-in-Menu.new.windows c.args.self.now.updates _ _ before after _ _ c.in-Menu.call (Err c.in-Err-perform-3.refusal) may done.2 c.requires.whole.updates;
-      controls = menus_leave c.in-Menu.call (Err c.in-Err-perform-3.refusal) _ _ _ done.2 c.requires.whole.controls;
-      trackable = menu_trackable c.in-Menu.call (Err c.in-Err-perform-3.refusal) _ _ _ may done.2;
-      menus = done.1;
-    }
-
-pub returns-in-Err-perform-3-clause-step : goal.returns-in-Err-perform-3-clause-step
-returns-in-Err-perform-3-clause-step g c =
-    let done = c.in-Err-perform-3.ensures (λ p. holds c.args.self.now.updates.begun p) _ c.requires.whole.windows in
-    rw c.in-Menu.is (
-      Err c.in-Err-perform-3.refusal,
-      refl,
-      (
-        menu_step_showing (controls_show (records_of (taken_control.control_loan-value g.dyn-2).it c.args.self.now.controls)) _ _ c.requires.whole.windows.sound.distinct c.in-Menu.call (Err c.in-Err-perform-3.refusal) done.2,
-        (refl, refl),
-      ),
-    )
-
 pub returns-in-Ok-answer_event-clause-whole : goal.returns-in-Ok-answer_event-clause-whole
-returns-in-Ok-answer_event-clause-whole g c = c.in-Ok-answer_event.ensures.whole _ _ _ c.requires.whole
+returns-in-Ok-answer_event-clause-whole g c = c.in-Ok-answer_event.ensures.whole _ _ _ _ c.requires.whole
 
 pub returns-in-Ok-answer_event-clause-step : goal.returns-in-Ok-answer_event-clause-step
-returns-in-Ok-answer_event-clause-step g c = rw c.in-Event.is (Ok c.in-Ok-answer_event.reply, refl, c.in-Ok-answer_event.ensures.step _ _ _)
+returns-in-Ok-answer_event-clause-step g c = rw c.in-Event.is (Ok c.in-Ok-answer_event.reply, refl, c.in-Ok-answer_event.ensures.step _ _ _ _)
 
 pub returns-in-Err-answer_event-clause-whole : goal.returns-in-Err-answer_event-clause-whole
-returns-in-Err-answer_event-clause-whole g c = c.in-Err-answer_event.ensures.whole _ _ _ c.requires.whole
+returns-in-Err-answer_event-clause-whole g c = c.in-Err-answer_event.ensures.whole _ _ _ _ c.requires.whole
 
 pub returns-in-Err-answer_event-clause-step : goal.returns-in-Err-answer_event-clause-step
-returns-in-Err-answer_event-clause-step g c = rw c.in-Event.is (Err c.in-Err-answer_event.refusal, refl, c.in-Err-answer_event.ensures.step _ _ _)
+returns-in-Err-answer_event-clause-step g c = rw c.in-Event.is (Err c.in-Err-answer_event.refusal, refl, c.in-Err-answer_event.ensures.step _ _ _ _)
 
 pub returns-in-Ok-tell_control-clause-whole : goal.returns-in-Ok-tell_control-clause-whole
 returns-in-Ok-tell_control-clause-whole g c = c.in-Ok-tell_control.ensures.whole
@@ -186,3 +170,15 @@ returns-in-Err-tell_control-clause-whole g c = c.in-Err-tell_control.ensures.who
 
 pub returns-in-Err-tell_control-clause-step : goal.returns-in-Err-tell_control-clause-step
 returns-in-Err-tell_control-clause-step g c = rw c.in-Control.is (Err c.in-Err-tell_control.refusal, refl, c.in-Err-tell_control.ensures.step)
+
+pub returns-in-Ok-tell_list-clause-whole : goal.returns-in-Ok-tell_list-clause-whole
+returns-in-Ok-tell_list-clause-whole g c = c.in-Ok-tell_list.ensures.whole
+
+pub returns-in-Ok-tell_list-clause-step : goal.returns-in-Ok-tell_list-clause-step
+returns-in-Ok-tell_list-clause-step g c = rw c.in-List.is (Ok c.in-Ok-tell_list.reply, refl, c.in-Ok-tell_list.ensures.step)
+
+pub returns-in-Err-tell_list-clause-whole : goal.returns-in-Err-tell_list-clause-whole
+returns-in-Err-tell_list-clause-whole g c = c.in-Err-tell_list.ensures.whole
+
+pub returns-in-Err-tell_list-clause-step : goal.returns-in-Err-tell_list-clause-step
+returns-in-Err-tell_list-clause-step g c = rw c.in-List.is (Err c.in-Err-tell_list.refusal, refl, c.in-Err-tell_list.ensures.step)

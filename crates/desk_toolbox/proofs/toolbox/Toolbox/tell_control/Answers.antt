@@ -3,31 +3,41 @@ use Rattle.tb_geom.specs.Pixels.{holds}
 use Rattle.def_iface.specs.contracts.taken.TakenDefined.TheImpl as taken
 use Rattle.def_iface.specs.contracts.taken_control.TakenControlDefinedControl.TheImpl as taken_control
 use Rattle.def_iface.specs.contracts.taken_menu.TakenMenuDefinedMenu.TheImpl as taken_menu
+use Rattle.def_iface.specs.contracts.taken_list.TakenListDefinedList.TheImpl as taken_list
+use Rattle.def_iface.specs.contracts.window_stock.WindowStockStocked.TheImpl as stock
+use Rattle.window_mgr.specs.Records.{state_of}
+use Rattle.window_mgr.proofs.Showing.{distinct_showing}
 use Rattle.window_update.specs.WholeUpdates.{opened}
+use Rattle.control_mgr.specs.ControlDesks.{controls_show}
+use Rattle.control_mgr.specs.WholeControls.{records_of}
+use Rattle.list_mgr.specs.ListDesks.{lists_show}
+use Rattle.list_mgr.specs.WholeLists as lists
 use Rattle.desk_toolbox.proofs.Asked.{no_control_is_told, performed_is_told}
-use Rattle.desk_toolbox.proofs.ControlsAside.{menus_after_control, updates_after_control}
+use Rattle.desk_toolbox.proofs.ControlsAside.{control_leaves_lists, menus_after_control, updates_after_control}
 use Rattle.desk_toolbox.proofs.toolbox.Toolbox.tell_control.Goals as goal
 
 pub returns-then-is_hidden_by_menu-clause-step : goal.returns-then-is_hidden_by_menu-clause-step
-returns-then-is_hidden_by_menu-clause-step g c = no_control_is_told _ c.args.call.now _ (sym (c.is_hidden_by_menu.ensures _ _ _) ∙ c.if-is_hidden_by_menu.true)
+returns-then-is_hidden_by_menu-clause-step g c = no_control_is_told _ c.args.call.now _ (sym (c.is_hidden_by_menu.ensures _ _ _ _) ∙ c.if-is_hidden_by_menu.true)
 
 pub returns-clause-whole : goal.returns-clause-whole
 returns-clause-whole g c =
     let self = c.args.self.now in
-    let done = c.perform.ensures.step (λ p. holds self.updates.begun p) _ c.requires.whole.windows c.requires.whole.controls in
+    let done = c.perform.ensures.step (λ p. holds self.updates.begun p) (lists_show (lists.records_of (taken_list.list_loan-value g.dyn-4).it self.lists)) _ c.requires.whole.windows c.requires.whole.controls in
     let first = opened self.activity self.updates in
     let last = opened c.perform.new.activity self.updates in
     record {
       windows = done.0;
-      updates = updates_after_control (taken.loan-value g.dyn-1).it (taken_menu.menu_loan-value g.dyn-3).it (taken_control.control_loan-value g.dyn-2).it self.windows c.perform.new.windows _ _ first last self.controls c.perform.new.self _ _
+      updates = updates_after_control (taken.loan-value g.dyn-1).it (taken_menu.menu_loan-value g.dyn-3).it (taken_control.control_loan-value g.dyn-2).it (lists_show (lists.records_of (taken_list.list_loan-value g.dyn-4).it self.lists)) self.windows c.perform.new.windows _ _ first last self.controls c.perform.new.self _ _
           c.args.call.now c.perform.result c.requires.admitted done.2 self.updates c.requires.whole.updates;
       controls = done.1;
       trackable = c.perform.ensures.trackable;
-      menus = menus_after_control (taken.loan-value g.dyn-1).it (taken_menu.menu_loan-value g.dyn-3).it (taken_control.control_loan-value g.dyn-2).it self.windows c.perform.new.windows _ _ first last self.controls c.perform.new.self _ _
+      lists = control_leaves_lists c.args.call.now c.perform.result _ _ _ (distinct_showing (controls_show (lists_show (lists.records_of (taken_list.list_loan-value g.dyn-4).it self.lists)) (records_of (taken_control.control_loan-value g.dyn-2).it self.controls)) (state_of (taken.loan-value g.dyn-1).it self.windows ((stock.slots-value g.dyn-1).it c.args.stock.now.windows)).desk c.requires.whole.windows.sound.distinct)
+          c.requires.whole.controls.apart done.2 c.requires.whole.lists;
+      menus = menus_after_control (taken.loan-value g.dyn-1).it (taken_menu.menu_loan-value g.dyn-3).it (taken_control.control_loan-value g.dyn-2).it (lists_show (lists.records_of (taken_list.list_loan-value g.dyn-4).it self.lists)) self.windows c.perform.new.windows _ _ first last self.controls c.perform.new.self _ _
           c.args.call.now c.perform.result c.requires.admitted done.2 self.menus _ c.requires.whole.menus;
     }
 
 pub returns-clause-step : goal.returns-clause-step
 returns-clause-step g c =
-    let done = c.perform.ensures.step (λ p. holds c.args.self.now.updates.begun p) _ c.requires.whole.windows c.requires.whole.controls in
-    performed_is_told _ c.args.call.now c.perform.result _ _ (sym (c.is_hidden_by_menu.ensures _ _ _) ∙ c.if-is_hidden_by_menu.false) (done.2, (refl, refl))
+    let done = c.perform.ensures.step (λ p. holds c.args.self.now.updates.begun p) (lists_show (lists.records_of (taken_list.list_loan-value g.dyn-4).it c.args.self.now.lists)) _ c.requires.whole.windows c.requires.whole.controls in
+    performed_is_told _ c.args.call.now c.perform.result _ _ (sym (c.is_hidden_by_menu.ensures _ _ _ _) ∙ c.if-is_hidden_by_menu.false) (done.2, (refl, (refl, refl)))

@@ -5,6 +5,8 @@ use Rattle.menu_mgr.proofs.Stocks.{stocked_by_full}
 use Rattle.desk_toolbox.proofs.MenusBeside.{menus_begin}
 use Rattle.desk_toolbox.proofs.UpdatesBeside.{updates_begin}
 use Rattle.window_mgr.specs.FullDesk.{FullDesk}
+use Rattle.list_records.specs.Seen as lists
+use Rattle.desk_toolbox.proofs.ListStands.{no_lists_whole}
 use Rattle.desk_toolbox.proofs.TrackedControls.{none_whole}
 use Rattle.desk_toolbox.proofs.toolbox.Toolbox.with_parts.Goals as goal
 
@@ -17,7 +19,7 @@ returns-in-Ok-clause-begun g c slots full =
     begun slots full
 
 pub returns-in-Ok-clause-whole : goal.returns-in-Ok-clause-whole
-returns-in-Ok-clause-whole g c slots kept held full full_menus full_controls =
+returns-in-Ok-clause-whole g c slots kept held listed full full_menus full_controls full_lists =
     let fits_w : SFits w32 c.args.width = search rules in
     let fits_h : SFits w32 c.args.height = search rules in
     let fits_b : SFits w32 c.args.bar = search rules in
@@ -28,5 +30,6 @@ returns-in-Ok-clause-whole g c slots kept held full full_menus full_controls =
       updates = updates_begin _ c.args.width c.args.height c.args.bar _ _ _ slots c.requires.width c.requires.height empty;
       controls = none_whole _ _ (ap (λ (d : FullDesk). d.windows) empty.desk) (ap (all_seen _) c.new-in-Ok.ensures.controls) c.new-in-Ok.ensures.next full_controls;
       trackable = tt;
+      lists = no_lists_whole _ _ (ap (λ (d : FullDesk). d.windows) empty.desk) (ap (lists.all_seen _) c.new-in-Ok-2.ensures.lists) c.new-in-Ok-2.ensures.next full_lists;
       menus = menus_begin _ _ c.args.width c.args.height c.args.bar _ _ _ slots kept c.requires.menus empty (stocked_by_full kept full_menus);
     }

@@ -2,6 +2,7 @@ use Rattle.std.proofs.Common.{sym, subst}
 use Rattle.std.specs.Result.{result_ok}
 use Rattle.def_iface.specs.contracts.taken.TakenDefined.TheImpl as taken
 use Rattle.def_iface.specs.contracts.taken_control.TakenControlDefinedControl.TheImpl as taken_control
+use Rattle.def_iface.specs.contracts.taken_list.TakenListDefinedList.TheImpl as taken_list
 use Rattle.def_iface.specs.contracts.taken_menu.TakenMenuDefinedMenu.TheImpl as taken_menu
 use Rattle.script_runner.specs.Checks.{IsCheckLine, check_text}
 use Rattle.script_runner.specs.SessionViews.{session_of}
@@ -13,17 +14,20 @@ pub differences-count-requires-clause-kept : goal.differences-count-requires-cla
 differences-count-requires-clause-kept g c = c.requires.kept c.in-Some.desk c.in-Some.is
 
 pub differences-count-requires-clause-layers : goal.differences-count-requires-clause-layers
-differences-count-requires-clause-layers g c = rw c.controls.ensures (c.requires.kept c.in-Some.desk c.in-Some.is).whole.controls.settled
+differences-count-requires-clause-layers g c =
+    let whole = (c.requires.kept c.in-Some.desk c.in-Some.is).whole in
+    rw (c.contents.ensures.0, c.contents.ensures.1) (whole.controls.settled, whole.lists.settled)
 
 pub returns : goal.returns
-returns g c = λ slots kept held.
+returns g c = λ slots kept held listed.
     let loan = (taken.loan-value g.dyn-1).it in
     let menu_loan = (taken_menu.menu_loan-value g.dyn-3).it in
     let control_loan = (taken_control.control_loan-value g.dyn-2).it in
-    let session = session_of loan menu_loan control_loan c.args.self.now slots kept held in
+    let list_loan = (taken_list.list_loan-value g.dyn-4).it in
+    let session = session_of loan menu_loan control_loan list_loan c.args.self.now slots kept held listed in
     let line : IsCheckLine session (check_text (result_ok c.match-self.count)) =
     elim c.match-self.branch [
-      | in-Some w ↦ subst (λ n. IsCheckLine session (check_text (result_ok n))) (sym w.count-is) (line_of_desk loan menu_loan control_loan c.args.self.now.font slots kept held c.args.self.now.desk w.in-Some.desk w.differences-count.result w.in-Some.is (rw w.controls.ensures at w.differences-count.ensures))
-      | in-None w ↦ subst (λ n. IsCheckLine session (check_text (result_ok n))) (sym w.count-is) (line_of_none loan menu_loan control_loan c.args.self.now.font slots kept held c.args.self.now.desk w.in-None.is)
+      | in-Some w ↦ subst (λ n. IsCheckLine session (check_text (result_ok n))) (sym w.count-is) (line_of_desk loan menu_loan control_loan list_loan c.args.self.now.font slots kept held listed c.args.self.now.desk w.in-Some.desk w.differences-count.result w.in-Some.is (rw (w.contents.ensures.0, w.contents.ensures.1) at w.differences-count.ensures))
+      | in-None w ↦ subst (λ n. IsCheckLine session (check_text (result_ok n))) (sym w.count-is) (line_of_none loan menu_loan control_loan list_loan c.args.self.now.font slots kept held listed c.args.self.now.desk w.in-None.is)
     ] in
     (check_text c.ok.result, subst (λ n. IsCheckLine session (check_text n)) (sym c.ok.ensures.value) line, c.write_check.ensures)

@@ -1,7 +1,7 @@
 use Rattle.std.proofs.Common.{◌<◌, length, pos, sym, refl, subst}
 use Rattle.std.specs.Prelude.{IfSome}
 use Rattle.layer_list.specs.Holders.{ArePartsApart}
-use Rattle.window_mgr.proofs.LayersSet.{whitened, some_afresh, none_afresh, still_there, read_there, placed_there, committed}
+use Rattle.window_mgr.proofs.LayersSet.{whitened, some_afresh, none_afresh, still_there, read_there, placed_there, committed, layers_put}
 use Rattle.window_mgr.proofs.Remarked.{area_there}
 use Rattle.window_mgr.proofs.manager.WindowManager.commit_layers.Goals.{in-Some, in_default}
 use Rattle.window_mgr.proofs.manager.WindowManager.commit_layers.Goals as goal
@@ -29,8 +29,15 @@ put_update-requires g c =
       | in_default b ↦ subst (λ u. c.args.at < length u.areas.items) (sym b.self-is) low
     ]
 
-pub returns : goal.returns
-returns g c w there part part_is was slots whole =
+pub returns-clause-put : goal.returns-clause-put
+returns-clause-put g c =
+    elim c.match-afresh.branch [
+      | in-Some b ↦ layers_put c.args.self.now c.args.at c.args.layers c.args.relaying.update b.paint_layer.new.map c.set_layers.new.self c.match-afresh.self c.put_update.new.self c.set_layers.ensures b.self-is c.put_update.ensures
+      | in_default b ↦ layers_put c.args.self.now c.args.at c.args.layers c.args.relaying.update c.fill.new.map c.set_layers.new.self c.match-afresh.self c.put_update.new.self c.set_layers.ensures b.self-is c.put_update.ensures
+    ]
+
+pub returns-clause-set : goal.returns-clause-set
+returns-clause-set g c w there part part_is was slots whole =
     let white = whitened c.args.relaying.erase c.args.self.now.screen c.fill.new.map (record { h = pos 0; v = pos 0 }) c.fill.ensures in
     elim c.match-afresh.branch [
       | in-Some b ↦

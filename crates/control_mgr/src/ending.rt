@@ -1,0 +1,186 @@
+//! Controls that are ended: planned with all growth, and then ended, which takes no memory.
+ghost use Rattle.std.specs.Prelude.{◌≡◌, ◌<◌, [], IfOk, IfSome, length};
+ghost use Rattle.def_iface.specs.Desk.{same_part};
+ghost use Rattle.def_iface.specs.declared.part.Part.TheVariants as parts;
+ghost use Rattle.layer_list.specs.Holders.{ArePartsApart};
+ghost use Rattle.desk_call.specs.declared.control.ControlCall.TheVariants as asks;
+ghost use Rattle.window_mgr.specs.DeskStates.{Opened};
+ghost use Rattle.window_mgr.specs.Kept.{IsKept};
+ghost use Rattle.window_mgr.specs.Records.{desk_of};
+ghost use Rattle.window_mgr.specs.Relayered.{AreLayersPut};
+ghost use Rattle.control_mgr.specs.ControlSteps.{IsControlDisposed, IsControlStep, IsEndedIfThere};
+ghost use Rattle.control_mgr.specs.Ending.{IsEnding, IsPlannedEnd, IsPutIfPlanned, IsReadyToEnd, IsTakenOut, layer_index, layers_left, update_left};
+ghost use Rattle.control_mgr.specs.WholeControls.{AreWholeControls, LeavesOver, controls_state, records_of};
+
+use crate::Controls;
+use crate::closing::put_away;
+use def_iface::{
+    ControlStock, Defined, DefinedControl, Part, StockedControls, Taken, TakenControl,
+};
+use desk_call::{ControlOf, ControlReply};
+use layer_list::Layers;
+use scan_region::Region;
+use std::alloc::AllocError;
+use tb_geom::Refusal;
+use vis_update::Relaying;
+use window_mgr::WindowManager;
+
+/// The layers of a window without those of a control that is to end, and what changes by that on the screen.
+#[derive(Drop)]
+pub struct Ending {
+    /// The index of the window, counted from the front.
+    pub window: usize,
+    pub layers: Layers,
+    /// With the update region that the window then has.
+    pub relaying: Relaying,
+}
+
+/// The layers that a window has once a control that is to end, if one is, was ended, where it has these before.
+pub fn layers_left<'a>(planned: &'a Option<Ending>, layers: &'a Layers) -> &'a Layers
+    ensures { result.now ≡ layers_left planned.now layers.now }
+{
+    match planned {
+        Some(ending) => &ending.layers,
+        None => layers,
+    }
+}
+
+/// The update region that a window has once a control that is to end, if one is, was ended, where it has this one before.
+pub fn update_left<'a>(planned: &'a Option<Ending>, update: &'a Region) -> &'a Region
+    ensures { result.now ≡ update_left planned.now update.now }
+{
+    match planned {
+        Some(ending) => &ending.relaying.update,
+        None => update,
+    }
+}
+
+/// Whether the part is the control of this serial.
+fn is_control(part: Part, serial: u64) -> bool
+    ensures { result ≡ same_part part (parts.Control serial) }
+{
+    match part {
+        Part::Control(own) => own == serial,
+        _ => false,
+    }
+}
+
+/// The index of the layer of the control of this serial, if it has one of these.
+fn layer_index(layers: &Layers, serial: u64) -> Option<usize>
+    ensures first { result ≡ layer_index serial layers.now.layers }
+    ensures within { IfSome result (λ at. at < length layers.now.layers) }
+{
+    for at in 0..layers.len() {
+        if is_control(layers.at(at).part, serial) {
+            return Some(at);
+        }
+    }
+    None
+}
+
+impl Controls<TakenControl> {
+    /// The layers of the window at this index without those of a control of it, and what changes by that on the screen, or
+    /// nothing where the window will not have the control. `layers` are the window's layers when the control will be ended, and
+    /// `update` is its update region then: those that it has, or those that earlier plans leave it, so that several changes can
+    /// be planned before the first of them is made. It changes nothing.
+    pub fn plan_ending(
+        &self,
+        windows: &WindowManager,
+        window: usize,
+        control: ControlOf,
+        layers: &Layers,
+        update: &Region,
+    ) -> Result<Option<Ending>, AllocError>
+        requires kept { IsKept ⟦<Taken as Defined>⟧.loan windows.now }
+        requires at { window < length windows.now.windows.records.items }
+        requires apart { ArePartsApart layers.now.layers }
+        ensures out { IfOk result (λ planned. IfSome planned (IsTakenOut window control.control layers.now)) }
+        ensures planned { IfOk result (λ planned. (u : _) (m : _)
+            → IsReadyToEnd ⟦<Taken as Defined>⟧.loan ⟦<TakenControl as DefinedControl>⟧.control_loan control window layers.now update.now windows.now u m
+            → IsPlannedEnd ⟦<Taken as Defined>⟧.loan ⟦<TakenControl as DefinedControl>⟧.control_loan control u m planned) }
+    {
+        let Some(layer) = layer_index(layers, control.control) else {
+            return Ok(None);
+        };
+        let relaid = layers.without(self.alloc, layer)?;
+        let relaying = windows.plan_layers(window, update, &relaid, None)?;
+        Ok(Some(Ending {
+            window,
+            layers: relaid.layers,
+            relaying,
+        }))
+    }
+
+    /// Ends a control, as planned: its definition is disposed of, and put back Closed into its slot. Where nothing was planned the
+    /// control is not there, and nothing happens. Takes no memory.
+    pub fn end_planned(
+        &mut self,
+        windows: &mut WindowManager,
+        control: ControlOf,
+        planned: Option<Ending>,
+        stock: &mut ControlStock,
+    )
+        requires kept { IsKept ⟦<Taken as Defined>⟧.loan windows.old }
+        requires whole { AreWholeControls (desk_of ⟦<Taken as Defined>⟧.loan windows.old []).windows
+            (controls_state ⟦<TakenControl as DefinedControl>⟧.control_loan self.old (⟦<ControlStock as StockedControls>⟧.control_slots stock.old)) }
+        requires planned { IsPlannedEnd ⟦<Taken as Defined>⟧.loan ⟦<TakenControl as DefinedControl>⟧.control_loan control windows.old self.old planned }
+        ensures step { (o : Opened) → LeavesOver ⟦<TakenControl as DefinedControl>⟧.control_loan ⟦<Taken as Defined>⟧.loan
+            (⟦<ControlStock as StockedControls>⟧.control_slots stock.old) (⟦<ControlStock as StockedControls>⟧.control_slots stock.new)
+            (IsEndedIfThere control) windows.old o self.old windows.new o self.new }
+        ensures put { IsPutIfPlanned planned windows.old windows.new }
+    {
+        if let Some(ending) = planned {
+            self.end_control(windows, control, ending, stock);
+        }
+    }
+
+    /// Ends a control that is there, as planned.
+    fn end_control(
+        &mut self,
+        windows: &mut WindowManager,
+        control: ControlOf,
+        ending: Ending,
+        stock: &mut ControlStock,
+    )
+        requires kept { IsKept ⟦<Taken as Defined>⟧.loan windows.old }
+        requires whole { AreWholeControls (desk_of ⟦<Taken as Defined>⟧.loan windows.old []).windows
+            (controls_state ⟦<TakenControl as DefinedControl>⟧.control_loan self.old (⟦<ControlStock as StockedControls>⟧.control_slots stock.old)) }
+        requires ending { IsEnding ⟦<Taken as Defined>⟧.loan ⟦<TakenControl as DefinedControl>⟧.control_loan control windows.old self.old ending }
+        ensures step { (o : Opened) → LeavesOver ⟦<TakenControl as DefinedControl>⟧.control_loan ⟦<Taken as Defined>⟧.loan
+            (⟦<ControlStock as StockedControls>⟧.control_slots stock.old) (⟦<ControlStock as StockedControls>⟧.control_slots stock.new)
+            (IsControlDisposed control) windows.old o self.old windows.new o self.new }
+        ensures put { AreLayersPut ending.window ending.layers ending.relaying.update windows.old windows.new }
+    {
+        let at = self.list.find(control.window, control.control).unwrap();
+        let Ending {
+            window,
+            layers,
+            relaying,
+        } = ending;
+        let ended = self.list.remove(at);
+        windows.commit_layers(window, layers, relaying, None, &*self);
+        put_away(ended.definition, stock);
+    }
+
+    /// Ends a control: its definition is disposed of, and put back Closed into its slot.
+    pub(crate) fn dispose(
+        &mut self,
+        windows: &mut WindowManager,
+        control: ControlOf,
+        stock: &mut ControlStock,
+    ) -> Result<ControlReply, Refusal>
+        requires kept { IsKept ⟦<Taken as Defined>⟧.loan windows.old }
+        requires whole { AreWholeControls (desk_of ⟦<Taken as Defined>⟧.loan windows.old []).windows
+            (controls_state ⟦<TakenControl as DefinedControl>⟧.control_loan self.old (⟦<ControlStock as StockedControls>⟧.control_slots stock.old)) }
+        ensures { (o : Opened) → LeavesOver ⟦<TakenControl as DefinedControl>⟧.control_loan ⟦<Taken as Defined>⟧.loan
+            (⟦<ControlStock as StockedControls>⟧.control_slots stock.old) (⟦<ControlStock as StockedControls>⟧.control_slots stock.new)
+            (IsControlStep (asks.Dispose control) result) windows.old o self.old windows.new o self.new }
+    {
+        let spot = self.spot(windows, control)?;
+        let layers = &windows.list().at(spot.window).layers;
+        let update = &windows.area(spot.window).update;
+        let planned = self.plan_ending(windows, spot.window, control, layers, update)?;
+        self.end_planned(windows, control, planned, stock);
+        Ok(ControlReply::Done)
+    }
+}

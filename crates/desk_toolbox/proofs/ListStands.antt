@@ -1,0 +1,116 @@
+-- What holds of a reached state holds after a call about lists, and of no lists at the beginning.
+use Rattle.std.proofs.Common.{◌≡◌, ◌⊎◌, ⊎_elim, inl, inr, ℕ, zero, suc, List, [], ◌∷◌, map, false, Option, None, Some, Result, Ok, Err, refl, sym, ap, ◌∙◌, subst, arith}
+use Rattle.std.specs.Prelude.{All, slice_get}
+use Rattle.std.proofs.lemmas.List.Elements.{All-nil, All-head, All-tail, All-same}
+use Rattle.tb_geom.specs.declared.refusal.Refusal.{Refusal}
+use Rattle.def_iface.specs.ListMeaning.{ListDefinition}
+use Rattle.desk_call.specs.declared.activity.Activity.{Activity}
+use Rattle.desk_call.specs.declared.activity.Activity.TheVariants.{Idle}
+use Rattle.desk_call.specs.declared.list.ListCall.{ListCall}
+use Rattle.desk_call.specs.declared.list.ListCall.TheVariants.{GetCell, IsSelected, FirstSelected, NextCell, Search}
+use Rattle.desk_call.specs.declared.list.ListReply.{ListReply}
+use Rattle.desk_call.specs.Gates.{gate, list_standing}
+use Rattle.list_records.specs.Lists.{are_before, lists_of}
+use Rattle.vis_update.specs.Records.{WindowRecord}
+use Rattle.window_mgr.specs.FullDesk.{FullDesk}
+use Rattle.window_mgr.specs.Refused.{is_missing}
+use Rattle.window_frame.specs.Followers.{AreInformed}
+use Rattle.control_mgr.specs.InUse.{AreStocked}
+use Rattle.control_mgr.specs.WholeControls.{IsTrackable}
+use Rattle.list_mgr.specs.ListClosing.{IsListFull}
+use Rattle.list_mgr.specs.ListDesks.{IsListDeskUnchanged, KeptList, ListDesk, ListsState}
+use Rattle.list_mgr.specs.ListSteps.{AreListLayers, IsListEffect, IsListStep}
+use Rattle.list_mgr.specs.WholeLists.{AreApart, AreWholeLists, IsSettledList, slots_of}
+use Rattle.list_mgr.proofs.ListFacts.{IsBesideLayers, list_facts}
+use Rattle.desk_toolbox.specs.declared.events.Events.{Events}
+use Rattle.desk_toolbox.specs.Reached.{AreContentsRight, IsJustBegun, open_window}
+use Rattle.desk_toolbox.specs.ToolboxStates.{ToolboxState, with_lists}
+use Rattle.desk_toolbox.proofs.ContentsBeside.{IsRightToolbox}
+use Rattle.desk_toolbox.proofs.PulledMenus.{same_pull}
+use Rattle.desk_toolbox.proofs.StepCounts.{HasSame}
+use Rattle.desk_toolbox.proofs.Stands.{Stands, apart_stays, bar_stays, idle_now, stands_still}
+use Rattle.desk_toolbox.proofs.Told.{ArePosted}
+use Rattle.desk_toolbox.proofs.Totals.{Present, copies, counting, present_when, total}
+use Rattle.desk_toolbox.proofs.Tracked.{misled}
+use Rattle.desk_toolbox.proofs.TrackedControls.{bare_informed, bare_total, informed_bare, none_used_at, none_whole}
+
+-- a call that comes then asks, or nothing is open
+pub list_comes_then : (call : ListCall) (answer : ListReply) (before after : ListDesk) → gate before.desk.activity (list_standing call) ≡ None → IsListEffect call answer before after
+    → IsListDeskUnchanged before after ⊎ (before.desk.activity ≡ Idle)
+list_comes_then (GetCell c) answer before after may done = inl done.1
+list_comes_then (IsSelected c) answer before after may done = inl done.1
+list_comes_then (FirstSelected c) answer before after may done = inl done.1
+list_comes_then (NextCell n) answer before after may done = inl done.1
+list_comes_then (Search t) answer before after may done = inl done.1
+list_comes_then _ answer before after may done = inr (idle_now before.desk.activity may)
+
+-- the windows are the same but for their layers
+pub list_counts : (call : ListCall) (answer : Result ListReply Refusal) (before after : ToolboxState) → IsListStep call answer (with_lists before) (with_lists after) → HasSame before.desk.windows.desk after.desk.windows.desk
+list_counts call answer before after step =
+    let facts = (list_facts call answer (with_lists before) (with_lists after) step).0 in
+    record {
+      next = ap (λ (d : FullDesk). d.next) facts.rest;
+      count = λ s. bare_total (counting s) before.desk.windows.desk.windows after.desk.windows.desk.windows facts.windows;
+    }
+
+pub list_stands : (call : ListCall) (answer : Result ListReply Refusal) (before after : ToolboxState) → gate before.desk.activity (list_standing call) ≡ None → Stands before → IsRightToolbox after → IsListStep call answer (with_lists before) (with_lists after) → after.events ≡ before.events → after.menus ≡ before.menus → Stands after
+list_stands call (Err e) before after may was right step events menus = stands_still before after step.1.desk.windows.desk step.1.desk.activity step.1.controls menus events was right
+list_stands call (Ok answer) before after may was right step events menus = ⊎_elim
+    (λ same. stands_still before after same.desk.windows.desk same.desk.activity same.controls menus events was right)
+    changed
+    (list_comes_then call answer (with_lists before) (with_lists after) may step.1)
+  where
+    ws : List WindowRecord
+    ws = before.desk.windows.desk.windows
+
+    vs : List WindowRecord
+    vs = after.desk.windows.desk.windows
+
+    facts : IsBesideLayers (with_lists before) (with_lists after)
+    facts = (list_facts call (Ok answer) (with_lists before) (with_lists after) step).0
+
+    activity : after.desk.activity ≡ before.desk.activity
+    activity = facts.activity.activity
+
+    count : (s : ℕ) → copies s vs ≡ copies s ws
+    count s = bare_total (counting s) ws vs facts.windows
+
+    stay : (o : Option ℕ) → Present o ws → Present o vs
+    stay o h = present_when o ws vs (λ s. let its = count s in omega arith) h
+
+    changed : before.desk.activity ≡ Idle → Stands after
+    changed idle = record {
+      right = right.right;
+      contents = right.contents;
+      trackable = subst (λ a. IsTrackable a after.controls.controls) (sym (activity ∙ idle)) tt;
+      active = subst (λ o. Present o vs) (sym (ap (λ (d : FullDesk). d.active) facts.rest)) (stay before.desk.windows.desk.active was.active);
+      told = subst (λ (e : Events). Present e.told vs) (sym events) (stay before.events.told was.told);
+      opened = subst (λ a. Present (open_window a) vs) (sym activity) (stay (open_window before.desk.activity) was.opened);
+      queued = subst (λ (e : Events). ArePosted e.queue.events) (sym events) was.queued;
+      informed = bare_informed vs (subst AreInformed (sym facts.windows) (informed_bare ws was.informed));
+      tracked = ap (λ a. total (misled a) vs) activity ∙ bare_total (misled before.desk.activity) ws vs facts.windows ∙ was.tracked;
+      bar = bar_stays before after (ap (λ (d : FullDesk). d.bar.titles) facts.rest) menus was.bar;
+      apart = apart_stays before after menus was.apart;
+      pull = same_pull before.desk.activity after.desk.activity before.menus after.menus activity menus was.pull;
+    }
+
+-- ---- at the beginning
+
+-- no lists, in no windows
+pub no_lists_whole : (windows : List WindowRecord) (s : ListsState) → windows ≡ [] → s.lists ≡ [] → s.next ≡ Some 1 → All IsListFull s.stock → AreWholeLists windows s
+no_lists_whole windows s bare none next full = record {
+  settled = All-same IsSettledList s.lists [] none (All-nil IsSettledList);
+  apart = subst AreApart (sym none) tt;
+  given = (λ i. are_before (next i) (none i));
+  somewhere = All-same (λ (l : KeptList). is_missing l.window windows ≡ false) s.lists [] none (All-nil (λ (l : KeptList). is_missing l.window windows ≡ false));
+  joined = All-same (λ (w : WindowRecord). AreListLayers (lists_of w.serial s.lists) w.layers) windows [] bare (All-nil (λ (w : WindowRecord). AreListLayers (lists_of w.serial s.lists) w.layers));
+  stocked = subst (λ own. AreStocked (λ (d : ListDefinition). d.stage) (slots_of own) s.stock) (sym none) (λ k. none_used_at (λ (d : ListDefinition). d.stage) s.stock k full);
+}
+
+-- no controls and no lists
+pub begun_contents : (s : ToolboxState) → IsJustBegun s → AreContentsRight s
+begun_contents s begun = record {
+  controls = none_whole s.desk.windows.desk.windows s.controls begun.windows begun.controls begun.next_control begun.held;
+  lists = no_lists_whole s.desk.windows.desk.windows s.lists begun.windows begun.lists begun.next_list begun.listed;
+  shown = begun.shown;
+}

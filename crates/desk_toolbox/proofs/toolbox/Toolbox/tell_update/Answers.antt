@@ -1,0 +1,29 @@
+use Rattle.std.proofs.Common.{refl}
+use Rattle.def_iface.specs.contracts.taken_control.TakenControlDefinedControl.TheImpl as taken_control
+use Rattle.def_iface.specs.contracts.taken_list.TakenListDefinedList.TheImpl as taken_list
+use Rattle.window_update.specs.WholeUpdates.{opened}
+use Rattle.control_mgr.specs.ControlDesks.{controls_show}
+use Rattle.control_mgr.specs.WholeControls.{records_of}
+use Rattle.list_mgr.specs.ListDesks.{lists_show}
+use Rattle.list_mgr.specs.WholeLists as lists
+use Rattle.desk_toolbox.proofs.ContentsBeside.{updates_leave, updates_leave_lists}
+use Rattle.desk_toolbox.proofs.MenusBeside.{update_whole}
+use Rattle.desk_toolbox.proofs.TrackedControls.{update_trackable}
+use Rattle.desk_toolbox.proofs.toolbox.Toolbox.tell_update.Goals as goal
+
+pub returns-clause-whole : goal.returns-clause-whole
+returns-clause-whole g c slots kept held listed whole =
+    let self = c.args.self.now in
+    let done = c.perform.ensures.step slots whole.windows in
+    let shows = controls_show (lists_show (lists.records_of (taken_list.list_loan-value g.dyn-4).it self.lists)) (records_of (taken_control.control_loan-value g.dyn-2).it self.controls) in
+    record {
+      windows = done.0;
+      updates = c.perform.ensures.whole;
+      controls = updates_leave c.args.call.now c.perform.result _ _ _ done.1 whole.controls;
+      trackable = update_trackable _ _ _ whole.trackable c.args.call.now c.perform.result done.1;
+      menus = update_whole _ _ self.windows c.perform.new.windows _ _ _ _ shows (opened self.activity self.updates) (opened c.perform.new.activity c.perform.new.self) c.args.call.now c.perform.result c.requires.admitted done.1 whole.menus;
+      lists = updates_leave_lists c.args.call.now c.perform.result _ _ _ done.1 whole.lists;
+    }
+
+pub returns-clause-step : goal.returns-clause-step
+returns-clause-step g c slots kept held listed whole = ((c.perform.ensures.step slots whole.windows).1, (refl, (refl, (refl, refl))))

@@ -1,0 +1,72 @@
+-- What calls answer that add, delete or scroll: refused, without memory, and answered.
+use Rattle.std.proofs.Common.{◌≡◌, ◌∙◌, ap, sym, refl, Bool, true, List, get_or, None, Some, Result, Ok, Err}
+use Rattle.std.specs.Option.{option_map_or}
+use Rattle.tb_geom.specs.declared.refusal.Refusal.{Refusal}
+use Rattle.tb_geom.specs.declared.refusal.Refusal.TheVariants.{NoMemory}
+use Rattle.tb_geom.specs.Refusals.{first_refusal}
+use Rattle.def_iface.specs.declared.taken.Taken.{Taken}
+use Rattle.def_iface.specs.declared.taken_control.TakenControl.{TakenControl}
+use Rattle.def_iface.specs.declared.taken_list.TakenList.{TakenList}
+use Rattle.def_iface.specs.ControlMeaning.{ControlLoan}
+use Rattle.def_iface.specs.ListMeaning.{ListLoan}
+use Rattle.def_iface.specs.Meaning.{Loan}
+use Rattle.desk_call.specs.declared.list.ListCall.{ListCall}
+use Rattle.desk_call.specs.declared.list.ListOf.{ListOf}
+use Rattle.desk_call.specs.declared.list.ListReply.{ListReply}
+use Rattle.desk_call.specs.declared.list.ListReply.TheVariants.{Done}
+use Rattle.list_records.specs.declared.list_record.ListRecord.{ListRecord}
+use Rattle.list_records.specs.Seen.{seen}
+use Rattle.window_mgr.specs.declared.manager.WindowManager.{WindowManager}
+use Rattle.window_mgr.specs.FullDesk.{FullDesk}
+use Rattle.control_mgr.specs.declared.controls.Controls.{Controls}
+use Rattle.control_mgr.specs.ControlDesks.{ControlsState}
+use Rattle.control_mgr.specs.WholeControls.{controls_state}
+use Rattle.list_mgr.specs.declared.lists.Lists.{Lists}
+use Rattle.list_mgr.specs.declared.spots.Spot.{Spot}
+use Rattle.list_mgr.specs.ListDesks.{KeptList, ListDesk, ListSlot, ListsState}
+use Rattle.list_mgr.specs.ListRefusals.{list_reasons, list_refusals, may_list_grow}
+use Rattle.list_mgr.specs.ListSteps.{IsListEffect, IsListStep, IsRelined, told_of}
+use Rattle.list_mgr.specs.Spots.{IsSpotOf}
+use Rattle.list_mgr.specs.WholeLists.{LeavesLists, list_desk, lists_state, records_of}
+use Rattle.list_mgr.proofs.Changed.{refused_over, short_over}
+use Rattle.list_mgr.proofs.Relined.{leaves_as, leaves_controls}
+use Rattle.list_mgr.proofs.Steps.{IsTold, its_reasons, list_named, list_read}
+
+module _ {V : Type 0} {H : V → Type 0} (loan : Taken V H → Loan) {X : Type 0} {L : X → Type 0} (list_loan : TakenList X L → ListLoan) where
+  -- ---- what is told of a list that is there
+
+  module _ (l : ListOf) (t : WindowManager V H) (m : Lists (TakenList X L)) (s : Spot) (is : IsSpotOf loan list_loan l t m s) (x : ListRecord (TakenList X L)) (read : x ≡ get_or m.list.lists.items s.list x) where
+    -- why a call is refused that is judged by the list
+    pub judged : (call : ListCall) (f : KeptList → List (Bool × Refusal)) → ((desk : FullDesk) (cs : ControlsState) (state : ListsState) → list_refusals call desk cs state ≡ list_reasons l f desk state.lists)
+        → IsTold loan list_loan call t m (λ why. first_refusal why ≡ first_refusal (f (seen list_loan x)))
+    judged call f same o slots cs kept =
+        ap first_refusal (same (list_desk list_loan loan t o slots cs m kept).desk.windows.desk cs (lists_state list_loan m kept))
+        ∙ its_reasons loan list_loan l t m s is f (seen list_loan x) (list_read loan list_loan l t m s is x read)
+
+    -- an answer that is told of it
+    pub answered : (f : KeptList → ListReply) (answer : ListReply) → answer ≡ f (seen list_loan x) → answer ≡ told_of l f (records_of list_loan m)
+    answered f answer same = same ∙ ap (λ o. option_map_or f o Done) (sym (list_named loan list_loan l t m s is (seen list_loan x) (list_read loan list_loan l t m s is x read)))
+
+  -- ---- answers
+
+  module _ {W : Type 0} {K : W → Type 0} (control_loan : TakenControl W K → ControlLoan) (call : ListCall) (t : WindowManager V H) (m : Lists (TakenList X L)) (c : Controls (TakenControl W K)) where
+    pub refused_lines : (result : Result ListReply Refusal) (e : Refusal) → result ≡ Err e → IsTold loan list_loan call t m (λ why. first_refusal why ≡ Some e)
+        → LeavesLists list_loan loan control_loan (IsListStep call result) t c m t c m
+    refused_lines result e is why = leaves_controls loan list_loan control_loan (IsListStep call result) t t m m c (refused_over loan list_loan t m m refl refl call result e is why)
+
+    pub short_lines : (n : Lists (TakenList X L)) → records_of list_loan n ≡ records_of list_loan m → n.list.next ≡ m.list.next → (result : Result ListReply Refusal) (e : Refusal) → result ≡ Err e → e ≡ NoMemory
+        → ((kept : List ListSlot) → may_list_grow call (lists_state list_loan m kept) ≡ true) → IsTold loan list_loan call t m (λ why. first_refusal why ≡ None)
+        → LeavesLists list_loan loan control_loan (IsListStep call result) t c m t c n
+    short_lines n same next result e is memory grows why =
+        leaves_controls loan list_loan control_loan (IsListStep call result) t t m n c (short_over loan list_loan t m n same next call result e is memory grows why)
+
+    pub relined_lines : (l : ListOf) (f : KeptList → KeptList) (answer : ListReply) (u : WindowManager V H) (d : Controls (TakenControl W K)) (n : Lists (TakenList X L))
+        → IsTold loan list_loan call t m (λ why. first_refusal why ≡ None)
+        → ((before after : ListDesk) → before.lists.lists ≡ records_of list_loan m → IsRelined l f before after → IsListEffect call answer before after)
+        → LeavesLists list_loan loan control_loan (IsRelined l f) t c m u d n → LeavesLists list_loan loan control_loan (IsListStep call (Ok answer)) t c m u d n
+    relined_lines l f answer u d n why effect =
+        leaves_as loan list_loan control_loan (IsRelined l f) (IsListStep call (Ok answer)) t u m n c d
+        (λ o slots held kept done. (
+          why o slots (controls_state control_loan c held) kept,
+          effect (list_desk list_loan loan t o slots (controls_state control_loan c held) m kept) (list_desk list_loan loan u o slots (controls_state control_loan d held) n kept) refl done,
+        ))

@@ -1,0 +1,65 @@
+-- What holds of a desk with lists between calls holds after any call about lists.
+use Rattle.std.proofs.Common.{◌≡◌, ℕ, not, List, [], Option, None, Some, Result, Ok, Err, refl, sym, ap, ◌∙◌}
+use Rattle.std.specs.Prelude.{slice_get}
+use Rattle.std.specs.Option.{option_and_then}
+use Rattle.std.proofs.lemmas.Bool.{not-false}
+use Rattle.tb_geom.specs.declared.refusal.Refusal.{Refusal}
+use Rattle.tb_geom.specs.declared.refusal.Refusal.TheVariants.{NoSuchCell}
+use Rattle.tb_geom.specs.Refusals.{first_refusal}
+use Rattle.list_cells.specs.Grids.{is_cell}
+use Rattle.list_view.proofs.LawLemmas.{found_is_cell}
+use Rattle.desk_call.specs.declared.list.ListCall.{ListCall}
+use Rattle.desk_call.specs.declared.list.ListCall.TheVariants.{New, AddRows, AddColumns, DeleteRows, DeleteColumns, SetCell, AddToCell, ClearCell, Select, Click, Scroll}
+use Rattle.desk_call.specs.declared.list.ListOf.{ListOf}
+use Rattle.desk_call.specs.declared.list.ListReply.{ListReply}
+use Rattle.control_mgr.proofs.Steps.{none_hold}
+use Rattle.list_mgr.specs.ListDesks.{KeptList, ListDesk, index_of, list_of}
+use Rattle.list_mgr.specs.ListRefusals.{list_refusals}
+use Rattle.list_mgr.specs.ListSteps.{IsListStep}
+use Rattle.list_mgr.specs.WholeLists.{AreSettled, IsSettledList}
+use Rattle.list_mgr.proofs.Drawn.{All-there}
+use Rattle.list_mgr.proofs.LinesChanged.{scroll_settles}
+use Rattle.list_mgr.proofs.ListsFollowed.{MaySettle, effect_keeps}
+use Rattle.list_mgr.proofs.ListsKept.{IsRightLists, unchanged_keeps}
+use Rattle.list_mgr.proofs.ListsSelected.{choice_selects, click_selects}
+use Rattle.list_mgr.proofs.ListsSettled.{added_settles, cleared_settles, columns_added_settle, columns_deleted_settle, reasons_of, rows_added_settle, rows_deleted_settle, set_settles}
+use Rattle.list_mgr.proofs.NewLists.{new_settles}
+
+-- a list that is named is settled where all are
+named_settled : (l : ListOf) (ls : List KeptList) (x : KeptList) → AreSettled ls → list_of l ls ≡ Some x → IsSettledList x
+named_settled l ls x settled named = by_place (index_of l ls) refl
+  where
+    by_place : (o : Option ℕ) → index_of l ls ≡ o → IsSettledList x
+    by_place None e = let none : list_of l ls ≡ None = ap (option_and_then (slice_get ls)) e in absurd (cc)
+    by_place (Some at) e =
+        let there : slice_get ls at ≡ Some x = sym (ap (option_and_then (slice_get ls)) e) ∙ named in
+        All-there IsSettledList at ls x there settled
+
+module _ (before after : ListDesk) (was : IsRightLists before) where
+  settled : (l : ListOf) (x : KeptList) → list_of l before.lists.lists ≡ Some x → IsSettledList x
+  settled l x named = named_settled l before.lists.lists x was.lists.settled named
+
+  -- a call that nothing refuses leaves its list settled
+  settles : (call : ListCall) → first_refusal (list_refusals call before.desk.windows.desk before.controls before.lists) ≡ None → MaySettle call before after
+  settles (New n) may = new_settles n before after may
+  settles (AddRows n) may = rows_added_settle before n may
+  settles (AddColumns n) may = columns_added_settle before n may
+  settles (DeleteRows n) may = rows_deleted_settle before n may
+  settles (DeleteColumns n) may = columns_deleted_settle before n may
+  settles (SetCell t) may = set_settles before t may
+  settles (AddToCell t) may = added_settles before t may
+  settles (ClearCell c) may = cleared_settles before c may
+  settles (Select k) may = λ x named.
+      let reasons = reasons_of k.cell.list _ before.desk.windows.desk before.lists.lists x named may in
+      let has = not-false (is_cell x.cells k.cell.cell) (none_hold (not (is_cell x.cells k.cell.cell)) NoSuchCell [] reasons).0 in
+      choice_selects x.cells k.cell.cell (settled k.cell.list x named).grid has k.selected x.flags.only_one
+  settles (Click k) may = λ c x named found.
+      let its = settled k.list x named in
+      click_selects x.cells c its.grid (found_is_cell x.view x.cells c k.point its.view found) x.flags _
+  settles (Scroll m) may = λ x named its. scroll_settles m.columns m.rows x its
+  settles call may = tt
+
+  -- a call about lists keeps it
+  pub list_keeps : (call : ListCall) (result : Result ListReply Refusal) → IsListStep call result before after → IsRightLists after
+  list_keeps call (Ok answer) step = effect_keeps before after was call answer (settles call step.0) step.1
+  list_keeps call (Err e) step = unchanged_keeps before after was step.1

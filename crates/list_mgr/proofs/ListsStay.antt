@@ -1,0 +1,87 @@
+-- What windows show of lists where the lists are changed: all but the changed one show what they showed.
+use Rattle.std.proofs.Common.{◌≡◌, ℕ, Bool, true, false, not, ◌||◌, ◌==◌, cond, if◌then◌else◌, List, [], ◌∷◌, ◌++◌, sym, ap, ◌∙◌, refl, arith}
+use Rattle.std.specs.Prelude.{All}
+use Rattle.std.specs.List.{AllZip, list_any, remove}
+use Rattle.std.proofs.lemmas.Bool.{false≢true}
+use Rattle.std.proofs.lemmas.Bool.Decides.{nat_tests}
+use Rattle.tb_geom.specs.declared.point.Point.{Point}
+use Rattle.tb_geom.specs.Points.{minus}
+use Rattle.list_records.specs.Lists.{has_serial, lists_of}
+use Rattle.def_iface.specs.declared.part.Part.TheVariants as part
+use Rattle.def_iface.specs.Owner.{Owner, same_owner}
+use Rattle.def_iface.specs.Owner.Owner.{Content}
+use Rattle.layer_list.specs.declared.layer.Layer.{Layer}
+use Rattle.layer_list.specs.Holders.{layer_has, part_at}
+use Rattle.desk_call.specs.declared.list.ListOf.{ListOf}
+use Rattle.desk_call.specs.declared.update.Layers.TheVariants.{Controls}
+use Rattle.vis_update.specs.Records.{WindowRecord}
+use Rattle.window_paint.specs.Kinds.{is_of}
+use Rattle.window_mgr.specs.FullDesk.{FullDesk}
+use Rattle.control_mgr.specs.ControlSteps.{behind_controls}
+use Rattle.control_mgr.proofs.ControlBits.{IsShownBy, StayLists, at_serial}
+use Rattle.list_mgr.specs.ListDesks.{KeptList, ListDesk, list_bit, lists_show}
+use Rattle.list_mgr.specs.ListSteps.{AreListLayers, IsChangedTo, IsLayerOf}
+use Rattle.list_mgr.specs.WholeLists.{AreApart}
+use Rattle.list_mgr.proofs.ListsFound.{StaySame, stay_edited, stay_pushed, stay_removed}
+
+-- the layers of each window behind its controls are its lists
+abbrev pub AreListsJoined : List KeptList → List WindowRecord → Type 0
+AreListsJoined ls ws = All (λ w. AreListLayers (lists_of w.serial ls) w.layers) ws
+
+-- ---- whose list it is
+
+same_number : (a b : ℕ) → a ≡ b → (a == b) ≡ true
+same_number a b e = grind (arith, nat_tests)
+
+further : (a b : Bool) → b ≡ true → (a || b) ≡ true
+further true b e = refl
+further false b e = e
+
+-- the layer of a list at a point is that of one of these
+named : (n : ℕ) (ls : List KeptList) (ks : List Layer) (q : Point) → AreListLayers ls ks → part_at ks q ≡ part.List n → list_any (has_serial n) ls ≡ true
+named n ls [] q h e = absurd (cc)
+named n ls (k ∷ ks) q h e = by_tests (is_of Controls k.part) refl (layer_has k q) ls h e (λ xs g f. named n xs ks q g f)
+  where
+    by_tests : (b : Bool) → is_of Controls k.part ≡ b → (c : Bool) (ys : List KeptList) → AllZip IsLayerOf ys (cond (not b) (k ∷ behind_controls ks) (behind_controls ks))
+        → (if c then k.part else part_at ks q) ≡ part.List n → ((xs : List KeptList) → AreListLayers xs ks → part_at ks q ≡ part.List n → list_any (has_serial n) xs ≡ true)
+        → list_any (has_serial n) ys ≡ true
+    by_tests true is true ys h e rest = absurd (false≢true (sym (ap (is_of Controls) e) ∙ is))
+    by_tests true is false ys h e rest = rest ys h e
+    by_tests false is c [] h e rest = absurd h
+    by_tests false is true (x ∷ xs) h e rest =
+        let its : part.List x.serial ≡ part.List n = sym h.0.part ∙ e in
+        let serial : x.serial ≡ n = cc in
+        ap (λ b. b || list_any (has_serial n) xs) (same_number x.serial n serial)
+    by_tests false is false (x ∷ xs) h e rest = further (has_serial n x) (list_any (has_serial n) xs) (rest xs h.1 e)
+
+-- a window with the layer of a list at a point has a list of that serial
+pub named_there : (d : FullDesk) (ls : List KeptList) (s n : ℕ) (p : Point) → AreListsJoined ls d.windows → IsShownBy d s (part.List n) p → list_any (has_serial n) (lists_of s ls) ≡ true
+named_there d ls s n p joined its =
+    let there = at_serial (λ w. AreListLayers (lists_of w.serial ls) w.layers) s d.windows its.window its.found joined in
+    ap (λ k. list_any (has_serial n) (lists_of k ls)) (sym there.1)
+    ∙ named n (lists_of its.window.serial ls) its.window.layers (minus p its.window.place) there.0 its.part_is
+
+-- ---- what is shown before and after
+
+-- what lists show stays where the lists do
+pub lists_stay : (own : Owner → Bool) (ls ks : List KeptList) (d e : FullDesk) → AreListsJoined ls d.windows → AreListsJoined ks e.windows → StaySame own ls ks
+    → StayLists own d e (lists_show ls) (lists_show ks)
+lists_stay own ls ks d e was are stay s n p its now other q =
+    ap (λ o. list_bit d.font o q) (stay s n (named_there d ls s n p was its) (named_there e ks s n p are now) other)
+
+module _ (d e : FullDesk) where
+  -- a list was changed
+  pub lists_edited : (l : ListOf) (f : KeptList → KeptList) → ((x : KeptList) → (f x).serial ≡ x.serial) → (before after : ListDesk) → AreApart before.lists.lists → IsChangedTo l f before after
+      → AreListsJoined before.lists.lists d.windows → AreListsJoined after.lists.lists e.windows
+      → StayLists (λ o. same_owner o (Content l.window (part.List l.list))) d e (lists_show before.lists.lists) (lists_show after.lists.lists)
+  lists_edited l f same before after apart changed was are =
+      lists_stay (λ o. same_owner o (Content l.window (part.List l.list))) before.lists.lists after.lists.lists d e was are (stay_edited l f same before after apart changed)
+
+  -- one more was put behind the others
+  pub lists_pushed : (own : Owner → Bool) (ls ks : List KeptList) (l : KeptList) → ks ≡ ls ++ l ∷ [] → AreListsJoined ls d.windows → AreListsJoined ks e.windows → StayLists own d e (lists_show ls) (lists_show ks)
+  lists_pushed own ls ks l pushed was are = lists_stay own ls ks d e was are (stay_pushed own ls ks l pushed)
+
+  -- one was taken out
+  pub lists_removed : (own : Owner → Bool) (ls ks : List KeptList) (at : ℕ) → AreApart ls → ks ≡ remove ls at → AreListsJoined ls d.windows → AreListsJoined ks e.windows
+      → StayLists own d e (lists_show ls) (lists_show ks)
+  lists_removed own ls ks at apart removed was are = lists_stay own ls ks d e was are (stay_removed own ls ks at apart removed)

@@ -1,0 +1,28 @@
+-- Calls that leave the stocks, or also controls, are steps over all stocks.
+use Rattle.std.proofs.Common.{List, sym, subst}
+use Rattle.def_iface.specs.declared.taken.Taken.{Taken}
+use Rattle.def_iface.specs.declared.taken_control.TakenControl.{TakenControl}
+use Rattle.def_iface.specs.declared.taken_list.TakenList.{TakenList}
+use Rattle.def_iface.specs.ControlMeaning.{ControlLoan}
+use Rattle.def_iface.specs.ListMeaning.{ListLoan}
+use Rattle.def_iface.specs.Meaning.{Loan}
+use Rattle.vis_update.specs.Records.{WindowRecord}
+use Rattle.window_mgr.specs.declared.manager.WindowManager.{WindowManager}
+use Rattle.control_mgr.specs.declared.controls.Controls.{Controls}
+use Rattle.control_mgr.specs.ControlDesks.{ControlSlot}
+use Rattle.control_mgr.specs.WholeControls.{AreWholeControls, controls_state}
+use Rattle.list_mgr.specs.declared.lists.Lists.{Lists}
+use Rattle.list_mgr.specs.ListDesks.{ListDesk, ListSlot}
+use Rattle.list_mgr.specs.WholeLists.{IsChangedOver, IsToldOver, LeavesOver}
+
+module _ {V : Type 0} {H : V → Type 0} (loan : Taken V H → Loan) {W : Type 0} {K : W → Type 0} (control_loan : TakenControl W K → ControlLoan) {X : Type 0} {L : X → Type 0} (list_loan : TakenList X L → ListLoan)
+    (step : ListDesk → ListDesk → Type 0) (held : List ControlSlot) (kept : List ListSlot) where
+  -- a call that asks something
+  pub told_leaves : (t : WindowManager V H) (c : Controls (TakenControl W K)) (m : Lists (TakenList X L)) → IsToldOver list_loan loan step t m → LeavesOver list_loan loan control_loan held held kept kept step t c m t c m
+  told_leaves t c m told o slots windows controls lists = (windows, controls, lists, told o slots (controls_state control_loan c held) kept windows lists)
+
+  -- a call that changes lists and the pixels of windows alone
+  pub changed_leaves : (t u : WindowManager V H) (c : Controls (TakenControl W K)) (m n : Lists (TakenList X L)) → IsChangedOver list_loan loan step t m u n → LeavesOver list_loan loan control_loan held held kept kept step t c m u c n
+  changed_leaves t u c m n changed o slots windows controls lists =
+      let its = changed o slots (controls_state control_loan c held) kept windows lists in
+      (its.0, subst (λ (ws : List WindowRecord). AreWholeControls ws (controls_state control_loan c held)) (sym its.1) controls, its.2, its.3)

@@ -1,0 +1,125 @@
+-- A list that stands somewhere: the region that marks it, and what it leaves that it is marked, shown anew or toggled.
+use Rattle.std.proofs.Common.{◌≡◌, ℕ, ◌<◌, ◌&&◌, ◌||◌, List, length, get_or, Some, sym, ap, ◌∙◌, subst}
+use Rattle.std.specs.Prelude.{slice_get}
+use Rattle.tb_geom.specs.declared.point.Point.{Point}
+use Rattle.tb_geom.specs.Points.{PixelSet, minus}
+use Rattle.tb_geom.specs.Pixels.{Pixels, holds}
+use Rattle.def_iface.specs.declared.part.Part.{Part}
+use Rattle.def_iface.specs.declared.part.Part.TheVariants as part
+use Rattle.def_iface.specs.declared.taken.Taken.{Taken}
+use Rattle.def_iface.specs.declared.taken_list.TakenList.{TakenList}
+use Rattle.def_iface.specs.ListMeaning.{ListLoan}
+use Rattle.def_iface.specs.Meaning.{Loan}
+use Rattle.def_iface.specs.Stocked.{SlotView}
+use Rattle.layer_list.specs.declared.layer.Layer.{Layer}
+use Rattle.layer_list.specs.Holders.{belongs_to}
+use Rattle.vis_update.specs.declared.area.Area.{Area}
+use Rattle.window_list.specs.declared.window.Window.{Window}
+use Rattle.window_mgr.specs.declared.manager.WindowManager.{WindowManager}
+use Rattle.window_mgr.specs.Edits.{IsWindowAt}
+use Rattle.window_mgr.specs.Records.{state_of, state_showing}
+use Rattle.window_mgr.specs.Relayered.{IsLayerRedrawn, IsLayerToggled}
+use Rattle.window_mgr.specs.Updating.{IsRemarked, LeavesState}
+use Rattle.window_mgr.specs.Whole.{IsWholeManager}
+use Rattle.control_mgr.proofs.Lays.{one_item}
+use Rattle.control_mgr.proofs.Places.{IsThere, read_is, there_is}
+use Rattle.list_mgr.specs.declared.lists.Lists.{Lists}
+use Rattle.list_mgr.specs.declared.spots.Spot.{Spot}
+use Rattle.list_mgr.specs.Changing.{IsItsLayer, IsMarkedBy, IsMarkedRegion, IsShownAnewBy, LeavesShown}
+use Rattle.list_mgr.specs.ListDesks.{KeptList, lists_show}
+use Rattle.list_mgr.specs.Spots.{IsSpot}
+use Rattle.list_mgr.specs.WholeLists.{records_of}
+use Rattle.list_mgr.proofs.Marked.{leaves_marked, leaves_redrawn}
+use Rattle.list_mgr.proofs.Places.{names}
+use Rattle.list_mgr.proofs.Steps.{list_there}
+
+module _ {V : Type 0} {H : V → Type 0} (loan : Taken V H → Loan) {X : Type 0} {L : X → Type 0} (list_loan : TakenList X L → ListLoan)
+    (t : WindowManager V H) (m : Lists (TakenList X L)) (s : Spot) (spot : IsSpot loan list_loan t m s) where
+  -- its window
+  window : IsThere t.windows.records.items s.window
+  window = there_is t.windows.records.items s.window spot.is.window.0
+
+  lies : IsWindowAt t.windows.records.items s.window window.item
+  lies = read_is t.windows.records.items s.window window.item window.there
+
+  module _ (x : KeptList) (there : slice_get (records_of list_loan m) s.list ≡ Some x) where
+    -- the list is the one that stands here, in this window
+    it_is : (y : KeptList) → slice_get (records_of list_loan m) s.list ≡ Some y → y ≡ x
+    it_is y is = let both : Some y ≡ Some x = sym is ∙ there in cc
+
+    in_window : (w : Window V H) → IsWindowAt t.windows.records.items s.window w → w.serial ≡ x.window
+    in_window w w_is =
+        let its = list_there loan list_loan spot.of t m s spot.is in
+        spot.is.window.1 w w_is ∙ sym (names loan list_loan spot.of t m s spot.is).0 ∙ ap (λ (y : KeptList). y.window) (it_is its.item its.there)
+
+    -- its layer is its part
+    its_part : (ks : List Layer) (layer : ℕ) → IsItsLayer list_loan m s ks layer → (k : Layer) → k ≡ get_or ks layer k → k.part ≡ part.List x.serial
+    its_part ks layer its k read = (its.is k read).part ∙ ap (λ (y : KeptList). part.List y.serial) (it_is its.list its.there)
+
+    -- what the layer owns belongs to the list
+    owned_is : (v : Window V H) (layer : ℕ) → IsItsLayer list_loan m s v.layers.layers layer → (own : Pixels)
+        → ((l : Layer) → l ≡ get_or v.layers.layers layer l → (p : Point) → holds own p ≡ belongs_to l.part v.layers.layers (minus p v.layers.place))
+        → (p : Point) → holds own p ≡ belongs_to (part.List x.serial) v.layers.layers (minus p v.layers.place)
+    owned_is v layer its own owned p =
+        let k = there_is v.layers.layers layer its.low in
+        let read : k.item ≡ get_or v.layers.layers layer k.item = read_is v.layers.layers layer k.item k.there in
+        owned k.item read p ∙ ap (λ q. belongs_to q v.layers.layers (minus p v.layers.place)) (its_part v.layers.layers layer its k.item read)
+
+    -- where its layer was redrawn it was shown anew
+    pub shown_anew : (layer : ℕ) → ((w : Window V H) → IsWindowAt t.windows.records.items s.window w → IsItsLayer list_loan m s w.layers.layers layer) → (u : WindowManager V H)
+        → ((w : Window V H) → IsWindowAt t.windows.records.items s.window w → (l : Layer) → l ≡ get_or w.layers.layers layer l → (was : List ℕ → Part → PixelSet) (slots : List SlotView)
+        → IsWholeManager loan t slots → IsWholeManager loan u slots
+        × IsLayerRedrawn w.serial l.part (state_showing was (state_of loan t slots)) (state_showing (lists_show (records_of list_loan m)) (state_of loan u slots)))
+        → IsShownAnewBy list_loan loan m x t u
+    shown_anew layer layers u redrawn was is same =
+        let w : Window V H = window.item in
+        let its = layers w lies in
+        let k = there_is w.layers.layers layer its.low in
+        let read : k.item ≡ get_or w.layers.layers layer k.item = read_is w.layers.layers layer k.item k.there in
+        let shows = lists_show (records_of list_loan m) in
+        leaves_redrawn loan list_loan t u x.window (part.List x.serial) shows was is
+        (λ slots whole.
+        let left = redrawn w lies k.item read was slots whole in (
+          left.0,
+          subst (λ n. IsLayerRedrawn n (part.List x.serial) (state_showing was (state_of loan t slots)) (state_showing shows (state_of loan u slots))) (in_window window.item lies)
+              (subst (λ q. IsLayerRedrawn w.serial q (state_showing was (state_of loan t slots)) (state_showing shows (state_of loan u slots))) (its_part w.layers.layers layer its k.item read) left.1),
+        ))
+        same
+
+    -- where all that it owns was put into the update region of its window it is marked
+    pub marked_by : (update : Pixels) → IsMarkedRegion list_loan loan t m s update → s.window < length t.areas.items → (u : WindowManager V H)
+        → ((w : Window V H) → IsWindowAt t.windows.records.items s.window w → LeavesState loan (IsRemarked w.serial update) t u) → IsMarkedBy list_loan loan x t u
+    marked_by update region low u leaves =
+        let a = there_is t.areas.items s.window low in
+        let read : a.item ≡ get_or t.areas.items s.window a.item = read_is t.areas.items s.window a.item a.there in
+        leaves_marked loan t s.window spot.is.window.0 window.item lies a.item read (part.List x.serial) update (region window.item a.item x lies read there) list_loan x.window (in_window window.item lies) u
+        (leaves window.item lies)
+
+    -- what was inverted of its layer was inverted of it
+    pub toggled_by : (layer : ℕ) → ((w : Window V H) → IsWindowAt t.windows.records.items s.window w → IsItsLayer list_loan m s w.layers.layers layer) → (toggles : List ℕ → PixelSet) (u : WindowManager V H)
+        → ((w : Window V H) → IsWindowAt t.windows.records.items s.window w → (l : Layer) → l ≡ get_or w.layers.layers layer l → (was is : List ℕ → Part → PixelSet) (slots : List SlotView)
+        → IsWholeManager loan t slots → IsWholeManager loan u slots
+        × IsLayerToggled w.serial w.place l.part toggles (state_showing was (state_of loan t slots)) (state_showing is (state_of loan u slots)))
+        → (w : Window V H) → IsWindowAt t.windows.records.items s.window w → (was is : List ℕ → Part → PixelSet) → LeavesShown list_loan loan (IsLayerToggled x.window w.place (part.List x.serial) toggles) was is t u
+    toggled_by layer layers toggles u toggled w w_is was is slots whole =
+        let its = layers w w_is in
+        let k = there_is w.layers.layers layer its.low in
+        let read : k.item ≡ get_or w.layers.layers layer k.item = read_is w.layers.layers layer k.item k.there in
+        let left = toggled w w_is k.item read was is slots whole in (
+          left.0,
+          subst (λ n. IsLayerToggled n w.place (part.List x.serial) toggles (state_showing was (state_of loan t slots)) (state_showing is (state_of loan u slots))) (in_window w w_is)
+              (subst (λ q. IsLayerToggled w.serial w.place q toggles (state_showing was (state_of loan t slots)) (state_showing is (state_of loan u slots))) (its_part w.layers.layers layer its k.item read) left.1),
+        )
+
+  -- the update region of its window with what shows of its layer marks it
+  pub marked_region : (v : Window V H) → IsWindowAt t.windows.records.items s.window v → (b : Area) → b ≡ get_or t.areas.items s.window b → s.window < length t.areas.items
+      → (layer : ℕ) → IsItsLayer list_loan m s v.layers.layers layer → (own shown update : Pixels)
+      → ((l : Layer) → l ≡ get_or v.layers.layers layer l → (p : Point) → holds own p ≡ belongs_to l.part v.layers.layers (minus p v.layers.place))
+      → ((p : Point) → holds shown p ≡ (holds b.visible p && holds own p)) → ((p : Point) → holds update p ≡ (holds b.update p || holds shown p))
+      → IsMarkedRegion list_loan loan t m s update
+  marked_region v v_is b b_is low layer its own shown update owned shown_is update_is w a x w_is a_is there p =
+      let windows : v ≡ w = one_item t.windows.records.items s.window v w spot.is.window.0 v_is w_is in
+      let areas : b ≡ a = one_item t.areas.items s.window b a low b_is a_is in
+      update_is p
+      ∙ ap (λ y. holds b.update p || y) (shown_is p ∙ ap (λ y. holds b.visible p && y) (owned_is x there v layer its own owned p))
+      ∙ (λ i. holds (areas i).update p || (holds (areas i).visible p && belongs_to (part.List x.serial) (windows i).layers.layers (minus p (windows i).layers.place)))

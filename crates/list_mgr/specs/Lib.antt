@@ -1,0 +1,16 @@
+-- What the contracts speak of: the lists of a desk beside its windows and controls and what they show, why a call is refused, what
+-- a step does, what holds between calls, where a list stands, what an end does to the stock, how what changes of one is shown, and
+-- how one is made.
+pub mod ListDesks
+pub mod ListRefusals
+pub mod ListSteps
+pub mod WholeLists
+pub mod ListClosing
+pub mod BarEnds
+pub mod Spots
+pub mod Lines
+pub mod Changing
+pub mod Making
+pub mod NewBars
+pub mod Putting
+pub mod Offers

@@ -1,0 +1,38 @@
+-- What the end of a window or of a desk does to the stock of lists.
+use Rattle.std.specs.Prelude.{◌≡◌, ℕ, List, [], map, All, Contains, Some, slice_get}
+use Rattle.def_iface.specs.declared.window_def.Stage.TheVariants.{Closed}
+use Rattle.def_iface.specs.ListMeaning.{ListDefinition}
+use Rattle.def_iface.specs.Slots.{IsFull}
+use Rattle.list_records.specs.Lists.{lists_of}
+use Rattle.control_mgr.specs.InUse.{AreStocked}
+use Rattle.list_mgr.specs.ListDesks.{KeptList, ListSlot, ListsState}
+use Rattle.list_mgr.specs.WholeLists.{AreApart, slots_of}
+
+-- a slot with a definition that no desk uses
+abbrev pub IsListFull : ListSlot → Type 0
+IsListFull s = IsFull (λ (d : ListDefinition). d.stage) s
+
+-- the list's slot is there, with a definition that is closed
+abbrev pub IsListClosedAt : List ListSlot → KeptList → Type 0
+IsListClosedAt slots l =
+    (s : ListSlot) × (slice_get slots l.definition.slot ≡ Some s) × ((d : ListDefinition) × (s.held ≡ Some d) × (d.stage ≡ Closed))
+
+-- the definitions of these lists were closed and put into their slots, and every other slot is as it was
+pub record AreListsClosed (ls : List KeptList) (old new : List ListSlot) : Type 0 where
+  -- the same slots, for the same kinds
+  pub kinds : map (λ s. s.kind) new ≡ map (λ s. s.kind) old
+  -- a slot that had a definition is as it was
+  pub others : (k : ℕ) (s : ListSlot) → slice_get old k ≡ Some s → IsListFull s → slice_get new k ≡ Some s
+  -- the slots of the lists have their definitions, which are closed
+  pub closed : All (IsListClosedAt new) ls
+
+-- the lists of a window were disposed of, and those of other windows stay
+pub record AreListsOfLeft (window : ℕ) (before after : ListsState) : Type 0 where
+  pub gone : lists_of window after.lists ≡ []
+  pub others : (other : ℕ) → (window ≡ other → ⊥) → lists_of other after.lists ≡ lists_of other before.lists
+  -- each that stays was there
+  pub within : All (Contains before.lists) after.lists
+  pub apart : AreApart before.lists → AreApart after.lists
+  pub next : after.next ≡ before.next
+  pub closed : AreListsClosed (lists_of window before.lists) before.stock after.stock
+  pub stocked : AreStocked (λ (d : ListDefinition). d.stage) (slots_of after.lists) after.stock

@@ -1,0 +1,130 @@
+-- What holds of the lists of a desk and of their stock between calls, and their state as plain data.
+use Rattle.std.specs.Prelude.{◌≡◌, ◌≤◌, ℕ, true, false, not, List, [], ◌∷◌, map, All}
+use Rattle.std.specs.List.{list_any}
+use Rattle.def_iface.specs.declared.taken.Taken.{Taken}
+use Rattle.def_iface.specs.declared.taken_control.TakenControl.{TakenControl}
+use Rattle.def_iface.specs.declared.taken_list.TakenList.{TakenList}
+use Rattle.def_iface.specs.declared.size.Size.{Size}
+use Rattle.def_iface.specs.declared.window_def.Stage.TheVariants.{Live}
+use Rattle.def_iface.specs.ControlMeaning.{ControlLoan}
+use Rattle.def_iface.specs.ListMeaning.{ListDefinition, ListGoesBy, ListLoan}
+use Rattle.def_iface.specs.Meaning.{Loan}
+use Rattle.def_iface.specs.Stocked.{SlotView}
+use Rattle.list_cells.specs.Contents.{bytes_held}
+use Rattle.list_cells.specs.Grids.{IsGrid}
+use Rattle.list_records.specs.Lists.{are_before, has_serial, lists_of}
+use Rattle.list_records.specs.Seen.{all_seen}
+use Rattle.list_view.specs.Views.{IsView, View}
+use Rattle.vis_update.specs.Records.{WindowRecord}
+use Rattle.window_mgr.specs.declared.manager.WindowManager.{WindowManager}
+use Rattle.window_mgr.specs.DeskStates.{Opened, desk_with}
+use Rattle.window_mgr.specs.Records.{desk_of, state_of, state_showing}
+use Rattle.window_mgr.specs.Refused.{is_missing}
+use Rattle.window_mgr.specs.Whole.{IsWholeManager}
+use Rattle.control_mgr.specs.declared.controls.Controls.{Controls}
+use Rattle.control_mgr.specs.ControlDesks.{ControlSlot, ControlsState, controls_show}
+use Rattle.control_mgr.specs.InUse.{AreStocked}
+use Rattle.control_mgr.specs.WholeControls.{AreWholeControls, controls_state}
+use Rattle.list_mgr.specs.declared.lists.Lists.{Lists}
+use Rattle.list_mgr.specs.ListDesks.{KeptList, ListDesk, ListSlot, ListsState, lists_show}
+use Rattle.list_mgr.specs.ListSteps.{AreListLayers}
+
+-- the size of the cells of a view
+abbrev pub cell_size : View → Size
+cell_size v = record { width = v.across.cell; height = v.down.cell }
+
+-- a list between calls: its definition is live, was told the size of its cells and whether an empty one is highlighted, and goes
+-- by that; its view and its cells are such, and these hold no more bytes than may be
+pub record IsSettledList (l : KeptList) : Type 0 where
+  pub live : l.definition.definition.stage ≡ Live
+  pub told : l.definition.definition.size ≡ cell_size l.view
+  pub goes_by : ListGoesBy (cell_size l.view) (not l.flags.no_nil_hilite) l.definition.definition
+  pub view : IsView l.view
+  pub grid : IsGrid l.cells
+  pub short : bytes_held l.cells.contents ≤ 32000
+
+abbrev pub AreSettled : List KeptList → Type 0
+AreSettled ls = All IsSettledList ls
+
+-- each of another serial
+abbrev pub AreApart : List KeptList → Type 0
+AreApart [] = Unit {0}
+AreApart (l ∷ ls) = (list_any (has_serial l.serial) ls ≡ false) × AreApart ls
+
+abbrev pub AreLiveLists : List KeptList → Type 0
+AreLiveLists ls = All (λ l. l.definition.definition.stage ≡ Live) ls
+
+-- the slots of the lists' definitions
+abbrev pub slots_of : List KeptList → List ℕ
+slots_of ls = map (λ l. l.definition.slot) ls
+
+-- the lists of these windows, between calls: settled, each of another serial that was given before, in a window that is there;
+-- the layers of each window behind its controls are its lists; and the empty slots of the stock are those of their definitions
+pub record AreWholeLists (windows : List WindowRecord) (s : ListsState) : Type 0 where
+  pub settled : AreSettled s.lists
+  pub apart : AreApart s.lists
+  pub given : are_before s.next s.lists ≡ true
+  pub somewhere : All (λ l. is_missing l.window windows ≡ false) s.lists
+  pub joined : All (λ w. AreListLayers (lists_of w.serial s.lists) w.layers) windows
+  pub stocked : AreStocked (λ (d : ListDefinition). d.stage) (slots_of s.lists) s.stock
+
+-- `list_loan` says what a list's definition that was taken means
+module _ {X : Type 0} {L : X → Type 0} (list_loan : TakenList X L → ListLoan) where
+  -- the lists as plain data
+  abbrev pub records_of : Lists (TakenList X L) → List KeptList
+  records_of m = all_seen list_loan m.list.lists.items
+
+  abbrev pub lists_state : Lists (TakenList X L) → List ListSlot → ListsState
+  lists_state m slots = record { lists = records_of m; next = m.list.next; stock = slots }
+
+  -- `loan` says it of a window's
+  module _ {V : Type 0} {H : V → Type 0} (loan : Taken V H → Loan) where
+    -- the lists are whole beside these windows over some slots
+    pub record AreBeside (t : WindowManager V H) (m : Lists (TakenList X L)) : Type 0 where
+      pub slots : List ListSlot
+      pub whole : AreWholeLists (desk_of loan t []).windows (lists_state m slots)
+
+    -- windows, controls and lists with what is open, as a desk
+    abbrev pub list_desk : WindowManager V H → Opened → List SlotView → ControlsState → Lists (TakenList X L) → List ListSlot → ListDesk
+    list_desk t o slots cs m kept = record {
+      desk = desk_with o (state_showing (controls_show (lists_show (records_of m)) cs.controls) (state_of loan t slots));
+      controls = cs;
+      lists = lists_state m kept;
+    }
+
+    -- a call that asks something changes nothing: over any slots over which windows and lists are whole, and whatever the controls,
+    -- together they are such a step of the desk
+    abbrev pub IsToldOver : (ListDesk → ListDesk → Type 0) → WindowManager V H → Lists (TakenList X L) → Type 0
+    IsToldOver step t m = (o : Opened) (slots : List SlotView) (cs : ControlsState) (kept : List ListSlot) → IsWholeManager loan t slots
+        → AreWholeLists (desk_of loan t []).windows (lists_state m kept)
+        → step (list_desk t o slots cs m kept) (list_desk t o slots cs m kept)
+
+    -- a call that leaves the windows' records, controls and stocks: over any slots over which windows and lists are whole, and
+    -- whatever the controls, they are whole afterwards, and together they are such a step of the desk
+    abbrev pub IsChangedOver : (ListDesk → ListDesk → Type 0) → WindowManager V H → Lists (TakenList X L) → WindowManager V H → Lists (TakenList X L) → Type 0
+    IsChangedOver step t m u n = (o : Opened) (slots : List SlotView) (cs : ControlsState) (kept : List ListSlot) → IsWholeManager loan t slots
+        → AreWholeLists (desk_of loan t []).windows (lists_state m kept)
+        → IsWholeManager loan u slots × ((desk_of loan u []).windows ≡ (desk_of loan t []).windows)
+        × AreWholeLists (desk_of loan u []).windows (lists_state n kept)
+        × step (list_desk t o slots cs m kept) (list_desk u o slots cs n kept)
+
+    -- `control_loan` says it of a control's
+    module _ {W : Type 0} {K : W → Type 0} (control_loan : TakenControl W K → ControlLoan) where
+      -- over any slots over which the windows are whole, and over these of the stocks of controls and of lists, all are whole
+      -- afterwards, and together they are such a step of the desk
+      abbrev pub LeavesOver : List ControlSlot → List ControlSlot → List ListSlot → List ListSlot → (ListDesk → ListDesk → Type 0)
+          → WindowManager V H → Controls (TakenControl W K) → Lists (TakenList X L)
+          → WindowManager V H → Controls (TakenControl W K) → Lists (TakenList X L) → Type 0
+      LeavesOver held left kept rest step t c m u d n = (o : Opened) (slots : List SlotView) → IsWholeManager loan t slots
+          → AreWholeControls (desk_of loan t []).windows (controls_state control_loan c held)
+          → AreWholeLists (desk_of loan t []).windows (lists_state m kept)
+          → IsWholeManager loan u slots
+          × AreWholeControls (desk_of loan u []).windows (controls_state control_loan d left)
+          × AreWholeLists (desk_of loan u []).windows (lists_state n rest)
+          × step (list_desk t o slots (controls_state control_loan c held) m kept) (list_desk u o slots (controls_state control_loan d left) n rest)
+
+      -- so over any slots of these stocks, which a call leaves alone
+      abbrev pub LeavesLists : (ListDesk → ListDesk → Type 0)
+          → WindowManager V H → Controls (TakenControl W K) → Lists (TakenList X L)
+          → WindowManager V H → Controls (TakenControl W K) → Lists (TakenList X L) → Type 0
+      LeavesLists step t c m u d n = (held : List ControlSlot) (kept : List ListSlot) → LeavesOver held held kept kept step t c m u d n

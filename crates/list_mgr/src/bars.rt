@@ -1,0 +1,56 @@
+//! The scroll bars of a list, set as its view is.
+ghost use Rattle.window_mgr.specs.Kept.{IsKept};
+ghost use Rattle.control_mgr.specs.WholeControls.{AreBeside as AreControlsBeside};
+ghost use Rattle.desk_call.specs.declared.list.ListOf.{ListOf as Named};
+ghost use Rattle.list_mgr.specs.Lines.{IsBarSetOver};
+ghost use Rattle.list_mgr.specs.ListSteps.{AreBarsSet};
+ghost use Rattle.list_mgr.specs.Spots.{IsSpot, IsSpotOf};
+ghost use Rattle.list_mgr.specs.WholeLists.{AreBeside, LeavesLists};
+
+use crate::Lists;
+use crate::spots::Spot;
+use control_mgr::Controls;
+use control_values::ControlValues;
+use def_iface::{Defined, DefinedControl, DefinedList, Taken, TakenControl, TakenList};
+use desk_call::ControlOf;
+use window_mgr::WindowManager;
+
+/// Sets a scroll bar of a list in this window, if the list was made with one and the window has it still.
+fn set_bar(
+    windows: &mut WindowManager,
+    controls: &mut Controls<TakenControl>,
+    window: u64,
+    bar: Option<u64>,
+    values: ControlValues,
+)
+    requires kept { IsKept ⟦<Taken as Defined>⟧.loan windows.old }
+    requires beside { AreControlsBeside ⟦<TakenControl as DefinedControl>⟧.control_loan ⟦<Taken as Defined>⟧.loan windows.old controls.old }
+    ensures { IsBarSetOver ⟦<TakenControl as DefinedControl>⟧.control_loan ⟦<Taken as Defined>⟧.loan window bar values windows.old controls.old windows.new controls.new }
+{
+    if let Some(control) = bar {
+        controls.set_setting(windows, ControlOf { window, control }, values);
+    }
+}
+
+impl Lists<TakenList> {
+    /// Sets the scroll bars of the list that stands here as its view is. It takes no memory.
+    pub(crate) fn set_bars(
+        &self,
+        windows: &mut WindowManager,
+        controls: &mut Controls<TakenControl>,
+        spot: Spot,
+    )
+        requires kept { IsKept ⟦<Taken as Defined>⟧.loan windows.old }
+        requires beside { AreControlsBeside ⟦<TakenControl as DefinedControl>⟧.control_loan ⟦<Taken as Defined>⟧.loan windows.old controls.old }
+        requires lists { AreBeside ⟦<TakenList as DefinedList>⟧.list_loan ⟦<Taken as Defined>⟧.loan windows.old self.now }
+        requires spot { IsSpot ⟦<Taken as Defined>⟧.loan ⟦<TakenList as DefinedList>⟧.list_loan windows.old self.now spot }
+        ensures { (l : Named) → IsSpotOf ⟦<Taken as Defined>⟧.loan ⟦<TakenList as DefinedList>⟧.list_loan l windows.old self.now spot
+            → LeavesLists ⟦<TakenList as DefinedList>⟧.list_loan ⟦<Taken as Defined>⟧.loan ⟦<TakenControl as DefinedControl>⟧.control_loan (AreBarsSet l) windows.old controls.old self.now windows.new controls.new self.now }
+    {
+        let list = &self.list.lists[spot.list];
+        let down = list.view.vertical_values(list.cells.rows());
+        set_bar(windows, controls, list.window, list.vertical, down);
+        let across = list.view.horizontal_values(list.cells.columns());
+        set_bar(windows, controls, list.window, list.horizontal, across);
+    }
+}

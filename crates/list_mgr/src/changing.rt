@@ -1,0 +1,189 @@
+//! What changes of a list but its selection: its cells, how far it is scrolled, and whether it is drawn.
+ghost use Rattle.std.specs.Prelude.{◌≡◌, false, not, MatchResult};
+ghost use Rattle.std.specs.Str.{bytes_eq};
+ghost use Rattle.def_iface.specs.declared.part.Part.TheVariants as part;
+ghost use Rattle.desk_call.specs.declared.list.ListCall.TheVariants as asks;
+ghost use Rattle.window_mgr.specs.Edits.{IsWindowAt};
+ghost use Rattle.window_mgr.specs.Kept.{IsKept};
+ghost use Rattle.list_mgr.specs.Changing.{IsDrawing, IsItsLayer, IsLayerFound, IsMark, IsShownOrMarked};
+ghost use Rattle.list_mgr.specs.ListSteps.{IsListStep};
+ghost use Rattle.list_mgr.specs.Spots.{IsSpot};
+ghost use Rattle.list_mgr.specs.WholeLists.{AreBeside, IsChangedOver};
+
+use crate::Lists;
+use crate::spots::Spot;
+use def_iface::{Defined, DefinedList, Part, Taken, TakenList};
+use desk_call::{CellOf, CellText, ListDrawing, ListReply};
+use layer_list::Layers;
+use scan_region::Region;
+use std::alloc::AllocError;
+use tb_geom::Refusal;
+use window_mgr::WindowManager;
+
+/// The index of a list's layer among these.
+fn layer_of(layers: &Layers, serial: u64) -> Option<usize>
+    ensures { IsLayerFound (part.List serial) layers.now.layers result }
+{
+    for at in 0..layers.len() {
+        if layers.at(at).part.is(Part::List(serial)) {
+            return Some(at);
+        }
+    }
+    None
+}
+
+/// Whether two texts differ.
+fn differ(old: &[u8], new: &[u8]) -> bool
+    ensures { result ≡ not (bytes_eq old.now new.now) }
+{
+    old != new
+}
+
+impl Lists<TakenList> {
+    /// The index of a list's layer among the layers of its window.
+    pub(crate) fn layer(&self, windows: &WindowManager, spot: Spot) -> usize
+        requires beside { AreBeside ⟦<TakenList as DefinedList>⟧.list_loan ⟦<Taken as Defined>⟧.loan windows.now self.now }
+        requires spot { IsSpot ⟦<Taken as Defined>⟧.loan ⟦<TakenList as DefinedList>⟧.list_loan windows.now self.now spot }
+        ensures { (w : _) → IsWindowAt windows.now.windows.records.items spot.window w
+            → IsItsLayer ⟦<TakenList as DefinedList>⟧.list_loan self.now spot w.layers.layers result }
+    {
+        let serial = self.list.lists[spot.list].serial;
+        layer_of(&windows.list().at(spot.window).layers, serial).unwrap()
+    }
+
+    /// The update region of a list's window with all that the list owns, where its drawing is off; while it is on, this takes no
+    /// memory.
+    pub(crate) fn mark(
+        &self,
+        windows: &WindowManager,
+        spot: Spot,
+    ) -> Result<Option<Region>, AllocError>
+        requires kept { IsKept ⟦<Taken as Defined>⟧.loan windows.now }
+        requires beside { AreBeside ⟦<TakenList as DefinedList>⟧.list_loan ⟦<Taken as Defined>⟧.loan windows.now self.now }
+        requires spot { IsSpot ⟦<Taken as Defined>⟧.loan ⟦<TakenList as DefinedList>⟧.list_loan windows.now self.now spot }
+        ensures { MatchResult result (IsMark ⟦<TakenList as DefinedList>⟧.list_loan ⟦<Taken as Defined>⟧.loan windows.now self.now spot)
+            (λ _. IsDrawing ⟦<TakenList as DefinedList>⟧.list_loan false self.now spot) }
+    {
+        if self.list.lists[spot.list].drawing {
+            return Ok(None);
+        }
+        let layer = self.layer(windows, spot);
+        let own = windows.list().at(spot.window).layers.owned(layer);
+        let area = windows.area(spot.window);
+        let shown = area.visible.sect(self.alloc, own)?;
+        let update = area.update.union(self.alloc, &shown)?;
+        Ok(Some(update))
+    }
+
+    /// Shows a list anew where it is not to be redrawn, or, where its drawing is off and something of it changes, makes this the
+    /// update region of its window. It takes no memory.
+    pub(crate) fn show(
+        &self,
+        windows: &mut WindowManager,
+        spot: Spot,
+        mark: Option<Region>,
+        changes: bool,
+    )
+        requires kept { IsKept ⟦<Taken as Defined>⟧.loan windows.old }
+        requires beside { AreBeside ⟦<TakenList as DefinedList>⟧.list_loan ⟦<Taken as Defined>⟧.loan windows.old self.now }
+        requires spot { IsSpot ⟦<Taken as Defined>⟧.loan ⟦<TakenList as DefinedList>⟧.list_loan windows.old self.now spot }
+        requires mark { IsMark ⟦<TakenList as DefinedList>⟧.list_loan ⟦<Taken as Defined>⟧.loan windows.old self.now spot mark }
+        ensures { IsShownOrMarked ⟦<TakenList as DefinedList>⟧.list_loan ⟦<Taken as Defined>⟧.loan mark changes spot self.now windows.old windows.new }
+    {
+        match mark {
+            None => {
+                let layer = self.layer(windows, spot);
+                windows.redraw_layer(spot.window, layer, self);
+            }
+            Some(update) => {
+                if changes {
+                    windows.set_update(spot.window, update);
+                }
+            }
+        }
+    }
+
+    /// Gives a cell other data.
+    pub(crate) fn set_cell(
+        &mut self,
+        windows: &mut WindowManager,
+        set: &CellText<'_>,
+    ) -> Result<ListReply, Refusal>
+        requires kept { IsKept ⟦<Taken as Defined>⟧.loan windows.old }
+        requires beside { AreBeside ⟦<TakenList as DefinedList>⟧.list_loan ⟦<Taken as Defined>⟧.loan windows.old self.old }
+        ensures { IsChangedOver ⟦<TakenList as DefinedList>⟧.list_loan ⟦<Taken as Defined>⟧.loan
+            (IsListStep (asks.SetCell set.now) result) windows.old self.old windows.new self.new }
+    {
+        let spot = self.spot(windows, set.cell.list)?;
+        let (cell, text) = (set.cell.cell, set.text.as_slice());
+        if let Some(refusal) = self.list.lists[spot.list].cells.set_refusal(cell, text) {
+            return Err(refusal);
+        }
+        let changes = differ(self.list.lists[spot.list].cells.cell(cell)?, text);
+        let mark = self.mark(windows, spot)?;
+        self.list.lists[spot.list].cells.set_cell(cell, text)?;
+        self.show(windows, spot, mark, changes);
+        Ok(ListReply::Done)
+    }
+
+    /// Adds bytes behind the data of a cell.
+    pub(crate) fn add_to_cell(
+        &mut self,
+        windows: &mut WindowManager,
+        added: &CellText<'_>,
+    ) -> Result<ListReply, Refusal>
+        requires kept { IsKept ⟦<Taken as Defined>⟧.loan windows.old }
+        requires beside { AreBeside ⟦<TakenList as DefinedList>⟧.list_loan ⟦<Taken as Defined>⟧.loan windows.old self.old }
+        ensures { IsChangedOver ⟦<TakenList as DefinedList>⟧.list_loan ⟦<Taken as Defined>⟧.loan
+            (IsListStep (asks.AddToCell added.now) result) windows.old self.old windows.new self.new }
+    {
+        let spot = self.spot(windows, added.cell.list)?;
+        let (cell, text) = (added.cell.cell, added.text.as_slice());
+        if let Some(refusal) = self.list.lists[spot.list].cells.append_refusal(cell, text) {
+            return Err(refusal);
+        }
+        let changes = !text.is_empty();
+        let mark = self.mark(windows, spot)?;
+        self.list.lists[spot.list].cells.add_to_cell(cell, text)?;
+        self.show(windows, spot, mark, changes);
+        Ok(ListReply::Done)
+    }
+
+    /// Takes the data of a cell away.
+    pub(crate) fn clear_cell(
+        &mut self,
+        windows: &mut WindowManager,
+        cleared: CellOf,
+    ) -> Result<ListReply, Refusal>
+        requires kept { IsKept ⟦<Taken as Defined>⟧.loan windows.old }
+        requires beside { AreBeside ⟦<TakenList as DefinedList>⟧.list_loan ⟦<Taken as Defined>⟧.loan windows.old self.old }
+        ensures { IsChangedOver ⟦<TakenList as DefinedList>⟧.list_loan ⟦<Taken as Defined>⟧.loan
+            (IsListStep (asks.ClearCell cleared) result) windows.old self.old windows.new self.new }
+    {
+        let spot = self.spot(windows, cleared.list)?;
+        let changes = !self.list.lists[spot.list]
+            .cells
+            .cell(cleared.cell)?
+            .is_empty();
+        let mark = self.mark(windows, spot)?;
+        self.list.lists[spot.list].cells.clear_cell(cleared.cell)?;
+        self.show(windows, spot, mark, changes);
+        Ok(ListReply::Done)
+    }
+
+    /// Turns drawing on or off.
+    pub(crate) fn set_drawing(
+        &mut self,
+        windows: &WindowManager,
+        set: ListDrawing,
+    ) -> Result<ListReply, Refusal>
+        requires kept { IsKept ⟦<Taken as Defined>⟧.loan windows.now }
+        requires beside { AreBeside ⟦<TakenList as DefinedList>⟧.list_loan ⟦<Taken as Defined>⟧.loan windows.now self.old }
+        ensures { IsChangedOver ⟦<TakenList as DefinedList>⟧.list_loan ⟦<Taken as Defined>⟧.loan
+            (IsListStep (asks.SetDrawing set) result) windows.now self.old windows.now self.new }
+    {
+        let spot = self.spot(windows, set.list)?;
+        self.list.set_drawing(spot.list, set.drawing);
+        Ok(ListReply::Done)
+    }
+}

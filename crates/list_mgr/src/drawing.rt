@@ -1,0 +1,90 @@
+//! What windows show of lists, and of controls and lists together.
+ghost use Rattle.std.specs.Prelude.{◌≡◌, ◌<◌, true, length, slice_get, IfSome};
+ghost use Rattle.std.specs.List.{position};
+ghost use Rattle.tb_geom.specs.Rects.{in_plane};
+ghost use Rattle.bit_blit.specs.Draws.{Draws};
+ghost use Rattle.draw_port.specs.Canvases.{canvas_holds, canvas_point, SameFrame};
+ghost use Rattle.control_list.specs.Seen.{all_seen as all_controls_seen};
+ghost use Rattle.list_records.specs.Lists.{has_serial};
+ghost use Rattle.list_records.specs.Seen.{all_seen};
+ghost use Rattle.control_mgr.specs.ControlDesks.{controls_show};
+ghost use Rattle.control_mgr.specs.Settled.{AreSettled as AreControlsSettled};
+ghost use Rattle.list_mgr.specs.ListDesks.{list_bit, lists_show};
+ghost use Rattle.list_mgr.specs.WholeLists.{AreSettled};
+
+use crate::Lists;
+use bit_map::{Mode, Pattern};
+use control_mgr::{Controls, DrawnControl};
+use def_iface::Part;
+use draw_port::Canvas;
+use list_paint::{DrawnList, paint_list};
+use window_paint::Showing;
+
+impl<D: DrawnList> Showing for Lists<D> {
+    ghost is_whole = { λ m. AreSettled (all_seen D.list_loan m.list.lists.items) };
+
+    ghost shows = { λ m. lists_show (all_seen D.list_loan m.list.lists.items) };
+
+    fn draw(&self, part: Part, canvas: &mut Canvas<'_>) {
+        match part {
+            Part::List(serial) => match self.with_serial(serial) {
+                Some(at) => self.draw_at(at, canvas),
+                None => canvas.fill_all(Pattern::WHITE, Mode::Copy),
+            },
+            _ => canvas.fill_all(Pattern::WHITE, Mode::Copy),
+        }
+    }
+}
+
+impl<D> Lists<D> {
+    /// Where the list of this serial stands among all, if there is one.
+    fn with_serial(&self, serial: u64) -> Option<usize>
+        ensures first { result ≡ position (has_serial serial) self.now.list.lists.items }
+        ensures within { IfSome result (λ at. at < length self.now.list.lists.items) }
+    {
+        self.list
+            .lists
+            .iter()
+            .position(|list| list.serial == serial)
+    }
+}
+
+impl<D: DrawnList> Lists<D> {
+    /// Draws the list at this index on a canvas whose origin is the 0 0 of the list's window.
+    fn draw_at(&self, at: usize, canvas: &mut Canvas<'_>)
+        requires at { at < length self.now.list.lists.items }
+        requires settled { AreSettled (all_seen D.list_loan self.now.list.lists.items) }
+        requires origin { in_plane canvas.old.origin ≡ true }
+        ensures same_map { canvas.new.map.ghost_name ≡ canvas.old.map.ghost_name }
+        ensures same_frame { SameFrame canvas.old canvas.new }
+        ensures drawn { Draws (canvas_holds canvas.old)
+            (λ p _. list_bit canvas.old.font.now
+            (slice_get (all_seen D.list_loan self.now.list.lists.items) at) (canvas_point canvas.old p))
+            canvas.old.map.now canvas.new.map.now }
+    {
+        let list = &self.list.lists[at];
+        paint_list(&list.definition, list.view, &list.cells, canvas);
+    }
+}
+
+/// The controls and the lists of a desk's windows, as those show them.
+#[derive(Drop)]
+pub struct Contents<'a, D, E> {
+    pub controls: &'a Controls<D>,
+    pub lists: &'a Lists<E>,
+}
+
+impl<'a, D: DrawnControl, E: DrawnList> Showing for Contents<'a, D, E> {
+    ghost is_whole = { λ m. AreControlsSettled (all_controls_seen D.control_loan m.controls.now.list.controls.items)
+        × AreSettled (all_seen E.list_loan m.lists.now.list.lists.items) };
+
+    ghost shows = { λ m. controls_show (lists_show (all_seen E.list_loan m.lists.now.list.lists.items))
+        (all_controls_seen D.control_loan m.controls.now.list.controls.items) };
+
+    fn draw(&self, part: Part, canvas: &mut Canvas<'_>) {
+        match part {
+            Part::Control(_) => self.controls.draw(part, canvas),
+            _ => self.lists.draw(part, canvas),
+        }
+    }
+}

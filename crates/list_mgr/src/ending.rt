@@ -1,0 +1,167 @@
+//! Lists that are ended, with their scroll bars; those of a window that is disposed of, and all.
+ghost use Rattle.std.specs.Prelude.{◌≡◌, ◌<◌, [], true, length, IfOk, IfSome};
+ghost use Rattle.def_iface.specs.Slots.{is_left};
+ghost use Rattle.layer_list.specs.Holders.{ArePartsApart};
+ghost use Rattle.desk_call.specs.declared.list.ListCall.TheVariants as asks;
+ghost use Rattle.window_mgr.specs.Kept.{IsKept};
+ghost use Rattle.window_mgr.specs.Records.{desk_of};
+ghost use Rattle.control_mgr.specs.Ending.{IsPutIfPlanned, IsTakenOut};
+ghost use Rattle.control_mgr.specs.InUse.{AreStocked};
+ghost use Rattle.control_mgr.specs.WholeControls.{AreWholeControls, controls_state};
+ghost use Rattle.list_mgr.specs.BarEnds.{IsBarGoneOver, IsBarPlanned, IsBarToEnd, bar_serial};
+ghost use Rattle.list_mgr.specs.ListClosing.{AreListsClosed, AreListsOfLeft};
+ghost use Rattle.list_mgr.specs.ListSteps.{IsListShut, IsListStep};
+ghost use Rattle.list_mgr.specs.WholeLists.{AreLiveLists, AreWholeLists, LeavesOver, lists_state, records_of, slots_of};
+
+use crate::Lists;
+use control_mgr::{Controls, Ending, layers_left, update_left};
+use def_iface::{
+    ControlStock, Defined, DefinedControl, DefinedList, ListStock, Stage, StockedControls,
+    StockedLists, Taken, TakenControl, TakenList,
+};
+use desk_call::{ControlOf, ListOf, ListReply};
+use layer_list::Layers;
+use list_records::ListRecords;
+use scan_region::Region;
+use std::alloc::AllocError;
+use tb_geom::Refusal;
+use window_mgr::WindowManager;
+
+/// Ends the use of a list's definition.
+pub(crate) fn put_away(taken: TakenList, stock: &mut ListStock)
+    requires live { (⟦<TakenList as DefinedList>⟧.list_loan taken).definition.stage ≡ Stage.Live }
+    requires left { is_left (⟦<TakenList as DefinedList>⟧.list_loan taken).slot (⟦<ListStock as StockedLists>⟧.list_slots stock.old) ≡ true }
+    ensures { IsListShut (⟦<TakenList as DefinedList>⟧.list_loan taken) (⟦<ListStock as StockedLists>⟧.list_slots stock.old) (⟦<ListStock as StockedLists>⟧.list_slots stock.new) }
+{
+    let mut taken = taken;
+    taken.dispose();
+    stock.put_back(taken);
+}
+
+/// Plans the end of a scroll bar of a list in the window of this serial, which stands at this index, if the list was made with one
+/// and the window will have it still. `layers` are the window's layers when the bar will be ended, and `update` is its update
+/// region then.
+fn plan_bar(
+    controls: &Controls<TakenControl>,
+    windows: &WindowManager,
+    at: usize,
+    window: u64,
+    bar: Option<u64>,
+    layers: &Layers,
+    update: &Region,
+) -> Result<Option<Ending>, AllocError>
+    requires kept { IsKept ⟦<Taken as Defined>⟧.loan windows.now }
+    requires low { at < length windows.now.windows.records.items }
+    requires apart { ArePartsApart layers.now.layers }
+    ensures out { IfOk result (λ planned. IfSome planned (IsTakenOut at (bar_serial bar) layers.now)) }
+    ensures planned { IfOk result (IsBarPlanned ⟦<TakenControl as DefinedControl>⟧.control_loan ⟦<Taken as Defined>⟧.loan window bar at layers.now update.now windows.now) }
+{
+    match bar {
+        Some(control) => {
+            controls.plan_ending(windows, at, ControlOf { window, control }, layers, update)
+        }
+        None => Ok(None),
+    }
+}
+
+/// Ends a scroll bar of a list in this window as planned. It takes no memory.
+fn end_bar(
+    controls: &mut Controls<TakenControl>,
+    windows: &mut WindowManager,
+    window: u64,
+    bar: Option<u64>,
+    planned: Option<Ending>,
+    stock: &mut ControlStock,
+)
+    requires kept { IsKept ⟦<Taken as Defined>⟧.loan windows.old }
+    requires whole { AreWholeControls (desk_of ⟦<Taken as Defined>⟧.loan windows.old []).windows
+        (controls_state ⟦<TakenControl as DefinedControl>⟧.control_loan controls.old (⟦<ControlStock as StockedControls>⟧.control_slots stock.old)) }
+    requires planned { IsBarToEnd ⟦<TakenControl as DefinedControl>⟧.control_loan ⟦<Taken as Defined>⟧.loan window bar windows.old controls.old planned }
+    ensures gone { IsBarGoneOver ⟦<TakenControl as DefinedControl>⟧.control_loan ⟦<Taken as Defined>⟧.loan
+        (⟦<ControlStock as StockedControls>⟧.control_slots stock.old) (⟦<ControlStock as StockedControls>⟧.control_slots stock.new)
+        window bar windows.old controls.old windows.new controls.new }
+    ensures put { IsPutIfPlanned planned windows.old windows.new }
+{
+    if let Some(control) = bar {
+        controls.end_planned(windows, ControlOf { window, control }, planned, stock);
+    }
+}
+
+impl Lists<TakenList> {
+    /// Ends a list, and the scroll bars that its window still has of those that it was made with: the definition of each is
+    /// disposed of, and put back Closed into its slot.
+    pub(crate) fn dispose(
+        &mut self,
+        windows: &mut WindowManager,
+        controls: &mut Controls<TakenControl>,
+        list: ListOf,
+        stock: &mut ListStock,
+        bars: &mut ControlStock,
+    ) -> Result<ListReply, Refusal>
+        requires kept { IsKept ⟦<Taken as Defined>⟧.loan windows.old }
+        requires controls { AreWholeControls (desk_of ⟦<Taken as Defined>⟧.loan windows.old []).windows
+            (controls_state ⟦<TakenControl as DefinedControl>⟧.control_loan controls.old (⟦<ControlStock as StockedControls>⟧.control_slots bars.old)) }
+        requires lists { AreWholeLists (desk_of ⟦<Taken as Defined>⟧.loan windows.old []).windows
+            (lists_state ⟦<TakenList as DefinedList>⟧.list_loan self.old (⟦<ListStock as StockedLists>⟧.list_slots stock.old)) }
+        ensures { LeavesOver ⟦<TakenList as DefinedList>⟧.list_loan ⟦<Taken as Defined>⟧.loan ⟦<TakenControl as DefinedControl>⟧.control_loan
+            (⟦<ControlStock as StockedControls>⟧.control_slots bars.old) (⟦<ControlStock as StockedControls>⟧.control_slots bars.new)
+            (⟦<ListStock as StockedLists>⟧.list_slots stock.old) (⟦<ListStock as StockedLists>⟧.list_slots stock.new)
+            (IsListStep (asks.Dispose list) result) windows.old controls.old self.old windows.new controls.new self.new }
+    {
+        let spot = self.spot(windows, list)?;
+        let layer = self.layer(windows, spot);
+        let (at, window) = (spot.window, list.window);
+        let list = &self.list.lists[spot.list];
+        let (vertical, horizontal) = (list.vertical, list.horizontal);
+        let relaid = windows.list().at(at).layers.without(self.alloc, layer)?;
+        let update = &windows.area(at).update;
+        let relaying = windows.plan_layers(at, update, &relaid, None)?;
+        let update = &relaying.update;
+        let one = plan_bar(
+            controls,
+            windows,
+            at,
+            window,
+            vertical,
+            &relaid.layers,
+            update,
+        )?;
+        let layers = layers_left(&one, &relaid.layers);
+        let update = update_left(&one, update);
+        let two = plan_bar(controls, windows, at, window, horizontal, layers, update)?;
+        let ended = self.list.remove(spot.list);
+        windows.commit_layers(at, relaid.layers, relaying, None, &*self);
+        put_away(ended.definition, stock);
+        end_bar(controls, windows, window, vertical, one, bars);
+        end_bar(controls, windows, window, horizontal, two, bars);
+        Ok(ListReply::Done)
+    }
+
+    /// Ends the lists of a window: the definition of each is disposed of, and put back Closed into its slot. Those of other windows
+    /// stay. Takes no memory, and draws nothing: this is for a window that is no more, whose controls end with it.
+    pub fn end_of(&mut self, window: u64, stock: &mut ListStock)
+        requires live { AreLiveLists (records_of ⟦<TakenList as DefinedList>⟧.list_loan self.old) }
+        requires stocked { AreStocked (λ d. d.stage) (slots_of (records_of ⟦<TakenList as DefinedList>⟧.list_loan self.old)) (⟦<ListStock as StockedLists>⟧.list_slots stock.old) }
+        ensures { AreListsOfLeft window (lists_state ⟦<TakenList as DefinedList>⟧.list_loan self.old (⟦<ListStock as StockedLists>⟧.list_slots stock.old))
+            (lists_state ⟦<TakenList as DefinedList>⟧.list_loan self.new (⟦<ListStock as StockedLists>⟧.list_slots stock.new)) }
+    {
+        while let Some(list) = self.list.take_of(window) {
+            put_away(list.definition, stock);
+        }
+    }
+
+    /// Ends the desk's lists: the definition of every one is disposed of, and put back Closed into its slot, while every other slot
+    /// stays as it was. Takes no memory, and refuses nothing.
+    pub fn close(self, stock: &mut ListStock)
+        requires live { AreLiveLists (records_of ⟦<TakenList as DefinedList>⟧.list_loan self) }
+        requires stocked { AreStocked (λ d. d.stage) (slots_of (records_of ⟦<TakenList as DefinedList>⟧.list_loan self)) (⟦<ListStock as StockedLists>⟧.list_slots stock.old) }
+        ensures { AreListsClosed (records_of ⟦<TakenList as DefinedList>⟧.list_loan self) (⟦<ListStock as StockedLists>⟧.list_slots stock.old) (⟦<ListStock as StockedLists>⟧.list_slots stock.new) }
+    {
+        let Lists { list, .. } = self;
+        let ListRecords { lists, .. } = list;
+        let mut lists = lists;
+        while let Some(list) = lists.pop() {
+            put_away(list.definition, stock);
+        }
+    }
+}

@@ -1,0 +1,31 @@
+//! The List Manager (*Inside Macintosh* IV, "The List Manager Package"): the lists of a desk's windows, with their definitions.
+//!
+//! `Lists` keeps the lists beside the windows and their controls: a window has of each list where it lies, as a layer behind its
+//! controls and in front of its picture, and what a list shows is here (`Lists` is a `Showing`, and `Contents` shows controls and
+//! lists together). Each call about lists makes one step (`IsListStep` in `specs/ListSteps`): `perform` performs one.
+//!
+//! While a list's drawing is on, a change shows the list anew where it is not to be redrawn anyway; a call that changes the
+//! selection alone inverts the cells that it toggles, where they stand. While it is off, a change draws nothing, and all that the
+//! list owns is to be redrawn. The scroll bars of a list are controls of its window, made with it, set by each call that adds,
+//! deletes or scrolls, and disposed of with it; in between they are anybody's.
+#![tactic(auto)]
+
+mod asking;
+mod bars;
+mod changing;
+mod drawing;
+mod ending;
+mod judging;
+mod lines;
+mod lists;
+mod making;
+mod new_bars;
+mod perform;
+mod planning;
+mod putting;
+mod selecting;
+mod spots;
+
+pub use drawing::Contents;
+pub use judging::{MOST_LISTS, form_refusal};
+pub use lists::Lists;

@@ -1,0 +1,200 @@
+//! Rows and columns of a list, and how far it is scrolled; its scroll bars with them.
+ghost use Rattle.std.specs.Prelude.{◌≡◌, ◌<◌, length, slice_get, IfSome};
+ghost use Rattle.desk_call.specs.declared.list.ListCall.TheVariants as asks;
+ghost use Rattle.list_records.specs.Lists.{edit_at};
+ghost use Rattle.window_mgr.specs.Kept.{IsKept};
+ghost use Rattle.control_mgr.specs.WholeControls.{AreBeside as AreControlsBeside};
+ghost use Rattle.list_mgr.specs.Changing.{IsMark, IsSameOrNot};
+ghost use Rattle.list_mgr.specs.Lines.{IsShownWithBars};
+ghost use Rattle.list_mgr.specs.ListSteps.{IsListStep, with_scroll};
+ghost use Rattle.list_mgr.specs.Spots.{IsSpot};
+ghost use Rattle.list_mgr.specs.WholeLists.{AreBeside, LeavesLists, records_of};
+
+use crate::Lists;
+use crate::spots::Spot;
+use control_mgr::Controls;
+use def_iface::{Defined, DefinedControl, DefinedList, Taken, TakenControl, TakenList};
+use desk_call::{ListLines, ListReply, ScrollList};
+use list_view::ListView;
+use scan_region::Region;
+use tb_geom::Refusal;
+use window_mgr::WindowManager;
+
+/// Whether two views differ.
+fn differ(old: ListView, new: ListView) -> bool
+    ensures { IsSameOrNot result new old }
+{
+    old != new
+}
+
+impl Lists<TakenList> {
+    /// Scrolls the list that stands here, as far as there are cells to be seen, and says whether it is scrolled otherwise then.
+    fn scroll_by(&mut self, spot: Spot, columns: i32, rows: i32) -> bool
+        requires { spot.list < length self.old.list.lists.items }
+        ensures lists { records_of ⟦<TakenList as DefinedList>⟧.list_loan self.new ≡ edit_at (with_scroll columns rows) spot.list (records_of ⟦<TakenList as DefinedList>⟧.list_loan self.old) }
+        ensures next { self.new.list.next ≡ self.old.list.next }
+        ensures changes { IfSome (slice_get (records_of ⟦<TakenList as DefinedList>⟧.list_loan self.old) spot.list) (λ x. IsSameOrNot result (with_scroll columns rows x) x) }
+    {
+        let list = &self.list.lists[spot.list];
+        let old = list.view;
+        let new = old.scrolled(list.cells.columns(), list.cells.rows(), columns, rows);
+        self.list.set_view(spot.list, new);
+        differ(old, new)
+    }
+
+    /// Shows a list as it is now, or marks it where its drawing is off and something of it changes, and sets its scroll bars. It
+    /// takes no memory.
+    fn show_with_bars(
+        &self,
+        windows: &mut WindowManager,
+        controls: &mut Controls<TakenControl>,
+        spot: Spot,
+        mark: Option<Region>,
+        changes: bool,
+    )
+        requires kept { IsKept ⟦<Taken as Defined>⟧.loan windows.old }
+        requires beside { AreControlsBeside ⟦<TakenControl as DefinedControl>⟧.control_loan ⟦<Taken as Defined>⟧.loan windows.old controls.old }
+        requires lists { AreBeside ⟦<TakenList as DefinedList>⟧.list_loan ⟦<Taken as Defined>⟧.loan windows.old self.now }
+        requires spot { IsSpot ⟦<Taken as Defined>⟧.loan ⟦<TakenList as DefinedList>⟧.list_loan windows.old self.now spot }
+        requires mark { IsMark ⟦<TakenList as DefinedList>⟧.list_loan ⟦<Taken as Defined>⟧.loan windows.old self.now spot mark }
+        ensures { IsShownWithBars ⟦<TakenControl as DefinedControl>⟧.control_loan ⟦<Taken as Defined>⟧.loan ⟦<TakenList as DefinedList>⟧.list_loan mark changes spot self.now
+            windows.old controls.old windows.new controls.new }
+    {
+        self.show(windows, spot, mark, changes);
+        self.set_bars(windows, controls, spot);
+    }
+
+    /// Adds empty rows before one, or behind all.
+    pub(crate) fn add_rows(
+        &mut self,
+        windows: &mut WindowManager,
+        controls: &mut Controls<TakenControl>,
+        lines: ListLines,
+    ) -> Result<ListReply, Refusal>
+        requires kept { IsKept ⟦<Taken as Defined>⟧.loan windows.old }
+        requires beside { AreControlsBeside ⟦<TakenControl as DefinedControl>⟧.control_loan ⟦<Taken as Defined>⟧.loan windows.old controls.old }
+        requires lists { AreBeside ⟦<TakenList as DefinedList>⟧.list_loan ⟦<Taken as Defined>⟧.loan windows.old self.old }
+        ensures { LeavesLists ⟦<TakenList as DefinedList>⟧.list_loan ⟦<Taken as Defined>⟧.loan ⟦<TakenControl as DefinedControl>⟧.control_loan
+            (IsListStep (asks.AddRows lines) result) windows.old controls.old self.old windows.new controls.new self.new }
+    {
+        let spot = self.spot(windows, lines.list)?;
+        if let Some(refusal) = self.list.lists[spot.list]
+            .cells
+            .add_rows_refusal(lines.count, lines.at)
+        {
+            return Err(refusal);
+        }
+        let mark = self.mark(windows, spot)?;
+        let first = self.list.lists[spot.list]
+            .cells
+            .add_rows(lines.count, lines.at)?;
+        self.show_with_bars(windows, controls, spot, mark, true);
+        Ok(ListReply::Added(first))
+    }
+
+    /// Adds empty columns before one, or behind all.
+    pub(crate) fn add_columns(
+        &mut self,
+        windows: &mut WindowManager,
+        controls: &mut Controls<TakenControl>,
+        lines: ListLines,
+    ) -> Result<ListReply, Refusal>
+        requires kept { IsKept ⟦<Taken as Defined>⟧.loan windows.old }
+        requires beside { AreControlsBeside ⟦<TakenControl as DefinedControl>⟧.control_loan ⟦<Taken as Defined>⟧.loan windows.old controls.old }
+        requires lists { AreBeside ⟦<TakenList as DefinedList>⟧.list_loan ⟦<Taken as Defined>⟧.loan windows.old self.old }
+        ensures { LeavesLists ⟦<TakenList as DefinedList>⟧.list_loan ⟦<Taken as Defined>⟧.loan ⟦<TakenControl as DefinedControl>⟧.control_loan
+            (IsListStep (asks.AddColumns lines) result) windows.old controls.old self.old windows.new controls.new self.new }
+    {
+        let spot = self.spot(windows, lines.list)?;
+        if let Some(refusal) = self.list.lists[spot.list]
+            .cells
+            .add_columns_refusal(lines.count, lines.at)
+        {
+            return Err(refusal);
+        }
+        let mark = self.mark(windows, spot)?;
+        let first = self.list.lists[spot.list]
+            .cells
+            .add_columns(lines.count, lines.at)?;
+        self.show_with_bars(windows, controls, spot, mark, true);
+        Ok(ListReply::Added(first))
+    }
+
+    /// Deletes rows from one on.
+    pub(crate) fn delete_rows(
+        &mut self,
+        windows: &mut WindowManager,
+        controls: &mut Controls<TakenControl>,
+        lines: ListLines,
+    ) -> Result<ListReply, Refusal>
+        requires kept { IsKept ⟦<Taken as Defined>⟧.loan windows.old }
+        requires beside { AreControlsBeside ⟦<TakenControl as DefinedControl>⟧.control_loan ⟦<Taken as Defined>⟧.loan windows.old controls.old }
+        requires lists { AreBeside ⟦<TakenList as DefinedList>⟧.list_loan ⟦<Taken as Defined>⟧.loan windows.old self.old }
+        ensures { LeavesLists ⟦<TakenList as DefinedList>⟧.list_loan ⟦<Taken as Defined>⟧.loan ⟦<TakenControl as DefinedControl>⟧.control_loan
+            (IsListStep (asks.DeleteRows lines) result) windows.old controls.old self.old windows.new controls.new self.new }
+    {
+        let spot = self.spot(windows, lines.list)?;
+        if let Some(refusal) = self.list.lists[spot.list]
+            .cells
+            .delete_rows_refusal(lines.count, lines.at)
+        {
+            return Err(refusal);
+        }
+        let mark = self.mark(windows, spot)?;
+        self.list.lists[spot.list]
+            .cells
+            .delete_rows(lines.count, lines.at)?;
+        let _scrolled = self.scroll_by(spot, 0, 0);
+        self.show_with_bars(windows, controls, spot, mark, true);
+        Ok(ListReply::Done)
+    }
+
+    /// Deletes columns from one on.
+    pub(crate) fn delete_columns(
+        &mut self,
+        windows: &mut WindowManager,
+        controls: &mut Controls<TakenControl>,
+        lines: ListLines,
+    ) -> Result<ListReply, Refusal>
+        requires kept { IsKept ⟦<Taken as Defined>⟧.loan windows.old }
+        requires beside { AreControlsBeside ⟦<TakenControl as DefinedControl>⟧.control_loan ⟦<Taken as Defined>⟧.loan windows.old controls.old }
+        requires lists { AreBeside ⟦<TakenList as DefinedList>⟧.list_loan ⟦<Taken as Defined>⟧.loan windows.old self.old }
+        ensures { LeavesLists ⟦<TakenList as DefinedList>⟧.list_loan ⟦<Taken as Defined>⟧.loan ⟦<TakenControl as DefinedControl>⟧.control_loan
+            (IsListStep (asks.DeleteColumns lines) result) windows.old controls.old self.old windows.new controls.new self.new }
+    {
+        let spot = self.spot(windows, lines.list)?;
+        if let Some(refusal) = self.list.lists[spot.list]
+            .cells
+            .delete_columns_refusal(lines.count, lines.at)
+        {
+            return Err(refusal);
+        }
+        let mark = self.mark(windows, spot)?;
+        self.list.lists[spot.list]
+            .cells
+            .delete_columns(lines.count, lines.at)?;
+        let _scrolled = self.scroll_by(spot, 0, 0);
+        self.show_with_bars(windows, controls, spot, mark, true);
+        Ok(ListReply::Done)
+    }
+
+    /// Scrolls a list.
+    pub(crate) fn scroll(
+        &mut self,
+        windows: &mut WindowManager,
+        controls: &mut Controls<TakenControl>,
+        scrolled: ScrollList,
+    ) -> Result<ListReply, Refusal>
+        requires kept { IsKept ⟦<Taken as Defined>⟧.loan windows.old }
+        requires beside { AreControlsBeside ⟦<TakenControl as DefinedControl>⟧.control_loan ⟦<Taken as Defined>⟧.loan windows.old controls.old }
+        requires lists { AreBeside ⟦<TakenList as DefinedList>⟧.list_loan ⟦<Taken as Defined>⟧.loan windows.old self.old }
+        ensures { LeavesLists ⟦<TakenList as DefinedList>⟧.list_loan ⟦<Taken as Defined>⟧.loan ⟦<TakenControl as DefinedControl>⟧.control_loan
+            (IsListStep (asks.Scroll scrolled) result) windows.old controls.old self.old windows.new controls.new self.new }
+    {
+        let spot = self.spot(windows, scrolled.list)?;
+        let mark = self.mark(windows, spot)?;
+        let changes = self.scroll_by(spot, scrolled.columns, scrolled.rows);
+        self.show_with_bars(windows, controls, spot, mark, changes);
+        Ok(ListReply::Done)
+    }
+}

@@ -1,0 +1,61 @@
+//! Calls, one by one.
+ghost use Rattle.std.specs.Prelude.{[]};
+ghost use Rattle.window_mgr.specs.Kept.{IsKept};
+ghost use Rattle.window_mgr.specs.Records.{desk_of};
+ghost use Rattle.control_mgr.specs.WholeControls.{AreWholeControls, controls_state};
+ghost use Rattle.list_mgr.specs.ListSteps.{IsListStep};
+ghost use Rattle.list_mgr.specs.WholeLists.{AreWholeLists, LeavesOver, lists_state};
+
+use crate::Lists;
+use control_mgr::Controls;
+use def_iface::{
+    ControlStock, Defined, DefinedControl, DefinedList, ListStock, StockedControls, StockedLists,
+    Taken, TakenControl, TakenList,
+};
+use desk_call::{ListCall, ListReply};
+use tb_geom::Refusal;
+use window_mgr::WindowManager;
+
+impl Lists<TakenList> {
+    /// Performs one call on these lists of these windows, which have these controls, and gives its answer. A refused call changes
+    /// nothing; which refusal comes first where several would do stands with the call.
+    pub fn perform(
+        &mut self,
+        windows: &mut WindowManager,
+        controls: &mut Controls<TakenControl>,
+        call: &ListCall<'_>,
+        stock: &mut ListStock,
+        bars: &mut ControlStock,
+    ) -> Result<ListReply, Refusal>
+        requires kept { IsKept ⟦<Taken as Defined>⟧.loan windows.old }
+        requires controls_whole { AreWholeControls (desk_of ⟦<Taken as Defined>⟧.loan windows.old []).windows
+            (controls_state ⟦<TakenControl as DefinedControl>⟧.control_loan controls.old (⟦<ControlStock as StockedControls>⟧.control_slots bars.old)) }
+        requires lists_whole { AreWholeLists (desk_of ⟦<Taken as Defined>⟧.loan windows.old []).windows
+            (lists_state ⟦<TakenList as DefinedList>⟧.list_loan self.old (⟦<ListStock as StockedLists>⟧.list_slots stock.old)) }
+        ensures { LeavesOver ⟦<TakenList as DefinedList>⟧.list_loan ⟦<Taken as Defined>⟧.loan ⟦<TakenControl as DefinedControl>⟧.control_loan
+            (⟦<ControlStock as StockedControls>⟧.control_slots bars.old) (⟦<ControlStock as StockedControls>⟧.control_slots bars.new)
+            (⟦<ListStock as StockedLists>⟧.list_slots stock.old) (⟦<ListStock as StockedLists>⟧.list_slots stock.new)
+            (IsListStep call.now result) windows.old controls.old self.old windows.new controls.new self.new }
+    {
+        match call {
+            ListCall::New(new) => self.make(windows, controls, new, stock, bars),
+            ListCall::Dispose(list) => self.dispose(windows, controls, *list, stock, bars),
+            ListCall::AddRows(lines) => self.add_rows(windows, controls, *lines),
+            ListCall::AddColumns(lines) => self.add_columns(windows, controls, *lines),
+            ListCall::DeleteRows(lines) => self.delete_rows(windows, controls, *lines),
+            ListCall::DeleteColumns(lines) => self.delete_columns(windows, controls, *lines),
+            ListCall::SetCell(set) => self.set_cell(windows, set),
+            ListCall::AddToCell(added) => self.add_to_cell(windows, added),
+            ListCall::ClearCell(cleared) => self.clear_cell(windows, *cleared),
+            ListCall::GetCell(asked) => self.data(windows, *asked),
+            ListCall::Select(chosen) => self.select(windows, *chosen),
+            ListCall::IsSelected(asked) => self.is_selected(windows, *asked),
+            ListCall::FirstSelected(asked) => self.first_selected(windows, *asked),
+            ListCall::NextCell(asked) => self.next_cell(windows, *asked),
+            ListCall::Search(asked) => self.search(windows, asked),
+            ListCall::Click(clicked) => self.click(windows, *clicked),
+            ListCall::Scroll(scrolled) => self.scroll(windows, controls, *scrolled),
+            ListCall::SetDrawing(set) => self.set_drawing(windows, *set),
+        }
+    }
+}

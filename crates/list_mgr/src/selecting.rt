@@ -1,0 +1,142 @@
+//! What changes the selection of a list's cells.
+ghost use Rattle.std.specs.Prelude.{◌≡◌, [], Some, slice_get};
+ghost use Rattle.desk_call.specs.declared.list.ListCall.TheVariants as asks;
+ghost use Rattle.window_mgr.specs.Kept.{IsKept};
+ghost use Rattle.list_mgr.specs.ListSteps.{IsListStep};
+ghost use Rattle.list_cells.specs.Selections.{selected_by};
+ghost use Rattle.list_paint.specs.Shown.{is_turned};
+ghost use Rattle.list_records.specs.Seen.{seen};
+ghost use Rattle.list_mgr.specs.Changing.{IsMark, IsToggledOrMarked};
+ghost use Rattle.list_mgr.specs.Spots.{IsSpot};
+ghost use Rattle.list_mgr.specs.WholeLists.{AreBeside, IsChangedOver, IsSettledList, records_of};
+
+use crate::Lists;
+use crate::spots::Spot;
+use def_iface::{Defined, DefinedList, Taken, TakenList};
+use desk_call::{ListClick, ListReply, SelectCell};
+use draw_port::Canvas;
+use list_cells::{Cell, ClickKeys, Selecting};
+use list_paint::{DrawnList, toggle_cells};
+use list_records::ListRecord;
+use scan_region::Region;
+use tb_geom::Refusal;
+use window_mgr::WindowManager;
+use window_paint::Toggling;
+
+/// A list, and what a call is about to make of its selection.
+#[derive(Drop)]
+struct Toggled<'a, D> {
+    list: &'a ListRecord<D>,
+    selecting: Selecting,
+}
+
+impl<'a, D: DrawnList> Toggling for Toggled<'a, D> {
+    ghost is_ready = { λ t. IsSettledList (seen D.list_loan t.list.now) };
+
+    ghost toggles = { λ t font. is_turned font (D.list_loan t.list.now.definition).definition t.list.now.view t.list.now.cells
+        (selected_by t.selecting t.list.now.cells) };
+
+    fn invert(&self, canvas: &mut Canvas<'_>) {
+        let list = self.list;
+        toggle_cells(
+            &list.definition,
+            list.view,
+            &list.cells,
+            self.selecting,
+            canvas,
+        );
+    }
+}
+
+impl Lists<TakenList> {
+    /// Inverts what a call is about to toggle of a list's selection, or, where its drawing is off and it toggles something, makes
+    /// this the update region of its window. It takes no memory.
+    fn toggle(
+        &self,
+        windows: &mut WindowManager,
+        spot: Spot,
+        mark: Option<Region>,
+        selecting: Selecting,
+    )
+        requires kept { IsKept ⟦<Taken as Defined>⟧.loan windows.old }
+        requires beside { AreBeside ⟦<TakenList as DefinedList>⟧.list_loan ⟦<Taken as Defined>⟧.loan windows.old self.now }
+        requires spot { IsSpot ⟦<Taken as Defined>⟧.loan ⟦<TakenList as DefinedList>⟧.list_loan windows.old self.now spot }
+        requires mark { IsMark ⟦<TakenList as DefinedList>⟧.list_loan ⟦<Taken as Defined>⟧.loan windows.old self.now spot mark }
+        ensures { IsToggledOrMarked ⟦<TakenList as DefinedList>⟧.list_loan ⟦<Taken as Defined>⟧.loan mark selecting spot self.now windows.old windows.new }
+    {
+        let list = &self.list.lists[spot.list];
+        match mark {
+            None => {
+                let layer = self.layer(windows, spot);
+                windows.toggle_layer(spot.window, layer, &Toggled { list, selecting });
+            }
+            Some(update) => {
+                if list.cells.changes_by(selecting) {
+                    windows.set_update(spot.window, update);
+                }
+            }
+        }
+    }
+
+    /// Selects a cell, or deselects it.
+    pub(crate) fn select(
+        &mut self,
+        windows: &mut WindowManager,
+        chosen: SelectCell,
+    ) -> Result<ListReply, Refusal>
+        requires kept { IsKept ⟦<Taken as Defined>⟧.loan windows.old }
+        requires beside { AreBeside ⟦<TakenList as DefinedList>⟧.list_loan ⟦<Taken as Defined>⟧.loan windows.old self.old }
+        ensures { IsChangedOver ⟦<TakenList as DefinedList>⟧.list_loan ⟦<Taken as Defined>⟧.loan
+            (IsListStep (asks.Select chosen) result) windows.old self.old windows.new self.new }
+    {
+        let spot = self.spot(windows, chosen.cell.list)?;
+        let list = &self.list.lists[spot.list];
+        let alone = list.flags.only_one;
+        let Some(selecting) = list
+            .cells
+            .choosing(chosen.cell.cell, chosen.selected, alone)
+        else {
+            return Err(Refusal::NoSuchCell);
+        };
+        let mark = self.mark(windows, spot)?;
+        self.toggle(windows, spot, mark, selecting);
+        self.list.lists[spot.list]
+            .cells
+            .select(chosen.cell.cell, chosen.selected, alone)?;
+        Ok(ListReply::Done)
+    }
+
+    /// The mouse was clicked at a point of a list's window.
+    pub(crate) fn click(
+        &mut self,
+        windows: &mut WindowManager,
+        clicked: ListClick,
+    ) -> Result<ListReply, Refusal>
+        requires kept { IsKept ⟦<Taken as Defined>⟧.loan windows.old }
+        requires beside { AreBeside ⟦<TakenList as DefinedList>⟧.list_loan ⟦<Taken as Defined>⟧.loan windows.old self.old }
+        ensures { IsChangedOver ⟦<TakenList as DefinedList>⟧.list_loan ⟦<Taken as Defined>⟧.loan
+            (IsListStep (asks.Click clicked) result) windows.old self.old windows.new self.new }
+    {
+        let spot = self.spot(windows, clicked.list)?;
+        if !clicked.point.is_in_range() {
+            return Err(Refusal::OutOfRange);
+        }
+        let Ok(modifiers) = u16::try_from(clicked.modifiers) else {
+            return Err(Refusal::OutOfRange);
+        };
+        let keys = ClickKeys::of_modifiers(modifiers);
+        let list = &self.list.lists[spot.list];
+        let Some(cell) = list
+            .view
+            .cell_at(clicked.point, list.cells.columns(), list.cells.rows())
+        else {
+            return Ok(ListReply::Clicked(false));
+        };
+        let flags = list.flags;
+        let selecting = list.cells.clicking(cell, flags, keys).unwrap();
+        let mark = self.mark(windows, spot)?;
+        self.toggle(windows, spot, mark, selecting);
+        let _clicked = self.list.lists[spot.list].cells.click(cell, flags, keys);
+        Ok(ListReply::Clicked(true))
+    }
+}

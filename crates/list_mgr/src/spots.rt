@@ -1,0 +1,39 @@
+//! Where a list stands, and its window.
+ghost use Rattle.std.specs.Prelude.{◌≡◌, [], Some, MatchResult};
+ghost use Rattle.tb_geom.specs.Refusals.{first_refusal};
+ghost use Rattle.window_mgr.specs.Records.{desk_of};
+ghost use Rattle.list_mgr.specs.ListRefusals.{missing_refusals};
+ghost use Rattle.list_mgr.specs.Spots.{IsSpotOf};
+ghost use Rattle.list_mgr.specs.WholeLists.{records_of};
+
+use crate::Lists;
+use def_iface::{Defined, DefinedList, Taken, TakenList};
+use desk_call::ListOf;
+use tb_geom::Refusal;
+use window_mgr::WindowManager;
+
+/// The index of a list in the list of lists, and that of its window from the front.
+#[derive(Clone, Copy)]
+pub(crate) struct Spot {
+    pub window: usize,
+    pub list: usize,
+}
+
+impl Lists<TakenList> {
+    /// Where this list stands.
+    pub(crate) fn spot(&self, windows: &WindowManager, list: ListOf) -> Result<Spot, Refusal>
+        ensures { let refusals = missing_refusals list (desk_of ⟦<Taken as Defined>⟧.loan windows.now [])
+            (records_of ⟦<TakenList as DefinedList>⟧.list_loan self.now) in
+            MatchResult result
+            (λ spot. IsSpotOf ⟦<Taken as Defined>⟧.loan ⟦<TakenList as DefinedList>⟧.list_loan list windows.now self.now spot)
+            (λ e. first_refusal refusals ≡ Some e) }
+    {
+        let Some(window) = windows.find(list.window) else {
+            return Err(Refusal::NoSuchWindow);
+        };
+        match self.list.find(list.window, list.list) {
+            Some(list) => Ok(Spot { window, list }),
+            None => Err(Refusal::NoSuchList),
+        }
+    }
+}

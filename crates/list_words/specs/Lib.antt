@@ -1,0 +1,2 @@
+pub mod ListLines
+pub mod ListWords
