@@ -94,4 +94,4 @@ def shown(text):
     """The beginning of a text's first line, between quotes."""
     line = text.split(b"\n")[0]
     more = "..." if len(line) > LONGEST_SHOWN else ""
-    return repr(line[:LONGEST_SHOWN].decode("ascii", "backslashreplace")) + more
+    return repr(line[:LONGEST_SHOWN])[1:] + more

@@ -21,10 +21,6 @@ class Difference(NamedTuple):
     found: bytes
     due: bytes
 
-    def place(self):
-        """A word for where the command is, to be part of a file's name."""
-        return f"line-{self.command.line}" if self.command else "end"
-
     def said(self):
         """The difference in a sentence."""
         line = f"line {self.command.line}, {shown(self.command.text)}" if self.command else "after the last command"
@@ -36,10 +32,12 @@ class Difference(NamedTuple):
         return f"{line}: {said_of_texts(self.found, self.due)}"
 
     def pictures(self):
-        """What of the difference is an image, each with a word for it: found, due and, where both are, differ."""
+        """What of the difference is an image, each with words for it that are fit for a file's name: the line of the
+        command, and found, due or, where both are, differ."""
+        line = f"line-{self.command.line}" if self.command else "end"
         found, due = image_in(self.found), image_in(self.due)
         named = {"found": found, "due": due, "differ": found and due and differing(found, due)}
-        return {name: rows for name, rows in named.items() if rows}
+        return {f"{line}.{name}": rows for name, rows in named.items() if rows}
 
 
 class DifferenceOfBytes(NamedTuple):

@@ -152,16 +152,14 @@ class Row:
         return DifferenceOfBytes("standard output", ran.out, call.out)
 
     def store(self, out):
-        """Makes this the whole standard output that is due. Gives the file's path, and what it said before: None where it
-        was not there."""
-        before = self.output()
+        """Makes this the whole standard output that is due, and gives the path of the file that says so."""
         ending = ".out" if self.part(".hex") is None else ".hex"
         lines = [out[place : place + BYTES_OF_A_LINE] for place in range(0, len(out), BYTES_OF_A_LINE)]
-        digits = "".join(line.hex(" ", 2) + "\n" for line in lines).encode("ascii")
-        if out != before:
+        digits = "".join(line.hex(" ", -2) + "\n" for line in lines).encode("ascii")
+        if out != self.output():
             with open(self.path + ending, "wb") as file:
                 file.write(out if ending == ".out" else digits)
-        return self.path + ending, before
+        return self.path + ending
 
 
 def writes_answers(words):
