@@ -90,6 +90,14 @@ def answers_of(text):
     return answers
 
 
+def answers_to(commands, text):
+    """The answers that a text is made of, one for each of these commands."""
+    answers = answers_of(text)
+    if len(answers) != len(commands):
+        raise Fault(f"commands: {len(commands)}, answers: {len(answers)}")
+    return answers
+
+
 def shown(text):
     """The beginning of a text's first line, between quotes."""
     line = text.split(b"\n")[0]

@@ -24,12 +24,7 @@ class Difference(NamedTuple):
     def said(self):
         """The difference in a sentence."""
         line = f"line {self.command.line}, {shown(self.command.text)}" if self.command else "after the last command"
-        images = image_in(self.found), image_in(self.due)
-        if all(images):
-            return f"{line}: {said_of_images(*images)}"
-        if None in (self.found, self.due) or any(images):
-            return f"{line}: {said_of(self.found)} in place of {said_of(self.due)}"
-        return f"{line}: {said_of_texts(self.found, self.due)}"
+        return f"{line}: {said_of_answers(self.found, self.due)}"
 
     def pictures(self):
         """What of the difference is an image, each with words for it that are fit for a file's name: the line of the
@@ -91,6 +86,16 @@ def differing(found, due):
 def pixel(rows, h, v):
     """The pixel of an image in this column and row, or None where it has none."""
     return rows[v][h] if v < len(rows) and h < len(rows[v]) else None
+
+
+def said_of_answers(found, due):
+    """How two answers differ."""
+    images, said = (image_in(found), image_in(due)), (said_of(found), said_of(due))
+    if all(images):
+        return said_of_images(*images)
+    if said[0] == said[1] or all(it is not None and not is_image(it) for it in (found, due)):
+        return said_of_texts(found, due)
+    return f"{said[0]} in place of {said[1]}"
 
 
 def said_of(answer):

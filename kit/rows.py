@@ -130,13 +130,15 @@ class Row:
             ran = subprocess.run([name, *words], **files, input=script, capture_output=True, timeout=SECONDS)
         except subprocess.TimeoutExpired:
             raise Fault(f"it had not ended after {SECONDS} seconds") from None
+        except ValueError as fault:
+            raise Fault(f"it cannot be called so: {fault}") from None
         return Ran(ran.returncode, ran.stdout, ran.stderr)
 
     def faults(self, ran):
         """What is wrong with the status and standard error of a run, a sentence each."""
         status, err, found = self.status(), self.part(".err"), []
         if ran.status != status:
-            found.append(f"the status is {ran.status} in place of {status}")
+            found.append(f"{said_of_status(ran.status)} in place of {status}")
         if err is not None and ran.err != err:
             found.append(DifferenceOfBytes("standard error", ran.err, err).said())
         if err is None and bool(ran.err) != bool(status):
@@ -160,6 +162,11 @@ class Row:
             with open(self.path + ending, "wb") as file:
                 file.write(out if ending == ".out" else digits)
         return self.path + ending
+
+
+def said_of_status(status):
+    """How a program ended, by its status, which is below 0 where a signal ended it."""
+    return f"the status is {status}" if status >= 0 else f"the status is that of the signal {-status}"
 
 
 def writes_answers(words):

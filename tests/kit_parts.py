@@ -94,6 +94,7 @@ def the_first_difference_is_said(_):
         (b"ok\n" + flat, f"{there} of 2 by 1 {small} in 5 pixels, the first at 1 0, black in place of white"),
         (b"ok\nrefused 1 NoMemory\n", "line 3, 'image': 'refused 1 NoMemory' in place of an image of 3 by 2"),
         (b"ok\n" + SMALL[:-2], "line 3, 'image': a broken image in place of an image of 3 by 2"),
+        (b"ok\nP1\n3 2\n1x1\n010\n", "line 3, 'image': a broken image in place of an image of 3 by 2"),
         (b"", "line 1, 'desk 3 2 0': nothing in place of 'ok'"),
         (b"ok\n" + SMALL, "line 4, 'find 0 0': nothing in place of 'ok 0 0'"),
         (stored[:-1], "line 4, 'find 0 0': 'ok 0 0' without the end of the line"),
@@ -101,6 +102,11 @@ def the_first_difference_is_said(_):
     ]:
         difference = first_difference(script, found, stored)
         same(f"what is said of {found!r}", difference and difference.said(), said)
+    broken = SMALL.replace(b"101", b"x0x")
+    said = "line 1, 'image': a broken image in place of 'ok'"
+    same("a broken image for a line", first_difference(b"image\n", broken, b"ok\n").said(), said)
+    said = "line 1, 'image': '101' in place of 'x0x'"
+    same("two broken images", first_difference(b"image\n", SMALL[:10], broken).said(), said)
 
 
 def a_long_answer_is_shown_where_it_differs(_):
