@@ -2,6 +2,7 @@
 
 import zlib
 
+from kit import rows
 from kit.answers import Command, Fault, answers_of, commands_of, split
 from kit.differences import first_difference
 from kit.pictures import image_of, images, p4_of, pixels_of, png_of
@@ -68,10 +69,10 @@ def an_answer_is_an_image(_):
 
 
 def files_of_images_have_their_pixels(_):
-    rows = ["101", "010"]
-    same("the raw format", p4_of(rows), b"P4\n3 2\n\xa0\x40")
+    image = ["101", "010"]
+    same("the raw format", p4_of(image), b"P4\n3 2\n\xa0\x40")
     same("nine pixels", p4_of(["000000011"]), b"P4\n9 1\n\x01\x80")
-    png = png_of(rows, 2)
+    png = png_of(image, 2)
     # Six by four pixels of one bit, gray, no interlacing. 1 is white: 110011 is 00110011 in a whole byte.
     same("the head", png[:29], b"\x89PNG\r\n\x1a\n\0\0\0\rIHDR\0\0\0\x06\0\0\0\x04\x01\0\0\0\0")
     length = int.from_bytes(png[33:37], "big")
@@ -109,11 +110,32 @@ def the_first_difference_is_said(_):
     same("two broken images", first_difference(b"image\n", SMALL[:10], broken).said(), said)
 
 
+def images_of_two_sizes_differ_where_one_has_no_pixel(_):
+    wide = b"P1\n4 1\n1010\n"
+    drawn = {"line-1.found": ["1010"], "line-1.due": ["101", "010"], "line-1.differ": ["0001", "1110"]}
+    same("the pictures", first_difference(b"image\n", wide, SMALL).pictures(), drawn)
+    same("those of one alone", first_difference(b"image\n", b"", SMALL).pictures(), {"line-1.due": ["101", "010"]})
+    same("those of no command", first_difference(b"", wide, b"").pictures(), {"end.found": ["1010"]})
+
+
 def a_long_answer_is_shown_where_it_differs(_):
     """The texts differ at the byte 104, which is the last digit: 20 bytes before it are shown."""
     due = b"ok " + b"0A" * 50 + b"0\n"
     said = f"line 1, '{'x' * 60}'...: ...'{'0A' * 10}1' in place of ...'{'0A' * 10}0'"
     same("what is said", first_difference(b"x" * 70, due.replace(b"0\n", b"1\n"), due).said(), said)
+
+
+def a_run_that_does_not_end_is_broken_off(place):
+    place.write("slow", "#!/bin/sh\nexec sleep 60\n", 0o755)
+    place.write("row.desk", "")
+    usual, rows.SECONDS = rows.SECONDS, 0.1
+    try:
+        rows.Row(place.path("row")).run(place.path("slow"))
+        raise Fault("it ended")
+    except Fault as fault:
+        same("what is said", str(fault), "it had not ended after 0.1 seconds")
+    finally:
+        rows.SECONDS = usual
 
 
 TESTS = [
@@ -122,5 +144,7 @@ TESTS = [
     an_answer_is_an_image,
     files_of_images_have_their_pixels,
     the_first_difference_is_said,
+    images_of_two_sizes_differ_where_one_has_no_pixel,
     a_long_answer_is_shown_where_it_differs,
+    a_run_that_does_not_end_is_broken_off,
 ]
