@@ -1,0 +1,76 @@
+"""Images of scripts, and files of them. An image is its rows, from the top, each a text of 0 for white and 1 for black."""
+
+import struct
+import zlib
+
+from kit.answers import PIXELS_OF_A_LINE, Fault, is_image, lines_of_a_row, split
+
+SIGNATURE = b"\x89PNG\r\n\x1a\n"
+
+
+def images(text):
+    """The images among the answers that a text is made of."""
+    answers, rest = split(text)
+    if is_image(rest):
+        raise Fault("the image is not whole")
+    return [image_of(answer) for answer in answers if is_image(answer)]
+
+
+def image_of(answer):
+    """The image that an answer is."""
+    _, sides, *lines, _ = answer.split(b"\n")
+    width, height = map(int, sides.split())
+    count = lines_of_a_row(width)
+    lengths = [PIXELS_OF_A_LINE] * (count - 1) + [width - PIXELS_OF_A_LINE * (count - 1)]
+    bits = b"".join(lines).decode("latin-1")
+    if [len(line) for line in lines] != lengths * height or bits.strip("01"):
+        raise Fault("the lines of the image are not its rows")
+    return [bits[v * width : (v + 1) * width] for v in range(height)]
+
+
+def packed(row):
+    """The bytes of a row, eight pixels in each, the leftmost one in the high bit. What is left over is 0."""
+    count = (len(row) + 7) // 8
+    return int(row.ljust(8 * count, "0"), 2).to_bytes(count, "big")
+
+
+def p4_of(rows):
+    """The image in the raw PBM format."""
+    return b"P4\n%d %d\n" % (len(rows[0]), len(rows)) + b"".join(map(packed, rows))
+
+
+def part(kind, data):
+    """A chunk of a PNG file."""
+    return struct.pack(">I", len(data)) + kind + data + struct.pack(">I", zlib.crc32(kind + data))
+
+
+def png_of(rows, scale):
+    """The PNG of an image. Each pixel becomes a square of scale by scale pixels."""
+    data = b""
+    for row in rows:
+        # A PNG has 1 for white.
+        wide = bytes(255 - byte for byte in packed("".join(bit * scale for bit in row)))
+        data += (b"\0" + wide) * scale
+    head = struct.pack(">IIBBBBB", len(rows[0]) * scale, len(rows) * scale, 1, 0, 0, 0, 0)
+    chunks = [part(b"IHDR", head), part(b"IDAT", zlib.compress(data, 9)), part(b"IEND", b"")]
+    return SIGNATURE + b"".join(chunks)
+
+
+def pixels_of(png):
+    """The rows of a PNG that png_of made."""
+    if not png.startswith(SIGNATURE):
+        raise Fault("it is no PNG")
+    at, data, sides = len(SIGNATURE), b"", (0, 0)
+    while at < len(png):
+        (length,) = struct.unpack_from(">I", png, at)
+        kind, body = png[at + 4 : at + 8], png[at + 8 : at + 8 + length]
+        if kind == b"IHDR":
+            sides = struct.unpack_from(">II", body)
+        elif kind == b"IDAT":
+            data += body
+        at += 12 + length
+    width, height = sides
+    data = zlib.decompress(data)
+    stride = 1 + (width + 7) // 8
+    rows = [data[1 + v * stride : (v + 1) * stride] for v in range(height)]
+    return ["".join(f"{255 - byte:08b}" for byte in row)[:width] for row in rows]
