@@ -17,7 +17,6 @@ use std::test::Fail;
 use std_wdef::{StdWindow, Variation};
 use strike_font::Font;
 use tb_geom::{Point, Rect, Refusal};
-use window_paint::NothingShown;
 
 /// The pixels of the screen.
 const SCREEN: Rect = rect!(0, 0, 16, 10);
@@ -145,7 +144,7 @@ fn a_desk_is_called_and_painted(rt: HostRuntime) -> Result<(), Fail> {
     let bar = bar(alloc)?;
     let answers = desk.run(&calls(&bar), &mut stock)?;
     let shown = picture(alloc, desk.screen(), SCREEN)?;
-    let painted = picture(alloc, &paint(alloc, &desk, &NothingShown)?, SCREEN)?;
+    let painted = picture(alloc, &paint(alloc, &desk)?, SCREEN)?;
     let right = desk.pixels_right(1, rect!(0, 0, 3, 6));
     let stale = desk.pixels_right(1, rect!(3, 0, 6, 6));
     desk.close(&mut stock);

@@ -36,6 +36,7 @@ pub mod Histories
 pub mod Shown
 pub mod FrontLaws
 pub mod FindLaws
+pub mod FindWindowLaws
 pub mod LeftByMenus
 pub mod MenusBeside
 pub mod UpdatesBeside

@@ -9,8 +9,12 @@ use Rattle.def_iface.specs.Owner.{Owner, own_bit, owner}
 use Rattle.def_iface.specs.Scratch.{scratch}
 use Rattle.desk_call.specs.declared.control.FoundControl.{FoundControl}
 use Rattle.desk_call.specs.declared.control.PointInWindow.{PointInWindow}
+use Rattle.desk_call.specs.declared.window.Found.{Found}
+use Rattle.desk_call.specs.declared.window.WindowPart.TheVariants.{InDesk, InMenuBar}
 use Rattle.menu_overlay.specs.Overlays.{Pulled, pulled_bit, shown_bit}
-use Rattle.window_mgr.specs.Finding.{record_with}
+use Rattle.vis_update.specs.Records.{WindowRecord}
+use Rattle.window_mgr.specs.Finding.{found_none, record_with}
+use Rattle.window_mgr.specs.Finding as windows
 use Rattle.window_mgr.specs.FullDesk.{layered_desk}
 use Rattle.control_mgr.specs.ControlDesks.{ControlRecord}
 use Rattle.control_mgr.specs.ControlSteps.{found_by}
@@ -71,3 +75,13 @@ found_on_screen s asked = option_map_or
     (λ w. let p = plus w.place asked.point in if on_screen (layered_desk s.desk.windows.desk) p
     then found_by_owner (screen_owner s p) asked.window s.controls.controls asked.point else None)
     (record_with asked.window s.desk.windows.desk.windows) None
+
+-- the window and the part of it that are found at a point by the owner of the pixel there: the pulled menu counts as the menu bar
+abbrev pub window_by_owner : ScreenOwner → List WindowRecord → Point → Found
+window_by_owner PulledMenu ws p = found_none InMenuBar
+window_by_owner (Base o) ws p = windows.found_by ws o p
+
+-- so at a pixel of the screen, and nothing off it
+abbrev pub window_on_screen : ToolboxState → Point → Found
+window_on_screen s p = if on_screen (layered_desk s.desk.windows.desk) p
+    then window_by_owner (screen_owner s p) s.desk.windows.desk.windows p else found_none InDesk

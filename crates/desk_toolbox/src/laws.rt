@@ -52,13 +52,14 @@ ghost use Rattle.desk_call.specs.declared.call.Call.{Call};
 ghost use Rattle.desk_call.specs.declared.call.Call.TheVariants.{Control, Menu, Window};
 ghost use Rattle.desk_call.specs.declared.call.Reply.TheVariants as reply;
 ghost use Rattle.desk_call.specs.declared.window.WindowCall.TheVariants.{Find};
+ghost use Rattle.desk_call.specs.declared.window.WindowReply.TheVariants as window_reply;
 ghost use Rattle.desk_call.specs.declared.call.Reply.{Reply};
 ghost use Rattle.window_update.specs.Served.{AreAllServed, IsAllRight};
 ghost use Rattle.window_frame.specs.Followers.{AreInformed};
 ghost use Rattle.desk_toolbox.specs.Activations.{activate_events_told, IsNeverDisposed};
 ghost use Rattle.desk_toolbox.specs.Reached.{AreContentsRight, IsConsistent, IsJustBegun, news_by_record};
 ghost use Rattle.def_iface.specs.Desk.{on_screen};
-ghost use Rattle.desk_toolbox.specs.Fronts.{IsScreenAllRight, IsScreenRight, found_on_screen, is_on_menu, screen_bit, screen_of, screen_owner, screen_scratch};
+ghost use Rattle.desk_toolbox.specs.Fronts.{IsScreenAllRight, IsScreenRight, found_on_screen, is_on_menu, screen_bit, screen_of, screen_owner, screen_scratch, window_on_screen};
 ghost use Rattle.desk_toolbox.specs.Fronts.ScreenOwner.{PulledMenu, Base};
 ghost use Rattle.desk_toolbox.specs.ToolboxStates.{ToolboxState, IsToolboxUnchanged};
 ghost use Rattle.desk_toolbox.specs.Run.{IsStep, IsRunOfCalls, controls_made, found_menu, lists_made, made, AreCounted, AreCountedAlong};
@@ -236,6 +237,16 @@ pub fn a_pulled_menu_is_found_as_the_menu_bar()
     ensures { (p : Point) (answer : Result Reply Refusal) (before after : ToolboxState)
         → is_on_menu before p ≡ true → IsStep (Window (Find p)) answer before after
         → (answer ≡ Ok (reply.Window found_menu)) × IsToolboxUnchanged before after }
+{}
+
+/// FindWindow, asked for a point within the range of coordinates, answers for the owner of the pixel of the screen there: the
+/// window that owns it, with the part of it that its definition says, or the desktop or the menu bar, which the pulled menu
+/// counts as. Off the screen it finds nothing.
+#[tactic(auto, using(crate::proofs::FindWindowLaws::window_is_found_by_owner))]
+pub fn a_window_is_found_by_the_owner_of_the_pixel()
+    ensures { (p : Point) (answer : Result Reply Refusal) (before after : ToolboxState) → in_plane p ≡ true
+        → IsStep (Window (Find p)) answer before after
+        → answer ≡ Ok (reply.Window (window_reply.Found (window_on_screen before p))) }
 {}
 
 /// FindControl, asked for a point of a window of the desk within the range of coordinates, answers for the owner of the

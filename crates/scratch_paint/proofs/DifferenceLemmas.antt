@@ -9,7 +9,6 @@ use Rattle.tb_geom.specs.Points.{PixelSet}
 use Rattle.tb_geom.specs.Rects.{between, rect_holds}
 use Rattle.bit_map.specs.Bits.{Bits, on_map, bit}
 use Rattle.region_bytes.specs.Edges.{differ}
-use Rattle.def_iface.specs.declared.part.Part.{Part}
 use Rattle.def_iface.specs.Desk.{on_screen}
 use Rattle.def_iface.specs.Scratch.{scratch}
 use Rattle.window_mgr.proofs.Arranged.{between-is_below}
@@ -17,7 +16,7 @@ use Rattle.window_mgr.specs.FullDesk.{FullDesk, IsRightState, layered_desk}
 use Rattle.menu_overlay.specs.Overlays.{Pulled, pulled_bit, pulled_rect, shown_bit}
 use Rattle.desk_toolbox.specs.Fronts.{pulled, screen_of, screen_scratch}
 use Rattle.desk_toolbox.specs.ToolboxStates.{ToolboxState}
-use Rattle.scratch_paint.specs.Screens.{IsAsLarge, IsPaintedScreen, toolbox_showing}
+use Rattle.scratch_paint.specs.Screens.{IsAsLarge, IsPaintedScreen}
 use Rattle.scratch_paint.specs.Differences.{differs, row_differences, differences_of, difference_count}
 
 -- ---- a desk that is right
@@ -71,23 +70,23 @@ none_differs s right =
 
 -- ---- from a map that was painted from nothing
 
-module _ (shows : List ℕ → Part → PixelSet) (s : ToolboxState) (m : Bits) (painted : IsPaintedScreen (toolbox_showing shows s) m) where
-  from_painted : (p : Point) → differs s (bit m) p ≡ differs (toolbox_showing shows s) (screen_scratch (toolbox_showing shows s)) p
+module _ (s : ToolboxState) (m : Bits) (painted : IsPaintedScreen s m) where
+  from_painted : (p : Point) → differs s (bit m) p ≡ differs s (screen_scratch s) p
   from_painted p = by_test (on_screen (layered_desk s.desk.windows.desk) p) refl
     where
-      by_test : (b : Bool) → on_screen (layered_desk s.desk.windows.desk) p ≡ b → differs s (bit m) p ≡ differs (toolbox_showing shows s) (screen_scratch (toolbox_showing shows s)) p
+      by_test : (b : Bool) → on_screen (layered_desk s.desk.windows.desk) p ≡ b → differs s (bit m) p ≡ differs s (screen_scratch s) p
       by_test true on = λ i. on_screen (layered_desk s.desk.windows.desk) p && (not (s.desk.windows.stale p) && differ (screen_of s p) (painted.pixels p on i))
       by_test false off = rw off refl
 
   -- as many pixels differ from it as from the desk painted from nothing
-  pub as_many_differ : (n : ℕ) → n ≡ differences_of s (bit m) m.width m.height → n ≡ difference_count (toolbox_showing shows s)
+  pub as_many_differ : (n : ℕ) → n ≡ differences_of s (bit m) m.width m.height → n ≡ difference_count s
   unfolding row_differences differences_of
   as_many_differ n counted =
       counted
-      ∙ ap sum (mapped_alike (row_differences s (bit m) m.width) (row_differences (toolbox_showing shows s) (screen_scratch (toolbox_showing shows s)) m.width)
-      (λ v. counted_alike (differs s (bit m)) (differs (toolbox_showing shows s) (screen_scratch (toolbox_showing shows s))) from_painted (map (λ h. record { h = pos h; v = pos v }) (range_with_len 0 m.width)))
+      ∙ ap sum (mapped_alike (row_differences s (bit m) m.width) (row_differences s (screen_scratch s) m.width)
+      (λ v. counted_alike (differs s (bit m)) (differs s (screen_scratch s)) from_painted (map (λ h. record { h = pos h; v = pos v }) (range_with_len 0 m.width)))
       (range_with_len 0 m.height))
-      ∙ (λ i. differences_of (toolbox_showing shows s) (screen_scratch (toolbox_showing shows s)) (nat_abs (painted.wide i)) (nat_abs (painted.high i)))
+      ∙ (λ i. differences_of s (screen_scratch s) (nat_abs (painted.wide i)) (nat_abs (painted.high i)))
 
 -- ---- pixel by pixel
 

@@ -3,7 +3,6 @@ use Rattle.std.proofs.Common.{◌≡◌, ℕ, List, [], Option, pos, sym, ap, �
 use Rattle.tb_geom.specs.Points.{PixelSet}
 use Rattle.bit_map.specs.Bits.{Bits, bit}
 use Rattle.bit_map.proofs.BitsLemmas.{on_map-same}
-use Rattle.def_iface.specs.declared.part.Part.{Part}
 use Rattle.def_iface.specs.declared.taken.Taken.{Taken}
 use Rattle.def_iface.specs.declared.taken_control.TakenControl.{TakenControl}
 use Rattle.def_iface.specs.declared.taken_list.TakenList.{TakenList}
@@ -18,6 +17,10 @@ use Rattle.menu_overlay.specs.Overlays.{IsShown, Pulled}
 use Rattle.window_mgr.specs.declared.manager.WindowManager.{WindowManager}
 use Rattle.window_mgr.specs.FullDesk.{layered_desk}
 use Rattle.window_mgr.specs.Records.{desk_of, desk_showing}
+use Rattle.control_mgr.specs.ControlDesks.{controls_show}
+use Rattle.control_mgr.specs.WholeControls as controls
+use Rattle.list_mgr.specs.ListDesks.{lists_show}
+use Rattle.list_mgr.specs.WholeLists as lists
 use Rattle.menu_mgr.specs.declared.menus.Menus.{Menus}
 use Rattle.menu_mgr.specs.Pulling.{pulled_of}
 use Rattle.menu_mgr.specs.WholeMenus.{menus_of}
@@ -26,7 +29,7 @@ use Rattle.desk_toolbox.specs.Fronts.{pulled}
 use Rattle.desk_toolbox.specs.ToolboxStates.{ToolboxState}
 use Rattle.desk_toolbox.specs.WholeToolbox.{toolbox_state}
 use Rattle.scratch_paint.specs.Paints.{IsPaintedDesk}
-use Rattle.scratch_paint.specs.Screens.{IsPaintedScreen, toolbox_showing}
+use Rattle.scratch_paint.specs.Screens.{IsPaintedScreen}
 use Rattle.scratch_paint.proofs.DifferenceLemmas.{on_its_screen, shown_alike}
 
 -- the menu was drawn over the base image that was painted from nothing
@@ -41,14 +44,14 @@ over_base s base new painted shown = record {
 }
 
 -- and that is the screen of a Toolbox, where what was painted is its own
-pub screen_painted : {V : Type 0} {H : V → Type 0} (loan : Taken V H → Loan) {W : Type 0} {K : W → Type 0} (menu_loan : TakenMenu W K → MenuLoan) {U : Type 0} {J : U → Type 0} (control_loan : TakenControl U J → ControlLoan) {X : Type 0} {L : X → Type 0} (list_loan : TakenList X L → ListLoan) (shows : List ℕ → Part → PixelSet)
+pub screen_painted : {V : Type 0} {H : V → Type 0} (loan : Taken V H → Loan) {W : Type 0} {K : W → Type 0} (menu_loan : TakenMenu W K → MenuLoan) {U : Type 0} {J : U → Type 0} (control_loan : TakenControl U J → ControlLoan) {X : Type 0} {L : X → Type 0} (list_loan : TakenList X L → ListLoan)
     (t : Toolbox V U W X H J K L) (windows : WindowManager V H) (menus : Menus W K) (activity : Activity) (font : List ℕ) (base new : Bits)
     → windows ≡ t.windows → menus ≡ t.menus → activity ≡ t.activity → font ≡ windows.font
-    → IsPaintedDesk (desk_showing shows (desk_of loan windows [])) base
+    → IsPaintedDesk (desk_showing (controls_show (lists_show (lists.records_of list_loan t.lists)) (controls.records_of control_loan t.controls)) (desk_of loan windows [])) base
     → IsShown font (pulled_of activity (menus_of menu_loan menus.list.menus.items)) base new
-    → IsPaintedScreen (toolbox_showing shows (toolbox_state loan menu_loan control_loan list_loan t [] [] [] [])) new
-screen_painted loan menu_loan control_loan list_loan shows t windows menus activity font base new same_windows same_menus same_activity letters painted shown =
-    over_base (toolbox_showing shows (toolbox_state loan menu_loan control_loan list_loan t [] [] [] [])) base new
-    (subst (λ w. IsPaintedDesk (desk_showing shows (desk_of loan w [])) base) same_windows painted)
+    → IsPaintedScreen (toolbox_state loan menu_loan control_loan list_loan t [] [] [] []) new
+screen_painted loan menu_loan control_loan list_loan t windows menus activity font base new same_windows same_menus same_activity letters painted shown =
+    over_base (toolbox_state loan menu_loan control_loan list_loan t [] [] [] []) base new
+    (subst (λ w. IsPaintedDesk (desk_showing (controls_show (lists_show (lists.records_of list_loan t.lists)) (controls.records_of control_loan t.controls)) (desk_of loan w [])) base) same_windows painted)
     (subst (λ (x : List ℕ × Option Pulled). IsShown x.0 x.1 base new)
     (λ i. ((letters ∙ ap (λ w. w.font) same_windows) i, pulled_of (same_activity i) (menus_of menu_loan (same_menus i).list.menus.items))) shown)

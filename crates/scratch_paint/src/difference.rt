@@ -3,7 +3,7 @@ ghost use Rattle.std.specs.Prelude.{◌≡◌, ◌≤◌, ◌<◌, [], true, IfO
 ghost use Rattle.bit_map.specs.Bits.{bit, on_map};
 ghost use Rattle.desk_toolbox.specs.WholeToolbox.{IsKeptToolbox, toolbox_state};
 ghost use Rattle.scratch_paint.specs.Differences.{differs, row_differences, differences_of, difference_count};
-ghost use Rattle.scratch_paint.specs.Screens.{IsAsLarge, toolbox_showing};
+ghost use Rattle.scratch_paint.specs.Screens.{IsAsLarge};
 
 use crate::paint;
 use bit_map::BitMap;
@@ -13,21 +13,14 @@ use def_iface::{
 use desk_toolbox::Toolbox;
 use std::alloc::{AllocError, Global};
 use tb_geom::Point;
-use window_paint::Showing;
 
-/// How many pixels of the screen in no update region differ from the desk painted from nothing, where controls and lists
-/// show what `layers` says.
-pub fn differences<S: Showing>(
-    alloc: Global,
-    toolbox: &Toolbox,
-    layers: &S,
-) -> Result<usize, AllocError>
-    requires kept { IsKeptToolbox ⟦<Taken as Defined>⟧.loan ⟦<TakenMenu as DefinedMenu>⟧.menu_loan ⟦<TakenControl as DefinedControl>⟧.control_loan ⟦<TakenList as DefinedList>⟧.list_loan toolbox.now }
-    requires layers { S.is_whole layers.now }
-    ensures { IfOk result (λ n. n ≡ difference_count (toolbox_showing (S.shows layers.now)
-        (toolbox_state ⟦<Taken as Defined>⟧.loan ⟦<TakenMenu as DefinedMenu>⟧.menu_loan ⟦<TakenControl as DefinedControl>⟧.control_loan ⟦<TakenList as DefinedList>⟧.list_loan toolbox.now [] [] [] []))) }
+/// How many pixels of the screen in no update region differ from the desk painted from nothing.
+pub fn differences(alloc: Global, toolbox: &Toolbox) -> Result<usize, AllocError>
+    requires { IsKeptToolbox ⟦<Taken as Defined>⟧.loan ⟦<TakenMenu as DefinedMenu>⟧.menu_loan ⟦<TakenControl as DefinedControl>⟧.control_loan ⟦<TakenList as DefinedList>⟧.list_loan toolbox.now }
+    ensures { IfOk result (λ n. n ≡ difference_count
+        (toolbox_state ⟦<Taken as Defined>⟧.loan ⟦<TakenMenu as DefinedMenu>⟧.menu_loan ⟦<TakenControl as DefinedControl>⟧.control_loan ⟦<TakenList as DefinedList>⟧.list_loan toolbox.now [] [] [] [])) }
 {
-    let painted = paint(alloc, toolbox, layers)?;
+    let painted = paint(alloc, toolbox)?;
     Ok(differences_from(toolbox, &painted))
 }
 

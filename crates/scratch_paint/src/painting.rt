@@ -8,7 +8,7 @@ ghost use Rattle.window_mgr.specs.Records.{desk_of, desk_showing};
 ghost use Rattle.window_mgr.specs.Whole.{IsSettled};
 ghost use Rattle.desk_toolbox.specs.WholeToolbox.{IsKeptToolbox, toolbox_state};
 ghost use Rattle.scratch_paint.specs.Paints.{IsPaintedDesk, look_in, windows_value};
-ghost use Rattle.scratch_paint.specs.Screens.{IsPaintedScreen, toolbox_showing};
+ghost use Rattle.scratch_paint.specs.Screens.{IsPaintedScreen};
 
 use crate::windows::paint_window;
 use bit_map::BitMap;
@@ -27,16 +27,15 @@ use window_mgr::{Parts, WindowManager};
 use window_paint::Showing;
 
 /// A new map, of the size of the screen, with the whole desk painted from nothing, back to front: what the windows, the menu
-/// bar and the desktop show, and over that the menu that is pulled down. Controls and lists show what `layers` says. It
-/// reads neither the screen's pixels nor any region that the Toolbox keeps.
-pub fn paint<S: Showing>(alloc: Global, toolbox: &Toolbox, layers: &S) -> Result<BitMap, AllocError>
-    requires kept { IsKeptToolbox ⟦<Taken as Defined>⟧.loan ⟦<TakenMenu as DefinedMenu>⟧.menu_loan ⟦<TakenControl as DefinedControl>⟧.control_loan ⟦<TakenList as DefinedList>⟧.list_loan toolbox.now }
-    requires layers { S.is_whole layers.now }
-    ensures { IfOk result (IsPaintedScreen (toolbox_showing (S.shows layers.now)
-        (toolbox_state ⟦<Taken as Defined>⟧.loan ⟦<TakenMenu as DefinedMenu>⟧.menu_loan ⟦<TakenControl as DefinedControl>⟧.control_loan ⟦<TakenList as DefinedList>⟧.list_loan toolbox.now [] [] [] []))) }
+/// bar and the desktop show, controls and lists among that, and over it the menu that is pulled down. It reads neither the
+/// screen's pixels nor any region that the Toolbox keeps.
+pub fn paint(alloc: Global, toolbox: &Toolbox) -> Result<BitMap, AllocError>
+    requires { IsKeptToolbox ⟦<Taken as Defined>⟧.loan ⟦<TakenMenu as DefinedMenu>⟧.menu_loan ⟦<TakenControl as DefinedControl>⟧.control_loan ⟦<TakenList as DefinedList>⟧.list_loan toolbox.now }
+    ensures { IfOk result (IsPaintedScreen
+        (toolbox_state ⟦<Taken as Defined>⟧.loan ⟦<TakenMenu as DefinedMenu>⟧.menu_loan ⟦<TakenControl as DefinedControl>⟧.control_loan ⟦<TakenList as DefinedList>⟧.list_loan toolbox.now [] [] [] [])) }
 {
     let windows = toolbox.windows();
-    let mut image = paint_base(alloc, windows, layers)?;
+    let mut image = paint_base(alloc, windows, &toolbox.contents())?;
     let font = windows.parts().font;
     toolbox
         .menus()
@@ -44,7 +43,7 @@ pub fn paint<S: Showing>(alloc: Global, toolbox: &Toolbox, layers: &S) -> Result
     Ok(image)
 }
 
-/// The same without a menu that is pulled down: the base image.
+/// The same without a menu that is pulled down: the base image, where controls and lists show what `layers` says.
 fn paint_base<S: Showing>(
     alloc: Global,
     windows: &WindowManager,

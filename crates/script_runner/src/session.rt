@@ -187,7 +187,7 @@ impl Session {
             × Sends (S.output sink.old) (S.output sink.new) result text }
     {
         let count = match &self.desk {
-            Some(desk) => differences(self.alloc, desk, &desk.contents()),
+            Some(desk) => differences(self.alloc, desk),
             None => Ok(0),
         };
         write_check(sink, count.ok())

@@ -12,4 +12,4 @@ differences_from-requires-clause-large g c = record { wide = c.in_ok-painted.ens
 
 pub returns : goal.returns
 returns g c =
-    as_many_differ (g.S.Showing.shows c.args.layers.now) (toolbox_state (taken.loan-value g.dyn-1).it (taken_menu.menu_loan-value g.dyn-3).it (taken_control.control_loan-value g.dyn-2).it (taken_list.list_loan-value g.dyn-4).it c.args.toolbox.now [] [] [] []) c.in_ok-painted.painted c.in_ok-painted.ensures c.differences_from.result c.differences_from.ensures
+    as_many_differ (toolbox_state (taken.loan-value g.dyn-1).it (taken_menu.menu_loan-value g.dyn-3).it (taken_control.control_loan-value g.dyn-2).it (taken_list.list_loan-value g.dyn-4).it c.args.toolbox.now [] [] [] []) c.in_ok-painted.painted c.in_ok-painted.ensures c.differences_from.result c.differences_from.ensures

@@ -10,13 +10,8 @@ use Rattle.script_runner.proofs.Checked.{line_of_desk, line_of_none}
 use Rattle.script_runner.proofs.session.Session.check.Goals.{in-Some, in-None}
 use Rattle.script_runner.proofs.session.Session.check.Goals as goal
 
-pub differences-count-requires-clause-kept : goal.differences-count-requires-clause-kept
-differences-count-requires-clause-kept g c = c.requires.kept c.in-Some.desk c.in-Some.is
-
-pub differences-count-requires-clause-layers : goal.differences-count-requires-clause-layers
-differences-count-requires-clause-layers g c =
-    let whole = (c.requires.kept c.in-Some.desk c.in-Some.is).whole in
-    rw (c.contents.ensures.0, c.contents.ensures.1) (whole.controls.settled, whole.lists.settled)
+pub differences-count-requires : goal.differences-count-requires
+differences-count-requires g c = c.requires.kept c.in-Some.desk c.in-Some.is
 
 pub returns : goal.returns
 returns g c = λ slots kept held listed.
@@ -27,7 +22,7 @@ returns g c = λ slots kept held listed.
     let session = session_of loan menu_loan control_loan list_loan c.args.self.now slots kept held listed in
     let line : IsCheckLine session (check_text (result_ok c.match-self.count)) =
     elim c.match-self.branch [
-      | in-Some w ↦ subst (λ n. IsCheckLine session (check_text (result_ok n))) (sym w.count-is) (line_of_desk loan menu_loan control_loan list_loan c.args.self.now.font slots kept held listed c.args.self.now.desk w.in-Some.desk w.differences-count.result w.in-Some.is (rw (w.contents.ensures.0, w.contents.ensures.1) at w.differences-count.ensures))
+      | in-Some w ↦ subst (λ n. IsCheckLine session (check_text (result_ok n))) (sym w.count-is) (line_of_desk loan menu_loan control_loan list_loan c.args.self.now.font slots kept held listed c.args.self.now.desk w.in-Some.desk w.differences-count.result w.in-Some.is w.differences-count.ensures)
       | in-None w ↦ subst (λ n. IsCheckLine session (check_text (result_ok n))) (sym w.count-is) (line_of_none loan menu_loan control_loan list_loan c.args.self.now.font slots kept held listed c.args.self.now.desk w.in-None.is)
     ] in
     (check_text c.ok.result, subst (λ n. IsCheckLine session (check_text n)) (sym c.ok.ensures.value) line, c.write_check.ensures)
