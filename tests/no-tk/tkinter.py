@@ -1,0 +1,3 @@
+"""Stands for a tkinter that is not there."""
+
+raise ImportError("no tkinter")
