@@ -1,19 +1,38 @@
 """A loop of events that is tried: the mouse is told to it, and the desk is asked what came of it."""
 
+from kit.driven import Driven, Fault
 from kit.event_loop import EventLoop
+
+NOTHING_DUE = "ok 000A0000000000000000"
+NO_EVENT = "ok 0 0 0 0 0 0"
 
 
 class Differs(Exception):
     """What is not as it has to be."""
 
 
+class Kept(Driven):
+    """A driven program, with the lines that it was asked since somebody took them."""
+
+    def __init__(self, words):
+        super().__init__(words)
+        self.asked = []
+
+    def ask(self, line):
+        self.asked.append(line.decode("latin-1"))
+        return super().ask(line)
+
+
 class Tried:
-    """A loop of events over a driven program that has run a script, with its first image."""
+    """A loop of events over a driven program that has run a script, with its first image. Its clock stands still until it is
+    set."""
 
     def __init__(self, desk, script):
-        self.loop = EventLoop(desk, lambda: 0.0)
+        self.desk, self.seconds = desk, 0.0
+        self.loop = EventLoop(desk, lambda: self.seconds)
         self.refused = self.loop.run_script(script.encode("latin-1"))
         self.first = self.loop.image()
+        desk.asked.clear()
 
     def drag(self, *points, modifiers=0):
         """The button goes down at the first of these points, and up at the last one."""
@@ -24,6 +43,12 @@ class Tried:
 
     def click(self, h, v, modifiers=0):
         self.drag((h, v), modifiers=modifiers)
+
+    def asked(self, *wanted):
+        """Wants these lines to be all that the desk was asked since this was wanted last."""
+        found, self.desk.asked = self.desk.asked, []
+        if found != list(wanted):
+            raise Differs(f"the desk was asked {found} in place of {list(wanted)}")
 
     def wants(self, line, answer):
         found = self.loop.answer_to(line.encode("latin-1")).decode("latin-1")
@@ -40,3 +65,14 @@ class Tried:
         found = {"the same": rows is None, "the first": rows == self.first, "another": rows not in (None, self.first)}
         if not found[wanted]:
             raise Differs(f"the screen is not {wanted}: {what}")
+
+
+def faults(program, tests):
+    """What is wrong, test by test, and nothing for one that passes. Each test has its script."""
+    for test, script in tests.items():
+        try:
+            with Kept([program]) as desk:
+                test(Tried(desk, script))
+            yield None
+        except (Differs, Fault) as fault:
+            yield f"{test.__name__.replace('_', ' ')}: {fault}"

@@ -60,7 +60,25 @@ def eventually(look, what):
     return found
 
 
-class Server:
+class Started:
+    """A process that is told to end where its block ends, and stopped where it does not."""
+
+    def __enter__(self):
+        return self
+
+    def __exit__(self, *_):
+        self.end()
+
+    def end(self):
+        self.ran.terminate()
+        try:
+            self.ran.wait(SECONDS)
+        except subprocess.TimeoutExpired:
+            self.ran.kill()
+            self.ran.wait()
+
+
+class Server(Started):
     """An X server that shows its screen in a file alone. It chooses a display that is free."""
 
     def __init__(self, folder):
@@ -74,20 +92,12 @@ class Server:
         self.said = b""
         try:
             eventually(lambda: self.number(reader), "a display")
+        except Differs:
+            self.end()
+            raise
         finally:
             os.close(reader)
         self.environment = dict(os.environ, DISPLAY=f":{int(self.said)}")
-
-    def __enter__(self):
-        return self
-
-    def __exit__(self, *_):
-        self.ran.terminate()
-        try:
-            self.ran.wait(SECONDS)
-        except subprocess.TimeoutExpired:
-            self.ran.kill()
-            self.ran.wait()
 
     def number(self, reader):
         """Whether the server has said its whole number by now."""
@@ -103,22 +113,22 @@ class Server:
         return subprocess.run(called, env=self.environment, capture_output=True, timeout=SECONDS).stdout.decode()
 
     def rows(self, left, top, width, height):
-        """The pixels of a part of the screen, as rows of the bytes 0, 1 and ?, which is neither white nor black. The file is
-        of the format XWD, of 32 bits a pixel."""
+        """The pixels of a part of the screen, row by row. The file is of the format XWD, with four bytes for each pixel."""
         with open(self.path, "rb") as file:
             data = file.read()
         head = struct.unpack(">25I", data[:100])
-        start, line = head[0] + 12 * head[19], head[12]
-        found = []
-        for v in range(top, top + height):
-            row = data[start + v * line + 4 * left :][: 4 * width]
-            red, green, blue = row[0::4], row[1::4], row[2::4]
-            known = bytes.maketrans(b"\x00\xff", b"10")
-            found.append(red.translate(known) if red == green == blue and not red.strip(b"\x00\xff") else b"?" * width)
-        return found
+        start, line = head[0] + 12 * head[19] + 4 * left, head[12]
+        return [data[start + v * line :][: 4 * width] for v in range(top, top + height)]
 
 
-class Viewer:
+def bits(row):
+    """The bytes 0 and 1 of a row's white and black pixels; ? for a row that has others."""
+    red, green, blue = row[0::4], row[1::4], row[2::4]
+    is_plain = red == green == blue and not red.strip(b"\x00\xff")
+    return red.translate(bytes.maketrans(b"\x00\xff", b"10")) if is_plain else b"?"
+
+
+class Viewer(Started):
     """desk-view in a server, over a program that is reached through a file: what is written to it is kept there."""
 
     def __init__(self, server, program, folder):
@@ -133,17 +143,6 @@ class Viewer:
         words = [sys.executable, VIEWER, "--program", way, "--scale", str(SCALE), script]
         with open(self.errors, "wb") as file:
             self.ran = subprocess.Popen(words, env=server.environment, stderr=file)
-
-    def __enter__(self):
-        return self
-
-    def __exit__(self, *_):
-        self.ran.terminate()
-        try:
-            self.ran.wait(SECONDS)
-        except subprocess.TimeoutExpired:
-            self.ran.kill()
-            self.ran.wait()
 
     def find(self):
         """Waits for the window, and keeps where it is."""
@@ -180,7 +179,8 @@ class Viewer:
         """Whether the window shows these pixels, each as a square."""
         wide = [b"".join(row[h : h + 1] * SCALE for h in range(len(row))) for row in rows]
         wanted = [row for row in wide for _ in range(SCALE)]
-        return self.server.rows(self.left, self.top, SCALE * WIDTH, SCALE * HEIGHT) == wanted
+        found = self.server.rows(self.left, self.top, SCALE * WIDTH, SCALE * HEIGHT)
+        return [bits(row) for row in found] == wanted
 
     def says(self):
         """The pixels of the line below the screen, but for those at its right end, where the place of the mouse stands."""
@@ -278,17 +278,25 @@ TESTS = [
 ]
 
 
-def faults(program):
+def tried(viewer):
     """What is wrong, test by test, and nothing for one that passes. Each goes on where the one before it ended, so that after
     one that fails no other is tried."""
+    for test in TESTS:
+        try:
+            test(viewer)
+            yield None
+        except (Differs, Fault, subprocess.TimeoutExpired) as fault:
+            with open(viewer.errors) as file:
+                said = file.read()
+            yield f"the window: {test.__name__.replace('_', ' ')}: {fault}; standard error: {said!r}"
+            return
+
+
+def faults(program):
+    """What is wrong, and nothing for each test that passes."""
     with tempfile.TemporaryDirectory(prefix="desk-view-") as folder:
-        with Server(folder) as server, Viewer(server, program, folder) as viewer:
-            for test in TESTS:
-                try:
-                    test(viewer)
-                    yield None
-                except (Differs, Fault, subprocess.TimeoutExpired) as fault:
-                    with open(viewer.errors) as file:
-                        said = file.read()
-                    yield f"the window: {test.__name__.replace('_', ' ')}: {fault}; standard error: {said!r}"
-                    return
+        try:
+            with Server(folder) as server, Viewer(server, program, folder) as viewer:
+                yield from tried(viewer)
+        except Differs as differs:
+            yield f"the window: the server does not begin: {differs}"

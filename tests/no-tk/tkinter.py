@@ -1,3 +1,0 @@
-"""Stands for a tkinter that is not there."""
-
-raise ImportError("no tkinter")
