@@ -186,8 +186,7 @@ class EventLoop:
         if part in WENT_DOWN:
             WENT_DOWN[part](self, event, part, window)
         else:
-            what = f"the frame of {self.window_name(window)}" if window else "the desktop"
-            self.status = f"The mouse button went down on {what}"
+            self.status = f"{self.window_name(window)}, on its frame" if window else "The desktop"
 
     def in_menu_bar(self, event, _part, _window):
         self.follow(MenuTracking(self), event)
@@ -224,7 +223,7 @@ class EventLoop:
         elif its:
             self.click_in(its, h, v, event.modifiers)
         else:
-            self.status = f"{self.window_name(window)}: the mouse button went down at {h} {v} in it"
+            self.status = f"{self.window_name(window)}, at {h} {v} in it"
 
     def list_at(self, window, h, v):
         """The list that a point of a window's content belongs to, or none: controls lie in front of it, also where they are
@@ -239,23 +238,23 @@ class EventLoop:
         """A list is told of a click, and asked what is selected then."""
         call = f"{its.window} {its.number}"
         if self.numbers(f"lclick {call} {h} {v} {modifiers}") == [0]:
-            self.status = f"List {its.number}: there is no cell"
+            self.status = f"List {its.number}, on no cell"
             return
         found, *cell = self.numbers(f"lgetsel {call} 1 0 0")
-        self.status = f"List {its.number}: no cell is selected"
+        self.status = f"List {its.number}, no selected cell"
         if found:
             at = " ".join(map(str, cell))
             data = self.tell(f"lget {call} {at}").removeprefix("ok ")
-            self.status = f"List {its.number}: the first cell that is selected is {at}, {data}"
+            self.status = f"List {its.number}, first selected cell: {at}, {data}"
 
     def key_went_down(self, event):
         """A key with the Command key may stand for an item of a menu."""
         character = chr(event.message & 255)
-        name = character if " " < character <= "~" else f"with the code {event.message & 255}"
+        name = f"Key {character if ' ' < character <= '~' else event.message & 255}"
         if not event.modifiers & COMMAND:
-            self.status = f"The key {name} went down"
+            self.status = name
             return
-        self.status = f"The key {name} went down with the Command key, and stands for no item"
+        self.status = f"{name} with Command: no item"
         if " " <= character <= "~" and character != '"':
             self.item_chosen(*self.numbers(f'mkey "{character}"'))
 

@@ -1,6 +1,7 @@
 """The screen of a driven desk in a window of Tk, with a line below it that says what happened last and where the mouse is.
 What the mouse and the keys do goes to a loop of events, and the screen is shown again where it has changed."""
 
+import sys
 import tkinter
 
 from kit.driven import Fault
@@ -33,6 +34,9 @@ CODES = {
 SCALES = (2, 1)
 ROOM = 120
 
+# How many characters the line below has room for at least, also where the screen is not so wide.
+LEAST_LINE = 40
+
 # White and black, as the bytes of a gray image, of the pixels 0 and 1.
 GRAYS = bytes.maketrans(b"01", b"\xff\x00")
 
@@ -59,7 +63,7 @@ class ScreenWindow:
 
     def __init__(self, root, loop, scale, title):
         self.root, self.loop = root, loop
-        self.mouse = (0, 0)
+        self.mouse, self.is_at_fault = (0, 0), False
         self.width, self.height = loop.sides()
         self.scale = scale or self.fitting_scale()
         root.title(title)
@@ -75,7 +79,7 @@ class ScreenWindow:
             cursor="left_ptr",
         )
         self.canvas.create_image(0, 0, anchor="nw", image=self.enlarged)
-        self.canvas.pack(anchor="nw")
+        self.canvas.pack()
         self.status, self.place = self.line_below()
         self.bind()
         self.refresh()
@@ -90,7 +94,7 @@ class ScreenWindow:
         """The line below the screen: what happened last at its left, and where the mouse is at its right."""
         frame = tkinter.Frame(self.root)
         frame.pack(fill="x", padx=4, pady=2)
-        status = tkinter.Label(frame, anchor="w", width=1)
+        status = tkinter.Label(frame, anchor="w", width=LEAST_LINE)
         place = tkinter.Label(frame, anchor="e", width=10)
         place.pack(side="right")
         status.pack(side="left", fill="x", expand=True)
@@ -131,14 +135,15 @@ class ScreenWindow:
 
     def tell(self, action, *words):
         """Tells the loop of something, and shows what came of it. Once the program is at fault nothing is told any more."""
-        if self.loop is None:
+        if self.is_at_fault:
             return
         try:
             action(*words)
             self.refresh()
         except Fault as fault:
-            self.loop = None
+            self.is_at_fault = True
             self.status.configure(text=str(fault))
+            print(f"desk-view: {fault}", file=sys.stderr, flush=True)
 
     def refresh(self):
         """Shows the screen where it has changed, and what is said below it."""

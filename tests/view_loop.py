@@ -63,7 +63,7 @@ def a_click_in_a_title_bar_selects_and_moves_nothing(tried):
     tried.click(40, 34)
     tried.click(170, 140)
     tried.wants("info 1", "ok 10 44 90 60 1 1")
-    tried.says("The mouse button went down on the desktop")
+    tried.says("The desktop")
 
 
 def a_size_box_gives_another_size(tried):
@@ -131,7 +131,7 @@ def while_something_follows_the_mouse_no_event_is_asked_for(tried):
     tried.asked("gastep 71 60", "gastep 90 60", "post 3 120 0 90 60 0", "gastep 16383 -16384")
     tried.loop.mouse_up(90, 60)
     tried.asked("post 2 0 0 90 60 128", "next 4", "gaend 90 60", "next 65535", "next 65535")
-    tried.says("The key x went down")
+    tried.says("Key x")
 
 
 def an_update_that_the_script_left_open_is_ended(tried):

@@ -8,6 +8,7 @@ Where there is no Tk, no Xvfb or no xdotool, nothing is tested. Every wait has a
 import os
 import shlex
 import shutil
+import signal
 import struct
 import subprocess
 import sys
@@ -133,23 +134,25 @@ class Viewer(Started):
 
     def __init__(self, server, program, folder):
         self.server, self.program = server, program
-        self.lines, self.errors = os.path.join(folder, "lines"), os.path.join(folder, "errors")
+        self.lines, self.number, self.errors = (os.path.join(folder, name) for name in ("lines", "number", "errors"))
         script, way = os.path.join(folder, "tried.desk"), os.path.join(folder, "program")
         with open(script, "w") as file:
             file.write(SCRIPT)
         with open(way, "w") as file:
-            file.write(f"#!/bin/sh\ntee -a {shlex.quote(self.lines)} | {shlex.quote(program)}\n")
+            begins = f"echo $$ > {shlex.quote(self.number)}; exec {shlex.quote(program)}"
+            file.write(f"#!/bin/sh\ntee -a {shlex.quote(self.lines)} | sh -c {shlex.quote(begins)}\n")
         os.chmod(way, 0o755)
         words = [sys.executable, VIEWER, "--program", way, "--scale", str(SCALE), script]
         with open(self.errors, "wb") as file:
             self.ran = subprocess.Popen(words, env=server.environment, stderr=file)
 
     def find(self):
-        """Waits for the window, and keeps where it is."""
+        """Waits for the window, and keeps where the screen is in it: at its top, in the middle."""
         number = eventually(lambda: self.server.tool("search", "--onlyvisible", "--name", TITLE), "a window of this title")
         said = self.server.tool("getwindowgeometry", "--shell", number.split()[0])
         sides = dict(line.split("=") for line in said.split())
-        self.left, self.top = int(sides["X"]), int(sides["Y"])
+        self.left = int(sides["X"]) + (int(sides["WIDTH"]) - SCALE * WIDTH) // 2
+        self.top = int(sides["Y"])
 
     def written(self):
         """What was written to the program until now, in whole lines."""
@@ -266,6 +269,23 @@ def a_window_is_closed_by_its_box(viewer):
     viewer.wants(("info 2", "refused 2 NoSuchWindow"), ("frontwin", "ok 1"))
 
 
+def a_program_that_ends_is_told_and_nothing_more_is_done(viewer):
+    with open(viewer.number) as file:
+        os.kill(int(file.read()), signal.SIGKILL)
+    said = viewer.says()
+    viewer.mouse(120, 150, "click", 1)
+    eventually(lambda: viewer.says() != said, "another line below the screen")
+    said, lines = viewer.says(), viewer.settled()
+    viewer.mouse(30, 60, "click", 1)
+    viewer.server.tool("key", "ctrl+q")
+    if (viewer.settled(), viewer.says(), viewer.ran.poll()) != (lines, said, None):
+        raise Differs("something is done, or the viewer has ended")
+    with open(viewer.errors) as file:
+        errors = file.read()
+    if not errors.startswith("desk-view: ") or errors.count("\n") != 1:
+        raise Differs(f"standard error is {errors!r}")
+
+
 TESTS = [
     the_window_shows_the_screen,
     a_click_in_a_rear_window_brings_it_to_front,
@@ -275,6 +295,7 @@ TESTS = [
     a_menu_is_pulled_down_and_an_item_chosen,
     a_key_stands_for_an_item,
     a_window_is_closed_by_its_box,
+    a_program_that_ends_is_told_and_nothing_more_is_done,
 ]
 
 
