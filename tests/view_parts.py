@@ -125,6 +125,7 @@ list 1 text 0 0 80 48 40 12 4 2 0 0 0
 list 1 text 0 24 80 48 40 12 4 2 0 0 0
 control 1 button 0 0 40 20 1 0 1 0 "In front"
 control 1 button 0 24 40 20 0 0 1 0 "Hidden"
+control 1 scroll 40 0 16 20 1 0 0 0 ""
 chilite 1 1 255
 """
 
@@ -136,14 +137,15 @@ mappend 1 "Gone"
 minsert 1 0
 mdispose 1
 menu 1 "Now"
-mappend 1 "New/N;Quit"
+mappend 1 "New/N;;Q(uit/Q!"
+menable 1 2
 mitem 1 1 "Open"
 minsert 1 0
 window plain 10 40 110 70 1 0 "First"
 title 1 "Changed"
 list 1 text 0 0 40 40 20 10 4 2 1 1 0
 ldispose 1 1
-control 1 button 60 4 8 8 1 0 1 0 "Off"
+control 1 button 34 2 8 8 1 0 1 0 "Off"
 cdispose 1 3
 control 1 button 4 4 8 8 1 0 1 0 "Old"
 ctitle 1 4 "New"
@@ -246,6 +248,8 @@ def the_mouse_may_come_to_a_title_from_beside_it(tried):
     tried.says('"New" was chosen from "File": menu 1, item 1')
     tried.click(3, 8)
     tried.says("No item was chosen")
+    tried.click(40, 60)
+    tried.says("Window 1, at 12 16 in it")
 
 
 def a_key_stands_for_an_item(tried):
@@ -289,8 +293,10 @@ def the_bars_of_a_list_scroll_it(tried):
 
 
 def a_control_in_front_keeps_a_click_from_a_list(tried):
-    tried.click(15, 35)
-    tried.wants("lgetsel 1 1 1 0 0", "ok 0")
+    # An inactive button, and a scroll bar that is too short to have parts.
+    for h in (15, 55):
+        tried.click(h, 35)
+        tried.wants("lgetsel 1 1 1 0 0", "ok 0")
     tried.click(15, 63)
     tried.wants("lgetsel 1 1 1 0 0", "ok 1 0 2")
     tried.wants("lgetsel 1 2 1 0 0", "ok 0")
@@ -302,6 +308,8 @@ def what_the_script_changes_is_known(tried):
     tried.wants("lgetsel 1 2 1 0 0", "ok 0")
     tried.click(14, 44)
     tried.wants("lgetsel 1 2 1 0 0", "ok 1 0 0")
+    tried.click(46, 44)
+    tried.wants("lgetsel 1 2 1 0 0", "ok 1 1 0")
     tried.click(110, 60)
     tried.says('Button 4 "New" was pressed')
     tried.click(78, 80)
@@ -310,6 +318,8 @@ def what_the_script_changes_is_known(tried):
     tried.wants("cget 1 6", "ok 1 0 1 0 1")
     tried.drag((20, 8), (20, 29))
     tried.says('"Open" was chosen from "Now": menu 1, item 1')
+    tried.loop.key_down(ord("q"), 0, 0, COMMAND)
+    tried.says('"Quit" was chosen from "Now": menu 1, item 2')
 
 
 def what_the_script_left_open_is_ended_by_the_first_click(tried):

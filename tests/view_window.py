@@ -6,6 +6,7 @@ Where there is no Tk, no Xvfb or no xdotool, nothing is tested. Every wait has a
 """
 
 import os
+import re
 import shlex
 import shutil
 import signal
@@ -257,8 +258,10 @@ def a_menu_is_pulled_down_and_an_item_chosen(viewer):
         raise Differs("the line below the screen stays as it was")
 
 
-def a_key_stands_for_an_item(viewer):
-    viewer.server.tool("key", "ctrl+q")
+def keys_are_posted_and_stand_for_items(viewer):
+    viewer.server.tool("key", "ctrl+q", "shift+x", "Return")
+    posted = [rb"\npost 3 %d \d+ 60 60 %d\n" % key for key in ((113, 384), (88, 640), (13, 128))]
+    eventually(lambda: all(re.search(line, viewer.written()) for line in posted), "each of the keys")
     eventually(lambda: b'\nmkey "q"\nmhilite 0\n' in viewer.settled(), "the key in a menu")
 
 
@@ -293,7 +296,7 @@ TESTS = [
     a_button_is_tracked,
     a_check_box_is_clicked,
     a_menu_is_pulled_down_and_an_item_chosen,
-    a_key_stands_for_an_item,
+    keys_are_posted_and_stand_for_items,
     a_window_is_closed_by_its_box,
     a_program_that_ends_is_told_and_nothing_more_is_done,
 ]
