@@ -75,9 +75,13 @@ class EventLoop:
             answer = self.answer_to(line)
             if answer.startswith(b"refused"):
                 refused.append((number, line.decode("latin-1").removesuffix("\r"), answer.decode("latin-1")))
+        self.guarded(self.begin)
+        return refused
+
+    def begin(self):
+        """Begins as a program does: what is queued is none of its business, and what is due is served."""
         self.tell(f"flush {EVERY_EVENT} 0")
         self.serve()
-        return refused
 
     def image(self):
         """The rows of the screen, where it is another than the one that was given last, and else None."""

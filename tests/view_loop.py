@@ -137,6 +137,15 @@ def while_something_follows_the_mouse_no_event_is_asked_for(tried):
     tried.says("Key x")
 
 
+def what_is_refused_is_said(tried):
+    # A control 16000 columns to the right lets the window go no farther than to column 83.
+    tried.drag((40, 34), (140, 34))
+    tried.says("move 1 110 44 1 is refused 8 OutOfRange")
+    tried.wants("info 1", "ok 10 44 90 60 1 0")
+    tried.click(20, 60)
+    tried.wants("frontwin", "ok 1")
+
+
 def an_update_that_the_script_left_open_is_ended(tried):
     tried.click(20, 60)
     tried.wants("updatergn 1", NOTHING_DUE)
@@ -162,6 +171,7 @@ TESTS = {
     a_zoom_box_zooms_out_and_in: TWO_WINDOWS,
     what_happens_is_posted_with_its_time_place_and_keys: TWO_WINDOWS,
     while_something_follows_the_mouse_no_event_is_asked_for: TWO_WINDOWS,
+    what_is_refused_is_said: TWO_WINDOWS + 'control 1 button 16000 0 300 10 1 0 1 0 ""\n',
     an_update_that_the_script_left_open_is_ended: TWO_WINDOWS + "begin 1\n",
     what_the_event_mask_leaves_out_does_nothing: TWO_WINDOWS + "setmask 0\n",
 }
