@@ -1,0 +1,147 @@
+"""A desk that is driven over two pipes: a line goes in, and its whole answer comes back.
+
+Nothing beyond Python's own library is needed.
+"""
+
+import os
+import select
+import subprocess
+import tempfile
+import time
+
+# How long an answer may take, and how long a program that is told to end may go on.
+SECONDS = 10.0
+LAST_SECONDS = 2.0
+
+# The longest line that is a comment or a command, and how many bytes of an image stand in a line at most.
+LONGEST_LINE = 1024
+IMAGE_LINE = 70
+
+
+class Fault(Exception):
+    """The program cannot be started, has ended, is silent, or gives what is no answer."""
+
+
+def is_answered(line):
+    """Whether a line, without its newline, has an answer: an empty one and a comment have none."""
+    line = line.removesuffix(b"\r")
+    return len(line) > LONGEST_LINE or not (line == b"" or line.startswith(b"#"))
+
+
+def sides_of(line):
+    """The columns and rows that the second line of an image names."""
+    sides = line.split()
+    if len(sides) != 2 or not all(side.isdigit() for side in sides):
+        raise Fault(f"an image has no width and height, but {line[:40]!r}")
+    return int(sides[0]), int(sides[1])
+
+
+def rows_of(answer):
+    """The rows of an answer that is an image, each the bytes 0 and 1 of its pixels."""
+    head, *lines = answer.split(b"\n")
+    if head != b"P1" or not lines:
+        raise Fault(f"in place of an image there is the answer {answer[:40]!r}")
+    width, height = sides_of(lines[0])
+    pixels = b"".join(lines[1:])
+    if len(pixels) != width * height or pixels.strip(b"01"):
+        raise Fault("an image is not whole")
+    return [pixels[start : start + width] for start in range(0, width * height, width)]
+
+
+class Driven:
+    """A program, with a pipe to its standard input and one from its standard output, for as long as a block goes on."""
+
+    def __init__(self, words, seconds=SECONDS):
+        self.words, self.seconds = words, seconds
+        self.found = bytearray()
+        # A pipe that nobody reads might become full, and hold the program up: so its errors go to a file.
+        self.errors = tempfile.TemporaryFile()
+        pipe = subprocess.PIPE
+        try:
+            self.ran = subprocess.Popen(words, bufsize=0, stdin=pipe, stdout=pipe, stderr=self.errors)
+        except OSError as error:
+            self.errors.close()
+            raise Fault(f"{words[0]} cannot be started: {error.strerror}") from None
+
+    def __enter__(self):
+        return self
+
+    def __exit__(self, *_):
+        self.close()
+
+    def close(self):
+        """Lets the program end, by the end of its script, and stops it where it does not."""
+        self.ran.stdin.close()
+        self.ran.stdout.close()
+        try:
+            self.ran.wait(LAST_SECONDS)
+        except subprocess.TimeoutExpired:
+            self.ran.kill()
+            self.ran.wait()
+        self.errors.close()
+
+    def ask(self, line):
+        """The answer to a line, bytes without a newline in it, and without that of the answer's last line. A line that
+        is not answered gives none."""
+        if b"\n" in line:
+            raise ValueError("more than one line")
+        end = time.monotonic() + self.seconds
+        self.write(line + b"\n", end)
+        if not is_answered(line):
+            return b""
+        answer = self.line(end)
+        return self.image(answer, end) if answer == b"P1" else answer
+
+    def image(self, head, end):
+        """The whole image whose first line is this."""
+        sides = self.line(end)
+        width, height = sides_of(sides)
+        lines = height * ((width + IMAGE_LINE - 1) // IMAGE_LINE)
+        return b"\n".join([head, sides, self.take(width * height + lines, end)[:-1]])
+
+    def write(self, text, end):
+        """Writes a text, in parts that a pipe takes at once, once it is ready for them."""
+        for start in range(0, len(text), select.PIPE_BUF):
+            self.wait([], [self.ran.stdin], end)
+            try:
+                self.ran.stdin.write(text[start : start + select.PIPE_BUF])
+            except BrokenPipeError:
+                raise self.ended() from None
+
+    def line(self, end):
+        """The next line of standard output, without its newline."""
+        while (length := self.found.find(b"\n")) < 0:
+            self.read(end)
+        return self.take(length + 1, end)[:-1]
+
+    def take(self, count, end):
+        """The next so many bytes of standard output."""
+        while len(self.found) < count:
+            self.read(end)
+        part = bytes(self.found[:count])
+        del self.found[:count]
+        return part
+
+    def read(self, end):
+        """Waits for more bytes of standard output, and keeps them."""
+        self.wait([self.ran.stdout], [], end)
+        more = os.read(self.ran.stdout.fileno(), 65536)
+        if not more:
+            raise self.ended()
+        self.found += more
+
+    def wait(self, readers, writers, end):
+        """Waits until one of these is ready."""
+        left = max(0.0, end - time.monotonic())
+        if not any(select.select(readers, writers, [], left)):
+            raise Fault(f"{self.words[0]} does not answer within {self.seconds:g} seconds")
+
+    def ended(self):
+        """The fault of a program that has ended, with what it wrote on standard error."""
+        try:
+            status = self.ran.wait(LAST_SECONDS)
+        except subprocess.TimeoutExpired:
+            return Fault(f"{self.words[0]} has closed its standard output")
+        self.errors.seek(0)
+        said = self.errors.read().decode("utf-8", "replace").strip()
+        return Fault(f"{self.words[0]} has ended, with status {status}{': ' if said else ''}{said}")

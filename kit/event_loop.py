@@ -1,0 +1,290 @@
+"""The loop of events of a Macintosh program, over a desk that is driven: the mouse and the keys become events, the loop asks
+for the next one, and does what that calls for. A program of its own has to decide what a control means; here a check box
+changes its value, a radio button takes the place of those beside it, and a scroll bar scrolls.
+
+Nothing of a display is needed: whoever has a mouse tells of it, and asks for the image.
+"""
+
+import time
+from typing import NamedTuple
+
+from kit.driven import rows_of, sides_of
+from kit.known import Known, numbers_of
+from kit.mouse_tracking import (
+    BoxTracking,
+    ControlTracking,
+    Dragging,
+    GoAwayTracking,
+    Growing,
+    MenuTracking,
+    clamped,
+    named,
+)
+
+# The kinds of events, and what a mask of all of them is.
+MOUSE_DOWN, MOUSE_UP, KEY_DOWN, KEY_UP, UPDATE = 1, 2, 3, 4, 6
+EVERY_EVENT = 65535
+MOUSE_UP_MASK = 1 << MOUSE_UP
+
+# The modifiers of an event.
+BUTTON_UP, COMMAND, SHIFT, CAPS_LOCK, OPTION = 128, 256, 512, 1024, 2048
+
+# The parts that a point of the screen may lie in.
+MENU_BAR, CONTENT, DRAG, GROW, GO_AWAY, ZOOM_IN, ZOOM_OUT = 1, 3, 4, 5, 6, 7, 8
+
+# How many events are served at a time, at most.
+MOST_EVENTS = 1000
+
+# The commands that leave the screen as it is.
+LEAVE_THE_SCREEN = (
+    "find frontwin info updatergn visrgn cget findc ctest lget lgetsel lnext lsearch image post next avail flush setmask"
+).split()
+
+
+class Refused(Exception):
+    """A line that the desk refuses."""
+
+
+class Event(NamedTuple):
+    """An event, as it is told."""
+
+    kind: int
+    message: int
+    when: int
+    h: int
+    v: int
+    modifiers: int
+
+
+class EventLoop:
+    """The loop over a driven desk, with what it knows of the windows there, what follows the mouse as long as its button is
+    down, and a sentence on what happened last. The clock gives the seconds that have passed."""
+
+    def __init__(self, desk, clock=time.monotonic):
+        self.desk, self.known = desk, Known()
+        self.status, self.tracked = "", None
+        self.button_is_up, self.screen_is_shown = True, False
+        self.shown, self.point = b"", None
+        self.clock, self.began = clock, clock()
+
+    def run_script(self, script):
+        """Runs the lines of a script, and then serves the events that they gave rise to, but for those that they posted.
+        Gives the lines that were refused, each as its number, itself and the answer."""
+        refused = []
+        for number, line in enumerate(script.removesuffix(b"\n").split(b"\n"), 1):
+            answer = self.answer_to(line)
+            if answer.startswith(b"refused"):
+                refused.append((number, line.decode("latin-1").removesuffix("\r"), answer.decode("latin-1")))
+        self.guarded(self.begin)
+        return refused
+
+    def begin(self):
+        """Begins as a program does: what is queued is none of its business, and what is due is served."""
+        self.tell(f"flush {EVERY_EVENT} 0")
+        self.serve()
+
+    def image(self):
+        """The rows of the screen, where it is another than the one that was given last, and else None."""
+        if self.screen_is_shown:
+            return None
+        answer, before = self.desk.ask(b"image"), self.shown
+        self.shown, self.screen_is_shown = answer, True
+        return None if answer == before else rows_of(answer)
+
+    def sides(self):
+        """The columns and rows of the screen."""
+        return sides_of((self.shown or self.desk.ask(b"image")).split(b"\n", 2)[1])
+
+    def mouse_down(self, h, v, modifiers=0):
+        """The button went down. One that is down already goes down no further."""
+        if self.tracked is None:
+            self.button_is_up = False
+            self.happened(MOUSE_DOWN, 0, h, v, modifiers)
+
+    def mouse_moved(self, h, v):
+        """The mouse is at a point. That matters as long as something follows it, and it is another point than before."""
+        point, before = (clamped(h), clamped(v)), self.point
+        self.point = point
+        if self.tracked and point != before:
+            self.guarded(self.tracked.moved, *point)
+
+    def mouse_up(self, h, v, modifiers=0):
+        self.button_is_up = True
+        self.happened(MOUSE_UP, 0, h, v, modifiers)
+
+    def key_down(self, code, h, v, modifiers=0):
+        """A key went down, while the mouse was there. The code is that of its character on a Macintosh."""
+        self.happened(KEY_DOWN, code, h, v, modifiers)
+
+    def key_up(self, code, h, v, modifiers=0):
+        self.happened(KEY_UP, code, h, v, modifiers)
+
+    def happened(self, kind, message, h, v, modifiers):
+        """Posts an event, and serves what there is to be served."""
+        self.point = clamped(h), clamped(v)
+        up = BUTTON_UP if self.button_is_up else 0
+        self.guarded(self.post_and_serve, Event(kind, message, self.ticks(), *self.point, modifiers | up))
+
+    def guarded(self, action, *words):
+        """Does something, and says what was refused in it, if anything was."""
+        try:
+            action(*words)
+        except Refused as refused:
+            self.status = str(refused)
+
+    def post_and_serve(self, event):
+        if self.tracked is None and self.known.open:
+            self.tell(self.known.open)
+        self.tell("post " + " ".join(map(str, event)))
+        if event.kind == MOUSE_UP and self.tracked:
+            self.release(event)
+        self.serve()
+
+    def release(self, event):
+        """What followed the mouse ends where the button went up. That event is taken out, as one that was waited for."""
+        tracked, self.tracked = self.tracked, None
+        self.tell(f"next {MOUSE_UP_MASK}")
+        tracked.released(event)
+
+    def serve(self):
+        """Asks for the next event, and does what it calls for, until there is none; or until something follows the mouse, or
+        the script left something open: then no event is asked for."""
+        for _ in range(MOST_EVENTS):
+            if self.tracked or self.known.open:
+                return
+            event = Event(*self.numbers(f"next {EVERY_EVENT}"))
+            if event.kind == 0:
+                return
+            if event.kind in SERVES:
+                SERVES[event.kind](self, event)
+
+    def ticks(self):
+        """The time since the loop began, in sixtieths of a second."""
+        return int((self.clock() - self.began) * 60) % 10**9
+
+    def answer_to(self, line):
+        """The answer to a line, both as bytes, from which is learned what there is."""
+        answer = self.desk.ask(line)
+        self.known.learn(line, answer)
+        command = line.split(b" ", 1)[0].decode("latin-1")
+        self.screen_is_shown = self.screen_is_shown and command in LEAVE_THE_SCREEN
+        return answer
+
+    def tell(self, line):
+        """The answer to a line that has to be done."""
+        answer = self.answer_to(line.encode("latin-1")).decode("latin-1")
+        if answer.startswith("refused"):
+            raise Refused(f"{line} is {answer}")
+        return answer
+
+    def numbers(self, line):
+        """The numbers that a line is answered by, which has to be done."""
+        return numbers_of(self.tell(line).encode("latin-1"))
+
+    def update_due(self, event):
+        self.tell(f"update {event.message}")
+
+    def mouse_went_down(self, event):
+        """The button went down: what that means depends on whose the point is."""
+        part, window = self.numbers(f"find {event.h} {event.v}")
+        if part in WENT_DOWN:
+            WENT_DOWN[part](self, event, part, window)
+        else:
+            self.status = f"{self.window_name(window)}, on its frame" if window else "The desktop"
+
+    def in_menu_bar(self, event, _part, _window):
+        self.follow(MenuTracking(self), event)
+
+    def in_drag(self, event, _part, window):
+        self.follow(Dragging(self, window), event)
+
+    def in_grow(self, event, _part, window):
+        self.follow(Growing(self, window), event)
+
+    def in_go_away(self, event, _part, window):
+        self.follow(GoAwayTracking(self, window), event)
+
+    def in_zoom(self, event, part, window):
+        self.follow(BoxTracking(self, window, part), event)
+
+    def follow(self, tracking, event):
+        """Lets this follow the mouse, where it has begun."""
+        if tracking.begun(event):
+            self.tracked = tracking
+
+    def in_content(self, event, _part, window):
+        """A window that is not in front comes there, and nothing else. In the front one, what lies at the point is meant."""
+        if self.numbers("frontwin") != [window]:
+            self.tell(f"select {window}")
+            self.status = f"{self.window_name(window)} is selected"
+            return
+        left, top = self.numbers(f"info {window}")[:2]
+        h, v = clamped(event.h - left), clamped(event.v - top)
+        part, number = self.numbers(f"findc {window} {h} {v}")
+        its = self.list_at(window, h, v)
+        if part:
+            self.follow(ControlTracking(self, self.known.controls[number], left, top), event)
+        elif its:
+            self.click_in(its, h, v, event.modifiers)
+        else:
+            self.status = f"{self.window_name(window)}, at {h} {v} in it"
+
+    def list_at(self, window, h, v):
+        """The list that a point of a window's content belongs to, or none: controls lie in front of it, also where they are
+        inactive."""
+        for control in self.known.controls_of(window):
+            if control.covers(h, v) and self.numbers(f"cget {window} {control.number}")[4]:
+                return None
+        found = [its for its in self.known.lists_of(window) if its.covers(h, v)]
+        return found[0] if found else None
+
+    def click_in(self, its, h, v, modifiers):
+        """A list is told of a click, and asked what is selected then."""
+        call = f"{its.window} {its.number}"
+        if self.numbers(f"lclick {call} {h} {v} {modifiers}") == [0]:
+            self.status = f"List {its.number}, on no cell"
+            return
+        found, *cell = self.numbers(f"lgetsel {call} 1 0 0")
+        self.status = f"List {its.number}, no selected cell"
+        if found:
+            at = " ".join(map(str, cell))
+            data = self.tell(f"lget {call} {at}").removeprefix("ok ")
+            self.status = f"List {its.number}, first selected cell: {at}, {data}"
+
+    def key_went_down(self, event):
+        """A key with the Command key may stand for an item of a menu."""
+        character = chr(event.message & 255)
+        name = f"Key {character if ' ' < character <= '~' else event.message & 255}"
+        if not event.modifiers & COMMAND:
+            self.status = name
+            return
+        self.status = f"{name} with Command: no item"
+        if " " <= character <= "~" and character != '"':
+            self.item_chosen(*self.numbers(f'mkey "{character}"'))
+
+    def item_chosen(self, menu, item):
+        """An item of a menu was chosen, or none, which is 0 0. Nothing is done for it here but to say so, and no title is
+        highlighted after that."""
+        if menu:
+            title, items = self.known.menus[menu].title, self.known.menus[menu].items
+            self.status = f'"{items[item - 1]}" was chosen from "{title}": menu {menu}, item {item}'
+            self.tell("mhilite 0")
+
+    def window_name(self, window):
+        return named("Window", window, self.known.windows[window])
+
+
+SERVES = {
+    MOUSE_DOWN: EventLoop.mouse_went_down,
+    KEY_DOWN: EventLoop.key_went_down,
+    UPDATE: EventLoop.update_due,
+}
+WENT_DOWN = {
+    MENU_BAR: EventLoop.in_menu_bar,
+    CONTENT: EventLoop.in_content,
+    DRAG: EventLoop.in_drag,
+    GROW: EventLoop.in_grow,
+    GO_AWAY: EventLoop.in_go_away,
+    ZOOM_IN: EventLoop.in_zoom,
+    ZOOM_OUT: EventLoop.in_zoom,
+}

@@ -1,0 +1,225 @@
+"""What a script has made on its desk, as far as a loop of events has to know it. It is learned from the script's lines and
+their answers, as they come; what a desk tells of itself, as the place of a window, is not kept here."""
+
+import re
+from dataclasses import dataclass
+
+WORD = re.compile(r'"[^"]*"|[^ ]+')
+
+# A point at which no button, menu or box is, so that what is tracked ends there with nothing chosen.
+NOWHERE = "-16384 -16384"
+
+# The characters of a menu's items that take the character after them, and the one that stands alone.
+SIGNS = "!/^<"
+DISABLES = "("
+
+
+@dataclass
+class Control:
+    """A control, with its place and size in its window's content."""
+
+    number: int
+    window: int
+    kind: str
+    left: int
+    top: int
+    width: int
+    height: int
+    title: str
+
+    def covers(self, h, v):
+        """Whether its rectangle has a point of the content."""
+        return self.left <= h < self.left + self.width and self.top <= v < self.top + self.height
+
+
+@dataclass
+class List:
+    """A list, with its view in its window's content, the size of its cells, and the numbers of its scroll bars, 0 for
+    none."""
+
+    number: int
+    window: int
+    left: int
+    top: int
+    width: int
+    height: int
+    cell_width: int
+    cell_height: int
+    vertical: int
+    horizontal: int
+
+    def covers(self, h, v):
+        """Whether its view has a point of the content."""
+        return self.left <= h < self.left + self.width and self.top <= v < self.top + self.height
+
+    def whole(self, vertical):
+        """How many rows, or columns, its view shows whole, and at least one."""
+        count = self.height // self.cell_height if vertical else self.width // self.cell_width
+        return max(1, count)
+
+
+@dataclass
+class Menu:
+    """A menu, with the texts of its items."""
+
+    title: str
+    items: list
+
+
+def words_of(line):
+    """The words of a line, a text with its quotes."""
+    return WORD.findall(line.decode("latin-1").removesuffix("\r"))
+
+
+def numbers_of(answer):
+    """The numbers of an answer that gives some, or nothing where it is of another sort."""
+    word, *rest = answer.decode("latin-1").split(" ")
+    try:
+        return [int(number) for number in rest] if word == "ok" else None
+    except ValueError:
+        return None
+
+
+def text_of(item):
+    """The text of an item of a menu, without its signs and what they take."""
+    found, characters = "", iter(item)
+    for character in characters:
+        if character in SIGNS:
+            next(characters, "")
+        elif character != DISABLES:
+            found += character
+    return found
+
+
+class Known:
+    """The windows, controls, lists and menus that are there, by their numbers, and the line that ends what is open: an
+    update, the tracking of a box or a control, or a menu that is pulled down."""
+
+    def __init__(self):
+        self.windows = {}
+        self.controls = {}
+        self.lists = {}
+        self.menus = {}
+        self.last_control = 0
+        self.open = ""
+
+    def learn(self, line, answer):
+        """Learns from a line and its answer. One that is refused, and one that makes nothing, teach nothing."""
+        words, numbers = words_of(line), numbers_of(answer)
+        if words and numbers is not None and words[0] in LEARNED:
+            LEARNED[words[0]](self, words, numbers)
+
+    def controls_of(self, window):
+        """The controls of a window, the oldest first."""
+        return [control for _, control in sorted(self.controls.items()) if control.window == window]
+
+    def lists_of(self, window):
+        """The lists of a window, the oldest first."""
+        return [its for _, its in sorted(self.lists.items()) if its.window == window]
+
+    def list_with(self, control):
+        """The list whose scroll bar a control is, or none."""
+        found = [its for its in self.lists.values() if control in (its.vertical, its.horizontal)]
+        return found[0] if found else None
+
+    def radio_group(self, number):
+        """The numbers of a radio button and of those of its window that stand with it: they were made one after the other,
+        with no control of another kind of that window between them."""
+        groups = [[]]
+        for control in self.controls_of(self.controls[number].window):
+            if control.kind == "radio":
+                groups[-1].append(control.number)
+            else:
+                groups.append([])
+        return next(group for group in groups if number in group)
+
+    def window_made(self, words, numbers):
+        self.windows[numbers[0]] = words[8][1:-1]
+
+    def window_titled(self, words, _):
+        self.windows[int(words[1])] = words[2][1:-1]
+
+    def window_closed(self, words, _):
+        window = int(words[1])
+        self.windows.pop(window, None)
+        self.controls = {key: control for key, control in self.controls.items() if control.window != window}
+        self.lists = {key: its for key, its in self.lists.items() if its.window != window}
+
+    def add_control(self, window, kind, place, title):
+        """A control is made; its number is the next one, which is the answer."""
+        self.last_control += 1
+        self.controls[self.last_control] = Control(self.last_control, window, kind, *place, title)
+        return self.last_control
+
+    def control_made(self, words, _):
+        self.add_control(int(words[1]), words[2], map(int, words[3:7]), words[11][1:-1])
+
+    def control_titled(self, words, _):
+        self.controls[int(words[2])].title = words[3][1:-1]
+
+    def control_moved(self, words, _):
+        control = self.controls[int(words[2])]
+        control.left, control.top = map(int, words[3:5])
+
+    def control_sized(self, words, _):
+        control = self.controls[int(words[2])]
+        control.width, control.height = map(int, words[3:5])
+
+    def control_disposed(self, words, _):
+        self.controls.pop(int(words[2]), None)
+
+    def list_made(self, words, numbers):
+        window, sizes = int(words[1]), [int(word) for word in words[3:9]]
+        left, top, width, height = sizes[:4]
+        vertical = horizontal = 0
+        if words[11] == "1":
+            vertical = self.add_control(window, "scroll", (left + width, top, 16, height), "")
+        if words[12] == "1":
+            horizontal = self.add_control(window, "scroll", (left, top + height, width, 16), "")
+        self.lists[numbers[0]] = List(numbers[0], window, *sizes, vertical, horizontal)
+
+    def list_disposed(self, words, _):
+        its = self.lists.pop(int(words[2]))
+        for control in (its.vertical, its.horizontal):
+            self.controls.pop(control, None)
+
+    def menu_made(self, words, _):
+        self.menus[int(words[1])] = Menu(words[2][1:-1], [])
+
+    def menu_grown(self, words, _):
+        self.menus[int(words[1])].items += [text_of(item) for item in words[2][1:-1].split(";") if item]
+
+    def item_named(self, words, _):
+        self.menus[int(words[1])].items[int(words[2]) - 1] = words[3][1:-1]
+
+    def menu_disposed(self, words, _):
+        self.menus.pop(int(words[1]), None)
+
+    def begun(self, words, numbers):
+        """Something is open from now on, but for what answers that it is not."""
+        if numbers[:1] != [0]:
+            self.open = f"end {words[1]}" if words[0] == "begin" else f"{ENDS[words[0]]} {NOWHERE}"
+
+    def ended(self, *_):
+        self.open = ""
+
+
+ENDS = {"goaway": "gaend", "ctrack": "ctend", "mdown": "mup"}
+LEARNED = {
+    "window": Known.window_made,
+    "title": Known.window_titled,
+    "close": Known.window_closed,
+    "control": Known.control_made,
+    "ctitle": Known.control_titled,
+    "cmove": Known.control_moved,
+    "csize": Known.control_sized,
+    "cdispose": Known.control_disposed,
+    "list": Known.list_made,
+    "ldispose": Known.list_disposed,
+    "menu": Known.menu_made,
+    "mappend": Known.menu_grown,
+    "mitem": Known.item_named,
+    "mdispose": Known.menu_disposed,
+    **dict.fromkeys(("begin", *ENDS), Known.begun),
+    **dict.fromkeys(("end", *ENDS.values()), Known.ended),
+}

@@ -1,0 +1,227 @@
+"""What follows the mouse as long as its button is down: a menu, a window that is dragged or gets another size, a box of a
+window's frame, and a control. Each is begun by the event of the button that went down, is told where the mouse moves, and ends
+by the event of the button that went up."""
+
+# The range of coordinates.
+LEAST, MOST = -16384, 16383
+
+# The least width and height that the size box gives a window.
+LEAST_SIDE = 32
+
+# The parts of a scroll bar, each with the way in which it goes, and whether by a page.
+SCROLL_PARTS = {20: (-1, False), 21: (1, False), 22: (-1, True), 23: (1, True)}
+THUMB = 129
+
+# What the parts of a scroll bar are a page of: a part of its range.
+PAGES = 4
+
+KIND_NAMES = {"button": "Button", "check": "Check box", "radio": "Radio button", "scroll": "Scroll bar"}
+
+
+def clamped(coordinate):
+    """The nearest coordinate of the range."""
+    return max(LEAST, min(MOST, coordinate))
+
+
+def named(what, number, title):
+    """What is called so, with its title where it has one."""
+    return f'{what} {number} "{title}"' if title else f"{what} {number}"
+
+
+class MenuTracking:
+    """A menu is pulled down as soon as the mouse is on its title, and then follows the mouse."""
+
+    def __init__(self, loop):
+        self.loop, self.is_down = loop, False
+
+    def begun(self, event):
+        self.moved(event.h, event.v)
+        return True
+
+    def moved(self, h, v):
+        if self.is_down:
+            self.loop.tell(f"mmove {h} {v}")
+        else:
+            self.is_down = self.loop.numbers(f"mdown {h} {v}") != [0]
+
+    def released(self, event):
+        self.loop.status = "No item was chosen"
+        if self.is_down:
+            self.loop.item_chosen(*self.loop.numbers(f"mup {event.h} {event.v}"))
+
+
+class Dragging:
+    """A window that is dragged by its title bar moves where the button goes up, by as much as the mouse did. It is selected
+    too, unless the Command key was down. Where the button goes up off the screen or in the menu bar, nothing was meant."""
+
+    MENU_BAR, COMMAND = 1, 256
+
+    def __init__(self, loop, window):
+        self.loop, self.window, self.name = loop, window, loop.window_name(window)
+
+    def begun(self, event):
+        self.from_h, self.from_v, self.keeps_place = event.h, event.v, bool(event.modifiers & self.COMMAND)
+        self.left, self.top = self.loop.numbers(f"info {self.window}")[:2]
+        return True
+
+    def target(self, h, v):
+        return self.left + h - self.from_h, self.top + v - self.from_v
+
+    def moved(self, h, v):
+        self.loop.status = "{} goes to {} {}".format(self.name, *self.target(h, v))
+
+    def is_meant(self, h, v):
+        width, height = self.loop.sides()
+        return 0 <= h < width and 0 <= v < height and self.loop.numbers(f"find {h} {v}")[0] != self.MENU_BAR
+
+    def released(self, event):
+        left, top = self.target(event.h, event.v)
+        if not self.is_meant(event.h, event.v):
+            self.loop.status = f"{self.name} stays where it is"
+        elif (left, top) != (self.left, self.top):
+            self.loop.tell(f"move {self.window} {left} {top} {0 if self.keeps_place else 1}")
+            self.loop.status = f"{self.name} was moved to {left} {top}"
+        elif not self.keeps_place and self.loop.numbers("frontwin") != [self.window]:
+            self.loop.tell(f"select {self.window}")
+            self.loop.status = f"{self.name} is selected"
+
+
+class Growing:
+    """A window gets another size where the button goes up, by as much as the mouse moved."""
+
+    def __init__(self, loop, window):
+        self.loop, self.window, self.name = loop, window, loop.window_name(window)
+
+    def begun(self, event):
+        self.from_h, self.from_v = event.h, event.v
+        self.width, self.height = self.loop.numbers(f"info {self.window}")[2:4]
+        return True
+
+    def target(self, h, v):
+        sides = self.width + h - self.from_h, self.height + v - self.from_v
+        return tuple(max(LEAST_SIDE, side) for side in sides)
+
+    def moved(self, h, v):
+        self.loop.status = "{} gets the size {} by {}".format(self.name, *self.target(h, v))
+
+    def released(self, event):
+        if (event.h, event.v) != (self.from_h, self.from_v):
+            width, height = self.target(event.h, event.v)
+            self.loop.tell(f"size {self.window} {width} {height}")
+            self.loop.status = f"{self.name} has the size {width} by {height}"
+
+
+class BoxTracking:
+    """A zoom box, which does not show that it is tracked: the window is zoomed where the button goes up in it."""
+
+    def __init__(self, loop, window, part):
+        self.loop, self.window, self.part, self.name = loop, window, part, loop.window_name(window)
+
+    def begun(self, _):
+        return True
+
+    def moved(self, _h, _v):
+        pass
+
+    def released(self, event):
+        self.loop.status = f"{self.name} stays as it is"
+        if self.loop.numbers(f"find {event.h} {event.v}") == [self.part, self.window]:
+            self.loop.tell(f"zoom {self.window} {self.part}")
+            self.loop.status = f"{self.name} was zoomed"
+
+
+class GoAwayTracking:
+    """A go-away box: its window is closed where the button goes up in it."""
+
+    def __init__(self, loop, window):
+        self.loop, self.window, self.name = loop, window, loop.window_name(window)
+
+    def begun(self, event):
+        return self.loop.numbers(f"goaway {self.window} {event.h} {event.v}") == [1]
+
+    def moved(self, h, v):
+        self.loop.tell(f"gastep {h} {v}")
+
+    def released(self, event):
+        self.loop.status = f"{self.name} stays open"
+        if self.loop.numbers(f"gaend {event.h} {event.v}") == [1]:
+            self.loop.tell(f"close {self.window}")
+            self.loop.status = f"{self.name} was closed"
+
+
+class ControlTracking:
+    """A control of a window whose content begins at this point of the screen. Where the button goes up in the part that it
+    went down in, that part does what controls of this kind are for."""
+
+    def __init__(self, loop, control, left, top):
+        self.loop, self.control, self.left, self.top = loop, control, left, top
+        self.call = f"{control.window} {control.number}"
+        self.name = named(KIND_NAMES[control.kind], control.number, control.title)
+
+    def local(self, h, v):
+        return f"{clamped(h - self.left)} {clamped(v - self.top)}"
+
+    def value(self):
+        return self.loop.numbers(f"cget {self.call}")[0]
+
+    def begun(self, event):
+        self.before = self.value()
+        self.loop.status = f"{self.name} is tracked"
+        return self.loop.numbers(f"ctrack {self.call} {self.local(event.h, event.v)}") != [0]
+
+    def moved(self, h, v):
+        self.loop.tell(f"ctstep {self.local(h, v)}")
+
+    def released(self, event):
+        part = self.loop.numbers(f"ctend {self.local(event.h, event.v)}")[0]
+        if part:
+            USES[self.control.kind](self, part)
+        else:
+            self.loop.status = f"{self.name}: nothing was meant"
+
+    def pressed(self, _):
+        self.loop.status = f"{self.name} was pressed"
+
+    def checked(self, _):
+        self.loop.tell(f"cvalue {self.call} {0 if self.before else 1}")
+        self.tell_value()
+
+    def chosen(self, _):
+        """A radio button is on then, and those that stand with it are off."""
+        for number in self.loop.known.radio_group(self.control.number):
+            self.loop.tell(f"cvalue {self.control.window} {number} {int(number == self.control.number)}")
+        self.tell_value()
+
+    def scrolled(self, part):
+        """A scroll bar of a list scrolls the list, which sets it. Any other one gets another value."""
+        its = self.loop.known.list_with(self.control.number)
+        if its:
+            by = self.value() - self.before if part == THUMB else self.step(part, its)
+            across, down = (0, by) if self.control.number == its.vertical else (by, 0)
+            self.loop.tell(f"lscroll {its.window} {its.number} {across} {down}")
+        elif part != THUMB:
+            value = self.before + self.step(part, None)
+            self.loop.tell(f"cvalue {self.call} {max(-32768, min(32767, value))}")
+        self.tell_value()
+
+    def step(self, part, its):
+        """By how much a part of a scroll bar goes. A page of a list is what is seen whole, less one; of any other scroll bar
+        it is a part of its range. It is 1 at least."""
+        way, by_page = SCROLL_PARTS[part]
+        if not by_page:
+            return way
+        if its:
+            return way * max(1, its.whole(self.control.number == its.vertical) - 1)
+        _, least, most, _, _ = self.loop.numbers(f"cget {self.call}")
+        return way * max(1, (most - least) // PAGES)
+
+    def tell_value(self):
+        self.loop.status = f"{self.name} has the value {self.value()}"
+
+
+USES = {
+    "button": ControlTracking.pressed,
+    "check": ControlTracking.checked,
+    "radio": ControlTracking.chosen,
+    "scroll": ControlTracking.scrolled,
+}
