@@ -6,7 +6,9 @@ import sys
 import tempfile
 
 sys.dont_write_bytecode = True
-from answers import LONGEST_SHOWN, Fault, unlike
+from preloaded import unlike
+
+from kit.answers import LONGEST_SHOWN, Fault
 
 # How long a run may take.
 SECONDS = 60

@@ -7,8 +7,10 @@ import subprocess
 import sys
 
 sys.dont_write_bytecode = True
-from answers import LONGEST_SHOWN, ROWS, TOP, Fault, answers_of, commands_of, read
 from growths_program import ALL, each, questions, refusal
+from preloaded import ROWS, TOP, read
+
+from kit.answers import LONGEST_SHOWN, Fault, answers_to, commands_of
 
 FOLDERS = (ROWS, os.path.join(TOP, "examples"))
 # A row with more commands than this is left out: for each growth a copy of the program goes through the rest of the row.
@@ -132,7 +134,7 @@ class Row:
         made."""
         lines = [line for command in self.commands for line in (command, *self.probes)]
         text, told = program.run(lines, *self.options)
-        answers = answers_of(lines, text)
+        answers = answers_to(lines, text)
         step = 1 + len(self.probes)
         if answers[::step] != self.answers:
             raise Fault("where its state is asked for after each command, it is answered otherwise")
@@ -178,7 +180,7 @@ class Row:
     def chosen(self, program, at):
         """What the keys choose after the command at this place, with nothing refused."""
         lines = [*self.commands[: at + 1], *self.keys]
-        return answers_of(lines, program.run(lines, *self.options)[0])[at + 1 :]
+        return answers_to(lines, program.run(lines, *self.options)[0])[at + 1 :]
 
     def try_keys(self, program, at):
         """Refuses the growths of the command at this place one by one, and asks what the keys choose then."""
@@ -227,12 +229,12 @@ def options_of(path, fonts):
 def row_of(path, fonts):
     """The row with this path, without its ending, or None where it is none for this test."""
     script = read(path + ".desk")
-    commands = commands_of(script)
+    commands = [command.text for command in commands_of(script)]
     if not commands or len(commands) > MOST_COMMANDS or max(map(len, commands)) > LONGEST_READ:
         return None
     if not script.endswith(b"\n") or any(read(path + ending) is not None for ending in (".args", ".status")):
         return None
-    found = on_a_desk(commands, answers_of(commands, read(path + ".out")))
+    found = on_a_desk(commands, answers_to(commands, read(path + ".out")))
     return found and Row(os.path.basename(path), *found, options_of(path, fonts))
 
 

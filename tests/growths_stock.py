@@ -5,9 +5,10 @@ import subprocess
 import sys
 
 sys.dont_write_bytecode = True
-from answers import Fault
 from growths_program import ALL, questions, refusal
 from growths_rows import NO_MEMORY
+
+from kit.answers import Fault
 
 DESK = b"desk 8 8 0"
 WINDOW = b'window plain 1 1 4 4 1 0 ""'

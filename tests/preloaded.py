@@ -1,20 +1,15 @@
-"""Scripts and what they are answered: the parts that growths and ends share."""
+"""Runs of programs that a library of C is preloaded into: the parts that growths and ends share."""
 
 import os
 import subprocess
+import sys
 
 TESTS = os.path.dirname(os.path.realpath(__file__))
 TOP = os.path.dirname(TESTS)
 ROWS = os.path.join(TESTS, "rows")
-
-# A longer line is answered, whatever it is.
-LONGEST_LINE = 1024
-# How much of a text is shown where something is wrong with it.
-LONGEST_SHOWN = 60
-
-
-class Fault(Exception):
-    """What went wrong."""
+sys.dont_write_bytecode = True
+sys.path.insert(0, TOP)
+from kit.answers import LONGEST_SHOWN  # noqa: E402
 
 
 def read(path):
@@ -24,38 +19,6 @@ def read(path):
             return file.read()
     except FileNotFoundError:
         return None
-
-
-def commands_of(script):
-    """The lines of a script that are answered."""
-    *ended, last = script.split(b"\n")
-    lines = [*(line.removesuffix(b"\r") for line in ended), last]
-    return [line for line in lines if len(line) > LONGEST_LINE or (line and not line.startswith(b"#"))]
-
-
-def end_of_answer(text, start):
-    """Where the answer that begins here ends."""
-    end = text.index(b"\n", start) + 1
-    if text[start:end] != b"P1\n":
-        return end
-    pixels = text.index(b"\n", end) + 1
-    width, height = map(int, text[end:pixels].split())
-    return pixels + height * (width + (width + 69) // 70)
-
-
-def answers_of(commands, text):
-    """The answers to these commands, one for each."""
-    answers, place = [], 0
-    for command in commands:
-        try:
-            end = end_of_answer(text, place)
-        except ValueError:
-            raise Fault(f"there is no whole answer to {command[:LONGEST_SHOWN]!r}") from None
-        answers.append(text[place:end])
-        place = end
-    if place != len(text):
-        raise Fault(f"after the last answer there is {text[place:][:LONGEST_SHOWN]!r}")
-    return answers
 
 
 def unlike(asked, text):
