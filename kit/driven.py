@@ -131,9 +131,9 @@ class Driven:
         self.found += more
 
     def wait(self, readers, writers, end):
-        """Waits until one of these is ready."""
-        left = max(0.0, end - time.monotonic())
-        if not any(select.select(readers, writers, [], left)):
+        """Waits until one of these is ready, but not past the end, however often one was."""
+        left = end - time.monotonic()
+        if left <= 0 or not any(select.select(readers, writers, [], left)):
             raise Fault(f"{self.words[0]} does not answer within {self.seconds:g} seconds")
 
     def ended(self):

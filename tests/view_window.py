@@ -259,8 +259,8 @@ def a_menu_is_pulled_down_and_an_item_chosen(viewer):
 
 
 def keys_are_posted_and_stand_for_items(viewer):
-    viewer.server.tool("key", "ctrl+q", "shift+x", "Return")
-    posted = [rb"\npost 3 %d \d+ 60 60 %d\n" % key for key in ((113, 384), (88, 640), (13, 128))]
+    viewer.server.tool("key", "ctrl+q", "shift+x", "Left")
+    posted = [rb"\npost 3 %d \d+ 60 60 %d\n" % key for key in ((113, 384), (88, 640), (28, 128))]
     eventually(lambda: all(re.search(line, viewer.written()) for line in posted), "each of the keys")
     eventually(lambda: b'\nmkey "q"\nmhilite 0\n' in viewer.settled(), "the key in a menu")
 
