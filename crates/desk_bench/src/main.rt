@@ -43,7 +43,15 @@ fn main(rt: HostRuntime) -> Result<()> {
     };
     let mut source = WatchedReader::new(rt.reader());
     let mut sink = WatchedWriter::new(io::writer(&rt));
-    if let Err(refusal) = run(alloc, &mut source, &mut sink, &mut stock, None, false, false) {
+    if let Err(refusal) = run(
+        alloc,
+        &mut source,
+        &mut sink,
+        &mut stock,
+        None,
+        false,
+        false,
+    ) {
         bail!("{refusal}");
     }
     Ok(())
