@@ -10,8 +10,8 @@ from preloaded import unlike
 
 from kit.answers import LONGEST_SHOWN, Fault
 
-# How long a run may take.
-SECONDS = 60
+# How long a run may take, with all its copies.
+SECONDS = 300
 # The last growth that is refused, where all are.
 ALL = 10**9
 
