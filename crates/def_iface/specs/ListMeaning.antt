@@ -67,6 +67,11 @@ pub record ListHears (news : ListNews → ListNews) (old new : ListDefinition) :
   pub picture : (n : ListNews) (font bytes : List ℕ) (p : Point) → new.picture n font bytes p ≡ old.picture (news n) font bytes p
   pub highlight : (n : ListNews) (font bytes : List ℕ) (p : Point) → new.highlight n font bytes p ≡ old.highlight (news n) font bytes p
 
+-- it has the size that it was told, and answers as the old one, whatever it is told from here on
+pub record SameListLook (old new : ListDefinition) : Type 0 where
+  pub size : new.size ≡ old.size
+  pub look : ListHears (λ n. n) old new
+
 -- what a fresh definition is once it was made live and told both
 pub record IsListBegun (size : Size) (hilited : Bool) (old new : ListDefinition) : Type 0 where
   pub live : new.stage ≡ Live

@@ -3,7 +3,7 @@ ghost use Rattle.std.specs.Prelude.{◌≡◌, ◌≤◌, true, not, if◌then�
 ghost use Rattle.bit_blit.specs.Draws.{Draws};
 ghost use Rattle.draw_port.specs.Canvases.{canvas_holds, canvas_point, SameFrame};
 ghost use Rattle.def_iface.specs.ControlMeaning.{is_control_size};
-ghost use Rattle.def_iface.specs.ListMeaning.{ListDefinition, ListHears, IsListDamage};
+ghost use Rattle.def_iface.specs.ListMeaning.{ListDefinition, ListHears, IsListDamage, SameListLook};
 ghost use Rattle.def_iface.specs.ListMeaning.{no_list_news, told_list, cell_size_after, cell_bit};
 
 use crate::{Size, Stage};
@@ -69,8 +69,9 @@ pub trait ListDef: Drop {
             then not d else d)
             canvas.old.map.now canvas.new.map.now };
 
-    /// Ends a Live definition's use.
+    /// Ends a Live definition's use. It answers as it did: the definition that goes back into its slot is told by that.
     fn dispose(&mut self)
         requires { (list_meaning self.old).stage ≡ Stage.Live }
-        ensures closed { (list_meaning self.new).stage ≡ Stage.Closed };
+        ensures closed { (list_meaning self.new).stage ≡ Stage.Closed }
+        ensures same { SameListLook (list_meaning self.old) (list_meaning self.new) };
 }

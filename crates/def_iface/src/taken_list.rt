@@ -3,7 +3,7 @@ ghost use Rattle.std.specs.Prelude.{◌≡◌, ◌≤◌, true, not, if◌then�
 ghost use Rattle.bit_blit.specs.Draws.{Draws};
 ghost use Rattle.draw_port.specs.Canvases.{canvas_holds, canvas_point, SameFrame};
 ghost use Rattle.def_iface.specs.ControlMeaning.{is_control_size};
-ghost use Rattle.def_iface.specs.ListMeaning.{ListLoan, ListHears, IsListBegun, IsListDamage};
+ghost use Rattle.def_iface.specs.ListMeaning.{ListLoan, ListHears, IsListBegun, IsListDamage, SameListLook};
 ghost use Rattle.def_iface.specs.ListMeaning.{no_list_news, told_list, cell_size_after, cell_bit};
 
 use crate::{ListChange, ListDef, Size, Stage};
@@ -109,6 +109,8 @@ impl TakenList {
     pub fn dispose(&mut self)
         requires { (⟦<TakenList as DefinedList>⟧.list_loan self.old).definition.stage ≡ Stage.Live }
         ensures closed { (⟦<TakenList as DefinedList>⟧.list_loan self.new).definition.stage ≡ Stage.Closed }
+        ensures same { SameListLook (⟦<TakenList as DefinedList>⟧.list_loan self.old).definition
+            (⟦<TakenList as DefinedList>⟧.list_loan self.new).definition }
         ensures slot { (⟦<TakenList as DefinedList>⟧.list_loan self.new).slot ≡ (⟦<TakenList as DefinedList>⟧.list_loan self.old).slot }
     {
         self.definition.dispose();
