@@ -1,6 +1,6 @@
 -- Lemmas behind the laws.
-use Rattle.std.proofs.Common.{◌≡◌, ℕ, zero, suc, ◌+◌, ◌*◌, ◌-◌, ◌<◌, ◌≤◌, List, ◌++◌, Bool, true, false, cond, length, take, drop, replicate, refl, sym, ap, ◌∙◌, subst, arith, ◌⊎◌, inl, inr, length-append, length-drop}
-use Rattle.std.specs.Prelude.{Option, Some, None}
+use Rattle.std.proofs.Common.{◌≡◌, ℕ, zero, suc, ◌+◌, ◌*◌, ◌-◌, ◌<◌, ◌≤◌, List, [], ◌∷◌, ◌++◌, Bool, true, false, cond, length, take, drop, replicate, refl, sym, ap, ◌∙◌, subst, arith, ◌⊎◌, inl, inr, length-append, length-drop}
+use Rattle.std.specs.Prelude.{ℤ, pos, ◌+ℤ◌, ◌-ℤ◌, int_le, int_lt, if◌then◌else◌, Option, Some, None}
 use Rattle.std.specs.List.{position_from}
 use Rattle.std.specs.Option.{option_map}
 use Rattle.std.proofs.lemmas.Bool.{cases_lt, cases_eq, false≢true}
@@ -19,8 +19,8 @@ use Rattle.list_cells.specs.declared.click.Click.TheVariants.{SelectsAlone}
 use Rattle.list_cells.specs.declared.click.ClickKeys.{ClickKeys}
 use Rattle.list_cells.specs.declared.click.SelectionFlags.{SelectionFlags}
 use Rattle.list_cells.specs.Blocks.{IsFirst, content_at, block_at, with_place, is_in, smallest, clicked, clicked_cell}
-use Rattle.list_cells.specs.Clicks.{click_of}
-use Rattle.list_cells.specs.Grids.{Grid, IsGrid, place_of, cell_of, content_of, first_from, rows_added, rows_deleted, columns_deleted}
+use Rattle.list_cells.specs.Clicks.{click_of, flags_number}
+use Rattle.list_cells.specs.Grids.{Grid, IsGrid, place_of, cell_of, content_of, first_from, rows_added, rows_deleted, columns_added, columns_deleted}
 use Rattle.list_cells.proofs.BlockLemmas.{smallest_below, smallest_below_suc}
 
 -- ---- the smallest block
@@ -140,6 +140,62 @@ search_first test g from found h e =
     let place : place_of g found ≡ place_of g from + s.0 = ap (place_of g) (sym s.2) ∙ place_of_cell g (place_of g from + s.0) h in
     subst (λ n. IsFirst test g (place_of g from) n) (sym place) (first_at test g (place_of g from) s.0 s.1)
 
+option_map_none : {A B : Type 0} (f : A → B) (o : Option A) → option_map f o ≡ None → o ≡ None
+option_map_none f None e = refl
+option_map_none f (Some x) e = absurd (cc e)
+
+none_passes : (test : Content → Bool) (cells : List Content) (i k : ℕ) → position_from test i cells ≡ None → k < length cells → test (content_at cells k) ≡ false
+none_passes test [] i k e h = absurd (omega arith)
+none_passes test (x ∷ xs) i k e h = either (test x) refl (λ j. none_passes test xs (i + 1) j) e k h
+  where
+    either : (t : Bool) → test x ≡ t → ((j : ℕ) → position_from test (i + 1) xs ≡ None → j < length xs → test (content_at xs j) ≡ false)
+        → cond t (Some i) (position_from test (i + 1) xs) ≡ None → (k : ℕ) → k < length (x ∷ xs) → test (content_at (x ∷ xs) k) ≡ false
+    either true is rest e k h = absurd (cc e)
+    either false is rest e zero h = is
+    either false is rest e (suc k) h = rest k e (omega arith)
+
+pub search_nothing : (test : Content → Bool) (g : Grid) (from : Cell) → first_from test g from ≡ None
+    → (k : ℕ) → place_of g from ≤ k → k < length g.contents → test (content_at g.contents k) ≡ false
+search_nothing test g from e k l h =
+    let nowhere = option_map_none (λ far. cell_of g (place_of g from + far)) (position_from test 0 (drop (place_of g from) g.contents)) e in
+    let there : place_of g from + (k - place_of g from) ≡ k = omega arith in
+    ap (λ n. test (content_at g.contents n)) (sym there) ∙ ap test (sym (get_or-drop (place_of g from) g.contents (k - place_of g from) empty_content))
+    ∙ none_passes test (drop (place_of g from) g.contents) 0 (k - place_of g from) nowhere (omega (arith, length-drop (place_of g from) g.contents))
+
+-- ---- the number of a choice of flags
+
+-- the flags of a number
+abbrev flags_of : ℤ → SelectionFlags
+flags_of n =
+    let only = int_lt n (pos 0) in
+    let rest = if only then n +ℤ pos 128 else n in
+    let extend = int_le (pos 16) rest in
+    let less = if extend then rest -ℤ pos 16 else rest in
+    let sense = int_le (pos 4) less in
+    record { only_one = only; no_extend = extend; use_sense = sense; no_nil_hilite = int_le (pos 2) (if sense then less -ℤ pos 4 else less) }
+
+flags_again : (o e s h : Bool) → let f : SelectionFlags = record { only_one = o; no_extend = e; use_sense = s; no_nil_hilite = h } in flags_of (flags_number f) ≡ f
+flags_again true true true true = refl
+flags_again true true true false = refl
+flags_again true true false true = refl
+flags_again true true false false = refl
+flags_again true false true true = refl
+flags_again true false true false = refl
+flags_again true false false true = refl
+flags_again true false false false = refl
+flags_again false true true true = refl
+flags_again false true true false = refl
+flags_again false true false true = refl
+flags_again false true false false = refl
+flags_again false false true true = refl
+flags_again false false true false = refl
+flags_again false false false true = refl
+flags_again false false false false = refl
+
+pub one_choice : (f g : SelectionFlags) → flags_number f ≡ flags_number g → f ≡ g
+one_choice f g e =
+    sym (flags_again f.only_one f.no_extend f.use_sense f.no_nil_hilite) ∙ ap flags_of e ∙ flags_again g.only_one g.no_extend g.use_sense g.no_nil_hilite
+
 -- ---- rows and columns that are put in and taken out
 
 length_take : (n : ℕ) (cells : List Content) → n ≤ length cells → length (take n cells) ≡ n
@@ -151,6 +207,18 @@ opened_at at n k cells l from to =
     get_or-append_right (take at cells) (replicate n empty_content ++ drop at cells) at k empty_content (length_take at cells l) from
     ∙ get_or_append_left (replicate n empty_content) (drop at cells) empty_content (k - at) (omega (arith, length-replicate {A = Content}))
     ∙ get_or-replicate n (k - at) empty_content empty_content (omega arith)
+
+opened_before : (at n k : ℕ) (cells : List Content) → at ≤ length cells → k < at → content_at (opened at n cells) k ≡ content_at cells k
+unfolding opened
+opened_before at n k cells l h =
+    get_or_append_left (take at cells) (replicate n empty_content ++ drop at cells) empty_content k (omega (arith, length_take at cells l)) ∙ get_or-take at cells k empty_content h
+
+opened_after : (at n k : ℕ) (cells : List Content) → at ≤ length cells → at ≤ k → content_at (opened at n cells) (k + n) ≡ content_at cells k
+unfolding opened
+opened_after at n k cells l h =
+    get_or-append_right (take at cells) (replicate n empty_content ++ drop at cells) at (k + n) empty_content (length_take at cells l) (omega arith)
+    ∙ get_or-append_right (replicate n empty_content) (drop at cells) n (k + n - at) empty_content (length-replicate {A = Content} n empty_content) (omega arith)
+    ∙ get_or-drop at cells (k + n - at - n) empty_content ∙ ap (content_at cells) (omega arith)
 
 closed_before : (at n k : ℕ) (cells : List Content) → at ≤ length cells → k < at → content_at (closed at n cells) k ≡ content_at cells k
 unfolding closed
@@ -179,6 +247,17 @@ pub added_row_empty : (g : Grid) (at n row column : ℕ) → IsGrid g → at ≤
 added_row_empty g at n row column is l from to c =
     let end : row * g.columns + column < (at + n) * g.columns = row_before row (at + n) g.columns column to c in
     opened_at (at * g.columns) (n * g.columns) (row * g.columns + column) g.contents (rows_there g at is l) (row_behind row at g.columns column from) (grind arith)
+
+pub row_above_kept : (g : Grid) (at n row column : ℕ) → IsGrid g → at ≤ g.rows → row < at → column < g.columns
+    → content_at (rows_added at n g).contents (row * g.columns + column) ≡ content_at g.contents (row * g.columns + column)
+row_above_kept g at n row column is l r c =
+    opened_before (at * g.columns) (n * g.columns) (row * g.columns + column) g.contents (rows_there g at is l) (row_before row at g.columns column r c)
+
+pub row_below_pushed : (g : Grid) (at n row column : ℕ) → IsGrid g → at ≤ g.rows → at ≤ row
+    → content_at (rows_added at n g).contents ((row + n) * g.columns + column) ≡ content_at g.contents (row * g.columns + column)
+row_below_pushed g at n row column is l r =
+    ap (content_at (rows_added at n g).contents) (grind arith)
+    ∙ opened_after (at * g.columns) (n * g.columns) (row * g.columns + column) g.contents (rows_there g at is l) (row_behind row at g.columns column r)
 
 pub row_above_stays : (g : Grid) (at n row column : ℕ) → IsGrid g → at ≤ g.rows → row < at → column < g.columns
     → content_at (rows_deleted at n g).contents (row * g.columns + column) ≡ content_at g.contents (row * g.columns + column)
@@ -222,6 +301,15 @@ row_long g row is r =
     let e : (row + 1) * g.columns ≡ row * g.columns + g.columns = omega arith in
     omega (arith, is.shape, length-drop (row * g.columns) g.contents)
 
+-- a row by itself has its columns
+row_wide : (g : Grid) (at row : ℕ) → IsGrid g → at ≤ g.columns → row < g.rows → at ≤ length (take g.columns (drop (row * g.columns) g.contents))
+row_wide g at row is l r = omega (arith, length_take g.columns (drop (row * g.columns) g.contents) (row_long g row is r))
+
+-- and is a part of all cells
+row_part : (g : Grid) (row column : ℕ) → column < g.columns → content_at (take g.columns (drop (row * g.columns) g.contents)) column ≡ content_at g.contents (row * g.columns + column)
+row_part g row column c =
+    get_or-take g.columns (drop (row * g.columns) g.contents) column empty_content c ∙ get_or-drop (row * g.columns) g.contents column empty_content
+
 narrowed : (g : Grid) (at n row column : ℕ) → IsGrid g → at + n ≤ g.columns → row < g.rows → column + n < g.columns
     → content_at (columns_deleted at n g).contents (row * (g.columns - n) + column) ≡ content_at (closed at n (take g.columns (drop (row * g.columns) g.contents))) column
 narrowed g at n row column is l r c =
@@ -231,14 +319,45 @@ pub column_left_stays : (g : Grid) (at n row column : ℕ) → IsGrid g → at +
     → content_at (columns_deleted at n g).contents (row * (g.columns - n) + column) ≡ content_at g.contents (row * g.columns + column)
 column_left_stays g at n row column is l r c =
     narrowed g at n row column is l r (omega arith)
-    ∙ closed_before at n column (take g.columns (drop (row * g.columns) g.contents)) (omega (arith, length_take g.columns (drop (row * g.columns) g.contents) (row_long g row is r))) c
-    ∙ get_or-take g.columns (drop (row * g.columns) g.contents) column empty_content (omega arith)
-    ∙ get_or-drop (row * g.columns) g.contents column empty_content
+    ∙ closed_before at n column (take g.columns (drop (row * g.columns) g.contents)) (row_wide g at row is (omega arith) r) c
+    ∙ row_part g row column (omega arith)
 
 pub column_right_moves : (g : Grid) (at n row column : ℕ) → IsGrid g → at + n ≤ g.columns → row < g.rows → at ≤ column → column + n < g.columns
     → content_at (columns_deleted at n g).contents (row * (g.columns - n) + column) ≡ content_at g.contents (row * g.columns + (column + n))
 column_right_moves g at n row column is l r from c =
     narrowed g at n row column is l r c
-    ∙ closed_after at n column (take g.columns (drop (row * g.columns) g.contents)) (omega (arith, length_take g.columns (drop (row * g.columns) g.contents) (row_long g row is r))) from
-    ∙ get_or-take g.columns (drop (row * g.columns) g.contents) (column + n) empty_content c
-    ∙ get_or-drop (row * g.columns) g.contents (column + n) empty_content
+    ∙ closed_after at n column (take g.columns (drop (row * g.columns) g.contents)) (row_wide g at row is (omega arith) r) from
+    ∙ row_part g row (column + n) c
+
+length_opened : (at n : ℕ) (cells : List Content) → at ≤ length cells → length (opened at n cells) ≡ length cells + n
+unfolding opened
+length_opened at n cells l = omega (
+  arith,
+  length-append (take at cells) (replicate n empty_content ++ drop at cells),
+  length-append (replicate n empty_content) (drop at cells),
+  length-replicate {A = Content} n empty_content,
+  length_take at cells l,
+  length-drop at cells,
+)
+
+widened : (g : Grid) (at n row column : ℕ) → IsGrid g → at ≤ g.columns → row < g.rows → column < g.columns + n
+    → content_at (columns_added at n g).contents (row * (g.columns + n) + column) ≡ content_at (opened at n (take g.columns (drop (row * g.columns) g.contents))) column
+widened g at n row column is l r c =
+    in_row g.columns (g.columns + n) (opened at n) (λ xs e. omega (arith, length_opened at n xs (omega arith))) g.rows row column g.contents is.shape r c
+
+pub added_column_empty : (g : Grid) (at n row column : ℕ) → IsGrid g → at ≤ g.columns → row < g.rows → at ≤ column → column < at + n
+    → content_at (columns_added at n g).contents (row * (g.columns + n) + column) ≡ empty_content
+added_column_empty g at n row column is l r from to =
+    widened g at n row column is l r (omega arith) ∙ opened_at at n column (take g.columns (drop (row * g.columns) g.contents)) (row_wide g at row is l r) from to
+
+pub column_left_kept : (g : Grid) (at n row column : ℕ) → IsGrid g → at ≤ g.columns → row < g.rows → column < at
+    → content_at (columns_added at n g).contents (row * (g.columns + n) + column) ≡ content_at g.contents (row * g.columns + column)
+column_left_kept g at n row column is l r c =
+    widened g at n row column is l r (omega arith) ∙ opened_before at n column (take g.columns (drop (row * g.columns) g.contents)) (row_wide g at row is l r) c
+    ∙ row_part g row column (omega arith)
+
+pub column_right_pushed : (g : Grid) (at n row column : ℕ) → IsGrid g → at ≤ g.columns → row < g.rows → at ≤ column → column < g.columns
+    → content_at (columns_added at n g).contents (row * (g.columns + n) + (column + n)) ≡ content_at g.contents (row * g.columns + column)
+column_right_pushed g at n row column is l r from c =
+    widened g at n row (column + n) is l r (omega arith) ∙ opened_after at n column (take g.columns (drop (row * g.columns) g.contents)) (row_wide g at row is l r) from
+    ∙ row_part g row column c

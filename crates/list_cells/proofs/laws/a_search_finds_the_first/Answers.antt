@@ -1,5 +1,5 @@
 use Rattle.list_cells.proofs.LawLemmas.{search_first}
 use Rattle.list_cells.proofs.laws.a_search_finds_the_first.Goals as goal
 
-pub returns : goal.returns
-returns c = search_first
+pub returns-clause-first : goal.returns-clause-first
+returns-clause-first c = search_first
