@@ -66,9 +66,15 @@ impl Kept {
         90
     }
 }
+
+impl<'a, T: Drop> Held<'a, T, Kept> {
+    fn held() -> u32 {
+        95
+    }
+}
 """
 NAMES = "Sized::more ThingSized::size ThingFromOther::from ThingFromThird::from five holds_one".split()
-NAMES += ["deep::inner", "deep::Thing::own", "Kept::kept"]
+NAMES += ["deep::inner", "deep::Thing::own", "Kept::kept", "deep::Held+Kept::held"]
 # Edits of these, the function or module that each is of, and whether it changes its body alone.
 PLACED = [
     ("src/lib.rt", "        3", "        4", "ThingSized::size", True),
@@ -79,6 +85,8 @@ PLACED = [
     ("src/deep.rt", "    70", "    71", "deep::Thing::own", True),
     # a method goes by the module of its type
     ("src/deep.rt", "    90", "    91", "Kept::kept", True),
+    # but where that is of another one
+    ("src/deep.rt", "    95", "    96", "deep::Held+Kept::held", True),
     # what stands in no body
     ("src/lib.rt", "fn size(&self) -> u32;", "fn size(&self) -> u64;", None, False),
     ("src/lib.rt", "nothing() {}", "nothing() { 1 }", None, False),
