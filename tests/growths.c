@@ -5,10 +5,11 @@
 // file, and is handed over a line a read. The growths of a line are those between its read and the next. These lines
 // are comments to the program:
 //
-//     #refuse FIRST LAST   the growths FIRST up to LAST of the next line are refused, counted from 1
-//     #each COUNT          so many copies of the program read on to the end of the input, one after the other, before
-//                          the program itself does; in the first one growth 1 of its next line is refused, and so on
-//     #| LINE              after #each, or another such line: a line that the copies alone read, without the mark
+//     #refuse FIRST LAST     the growths FIRST up to LAST of the next line are refused, counted from 1
+//     #each FIRST LAST STEP  for each of the numbers FIRST, FIRST + STEP and so on up to LAST a copy of the program reads
+//                            on to the end of the input, one after the other, before the program itself does; the
+//                            growth of this number of its next line is refused
+//     #| LINE                after #each, or another such line: a line that the copies alone read, without the mark
 //
 // Before a read that follows another a line goes to the descriptor that GROWTHS_REPORT names, with two numbers: how
 // many growths the line made that was read before, and how many of them were refused. Where something is wrong, a copy
@@ -129,30 +130,29 @@ static void open_input(void) {
     need(input != MAP_FAILED, "no file for line", 1);
 }
 
-// Makes copies, and waits until each has ended well. A copy makes none.
-static void make_copies(unsigned long count) {
-    for (unsigned long number = 1; number <= count && !is_copy; number++) {
-        int status = 0;
-        is_copy = is_for_copy = fork() == 0;
-        if (is_copy) {
-            // A copy does not outlive a program that is stopped.
-            prctl(PR_SET_PDEATHSIG, SIGKILL);
-            refused_next = (struct range){number, number};
-        } else {
-            need(wait(&status) > 0 && status == 0, "a bad end of copy", number);
-        }
+// Makes a copy in which this growth is refused, and waits until it has ended well.
+static void make_copy(unsigned long growth) {
+    int status = 0;
+    is_copy = is_for_copy = fork() == 0;
+    if (is_copy) {
+        // A copy does not outlive a program that is stopped.
+        prctl(PR_SET_PDEATHSIG, SIGKILL);
+        refused_next = (struct range){growth, growth};
+    } else {
+        need(wait(&status) > 0 && status == 0, "a bad end of copy", growth);
     }
 }
 
-// Does what a line asks for, if it is one of ours.
+// Does what a line asks for, if it is one of ours. A copy makes no copies.
 static void obey(const char *line, size_t length) {
     char mark[64] = "";
-    unsigned long count;
+    unsigned long first, last, step;
     if (length >= sizeof mark)
         return;
     memcpy(mark, line, length);
-    if (sscanf(mark, "#each %lu", &count) == 1)
-        make_copies(count);
+    if (sscanf(mark, "#each %lu %lu %lu", &first, &last, &step) == 3)
+        for (unsigned long growth = first; growth <= last && !is_copy; growth += step)
+            make_copy(growth);
     sscanf(mark, "#refuse %lu %lu", &refused_next.first, &refused_next.last);
 }
 

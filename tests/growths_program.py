@@ -14,6 +14,8 @@ from kit.answers import LONGEST_SHOWN, Fault
 SECONDS = 300
 # The last growth that is refused, where all are.
 ALL = 10**9
+# How many copies one run makes at most, so that it ends in time.
+MOST_COPIES = 500
 
 
 def questions(asked):
@@ -27,10 +29,9 @@ def refusal(first, last):
 
 
 def each(growths, lines):
-    """The lines that make a copy of the program for each of so many growths. It is refused to the first of these lines,
-    which are for the copies alone, or, where there are none, to the line after them. A copy goes on to the last line of
-    all."""
-    return [b"#each %d" % growths, *(b"#| " + line for line in lines)]
+    """The lines that make a copy of the program for each growth of a range. It is refused to the first of these lines, which
+    are for the copies alone, or, where there are none, to the line after them. A copy goes on to the last line of all."""
+    return [b"#each %d %d %d" % (growths[0], growths[-1], growths.step), *(b"#| " + line for line in lines)]
 
 
 class Program:

@@ -7,15 +7,16 @@ import subprocess
 import sys
 
 sys.dont_write_bytecode = True
-from growths_program import ALL, each, questions, refusal
+from growths_program import ALL, MOST_COPIES, each, questions, refusal
 from preloaded import ROWS, TOP, read
 
 from kit.answers import LONGEST_SHOWN, Fault, answers_to, commands_of
 
 FOLDERS = (ROWS, os.path.join(TOP, "examples"))
-# A row with more commands than this is left out: for each growth a copy of the program goes through the rest of the row.
-MOST_COMMANDS = 150
-# So is one with a longer line, since a read does not have it whole.
+# In a row with more commands than this a copy of the program is given so many after the refused one, and not all.
+LONG = 100
+AFTER = 20
+# A row with a longer line is left out, since a read does not have it whole.
 LONGEST_READ = 4095
 # Of a list that never has more cells than this each cell is asked for, and of a larger one those that its row names.
 MOST_CELLS = 32
@@ -70,6 +71,8 @@ class Row:
         self.undrawn = set(self.places_undrawn())
         self.states = []
         self.growths = []
+        # Of how many growths one is refused.
+        self.step = 1
 
     def words(self, at):
         return self.commands[at].split(b" ")
@@ -156,19 +159,36 @@ class Row:
             return [(self.commands[at], NO_MEMORY), *self.state(at - 1)]
         return []
 
-    def rest(self, at):
+    def rest(self, at, end=None):
         """The command at this place, what asks for the state then, and the commands after it, with their answers."""
-        return [*self.asked(at, at + 1), *self.state(at), *self.asked(at + 1)]
+        return [*self.asked(at, at + 1), *self.state(at), *self.asked(at + 1, end)]
+
+    def rest_of_copies(self, at):
+        """That of which a long row has but a few of the commands after it."""
+        return self.rest(at, at + 1 + AFTER if len(self.commands) > LONG else None)
+
+    def refusals(self, at):
+        """The growths of the command at this place that are refused one by one, each or one of so many, as ranges: one for
+        each run."""
+        count = self.growths[at]
+        growths = range((count - 1) % self.step + 1, count + 1, self.step)
+        return [growths[begin : begin + MOST_COPIES] for begin in range(0, len(growths), MOST_COPIES)]
+
+    def try_copies(self, program, at, asked, rest):
+        """Refuses growths of the command at this place one by one, in a copy of the program each. The copies are given
+        these lines and the rest, and then the program itself the rest."""
+        begin = self.asked(0, at)
+        for growths in self.refusals(at):
+            lines = [*questions(begin), *each(growths, questions(asked)), *questions(rest)]
+            copies = [(f"with growth {growth} refused", asked + rest) for growth in growths]
+            parts = [("before it", begin), *copies, ("with none refused", rest)]
+            count = program.tries(lines, parts, *self.options)
+            if count != len(growths):
+                raise Fault(f"{count} growths were refused in {len(growths)} copies")
 
     def try_each(self, program, at):
-        """Refuses the growths of the command at this place one by one, in a copy of the program each."""
-        begin, refused, rest = self.asked(0, at), self.refused(at), self.rest(at)
-        growths = range(1, self.growths[at] + 1)
-        lines = [*questions(begin), *each(len(growths), questions(refused)), *questions(rest)]
-        copies = [(f"with growth {growth} refused", refused + rest) for growth in growths]
-        count = program.tries(lines, [("before it", begin), *copies, ("with none refused", rest)], *self.options)
-        if count != len(growths):
-            raise Fault(f"{count} growths were refused in {len(growths)} copies")
+        """Refuses the growths of the command at this place one by one."""
+        self.try_copies(program, at, self.refused(at), self.rest_of_copies(at))
 
     def try_all(self, program, at):
         """Refuses the growths of the command at this place all together."""
@@ -184,13 +204,7 @@ class Row:
 
     def try_keys(self, program, at):
         """Refuses the growths of the command at this place one by one, and asks what the keys choose then."""
-        begin, growths = self.asked(0, at), range(1, self.growths[at] + 1)
-        asked = [(self.commands[at], NO_MEMORY), *zip(self.keys, self.chosen(program, at - 1))]
-        lines = [*questions(begin), *each(len(growths), questions(asked))]
-        copies = [(f"with growth {growth} refused, before keys", asked) for growth in growths]
-        count = program.tries(lines, [("before it", begin), *copies], *self.options)
-        if count != len(growths):
-            raise Fault(f"{count} growths were refused in {len(growths)} copies with keys")
+        self.try_copies(program, at, [(self.commands[at], NO_MEMORY), *zip(self.keys, self.chosen(program, at - 1))], [])
 
     def fault(self, program, at):
         """What goes wrong where the command at this place is refused memory, if anything does."""
@@ -230,7 +244,7 @@ def row_of(path, fonts):
     """The row with this path, without its ending, or None where it is none for this test."""
     script = read(path + ".desk")
     commands = [command.text for command in commands_of(script)]
-    if not commands or len(commands) > MOST_COMMANDS or max(map(len, commands)) > LONGEST_READ:
+    if not commands or max(map(len, commands)) > LONGEST_READ:
         return None
     if not script.endswith(b"\n") or any(read(path + ending) is not None for ending in (".args", ".status")):
         return None
