@@ -202,7 +202,20 @@ IsFormRefusal _ desk why = None ≡ why
 
 -- the call may ask for memory
 abbrev pub may_grow : WindowCall → Bool
-may_grow (Find p) = false
-may_grow Front = false
-may_grow (Info s) = false
-may_grow _ = true
+may_grow (New w) = true
+may_grow (Dispose s) = true
+may_grow (Show s) = true
+may_grow (Hide s) = true
+may_grow (ShowHide c) = true
+may_grow (Select s) = true
+may_grow (BringToFront s) = true
+may_grow (SendBehind b) = true
+may_grow (Move m) = true
+may_grow (Size z) = true
+may_grow (Zoom z) = true
+may_grow (Draw d) = true
+may_grow (SetPicture c) = true
+may_grow (Scroll c) = true
+may_grow (VisibleRegion s) = true
+may_grow (UpdateRegion s) = true
+may_grow _ = false

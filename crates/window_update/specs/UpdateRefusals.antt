@@ -52,7 +52,7 @@ IsUpdateForm _ why = None ≡ why
 
 -- the call may ask for memory
 abbrev pub may_update_grow : UpdateCall → Bool
-may_update_grow (Draw d) = false
-may_update_grow (End s) = false
-may_update_grow (Serve s) = false
-may_update_grow _ = true
+may_update_grow (Invalidate m) = true
+may_update_grow (Validate m) = true
+may_update_grow (Begin s) = true
+may_update_grow _ = false
