@@ -173,12 +173,16 @@ def a_record_keeps_what_it_is_told(folder):
     for it in threads:
         it.join()
     same("eight at once", record.read(), sums)
+    elsewhere = edits.Record(record.file, "another-kit")
+    for it in ("low/3.edit", "low/5.edit", "low/6.edit"):
+        elsewhere.keep(it, sums["low/0.edit"])
     other.drop("low/3.edit")
     record.drop("low/3.edit")
     with open(record.file, "a", encoding="utf-8") as file:
-        file.write("<<<<<<< HEAD\n1234 low/9.edit\nhello\n")
+        file.write("<<<<<<< HEAD\n1234 a-kit low/9.edit\nhello\n")
     record.keep_only(["low/5.edit", "low/3.edit"])
     same("what is left", other.read(), {"low/5.edit": sums["low/5.edit"]})
+    same("what is left of another kit", elsewhere.read(), dict.fromkeys(["low/3.edit", "low/5.edit"], sums["low/0.edit"]))
     same("files", os.listdir(folder), ["edits.seen"])
 
 
