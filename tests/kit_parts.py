@@ -1,5 +1,9 @@
 """Tests of the parts of kit, one by one, for kit-tests."""
 
+import importlib.machinery
+import importlib.util
+import os
+import subprocess
 import zlib
 
 from kit import rows
@@ -11,6 +15,7 @@ from kit.pictures import image_of, images, p4_of, pixels_of, png_of
 WIDE = b"P1\n71 2\n" + (b"01" * 35 + b"\n1\n") * 2
 FULL = b"P1\n140 1\n" + b"0" * 70 + b"\n" + b"1" * 70 + b"\n"
 SMALL = b"P1\n3 2\n101\n010\n"
+RT = os.path.join(os.path.dirname(os.path.realpath(rows.__file__)), "rt")
 
 
 def same(what, found, wanted):
@@ -138,6 +143,22 @@ def a_run_that_does_not_end_is_broken_off(place):
         rows.SECONDS = usual
 
 
+def a_command_of_the_rattle_kit_is_the_kit_s_own(_):
+    loader = importlib.machinery.SourceFileLoader("kit_rt", RT)
+    kit_rt = importlib.util.module_from_spec(importlib.util.spec_from_loader("kit_rt", loader))
+    loader.exec_module(kit_rt)
+    asked = []
+
+    class Crate:
+        stamp = kit_rt.once(lambda self: asked.append(self) or len(asked))
+
+    one, other = Crate(), Crate()
+    same("sums", [one.stamp(), other.stamp(), one.stamp(), other.stamp()], [1, 2, 1, 2])
+    same("what is summed", asked, [one, other])
+    told = [subprocess.run([*it, "version"], capture_output=True, check=True).stdout for it in (["rt"], [RT])]
+    same("the version", told[1], told[0])
+
+
 TESTS = [
     the_lines_that_are_answered_are_a_script_s_commands,
     a_text_is_split_into_its_answers,
@@ -147,4 +168,5 @@ TESTS = [
     images_of_two_sizes_differ_where_one_has_no_pixel,
     a_long_answer_is_shown_where_it_differs,
     a_run_that_does_not_end_is_broken_off,
+    a_command_of_the_rattle_kit_is_the_kit_s_own,
 ]
