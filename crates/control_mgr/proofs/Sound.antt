@@ -1,5 +1,5 @@
 -- Settings and highlightings that a control may have, and what calls make of them.
-use Rattle.std.proofs.Common.{◌≡◌, ℕ, ℤ, pos, negsuc, SFits, w16, Bool, true, false, ◌&&◌, cond, Option, None, Some, refl, sym, ap, ◌∙◌, subst, arith}
+use Rattle.std.proofs.Common.{◌≡◌, ℕ, ℤ, pos, negsuc, SFits, w16, Bool, true, false, ◌&&◌, cond, Option, None, Some, refl, arith}
 use Rattle.std.specs.Prelude.{int_le, is_some, ◌≤ℤ◌}
 use Rattle.std.proofs.lemmas.Bool.{and_parts}
 use Rattle.std.proofs.lemmas.Int.{ints}
