@@ -1,5 +1,5 @@
 -- What is right and whole stays so where the controls of a window that is no more are taken out.
-use Rattle.std.proofs.Common.{◌≡◌, ℕ, Bool, true, false, ◌&&◌, ◌==◌, cond, List, [], ◌∷◌, Some, refl, sym, ap, ◌∙◌, subst, arith, eqb-true}
+use Rattle.std.proofs.Common.{◌≡◌, ℕ, ◌≤◌, Bool, true, false, ◌&&◌, ◌==◌, cond, List, [], ◌∷◌, length, Some, refl, sym, ap, ◌∙◌, subst, arith, eqb-true}
 use Rattle.std.specs.Prelude.{All, Contains, is_none}
 use Rattle.std.specs.List.{list_all, list_any}
 use Rattle.std.proofs.lemmas.Bool.{and_parts, false≢true}
@@ -7,7 +7,8 @@ use Rattle.std.proofs.lemmas.Bool.Decides.{nat_tests}
 use Rattle.std.proofs.lemmas.List.Elements.{All-cons, All-contains, All-head, All-nil, All-tail, All-weaker}
 use Rattle.tb_geom.specs.declared.point.Point.{Point}
 use Rattle.tb_geom.specs.Points.{PixelSet}
-use Rattle.control_list.specs.Lists.{are_before, controls_of, has_serial, is_before, is_in}
+use Rattle.control_list.specs.Lists.{are_before, controls_of, count_of, has_serial, is_before, is_in}
+use Rattle.control_list.proofs.WindowLemmas.{count_of-length}
 use Rattle.def_iface.specs.declared.part.Part.{Part}
 use Rattle.def_iface.specs.Desk.{IsDesk}
 use Rattle.def_iface.specs.Owner.{Owner, is_content, owner, own_bit}
@@ -21,6 +22,7 @@ use Rattle.window_mgr.specs.Refused.{is_missing}
 use Rattle.window_mgr.proofs.Showing.{bit_showing, distinct_showing, owner_showing}
 use Rattle.control_mgr.specs.ControlClosing.{IsWindowLeft}
 use Rattle.control_mgr.specs.ControlDesks.{ControlRecord, ControlsState, controls_show, with_serial}
+use Rattle.control_mgr.specs.ControlRefusals.{most_controls}
 use Rattle.control_mgr.specs.ControlSteps.{AreLayersOf}
 use Rattle.control_mgr.specs.Settled.{AreSettled, IsSettledControl}
 use Rattle.control_mgr.specs.WholeControls.{AreApart, AreWholeControls}
@@ -148,13 +150,29 @@ module _ (window : ℕ) (before after : ControlsState) (left : IsWindowLeft wind
       ∙ test_all (λ c. is_before before.next c.serial) after.controls
       (all_within (λ c. is_before before.next c.serial ≡ true) before.controls after.controls left.within (all_tests (λ c. is_before before.next c.serial) before.controls given))
 
-  pub whole_left : (ws : List WindowRecord) → AreSettled before.controls → AreApart before.controls → are_before before.next before.controls ≡ true → AreJoined before.controls ws
+  -- no window has more controls then
+  few_left : ((t : ℕ) → count_of t before.controls ≤ most_controls) → (t : ℕ) → count_of t after.controls ≤ most_controls
+  few_left few t = by_test (window == t) refl
+    where
+      differ : (a b : ℕ) → (a == b) ≡ false → a ≡ b → ⊥
+      differ a b e f = grind (arith, nat_tests)
+
+      by_test : (b : Bool) → (window == t) ≡ b → count_of t after.controls ≤ most_controls
+      by_test true e =
+          let none : count_of t after.controls ≡ 0 = count_of-length t after.controls ∙ ap length (ap (λ k. controls_of k after.controls) (sym (eqb-true window t e)) ∙ left.gone) in
+          omega (arith, none)
+      by_test false e =
+          let same : count_of t after.controls ≡ count_of t before.controls = count_of-length t after.controls ∙ ap length (left.others t (differ window t e)) ∙ sym (count_of-length t before.controls) in
+          subst (λ n. n ≤ most_controls) (sym same) (few t)
+
+  pub whole_left : (ws : List WindowRecord) → AreSettled before.controls → AreApart before.controls → are_before before.next before.controls ≡ true → ((t : ℕ) → count_of t before.controls ≤ most_controls) → AreJoined before.controls ws
       → All (λ c. is_in window c ≡ false → is_missing c.window ws ≡ false) before.controls → is_missing window ws ≡ true → AreWholeControls ws after
-  whole_left ws settled apart given joined there missing = record {
+  whole_left ws settled apart given few joined there missing = record {
     settled = all_within IsSettledControl before.controls after.controls left.within settled;
     apart = left.apart apart;
     given = given_left given;
     somewhere = somewhere_left ws there;
+    few = few_left few;
     joined = joined_left ws missing joined;
     stocked = left.stocked;
   }
@@ -172,10 +190,10 @@ module _ (window : ℕ) (before after : ControlsState) (left : IsWindowLeft wind
 -- the controls of a window that is no more were taken out: a right state stays right, and whole controls whole, whatever other
 -- layers show
 pub followed_right : (others : List ℕ → Part → PixelSet) (window : ℕ) (s : FullState) (before after : ControlsState) → IsRightState s → s.desk.shows ≡ controls_show others before.controls s.desk.font
-    → AreSettled before.controls → AreApart before.controls → are_before before.next before.controls ≡ true → AreJoined before.controls s.desk.windows
+    → AreSettled before.controls → AreApart before.controls → are_before before.next before.controls ≡ true → ((t : ℕ) → count_of t before.controls ≤ most_controls) → AreJoined before.controls s.desk.windows
     → All (λ c. is_in window c ≡ false → is_missing c.window s.desk.windows ≡ false) before.controls → is_missing window s.desk.windows ≡ true → IsWindowLeft window before after
     → IsRightState (state_showing (controls_show others after.controls) s) × AreWholeControls s.desk.windows after
-followed_right others window s before after right shows settled apart given joined there missing left = (
+followed_right others window s before after right shows settled apart given few joined there missing left = (
   right_left window before after left others s right shows apart joined missing,
-  whole_left window before after left s.desk.windows settled apart given joined there missing,
+  whole_left window before after left s.desk.windows settled apart given few joined there missing,
 )

@@ -1,14 +1,14 @@
 -- A control that is disposed of: its layer taken out, the controls without it, and the step.
-use Rattle.std.proofs.Common.{◌≡◌, ℕ, zero, suc, ◌<◌, true, false, ◌||◌, List, [], ◌∷◌, length, Option, Some, None, Ok, refl, sym, ap, ◌∙◌, subst}
+use Rattle.std.proofs.Common.{◌≡◌, ℕ, zero, suc, ◌<◌, ◌≤◌, Bool, true, false, ◌||◌, List, [], ◌∷◌, length, Option, Some, None, Ok, refl, sym, ap, ◌∙◌, subst, arith}
 use Rattle.std.specs.Prelude.{map, slice_get}
 use Rattle.std.specs.List.{list_any, remove}
 use Rattle.std.specs.Option.{option_map}
 use Rattle.tb_geom.specs.Points.{PixelSet}
 use Rattle.control_list.specs.declared.control.Control.{Control}
-use Rattle.control_list.specs.Lists.{controls_of, has_serial, is_before, is_in_at, place_among}
+use Rattle.control_list.specs.Lists.{controls_of, count_of, has_serial, is_before, is_in_at, place_among}
 use Rattle.control_list.specs.Seen.{all_seen, seen}
 use Rattle.control_list.proofs.SeenLemmas.{place_among-seen, remove-seen, slice_get-seen}
-use Rattle.control_list.proofs.WindowLemmas.{controls_of-remove, controls_of-remove_other, is_in_at-other, slice_get-controls_of}
+use Rattle.control_list.proofs.WindowLemmas.{controls_of-remove, controls_of-remove_other, count_of-remove, count_of-remove_other, is_in_at-other, slice_get-controls_of}
 use Rattle.def_iface.specs.declared.part.Part.{Part}
 use Rattle.def_iface.specs.declared.taken.Taken.{Taken}
 use Rattle.def_iface.specs.declared.taken_control.TakenControl.{TakenControl}
@@ -40,6 +40,7 @@ use Rattle.control_mgr.specs.declared.controls.Controls.{Controls}
 use Rattle.control_mgr.specs.declared.spots.Spot.{Spot}
 use Rattle.control_mgr.specs.declared.ending.Ending.{Ending}
 use Rattle.control_mgr.specs.ControlDesks.{ControlRecord, ControlSlot, ControlsState, controls_show, index_of}
+use Rattle.control_mgr.specs.ControlRefusals.{most_controls}
 use Rattle.control_mgr.specs.ControlSteps.{AreLayersOf, IsControlDisposed, IsControlShut, IsControlStep, IsEndedAt, IsEndedIfThere, IsLayerOf, behind_controls}
 use Rattle.control_mgr.specs.Ending.{IsEnding, IsPlannedEnd}
 use Rattle.control_mgr.specs.InUse.{AreStocked}
@@ -83,6 +84,14 @@ slot_left i cs c slots e stocked =
     slot_is_left (λ (d : ControlDefinition). d.stage) c.definition.slot slots
     (slot_of (λ (d : ControlDefinition). d.stage) i (slots_of cs) c.definition.slot slots (slot_at cs i c e) stocked).0
 
+-- no window has more controls then
+few_left : (at : ℕ) (cs : List ControlRecord) → ((t : ℕ) → count_of t cs ≤ most_controls) → (t : ℕ) → count_of t (remove cs at) ≤ most_controls
+few_left at cs few t = by_test (is_in_at t at cs) refl
+  where
+    by_test : (b : Bool) → is_in_at t at cs ≡ b → count_of t (remove cs at) ≤ most_controls
+    by_test true e = let less = count_of-remove t at cs e in let most = few t in omega (arith, less, most)
+    by_test false e = subst (λ n. n ≤ most_controls) (sym (count_of-remove_other t at cs e)) (few t)
+
 -- what was whole is whole without one control, over slots into one of which its definition came back, beside the windows without its layer
 pub whole_ended : (at window : ℕ) (c : ControlRecord) (ls : List Layer) (ws : List WindowRecord) (state : ControlsState) (back : List ControlSlot) → AreWholeControls ws state
     → slice_get state.controls at ≡ Some c → is_in_at window at state.controls ≡ true → IsControlShut c.definition state.stock back → AreLayersOf (controls_of window (remove state.controls at)) ls
@@ -92,6 +101,7 @@ whole_ended at window c ls ws state back whole there here shut joined = record {
   apart = apart-remove at state.controls whole.apart;
   given = all-remove (λ (x : ControlRecord). is_before state.next x.serial) at state.controls whole.given;
   somewhere = somewhere_laid window ls ws (remove state.controls at) (All-remove (λ (x : ControlRecord). is_missing x.window ws ≡ false) at state.controls whole.somewhere);
+  few = few_left at state.controls whole.few;
   joined = joined_laid window ls state.controls (remove state.controls at) ws joined
       (λ t away. controls_of-remove_other t at state.controls (is_in_at-other window t at state.controls (λ e. away (sym e)) here))
       whole.joined;

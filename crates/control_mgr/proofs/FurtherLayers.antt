@@ -51,6 +51,7 @@ whole_relayered window ls ws state whole joined = record {
   apart = whole.apart;
   given = whole.given;
   somewhere = somewhere_laid window ls ws state.controls whole.somewhere;
+  few = whole.few;
   joined = joined_laid window ls state.controls state.controls ws joined (λ t away. refl) whole.joined;
   stocked = whole.stocked;
 }

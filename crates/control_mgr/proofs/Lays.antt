@@ -264,7 +264,8 @@ module _ {V : Type 0} {H : V → Type 0} (loan : Taken V H → Loan) {W : Type 0
         subst (λ ws. AreWholeControls ws (controls_state control_loan n kept)) (sym windows_are)
             (subst (λ k. AreWholeControls (map (with_layers_of c.window relaid.layers.layers) (desk_of loan t []).windows) (record { controls = records_of control_loan n; next = k; stock = kept })) (sym next)
             (whole_laid l s.control c.window relaid.layers.layers (desk_of loan t []).windows (controls_state control_loan m kept) (records_of control_loan n) controls (in_its_window loan control_loan c t m s is)
-            (λ x e. may_be x e (may_at c t m s is l may w lies index index_is).so) changed joined)),
+            (λ x e. may_be x e (All-there IsSettledControl s.control (records_of control_loan m) (record_there loan control_loan c t m s is).item (record_there loan control_loan c t m s is).there controls.settled)
+            (may_at c t m s is l may w lies index index_is).so) changed joined)),
         record {
           changed = record {
             at = s.control;
@@ -289,10 +290,11 @@ module _ {V : Type 0} {H : V → Type 0} (loan : Taken V H → Loan) {W : Type 0
       one_record : (x y : ControlRecord) → slice_get (records_of control_loan m) s.control ≡ Some x → slice_get (records_of control_loan m) s.control ≡ Some y → x ≡ y
       one_record x y e f = cc
 
-      may_be : (x : ControlRecord) → slice_get (records_of control_loan m) s.control ≡ Some x → MayLieSo (record_there loan control_loan c t m s is).item.definition.definition l → MayBeSo x.definition.definition (with_lie l x)
-      may_be x e so =
+      may_be : (x : ControlRecord) → slice_get (records_of control_loan m) s.control ≡ Some x → IsSettledControl (record_there loan control_loan c t m s is).item
+          → MayLieSo (record_there loan control_loan c t m s is).item.definition.definition l → MayBeSo x.definition.definition (with_lie l x)
+      may_be x e its so =
           subst (λ (y : ControlRecord). MayBeSo y.definition.definition (with_lie l y)) (one_record (record_there loan control_loan c t m s is).item x (record_there loan control_loan c t m s is).there e)
-          (record { placed = so.placed; fits = so.fits; inside = so.inside })
+          (record { placed = so.placed; fits = so.fits; inside = so.inside; setting = its.setting; highlight = its.highlight })
 
   -- ---- as the code comes to it
 
@@ -333,8 +335,9 @@ module _ {V : Type 0} {H : V → Type 0} (loan : Taken V H → Loan) {W : Type 0
     -- and then all are settled
     pub settled_laid : (n : Controls (TakenControl W K)) → AreSettled (records_of control_loan m) → IsChangedAt (with_lie l) s.control (records_of control_loan m) (records_of control_loan n) → AreSettled (records_of control_loan n)
     settled_laid n settled changed =
+        let was : IsSettledControl (seen control_loan x) = All-there IsSettledControl s.control (records_of control_loan m) (seen control_loan x) same_control settled in
         changed_settled (with_lie l) s.control (records_of control_loan m) (records_of control_loan n) settled
-        (λ c e. subst (λ (y : ControlRecord). MayBeSo y.definition.definition (with_lie l y)) (one (seen control_loan x) c same_control e) (record { placed = may_so.placed; fits = may_so.fits; inside = may_so.inside })) changed
+        (λ c e. subst (λ (y : ControlRecord). MayBeSo y.definition.definition (with_lie l y)) (one (seen control_loan x) c same_control e) (record { placed = may_so.placed; fits = may_so.fits; inside = may_so.inside; setting = was.setting; highlight = was.highlight })) changed
       where
         one : (y z : ControlRecord) → slice_get (records_of control_loan m) s.control ≡ Some y → slice_get (records_of control_loan m) s.control ≡ Some z → y ≡ z
         one y z e f = cc

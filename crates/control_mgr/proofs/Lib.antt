@@ -3,6 +3,7 @@
 pub mod Stocks
 pub mod Edited
 pub mod Reshown
+pub mod Sound
 pub mod Settled
 pub mod Places
 pub mod Told

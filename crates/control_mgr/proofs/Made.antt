@@ -1,5 +1,5 @@
 -- A control that is made: the controls with it, and the step.
-use Rattle.std.proofs.Common.{◌≡◌, ℕ, true, false, ◌||◌, ◌==◌, List, [], ◌∷◌, ◌++◌, get_or, Option, Some, refl, sym, ap, ◌∙◌, subst, arith}
+use Rattle.std.proofs.Common.{◌≡◌, ℕ, ◌<◌, ◌≤◌, Bool, true, false, ◌||◌, ◌==◌, List, [], ◌∷◌, ◌++◌, get_or, Option, Some, refl, sym, ap, ◌∙◌, subst, arith, eqb-true}
 use Rattle.std.specs.Prelude.{All, is_none, map}
 use Rattle.std.specs.List.{insert, list_any}
 use Rattle.std.proofs.lemmas.Bool.Decides.{nat_tests}
@@ -10,11 +10,11 @@ use Rattle.tb_geom.specs.declared.rect.Rect.{Rect}
 use Rattle.tb_geom.specs.Points.{PixelSet, minus}
 use Rattle.tb_geom.specs.Rects.{moved_rect}
 use Rattle.control_list.specs.declared.control.Control.{Control}
-use Rattle.control_list.specs.Lists.{are_before, controls_of, has_serial, serial_after}
+use Rattle.control_list.specs.Lists.{are_before, controls_of, count_of, has_serial, serial_after}
 use Rattle.control_list.specs.Seen.{all_seen, seen}
 use Rattle.control_list.proofs.LawLemmas.{still_before}
 use Rattle.control_list.proofs.SeenLemmas.{append-seen}
-use Rattle.control_list.proofs.WindowLemmas.{controls_of-push, controls_of-push_other, count_of-length}
+use Rattle.control_list.proofs.WindowLemmas.{controls_of-push, controls_of-push_other, count_of-length, count_of-push, count_of-push_other}
 use Rattle.control_values.specs.Settings.{Setting, settled}
 use Rattle.def_iface.specs.declared.part.Part.{Part}
 use Rattle.def_iface.specs.declared.part.Part.TheVariants as part
@@ -44,10 +44,11 @@ use Rattle.control_mgr.specs.declared.controls.Controls.{Controls}
 use Rattle.control_mgr.specs.declared.making.Addition.{Addition}
 use Rattle.control_mgr.specs.declared.making.Ticket.{Ticket}
 use Rattle.control_mgr.specs.ControlDesks.{ControlRecord, ControlSlot, ControlsState, controls_show}
+use Rattle.control_mgr.specs.ControlRefusals.{most_controls}
 use Rattle.control_mgr.specs.ControlSteps.{AreLayersOf, IsControlMade, IsLayerOf, behind_controls, new_control}
 use Rattle.control_mgr.specs.InUse.{AreStocked}
 use Rattle.control_mgr.specs.Making.{IsAddition}
-use Rattle.control_mgr.specs.Settled.{AreSettled, IsSettledControl}
+use Rattle.control_mgr.specs.Settled.{AreSettled, IsSettledControl, MayHaveSetting}
 use Rattle.control_mgr.specs.WholeControls.{AreApart, AreBeside, AreWholeControls, LeavesOver, controls_state, records_of, slots_of}
 use Rattle.control_mgr.proofs.Added.{its, may_grow, may_lie_so, or_parts, unused}
 use Rattle.control_mgr.proofs.Edited.{AreNoControls, begin_behind, behind_inserted}
@@ -83,17 +84,30 @@ slots_more c (x ∷ xs) = ap (λ ns. x.definition.slot ∷ ns) (slots_more c xs)
 All-more : (P : ControlRecord → Type 0) (cs : List ControlRecord) (c : ControlRecord) → All P cs → P c → All P (cs ++ c ∷ [])
 All-more P cs c h new = All-append P cs (c ∷ []) h (All-cons P c [] new (All-nil P))
 
+-- no window has more than it may have, where its own had fewer
+few_more : (c : ControlRecord) (cs : List ControlRecord) → count_of c.window cs < most_controls → ((t : ℕ) → count_of t cs ≤ most_controls) → (t : ℕ) → count_of t (cs ++ c ∷ []) ≤ most_controls
+few_more c cs room few t = by_test (c.window == t) refl
+  where
+    by_test : (b : Bool) → (c.window == t) ≡ b → count_of t (cs ++ c ∷ []) ≤ most_controls
+    by_test true e =
+        let more = count_of-push t cs c e in
+        let same : count_of t cs ≡ count_of c.window cs = ap (λ n. count_of n cs) (sym (eqb-true c.window t e)) in
+        omega (arith, more, same, room)
+    by_test false e = subst (λ n. n ≤ most_controls) (sym (count_of-push_other t cs c e)) (few t)
+
 -- what was whole is whole with one control more, over slots of which its definition was taken out, beside the windows with its layer
 pub whole_made : (c : ControlRecord) (old : ControlDefinition) (kind : List ℕ) (ls : List Layer) (ws : List WindowRecord) (state : ControlsState) (left : List ControlSlot)
     → AreWholeControls ws state → state.next ≡ Some c.serial → list_any (has_serial c.serial) state.controls ≡ false → IsSettledControl c → is_missing c.window ws ≡ false
+    → count_of c.window state.controls < most_controls
     → IsTaken (λ (d : ControlDefinition). d.stage) kind (record { definition = old; slot = c.definition.slot }) state.stock left
     → AreLayersOf (controls_of c.window state.controls ++ c ∷ []) ls
     → AreWholeControls (map (with_layers_of c.window ls) ws) (record { controls = state.controls ++ c ∷ []; next = serial_after c.serial; stock = left })
-whole_made c old kind ls ws state left whole next unused settled there took joined = record {
+whole_made c old kind ls ws state left whole next unused settled there room took joined = record {
   settled = All-more IsSettledControl state.controls c whole.settled settled;
   apart = apart_more c state.controls unused whole.apart;
   given = still_before c state.controls (subst (λ o. are_before o state.controls ≡ true) next whole.given);
   somewhere = All-more (λ (x : ControlRecord). is_missing x.window (map (with_layers_of c.window ls) ws) ≡ false) state.controls c (somewhere_laid c.window ls ws state.controls whole.somewhere) (missing-layers c.window c.window ls ws ∙ there);
+  few = few_more c state.controls room whole.few;
   joined = joined_laid c.window ls state.controls (state.controls ++ c ∷ []) ws
       (subst (λ xs. AreLayersOf xs ls) (sym (controls_of-push c.window state.controls c (same_number c.window c.window refl))) joined)
       (λ t away. controls_of-push_other t state.controls c (other_number c.window t away))
@@ -155,7 +169,7 @@ module _ {V : Type 0} {H : V → Type 0} (loan : Taken V H → Loan) {W : Type 0
   pub fits_begun : is_fitting_control d n.size ≡ true
   fits_begun = (may_lie_so loan control_loan n d t m a.ticket kept beside addition.ticket).fits
 
-  module _ (slot : ℕ) (begun : ControlDefinition) (live : IsControlBegun (new_control_news n.size n.title a.ticket.values) d begun) where
+  module _ (slot : ℕ) (begun : ControlDefinition) (live : IsControlBegun (new_control_news n.size n.title a.ticket.values) d begun) (sound : MayHaveSetting a.ticket.values) where
     abbrev made : ControlRecord
     made = new_control n a.ticket.serial slot begun
 
@@ -165,7 +179,7 @@ module _ {V : Type 0} {H : V → Type 0} (loan : Taken V H → Loan) {W : Type 0
     settled_new : IsSettledControl made
     settled_new =
         let so = may_lie_so loan control_loan n d t m a.ticket kept beside addition.ticket in
-        settled_told made d begun slot (record { placed = so.placed; fits = so.fits; inside = so.inside }) live_is
+        settled_told made d begun slot (record { placed = so.placed; fits = so.fits; inside = so.inside; setting = subst MayHaveSetting addition.ticket.values sound; highlight = refl }) live_is
 
     pub settled_made : AreSettled (records_of control_loan m ++ made ∷ [])
     settled_made = All-more IsSettledControl (records_of control_loan m) made beside.whole.settled settled_new
@@ -204,7 +218,8 @@ module _ {V : Type 0} {H : V → Type 0} (loan : Taken V H → Loan) {W : Type 0
                 (subst (λ (x : List ControlRecord × Option ℕ). AreWholeControls (map (with_layers_of n.window a.layers.layers) (desk_of loan t []).windows) (record { controls = x.0; next = x.1; stock = left }))
                 (λ i. (sym controls_are i, sym next_is i))
                 (whole_made made d n.kind a.layers.layers (desk_of loan t []).windows (controls_state control_loan m before) left controls addition.ticket.serial
-                (unused loan control_loan n d t m a.ticket kept beside addition.ticket) settled_new there took joined)),
+                (unused loan control_loan n d t m a.ticket kept beside addition.ticket) settled_new there
+                (subst (λ k. k < most_controls) addition.ticket.layer addition.ticket.few) took joined)),
             record {
               loan = record { definition = d; slot = slot };
               begun = begun;

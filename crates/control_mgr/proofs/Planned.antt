@@ -36,6 +36,7 @@ module _ {V : Type 0} {H : V → Type 0} (loan : Taken V H → Loan) {W : Type 0
     values = ticket.values;
     title = ticket.title;
     layer = ticket.layer ∙ ap (λ cs. count_of n.window (all_seen control_loan cs)) (sym same.controls);
+    few = ticket.few;
   }
 
   -- a control can be added to windows and controls as they are

@@ -152,6 +152,7 @@ module _ {V : Type 0} {H : V → Type 0} (loan : Taken V H → Loan) {W : Type 0
             ∙ ap (λ x. x + 1) ready.ticket.layer
             ∙ sym (count_of-push n.window (records_of control_loan m) (new_control n a.ticket.serial step.loan.slot step.begun) (eq-eqb n.window n.window refl))
             ∙ (λ i. count_of (sym same i) (sym step.controls i));
+        few = after.few;
       };
       room = room;
     }

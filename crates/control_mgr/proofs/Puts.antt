@@ -33,6 +33,7 @@ use Rattle.control_mgr.specs.Spots.{IsSpot, IsSpotOf, IsTellable, with_state}
 use Rattle.control_mgr.specs.WholeControls.{AreBeside, AreWholeControls, LeavesControls, controls_state, records_of}
 use Rattle.control_mgr.proofs.Edited.{All-there, edit_alike, edit_twice, there_edited}
 use Rattle.control_mgr.proofs.Settled.{changed_settled, retold, whole_put}
+use Rattle.control_mgr.proofs.Sound.{MayHave}
 use Rattle.control_mgr.proofs.Places.{IsThere, ItsLayer, layer_there, names, read_is, there_is, within}
 use Rattle.control_mgr.proofs.Reshown.{alone, redrawn_among}
 
@@ -86,11 +87,11 @@ module _ {W : Type 0} {K : W → Type 0} (control_loan : TakenControl W K → Co
       (record { live = its.live; fits = its.fits })
 
   -- and then all are settled
-  pub state_settled : (s : State) (at : ℕ) (m n : Controls (TakenControl W K)) → AreSettled (records_of control_loan m)
+  pub state_settled : (s : State) → MayHave s → (at : ℕ) (m n : Controls (TakenControl W K)) → AreSettled (records_of control_loan m)
       → IsChangedAt (with_state s) at (records_of control_loan m) (records_of control_loan n) → AreSettled (records_of control_loan n)
-  state_settled s at m n settled changed =
+  state_settled s may at m n settled changed =
       changed_settled (with_state s) at (records_of control_loan m) (records_of control_loan n) settled
-      (λ c e. let its : IsSettledControl c = All-there IsSettledControl at (records_of control_loan m) c e settled in record { placed = its.placed; fits = its.fits; inside = its.inside }) changed
+      (λ c e. let its : IsSettledControl c = All-there IsSettledControl at (records_of control_loan m) c e settled in record { placed = its.placed; fits = its.fits; inside = its.inside; setting = may.setting; highlight = may.highlight }) changed
 
   module _ {V : Type 0} {H : V → Type 0} (loan : Taken V H → Loan) where
     -- its layer is there
@@ -106,11 +107,11 @@ module _ {W : Type 0} {K : W → Type 0} (control_loan : TakenControl W K → Co
         → (was : List ℕ → Part → PixelSet) (slots : List SlotView) → IsWholeManager loan t slots
         → IsWholeManager loan u slots × IsLayerRedrawn w.serial l.part (state_showing was (state_of loan t slots)) (state_showing shows (state_of loan u slots))
 
-    pub put_shown : (c : ControlOf) (s : State) (t u : WindowManager V H) (m n : Controls (TakenControl W K)) (spot : Spot) → IsSpotOf loan control_loan c t m spot
+    pub put_shown : (c : ControlOf) (s : State) → MayHave s → (t u : WindowManager V H) (m n : Controls (TakenControl W K)) (spot : Spot) → IsSpotOf loan control_loan c t m spot
         → IsChangedAt (with_state s) spot.control (records_of control_loan m) (records_of control_loan n) → n.list.next ≡ m.list.next
         → (index : ℕ) → index ≡ place_among spot.control m.list.controls.items → IsRedrawnFor spot.window index (alone (records_of control_loan n)) t u
         → (o r : Opened) → LeavesControls control_loan loan (IsShownAnew c (with_state s)) t o m u r n
-    put_shown c s t u m n spot is changed next index index_is redrawn o r kept others slots whole controls =
+    put_shown c s may t u m n spot is changed next index index_is redrawn o r kept others slots whole controls =
         let windows = there_is t.windows.records.items spot.window is.window.0 in
         let w : Window V H = windows.item in
         let lies : IsWindowAt t.windows.records.items spot.window w = read_is t.windows.records.items spot.window w windows.there in
@@ -124,7 +125,7 @@ module _ {W : Type 0} {K : W → Type 0} (control_loan : TakenControl W K → Co
           leaves.0,
           subst (λ ws. AreWholeControls ws (controls_state control_loan n kept)) (sym windows_are)
               (subst (λ k. AreWholeControls (desk_of loan t []).windows (record { controls = records_of control_loan n; next = k; stock = kept })) (sym next)
-              (whole_put s spot.control (desk_of loan t []).windows (controls_state control_loan m kept) (records_of control_loan n) controls changed)),
+              (whole_put s may spot.control (desk_of loan t []).windows (controls_state control_loan m kept) (records_of control_loan n) controls changed)),
           record {
             changed = record {
               at = spot.control;

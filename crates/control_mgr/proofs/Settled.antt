@@ -1,5 +1,5 @@
 -- What holds of controls between calls holds where one of them is changed and its definition told of it.
-use Rattle.std.proofs.Common.{◌≡◌, ℕ, zero, suc, Bool, true, false, ◌&&◌, ◌==◌, List, [], ◌∷◌, Option, Some, refl, sym, ap, ◌∙◌, subst, arith, cond, eqb-true}
+use Rattle.std.proofs.Common.{◌≡◌, ℕ, zero, suc, ◌≤◌, pos, Bool, true, false, ◌&&◌, ◌==◌, List, [], ◌∷◌, Option, Some, refl, sym, ap, ◌∙◌, subst, arith, cond, eqb-true}
 use Rattle.std.specs.Prelude.{All, is_none, map, slice_get}
 use Rattle.std.specs.List.{list_any}
 use Rattle.std.proofs.lemmas.Bool.{false≢true}
@@ -8,7 +8,8 @@ use Rattle.std.proofs.lemmas.Bool.Decides.{nat_tests}
 use Rattle.tb_geom.specs.declared.rect.Rect.{Rect}
 use Rattle.tb_geom.specs.Points.{PixelSet, minus}
 use Rattle.tb_geom.specs.Rects.{in_plane, is_in_range, moved_rect}
-use Rattle.control_list.specs.Lists.{are_before, controls_of, edit_at, has_serial, is_before, is_in_at}
+use Rattle.control_values.specs.Highlights.{is_highlight}
+use Rattle.control_list.specs.Lists.{are_before, controls_of, count_of, edit_at, has_serial, is_before, is_in_at}
 use Rattle.control_list.proofs.WindowLemmas.{controls_of-edit_at, controls_of-edit_at_other, is_in_at-other, slice_get-controls_of}
 use Rattle.def_iface.specs.ControlMeaning.{ControlDefinition, ControlGoesBy, ControlHears, IsControlBegun, SameControlRegions, is_control_size, is_fitting_control}
 use Rattle.def_iface.specs.ControlNews.{AllControlNews, told_all_of_control}
@@ -21,15 +22,17 @@ use Rattle.vis_update.specs.Relayings.{with_layers_of}
 use Rattle.window_mgr.specs.Finding.{record_with}
 use Rattle.window_mgr.specs.Refused.{is_missing}
 use Rattle.control_mgr.specs.ControlDesks.{ControlRecord, ControlSlot, ControlsState, news_of_control}
+use Rattle.control_mgr.specs.ControlRefusals.{most_controls}
 use Rattle.control_mgr.specs.ControlSteps.{AreLayersOf, IsChangedAt, IsLayerOf}
 use Rattle.control_mgr.specs.declared.laying.Lie.{Lie}
 use Rattle.control_mgr.specs.declared.setting.State.{State}
 use Rattle.control_mgr.specs.InUse.{AreStocked}
 use Rattle.control_mgr.specs.Laying.{IsShapeOf}
 use Rattle.control_mgr.specs.Spots.{with_lie, with_state}
-use Rattle.control_mgr.specs.Settled.{AreSettled, IsSettledControl}
+use Rattle.control_mgr.specs.Settled.{AreSettled, IsSettledControl, MayHaveSetting}
 use Rattle.control_mgr.specs.WholeControls.{AreApart, AreWholeControls, slots_of}
 use Rattle.control_mgr.proofs.Edited.{All-edit, All-there, AreNoControls, any-edit, begin_edit, edit_alike, map-edit}
+use Rattle.control_mgr.proofs.Sound.{MayHave}
 
 -- ---- one control
 
@@ -46,6 +49,8 @@ pub record MayBeSo (d : ControlDefinition) (c : ControlRecord) : Type 0 where
   pub placed : in_plane c.place ≡ true
   pub fits : is_fitting_control d c.size ≡ true
   pub inside : is_in_range (moved_rect (d.bounds c.size) c.place.h c.place.v) ≡ true
+  pub setting : MayHaveSetting c.values
+  pub highlight : is_highlight (pos c.highlight) ≡ true
 
 -- a control with a definition that was told all of it is settled
 pub settled_told : (c : ControlRecord) (old new : ControlDefinition) (slot : ℕ) → MayBeSo old c → IsControlBegun (news_of_control c) old new
@@ -57,6 +62,8 @@ settled_told c old new slot may told = record {
   fits = subst (λ bounds. (is_control_size c.size && is_in_range (bounds c.size)) ≡ true) (sym told.regions.bounds) may.fits;
   inside = subst (λ bounds. is_in_range (moved_rect (bounds c.size) c.place.h c.place.v) ≡ true) (sym told.regions.bounds) may.inside;
   goes_by = goes_by_told (news_of_control c) old new told.heard;
+  setting = may.setting;
+  highlight = may.highlight;
 }
 
 -- ---- all controls
@@ -99,6 +106,11 @@ apart-edit : (f : ControlRecord → ControlRecord) → ((c : ControlRecord) → 
 apart-edit f same i [] h = tt
 apart-edit f same zero (c ∷ cs) h = (ap (λ s. list_any (has_serial s) cs) (same c) ∙ h.0, h.1)
 apart-edit f same (suc i) (c ∷ cs) h = (any-edit c.serial f same i cs ∙ h.0, apart-edit f same i cs h.1)
+
+count-edit : (f : ControlRecord → ControlRecord) → ((c : ControlRecord) → (f c).window ≡ c.window) → (t i : ℕ) (cs : List ControlRecord) → count_of t (edit_at f i cs) ≡ count_of t cs
+count-edit f same t i [] = refl
+count-edit f same t zero (c ∷ cs) = ap (λ w. cond (w == t) (suc (count_of t cs)) (count_of t cs)) (same c)
+count-edit f same t (suc i) (c ∷ cs) = ap (λ n. cond (c.window == t) (suc n) n) (count-edit f same t i cs)
 
 -- ---- windows
 
@@ -183,6 +195,7 @@ pub record AreSame (next : Option ℕ) (slots : List ControlSlot) (windows : Lis
   pub apart : AreApart before → AreApart after
   pub given : are_before next before ≡ true → are_before next after ≡ true
   pub somewhere : All (λ c. is_missing c.window windows ≡ false) before → All (λ c. is_missing c.window windows ≡ false) after
+  pub few : ((t : ℕ) → count_of t before ≤ most_controls) → (t : ℕ) → count_of t after ≤ most_controls
   pub stocked : AreStocked (λ (d : ControlDefinition). d.stage) (slots_of before) slots → AreStocked (λ (d : ControlDefinition). d.stage) (slots_of after) slots
 
 pub edited_same : (f : ControlRecord → ControlRecord) → Keeps f → (d : ControlDefinition) (at : ℕ) (cs ds : List ControlRecord) → ds ≡ edit_at (retold f d) at cs
@@ -192,13 +205,14 @@ edited_same f keeps d at cs ds is next slots windows = record {
   given = λ h. ap (are_before next) is ∙ before-edit next (retold f d) keeps.serial at cs ∙ h;
   somewhere = λ h. subst (λ xs. All (λ (c : ControlRecord). is_missing c.window windows ≡ false) xs) (sym is)
       (All-edit (λ (c : ControlRecord). is_missing c.window windows ≡ false) (retold f d) at cs h (λ c e. ap (λ w. is_missing w windows) (keeps.window c) ∙ All-there (λ (c : ControlRecord). is_missing c.window windows ≡ false) at cs c e h));
+  few = λ h t. subst (λ n. n ≤ most_controls) (sym (ap (count_of t) is ∙ count-edit (retold f d) keeps.window t at cs)) (h t);
   stocked = λ h. subst (λ ns. AreStocked (λ (d : ControlDefinition). d.stage) ns slots) (sym (ap slots_of is ∙ map-edit (λ (c : ControlRecord). c.definition.slot) (retold f d) (λ c. refl) at cs)) h;
 }
 
 -- controls of which one was given another state are whole
-pub whole_put : (s : State) (at : ℕ) (ws : List WindowRecord) (state : ControlsState) (cs : List ControlRecord) → AreWholeControls ws state
+pub whole_put : (s : State) → MayHave s → (at : ℕ) (ws : List WindowRecord) (state : ControlsState) (cs : List ControlRecord) → AreWholeControls ws state
     → IsChangedAt (with_state s) at state.controls cs → AreWholeControls ws (record state { controls = cs })
-whole_put s at ws state cs whole changed =
+whole_put s may at ws state cs whole changed =
     let f : ControlRecord → ControlRecord = with_state s in
     let same : AreSame state.next state.stock ws state.controls cs = edited_same f (record { serial = λ c. refl; window = λ c. refl }) changed.definition at state.controls cs changed.controls state.next state.stock ws in
     record {
@@ -206,6 +220,7 @@ whole_put s at ws state cs whole changed =
       apart = same.apart whole.apart;
       given = same.given whole.given;
       somewhere = same.somewhere whole.somewhere;
+      few = same.few whole.few;
       joined = subst (λ xs. AreJoined xs ws) (sym changed.controls)
           (joined_edit (retold f changed.definition) (λ c. refl) at state.controls
           (λ c l e is. same_layer s c changed.definition (subst (λ (x : ControlRecord). SameControlRegions x.definition.definition changed.definition) (same_there state.controls at c changed.control e changed.there) changed.told.regions) l is)
@@ -214,7 +229,7 @@ whole_put s at ws state cs whole changed =
     }
   where
     stays : (c : ControlRecord) → IsSettledControl c → MayBeSo c.definition.definition (with_state s c)
-    stays c h = record { placed = h.placed; fits = h.fits; inside = h.inside }
+    stays c h = record { placed = h.placed; fits = h.fits; inside = h.inside; setting = may.setting; highlight = may.highlight }
 
 -- windows of which one has other layers have each control in a window that is there as well
 pub somewhere_laid : (s : ℕ) (ls : List Layer) (ws : List WindowRecord) (cs : List ControlRecord) → All (λ c. is_missing c.window ws ≡ false) cs
@@ -236,6 +251,7 @@ whole_laid k at window ls ws state cs whole here may changed joined =
       apart = same.apart whole.apart;
       given = same.given whole.given;
       somewhere = somewhere_laid window ls ws cs (same.somewhere whole.somewhere);
+      few = same.few whole.few;
       joined = joined_laid window ls state.controls cs ws joined
           (λ t away. ap (controls_of t) changed.controls ∙ controls_of-edit_at_other (retold f changed.definition) (λ c. refl) t at state.controls (is_in_at-other window t at state.controls (λ e. away (sym e)) here))
           whole.joined;

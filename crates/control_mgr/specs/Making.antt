@@ -25,7 +25,7 @@ use Rattle.window_mgr.specs.Relayered.{IsPlanOfLayers, MayHaveLayers}
 use Rattle.control_mgr.specs.declared.controls.Controls.{Controls}
 use Rattle.control_mgr.specs.declared.making.Addition.{Addition}
 use Rattle.control_mgr.specs.declared.making.Ticket.{Ticket}
-use Rattle.control_mgr.specs.ControlRefusals.{judged_refusals}
+use Rattle.control_mgr.specs.ControlRefusals.{judged_refusals, most_controls}
 use Rattle.control_mgr.specs.ControlSteps.{IsLayerOf, new_control}
 use Rattle.control_mgr.specs.Judged.{may_be_placed}
 use Rattle.control_mgr.specs.Planned.{IsLaidSo}
@@ -66,7 +66,7 @@ pub record IsGrown (n : NewControl) (d : ControlDefinition) (k : Ticket) (ls : P
   pub apart : ArePartsApart a.layers.layers
 
 module _ {V : Type 0} {H : V → Type 0} {W : Type 0} {K : W → Type 0} (control_loan : TakenControl W K → ControlLoan) where
-  -- what a new control is given, where it may lie in its window
+  -- what a new control is given, where it may lie in its window, which has room for it
   pub record IsTicket (n : NewControl) (d : Option ControlDefinition) (t : WindowManager V H) (m : Controls (TakenControl W K)) (k : Ticket) : Type 0 where
     pub window : StandsAt t.windows.records.items n.window k.window
     pub placed : (w : Window V H) → IsWindowAt t.windows.records.items k.window w → may_be_placed d n.place n.size w.place ≡ true
@@ -74,6 +74,7 @@ module _ {V : Type 0} {H : V → Type 0} {W : Type 0} {K : W → Type 0} (contro
     pub values : k.values ≡ settled n.minimum n.maximum n.value
     pub title : k.title ≡ n.title
     pub layer : k.layer ≡ count_of n.window (records_of control_loan m)
+    pub few : k.layer < most_controls
 
 module _ {V : Type 0} {H : V → Type 0} (loan : Taken V H → Loan) {W : Type 0} {K : W → Type 0} (control_loan : TakenControl W K → ControlLoan) where
   -- windows and controls to which the control of this ticket can be added as it was planned beside the windows `t`: its window has
@@ -96,7 +97,7 @@ module _ {V : Type 0} {H : V → Type 0} (loan : Taken V H → Loan) {W : Type 0
     pub room : length m.list.controls.items < vec_capacity m.list.controls
 
 -- a ticket of the control that is added to the same window next after one with the ticket `k`, where the window's layers have this
--- place: it has the serial after that, and the layer behind
+-- place and room for both: it has the serial after that, and the layer behind
 pub record IsTicketAfter (k : Ticket) (place : Point) (n : NewControl) (d : Option ControlDefinition) (l : Ticket) : Type 0 where
   pub window : l.window ≡ k.window
   pub placed : may_be_placed d n.place n.size place ≡ true
@@ -104,3 +105,4 @@ pub record IsTicketAfter (k : Ticket) (place : Point) (n : NewControl) (d : Opti
   pub values : l.values ≡ settled n.minimum n.maximum n.value
   pub title : l.title ≡ n.title
   pub layer : l.layer ≡ k.layer + 1
+  pub few : l.layer < most_controls

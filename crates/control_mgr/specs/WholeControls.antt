@@ -1,9 +1,9 @@
 -- What holds of the controls of a desk and of their stock between calls, and their state as plain data.
-use Rattle.std.specs.Prelude.{◌≡◌, ℕ, true, false, List, [], ◌∷◌, map, All, is_none}
+use Rattle.std.specs.Prelude.{◌≡◌, ◌≤◌, ℕ, true, false, List, [], ◌∷◌, map, All, is_none}
 use Rattle.std.specs.List.{list_any}
 use Rattle.tb_geom.specs.Points.{PixelSet}
 use Rattle.tb_geom.specs.Rects.{in_plane}
-use Rattle.control_list.specs.Lists.{are_before, controls_of, has_serial}
+use Rattle.control_list.specs.Lists.{are_before, controls_of, count_of, has_serial}
 use Rattle.control_list.specs.Seen.{all_seen}
 use Rattle.def_iface.specs.declared.part.Part.{Part}
 use Rattle.def_iface.specs.declared.taken.Taken.{Taken}
@@ -22,6 +22,7 @@ use Rattle.window_mgr.specs.Refused.{is_missing}
 use Rattle.window_mgr.specs.Whole.{IsWholeManager}
 use Rattle.control_mgr.specs.declared.controls.Controls.{Controls}
 use Rattle.control_mgr.specs.ControlDesks.{ControlDesk, ControlRecord, ControlSlot, ControlsState, controls_show, index_of}
+use Rattle.control_mgr.specs.ControlRefusals.{most_controls}
 use Rattle.control_mgr.specs.ControlSteps.{AreLayersOf}
 use Rattle.control_mgr.specs.InUse.{AreStocked}
 use Rattle.control_mgr.specs.Settled.{AreSettled}
@@ -39,13 +40,14 @@ abbrev pub slots_of : List ControlRecord → List ℕ
 slots_of cs = map (λ c. c.definition.slot) cs
 
 -- the controls of these windows, between calls: settled, each of another serial that was given before, in a window that is
--- there; the layers of each window begin with its controls', and no other is a control's; and the empty slots of the stock are
--- those of their definitions
+-- there, and no window has more than it may have; the layers of each window begin with its controls', and no other is a
+-- control's; and the empty slots of the stock are those of their definitions
 pub record AreWholeControls (windows : List WindowRecord) (s : ControlsState) : Type 0 where
   pub settled : AreSettled s.controls
   pub apart : AreApart s.controls
   pub given : are_before s.next s.controls ≡ true
   pub somewhere : All (λ c. is_missing c.window windows ≡ false) s.controls
+  pub few : (window : ℕ) → count_of window s.controls ≤ most_controls
   pub joined : All (λ w. AreLayersOf (controls_of w.serial s.controls) w.layers) windows
   pub stocked : AreStocked (λ (d : ControlDefinition). d.stage) (slots_of s.controls) s.stock
 

@@ -15,6 +15,7 @@ ghost use Rattle.control_mgr.specs.WholeControls.{AreBeside, AreWholeControls, L
 
 use crate::Controls;
 use crate::laying::{Lie, may_be_placed, shape_of};
+use crate::setting::may_have;
 use control_list::Control;
 use control_values::{ControlValues, Highlight};
 use def_iface::{
@@ -234,6 +235,8 @@ impl Controls<TakenControl> {
             layers,
             relaying,
         } = addition;
+        let highlight = Highlight::none();
+        may_have(ticket.values, highlight);
         taken.begin(new.size, new.title.as_slice(), ticket.values);
         self.list.push(Control {
             serial: ticket.serial,
@@ -242,7 +245,7 @@ impl Controls<TakenControl> {
             size: new.size,
             shown: new.shown,
             values: ticket.values,
-            highlight: Highlight::none(),
+            highlight,
             title: ticket.title,
             definition: taken,
         });

@@ -1,10 +1,12 @@
 //! What changes of a control but where it lies: its setting, its highlighting and its title.
-ghost use Rattle.std.specs.Prelude.{◌≡◌, ◌<◌, [], length, slice_get, IfSome};
+ghost use Rattle.std.specs.Prelude.{◌≡◌, ◌<◌, [], true, pos, length, slice_get, IfSome};
+ghost use Rattle.control_values.specs.Highlights.{is_highlight};
 ghost use Rattle.desk_call.specs.declared.control.ControlOf.{ControlOf as Named};
 ghost use Rattle.desk_call.specs.declared.control.ControlCall.TheVariants as asks;
 ghost use Rattle.window_mgr.specs.Kept.{IsKept};
 ghost use Rattle.window_mgr.specs.DeskStates.{Opened};
 ghost use Rattle.control_mgr.specs.ControlSteps.{IsControlStep, IsSettingPut, IsShownAnew};
+ghost use Rattle.control_mgr.specs.Settled.{MayHaveSetting};
 ghost use Rattle.control_mgr.specs.Spots.{IsSpot, IsSpotOf, with_state};
 ghost use Rattle.control_mgr.specs.WholeControls.{AreBeside, LeavesControls, records_of};
 
@@ -23,6 +25,17 @@ pub(crate) struct State {
     pub values: ControlValues,
     pub highlight: Highlight,
     pub title: ShortText,
+}
+
+/// Reads a setting and a highlighting: each is one that a control may have.
+pub(crate) fn may_have(values: ControlValues, highlight: Highlight)
+    ensures setting { MayHaveSetting values }
+    ensures highlight { is_highlight (pos highlight) ≡ true }
+{
+    let _value = values.value();
+    let _minimum = values.minimum();
+    let _maximum = values.maximum();
+    let _number = highlight.number();
 }
 
 impl Controls<TakenControl> {
@@ -49,6 +62,7 @@ impl Controls<TakenControl> {
             → (o u : Opened) → LeavesControls ⟦<TakenControl as DefinedControl>⟧.control_loan ⟦<Taken as Defined>⟧.loan
             (IsShownAnew c (with_state state)) windows.old o self.old windows.new u self.new }
     {
+        may_have(state.values, state.highlight);
         let layer = self.list.layer_index(spot.control);
         self.list.set_values(spot.control, state.values);
         self.list.set_highlight(spot.control, state.highlight);

@@ -70,6 +70,7 @@ whole_on s ws vs more every whole = record {
   given = whole.given;
   somewhere = All-weaker (λ (c : ControlRecord). is_missing c.window ws ≡ false) (λ (c : ControlRecord). is_missing c.window vs ≡ false)
       (λ c h. let some = found_counts c.window ws h in let m = more c.window in counted_is_found c.window vs (omega arith)) s.controls whole.somewhere;
+  few = whole.few;
   joined = every_all (joined_to s.controls) vs every;
   stocked = whole.stocked;
 }
@@ -88,6 +89,7 @@ lists_on s ws vs more every whole = record {
   given = whole.given;
   somewhere = All-weaker (λ (l : KeptList). is_missing l.window ws ≡ false) (λ (l : KeptList). is_missing l.window vs ≡ false)
       (λ l h. let some = found_counts l.window ws h in let m = more l.window in counted_is_found l.window vs (omega arith)) s.lists whole.somewhere;
+  few = whole.few;
   joined = every_all (listed_to s.lists) vs every;
   stocked = whole.stocked;
 }

@@ -140,6 +140,7 @@ module _ (call : WindowCall) (answer : WindowReply) (before : ToolboxState) (mid
       apart = was.controls.apart;
       given = was.controls.given;
       somewhere = All-weaker (λ (c : ControlRecord). is_missing c.window ws ≡ false) (λ (c : ControlRecord). is_missing c.window told.desk.windows ≡ false) (λ c. there c.window) cs was.controls.somewhere;
+      few = was.controls.few;
       joined = every_all (joined_to cs) told.desk.windows joined;
       stocked = was.controls.stocked;
     }
@@ -150,6 +151,7 @@ module _ (call : WindowCall) (answer : WindowReply) (before : ToolboxState) (mid
       apart = was.lists.apart;
       given = was.lists.given;
       somewhere = All-weaker (λ (l : KeptList). is_missing l.window ws ≡ false) (λ (l : KeptList). is_missing l.window told.desk.windows ≡ false) (λ l. there l.window) ls was.lists.somewhere;
+      few = was.lists.few;
       joined = every_all (listed_to ls) told.desk.windows listed;
       stocked = was.lists.stocked;
     }
@@ -202,10 +204,10 @@ module _ (call : WindowCall) (answer : WindowReply) (before : ToolboxState) (mid
     listed_all = every_all (listed_to ls) told.desk.windows listed
 
     left_controls : AreWholeControls told.desk.windows after.controls
-    left_controls = whole_left d before.controls after.controls left told.desk.windows was.controls.settled was.controls.apart was.controls.given joined_all others missing
+    left_controls = whole_left d before.controls after.controls left told.desk.windows was.controls.settled was.controls.apart was.controls.given was.controls.few joined_all others missing
 
     left_lists : AreWholeLists told.desk.windows after.lists
-    left_lists = lists.whole_left d before.lists after.lists ended told.desk.windows was.lists.settled was.lists.apart was.lists.given listed_all other_lists missing
+    left_lists = lists.whole_left d before.lists after.lists ended told.desk.windows was.lists.settled was.lists.apart was.lists.given was.lists.few listed_all other_lists missing
 
     gone_contents : AreContentsRight after
     gone_contents = record {
@@ -216,7 +218,7 @@ module _ (call : WindowCall) (answer : WindowReply) (before : ToolboxState) (mid
 
     gone_right : IsRightState told → IsRightToolbox after
     gone_right right =
-        let first = followed_right (lists_show ls) d told before.controls after.controls right shows was.controls.settled was.controls.apart was.controls.given joined_all others missing left in
+        let first = followed_right (lists_show ls) d told before.controls after.controls right shows was.controls.settled was.controls.apart was.controls.given was.controls.few joined_all others missing left in
         record {
           right = subst IsRightState (sym shown)
               (lists.right_left d before.lists after.lists ended (shown_with after.controls.controls ls told) after.controls.controls first.0 refl left_controls.joined was.lists.apart listed_all missing);

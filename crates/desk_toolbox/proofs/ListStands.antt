@@ -1,5 +1,5 @@
 -- What holds of a reached state holds after a call about lists, and of no lists at the beginning.
-use Rattle.std.proofs.Common.{◌≡◌, ◌⊎◌, ⊎_elim, inl, inr, ℕ, zero, suc, List, [], ◌∷◌, map, false, Option, None, Some, Result, Ok, Err, refl, sym, ap, ◌∙◌, subst, arith}
+use Rattle.std.proofs.Common.{◌≡◌, ◌⊎◌, ⊎_elim, inl, inr, ℕ, zero, suc, ◌≤◌, List, [], ◌∷◌, map, false, Option, None, Some, Result, Ok, Err, refl, sym, ap, ◌∙◌, subst, arith}
 use Rattle.std.specs.Prelude.{All, slice_get}
 use Rattle.std.proofs.lemmas.List.Elements.{All-nil, All-head, All-tail, All-same}
 use Rattle.tb_geom.specs.declared.refusal.Refusal.{Refusal}
@@ -10,7 +10,7 @@ use Rattle.desk_call.specs.declared.list.ListCall.{ListCall}
 use Rattle.desk_call.specs.declared.list.ListCall.TheVariants.{GetCell, IsSelected, FirstSelected, NextCell, Search}
 use Rattle.desk_call.specs.declared.list.ListReply.{ListReply}
 use Rattle.desk_call.specs.Gates.{gate, list_standing}
-use Rattle.list_records.specs.Lists.{are_before, lists_of}
+use Rattle.list_records.specs.Lists.{are_before, count_of, lists_of}
 use Rattle.vis_update.specs.Records.{WindowRecord}
 use Rattle.window_mgr.specs.FullDesk.{FullDesk}
 use Rattle.window_mgr.specs.Refused.{is_missing}
@@ -19,6 +19,7 @@ use Rattle.control_mgr.specs.InUse.{AreStocked}
 use Rattle.control_mgr.specs.WholeControls.{IsTrackable}
 use Rattle.list_mgr.specs.ListClosing.{IsListFull}
 use Rattle.list_mgr.specs.ListDesks.{IsListDeskUnchanged, KeptList, ListDesk, ListsState}
+use Rattle.list_mgr.specs.ListRefusals.{most_lists}
 use Rattle.list_mgr.specs.ListSteps.{AreListLayers, IsListEffect, IsListStep}
 use Rattle.list_mgr.specs.WholeLists.{AreApart, AreWholeLists, IsSettledList, slots_of}
 use Rattle.list_mgr.proofs.ListFacts.{IsBesideLayers, list_facts}
@@ -103,6 +104,7 @@ no_lists_whole windows s bare none next full = record {
   apart = subst AreApart (sym none) tt;
   given = (λ i. are_before (next i) (none i));
   somewhere = All-same (λ (l : KeptList). is_missing l.window windows ≡ false) s.lists [] none (All-nil (λ (l : KeptList). is_missing l.window windows ≡ false));
+  few = λ t. subst (λ ls. count_of t ls ≤ most_lists) (sym none) (omega arith);
   joined = All-same (λ (w : WindowRecord). AreListLayers (lists_of w.serial s.lists) w.layers) windows [] bare (All-nil (λ (w : WindowRecord). AreListLayers (lists_of w.serial s.lists) w.layers));
   stocked = subst (λ own. AreStocked (λ (d : ListDefinition). d.stage) (slots_of own) s.stock) (sym none) (λ k. none_used_at (λ (d : ListDefinition). d.stage) s.stock k full);
 }

@@ -1,5 +1,5 @@
 -- A control that is tracked stays there, and what holds of a reached state holds after a call about controls.
-use Rattle.std.proofs.Common.{◌≡◌, ◌⊎◌, ⊎_elim, inl, inr, ℕ, zero, suc, Bool, true, false, not, List, [], ◌∷◌, map, Option, None, Some, Result, Ok, Err, refl, sym, ap, ◌∙◌, subst, arith}
+use Rattle.std.proofs.Common.{◌≡◌, ◌⊎◌, ⊎_elim, inl, inr, ℕ, zero, suc, ◌≤◌, Bool, true, false, not, List, [], ◌∷◌, map, Option, None, Some, Result, Ok, Err, refl, sym, ap, ◌∙◌, subst, arith}
 use Rattle.std.specs.Prelude.{All, is_none, slice_get}
 use Rattle.std.proofs.lemmas.List.Elements.{All-nil, All-cons, All-head, All-tail, All-same}
 use Rattle.tb_geom.specs.declared.point.Point.{Point}
@@ -7,7 +7,7 @@ use Rattle.tb_geom.specs.declared.refusal.Refusal.{Refusal}
 use Rattle.tb_geom.specs.Rects.{in_plane}
 use Rattle.tb_geom.specs.Refusals.{first_refusal}
 use Rattle.control_values.specs.declared.part.ControlPart.{ControlPart}
-use Rattle.control_list.specs.Lists.{are_before, controls_of, with_highlight}
+use Rattle.control_list.specs.Lists.{are_before, controls_of, count_of, with_highlight}
 use Rattle.control_list.proofs.WindowLemmas.{control_index-edit_at}
 use Rattle.def_iface.specs.declared.window_def.Stage.{Stage}
 use Rattle.def_iface.specs.ControlMeaning.{ControlDefinition}
@@ -38,7 +38,7 @@ use Rattle.window_frame.specs.Followers.Flag.{Highlighting, Zooming}
 use Rattle.window_frame.specs.FrameSteps.{IsBegunAt, IsFrameEffect, IsFrameStep}
 use Rattle.control_mgr.specs.ControlClosing.{IsControlFull}
 use Rattle.control_mgr.specs.ControlDesks.{ControlDesk, ControlRecord, ControlSlot, ControlsState, IsControlDeskUnchanged, index_of}
-use Rattle.control_mgr.specs.ControlRefusals.{control_refusals}
+use Rattle.control_mgr.specs.ControlRefusals.{control_refusals, most_controls}
 use Rattle.control_mgr.specs.ControlSteps.{AreLayersOf, IsControlEffect, IsControlStep, IsHighlighted, IsReleased, IsShownAnew, IsStepped, IsTracked, highlight_of, is_thumb, tested}
 use Rattle.control_mgr.specs.InUse.{AreStocked, IsUsedBy}
 use Rattle.control_mgr.specs.Settled.{IsSettledControl}
@@ -296,6 +296,7 @@ none_whole windows s bare none next full = record {
   apart = subst AreApart (sym none) tt;
   given = (λ i. are_before (next i) (none i));
   somewhere = All-same (λ (c : ControlRecord). is_missing c.window windows ≡ false) s.controls [] none (All-nil (λ (c : ControlRecord). is_missing c.window windows ≡ false));
+  few = λ t. subst (λ cs. count_of t cs ≤ most_controls) (sym none) (omega arith);
   joined = All-same (λ (w : WindowRecord). AreLayersOf (controls_of w.serial s.controls) w.layers) windows [] bare (All-nil (λ (w : WindowRecord). AreLayersOf (controls_of w.serial s.controls) w.layers));
   stocked = subst (λ own. AreStocked (λ (d : ControlDefinition). d.stage) (slots_of own) s.stock) (sym none) (λ k. none_used_at (λ (d : ControlDefinition). d.stage) s.stock k full);
 }

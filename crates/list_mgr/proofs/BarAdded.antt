@@ -90,6 +90,7 @@ place_after {V} {H} n k u v m layers update put place = record {
       let lies : IsWindowAt u.windows.records.items k.window w = read_is u.windows.records.items k.window w there.there in
       (λ i. is_in_range (moved_rect (view_rect (view_of n)) (place_put k.window layers update u v put place.window.0 w x lies is i).h (place_put k.window layers update u v put place.window.0 w x lies is i).v))
       ∙ place.fits w lies;
+  few = place.few;
 }
 
 -- ---- a bar that was added

@@ -90,7 +90,7 @@ module _ {V : Type 0} {H : V → Type 0} (loan : Taken V H → Loan) {W : Type 0
 
   its_ticket : IsTicket control_loan (bar_control n.window (vertical_of n)) (Some d.definition) t c (bar_ticket k.window room.0.serial k.controls (vertical_of n))
   its_ticket =
-      first_ticket loan control_loan list_loan n (Some d.definition) (Some e.definition) t c m k kept may.ticket (vertical_of n) d.definition room.0.serial first_good room.0.given
+      first_ticket loan control_loan list_loan n (Some d.definition) (Some e.definition) t c m k kept may.ticket (vertical_of n) d.definition room.0.serial first_good room.0.given first_few
       (bar_placed loan control_loan list_loan n (Some d.definition) (Some e.definition) t c m k kept may.ticket n.vertical_bar (Some d.definition) (vertical_bar (view_of n)) d.definition may.vertical_wanted refl
       (vertical_may n (Some d.definition) (Some e.definition) (desk_of loan t []) (control_records.records_of control_loan c) c.list.next (records_of list_loan m) m.list.next may.ticket.judged))
 
@@ -113,6 +113,7 @@ module _ {V : Type 0} {H : V → Type 0} (loan : Taken V H → Loan) {W : Type 0
       values = second_good.kept;
       title = refl;
       layer = refl;
+      few = few;
     }
 
     pub ticket_so : (s : ℕ) → k.bar ≡ Some s → IsTicket control_loan (bar_control n.window (vertical_of n)) (Some d.definition) t c (bar_ticket k.window s k.controls (vertical_of n))

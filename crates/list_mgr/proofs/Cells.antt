@@ -15,7 +15,10 @@ use Rattle.list_cells.specs.Contents.{Content, bytes_held, empty_content}
 use Rattle.list_cells.specs.Grids.{Grid, IsGrid, content_of, data_refusals, is_cell, is_too_long, place_of, with_bytes}
 use Rattle.list_cells.proofs.GridLemmas.{data_added, data_set}
 use Rattle.control_mgr.proofs.Steps.{first_fails, one_fails}
+use Rattle.list_cells.specs.declared.click.SelectionFlags.{SelectionFlags}
 use Rattle.list_mgr.specs.Changing.{IsSameOrNot}
+use Rattle.list_mgr.proofs.Becoming.{MayBecomeWider}
+use Rattle.list_mgr.proofs.SelectedCells.{bytes_selected}
 
 -- ---- where a cell stands
 
@@ -107,16 +110,27 @@ cleared_or_not g c bytes are is has = by_test (length bytes == 0) refl
 
 -- ---- what holds between calls
 
-pub set_grid : (g : Grid) (c : Cell) (text : List ℕ) → IsGrid g → first_refusal (data_refusals g c (length (content_of g c).bytes) (length text)) ≡ None → IsGrid (with_bytes g c text)
-set_grid g c text is allowed =
-    data_set g g c (place_of g c) (length text) (record (content_of g c) { bytes = text }) is refl allowed refl
-    (place_low g c (cell_of_allowed g c (length (content_of g c).bytes) (length text) allowed)) refl
+-- other data leave the lines and the selection
+given_bytes : {flags : SelectionFlags} (g : Grid) (c : Cell) (text : List ℕ) → IsGrid (with_bytes g c text) → MayBecomeWider flags g (with_bytes g c text)
+given_bytes g c text is = record {
+  cells = record { grid = is; single = λ only few. let less = bytes_selected g c text in omega (arith, less, few) };
+  columns = omega arith;
+  rows = omega arith;
+}
 
-pub added_grid : (g : Grid) (c : Cell) (text : List ℕ) → IsGrid g → first_refusal (data_refusals g c 0 (length text)) ≡ None → IsGrid (with_bytes g c ((content_of g c).bytes ++ text))
+pub set_grid : {flags : SelectionFlags} (g : Grid) (c : Cell) (text : List ℕ) → IsGrid g → first_refusal (data_refusals g c (length (content_of g c).bytes) (length text)) ≡ None → MayBecomeWider flags g (with_bytes g c text)
+set_grid g c text is allowed =
+    given_bytes g c text
+    (data_set g g c (place_of g c) (length text) (record (content_of g c) { bytes = text }) is refl allowed refl
+    (place_low g c (cell_of_allowed g c (length (content_of g c).bytes) (length text) allowed)) refl)
+
+pub added_grid : {flags : SelectionFlags} (g : Grid) (c : Cell) (text : List ℕ) → IsGrid g → first_refusal (data_refusals g c 0 (length text)) ≡ None
+    → MayBecomeWider flags g (with_bytes g c ((content_of g c).bytes ++ text))
 added_grid g c text is allowed =
     let has = cell_of_allowed g c 0 (length text) allowed in
-    data_added g g c (place_of g c) (length text) (content_of g c) (record (content_of g c) { bytes = (content_of g c).bytes ++ text }) is refl allowed
-    (place_low g c has) (get_or_default g.contents (place_of g c) empty_content (content_of g c) (in_contents g c is has)) (length-append (content_of g c).bytes text)
+    given_bytes g c ((content_of g c).bytes ++ text)
+    (data_added g g c (place_of g c) (length text) (content_of g c) (record (content_of g c) { bytes = (content_of g c).bytes ++ text }) is refl allowed
+    (place_low g c has) (get_or_default g.contents (place_of g c) empty_content (content_of g c) (in_contents g c is has)) (length-append (content_of g c).bytes text))
 
-pub cleared_grid : (g : Grid) (c : Cell) → IsGrid g → is_cell g c ≡ true → IsGrid (with_bytes g c [])
+pub cleared_grid : {flags : SelectionFlags} (g : Grid) (c : Cell) → IsGrid g → is_cell g c ≡ true → MayBecomeWider flags g (with_bytes g c [])
 cleared_grid g c is has = set_grid g c [] is (clearing_allowed g c is has)

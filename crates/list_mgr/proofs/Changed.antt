@@ -14,7 +14,7 @@ use Rattle.def_iface.specs.declared.taken_list.TakenList.{TakenList}
 use Rattle.def_iface.specs.ListMeaning.{ListLoan}
 use Rattle.def_iface.specs.Meaning.{Loan}
 use Rattle.def_iface.specs.Stocked.{SlotView}
-use Rattle.list_cells.specs.Grids.{Grid, IsGrid}
+use Rattle.list_cells.specs.Grids.{Grid}
 use Rattle.list_records.specs.declared.list_record.ListRecord.{ListRecord}
 use Rattle.list_records.specs.Lists.{edit_at, with_cells}
 use Rattle.list_records.specs.Seen.{all_seen, seen}
@@ -52,17 +52,6 @@ same_item ls at x y e f = let both : Some x ≡ Some y = sym e ∙ f in cc
 -- the cells of a list changed so, which keeps all else of it
 pub grid_keeps : (g : Grid → Grid) → Keeps (with_grid g)
 grid_keeps g = record { serial = λ x. refl; window = λ x. refl; definition = λ x. refl; layer = λ x k is. record { part = is.part; shown = is.shown; region = is.region; bounds = is.bounds } }
-
--- and such cells are as they are to be
-pub grid_stays : (g : Grid → Grid) (x : KeptList) → IsSettledList x → IsGrid (g x.cells) → IsSettledList (with_grid g x)
-grid_stays g x settled is = record {
-  live = settled.live;
-  told = settled.told;
-  goes_by = settled.goes_by;
-  view = settled.view;
-  grid = is;
-  short = is.bytes_within;
-}
 
 pub grid_or_not : (changes : Bool) (g : Grid → Grid) (x : KeptList) → IsSameOrNot changes (g x.cells) x.cells → IsSameOrNot changes (with_grid g x) x
 grid_or_not true g x other = λ same. other (ap (λ (y : KeptList). y.cells) same)

@@ -60,7 +60,7 @@ module _ (b : Bool) where
   drawing_keeps = record { serial = λ x. refl; window = λ x. refl; definition = λ x. refl; layer = λ x k is. record { part = is.part; shown = is.shown; region = is.region; bounds = is.bounds } }
 
   drawing_stays : (x : KeptList) → IsSettledList x → IsSettledList (with_drawing b x)
-  drawing_stays x settled = record { live = settled.live; told = settled.told; goes_by = settled.goes_by; view = settled.view; grid = settled.grid; short = settled.short }
+  drawing_stays x settled = record { live = settled.live; told = settled.told; goes_by = settled.goes_by; view = settled.view; grid = settled.grid; short = settled.short; scrolled = settled.scrolled; single = settled.single }
 
 -- and so do controls and lists together
 both_show : (cs : List ControlRecord) (xs ys : List KeptList) (font : List ℕ) → ((q : Part) (p : Point) → lists_show ys font q p ≡ lists_show xs font q p)

@@ -1,17 +1,20 @@
 -- What holds of lists between calls holds where one of them is changed that keeps its place among them.
-use Rattle.std.proofs.Common.{◌≡◌, ℕ, zero, suc, ◌&&◌, ◌||◌, ◌==◌, Bool, true, false, List, [], ◌∷◌, Option, Some, refl, sym, ap, ◌∙◌, subst}
+use Rattle.std.proofs.Common.{◌≡◌, ℕ, zero, suc, ◌≤◌, ◌&&◌, ◌||◌, ◌==◌, Bool, true, false, cond, List, [], ◌∷◌, Option, None, Some, refl, sym, ap, ◌∙◌, subst}
 use Rattle.std.specs.Prelude.{All, map, slice_get}
 use Rattle.std.specs.List.{AllZip, list_any}
+use Rattle.std.specs.Option.{option_and_then}
 use Rattle.std.proofs.lemmas.List.Elements.{All-cons, All-head, All-tail, All-weaker}
 use Rattle.def_iface.specs.ListMeaning.{ListDefinition, ListLoan}
 use Rattle.layer_list.specs.declared.layer.Layer.{Layer}
 use Rattle.list_records.specs.declared.list_record.ListRecord.{ListRecord}
-use Rattle.list_records.specs.Lists.{are_before, edit_at, has_serial, is_before, is_in_at, lists_of}
+use Rattle.list_records.specs.Lists.{are_before, count_of, edit_at, has_serial, is_before, is_in_at, lists_of}
 use Rattle.list_records.proofs.WindowLemmas.{lists_of-edit_at, lists_of-edit_at_other}
 use Rattle.vis_update.specs.Records.{WindowRecord}
 use Rattle.window_mgr.specs.Refused.{is_missing}
 use Rattle.control_mgr.specs.InUse.{AreStocked}
-use Rattle.list_mgr.specs.ListDesks.{KeptList, ListsState}
+use Rattle.desk_call.specs.declared.list.ListOf.{ListOf}
+use Rattle.list_mgr.specs.ListDesks.{KeptList, ListsState, index_of, list_of}
+use Rattle.list_mgr.specs.ListRefusals.{most_lists}
 use Rattle.list_mgr.specs.ListSteps.{AreListLayers, IsLayerOf}
 use Rattle.list_mgr.specs.WholeLists.{AreApart, AreSettled, AreWholeLists, IsSettledList}
 use Rattle.list_mgr.proofs.Drawn.{All-there}
@@ -85,8 +88,23 @@ joined_edit f keeps at ls ws joined =
     by_test w h true e = subst (λ xs. AreListLayers xs w.layers) (sym (lists_of-edit_at f keeps.window w.serial at ls e)) (zip-edit f _ (lists_of w.serial ls) _ h keeps.layer)
     by_test w h false e = subst (λ xs. AreListLayers xs w.layers) (sym (lists_of-edit_at_other f keeps.window w.serial at ls e)) h
 
+-- a list that is named is settled where all are
+pub named_settled : (l : ListOf) (ls : List KeptList) (x : KeptList) → AreSettled ls → list_of l ls ≡ Some x → IsSettledList x
+named_settled l ls x settled named = by_place (index_of l ls) refl
+  where
+    by_place : (o : Option ℕ) → index_of l ls ≡ o → IsSettledList x
+    by_place None e = let none : list_of l ls ≡ None = ap (option_and_then (slice_get ls)) e in absurd (cc)
+    by_place (Some at) e =
+        let there : slice_get ls at ≡ Some x = sym (ap (option_and_then (slice_get ls)) e) ∙ named in
+        All-there IsSettledList at ls x there settled
+
 pub settled_edited : (f : KeptList → KeptList) (at : ℕ) (ls : List KeptList) → AreSettled ls → ((x : KeptList) → slice_get ls at ≡ Some x → IsSettledList x → IsSettledList (f x)) → AreSettled (edit_at f at ls)
 settled_edited f at ls settled stays = All-edit IsSettledList f at ls settled (λ x e. stays x e (All-there IsSettledList at ls x e settled))
+
+count-edit : (f : KeptList → KeptList) → ((x : KeptList) → (f x).window ≡ x.window) → (t i : ℕ) (ls : List KeptList) → count_of t (edit_at f i ls) ≡ count_of t ls
+count-edit f same t i [] = refl
+count-edit f same t zero (x ∷ ls) = ap (λ w. cond (w == t) (suc (count_of t ls)) (count_of t ls)) (same x)
+count-edit f same t (suc i) (x ∷ ls) = ap (λ n. cond (x.window == t) (suc n) n) (count-edit f same t i ls)
 
 -- and all that holds between calls
 pub whole_edited : (f : KeptList → KeptList) → Keeps f → (at : ℕ) (ws : List WindowRecord) (state : ListsState) → AreWholeLists ws state
@@ -95,6 +113,7 @@ whole_edited f keeps at ws state whole stays = record {
   settled = settled_edited f at state.lists whole.settled stays;
   apart = apart-edit f keeps.serial at state.lists whole.apart;
   given = before-edit state.next f keeps.serial at state.lists ∙ whole.given;
+  few = λ t. subst (λ n. n ≤ most_lists) (sym (count-edit f keeps.window t at state.lists)) (whole.few t);
   somewhere = All-edit (λ (x : KeptList). is_missing x.window ws ≡ false) f at state.lists whole.somewhere
       (λ x e. ap (λ w. is_missing w ws) (keeps.window x) ∙ All-there (λ (y : KeptList). is_missing y.window ws ≡ false) at state.lists x e whole.somewhere);
   joined = joined_edit f keeps at state.lists ws whole.joined;

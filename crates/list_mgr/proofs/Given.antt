@@ -20,7 +20,8 @@ use Rattle.list_mgr.specs.ListDesks.{KeptList}
 use Rattle.list_mgr.specs.ListSteps.{IsListChanged, with_grid}
 use Rattle.list_mgr.specs.Spots.{IsSpot, IsSpotOf}
 use Rattle.list_mgr.specs.WholeLists.{AreBeside, IsChangedOver, IsSettledList, records_of}
-use Rattle.list_mgr.proofs.Changed.{beside_after, cells_kept, cells_written, changed_over, grid_keeps, grid_or_not, grid_stays, mark_after, same_item, spot_after}
+use Rattle.list_mgr.proofs.Becoming.{MayBecome, MayBecomeWider, IsSettledBut, grid_settles, grid_stays}
+use Rattle.list_mgr.proofs.Changed.{beside_after, cells_kept, cells_written, changed_over, grid_keeps, grid_or_not, mark_after, same_item, spot_after}
 use Rattle.list_mgr.proofs.Drawn.{settled_there}
 use Rattle.list_mgr.proofs.Steps.{list_read}
 
@@ -45,27 +46,32 @@ module _ {V : Type 0} {H : V → Type 0} (loan : Taken V H → Loan) {X : Type 0
   pub kept_there : (cells : Grid) → cells ≡ x.cells → records_of list_loan (with_cells_there cells) ≡ records_of list_loan m
   kept_there cells same = cells_kept list_loan m.list.lists.items s.list x cells read same
 
-  module _ (g : Grid → Grid) (cells : Grid) (now : cells ≡ g x.cells) (good : IsGrid x.cells → IsGrid (g x.cells)) where
+  module _ (g : Grid → Grid) (cells : Grid) (now : cells ≡ g x.cells) where
+    pub edited : records_of list_loan (with_cells_there cells) ≡ edit_at (with_grid g) s.list (records_of list_loan m)
+    edited = cells_written list_loan g m.list.lists.items s.list x cells read is.low x_there now
+
+  -- fewer lines as well, until it is scrolled back
+  pub stays_but : (g : Grid → Grid) → (IsGrid x.cells → MayBecome x.flags x.cells (g x.cells)) → (y : KeptList) → slice_get (records_of list_loan m) s.list ≡ Some y → IsSettledList y → IsSettledBut (with_grid g y)
+  stays_but g good = of_read (λ y. IsSettledList y → IsSettledBut (with_grid g y)) (λ settled. grid_settles g (seen list_loan x) settled (good settled.grid))
+
+  module _ (g : Grid → Grid) (cells : Grid) (now : cells ≡ g x.cells) (good : IsGrid x.cells → MayBecomeWider x.flags x.cells (g x.cells)) where
     abbrev pub n : Lists (TakenList X L)
     n = with_cells_there cells
-
-    pub edited : records_of list_loan n ≡ edit_at (with_grid g) s.list (records_of list_loan m)
-    edited = cells_written list_loan g m.list.lists.items s.list x cells read is.low x_there now
 
     pub stays : (y : KeptList) → slice_get (records_of list_loan m) s.list ≡ Some y → IsSettledList y → IsSettledList (with_grid g y)
     stays = of_read (λ y. IsSettledList y → IsSettledList (with_grid g y)) (λ settled. grid_stays g (seen list_loan x) settled (good settled.grid))
 
     pub beside_so : AreBeside list_loan loan t m → AreBeside list_loan loan t n
-    beside_so beside = beside_after loan list_loan l t m n s is (with_grid g) (grid_keeps g) edited refl stays beside
+    beside_so beside = beside_after loan list_loan l t m n s is (with_grid g) (grid_keeps g) (edited g cells now) refl stays beside
 
     pub spot_so : IsSpot loan list_loan t n s
-    spot_so = spot_after loan list_loan l t m n s is (with_grid g) (grid_keeps g) edited refl stays
+    spot_so = spot_after loan list_loan l t m n s is (with_grid g) (grid_keeps g) (edited g cells now) refl stays
 
     pub mark_so : (mark : Option Pixels) → IsMark list_loan loan t m s mark → IsMark list_loan loan t n s mark
-    mark_so mark marked = mark_after loan list_loan l t m n s is (with_grid g) (grid_keeps g) edited refl stays (λ y. refl) mark marked
+    mark_so mark marked = mark_after loan list_loan l t m n s is (with_grid g) (grid_keeps g) (edited g cells now) refl stays (λ y. refl) mark marked
 
     pub changed_so : (mark : Option Pixels) (changes : Bool) → IsMark list_loan loan t m s mark → IsSameOrNot changes (g x.cells) x.cells
         → (u : WindowManager V H) → IsShownOrMarked list_loan loan mark changes s n t u → IsChangedOver list_loan loan (IsListChanged l (with_grid g)) t m u n
     changed_so mark changes marked agree u shown =
-        changed_over loan list_loan l t m n s is (with_grid g) (grid_keeps g) edited refl stays mark changes marked
+        changed_over loan list_loan l t m n s is (with_grid g) (grid_keeps g) (edited g cells now) refl stays mark changes marked
         (of_read (λ y. IsSameOrNot changes (with_grid g y) y) (grid_or_not changes g (seen list_loan x) agree)) u shown

@@ -13,6 +13,7 @@ use Rattle.def_iface.specs.declared.taken_list.TakenList.{TakenList}
 use Rattle.def_iface.specs.ControlMeaning.{ControlDefinition, ControlLoan}
 use Rattle.def_iface.specs.ListMeaning.{ListLoan}
 use Rattle.def_iface.specs.Meaning.{Loan}
+use Rattle.list_records.proofs.SeenLemmas as lists_seen
 use Rattle.list_view.specs.declared.axis.Axis.{Axis}
 use Rattle.list_view.specs.Axes.{bound}
 use Rattle.desk_call.specs.declared.list.NewList.{NewList}
@@ -26,7 +27,7 @@ use Rattle.window_mgr.specs.Records.{desk_of}
 use Rattle.window_mgr.proofs.Steps.{found}
 use Rattle.control_mgr.specs.declared.controls.Controls.{Controls}
 use Rattle.control_mgr.specs.declared.making.Ticket.{Ticket}
-use Rattle.control_mgr.specs.ControlRefusals.{is_setting}
+use Rattle.control_mgr.specs.ControlRefusals.{is_setting, most_controls}
 use Rattle.control_mgr.specs.Judged.{may_be_in, may_be_placed}
 use Rattle.control_mgr.specs.Making.{IsTicket}
 use Rattle.control_mgr.specs.Making as control_making
@@ -36,12 +37,12 @@ use Rattle.control_mgr.proofs.Places.{read_is, there_is}
 use Rattle.list_mgr.specs.declared.judging.ListTicket.{ListTicket}
 use Rattle.list_mgr.specs.declared.lists.Lists.{Lists}
 use Rattle.list_mgr.specs.declared.new_bars.Bar.{Bar}
-use Rattle.list_mgr.specs.ListRefusals.{corner_of, have_room, may_bar_be_in, may_view_be_in, size_of, view_of}
+use Rattle.list_mgr.specs.ListRefusals.{corner_of, have_room, may_bar_be_in, may_view_be_in, most_lists, size_of, view_of}
 use Rattle.list_mgr.specs.Making.{IsListTicket}
 use Rattle.list_mgr.specs.NewBars.{IsGoodBar, bar_control, bar_ticket, horizontal_of, vertical_of}
 use Rattle.list_mgr.specs.Putting.{IsGoodList, IsPlace}
 use Rattle.list_mgr.proofs.Judged.{horizontal_fits, vertical_fits}
-use Rattle.list_mgr.proofs.NewLists.{good_of, view_fits, view_may}
+use Rattle.list_mgr.proofs.NewLists.{good_of, room_here, view_fits, view_may}
 
 -- ---- settings
 
@@ -130,6 +131,8 @@ module _ {V : Type 0} {H : V → Type 0} (loan : Taken V H → Loan) {W : Type 0
       good = good_of n vertical horizontal (desk_of loan t []) (control_records.records_of control_loan c) c.list.next _ m.list.next ticket.judged;
       fits = λ w lies. view_fits n (record_of loan w) (subst (λ o. may_view_be_in n o ≡ true) (window_is w lies)
           (view_may n vertical horizontal (desk_of loan t []) (control_records.records_of control_loan c) c.list.next _ m.list.next ticket.judged));
+      few = subst (λ k. k < most_lists) (lists_seen.count_of-seen list_loan n.window m.list.lists.items)
+          (room_here n vertical horizontal (desk_of loan t []) (control_records.records_of control_loan c) c.list.next _ m.list.next ticket.judged);
     }
 
     -- a bar that is wanted may lie in its window
@@ -140,14 +143,15 @@ module _ {V : Type 0} {H : V → Type 0} (loan : Taken V H → Loan) {W : Type 0
         sym (λ i. not (true_is i) || may_be_in (is i) (corner_of rect) (size_of rect) (window_is w lies i)) ∙ may
 
     -- what the first bar is given
-    pub first_ticket : (b : Bar) (d : ControlDefinition) (serial : ℕ) → IsGoodBar b → c.list.next ≡ Some serial
+    pub first_ticket : (b : Bar) (d : ControlDefinition) (serial : ℕ) → IsGoodBar b → c.list.next ≡ Some serial → k.controls < most_controls
         → ((w : Window V H) → IsWindowAt t.windows.records.items k.window w → may_be_placed (Some d) (corner_of b.rect) (size_of b.rect) w.place ≡ true)
         → IsTicket control_loan (bar_control n.window b) (Some d) t c (bar_ticket k.window serial k.controls b)
-    first_ticket b d serial good next placed = record {
+    first_ticket b d serial good next few placed = record {
       window = ticket.window;
       placed = placed;
       serial = next;
       values = good.kept;
       title = refl;
       layer = ticket.controls;
+      few = few;
     }

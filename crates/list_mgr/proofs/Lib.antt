@@ -7,6 +7,8 @@ pub mod Marked
 pub mod Edited
 pub mod Asked
 pub mod Shown
+pub mod SelectedCells
+pub mod Becoming
 pub mod Cells
 pub mod Changed
 pub mod Given
@@ -14,6 +16,7 @@ pub mod DrawingSet
 pub mod Selected
 pub mod Performed
 pub mod BarsSet
+pub mod BarSettings
 pub mod Scrolled
 pub mod Relined
 pub mod LinesChanged

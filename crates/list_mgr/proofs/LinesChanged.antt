@@ -6,6 +6,7 @@ use Rattle.std.proofs.lemmas.Grind.{common_steps}
 use Rattle.std.proofs.lemmas.Int.{ints, clamps}
 use Rattle.tb_geom.specs.declared.refusal.Refusal.TheVariants.{NoSuchCell, OutOfRange, TooMany}
 use Rattle.tb_geom.specs.Refusals.{first_refusal}
+use Rattle.list_cells.specs.declared.click.SelectionFlags.{SelectionFlags}
 use Rattle.list_cells.specs.Contents.{Content, closed, in_rows, opened}
 use Rattle.list_cells.specs.Grids.{Grid, IsGrid, columns_added, columns_deleted, rows_added, rows_deleted}
 use Rattle.list_cells.specs.Runs.{add_refusals, count_to_delete, delete_refusals, fits, is_count, place_to_add}
@@ -19,7 +20,8 @@ use Rattle.list_mgr.specs.ListDesks.{KeptList}
 use Rattle.list_mgr.specs.ListSteps.{with_columns_fewer, with_columns_more, with_grid, with_rows_fewer, with_rows_more, with_scroll}
 use Rattle.list_mgr.specs.WholeLists.{IsSettledList}
 use Rattle.list_mgr.proofs.Cells.{number_in}
-use Rattle.list_mgr.proofs.Changed.{grid_stays}
+use Rattle.list_mgr.proofs.SelectedCells.{columns_added_selected, columns_deleted_selected, rows_added_selected, rows_deleted_selected}
+use Rattle.list_mgr.proofs.Becoming.{IsSettledBut, MayBecome, MayBecomeWider, grid_settles, grid_stays}
 
 -- ---- what is known of lines that may be added or deleted
 
@@ -81,27 +83,44 @@ in_rows_length width k change each (suc rows) cells len =
 
 -- ---- what holds between calls
 
-pub rows_added_grid : (g : Grid) (at : ℕ) (n : ℤ) → IsGrid g → MayAdd g.rows g.columns n → IsGrid (rows_added at (nat_abs n) g)
-rows_added_grid g at n is may =
-    rows_more g (rows_added at (nat_abs n) g) (nat_abs n) is may.lines_within may.cells_within refl refl
-    (opened_length (at * g.columns) (nat_abs n * g.columns) g.contents) (rows_added_held g at (nat_abs n))
+pub rows_added_grid : {flags : SelectionFlags} (g : Grid) (at : ℕ) (n : ℤ) → IsGrid g → MayAdd g.rows g.columns n → MayBecomeWider flags g (rows_added at (nat_abs n) g)
+rows_added_grid g at n is may = record {
+  cells = record {
+    grid = rows_more g (rows_added at (nat_abs n) g) (nat_abs n) is may.lines_within may.cells_within refl refl
+        (opened_length (at * g.columns) (nat_abs n * g.columns) g.contents) (rows_added_held g at (nat_abs n));
+    single = λ only few. let less = rows_added_selected g at (nat_abs n) in omega (arith, less, few);
+  };
+  columns = omega arith;
+  rows = omega arith;
+}
 
-pub columns_added_grid : (g : Grid) (at : ℕ) (n : ℤ) → IsGrid g → MayAdd g.columns g.rows n → IsGrid (columns_added at (nat_abs n) g)
+pub columns_added_grid : {flags : SelectionFlags} (g : Grid) (at : ℕ) (n : ℤ) → IsGrid g → MayAdd g.columns g.rows n → MayBecomeWider flags g (columns_added at (nat_abs n) g)
 columns_added_grid g at n is may =
     let len = in_rows_length g.columns (g.columns + nat_abs n) (opened at (nat_abs n)) (λ cells e. opened_length at (nat_abs n) cells ∙ ap (λ k. k + nat_abs n) e) g.rows g.contents is.shape in
-    columns_more g (columns_added at (nat_abs n) g) (nat_abs n) is may.lines_within may.cells_within refl refl (grind (arith, len, is.shape)) (columns_added_held g at (nat_abs n))
+    record {
+      cells = record {
+        grid = columns_more g (columns_added at (nat_abs n) g) (nat_abs n) is may.lines_within may.cells_within refl refl (grind (arith, len, is.shape)) (columns_added_held g at (nat_abs n));
+        single = λ only few. let less = columns_added_selected g at (nat_abs n) in omega (arith, less, few);
+      };
+      columns = omega arith;
+      rows = omega arith;
+    }
 
-pub rows_deleted_grid : (g : Grid) (n first : ℤ) → IsGrid g → MayDelete g.rows n first → IsGrid (rows_deleted (nat_abs first) (count_to_delete g.rows n first) g)
+pub rows_deleted_grid : {flags : SelectionFlags} (g : Grid) (n first : ℤ) → IsGrid g → MayDelete g.rows n first → MayBecome flags g (rows_deleted (nat_abs first) (count_to_delete g.rows n first) g)
 rows_deleted_grid g n first is may =
     let at = nat_abs first in
     let k = count_to_delete g.rows n first in
     let within = lines_within at k g.rows g.columns may.within in
-    rows_left g (rows_deleted at k g) k is (omega (arith, may.within)) refl refl (closed_length (at * g.columns) (k * g.columns) g.contents (omega (arith, within, is.shape))) (rows_deleted_held g at k)
+    record {
+      grid = rows_left g (rows_deleted at k g) k is (omega (arith, may.within)) refl refl (closed_length (at * g.columns) (k * g.columns) g.contents (omega (arith, within, is.shape))) (rows_deleted_held g at k);
+      single = λ only few. let less = rows_deleted_selected g at k in omega (arith, less, few);
+    }
 
 parted : (rows a b both : ℕ) → a + b ≡ both → rows * a + rows * b ≡ rows * both
 parted rows a b both e = let h : (a + b) * rows ≡ both * rows = ap (λ k. k * rows) e in grind arith
 
-pub columns_deleted_grid : (g : Grid) (n first : ℤ) → IsGrid g → MayDelete g.columns n first → IsGrid (columns_deleted (nat_abs first) (count_to_delete g.columns n first) g)
+pub columns_deleted_grid : {flags : SelectionFlags} (g : Grid) (n first : ℤ) → IsGrid g → MayDelete g.columns n first
+    → MayBecome flags g (columns_deleted (nat_abs first) (count_to_delete g.columns n first) g)
 columns_deleted_grid g n first is may =
     let at = nat_abs first in
     let k = count_to_delete g.columns n first in
@@ -109,7 +128,10 @@ columns_deleted_grid g n first is may =
     λ cells e. omega (arith, closed_length at k cells (omega (arith, may.within, e)), e) in
     let len = in_rows_length g.columns (g.columns - k) (closed at k) narrow g.rows g.contents is.shape in
     let split = parted g.rows (g.columns - k) k g.columns (omega (arith, may.within)) in
-    columns_left g (columns_deleted at k g) k is (omega (arith, may.within)) refl refl (omega (arith, len, is.shape, split)) (columns_deleted_held g at k)
+    record {
+      grid = columns_left g (columns_deleted at k g) k is (omega (arith, may.within)) refl refl (omega (arith, len, is.shape, split)) (columns_deleted_held g at k);
+      single = λ only few. let less = columns_deleted_selected g at k in omega (arith, less, few);
+    }
 
 -- ---- that the cells are others
 
@@ -135,8 +157,8 @@ line_scrolled a count first lines few = record {
   most = let m = scrolled_most a count first lines in omega (arith, ints, clamps);
 }
 
--- a list that was scrolled is settled still
-pub scroll_settles : (columns rows : ℤ) (x : KeptList) → IsSettledList x → IsSettledList (with_scroll columns rows x)
+-- a list that was scrolled is settled, however far it was before
+pub scroll_settles : (columns rows : ℤ) (x : KeptList) → IsSettledBut x → IsSettledList (with_scroll columns rows x)
 scroll_settles columns rows x its = record {
   live = its.live;
   told = its.told;
@@ -151,6 +173,11 @@ scroll_settles columns rows x its = record {
   };
   grid = its.grid;
   short = its.short;
+  scrolled = record {
+    across = scrolled_most x.view.across x.cells.columns x.view.first.column columns;
+    down = scrolled_most x.view.down x.cells.rows x.view.first.row rows;
+  };
+  single = its.single;
 }
 
 -- ---- lists that are changed so
@@ -168,9 +195,9 @@ columns_more_settles n at x may its =
 pub rows_fewer_settles : (n first : ℤ) (x : KeptList) → MayDelete x.cells.rows n first → IsSettledList x → IsSettledList (with_rows_fewer n first x)
 rows_fewer_settles n first x may its =
     let g = rows_deleted (nat_abs first) (count_to_delete x.cells.rows n first) in
-    scroll_settles (pos 0) (pos 0) (with_grid g x) (grid_stays g x its (rows_deleted_grid x.cells n first its.grid may))
+    scroll_settles (pos 0) (pos 0) (with_grid g x) (grid_settles g x its (rows_deleted_grid x.cells n first its.grid may))
 
 pub columns_fewer_settles : (n first : ℤ) (x : KeptList) → MayDelete x.cells.columns n first → IsSettledList x → IsSettledList (with_columns_fewer n first x)
 columns_fewer_settles n first x may its =
     let g = columns_deleted (nat_abs first) (count_to_delete x.cells.columns n first) in
-    scroll_settles (pos 0) (pos 0) (with_grid g x) (grid_stays g x its (columns_deleted_grid x.cells n first its.grid may))
+    scroll_settles (pos 0) (pos 0) (with_grid g x) (grid_settles g x its (columns_deleted_grid x.cells n first its.grid may))

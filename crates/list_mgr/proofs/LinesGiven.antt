@@ -19,8 +19,10 @@ use Rattle.list_mgr.specs.ListDesks.{KeptList}
 use Rattle.list_mgr.specs.ListSteps.{with_columns_fewer, with_columns_more, with_grid, with_rows_fewer, with_rows_more, with_scroll}
 use Rattle.list_mgr.specs.Spots.{IsSpotOf}
 use Rattle.list_mgr.specs.WholeLists.{records_of}
+use Rattle.list_mgr.specs.WholeLists.{IsSettledList}
+use Rattle.list_mgr.proofs.Becoming.{IsSettledBut, MayBecome, MayBecomeWider, settled_but}
 use Rattle.list_mgr.proofs.Changed.{grid_keeps}
-use Rattle.list_mgr.proofs.Edited.{edit_nothing}
+use Rattle.list_mgr.proofs.Edited.{Keeps, edit_nothing}
 use Rattle.list_mgr.proofs.Given as given
 use Rattle.list_mgr.proofs.LinesChanged as lines
 use Rattle.list_mgr.proofs.Relined.{IsChange}
@@ -40,8 +42,17 @@ scroll_agrees list_loan m s columns rows changes agree x there = subst (λ o. If
 module _ {V : Type 0} {H : V → Type 0} (loan : Taken V H → Loan) {X : Type 0} {L : X → Type 0} (list_loan : TakenList X L → ListLoan) where
   -- ---- scrolled
 
+  -- the list that stands here was changed so, which keeps its place and its drawing, and leaves it settled once it is scrolled back
+  record IsChangeBut (l : ListOf) (t : WindowManager V H) (m n : Lists (TakenList X L)) (s : Spot) (f : KeptList → KeptList) : Type 0 where
+    pub is : IsSpotOf loan list_loan l t m s
+    pub keeps : Keeps f
+    pub draws : (x : KeptList) → (f x).drawing ≡ x.drawing
+    pub edited : records_of list_loan n ≡ edit_at f s.list (records_of list_loan m)
+    pub next : n.list.next ≡ m.list.next
+    pub stays : (x : KeptList) → slice_get (records_of list_loan m) s.list ≡ Some x → IsSettledList x → IsSettledBut (f x)
+
   -- a changed list that was scrolled as well
-  then_scrolled : (l : ListOf) (t : WindowManager V H) (m n k : Lists (TakenList X L)) (s : Spot) (f : KeptList → KeptList) (columns rows : ℤ) → IsChange loan list_loan l t m n s f
+  then_scrolled : (l : ListOf) (t : WindowManager V H) (m n k : Lists (TakenList X L)) (s : Spot) (f : KeptList → KeptList) (columns rows : ℤ) → IsChangeBut l t m n s f
       → records_of list_loan k ≡ edit_at (with_scroll columns rows) s.list (records_of list_loan n) → k.list.next ≡ n.list.next
       → IsChange loan list_loan l t m k s (λ x. with_scroll columns rows (f x))
   then_scrolled l t m n k s f columns rows change scrolled next = record {
@@ -68,7 +79,7 @@ module _ {V : Type 0} {H : V → Type 0} (loan : Taken V H → Loan) {X : Type 0
         draws = λ x. refl;
         edited = sym (edit_nothing (λ x. x) s.list (records_of list_loan m) (λ x there. refl));
         next = refl;
-        stays = λ x there its. its;
+        stays = λ x there its. settled_but x its;
       })
 
   -- ---- given other cells
@@ -78,14 +89,24 @@ module _ {V : Type 0} {H : V → Type 0} (loan : Taken V H → Loan) {X : Type 0
     abbrev n : Lists (TakenList X L)
     n = given.with_cells_there loan list_loan l t m s is x read cells
 
-    given_change : (g : Grid → Grid) → cells ≡ g x.cells → (IsGrid x.cells → IsGrid (g x.cells)) → IsChange loan list_loan l t m n s (with_grid g)
+    given_change : (g : Grid → Grid) → cells ≡ g x.cells → (IsGrid x.cells → MayBecomeWider x.flags x.cells (g x.cells)) → IsChange loan list_loan l t m n s (with_grid g)
     given_change g now good = record {
       is = is;
       keeps = grid_keeps g;
       draws = λ y. refl;
-      edited = given.edited loan list_loan l t m s is x read g cells now good;
+      edited = given.edited loan list_loan l t m s is x read g cells now;
       next = refl;
       stays = given.stays loan list_loan l t m s is x read g cells now good;
+    }
+
+    given_but : (g : Grid → Grid) → cells ≡ g x.cells → (IsGrid x.cells → MayBecome x.flags x.cells (g x.cells)) → IsChangeBut l t m n s (with_grid g)
+    given_but g now good = record {
+      is = is;
+      keeps = grid_keeps g;
+      draws = λ y. refl;
+      edited = given.edited loan list_loan l t m s is x read g cells now;
+      next = refl;
+      stays = given.stays_but loan list_loan l t m s is x read g good;
     }
 
     -- more lines
@@ -120,7 +141,7 @@ module _ {V : Type 0} {H : V → Type 0} (loan : Taken V H → Loan) {X : Type 0
           → IsChange loan list_loan l t m k s (with_rows_fewer count first)
       rows_fewer_change now none =
           then_scrolled l t m n k s (with_grid (λ y. rows_deleted (nat_abs first) (count_to_delete y.rows count first) y)) (pos 0) (pos 0)
-          (given_change (λ y. rows_deleted (nat_abs first) (count_to_delete y.rows count first) y) now
+          (given_but (λ y. rows_deleted (nat_abs first) (count_to_delete y.rows count first) y) now
           (λ good. lines.rows_deleted_grid x.cells count first good (lines.may_delete x.cells.rows count first none)))
           scrolled next
 
@@ -128,7 +149,7 @@ module _ {V : Type 0} {H : V → Type 0} (loan : Taken V H → Loan) {X : Type 0
           → IsChange loan list_loan l t m k s (with_columns_fewer count first)
       columns_fewer_change now none =
           then_scrolled l t m n k s (with_grid (λ y. columns_deleted (nat_abs first) (count_to_delete y.columns count first) y)) (pos 0) (pos 0)
-          (given_change (λ y. columns_deleted (nat_abs first) (count_to_delete y.columns count first) y) now
+          (given_but (λ y. columns_deleted (nat_abs first) (count_to_delete y.columns count first) y) now
           (λ good. lines.columns_deleted_grid x.cells count first good (lines.may_delete x.cells.columns count first none)))
           scrolled next
 

@@ -1,5 +1,5 @@
 -- A list that is put behind the others as it was planned: what that leaves of windows and lists.
-use Rattle.std.proofs.Common.{◌≡◌, ℕ, true, false, not, ◌&&◌, List, [], ◌∷◌, ◌++◌, length, get_or, map, nat_abs, Option, Some, refl, sym, ap, ◌∙◌, subst, arith}
+use Rattle.std.proofs.Common.{◌≡◌, ℕ, ◌<◌, true, false, not, ◌&&◌, List, [], ◌∷◌, ◌++◌, length, get_or, map, nat_abs, Option, Some, refl, sym, ap, ◌∙◌, subst, arith}
 use Rattle.std.specs.Prelude.{is_none}
 use Rattle.std.specs.List.{insert}
 use Rattle.std.proofs.lemmas.List.Edits.{get_or-insert_at}
@@ -21,7 +21,7 @@ use Rattle.list_records.specs.declared.list_record.ListRecord.{ListRecord}
 use Rattle.list_records.specs.Lists.{are_before, lists_of, serial_after}
 use Rattle.list_records.specs.Seen.{all_seen, seen}
 use Rattle.list_records.proofs.LawLemmas.{no_others}
-use Rattle.list_records.proofs.SeenLemmas.{append-seen}
+use Rattle.list_records.proofs.SeenLemmas.{append-seen, count_of-seen}
 use Rattle.list_records.proofs.WindowLemmas.{lists_of-push}
 use Rattle.list_cells.specs.Grids.{Grid, empty_grid}
 use Rattle.desk_call.specs.declared.list.NewList.{NewList}
@@ -49,7 +49,7 @@ use Rattle.list_mgr.specs.declared.judging.ListTicket.{ListTicket}
 use Rattle.list_mgr.specs.declared.lists.Lists.{Lists}
 use Rattle.list_mgr.specs.declared.planning.Planned.{Planned}
 use Rattle.list_mgr.specs.ListDesks.{KeptList, ListSlot, lists_show}
-use Rattle.list_mgr.specs.ListRefusals.{view_of}
+use Rattle.list_mgr.specs.ListRefusals.{most_lists, view_of}
 use Rattle.list_mgr.specs.ListSteps.{AreListLayers, IsListPut, new_list}
 use Rattle.list_mgr.specs.Putting.{IsGoodList, IsReadyToPut, LeavesBeside}
 use Rattle.list_mgr.specs.WholeLists.{AreBeside, AreSettled, AreWholeLists, IsSettledList, lists_state, records_of}
@@ -153,7 +153,8 @@ module _ {V : Type 0} {H : V → Type 0} (loan : Taken V H → Loan) {X : Type 0
                 (λ i. (sym lists_are i, sym next_is i))
                 (whole_put one old n.kind layers (desk_of loan t []).windows (lists_state list_loan m before) left lists ready.place.serial
                 (no_others one (records_of list_loan m) (subst (λ x. are_before x (records_of list_loan m) ≡ true) ready.place.serial lists.given))
-                (new_settled n ready.place.good k.serial slot k.flags vertical horizontal old begun live) there took lists_laid)),
+                (new_settled n ready.place.good k.serial slot k.flags vertical horizontal old begun live) there
+                (subst (λ c. c < most_lists) (sym (count_of-seen list_loan n.window m.list.lists.items)) ready.place.few) took lists_laid)),
             record {
               flags = k.flags;
               sum = ready.place.flags;

@@ -29,18 +29,21 @@ use Rattle.window_mgr.specs.Relayered.{redrawn_change}
 use Rattle.window_mgr.proofs.Showing.{distinct_showing}
 use Rattle.control_mgr.specs.ControlDesks.{ControlRecord, ControlsState, index_of}
 use Rattle.control_mgr.specs.ControlSteps.{IsControlStep, IsSettingPutAt, IsShownAnew}
+use Rattle.control_mgr.specs.Settled.{IsSettledControl, MayHaveSetting}
 use Rattle.control_mgr.specs.Spots.{with_state}
 use Rattle.control_mgr.specs.WholeControls.{AreWholeControls}
 use Rattle.control_mgr.proofs.ControlBits.{bare, same_own}
 use Rattle.control_mgr.proofs.ControlFacts.{control_facts}
 use Rattle.control_mgr.proofs.ControlsKept.{control_behind, control_keeps}
+use Rattle.control_mgr.proofs.Edited.{All-there}
 use Rattle.control_mgr.proofs.SerialsFound as controls
 use Rattle.control_mgr.proofs.Sets.{state_of_control}
 use Rattle.control_mgr.proofs.Settled.{changed_alike, whole_put}
 use Rattle.list_mgr.specs.ListDesks.{KeptList, ListDesk, ListsState, list_of, lists_show, with_controls}
 use Rattle.list_mgr.specs.ListSteps.{AreBarsSet, IsBarGone, IsBarGoneIf, IsBarMade, IsBarSet, IsRelined, SameLists}
 use Rattle.list_mgr.specs.WholeLists.{AreWholeLists, IsSettledList}
-use Rattle.list_mgr.proofs.Edited.{Keeps}
+use Rattle.list_mgr.proofs.BarSettings.{bar_may}
+use Rattle.list_mgr.proofs.Edited.{Keeps, named_settled}
 use Rattle.list_mgr.proofs.ListsKept.{IsRightLists, changed_keeps, unchanged_keeps}
 use Rattle.list_mgr.proofs.ListsWhole.{same_whole, whole_behind}
 
@@ -58,7 +61,7 @@ module _ (before after : ListDesk) (was : IsRightLists before) where
 
   -- ---- a bar that was set
 
-  module _ (c : ControlOf) (setting : Setting) (done : IsShownAnew c (with_values setting) (with_controls before) (with_controls after)) (same : after.lists ≡ before.lists) where
+  module _ (c : ControlOf) (setting : Setting) (may : MayHaveSetting setting) (done : IsShownAnew c (with_values setting) (with_controls before) (with_controls after)) (same : after.lists ≡ before.lists) where
     abbrev d : FullDesk
     d = before.desk.windows.desk
 
@@ -86,7 +89,7 @@ module _ (before after : ListDesk) (was : IsRightLists before) where
     controls_are : AreWholeControls e.windows after.controls
     controls_are =
         subst (λ (x : List WindowRecord × ControlsState). AreWholeControls x.0 x.1) (λ i. (sym windows_are i, sym done.changed.state i))
-        (whole_put (state_of_control bar) done.changed.at d.windows before.controls done.changed.controls was.desk.whole
+        (whole_put (state_of_control bar) (record { setting = may; highlight = (All-there IsSettledControl done.changed.at before.controls.controls control done.changed.changed.there was.desk.whole.settled).highlight }) done.changed.at d.windows before.controls done.changed.controls was.desk.whole
         (changed_alike (with_values setting) (with_state (state_of_control bar)) done.changed.at before.controls.controls done.changed.controls agrees done.changed.changed))
 
     distinct : IsDesk (layered_desk e)
@@ -124,9 +127,9 @@ module _ (before after : ListDesk) (was : IsRightLists before) where
 
   -- ---- each bar
 
-  put_at_keeps : (o : Option ℕ) (c : ControlOf) (setting : Setting) → IsSettingPutAt o c setting (with_controls before) (with_controls after)
+  put_at_keeps : (o : Option ℕ) (c : ControlOf) (setting : Setting) → MayHaveSetting setting → IsSettingPutAt o c setting (with_controls before) (with_controls after)
       → SameActivity before.desk after.desk → SameLists before after → IsRightLists after
-  put_at_keeps None c setting same activity lists =
+  put_at_keeps None c setting may same activity lists =
       unchanged_keeps before after was (record {
         desk = record {
           windows = record {
@@ -140,13 +143,13 @@ module _ (before after : ListDesk) (was : IsRightLists before) where
         controls = same.controls;
         lists = lists;
       })
-  put_at_keeps (Some at) c setting done activity lists = set_keeps c setting done lists
+  put_at_keeps (Some at) c setting may done activity lists = set_keeps c setting may done lists
 
   -- a bar got a setting, where the window has it still
-  pub bar_set_keeps : (window : ℕ) (o : Option ℕ) (setting : Setting) → IsBarSet window o setting before after → IsRightLists after
-  bar_set_keeps window None setting same = unchanged_keeps before after was same
-  bar_set_keeps window (Some n) setting done =
-      put_at_keeps (index_of (record { window = window; control = n }) before.controls.controls) (record { window = window; control = n }) setting done.0 done.1 done.2
+  pub bar_set_keeps : (window : ℕ) (o : Option ℕ) (setting : Setting) → MayHaveSetting setting → IsBarSet window o setting before after → IsRightLists after
+  bar_set_keeps window None setting may same = unchanged_keeps before after was same
+  bar_set_keeps window (Some n) setting may done =
+      put_at_keeps (index_of (record { window = window; control = n }) before.controls.controls) (record { window = window; control = n }) setting may done.0 done.1 done.2
 
   gone_if_keeps : (b : Bool) (c : ControlOf) → IsBarGoneIf b c before after → IsRightLists after
   gone_if_keeps true c same = unchanged_keeps before after was same
@@ -162,6 +165,11 @@ module _ (before after : ListDesk) (was : IsRightLists before) where
   bar_made_keeps false n serial done = unchanged_keeps before after was done.1
   bar_made_keeps true n serial done = step_keeps (control_calls.New n) (Ok (control_reply.Made done.0.0)) done.0.2 done.1
 
+  -- a control that is made leaves the lists
+  pub bar_made_lists : (wanted : Bool) (n : NewControl) (serial : Option ℕ) → IsBarMade wanted n serial before after → after.lists ≡ before.lists
+  bar_made_lists false n serial done = done.1.lists
+  bar_made_lists true n serial done = done.1
+
   -- the windows that are missing are so before and after
   pub bar_made_missing : (wanted : Bool) (n : NewControl) (serial : Option ℕ) → IsBarMade wanted n serial before after → (s : ℕ)
       → is_missing s after.desk.windows.desk.windows ≡ is_missing s before.desk.windows.desk.windows
@@ -173,7 +181,10 @@ module _ (before after : ListDesk) (was : IsRightLists before) where
 -- the bars of a list were set as its view is
 pub bars_set_keep : (l : ListOf) (before after : ListDesk) → IsRightLists before → AreBarsSet l before after → IsRightLists after
 bars_set_keep l before after was (x, named, bars) =
-    bar_set_keeps bars.0 after (bar_set_keeps before bars.0 was l.window x.vertical (vertical_setting x.cells.rows x.view) bars.1) l.window x.horizontal (horizontal_setting x.cells.columns x.view) bars.2
+    let its = named_settled l before.lists.lists x was.lists.settled named in
+    bar_set_keeps bars.0 after
+    (bar_set_keeps before bars.0 was l.window x.vertical (vertical_setting x.cells.rows x.view) (bar_may x.view.down x.cells.rows x.view.first.row its.grid.rows_within) bars.1)
+    l.window x.horizontal (horizontal_setting x.cells.columns x.view) (bar_may x.view.across x.cells.columns x.view.first.column its.grid.columns_within) bars.2
 
 -- a list was changed so, and its bars were set
 pub relined_keeps : (l : ListOf) (f : KeptList → KeptList) → Keeps f → (before after : ListDesk) → IsRightLists before

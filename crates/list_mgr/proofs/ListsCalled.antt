@@ -1,7 +1,5 @@
 -- What holds of a desk with lists between calls holds after any call about lists.
-use Rattle.std.proofs.Common.{◌≡◌, ℕ, not, List, [], Option, None, Some, Result, Ok, Err, refl, sym, ap, ◌∙◌}
-use Rattle.std.specs.Prelude.{slice_get}
-use Rattle.std.specs.Option.{option_and_then}
+use Rattle.std.proofs.Common.{◌≡◌, not, [], None, Some, Result, Ok, Err}
 use Rattle.std.proofs.lemmas.Bool.{not-false}
 use Rattle.tb_geom.specs.declared.refusal.Refusal.{Refusal}
 use Rattle.tb_geom.specs.declared.refusal.Refusal.TheVariants.{NoSuchCell}
@@ -13,27 +11,18 @@ use Rattle.desk_call.specs.declared.list.ListCall.TheVariants.{New, AddRows, Add
 use Rattle.desk_call.specs.declared.list.ListOf.{ListOf}
 use Rattle.desk_call.specs.declared.list.ListReply.{ListReply}
 use Rattle.control_mgr.proofs.Steps.{none_hold}
-use Rattle.list_mgr.specs.ListDesks.{KeptList, ListDesk, index_of, list_of}
+use Rattle.list_mgr.specs.ListDesks.{KeptList, ListDesk, list_of}
 use Rattle.list_mgr.specs.ListRefusals.{list_refusals}
 use Rattle.list_mgr.specs.ListSteps.{IsListStep}
-use Rattle.list_mgr.specs.WholeLists.{AreSettled, IsSettledList}
-use Rattle.list_mgr.proofs.Drawn.{All-there}
+use Rattle.list_mgr.specs.WholeLists.{IsSettledList}
+use Rattle.list_mgr.proofs.Becoming.{settled_but}
+use Rattle.list_mgr.proofs.Edited.{named_settled}
 use Rattle.list_mgr.proofs.LinesChanged.{scroll_settles}
 use Rattle.list_mgr.proofs.ListsFollowed.{MaySettle, effect_keeps}
 use Rattle.list_mgr.proofs.ListsKept.{IsRightLists, unchanged_keeps}
 use Rattle.list_mgr.proofs.ListsSelected.{choice_selects, click_selects}
 use Rattle.list_mgr.proofs.ListsSettled.{added_settles, cleared_settles, columns_added_settle, columns_deleted_settle, reasons_of, rows_added_settle, rows_deleted_settle, set_settles}
 use Rattle.list_mgr.proofs.NewLists.{new_settles}
-
--- a list that is named is settled where all are
-named_settled : (l : ListOf) (ls : List KeptList) (x : KeptList) → AreSettled ls → list_of l ls ≡ Some x → IsSettledList x
-named_settled l ls x settled named = by_place (index_of l ls) refl
-  where
-    by_place : (o : Option ℕ) → index_of l ls ≡ o → IsSettledList x
-    by_place None e = let none : list_of l ls ≡ None = ap (option_and_then (slice_get ls)) e in absurd (cc)
-    by_place (Some at) e =
-        let there : slice_get ls at ≡ Some x = sym (ap (option_and_then (slice_get ls)) e) ∙ named in
-        All-there IsSettledList at ls x there settled
 
 module _ (before after : ListDesk) (was : IsRightLists before) where
   settled : (l : ListOf) (x : KeptList) → list_of l before.lists.lists ≡ Some x → IsSettledList x
@@ -56,7 +45,7 @@ module _ (before after : ListDesk) (was : IsRightLists before) where
   settles (Click k) may = λ c x named found.
       let its = settled k.list x named in
       click_selects x.cells c its.grid (found_is_cell x.view x.cells c k.point its.view found) x.flags _
-  settles (Scroll m) may = λ x named its. scroll_settles m.columns m.rows x its
+  settles (Scroll m) may = λ x named its. scroll_settles m.columns m.rows x (settled_but x its)
   settles call may = tt
 
   -- a call about lists keeps it

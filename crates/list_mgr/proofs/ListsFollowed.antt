@@ -1,5 +1,5 @@
 -- What holds of a desk with lists between calls holds after a call about lists that leaves its list settled.
-use Rattle.std.proofs.Common.{◌≡◌, ℕ, ℤ, false, [], Option, None, Some, refl, ap, subst}
+use Rattle.std.proofs.Common.{◌≡◌, ◌<◌, ◌≤◌, ℕ, ℤ, true, false, [], Option, None, Some, refl, ap, subst}
 use Rattle.std.specs.Prelude.{nat_abs}
 use Rattle.list_cells.specs.declared.cell.Cell.{Cell}
 use Rattle.list_cells.specs.declared.selecting.Selecting.{Selecting}
@@ -7,7 +7,7 @@ use Rattle.list_cells.specs.Blocks.{clicked_cell}
 use Rattle.list_cells.specs.Clicks.{keys_of}
 use Rattle.list_cells.specs.Grids.{Grid, with_bytes}
 use Rattle.list_cells.specs.Selections.{IsSelecting, chosen_cell}
-use Rattle.list_records.specs.Lists.{with_cells}
+use Rattle.list_records.specs.Lists.{count_of, with_cells}
 use Rattle.desk_call.specs.declared.list.ListCall.{ListCall}
 use Rattle.desk_call.specs.declared.list.ListCall.TheVariants.{New, Dispose, AddRows, AddColumns, DeleteRows, DeleteColumns, SetCell, AddToCell, ClearCell, GetCell, Select, IsSelected, FirstSelected, NextCell, Search, Click, Scroll, SetDrawing}
 use Rattle.desk_call.specs.declared.list.ListClick.{ListClick}
@@ -16,14 +16,17 @@ use Rattle.desk_call.specs.declared.list.ListReply.{ListReply}
 use Rattle.desk_call.specs.declared.list.NewList.{NewList}
 use Rattle.window_mgr.specs.Refused.{is_missing}
 use Rattle.list_mgr.specs.ListDesks.{KeptList, ListDesk, list_of}
+use Rattle.list_mgr.specs.ListRefusals.{most_lists}
 use Rattle.list_mgr.specs.ListSteps.{IsClickOn, IsListEffect, IsListPut, appended, clicked_at, new_list, with_columns_fewer, with_columns_more, with_grid, with_rows_fewer, with_rows_more, with_scroll}
-use Rattle.list_mgr.specs.WholeLists.{IsSettledList}
-use Rattle.list_mgr.proofs.Changed.{grid_keeps, grid_stays}
+use Rattle.list_mgr.specs.WholeLists.{IsSettledList, count_selected}
+use Rattle.list_mgr.proofs.Becoming.{grid_stays}
+use Rattle.list_mgr.proofs.Changed.{grid_keeps}
 use Rattle.list_mgr.proofs.Edited.{Keeps}
 use Rattle.list_mgr.proofs.ListsBars.{relined_keeps}
 use Rattle.list_mgr.proofs.ListsKept.{IsRightLists, changed_keeps, toggled_or_not_keeps, unchanged_keeps}
 use Rattle.list_mgr.proofs.ListsMade.{disposed_keeps, drawing_keeps, made_keeps}
-use Rattle.list_mgr.proofs.Selected.{selecting_grid}
+use Rattle.list_mgr.proofs.Selected.{selecting_wider}
+use Rattle.list_mgr.proofs.SelectedCells.{chosen_single, clicked_single}
 
 -- ---- changes that keep a list's place
 
@@ -69,9 +72,13 @@ scroll_keep columns rows = record {
 
 -- ---- selections
 
+-- with lOnlyOne no two cells are selected after the change where no two were before it
+abbrev StaysSingle : (Grid → Grid) → KeptList → Type 0
+StaysSingle g x = x.flags.only_one ≡ true → count_selected x.cells ≤ 1 → count_selected (g x.cells) ≤ 1
+
 -- a list whose cells differ in their selection alone is as good
-settled_selected : (x : KeptList) (after : Grid) (s : Selecting) → IsSelecting x.cells after s → IsSettledList x → IsSettledList (with_cells after x)
-settled_selected x after s h its = grid_stays (λ g. after) x its (selecting_grid x.cells after s h its.grid)
+settled_selected : (x : KeptList) (g : Grid → Grid) (s : Selecting) → IsSelecting x.cells (g x.cells) s → StaysSingle g x → IsSettledList x → IsSettledList (with_cells (g x.cells) x)
+settled_selected x g s h single its = grid_stays g x its (selecting_wider x.flags x.cells (g x.cells) s h single its.grid)
 
 -- ---- what is left to say of each call
 
@@ -83,9 +90,10 @@ StaysSettled l f d = (x : KeptList) → list_of l d.lists.lists ≡ Some x → I
 abbrev pub SelectsAt : ListOf → (KeptList → Grid → Grid) → ListDesk → Type 0
 SelectsAt l g d = (x : KeptList) → list_of l d.lists.lists ≡ Some x → (s : Selecting) × IsSelecting x.cells (g x x.cells) s
 
--- a list that is put is settled, and its window is there
+-- a list that is put is settled, and its window is there and has room for it
 pub record IsPutSettled (n : NewList) (d after : ListDesk) : Type 0 where
   pub there : is_missing n.window d.desk.windows.desk.windows ≡ false
+  pub room : count_of n.window d.lists.lists < most_lists
   pub settled : (serial : ℕ) (vertical horizontal : Option ℕ) (mid : ListDesk) (put : IsListPut n serial vertical horizontal mid after)
       → IsSettledList (new_list n serial put.flags vertical horizontal (record { definition = put.begun; slot = put.loan.slot }))
 
@@ -111,21 +119,21 @@ module _ (before after : ListDesk) (was : IsRightLists before) where
   one_named l x y e f = cc
 
   -- a change that selects leaves the list settled
-  stays_selected : (l : ListOf) (g : Grid → Grid) (x : KeptList) → list_of l before.lists.lists ≡ Some x → (s : Selecting) → IsSelecting x.cells (g x.cells) s
+  stays_selected : (l : ListOf) (g : Grid → Grid) (x : KeptList) → list_of l before.lists.lists ≡ Some x → (s : Selecting) → IsSelecting x.cells (g x.cells) s → StaysSingle g x
       → (y : KeptList) → list_of l before.lists.lists ≡ Some y → IsSettledList y → IsSettledList (with_cells (g y.cells) y)
-  stays_selected l g x named s selecting y other =
-      subst (λ (z : KeptList). IsSettledList z → IsSettledList (with_cells (g z.cells) z)) (one_named l x y named other) (settled_selected x (g x.cells) s selecting)
+  stays_selected l g x named s selecting single y other =
+      subst (λ (z : KeptList). IsSettledList z → IsSettledList (with_cells (g z.cells) z)) (one_named l x y named other) (settled_selected x g s selecting single)
 
   clicked_keeps : (k : ListClick) (o : Option Cell) (answer : ListReply) → ((x : KeptList) → list_of k.list before.lists.lists ≡ Some x → clicked_at k x ≡ o) → MaySettle (Click k) before after → IsClickOn k o answer before after → IsRightLists after
   clicked_keeps k None answer found may done = unchanged_keeps before after was done.1
   clicked_keeps k (Some c) answer found may (is, (x, named, done)) =
       let selects = may c x named (found x named) in
       toggled_or_not_keeps before after was k.list (clicked_cell x.flags (keys_of (nat_abs k.modifiers)) c) x named selects
-      (stays_selected k.list (clicked_cell x.flags (keys_of (nat_abs k.modifiers)) c) x named selects.0 selects.1) x.drawing done
+      (stays_selected k.list (clicked_cell x.flags (keys_of (nat_abs k.modifiers)) c) x named selects.0 selects.1 (λ only few. clicked_single x.flags (keys_of (nat_abs k.modifiers)) c x.cells only)) x.drawing done
 
   -- what a call leaves keeps it, where it leaves its list settled
   pub effect_keeps : (call : ListCall) (answer : ListReply) → MaySettle call before after → IsListEffect call answer before after → IsRightLists after
-  effect_keeps (New n) answer may (serial, is, made) = made_keeps n serial before after was may.there (may.settled serial) made
+  effect_keeps (New n) answer may (serial, is, made) = made_keeps n serial before after was may.there may.room (may.settled serial) made
   effect_keeps (Dispose l) answer may done = disposed_keeps l before after was done.1
   effect_keeps (AddRows n) answer may done = relined_keeps n.list (with_rows_more n.count n.at) (rows_more_keep n.count n.at) before after was may done.1
   effect_keeps (AddColumns n) answer may done = relined_keeps n.list (with_columns_more n.count n.at) (columns_more_keep n.count n.at) before after was may done.1
@@ -138,7 +146,7 @@ module _ (before after : ListDesk) (was : IsRightLists before) where
   effect_keeps (Select k) answer may (is, (x, named, done)) =
       let selects = may x named in
       toggled_or_not_keeps before after was k.cell.list (chosen_cell k.cell.cell k.selected x.flags.only_one) x named selects
-      (stays_selected k.cell.list (chosen_cell k.cell.cell k.selected x.flags.only_one) x named selects.0 selects.1) x.drawing done
+      (stays_selected k.cell.list (chosen_cell k.cell.cell k.selected x.flags.only_one) x named selects.0 selects.1 (chosen_single x.flags.only_one x.cells k.cell.cell k.selected)) x.drawing done
   effect_keeps (IsSelected c) answer may done = unchanged_keeps before after was done.1
   effect_keeps (FirstSelected c) answer may done = unchanged_keeps before after was done.1
   effect_keeps (NextCell n) answer may done = unchanged_keeps before after was done.1

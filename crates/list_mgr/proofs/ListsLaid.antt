@@ -1,7 +1,7 @@
 -- What holds of a desk with lists between calls holds where a list is put behind the others or taken out.
-use Rattle.std.proofs.Common.{◌≡◌, ℕ, true, false, List, map, Option, Some, None, refl, sym, ap, ◌∙◌, subst}
+use Rattle.std.proofs.Common.{◌≡◌, ℕ, ◌<◌, true, false, List, map, Option, Some, None, refl, sym, ap, ◌∙◌, subst}
 use Rattle.std.specs.List.{remove}
-use Rattle.list_records.specs.Lists.{are_before, lists_of}
+use Rattle.list_records.specs.Lists.{are_before, count_of, lists_of}
 use Rattle.list_records.proofs.LawLemmas.{no_others}
 use Rattle.list_records.proofs.WindowLemmas.{found_in}
 use Rattle.control_list.specs.Lists.{controls_of}
@@ -21,6 +21,7 @@ use Rattle.control_mgr.specs.WholeControls.{AreWholeControls}
 use Rattle.control_mgr.proofs.ControlBits.{bare, bare_laid}
 use Rattle.control_mgr.proofs.Settled.{joined_laid, somewhere_laid}
 use Rattle.list_mgr.specs.ListDesks.{KeptList, ListDesk, ListsState}
+use Rattle.list_mgr.specs.ListRefusals.{most_lists}
 use Rattle.list_mgr.specs.ListSteps.{AreLaid, AreListLayers, IsListGone, IsListPut, new_list}
 use Rattle.list_mgr.specs.WholeLists.{AreWholeLists, IsSettledList}
 use Rattle.list_mgr.proofs.ListsApart.{distinct_windows}
@@ -36,6 +37,7 @@ controls_laid s ks ws state whole its = record {
   apart = whole.apart;
   given = whole.given;
   somewhere = somewhere_laid s ks ws state.controls whole.somewhere;
+  few = whole.few;
   joined = joined_laid s ks state.controls state.controls ws its (λ t away. refl) whole.joined;
   stocked = whole.stocked;
 }
@@ -63,8 +65,9 @@ module _ (before after : ListDesk) (was : IsRightLists before) where
 
   -- a list was put behind the others
   pub put_keeps : (n : NewList) (serial : ℕ) (vertical horizontal : Option ℕ) (put : IsListPut n serial vertical horizontal before after)
-      → IsSettledList (new_list n serial put.flags vertical horizontal (record { definition = put.begun; slot = put.loan.slot })) → is_missing n.window d.windows ≡ false → IsRightLists after
-  put_keeps n serial vertical horizontal put settled there = record {
+      → IsSettledList (new_list n serial put.flags vertical horizontal (record { definition = put.begun; slot = put.loan.slot })) → is_missing n.window d.windows ≡ false
+      → count_of n.window before.lists.lists < most_lists → IsRightLists after
+  put_keeps n serial vertical horizontal put settled there room = record {
     desk = record {
       right = laid_right before after was.desk.right was.desk.shows put.laid.shows put.beside.controls was.desk.whole.joined controls.joined n.window put.laid.layers (Some (part.List serial)) (distinct_are n.window (Some (part.List serial)) put.laid put.beside.controls lists)
           (lists_pushed d e (is_part_afresh n.window (Some (part.List serial))) before.lists.lists after.lists.lists one put.lists was.lists.joined lists.joined) put.laid.set;
@@ -86,7 +89,7 @@ module _ (before after : ListDesk) (was : IsRightLists before) where
           (λ i. (sym (windows_are n.window (Some (part.List serial)) put.laid put.beside.controls) i, record { lists = sym put.lists i; next = sym put.next i; stock = after.lists.stock }))
           (whole_put one put.loan.definition n.kind put.laid.layers d.windows before.lists after.lists.stock was.lists put.serials
           (no_others one before.lists.lists (subst (λ o. are_before o before.lists.lists ≡ true) put.serials was.lists.given))
-          settled there put.taken (subst (λ xs. AreListLayers (lists_of n.window xs) put.laid.layers) put.lists put.laid.lists))
+          settled there room put.taken (subst (λ xs. AreListLayers (lists_of n.window xs) put.laid.layers) put.lists put.laid.lists))
 
   -- a list was taken out
   pub gone_keeps : (l : ListOf) (x : KeptList) → IsListGone l x before after → IsRightLists after

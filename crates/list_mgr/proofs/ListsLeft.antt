@@ -1,11 +1,12 @@
 -- What is right and whole stays so where the lists of a window that is no more are taken out.
-use Rattle.std.proofs.Common.{◌≡◌, ℕ, Bool, true, false, ◌==◌, cond, List, [], ◌∷◌, refl, sym, ap, ◌∙◌, subst, arith, eqb-true}
+use Rattle.std.proofs.Common.{◌≡◌, ℕ, ◌≤◌, Bool, true, false, ◌==◌, cond, List, [], ◌∷◌, length, refl, sym, ap, ◌∙◌, subst, arith, eqb-true}
 use Rattle.std.specs.Prelude.{All}
 use Rattle.std.specs.List.{list_any}
 use Rattle.std.proofs.lemmas.Bool.{false≢true}
 use Rattle.std.proofs.lemmas.Bool.Decides.{nat_tests}
 use Rattle.std.proofs.lemmas.List.Elements.{All-cons, All-nil}
-use Rattle.list_records.specs.Lists.{are_before, has_serial, is_before, is_in, lists_of}
+use Rattle.list_records.specs.Lists.{are_before, count_of, has_serial, is_before, is_in, lists_of}
+use Rattle.list_records.proofs.WindowLemmas.{count_of-length}
 use Rattle.vis_update.specs.Records.{WindowRecord}
 use Rattle.window_mgr.specs.FullDesk.{FullState, IsRightState}
 use Rattle.window_mgr.specs.Records.{desk_showing, state_showing}
@@ -17,6 +18,7 @@ use Rattle.control_mgr.proofs.ControlsFollowed.{all_tests, all_within, both_all,
 use Rattle.control_mgr.proofs.Settled.{AreJoined}
 use Rattle.list_mgr.specs.ListClosing.{AreListsOfLeft}
 use Rattle.list_mgr.specs.ListDesks.{KeptList, ListsState, lists_show, with_serial}
+use Rattle.list_mgr.specs.ListRefusals.{most_lists}
 use Rattle.list_mgr.specs.ListSteps.{AreListLayers}
 use Rattle.list_mgr.specs.WholeLists.{AreApart, AreSettled, AreWholeLists, IsSettledList}
 use Rattle.list_mgr.proofs.ListsFound.{StaySame, with_among}
@@ -61,13 +63,26 @@ module _ (window : ℕ) (before after : ListsState) (left : AreListsOfLeft windo
       ∙ test_all (λ l. is_before before.next l.serial) after.lists
       (all_within (λ l. is_before before.next l.serial ≡ true) before.lists after.lists left.within (all_tests (λ l. is_before before.next l.serial) before.lists given))
 
+  -- no window has more lists then
+  few_left : ((t : ℕ) → count_of t before.lists ≤ most_lists) → (t : ℕ) → count_of t after.lists ≤ most_lists
+  few_left few t = by_test (window == t) refl
+    where
+      by_test : (b : Bool) → (window == t) ≡ b → count_of t after.lists ≤ most_lists
+      by_test true e =
+          let none : count_of t after.lists ≡ 0 = count_of-length t after.lists ∙ ap length (ap (λ k. lists_of k after.lists) (sym (eqb-true window t e)) ∙ left.gone) in
+          omega (arith, none)
+      by_test false e =
+          let same : count_of t after.lists ≡ count_of t before.lists = count_of-length t after.lists ∙ ap length (left.others t (differ window t e)) ∙ sym (count_of-length t before.lists) in
+          subst (λ n. n ≤ most_lists) (sym same) (few t)
+
   -- the lists of a window that is no more were taken out: those that stay are whole
-  pub whole_left : (ws : List WindowRecord) → AreSettled before.lists → AreApart before.lists → are_before before.next before.lists ≡ true → AreListsJoined before.lists ws
+  pub whole_left : (ws : List WindowRecord) → AreSettled before.lists → AreApart before.lists → are_before before.next before.lists ≡ true → ((t : ℕ) → count_of t before.lists ≤ most_lists) → AreListsJoined before.lists ws
       → All (λ l. is_in window l ≡ false → is_missing l.window ws ≡ false) before.lists → is_missing window ws ≡ true → AreWholeLists ws after
-  whole_left ws settled apart given joined there missing = record {
+  whole_left ws settled apart given few joined there missing = record {
     settled = all_within IsSettledList before.lists after.lists left.within settled;
     apart = left.apart apart;
     given = given_left given;
+    few = few_left few;
     somewhere = both_all (λ l. is_in window l ≡ false) (λ l. is_in window l ≡ false → is_missing l.window ws ≡ false) (λ l. is_missing l.window ws ≡ false) (λ l e its. its e)
         after.lists (all_elsewhere window after.lists left.gone)
         (all_within (λ l. is_in window l ≡ false → is_missing l.window ws ≡ false) before.lists after.lists left.within there);

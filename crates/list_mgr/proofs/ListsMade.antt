@@ -1,8 +1,8 @@
 -- What holds of a desk with lists between calls holds where a list is made or disposed of with its scroll bars, and where its
 -- drawing is turned on or off.
-use Rattle.std.proofs.Common.{◌≡◌, ℕ, zero, suc, Bool, true, false, ◌==◌, cond, List, [], ◌∷◌, Option, Some, refl, sym, ap, ◌∙◌, subst}
+use Rattle.std.proofs.Common.{◌≡◌, ℕ, ◌<◌, zero, suc, Bool, true, false, ◌==◌, cond, List, [], ◌∷◌, Option, Some, refl, sym, ap, ◌∙◌, subst}
 use Rattle.tb_geom.specs.declared.point.Point.{Point}
-use Rattle.list_records.specs.Lists.{edit_at, has_serial, with_drawing}
+use Rattle.list_records.specs.Lists.{count_of, edit_at, has_serial, with_drawing}
 use Rattle.def_iface.specs.declared.part.Part.{Part}
 use Rattle.def_iface.specs.declared.part.Part.TheVariants as part
 use Rattle.desk_call.specs.declared.list.ListOf.{ListOf}
@@ -13,10 +13,11 @@ use Rattle.window_mgr.specs.Refused.{is_missing}
 use Rattle.window_mgr.proofs.Running.{unchanged_stays_right}
 use Rattle.control_mgr.specs.ControlDesks.{ControlsState, controls_show}
 use Rattle.list_mgr.specs.ListDesks.{KeptList, ListDesk, ListsState, list_bit, lists_show, with_serial}
+use Rattle.list_mgr.specs.ListRefusals.{most_lists}
 use Rattle.list_mgr.specs.ListSteps.{IsChangedTo, IsListDisposed, IsListMade, IsListPut, horizontal_bar_of, new_list, vertical_bar_of}
 use Rattle.list_mgr.specs.WholeLists.{IsSettledList}
 use Rattle.list_mgr.proofs.Edited.{Keeps}
-use Rattle.list_mgr.proofs.ListsBars.{bar_gone_keeps, bar_made_keeps, bar_made_missing}
+use Rattle.list_mgr.proofs.ListsBars.{bar_gone_keeps, bar_made_keeps, bar_made_lists, bar_made_missing}
 use Rattle.list_mgr.proofs.ListsFound.{with_first}
 use Rattle.list_mgr.proofs.ListsKept.{IsRightLists, controls_same}
 use Rattle.list_mgr.proofs.ListsLaid.{gone_keeps, put_keeps}
@@ -65,7 +66,7 @@ drawing_keeps_place on = record {
 }
 
 drawing_stays : (on : Bool) (x : KeptList) → IsSettledList x → IsSettledList (with_drawing on x)
-drawing_stays on x its = record { live = its.live; told = its.told; goes_by = its.goes_by; view = its.view; grid = its.grid; short = its.short }
+drawing_stays on x its = record { live = its.live; told = its.told; goes_by = its.goes_by; view = its.view; grid = its.grid; short = its.short; scrolled = its.scrolled; single = its.single }
 
 -- the drawing of a list was turned on or off
 pub drawing_keeps : (l : ListOf) (on : Bool) (before after : ListDesk) → IsRightLists before → IsChangedTo l (with_drawing on) before after → IsDeskUnchanged before.desk after.desk → IsRightLists after
@@ -89,14 +90,17 @@ drawing_keeps l on before after was changed same = record {
 
 -- a list was made, where the one that is put is settled
 pub made_keeps : (n : NewList) (serial : ℕ) (before after : ListDesk) → IsRightLists before → is_missing n.window before.desk.windows.desk.windows ≡ false
+    → count_of n.window before.lists.lists < most_lists
     → ((vertical horizontal : Option ℕ) (mid : ListDesk) (put : IsListPut n serial vertical horizontal mid after)
     → IsSettledList (new_list n serial put.flags vertical horizontal (record { definition = put.begun; slot = put.loan.slot })))
     → IsListMade n serial before after → IsRightLists after
-made_keeps n serial before after was there settled (first, mid, vertical, horizontal, bar, other, put) =
+made_keeps n serial before after was there room settled (first, mid, vertical, horizontal, bar, other, put) =
     let with_one = bar_made_keeps before first was n.vertical_bar (vertical_bar_of n) vertical bar in
     let with_both = bar_made_keeps first mid with_one n.horizontal_bar (horizontal_bar_of n) horizontal other in
     put_keeps mid after with_both n serial vertical horizontal put (settled vertical horizontal mid put)
     (bar_made_missing first mid with_one n.horizontal_bar (horizontal_bar_of n) horizontal other n.window ∙ bar_made_missing before first was n.vertical_bar (vertical_bar_of n) vertical bar n.window ∙ there)
+    (subst (λ (s : ListsState). count_of n.window s.lists < most_lists)
+    (sym (bar_made_lists first mid with_one n.horizontal_bar (horizontal_bar_of n) horizontal other ∙ bar_made_lists before first was n.vertical_bar (vertical_bar_of n) vertical bar)) room)
 
 -- a list was disposed of
 pub disposed_keeps : (l : ListOf) (before after : ListDesk) → IsRightLists before → IsListDisposed l before after → IsRightLists after

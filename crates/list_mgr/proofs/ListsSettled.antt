@@ -25,7 +25,7 @@ use Rattle.list_mgr.specs.ListDesks.{KeptList, ListDesk, index_of, list_of}
 use Rattle.list_mgr.specs.ListRefusals.{bars_wanted, have_room, horizontal_offer, is_sum_of_flags, judged_refusals, lacks_definition, lacks_kind, list_reasons, list_refusals, may_bar_be_in, may_view_be_in, most_lists, of_list, vertical_offer, view_of}
 use Rattle.list_mgr.specs.ListSteps.{appended, with_columns_fewer, with_columns_more, with_grid, with_rows_fewer, with_rows_more}
 use Rattle.list_mgr.proofs.Cells.{added_grid, cleared_grid, set_grid}
-use Rattle.list_mgr.proofs.Changed.{grid_stays}
+use Rattle.list_mgr.proofs.Becoming.{grid_stays}
 use Rattle.list_mgr.proofs.LinesChanged.{columns_fewer_settles, columns_more_settles, may_add, may_delete, rows_fewer_settles, rows_more_settles}
 use Rattle.list_mgr.proofs.ListsFollowed.{StaysSettled}
 

@@ -1,5 +1,5 @@
 -- Lists that are whole are whole where one of them is changed, put in or taken out, and where controls are called.
-use Rattle.std.proofs.Common.{◌≡◌, ℕ, zero, suc, Bool, true, false, ◌||◌, ◌==◌, cond, List, [], ◌∷◌, ◌++◌, map, Some, refl, sym, ap, ◌∙◌, subst, arith, eqb-true}
+use Rattle.std.proofs.Common.{◌≡◌, ℕ, zero, suc, ◌<◌, ◌≤◌, Bool, true, false, ◌||◌, ◌==◌, cond, List, [], ◌∷◌, ◌++◌, map, Some, refl, sym, ap, ◌∙◌, subst, arith, eqb-true}
 use Rattle.std.specs.Prelude.{All, slice_get}
 use Rattle.std.specs.List.{AllZip, list_any, remove}
 use Rattle.std.specs.Option.{option_and_then}
@@ -7,9 +7,9 @@ use Rattle.std.proofs.lemmas.Bool.{false≢true}
 use Rattle.std.proofs.lemmas.Bool.Decides.{nat_tests}
 use Rattle.std.proofs.lemmas.List.Elements.{All-append, All-cons, All-head, All-map, All-nil, All-tail, All-weaker}
 use Rattle.std.proofs.lemmas.List.Folds.{list_any-append}
-use Rattle.list_records.specs.Lists.{are_before, has_serial, is_before, is_in_at, lists_of, serial_after}
+use Rattle.list_records.specs.Lists.{are_before, count_of, has_serial, is_before, is_in_at, lists_of, serial_after}
 use Rattle.list_records.proofs.LawLemmas.{still_before}
-use Rattle.list_records.proofs.WindowLemmas.{is_in_at-other, lists_of-push_other, lists_of-remove_other}
+use Rattle.list_records.proofs.WindowLemmas.{count_of-push, count_of-push_other, count_of-remove, count_of-remove_other, is_in_at-other, lists_of-push_other, lists_of-remove_other}
 use Rattle.def_iface.specs.ListMeaning.{ListDefinition}
 use Rattle.def_iface.specs.Slots.{IsTaken}
 use Rattle.layer_list.specs.declared.layer.Layer.{Layer}
@@ -25,6 +25,7 @@ use Rattle.control_mgr.proofs.LayerOut.{all-remove}
 use Rattle.control_mgr.proofs.Settled.{missing-layers}
 use Rattle.control_mgr.proofs.Stocks.{stocked_with, stocked_without}
 use Rattle.list_mgr.specs.ListDesks.{KeptList, ListDesk, ListSlot, ListsState, list_of}
+use Rattle.list_mgr.specs.ListRefusals.{most_lists}
 use Rattle.list_mgr.specs.ListSteps.{AreListLayers, IsChangedTo, IsLayerOf, IsListShut}
 use Rattle.list_mgr.specs.WholeLists.{AreApart, AreWholeLists, IsSettledList, slots_of}
 use Rattle.list_mgr.proofs.Edited.{Keeps, whole_edited}
@@ -74,17 +75,30 @@ slots_more l (x ∷ xs) = ap (λ ns. x.definition.slot ∷ ns) (slots_more l xs)
 pub All-more : (P : KeptList → Type 0) (ls : List KeptList) (l : KeptList) → All P ls → P l → All P (ls ++ l ∷ [])
 All-more P ls l h new = All-append P ls (l ∷ []) h (All-cons P l [] new (All-nil P))
 
+-- no window has more than it may have, where its own had fewer
+few_more : (l : KeptList) (ls : List KeptList) → count_of l.window ls < most_lists → ((t : ℕ) → count_of t ls ≤ most_lists) → (t : ℕ) → count_of t (ls ++ l ∷ []) ≤ most_lists
+few_more l ls room few t = by_test (l.window == t) refl
+  where
+    by_test : (b : Bool) → (l.window == t) ≡ b → count_of t (ls ++ l ∷ []) ≤ most_lists
+    by_test true e =
+        let more = count_of-push t ls l e in
+        let same : count_of t ls ≡ count_of l.window ls = ap (λ n. count_of n ls) (sym (eqb-true l.window t e)) in
+        omega (arith, more, same, room)
+    by_test false e = subst (λ n. n ≤ most_lists) (sym (count_of-push_other t ls l e)) (few t)
+
 -- what was whole is whole with one list more, over slots of which its definition was taken out, beside the windows with its layer
 pub whole_put : (l : KeptList) (old : ListDefinition) (kind : List ℕ) (ks : List Layer) (ws : List WindowRecord) (state : ListsState) (left : List ListSlot)
     → AreWholeLists ws state → state.next ≡ Some l.serial → list_any (has_serial l.serial) state.lists ≡ false → IsSettledList l → is_missing l.window ws ≡ false
+    → count_of l.window state.lists < most_lists
     → IsTaken (λ (d : ListDefinition). d.stage) kind (record { definition = old; slot = l.definition.slot }) state.stock left
     → AreListLayers (lists_of l.window (state.lists ++ l ∷ [])) ks
     → AreWholeLists (map (with_layers_of l.window ks) ws) (record { lists = state.lists ++ l ∷ []; next = serial_after l.serial; stock = left })
-whole_put l old kind ks ws state left whole next unused settled there took joined = record {
+whole_put l old kind ks ws state left whole next unused settled there room took joined = record {
   settled = All-more IsSettledList state.lists l whole.settled settled;
   apart = apart_more l state.lists unused whole.apart;
   given = still_before l state.lists (subst (λ o. are_before o state.lists ≡ true) next whole.given);
   somewhere = All-more (λ (x : KeptList). is_missing x.window (map (with_layers_of l.window ks) ws) ≡ false) state.lists l (somewhere_laid l.window ks ws state.lists whole.somewhere) (missing-layers l.window l.window ks ws ∙ there);
+  few = few_more l state.lists room whole.few;
   joined = joined_laid l.window ks state.lists (state.lists ++ l ∷ []) ws joined
       (λ t away. lists_of-push_other t state.lists l (other_number l.window t away))
       whole.joined;
@@ -126,6 +140,14 @@ module _ (P : KeptList → Type 0) where
   All-remove zero (l ∷ ls) h = All-tail P l ls h
   All-remove (suc i) (l ∷ ls) h = All-cons P l (remove ls i) (All-head P l ls h) (All-remove i ls (All-tail P l ls h))
 
+-- no window has more lists then
+few_left : (at : ℕ) (ls : List KeptList) → ((t : ℕ) → count_of t ls ≤ most_lists) → (t : ℕ) → count_of t (remove ls at) ≤ most_lists
+few_left at ls few t = by_test (is_in_at t at ls) refl
+  where
+    by_test : (b : Bool) → is_in_at t at ls ≡ b → count_of t (remove ls at) ≤ most_lists
+    by_test true e = let less = count_of-remove t at ls e in let most = few t in omega (arith, less, most)
+    by_test false e = subst (λ n. n ≤ most_lists) (sym (count_of-remove_other t at ls e)) (few t)
+
 -- what was whole is whole without one list, over slots into one of which its definition came back, beside the windows without its layer
 pub whole_gone : (at window : ℕ) (l : KeptList) (ks : List Layer) (ws : List WindowRecord) (state : ListsState) (back : List ListSlot) → AreWholeLists ws state
     → slice_get state.lists at ≡ Some l → is_in_at window at state.lists ≡ true → IsListShut l.definition state.stock back → AreListLayers (lists_of window (remove state.lists at)) ks
@@ -135,6 +157,7 @@ whole_gone at window l ks ws state back whole there here shut joined = record {
   apart = apart-remove at state.lists whole.apart;
   given = all-remove (λ (x : KeptList). is_before state.next x.serial) at state.lists whole.given;
   somewhere = somewhere_laid window ks ws (remove state.lists at) (All-remove (λ (x : KeptList). is_missing x.window ws ≡ false) at state.lists whole.somewhere);
+  few = few_left at state.lists whole.few;
   joined = joined_laid window ks state.lists (remove state.lists at) ws joined
       (λ t away. lists_of-remove_other t at state.lists (is_in_at-other window t at state.lists (λ e. away (sym e)) here))
       whole.joined;
@@ -169,6 +192,7 @@ whole_behind ws vs state same behind whole = record {
   apart = whole.apart;
   given = whole.given;
   somewhere = All-weaker (λ (l : KeptList). is_missing l.window ws ≡ false) (λ (l : KeptList). is_missing l.window vs ≡ false) (λ l e. missing_alike l.window ws vs same ∙ e) state.lists whole.somewhere;
+  few = whole.few;
   joined = joined_behind state.lists ws vs behind whole.joined;
   stocked = whole.stocked;
 }

@@ -1,6 +1,6 @@
 -- A new list: what is known of its view and its cells where nothing refuses it, and its record once its definition was begun.
-use Rattle.std.proofs.Common.{◌≡◌, ◌≤◌, ◌*◌, ℕ, ℤ, pos, Bool, true, false, not, ◌&&◌, cond, List, [], ◌∷◌, ◌++◌, length, Option, Some, None, replicate, refl, sym, ◌∙◌, arith}
-use Rattle.std.specs.Prelude.{int_le, nat_abs, nat_le, ◌≤ℤ◌}
+use Rattle.std.proofs.Common.{◌≡◌, ◌<◌, ◌≤◌, ◌*◌, ℕ, ℤ, pos, Bool, true, false, not, ◌&&◌, cond, List, [], ◌∷◌, ◌++◌, length, Option, Some, None, replicate, refl, sym, ◌∙◌, arith}
+use Rattle.std.specs.Prelude.{int_le, is_none, nat_abs, nat_le, ◌≤ℤ◌}
 use Rattle.std.proofs.lemmas.Bool.{and_parts, not-false}
 use Rattle.std.proofs.lemmas.Bool.Decides.{nat_tests}
 use Rattle.std.proofs.lemmas.Int.{ints}
@@ -29,15 +29,19 @@ use Rattle.window_mgr.specs.FullDesk.{FullDesk}
 use Rattle.window_mgr.specs.Refused.{is_missing}
 use Rattle.control_list.specs.Lists as controls
 use Rattle.control_mgr.specs.ControlDesks.{ControlRecord}
+use Rattle.list_records.specs.Lists.{count_of}
+use Rattle.control_mgr.proofs.Added.{or_parts}
 use Rattle.control_mgr.proofs.Steps.{none_hold}
 use Rattle.list_mgr.specs.ListDesks.{KeptList, ListDesk}
-use Rattle.list_mgr.specs.ListRefusals.{across_of, down_of, have_room, bars_wanted, horizontal_offer, is_sum_of_flags, judged_refusals, lacks_definition, lacks_kind, list_refusals, may_bar_be_in, may_view_be_in, vertical_offer, view_of}
+use Rattle.list_mgr.specs.ListRefusals.{across_of, down_of, have_room, bars_wanted, horizontal_offer, is_sum_of_flags, judged_refusals, lacks_definition, lacks_kind, list_refusals, may_bar_be_in, may_view_be_in, most_lists, vertical_offer, view_of}
 use Rattle.list_mgr.specs.ListSteps.{new_list}
 use Rattle.list_mgr.specs.Making.{room_refusals}
 use Rattle.list_mgr.specs.Putting.{IsGoodList}
 use Rattle.list_mgr.specs.WholeLists.{IsSettledList}
+use Rattle.list_mgr.proofs.Becoming.{bound_least}
 use Rattle.list_mgr.proofs.ListsFollowed.{IsPutSettled}
 use Rattle.list_mgr.proofs.ListsSettled.{new_there}
+use Rattle.list_mgr.proofs.SelectedCells.{new_selected}
 
 -- of two lists of reasons of which none holds, none of the first does, and none of the other
 pub none_of_both : (xs ys : List (Bool × Refusal)) → first_refusal (xs ++ ys) ≡ None → (first_refusal xs ≡ None) × (first_refusal ys ≡ None)
@@ -159,7 +163,16 @@ module _ (n : NewList) (vertical horizontal : Option ControlDefinition) (desk : 
   pub good_of : IsGoodList n
   good_of = record { view = view_is n w view_may; grid = grid_is n.columns n.rows numbers.0 }
 
-  -- there is room for its bars
+  -- there is room for it
+  pub room_here : count_of n.window ls < most_lists
+  room_here =
+      let full = none_hold _ TooMany ((not (have_room (bars_wanted n) (controls.count_of n.window cs) next_control), TooMany) ∷ []) numbers.1 in
+      fewer (count_of n.window ls) (or_parts (nat_le most_lists (count_of n.window ls)) (is_none next) full.0).0
+    where
+      fewer : (k : ℕ) → nat_le most_lists k ≡ false → k < most_lists
+      fewer k e = grind (arith, nat_tests)
+
+  -- and for its bars
   pub room_for : have_room (bars_wanted n) (controls.count_of n.window cs) next_control ≡ true
   room_for =
       let full = none_hold _ TooMany ((not (have_room (bars_wanted n) (controls.count_of n.window cs) next_control), TooMany) ∷ []) numbers.1 in
@@ -179,21 +192,26 @@ new_settled n good serial slot flags vertical horizontal old begun live = record
   view = good.view;
   grid = good.grid;
   short = good.grid.bytes_within;
+  scrolled = record { across = bound_least (across_of n) (nat_abs n.columns); down = bound_least (down_of n) (nat_abs n.rows) };
+  single = λ only. let none = new_selected (nat_abs n.columns) (nat_abs n.rows) in omega (arith, none);
 }
 
 -- a list that nothing refuses is settled once it is put
 pub new_settles : (n : NewList) (d after : ListDesk) → first_refusal (list_refusals (New n) d.desk.windows.desk d.controls d.lists) ≡ None → IsPutSettled n d after
 new_settles n d after none = record {
   there = new_there d n none;
+  room = room_here n (vertical_offer n d.controls.stock) (horizontal_offer n d.controls.stock) d.desk.windows.desk d.controls.controls d.controls.next d.lists.lists d.lists.next judged;
   settled = λ serial vertical horizontal mid put. new_settled n good serial put.loan.slot put.flags vertical horizontal put.loan.definition put.begun put.live;
 }
   where
     short : List (Bool × Refusal)
     short = (lacks_definition n d.lists d.controls, NoDefinition) ∷ []
 
-    good : IsGoodList n
-    good =
-        good_of n (vertical_offer n d.controls.stock) (horizontal_offer n d.controls.stock) d.desk.windows.desk d.controls.controls d.controls.next d.lists.lists d.lists.next
+    judged : first_refusal (judged_refusals n (vertical_offer n d.controls.stock) (horizontal_offer n d.controls.stock) d.desk.windows.desk d.controls.controls d.controls.next d.lists.lists d.lists.next) ≡ None
+    judged =
         (none_of_both (judged_refusals n (vertical_offer n d.controls.stock) (horizontal_offer n d.controls.stock) d.desk.windows.desk d.controls.controls d.controls.next d.lists.lists d.lists.next) short
         (none_hold (lacks_kind n d.lists.stock d.controls.stock) NoSuchName
         (judged_refusals n (vertical_offer n d.controls.stock) (horizontal_offer n d.controls.stock) d.desk.windows.desk d.controls.controls d.controls.next d.lists.lists d.lists.next ++ short) none).1).0
+
+    good : IsGoodList n
+    good = good_of n (vertical_offer n d.controls.stock) (horizontal_offer n d.controls.stock) d.desk.windows.desk d.controls.controls d.controls.next d.lists.lists d.lists.next judged

@@ -9,6 +9,7 @@ use Rattle.def_iface.specs.ListMeaning.{ListLoan}
 use Rattle.def_iface.specs.Meaning.{Loan}
 use Rattle.def_iface.specs.Stocked.{SlotView}
 use Rattle.list_cells.specs.Grids.{empty_grid}
+use Rattle.list_records.specs.Lists.{count_of}
 use Rattle.list_records.specs.Seen.{all_seen}
 use Rattle.desk_call.specs.declared.control.ControlCall.TheVariants as control_calls
 use Rattle.desk_call.specs.declared.control.ControlReply.TheVariants as control_reply
@@ -36,6 +37,7 @@ use Rattle.list_mgr.specs.declared.judging.ListTicket.{ListTicket}
 use Rattle.list_mgr.specs.declared.lists.Lists.{Lists}
 use Rattle.list_mgr.specs.declared.planning.Planned.{Planned}
 use Rattle.list_mgr.specs.ListDesks.{ListDesk, ListSlot, lists_show, with_controls}
+use Rattle.list_mgr.specs.ListRefusals.{most_lists}
 use Rattle.list_mgr.specs.ListSteps.{IsBarMade, IsListMade, IsListPut, horizontal_bar_of, vertical_bar_of}
 use Rattle.list_mgr.specs.Putting.{AreRoomier, IsPlace, IsPlanOfList, IsReadyToPut, LeavesBeside}
 use Rattle.list_mgr.specs.WholeLists.{AreBeside, AreWholeLists, LeavesOver, list_desk, lists_state, records_of}
@@ -44,7 +46,15 @@ use Rattle.list_mgr.proofs.Steps.{unchanged}
 
 -- where a list is put is as good where nothing but the room for lists changed
 pub place_roomier : {V : Type 0} {H : V → Type 0} {D : Type 0} (n : NewList) (k : ListTicket) (t : WindowManager V H) (m m' : Lists D) → AreRoomier m m' → IsPlace n t m k → IsPlace n t m' k
-place_roomier n k t m m' same place = record { window = place.window; serial = same.next ∙ place.serial; flags = place.flags; view = place.view; good = place.good; fits = place.fits }
+place_roomier n k t m m' same place = record {
+  window = place.window;
+  serial = same.next ∙ place.serial;
+  flags = place.flags;
+  view = place.view;
+  good = place.good;
+  fits = place.fits;
+  few = subst (λ ls. count_of n.window ls < most_lists) (sym same.lists) place.few;
+}
 
 -- a list that was planned over the layers that its window has can be put
 pub ready_now : {V : Type 0} {H : V → Type 0} {D : Type 0} (loan : Taken V H → Loan) (n : NewList) (k : ListTicket) (t : WindowManager V H) (m m' : Lists D) → IsKept loan t → AreRoomier m m' → IsPlace n t m k

@@ -102,11 +102,11 @@ module _ {V : Type 0} {H : V → Type 0} (loan : Taken V H → Loan) {W : Type 0
       by_test : (b : Bool) → n.vertical_bar ≡ b
           → IsTicket control_loan (bar_control n.window (if b then vertical_of n else horizontal_of n)) (Some d.definition) t c (bar_ticket k.window room.serial k.controls (if b then vertical_of n else horizontal_of n))
       by_test true is =
-          first_ticket loan control_loan list_loan n vertical horizontal t c m k kept may.ticket (vertical_of n) d.definition room.serial (good_vertical n place.good) room.given
+          first_ticket loan control_loan list_loan n vertical horizontal t c m k kept may.ticket (vertical_of n) d.definition room.serial (good_vertical n place.good) room.given few
           (bar_placed loan control_loan list_loan n vertical horizontal t c m k kept may.ticket n.vertical_bar vertical (vertical_bar (view_of n)) d.definition is (ap (λ x. if x then Some d.definition else None) is)
           (vertical_may n vertical horizontal (desk_of loan t []) (control_records.records_of control_loan c) c.list.next (records_of list_loan m) m.list.next may.ticket.judged))
       by_test false is =
-          first_ticket loan control_loan list_loan n vertical horizontal t c m k kept may.ticket (horizontal_of n) d.definition room.serial (good_horizontal n place.good) room.given
+          first_ticket loan control_loan list_loan n vertical horizontal t c m k kept may.ticket (horizontal_of n) d.definition room.serial (good_horizontal n place.good) room.given few
           (bar_placed loan control_loan list_loan n vertical horizontal t c m k kept may.ticket n.horizontal_bar horizontal (horizontal_bar (view_of n)) d.definition (may.one ∙ ap not is) (ap (λ x. if x then None else Some d.definition) is)
           (horizontal_may n vertical horizontal (desk_of loan t []) (control_records.records_of control_loan c) c.list.next (records_of list_loan m) m.list.next may.ticket.judged))
 

@@ -1,5 +1,5 @@
 -- A list of which a call changed the selection, as it had said, which was toggled or marked before.
-use Rattle.std.proofs.Common.{◌≡◌, ℕ, ◌<◌, Bool, true, false, List, [], length, get_or, Option, Some, None, refl, sym, ap, ◌∙◌, subst, arith}
+use Rattle.std.proofs.Common.{◌≡◌, ℕ, ◌<◌, ◌≤◌, Bool, true, false, List, [], length, get_or, Option, Some, None, refl, sym, ap, ◌∙◌, subst, arith}
 use Rattle.std.specs.Prelude.{slice_get}
 use Rattle.std.proofs.lemmas.Bool.{true≢false}
 use Rattle.std.proofs.lemmas.List.{ext_get_or}
@@ -37,7 +37,8 @@ use Rattle.list_mgr.specs.Changing.{IsMark, IsMarkedBy, IsMarkedIf, IsSameOrNot,
 use Rattle.list_mgr.specs.ListDesks.{KeptList, ListDesk, ListSlot, lists_show}
 use Rattle.list_mgr.specs.ListSteps.{IsListChanged, IsSeenOrNot, IsSelectionChanged, IsToggledOrNot, with_grid}
 use Rattle.list_mgr.specs.Spots.{IsSpotOf}
-use Rattle.list_mgr.specs.WholeLists.{IsChangedOver, list_desk, lists_state, records_of, AreWholeLists}
+use Rattle.list_mgr.specs.WholeLists.{IsChangedOver, count_selected, list_desk, lists_state, records_of, AreWholeLists}
+use Rattle.list_mgr.proofs.Becoming.{MayBecomeWider}
 use Rattle.list_mgr.proofs.Changed.{changed_as, changed_over, changed_to, grid_keeps, grid_or_not, same_item, whole_after}
 use Rattle.list_mgr.proofs.Edited.{there_edited}
 use Rattle.list_mgr.proofs.Given.{edited, of_read, stays, with_cells_there}
@@ -57,6 +58,14 @@ selecting_grid g a s h is =
     let same : a ≡ record g { contents = a.contents } = λ i. record { columns = h.columns i; rows = h.rows i; contents = a.contents } in
     subst IsGrid (sym same) (selected_grid g g.contents a.contents s is refl h.many h.each)
 
+-- where with lOnlyOne no two are selected then
+pub selecting_wider : (flags : SelectionFlags) (g a : Grid) (s : Selecting) → IsSelecting g a s → (flags.only_one ≡ true → count_selected g ≤ 1 → count_selected a ≤ 1) → IsGrid g → MayBecomeWider flags g a
+selecting_wider flags g a s h single is = record {
+  cells = record { grid = selecting_grid g a s h is; single = single };
+  columns = let same = h.columns in omega (arith, same);
+  rows = let same = h.rows in omega (arith, same);
+}
+
 -- a change that is not drawn
 unseen : (b : Bool) (l : ListOf) (g : Grid → Grid) (x : KeptList) (before after : ListDesk) → b ≡ false → IsSeenOrNot b l (with_grid g) x before after → IsToggledOrNot b l g x before after
 unseen true l g x before after off h = absurd (true≢false off)
@@ -65,7 +74,8 @@ unseen false l g x before after off h = h
 module _ {V : Type 0} {H : V → Type 0} (loan : Taken V H → Loan) {X : Type 0} {L : X → Type 0} (list_loan : TakenList X L → ListLoan)
     (l : ListOf) (t : WindowManager V H) (m : Lists (TakenList X L)) (s : Spot) (is : IsSpotOf loan list_loan l t m s)
     (x : ListRecord (TakenList X L)) (read : x ≡ get_or m.list.lists.items s.list x)
-    (h : SelectionFlags → Grid → Grid) (cells : Grid) (now : cells ≡ h x.flags x.cells) (selecting : Selecting) (chosen : IsSelecting x.cells (h x.flags x.cells) selecting) where
+    (h : SelectionFlags → Grid → Grid) (cells : Grid) (now : cells ≡ h x.flags x.cells) (selecting : Selecting) (chosen : IsSelecting x.cells (h x.flags x.cells) selecting)
+    (single : x.flags.only_one ≡ true → count_selected x.cells ≤ 1 → count_selected (h x.flags x.cells) ≤ 1) where
   abbrev g : Grid → Grid
   g = h x.flags
 
@@ -78,8 +88,8 @@ module _ {V : Type 0} {H : V → Type 0} (loan : Taken V H → Loan) {X : Type 0
   y_there : slice_get (records_of list_loan m) s.list ≡ Some y
   y_there = list_read loan list_loan l t m s is x read
 
-  good : IsGrid x.cells → IsGrid (g x.cells)
-  good = selecting_grid x.cells (g x.cells) selecting chosen
+  good : IsGrid x.cells → MayBecomeWider x.flags x.cells (g x.cells)
+  good is = selecting_wider x.flags x.cells (g x.cells) selecting chosen single is
 
   said : selected_by selecting x.cells ≡ g x.cells
   said = one_after x.cells (selected_by selecting x.cells) (g x.cells) selecting (selecting_by x.cells selecting) chosen
@@ -92,7 +102,7 @@ module _ {V : Type 0} {H : V → Type 0} (loan : Taken V H → Loan) {X : Type 0
   marked_or_not update true u marked = λ z z_there.
       subst (λ k. IsMarkedBy list_loan loan k t u)
       (same_item (records_of list_loan n) s.list (with_grid g y) z
-      (ap (λ ls. slice_get ls s.list) (edited loan list_loan l t m s is x read g cells now good) ∙ there_edited (with_grid g) s.list (records_of list_loan m) y y_there) z_there) marked
+      (ap (λ ls. slice_get ls s.list) (edited loan list_loan l t m s is x read g cells now) ∙ there_edited (with_grid g) s.list (records_of list_loan m) y y_there) z_there) marked
   marked_or_not update false u same = same
 
   -- the selection of the list changed so
@@ -114,7 +124,7 @@ module _ {V : Type 0} {H : V → Type 0} (loan : Taken V H → Loan) {X : Type 0
       (subst (λ k. IsLayerToggled k w.place (part.List l.list) (turned (selected_by selecting y.cells)) (state_showing was (state_of loan t slots)) (state_showing after (state_of loan u slots))) names.0
       (subst (λ k. IsLayerToggled y.window w.place (part.List k) (turned (selected_by selecting y.cells)) (state_showing was (state_of loan t slots)) (state_showing after (state_of loan u slots))) names.1 left.1)) in
       let kept_so = stays loan list_loan l t m s is x read g cells now good in
-      let edit = edited loan list_loan l t m s is x read g cells now good in (
+      let edit = edited loan list_loan l t m s is x read g cells now in (
         left.0,
         windows,
         subst (λ ws. AreWholeLists ws (lists_state list_loan n kept)) (sym windows)
@@ -152,6 +162,6 @@ module _ {V : Type 0} {H : V → Type 0} (loan : Taken V H → Loan) {X : Type 0
       by_change : (changes : Bool) × IsChange changes x.cells (selected_by selecting x.cells) × IsMarkedIf list_loan loan changes y t u → IsChangedOver list_loan loan (IsSelectionChanged l h) t m u n
       by_change (changes, change, marked) =
           changed_as loan list_loan t u m n (IsListChanged l (with_grid g)) (IsSelectionChanged l h) convert
-          (changed_over loan list_loan l t m n s is (with_grid g) (grid_keeps g) (edited loan list_loan l t m s is x read g cells now good) refl (stays loan list_loan l t m s is x read g cells now good)
+          (changed_over loan list_loan l t m n s is (with_grid g) (grid_keeps g) (edited loan list_loan l t m s is x read g cells now) refl (stays loan list_loan l t m s is x read g cells now good)
           (Some update) changes ((z, there, off), region)
           (of_read loan list_loan l t m s is x read (λ k. IsSameOrNot changes (with_grid g k) k) (grid_or_not changes g y (either changes change))) u (marked_or_not update changes u marked))

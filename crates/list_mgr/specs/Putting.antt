@@ -17,6 +17,7 @@ use Rattle.layer_list.specs.declared.layer.Layer.{Layer}
 use Rattle.layer_list.specs.Holders.{ArePartsApart, PlacedLayers}
 use Rattle.list_cells.specs.Clicks.{flags_number}
 use Rattle.list_cells.specs.Grids.{IsGrid, empty_grid}
+use Rattle.list_records.specs.Lists.{count_of}
 use Rattle.list_view.specs.Views.{IsView, view_rect}
 use Rattle.desk_call.specs.declared.list.NewList.{NewList}
 use Rattle.vis_update.specs.declared.area.Area.{Area}
@@ -42,7 +43,7 @@ use Rattle.list_mgr.specs.declared.planning.Planned.{Planned}
 use Rattle.list_mgr.specs.declared.planning.PlannedWithBar.{PlannedWithBar}
 use Rattle.list_mgr.specs.declared.planning.PlannedWithBars.{PlannedWithBars}
 use Rattle.list_mgr.specs.ListDesks.{KeptList, ListDesk, ListSlot}
-use Rattle.list_mgr.specs.ListRefusals.{scroll_kind, view_of}
+use Rattle.list_mgr.specs.ListRefusals.{most_lists, scroll_kind, view_of}
 use Rattle.list_mgr.specs.ListSteps.{IsLayerOf}
 use Rattle.list_mgr.specs.Making.{IsListTicket}
 use Rattle.list_mgr.specs.NewBars.{bar_control, bar_ticket, horizontal_of, vertical_of}
@@ -82,7 +83,8 @@ module _ {V : Type 0} {H : V → Type 0} (loan : Taken V H → Loan) where
     pub may : MayHaveLayers k.window u l.layers
     pub planned : IsPlanOfLayers loan k.window l.layers.layers (Some (part.List k.serial)) u l.relaying
 
--- what a new list is given that was judged: its window and its serial, its flags and its view, which may lie there
+-- what a new list is given that was judged: its window, which has room for it, and its serial, its flags and its view, which may
+-- lie there
 pub record IsPlace {V : Type 0} {H : V → Type 0} {D : Type 0} (n : NewList) (t : WindowManager V H) (m : Lists D) (k : ListTicket) : Type 0 where
   pub window : StandsAt t.windows.records.items n.window k.window
   pub serial : m.list.next ≡ Some k.serial
@@ -90,6 +92,7 @@ pub record IsPlace {V : Type 0} {H : V → Type 0} {D : Type 0} (n : NewList) (t
   pub view : k.view ≡ view_of n
   pub good : IsGoodList n
   pub fits : (w : Window V H) → IsWindowAt t.windows.records.items k.window w → is_in_range (moved_rect (view_rect (view_of n)) w.place.h w.place.v) ≡ true
+  pub few : count_of n.window m.list.lists.items < most_lists
 
 -- windows and lists among which the list of this ticket can be put as it was planned
 pub record IsReadyToPut {V : Type 0} {H : V → Type 0} {D : Type 0} (loan : Taken V H → Loan) (n : NewList) (k : ListTicket) (t : WindowManager V H) (m : Lists D) (p : Planned) : Type 0 where

@@ -1,6 +1,6 @@
 -- What holds of the lists of a desk and of their stock between calls, and their state as plain data.
-use Rattle.std.specs.Prelude.{◌≡◌, ◌≤◌, ℕ, true, false, not, List, [], ◌∷◌, map, All}
-use Rattle.std.specs.List.{list_any}
+use Rattle.std.specs.Prelude.{◌≡◌, ◌≤◌, ◌≤ℤ◌, ℕ, true, false, not, List, [], ◌∷◌, length, map, All}
+use Rattle.std.specs.List.{filter, list_any}
 use Rattle.def_iface.specs.declared.taken.Taken.{Taken}
 use Rattle.def_iface.specs.declared.taken_control.TakenControl.{TakenControl}
 use Rattle.def_iface.specs.declared.taken_list.TakenList.{TakenList}
@@ -11,9 +11,10 @@ use Rattle.def_iface.specs.ListMeaning.{ListDefinition, ListGoesBy, ListLoan}
 use Rattle.def_iface.specs.Meaning.{Loan}
 use Rattle.def_iface.specs.Stocked.{SlotView}
 use Rattle.list_cells.specs.Contents.{bytes_held}
-use Rattle.list_cells.specs.Grids.{IsGrid}
-use Rattle.list_records.specs.Lists.{are_before, has_serial, lists_of}
+use Rattle.list_cells.specs.Grids.{Grid, IsGrid}
+use Rattle.list_records.specs.Lists.{are_before, count_of, has_serial, lists_of}
 use Rattle.list_records.specs.Seen.{all_seen}
+use Rattle.list_view.specs.Axes.{bound}
 use Rattle.list_view.specs.Views.{IsView, View}
 use Rattle.vis_update.specs.Records.{WindowRecord}
 use Rattle.window_mgr.specs.declared.manager.WindowManager.{WindowManager}
@@ -27,14 +28,25 @@ use Rattle.control_mgr.specs.InUse.{AreStocked}
 use Rattle.control_mgr.specs.WholeControls.{AreWholeControls, controls_state}
 use Rattle.list_mgr.specs.declared.lists.Lists.{Lists}
 use Rattle.list_mgr.specs.ListDesks.{KeptList, ListDesk, ListSlot, ListsState, lists_show}
+use Rattle.list_mgr.specs.ListRefusals.{most_lists}
 use Rattle.list_mgr.specs.ListSteps.{AreListLayers}
 
 -- the size of the cells of a view
 abbrev pub cell_size : View → Size
 cell_size v = record { width = v.across.cell; height = v.down.cell }
 
+-- the view of these cells is scrolled no further than it may be
+pub record IsWithinBounds (g : Grid) (v : View) : Type 0 where
+  pub across : v.first.column ≤ℤ bound v.across g.columns
+  pub down : v.first.row ≤ℤ bound v.down g.rows
+
+-- how many of the cells are selected
+abbrev pub count_selected : Grid → ℕ
+count_selected g = length (filter (λ c. c.selected) g.contents)
+
 -- a list between calls: its definition is live, was told the size of its cells and whether an empty one is highlighted, and goes
--- by that; its view and its cells are such, and these hold no more bytes than may be
+-- by that; its view and its cells are such, and these hold no more bytes than may be; it is scrolled no further than it may be; and
+-- with lOnlyOne no two of its cells are selected
 pub record IsSettledList (l : KeptList) : Type 0 where
   pub live : l.definition.definition.stage ≡ Live
   pub told : l.definition.definition.size ≡ cell_size l.view
@@ -42,6 +54,8 @@ pub record IsSettledList (l : KeptList) : Type 0 where
   pub view : IsView l.view
   pub grid : IsGrid l.cells
   pub short : bytes_held l.cells.contents ≤ 32000
+  pub scrolled : IsWithinBounds l.cells l.view
+  pub single : l.flags.only_one ≡ true → count_selected l.cells ≤ 1
 
 abbrev pub AreSettled : List KeptList → Type 0
 AreSettled ls = All IsSettledList ls
@@ -58,13 +72,15 @@ AreLiveLists ls = All (λ l. l.definition.definition.stage ≡ Live) ls
 abbrev pub slots_of : List KeptList → List ℕ
 slots_of ls = map (λ l. l.definition.slot) ls
 
--- the lists of these windows, between calls: settled, each of another serial that was given before, in a window that is there;
--- the layers of each window behind its controls are its lists; and the empty slots of the stock are those of their definitions
+-- the lists of these windows, between calls: settled, each of another serial that was given before, in a window that is there,
+-- and no window has more than it may have; the layers of each window behind its controls are its lists; and the empty slots of the
+-- stock are those of their definitions
 pub record AreWholeLists (windows : List WindowRecord) (s : ListsState) : Type 0 where
   pub settled : AreSettled s.lists
   pub apart : AreApart s.lists
   pub given : are_before s.next s.lists ≡ true
   pub somewhere : All (λ l. is_missing l.window windows ≡ false) s.lists
+  pub few : (window : ℕ) → count_of window s.lists ≤ most_lists
   pub joined : All (λ w. AreListLayers (lists_of w.serial s.lists) w.layers) windows
   pub stocked : AreStocked (λ (d : ListDefinition). d.stage) (slots_of s.lists) s.stock
 

@@ -64,6 +64,7 @@ returns-in-Some-next g c =
         values = made;
         title = c.in_ok-title.ensures.0 ∙ c.as_slice.ensures;
         layer = c.count-layer.ensures ∙ sym (count_of-seen control_loan c.args.new.now.window c.args.self.now.list.controls.items);
+        few = search rules;
       },
     )
 

@@ -20,6 +20,7 @@ use Rattle.list_mgr.proofs.Clicks.{a_word, click_free, click_missing, click_no_w
 use Rattle.list_mgr.proofs.Drawn.{settled_there}
 use Rattle.list_mgr.proofs.Given.{with_cells_there}
 use Rattle.list_mgr.proofs.Selected.{selected_so}
+use Rattle.list_mgr.proofs.SelectedCells.{clicked_single}
 use Rattle.list_mgr.proofs.selecting.Lists+TakenList.click.Goals as goal
 
 pub returns-in_err-spot : goal.returns-in_err-spot
@@ -97,4 +98,4 @@ returns g c =
     (subst (λ o. IfSome o (λ s. IsSelecting was.cells (clicked_cell was.flags c.of_modifiers-keys.result cell was.cells) s)) c.unwrap-selecting.ensures c.clicking.ensures.after)) in
     clicked_on _ (list.list_loan-value g.dyn-1).it k t m spot is was c.index-list.ensures (sym c.if-not-is_in_range.ensures) word cell some c.toggle.new.windows (with_cells_there _ (list.list_loan-value g.dyn-1).it k.list t m spot is x read c.click-clicked.new.self)
     (selected_so _ (list.list_loan-value g.dyn-1).it k.list t m spot is x read (λ (flags : SelectionFlags). clicked_cell flags (keys_of (nat_abs k.modifiers)) cell) c.click-clicked.new.self now c.unwrap-selecting.result said
-    c.in_ok-mark.mark c.in_ok-mark.ensures c.toggle.new.windows c.toggle.ensures)
+    (λ only few. clicked_single x.flags (keys_of (nat_abs k.modifiers)) cell x.cells only) c.in_ok-mark.mark c.in_ok-mark.ensures c.toggle.new.windows c.toggle.ensures)

@@ -12,6 +12,7 @@ use Rattle.list_mgr.specs.ListSteps.{IsListStep, IsSelectionChanged}
 use Rattle.list_mgr.proofs.Changed.{changed_as, grows_off, short_over}
 use Rattle.list_mgr.proofs.Given.{with_cells_there}
 use Rattle.list_mgr.proofs.Selected.{selected_so}
+use Rattle.list_mgr.proofs.SelectedCells.{chosen_single}
 use Rattle.list_mgr.proofs.Steps.{cell_there, list_read}
 use Rattle.list_mgr.proofs.selecting.Lists+TakenList.select.Goals as goal
 
@@ -48,4 +49,4 @@ returns g c =
     (λ o slots cs kept done.
     (cell_there _ _ chosen.cell.list t m spot is cell (seen (list.list_loan-value g.dyn-1).it x) (list_read _ _ chosen.cell.list t m spot is x read) has, (refl, done)))
     (selected_so _ (list.list_loan-value g.dyn-1).it chosen.cell.list t m spot is x read (λ (flags : SelectionFlags). chosen_cell cell chosen.selected flags.only_one) c.select.new.self now c.in-Some.selecting said
-    c.in_ok-mark.mark c.in_ok-mark.ensures c.toggle.new.windows c.toggle.ensures)
+    (chosen_single x.flags.only_one x.cells cell chosen.selected) c.in_ok-mark.mark c.in_ok-mark.ensures c.toggle.new.windows c.toggle.ensures)
