@@ -5,7 +5,7 @@ use Rattle.std.specs.Option.{option_map_or}
 use Rattle.tb_geom.specs.declared.point.Point.{Point}
 use Rattle.tb_geom.specs.declared.refusal.Refusal.{Refusal}
 use Rattle.def_iface.specs.MenuMeaning.{MenuDefinition, MenuLoan}
-use Rattle.def_iface.specs.Slots.{IsTaken, holding, is_left}
+use Rattle.def_iface.specs.Slots.{IsTaken, holding}
 use Rattle.desk_call.specs.declared.activity.Activity.{Activity}
 use Rattle.desk_call.specs.declared.activity.Activity.TheVariants.{Idle, Updating, Tracking, Pulling, TrackingControl}
 use Rattle.desk_call.specs.declared.activity.PulledMenu.{PulledMenu}
@@ -34,8 +34,8 @@ menu_kinds kept = map (λ s. s.kind) kept
 kinds_when_taken : (loan : MenuLoan) (old left : List MenuSlot) → IsTaken (λ (d : MenuDefinition). d.stage) menu_kind loan old left → menu_kinds left ≡ menu_kinds old
 kinds_when_taken loan old left took = ap menu_kinds took.left ∙ map-set (λ (s : MenuSlot). s.kind) old loan.slot _ _ took.held refl
 
-kinds_when_shut : (loan : MenuLoan) (old new : List MenuSlot) → is_left loan.slot old ≡ true → IsMenuShut loan old new → menu_kinds new ≡ menu_kinds old
-kinds_when_shut loan old new left shut = by_get (slice_get old loan.slot) refl left shut.back
+kinds_when_shut : (loan : MenuLoan) (old new : List MenuSlot) → IsMenuShut loan old new → menu_kinds new ≡ menu_kinds old
+kinds_when_shut loan old new shut = by_get (slice_get old loan.slot) refl shut.left shut.back
   where
     by_get : (o : Option MenuSlot) → slice_get old loan.slot ≡ o → option_map_or (λ (s : MenuSlot). is_none s.held) o false ≡ true
         → IfSome o (λ (s : MenuSlot). new ≡ slice_set old loan.slot (holding (Some shut.definition) s)) → menu_kinds new ≡ menu_kinds old
@@ -73,7 +73,7 @@ released_keeps (TrackingControl c) p choice before after wrong = absurd wrong
 
 disposed_keeps : (at : Option ℕ) (before after : MenuDesk) → IsDisposedAt at before after → KeepsKinds before after
 disposed_keeps None before after wrong = absurd wrong
-disposed_keeps (Some at) before after gone = kinds_when_shut gone.listed.definition before.menus.stock after.menus.stock gone.left gone.shut
+disposed_keeps (Some at) before after gone = kinds_when_shut gone.listed.definition before.menus.stock after.menus.stock gone.shut
 
 effect_keeps : (call : MenuCall) (answer : MenuReply) (before after : MenuDesk) → IsMenuEffect call answer before after → KeepsKinds before after
 effect_keeps (New n) answer before after (is, made) = kinds_when_taken made.loan before.menus.stock after.menus.stock made.taken

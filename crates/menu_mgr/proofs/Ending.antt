@@ -74,7 +74,7 @@ module _ (all xs : List MenuRecord) (l : MenuRecord) (old now : List MenuSlot) (
   }
     where
       shut : Shut l.definition now new is_shut.definition
-      shut = shut_facts l.definition now new slot.0 is_shut
+      shut = shut_facts l.definition now new is_shut
 
       others : (final : List MenuSlot) → AreMenusClosed xs new final → (k : ℕ) (s : MenuSlot) → slice_get now k ≡ Some s → IsMenuFull s → slice_get final k ≡ Some s
       others final c k s e full = ⊎_elim

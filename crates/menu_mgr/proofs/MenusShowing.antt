@@ -49,7 +49,6 @@ module _ (shows : List ℕ → Part → PixelSet) where
     disposed_showing (Some at) it = record {
       listed = it.listed;
       found = it.found;
-      left = it.left;
       shut = it.shut;
       activity = same_activity_showing shows before.desk after.desk it.activity;
       shown = titles_showing _ _ _ it.shown;

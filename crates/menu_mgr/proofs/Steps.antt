@@ -43,7 +43,7 @@ use Rattle.menu_mgr.specs.WholeMenus.{AreLive, AreMenusStocked, IsWholeMenus, me
 use Rattle.menu_mgr.proofs.Edited.{AreAlike, alike_after, still_stocked}
 use Rattle.menu_mgr.proofs.Made.{one_more}
 use Rattle.menu_mgr.proofs.Showing.{menus_shown, whole_again, whole_beside}
-use Rattle.menu_mgr.proofs.Stocks.{live-append, live-remove, slot_is_left, slot_of, stocked_with, stocked_without, uses-remove}
+use Rattle.menu_mgr.proofs.Stocks.{live-append, live-remove, stocked_with, stocked_without, uses-remove}
 
 -- a call that changes something may come where nothing is open
 pub gate_idle : (activity : Activity) → gate activity Changes ≡ None → activity ≡ Idle
@@ -241,7 +241,6 @@ module _ {V : Type 0} {H : V → Type 0} (loan : Taken V H → Loan) {W : Type 0
           subst (λ o. IsDisposedAt o (menu_desk menu_loan loan t (opened Idle begun) slots m kept) (menu_desk menu_loan loan u (opened Idle begun) slots n after)) (sym index) (record {
             listed = ended.listed;
             found = ended.found;
-            left = slot_is_left ended.listed.definition.slot kept (slot_of at ms ended.listed kept ended.found menus.stocked).0;
             shut = ended.shut;
             activity = record { activity = refl; begun = refl };
             shown = menus_shown loan menu_loan _ _ t u (opened Idle begun) (opened Idle begun) slots m n kept after ended.menus ended.highlighted windows.1;

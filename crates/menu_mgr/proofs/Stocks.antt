@@ -146,6 +146,17 @@ pub slot_is_left : (k : ℕ) (slots : List MenuSlot) → IsEmptyFor k slots → 
 slot_is_left k slots e =
     ap (λ o. option_map_or (λ (s : MenuSlot). is_none s.held) o false) e.found ∙ ap is_none e.empty
 
+empty_where_left : (k : ℕ) (slots : List MenuSlot) → is_left k slots ≡ true → IsEmptyFor k slots
+empty_where_left k slots left = by_slot (slice_get slots k) refl left
+  where
+    held_none : (o : Option MenuDefinition) → is_none o ≡ true → o ≡ None
+    held_none None e = refl
+    held_none (Some d) e = absurd (cc)
+
+    by_slot : (o : Option MenuSlot) → slice_get slots k ≡ o → option_map_or (λ (s : MenuSlot). is_none s.held) o false ≡ true → IsEmptyFor k slots
+    by_slot None at e = absurd (cc)
+    by_slot (Some s) at e = record { slot = s; found = at; empty = held_none s.held e }
+
 -- the definition of a new menu was taken out of its slot
 pub stocked_with : (xs : List MenuRecord) (l : MenuRecord) (loan : MenuLoan) (old left : List MenuSlot) → l.definition.slot ≡ loan.slot
     → IsTaken (λ (d : MenuDefinition). d.stage) menu_kind loan old left → AreMenusStocked xs old → AreMenusStocked (xs ++ l ∷ []) left
@@ -180,8 +191,9 @@ pub record Shut (loan : MenuLoan) (old new : List MenuSlot) (definition : MenuDe
   pub back : new ≡ slice_set old loan.slot (holding (Some definition) slot)
   pub here : slice_get new loan.slot ≡ Some (holding (Some definition) slot)
 
-pub shut_facts : (loan : MenuLoan) (old new : List MenuSlot) → IsEmptyFor loan.slot old → (shut : IsMenuShut loan old new) → Shut loan old new shut.definition
-shut_facts loan old new e shut =
+pub shut_facts : (loan : MenuLoan) (old new : List MenuSlot) → (shut : IsMenuShut loan old new) → Shut loan old new shut.definition
+shut_facts loan old new shut =
+    let e : IsEmptyFor loan.slot old = empty_where_left loan.slot old shut.left in
     let back : new ≡ slice_set old loan.slot (holding (Some shut.definition) e.slot) =
     subst (λ o. IfSome o (λ (s : MenuSlot). new ≡ slice_set old loan.slot (holding (Some shut.definition) s))) e.found shut.back in
     record {
@@ -205,7 +217,7 @@ stocked_without i xs rest l old new at parts is_shut stocked k = ⊎_elim here a
     slot = slot_of i xs l old at stocked
 
     shut : Shut l.definition old new is_shut.definition
-    shut = shut_facts l.definition old new slot.0 is_shut
+    shut = shut_facts l.definition old new is_shut
 
     here : k ≡ l.definition.slot → IsUsedBy (uses k rest) (slice_get new k)
     here e =

@@ -60,13 +60,13 @@ pub record IsMenuShut (loan : MenuLoan) (old new : List MenuSlot) : Type 0 where
   pub definition : MenuDefinition
   pub closed : definition.stage ≡ Closed
   pub measures : SameMeasures loan.definition definition
+  pub left : is_left loan.slot old ≡ true
   pub back : IsPutBack (record { definition = definition; slot = loan.slot }) old new
 
 -- the menu at an index is there no more, and its definition went back Closed into its slot
 pub record IsMenuDisposed (at : ℕ) (before after : MenuDesk) : Type 0 where
   pub listed : MenuRecord
   pub found : slice_get before.menus.menus at ≡ Some listed
-  pub left : is_left listed.definition.slot before.menus.stock ≡ true
   pub shut : IsMenuShut listed.definition before.menus.stock after.menus.stock
   pub activity : SameActivity before.desk after.desk
   pub shown : AreMenusShown (remove before.menus.menus at) (without_highlight listed.menu.id before.menus.highlighted) after.menus.stock before after

@@ -62,8 +62,8 @@ pub record Shut (loan : Loan) (old new : List SlotView) : Type 0 where
   pub regions : SameRegions loan.definition definition
   pub back : new ≡ slice_set old loan.slot (holding (Some definition) view)
 
-pub shut_facts : (loan : Loan) (old new : List SlotView) → is_left loan.slot old ≡ true → IsShut loan old new → Shut loan old new
-shut_facts loan old new left shut = by_cases (slice_get old loan.slot) refl left shut.back
+pub shut_facts : (loan : Loan) (old new : List SlotView) → IsShut loan old new → Shut loan old new
+shut_facts loan old new shut = by_cases (slice_get old loan.slot) refl shut.left shut.back
   where
     held_none : (o : Option Definition) → is_none o ≡ true → o ≡ None
     held_none None e = refl
@@ -86,7 +86,7 @@ left_parts ws w slots stocked = All-pop (λ v. is_left v.slot slots ≡ true) (w
 
 module _ (ws : List WindowRecord) (w : WindowRecord) (old new : List SlotView) (stocked : IsStocked (ws ++ w ∷ []) old) (is_shut : IsShut (loan_of w) old new) where
   shut : Shut (loan_of w) old new
-  shut = shut_facts (loan_of w) old new (left_parts ws w old stocked).1 is_shut
+  shut = shut_facts (loan_of w) old new is_shut
 
   here : slice_get new w.slot ≡ Some (holding (Some shut.definition) shut.view)
   here = ap (λ ss. slice_get ss w.slot) shut.back ∙ get-set_same old w.slot shut.view _ shut.found

@@ -157,7 +157,6 @@ module _ {V : Type 0} {H : V → Type 0} (loan : Taken V H → Loan) where
     closed = record {
       window = record_of loan w;
       found = found loan t new slots N.whole at s w N.low N.off.there serial;
-      left = its_own t at w N.off.there N.low (λ v. is_left v.slot slots ≡ true) N.whole.sound.stocked.left;
       shut = shut;
       desk = left_is.0 ∙ after_is;
       pixels = left_is.1;

@@ -134,5 +134,5 @@ disposed_stays_right s before after right closed =
 
 pub disposed_keeps_kinds : (s : ℕ) (before after : FullState) → IsWindowDisposed s before after → map (λ slot. slot.kind) after.desk.stock ≡ map (λ slot. slot.kind) before.desk.stock
 disposed_keeps_kinds s before after closed =
-    let shut = shut_facts (loan_of closed.window) before.desk.stock after.desk.stock closed.left closed.shut in
+    let shut = shut_facts (loan_of closed.window) before.desk.stock after.desk.stock closed.shut in
     ap (map (λ slot. slot.kind)) shut.back ∙ map-set (λ (slot : SlotView). slot.kind) before.desk.stock closed.window.slot shut.view _ shut.found refl

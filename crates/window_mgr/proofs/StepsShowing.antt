@@ -180,7 +180,6 @@ module _ (shows : List ℕ → Part → PixelSet) where
     record {
       window = gone.window;
       found = gone.found;
-      left = gone.left;
       shut = gone.shut;
       desk = ap (desk_showing shows) gone.desk;
       pixels = changed_showing shows no_change (λ o p. refl) (λ o. refl) s t distinct gone.pixels;

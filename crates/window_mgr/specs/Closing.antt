@@ -1,8 +1,8 @@
 -- What the end of a desk does to the stock.
-use Rattle.std.specs.Prelude.{◌≡◌, ℕ, List, map, Some, All, IfSome, slice_get, slice_set}
+use Rattle.std.specs.Prelude.{◌≡◌, ℕ, true, List, map, Some, All, slice_get}
 use Rattle.def_iface.specs.declared.window_def.Stage.TheVariants.{Closed}
 use Rattle.def_iface.specs.Meaning.{Definition, Loan, SameRegions}
-use Rattle.def_iface.specs.Stocked.{SlotView, IsFull, holding}
+use Rattle.def_iface.specs.Stocked.{SlotView, IsFull, IsPutBack, is_left}
 use Rattle.vis_update.specs.Records.{WindowRecord}
 
 -- a slot with a definition that is closed, and answers the regions of this one
@@ -17,12 +17,13 @@ IsClosedAt slots w = (s : SlotView) × (slice_get slots w.slot ≡ Some s) × Is
 abbrev pub loan_of : WindowRecord → Loan
 loan_of w = record { definition = w.definition; slot = w.slot }
 
--- the definition was closed and put into its slot, if that was there, and every other slot is as it was
+-- the definition was closed and put into its slot, which was empty, and every other slot is as it was
 pub record IsShut (loan : Loan) (old new : List SlotView) : Type 0 where
   pub definition : Definition
   pub closed : definition.stage ≡ Closed
   pub regions : SameRegions loan.definition definition
-  pub back : IfSome (slice_get old loan.slot) (λ s. new ≡ slice_set old loan.slot (holding (Some definition) s))
+  pub left : is_left loan.slot old ≡ true
+  pub back : IsPutBack (record { definition = definition; slot = loan.slot }) old new
 
 -- the desk's windows were disposed of
 pub record IsClosed (windows : List WindowRecord) (old new : List SlotView) : Type 0 where

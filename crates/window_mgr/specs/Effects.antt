@@ -10,7 +10,7 @@ use Rattle.def_iface.specs.News.{News, AllNews, told_placed, new_window_news}
 use Rattle.def_iface.specs.declared.size.Size as sizes
 use Rattle.def_iface.specs.declared.window_def.Stage.TheVariants.{Live}
 use Rattle.def_iface.specs.Meaning.{Definition, Loan, SameRegions, Hears, IsBegun}
-use Rattle.def_iface.specs.Stocked.{IsTaken, is_left}
+use Rattle.def_iface.specs.Stocked.{IsTaken}
 use Rattle.def_iface.specs.Desk.{on_screen}
 use Rattle.def_iface.specs.declared.part.Part.TheVariants.{Picture}
 use Rattle.def_iface.specs.Owner.{same_owner}
@@ -147,12 +147,11 @@ pub record IsWindowPlaced (p : Placing) (before after : FullState) : Type 0 wher
   pub told : IsToldSize p.to.size (told_placed p.to.size (is_some p.to.user_state)) window.definition definition
   pub arranged : IsArrangement (placed p definition before.desk.windows) before after
 
--- the window of this serial is there no more, and its definition went back Closed into its slot, which was there and
--- empty; where it was active, the first visible window became so, or none
+-- the window of this serial is there no more, and its definition went back Closed into its slot; where it was active, the
+-- first visible window became so, or none
 pub record IsWindowDisposed (s : ℕ) (before after : FullState) : Type 0 where
   pub window : WindowRecord
   pub found : record_with s before.desk.windows ≡ Some window
-  pub left : is_left window.slot before.desk.stock ≡ true
   pub shut : IsShut (loan_of window) before.desk.stock after.desk.stock
   pub desk : after.desk
       ≡ record (desk_arranged (without s before.desk.windows) FrontInItsPlace s before.desk) { stock = after.desk.stock }
