@@ -12,4 +12,5 @@ pub mod Judging
 pub mod StepLemmas
 pub mod UpdateLaws
 pub mod ServedLaws
+pub mod AnyOrder
 pub mod WaitLemmas

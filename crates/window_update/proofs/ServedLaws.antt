@@ -5,14 +5,11 @@ use Rattle.tb_geom.specs.declared.point.Point.{Point}
 use Rattle.tb_geom.specs.Points.{PixelSet, plus, minus}
 use Rattle.def_iface.specs.Desk as layers
 use Rattle.def_iface.specs.Desk.{LayeredDesk, on_screen}
-use Rattle.def_iface.specs.declared.part.Part.{Part}
-use Rattle.def_iface.specs.declared.part.Part.TheVariants as part
 use Rattle.def_iface.specs.Owner.{Owner, owner, owner_among, is_content}
 use Rattle.def_iface.specs.Owner.Owner.{Desktop, Bar, Frame, Content}
 use Rattle.def_iface.specs.Change.{stale_by, image_by}
 use Rattle.def_iface.specs.Scratch.{scratch}
 use Rattle.def_iface.proofs.Owning.{is_other, owner_is_other, same_number, same_owner-self}
-use Rattle.desk_call.specs.declared.update.Layers.TheVariants.{Picture, Lists, Controls}
 use Rattle.desk_call.specs.declared.update.UpdateCall.TheVariants.{Serve}
 use Rattle.desk_call.specs.declared.window.WindowReply.TheVariants.{Done}
 use Rattle.vis_update.specs.Areas.{is_content_of}
@@ -21,12 +18,11 @@ use Rattle.window_mgr.specs.Effects.{IsUnchanged}
 use Rattle.window_mgr.specs.Finding.{record_with}
 use Rattle.window_mgr.specs.FullDesk.{FullDesk, FullState, IsRightState, layered_desk, layered_state, look_of}
 use Rattle.window_mgr.specs.Telling.{seen_from, update_of}
-use Rattle.window_paint.specs.Kinds.{is_of}
-use Rattle.window_mgr.specs.Updating.{IsRefreshed, refresh_change, is_of_kind}
+use Rattle.window_mgr.specs.Updating.{IsRefreshed, refresh_change}
 use Rattle.window_mgr.proofs.Remarked.{unless}
 use Rattle.window_mgr.proofs.TellLemmas.{again_there}
 use Rattle.window_mgr.specs.DeskStates.{DeskState}
-use Rattle.window_update.specs.Served.{AreDone, AreAllServed, IsAllRight, layer_by_layer}
+use Rattle.window_update.specs.Served.{AreAllServed, IsAllRight}
 use Rattle.window_update.specs.UpdateSteps.{IsUpdateStep}
 use Rattle.window_update.specs.Waiting.{IsEmpty}
 
@@ -50,7 +46,7 @@ not_its s t (Content n part) away e = by_test (n == s) refl
     by_test false same = refl
 
 -- what is content is some window's
-whose : (o : Owner) → is_content o ≡ true → (s : ℕ) × (is_content_of s o ≡ true)
+pub whose : (o : Owner) → is_content o ≡ true → (s : ℕ) × (is_content_of s o ≡ true)
 whose Desktop e = absurd (false≢true e)
 whose Bar e = absurd (false≢true e)
 whose (Frame t) e = absurd (false≢true e)
@@ -136,10 +132,10 @@ served_has_nothing s before after (free, (done, (idle, drawn))) = nothing_left s
 pub served_leaves_others : (s t : ℕ) (before after : DeskState) → IsUpdateStep (Serve s) (Ok Done) before after → (t ≡ s → ⊥) → (p : Point) → update_of t after.windows p ≡ update_of t before.windows p
 served_leaves_others s t before after (free, (done, (idle, drawn))) = others_stay s before.windows after.windows drawn t
 
--- ---- an update drawn layer by layer
+-- ---- what was drawn of layers
 
 -- what was drawn stays so
-refreshed_stays : (these : Owner → Bool) (a b c : FullState) → IsRefreshed these a b → IsUnchanged b c → IsRefreshed these a c
+pub refreshed_stays : (these : Owner → Bool) (a b c : FullState) → IsRefreshed these a b → IsUnchanged b c → IsRefreshed these a c
 refreshed_stays these a b c done same = record {
   desk = same.desk ∙ done.desk;
   pixels = record {
@@ -155,7 +151,7 @@ abbrev at : FullState → Point → FullState
 at x p = record { desk = x.desk; stale = λ q. x.stale p; image = λ q. x.image p }
 
 -- and is what it was when the update began
-refreshed_since : (these : Owner → Bool) (a b c : FullState) → IsUnchanged a b → IsRefreshed these b c → IsRefreshed these a c
+pub refreshed_since : (these : Owner → Bool) (a b c : FullState) → IsUnchanged a b → IsRefreshed these b c → IsRefreshed these a c
 refreshed_since these a b c same done = record {
   desk = done.desk ∙ same.desk;
   pixels = record {
@@ -239,34 +235,13 @@ module _ (these others : Owner → Bool) (desk : FullDesk) (stale mid rest image
   both_drawn = record { desk = refl; pixels = record { stale = λ p on. stale_both p on (is_content (owner now p)) refl; image = λ p on. image_both p on (is_content (owner now p)) refl } }
 
 -- so on any desks
-drawn_then : (these others : Owner → Bool) (a b c : FullState) → IsRefreshed these a b → IsRefreshed others b c → IsRefreshed (λ o. these o || others o) a c
+pub drawn_then : (these others : Owner → Bool) (a b c : FullState) → IsRefreshed these a b → IsRefreshed others b c → IsRefreshed (λ o. these o || others o) a c
 drawn_then these others a b c first second =
     subst (λ (d : FullDesk). IsRefreshed (λ o. these o || others o) a (record c { desk = d })) (sym (second.desk ∙ first.desk))
     (both_drawn these others a.desk a.stale b.stale c.stale a.image b.image c.image
     (subst (λ (d : FullDesk). IsRefreshed these a (record b { desk = d })) first.desk first)
     (subst (λ (d : FullDesk). IsRefreshed others (record b { desk = d }) (record c { desk = d })) first.desk
     (subst (λ (d : FullDesk). IsRefreshed others b (record c { desk = d })) second.desk second)))
-
--- the three kinds are all of a window's content
-all_kinds : (s : ℕ) (o : Owner) → ((is_of_kind Picture s o || is_of_kind Lists s o) || is_of_kind Controls s o) ≡ is_content_of s o
-all_kinds s Desktop = refl
-all_kinds s Bar = refl
-all_kinds s (Frame t) = refl
-all_kinds s (Content t a) = by_test (t == s) a
-  where
-    by_test : (b : Bool) (a : Part) → (((b && is_of Picture a) || (b && is_of Lists a)) || (b && is_of Controls a)) ≡ b
-    by_test true part.Picture = refl
-    by_test true (part.Control n) = refl
-    by_test true (part.List n) = refl
-    by_test false a = refl
-
-pub drawn_by_layers_is_served : (s : ℕ) (before after : DeskState) → AreDone (layer_by_layer s) before after → IsUpdateStep (Serve s) (Ok Done) before after
-drawn_by_layers_is_served s before after (a, begun, (b, painted, (c, listed, (d, controlled, (e, ended, same))))) =
-    let layers = drawn_then (λ o. is_of_kind Picture s o || is_of_kind Lists s o) (is_of_kind Controls s) a.windows c.windows d.windows
-    (drawn_then (is_of_kind Picture s) (is_of_kind Lists s) a.windows b.windows c.windows painted.1.1.1 listed.1.1.1) controlled.1.1.1 in
-    let content = subst (λ these. IsRefreshed these a.windows d.windows) (λ i o. all_kinds s o i) layers in
-    let drawn = refreshed_stays (is_content_of s) before.windows d.windows e.windows (refreshed_since (is_content_of s) before.windows a.windows d.windows begun.1.1.windows content) ended.1.1.1 in
-    subst (λ (x : DeskState). IsUpdateStep (Serve s) (Ok Done) before x) (sym same) (begun.0, (refl, (ended.1.1.0, drawn)))
 
 -- ---- a desk with nothing to be redrawn
 
@@ -279,7 +254,7 @@ missing look s (w ∷ ws) e = by_test (w.serial == s) e (λ k. missing look s ws
     by_test true h rest = absurd (cc)
     by_test false h rest = rest h
 
-is_there : (desk : FullDesk) (s : ℕ) (p : Point) → is_content_of s (owner (layered_desk desk) p) ≡ true → (w : WindowRecord) × (record_with s desk.windows ≡ Some w)
+pub is_there : (desk : FullDesk) (s : ℕ) (p : Point) → is_content_of s (owner (layered_desk desk) p) ≡ true → (w : WindowRecord) × (record_with s desk.windows ≡ Some w)
 is_there desk s p its = by_bar (layers.in_bar (layered_desk desk) p) its
   where
     by_found : (o : Option WindowRecord) → record_with s desk.windows ≡ o → is_content_of s (owner_among (layered_desk desk).windows p) ≡ true → (w : WindowRecord) × (record_with s desk.windows ≡ Some w)

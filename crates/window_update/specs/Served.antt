@@ -1,10 +1,9 @@
 -- Updates that were served, and the desk once all are.
-use Rattle.std.specs.Prelude.{◌≡◌, ℕ, true, List, [], ◌∷◌, Ok}
+use Rattle.std.specs.Prelude.{◌≡◌, ℕ, true, List, [], ◌∷◌, ◌++◌, map, Contains, Ok}
 use Rattle.tb_geom.specs.declared.point.Point.{Point}
 use Rattle.def_iface.specs.Desk.{on_screen}
 use Rattle.def_iface.specs.Scratch.{scratch}
 use Rattle.desk_call.specs.declared.update.Layers.{Layers}
-use Rattle.desk_call.specs.declared.update.Layers.TheVariants.{Picture, Lists, Controls}
 use Rattle.desk_call.specs.declared.update.UpdateCall.{UpdateCall}
 use Rattle.desk_call.specs.declared.update.UpdateCall.TheVariants.{Begin, Draw, End}
 use Rattle.desk_call.specs.declared.window.WindowReply.TheVariants.{Done}
@@ -23,9 +22,13 @@ AreDone (call ∷ calls) before after = (next : DeskState) × IsUpdateStep call 
 abbrev pub drawing : ℕ → Layers → UpdateCall
 drawing s layers = Draw (record { window = s; layers = layers })
 
--- the update of a window, begun, drawn layer by layer, and ended
-abbrev pub layer_by_layer : ℕ → List UpdateCall
-layer_by_layer s = Begin s ∷ drawing s Picture ∷ drawing s Lists ∷ drawing s Controls ∷ End s ∷ []
+-- the update of a window: begun, these layers drawn one after another, and ended
+abbrev pub update_drawing : ℕ → List Layers → List UpdateCall
+update_drawing s kinds = Begin s ∷ map (drawing s) kinds ++ End s ∷ []
+
+-- the picture, the lists and the controls are all among these layers, in whichever order, each once or more
+abbrev pub AreAllKinds : List Layers → Type 0
+AreAllKinds kinds = (kind : Layers) → Contains kinds kind
 
 -- no window's update region has a pixel
 abbrev pub AreAllServed : FullState → Type 0

@@ -1,7 +1,8 @@
 //! What the definitions of updates say of each other.
-ghost use Rattle.std.specs.Prelude.{◌≡◌, ℕ, Result, Ok};
+ghost use Rattle.std.specs.Prelude.{◌≡◌, ℕ, List, Result, Ok};
 ghost use Rattle.tb_geom.specs.declared.point.Point.{Point};
 ghost use Rattle.tb_geom.specs.declared.refusal.Refusal.{Refusal};
+ghost use Rattle.desk_call.specs.declared.update.Layers.{Layers};
 ghost use Rattle.desk_call.specs.declared.update.UpdateCall.{UpdateCall};
 ghost use Rattle.desk_call.specs.declared.update.UpdateCall.TheVariants.{Serve};
 ghost use Rattle.desk_call.specs.declared.window.WindowReply.{WindowReply};
@@ -9,7 +10,7 @@ ghost use Rattle.desk_call.specs.declared.window.WindowReply.TheVariants.{Done};
 ghost use Rattle.window_mgr.specs.FullDesk.{FullState, IsRightState};
 ghost use Rattle.window_mgr.specs.Telling.{update_of};
 ghost use Rattle.window_mgr.specs.DeskStates.{DeskState};
-ghost use Rattle.window_update.specs.Served.{AreDone, layer_by_layer, AreAllServed, IsAllRight};
+ghost use Rattle.window_update.specs.Served.{AreDone, update_drawing, AreAllKinds, AreAllServed, IsAllRight};
 ghost use Rattle.window_update.specs.UpdateSteps.{IsUpdateStep};
 ghost use Rattle.window_update.specs.Waiting.{IsEmpty};
 
@@ -34,11 +35,12 @@ pub fn serving_a_window_leaves_the_others()
         → (other ≡ window → ⊥) → (p : Point) → update_of other after.windows p ≡ update_of other before.windows p }
 {}
 
-/// A window's update is served where it was begun, drawn layer by layer, and ended.
-#[tactic(auto, using(crate::proofs::ServedLaws::drawn_by_layers_is_served))]
-pub fn an_update_drawn_layer_by_layer_is_served()
-    ensures { (window : ℕ) (before after : DeskState) → AreDone (layer_by_layer window) before after
-        → IsUpdateStep (Serve window) (Ok Done) before after }
+/// A window's update is served where it was begun, its picture, its lists and its controls were drawn, in whichever order and
+/// however often, and it was ended.
+#[tactic(auto, using(crate::proofs::AnyOrder::drawn_in_any_order_is_served))]
+pub fn an_update_drawn_in_any_order_is_served()
+    ensures { (window : ℕ) (kinds : List Layers) (before after : DeskState) → AreAllKinds kinds
+        → AreDone (update_drawing window kinds) before after → IsUpdateStep (Serve window) (Ok Done) before after }
 {}
 
 /// Where no window's update region has a pixel, a right state shows on the whole screen what painting the desk from
