@@ -17,13 +17,13 @@ use Rattle.def_iface.specs.declared.window_def.Stage.TheVariants.{Live}
 use Rattle.def_iface.specs.ControlMeaning.{ControlDefinition, ControlLoan}
 use Rattle.def_iface.specs.Slots.{is_left}
 use Rattle.window_mgr.proofs.SlotLemmas.{get-set_other, map-set}
-use Rattle.control_mgr.specs.ControlClosing.{AreControlsClosed, IsControlClosedAt, IsControlFull, IsWindowLeft}
+use Rattle.control_mgr.specs.ControlClosing.{AreAllControlsClosed, AreControlsClosed, IsControlClosedAt, IsControlFull, IsWindowLeft}
 use Rattle.control_mgr.specs.ControlDesks.{ControlRecord, ControlSlot, ControlsState}
 use Rattle.control_mgr.specs.ControlSteps.{IsControlShut}
 use Rattle.control_mgr.specs.InUse.{AreStocked}
 use Rattle.control_mgr.specs.WholeControls.{AreApart, AreLiveControls, slots_of}
 use Rattle.control_mgr.proofs.Edited.{All-remove, All-there, map-remove}
-use Rattle.control_mgr.proofs.Stocks.{IsEmptyFor, Shut, shut_facts, slot_is_left, slot_of, stocked_without}
+use Rattle.control_mgr.proofs.Stocks.{IsEmptyFor, Shut, full_where_unused, shut_facts, slot_is_left, slot_of, stocked_without}
 
 abbrev stage_of : ControlDefinition → Stage
 stage_of d = d.stage
@@ -113,8 +113,8 @@ popped control_loan all xs rest x old now under parts =
 
 -- none of them is left
 pub all_ended : {W : Type 0} {K : W → Type 0} (control_loan : TakenControl W K → ControlLoan) (all : List ControlRecord) (xs : List (Control (TakenControl W K))) (old now : List ControlSlot)
-    → length xs ≡ 0 → AreBeingEnded all (all_seen control_loan xs) old now → AreControlsClosed all old now
-all_ended control_loan all [] old now none under = under.rest now (closed_none now)
+    → length xs ≡ 0 → AreBeingEnded all (all_seen control_loan xs) old now → AreAllControlsClosed all old now
+all_ended control_loan all [] old now none under = record { ended = under.rest now (closed_none now); full = full_where_unused stage_of now under.stocked }
 all_ended control_loan all (x ∷ xs) old now none under = absurd (omega arith)
 
 -- ---- those of one window

@@ -1,13 +1,14 @@
 -- Which slots of a stock are in use, where definitions are taken and come back.
 use Rattle.std.proofs.Common.{◌≡◌, ⊎_elim, inl, inr, ℕ, zero, suc, ◌+◌, ◌≤◌, Bool, true, false, ◌==◌, if◌then◌else◌, List, [], ◌∷◌, ◌++◌, Option, Some, None, refl, sym, ap, ◌∙◌, subst, arith}
-use Rattle.std.specs.Prelude.{slice_get, slice_set, is_none, IfSome}
+use Rattle.std.specs.Prelude.{All, slice_get, slice_set, is_none, IfSome}
 use Rattle.std.specs.List.{remove}
 use Rattle.std.specs.Option.{option_map_or}
 use Rattle.std.proofs.lemmas.Bool.{cases_eq}
 use Rattle.std.proofs.lemmas.Bool.Decides.{nat_tests}
+use Rattle.std.proofs.lemmas.List.Elements.{All-cons, All-nil}
 use Rattle.def_iface.specs.declared.window_def.Stage.{Stage}
 use Rattle.def_iface.specs.declared.window_def.Stage.TheVariants.{Closed}
-use Rattle.def_iface.specs.Slots.{SlotOf, LoanOf, IsPutBack, IsTaken, holding, is_left}
+use Rattle.def_iface.specs.Slots.{SlotOf, LoanOf, IsFull, IsPutBack, IsTaken, holding, is_left}
 use Rattle.window_mgr.proofs.SlotLemmas.{get-set_same, get-set_other}
 use Rattle.control_mgr.specs.InUse.{uses, IsUsedBy, AreStocked}
 
@@ -63,6 +64,15 @@ module _ {D : Type 0} (stage : D → Stage) where
 
   pub slot_is_left : (k : ℕ) (slots : List (SlotOf D)) → IsEmptyFor k slots → is_left k slots ≡ true
   slot_is_left k slots e = ap (λ o. option_map_or (λ (s : SlotOf D). is_none s.held) o false) e.found ∙ ap is_none e.empty
+
+  -- where none is in use, every slot has a definition that no desk uses
+  pub full_where_unused : (slots : List (SlotOf D)) → AreStocked stage [] slots → All (IsFull stage) slots
+  full_where_unused [] stocked = All-nil (IsFull stage)
+  full_where_unused (s ∷ ss) stocked = All-cons (IsFull stage) s ss (full (stocked zero)) (full_where_unused ss (λ k. stocked (suc k)))
+    where
+      full : IsUsedBy stage 0 (Some s) → IsFull stage s
+      full (inl (none, h)) = h
+      full (inr (one, empty)) = absurd (omega arith)
 
   -- a definition was taken out of its slot
   pub stocked_with : (ns : List ℕ) (kind : List ℕ) (loan : LoanOf D) (old left : List (SlotOf D)) → IsTaken stage kind loan old left → AreStocked stage ns old → AreStocked stage (ns ++ loan.slot ∷ []) left

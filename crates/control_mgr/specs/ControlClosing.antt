@@ -27,6 +27,11 @@ pub record AreControlsClosed (cs : List ControlRecord) (old new : List ControlSl
   -- the slots of the controls have their definitions, which are closed
   pub closed : All (IsControlClosedAt new) cs
 
+-- the desk's controls, which are these, were disposed of: every slot has a definition that no desk uses
+pub record AreAllControlsClosed (cs : List ControlRecord) (old new : List ControlSlot) : Type 0 where
+  pub ended : AreControlsClosed cs old new
+  pub full : All IsControlFull new
+
 -- the controls of a window were disposed of, and those of other windows stay
 pub record IsWindowLeft (window : ℕ) (before after : ControlsState) : Type 0 where
   pub gone : controls_of window after.controls ≡ []

@@ -2,7 +2,7 @@
 ghost use Rattle.std.specs.Prelude.{◌≡◌, [], true, List};
 ghost use Rattle.control_list.specs.Lists.{controls_of};
 ghost use Rattle.def_iface.specs.Slots.{is_left};
-ghost use Rattle.control_mgr.specs.ControlClosing.{AreControlsClosed, IsWindowLeft};
+ghost use Rattle.control_mgr.specs.ControlClosing.{AreAllControlsClosed, IsWindowLeft};
 ghost use Rattle.control_mgr.specs.ControlSteps.{IsControlShut};
 ghost use Rattle.control_mgr.specs.InUse.{AreStocked};
 ghost use Rattle.control_mgr.specs.WholeControls.{AreLiveControls, controls_state, records_of, slots_of};
@@ -41,7 +41,7 @@ impl Controls<TakenControl> {
     pub fn close(self, stock: &mut ControlStock)
         requires live { AreLiveControls (records_of ⟦<TakenControl as DefinedControl>⟧.control_loan self) }
         requires stocked { AreStocked (λ d. d.stage) (slots_of (records_of ⟦<TakenControl as DefinedControl>⟧.control_loan self)) (⟦<ControlStock as StockedControls>⟧.control_slots stock.old) }
-        ensures { AreControlsClosed (records_of ⟦<TakenControl as DefinedControl>⟧.control_loan self) (⟦<ControlStock as StockedControls>⟧.control_slots stock.old) (⟦<ControlStock as StockedControls>⟧.control_slots stock.new) }
+        ensures { AreAllControlsClosed (records_of ⟦<TakenControl as DefinedControl>⟧.control_loan self) (⟦<ControlStock as StockedControls>⟧.control_slots stock.old) (⟦<ControlStock as StockedControls>⟧.control_slots stock.new) }
     {
         let Controls { list, .. } = self;
         let ControlList { controls, .. } = list;

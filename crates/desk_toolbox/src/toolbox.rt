@@ -10,10 +10,10 @@ ghost use Rattle.window_mgr.specs.Records.{desk_of, state_of, state_showing};
 ghost use Rattle.window_mgr.specs.Refused.{is_missing};
 ghost use Rattle.desk_call.specs.declared.activity.Activity.TheVariants.{Idle};
 ghost use Rattle.bit_map.specs.Bits.{bit, on_map};
-ghost use Rattle.control_mgr.specs.ControlClosing.{AreControlsClosed, IsControlFull};
+ghost use Rattle.control_mgr.specs.ControlClosing.{AreAllControlsClosed, IsControlFull};
 ghost use Rattle.control_mgr.specs.ControlDesks.{ControlSlot, controls_show};
 ghost use Rattle.control_mgr.specs.WholeControls.{records_of};
-ghost use Rattle.list_mgr.specs.ListClosing.{AreListsClosed, IsListFull};
+ghost use Rattle.list_mgr.specs.ListClosing.{AreAllListsClosed, IsListFull};
 ghost use Rattle.list_mgr.specs.ListDesks.{ListSlot, lists_show};
 ghost use Rattle.list_mgr.specs.WholeLists as whole_lists;
 ghost use Rattle.menu_mgr.specs.MenuClosing.{AreMenusClosed};
@@ -329,9 +329,9 @@ impl Toolbox {
             (⟦<Stock as Stocked>⟧.slots stock.old) (⟦<MenuStock as StockedMenus>⟧.menu_slots stock.old.menus) (⟦<ControlStock as StockedControls>⟧.control_slots stock.old.controls) (⟦<ListStock as StockedLists>⟧.list_slots stock.old.lists) }
         ensures windows { IsClosed (desk_of ⟦<Taken as Defined>⟧.loan self.windows (⟦<Stock as Stocked>⟧.slots stock.old)).windows
             (⟦<Stock as Stocked>⟧.slots stock.old) (⟦<Stock as Stocked>⟧.slots stock.new) }
-        ensures controls { AreControlsClosed (records_of ⟦<TakenControl as DefinedControl>⟧.control_loan self.controls)
+        ensures controls { AreAllControlsClosed (records_of ⟦<TakenControl as DefinedControl>⟧.control_loan self.controls)
             (⟦<ControlStock as StockedControls>⟧.control_slots stock.old.controls) (⟦<ControlStock as StockedControls>⟧.control_slots stock.new.controls) }
-        ensures lists { AreListsClosed (whole_lists.records_of ⟦<TakenList as DefinedList>⟧.list_loan self.lists)
+        ensures lists { AreAllListsClosed (whole_lists.records_of ⟦<TakenList as DefinedList>⟧.list_loan self.lists)
             (⟦<ListStock as StockedLists>⟧.list_slots stock.old.lists) (⟦<ListStock as StockedLists>⟧.list_slots stock.new.lists) }
         ensures menus { AreMenusClosed (menus_of ⟦<TakenMenu as DefinedMenu>⟧.menu_loan self.menus.list.menus.items)
             (⟦<MenuStock as StockedMenus>⟧.menu_slots stock.old.menus) (⟦<MenuStock as StockedMenus>⟧.menu_slots stock.new.menus) }

@@ -18,9 +18,9 @@ use Rattle.def_iface.specs.ListMeaning.{ListDefinition, ListLoan}
 use Rattle.def_iface.specs.Slots.{is_left}
 use Rattle.window_mgr.proofs.SlotLemmas.{get-set_other, map-set}
 use Rattle.control_mgr.specs.InUse.{AreStocked}
-use Rattle.control_mgr.proofs.Stocks.{IsEmptyFor, Shut, shut_facts, slot_is_left, slot_of, stocked_without}
+use Rattle.control_mgr.proofs.Stocks.{IsEmptyFor, Shut, full_where_unused, shut_facts, slot_is_left, slot_of, stocked_without}
 use Rattle.list_mgr.specs.declared.lists.Lists.{Lists}
-use Rattle.list_mgr.specs.ListClosing.{AreListsClosed, IsListClosedAt, IsListFull, AreListsOfLeft}
+use Rattle.list_mgr.specs.ListClosing.{AreAllListsClosed, AreListsClosed, IsListClosedAt, IsListFull, AreListsOfLeft}
 use Rattle.list_mgr.specs.ListDesks.{KeptList, ListSlot, ListsState}
 use Rattle.list_mgr.specs.ListSteps.{IsListShut}
 use Rattle.list_mgr.specs.WholeLists.{AreApart, AreLiveLists, AreSettled, IsSettledList, records_of, slots_of}
@@ -55,7 +55,7 @@ closed_more ls l now new final slot is_shut closed = record {
   kinds = closed.kinds ∙ ap (map (λ (s : ListSlot). s.kind)) shut.back ∙ map-set (λ (s : ListSlot). s.kind) now l.definition.slot shut.slot _ shut.found refl;
   others = others;
   closed = All-push (IsListClosedAt final) ls l closed.closed
-      (_, closed.others l.definition.slot _ shut.here (is_shut.definition, refl, inr is_shut.closed), (is_shut.definition, refl, is_shut.closed));
+      (_, closed.others l.definition.slot _ shut.here (is_shut.definition, refl, inr is_shut.closed), (is_shut.definition, refl, is_shut.closed, is_shut.look));
 }
   where
     shut : Shut stage_of (record { definition = is_shut.definition; slot = l.definition.slot }) now new
@@ -115,8 +115,8 @@ popped list_loan all xs rest x old now under parts =
 
 -- none of them is left
 pub all_ended : {X : Type 0} {L : X → Type 0} (list_loan : TakenList X L → ListLoan) (all : List KeptList) (xs : List (ListRecord (TakenList X L))) (old now : List ListSlot)
-    → length xs ≡ 0 → AreBeingEnded all (all_seen list_loan xs) old now → AreListsClosed all old now
-all_ended list_loan all [] old now none under = under.rest now (closed_none now)
+    → length xs ≡ 0 → AreBeingEnded all (all_seen list_loan xs) old now → AreAllListsClosed all old now
+all_ended list_loan all [] old now none under = record { ended = under.rest now (closed_none now); full = full_where_unused stage_of now under.stocked }
 all_ended list_loan all (x ∷ xs) old now none under = absurd (omega arith)
 
 -- ---- those of one window

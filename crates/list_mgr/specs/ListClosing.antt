@@ -1,7 +1,7 @@
 -- What the end of a window or of a desk does to the stock of lists.
 use Rattle.std.specs.Prelude.{◌≡◌, ℕ, List, [], map, All, Contains, Some, slice_get}
 use Rattle.def_iface.specs.declared.window_def.Stage.TheVariants.{Closed}
-use Rattle.def_iface.specs.ListMeaning.{ListDefinition}
+use Rattle.def_iface.specs.ListMeaning.{ListDefinition, SameListLook}
 use Rattle.def_iface.specs.Slots.{IsFull}
 use Rattle.list_records.specs.Lists.{lists_of}
 use Rattle.control_mgr.specs.InUse.{AreStocked}
@@ -12,10 +12,11 @@ use Rattle.list_mgr.specs.WholeLists.{AreApart, slots_of}
 abbrev pub IsListFull : ListSlot → Type 0
 IsListFull s = IsFull (λ (d : ListDefinition). d.stage) s
 
--- the list's slot is there, with a definition that is closed
+-- the list's slot is there, with its definition, which is closed
 abbrev pub IsListClosedAt : List ListSlot → KeptList → Type 0
 IsListClosedAt slots l =
-    (s : ListSlot) × (slice_get slots l.definition.slot ≡ Some s) × ((d : ListDefinition) × (s.held ≡ Some d) × (d.stage ≡ Closed))
+    (s : ListSlot) × (slice_get slots l.definition.slot ≡ Some s)
+    × ((d : ListDefinition) × (s.held ≡ Some d) × (d.stage ≡ Closed) × SameListLook l.definition.definition d)
 
 -- the definitions of these lists were closed and put into their slots, and every other slot is as it was
 pub record AreListsClosed (ls : List KeptList) (old new : List ListSlot) : Type 0 where
@@ -25,6 +26,11 @@ pub record AreListsClosed (ls : List KeptList) (old new : List ListSlot) : Type 
   pub others : (k : ℕ) (s : ListSlot) → slice_get old k ≡ Some s → IsListFull s → slice_get new k ≡ Some s
   -- the slots of the lists have their definitions, which are closed
   pub closed : All (IsListClosedAt new) ls
+
+-- the desk's lists, which are these, were disposed of: every slot has a definition that no desk uses
+pub record AreAllListsClosed (ls : List KeptList) (old new : List ListSlot) : Type 0 where
+  pub ended : AreListsClosed ls old new
+  pub full : All IsListFull new
 
 -- the lists of a window were disposed of, and those of other windows stay
 pub record AreListsOfLeft (window : ℕ) (before after : ListsState) : Type 0 where

@@ -24,7 +24,7 @@ use Rattle.list_paint.specs.Shown.{is_turned}
 use Rattle.def_iface.specs.declared.part.Part.{Part}
 use Rattle.def_iface.specs.declared.part.Part.TheVariants as part
 use Rattle.def_iface.specs.declared.window_def.Stage.TheVariants.{Closed}
-use Rattle.def_iface.specs.ListMeaning.{IsListBegun, ListDefinition, ListLoan}
+use Rattle.def_iface.specs.ListMeaning.{IsListBegun, ListDefinition, ListLoan, SameListLook}
 use Rattle.def_iface.specs.Slots.{IsPutBack, IsTaken, is_left}
 use Rattle.def_iface.specs.Change.{Change, IsChanged, no_change}
 use Rattle.def_iface.specs.Owner.{same_owner}
@@ -247,6 +247,7 @@ IsListMade n serial before after = (with_vertical with_both : ListDesk) × (vert
 pub record IsListShut (loan : ListLoan) (old new : List ListSlot) : Type 0 where
   pub definition : ListDefinition
   pub closed : definition.stage ≡ Closed
+  pub look : SameListLook loan.definition definition
   pub left : is_left loan.slot old ≡ true
   pub back : IsPutBack (record { definition = definition; slot = loan.slot }) old new
 

@@ -9,7 +9,7 @@ ghost use Rattle.control_mgr.specs.Ending.{IsPutIfPlanned, IsTakenOut};
 ghost use Rattle.control_mgr.specs.InUse.{AreStocked};
 ghost use Rattle.control_mgr.specs.WholeControls.{AreWholeControls, controls_state};
 ghost use Rattle.list_mgr.specs.BarEnds.{IsBarGoneOver, IsBarPlanned, IsBarToEnd, bar_serial};
-ghost use Rattle.list_mgr.specs.ListClosing.{AreListsClosed, AreListsOfLeft};
+ghost use Rattle.list_mgr.specs.ListClosing.{AreAllListsClosed, AreListsOfLeft};
 ghost use Rattle.list_mgr.specs.ListSteps.{IsListShut, IsListStep};
 ghost use Rattle.list_mgr.specs.WholeLists.{AreLiveLists, AreWholeLists, LeavesOver, lists_state, records_of, slots_of};
 
@@ -155,7 +155,7 @@ impl Lists<TakenList> {
     pub fn close(self, stock: &mut ListStock)
         requires live { AreLiveLists (records_of ⟦<TakenList as DefinedList>⟧.list_loan self) }
         requires stocked { AreStocked (λ d. d.stage) (slots_of (records_of ⟦<TakenList as DefinedList>⟧.list_loan self)) (⟦<ListStock as StockedLists>⟧.list_slots stock.old) }
-        ensures { AreListsClosed (records_of ⟦<TakenList as DefinedList>⟧.list_loan self) (⟦<ListStock as StockedLists>⟧.list_slots stock.old) (⟦<ListStock as StockedLists>⟧.list_slots stock.new) }
+        ensures { AreAllListsClosed (records_of ⟦<TakenList as DefinedList>⟧.list_loan self) (⟦<ListStock as StockedLists>⟧.list_slots stock.old) (⟦<ListStock as StockedLists>⟧.list_slots stock.new) }
     {
         let Lists { list, .. } = self;
         let ListRecords { lists, .. } = list;

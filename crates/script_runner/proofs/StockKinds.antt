@@ -122,7 +122,7 @@ control_kinds_kept = record {
 
 left_control_kinds : (s : SessionState) (left : List SlotView) (left_menus : List MenuSlot) (left_controls : List ControlSlot) (left_lists : List ListSlot) → LeavesStock s left left_menus left_controls left_lists → control_kinds left_controls ≡ of_session desk_control_kinds (λ slots kept held listed. control_kinds held) s
 left_control_kinds (unmade font slots kept held listed) left left_menus left_controls left_lists same = ap control_kinds same.1.1.0
-left_control_kinds (made s) left left_menus left_controls left_lists closed = closed.1.1.0.kinds
+left_control_kinds (made s) left left_menus left_controls left_lists closed = closed.1.1.0.ended.kinds
 
 -- ---- those of lists
 
@@ -140,7 +140,7 @@ list_kinds_kept = record {
 
 left_list_kinds : (s : SessionState) (left : List SlotView) (left_menus : List MenuSlot) (left_controls : List ControlSlot) (left_lists : List ListSlot) → LeavesStock s left left_menus left_controls left_lists → list_kinds left_lists ≡ of_session desk_list_kinds (λ slots kept held listed. list_kinds listed) s
 left_list_kinds (unmade font slots kept held listed) left left_menus left_controls left_lists same = ap list_kinds same.1.1.1
-left_list_kinds (made s) left left_menus left_controls left_lists closed = closed.1.1.1.kinds
+left_list_kinds (made s) left left_menus left_controls left_lists closed = closed.1.1.1.ended.kinds
 
 -- ---- at the end of a script, whether a check follows or not
 

@@ -16,9 +16,9 @@ use Rattle.desk_call.specs.declared.activity.Activity.TheVariants.{Idle}
 use Rattle.window_mgr.specs.FullDesk.{IsRightState}
 use Rattle.window_mgr.specs.Begin.{empty_desk}
 use Rattle.window_mgr.specs.Closing.{IsClosed}
-use Rattle.control_mgr.specs.ControlClosing.{AreControlsClosed}
+use Rattle.control_mgr.specs.ControlClosing.{AreAllControlsClosed}
 use Rattle.control_mgr.specs.ControlDesks.{ControlSlot}
-use Rattle.list_mgr.specs.ListClosing.{AreListsClosed}
+use Rattle.list_mgr.specs.ListClosing.{AreAllListsClosed}
 use Rattle.list_mgr.specs.ListDesks.{ListSlot}
 use Rattle.list_mgr.specs.ListRefusals.{lacks_kind}
 use Rattle.menu_mgr.specs.MenuClosing.{AreMenusClosed}
@@ -149,4 +149,4 @@ LeavesStock (unmade font slots kept held listed) left left_menus left_controls l
 LeavesStock (made s) left left_menus left_controls left_lists =
     IsClosed s.desk.windows.desk.windows s.desk.windows.desk.stock left
     × (AreMenusClosed s.menus.menus s.menus.stock left_menus
-    × (AreControlsClosed s.controls.controls s.controls.stock left_controls × AreListsClosed s.lists.lists s.lists.stock left_lists))
+    × (AreAllControlsClosed s.controls.controls s.controls.stock left_controls × AreAllListsClosed s.lists.lists s.lists.stock left_lists))
