@@ -1,17 +1,21 @@
 -- Each state that a Toolbox reaches is consistent.
-use Rattle.std.proofs.Common.{◌≡◌, true, List, [], ◌∷◌, Result, sym, ap, ◌∙◌, subst, arith}
+use Rattle.std.proofs.Common.{◌≡◌, true, List, [], ◌∷◌, map, Result, sym, ap, ◌∙◌, subst, arith}
+use Rattle.std.specs.Prelude.{IfSome, pos}
 use Rattle.std.proofs.lemmas.List.Elements.{All-nil, All-same}
 use Rattle.tb_geom.specs.declared.refusal.Refusal.{Refusal}
 use Rattle.event_queue.specs.declared.event.Event.{Event}
 use Rattle.event_queue.specs.Events.{is_posted}
 use Rattle.desk_call.specs.declared.call.Call.{Call}
 use Rattle.desk_call.specs.declared.call.Reply.{Reply}
-use Rattle.menu_list.specs.Lists.{titles_of}
+use Rattle.def_iface.specs.Meaning.{Definition}
+use Rattle.menu_list.specs.Lists.{is_in_bar, titles_of}
+use Rattle.menu_mgr.specs.WholeMenus.{AreMenusStocked}
+use Rattle.menu_mgr.proofs.Stocks.{stocked_by_full}
 use Rattle.vis_update.specs.Records.{WindowRecord}
 use Rattle.window_frame.specs.Followers.{Knows}
 use Rattle.window_frame.specs.Followers.Flag.{Highlighting, Zooming}
 use Rattle.desk_toolbox.specs.declared.events.Events.{Events}
-use Rattle.desk_toolbox.specs.Reached.{AreApart, IsLit, IsPulledThere, IsThere, IsTrackedIfHeard, IsConsistent, IsJustBegun, open_window}
+use Rattle.desk_toolbox.specs.Reached.{AreApart, HasLiveDefinition, IsLit, IsPulledThere, IsThere, IsTrackedIfHeard, IsConsistent, IsJustBegun, open_window}
 use Rattle.desk_toolbox.specs.Run.{IsStep, IsRunOfCalls}
 use Rattle.desk_toolbox.specs.ToolboxStates.{ToolboxState}
 use Rattle.desk_toolbox.proofs.EachManager.{HoldsOfEach, of_step}
@@ -20,8 +24,12 @@ use Rattle.desk_toolbox.proofs.Stands.{Stands, stands, consistent, stands_still,
 use Rattle.desk_toolbox.proofs.StandsOpen.{update_stands, frame_stands}
 use Rattle.desk_toolbox.proofs.MenuStands.{menu_stands}
 use Rattle.desk_toolbox.proofs.ContentsBeside.{IsRightToolbox}
-use Rattle.desk_toolbox.proofs.TrackedControls.{control_stands}
+use Rattle.desk_toolbox.proofs.HeldSteps.{step_keeps_held}
+use Rattle.desk_toolbox.proofs.HeldWindows.{step_keeps_stocked}
+use Rattle.desk_toolbox.proofs.LiveDefinitions.{step_keeps_live}
+use Rattle.desk_toolbox.proofs.TrackedControls.{control_stands, none_used_at}
 use Rattle.desk_toolbox.proofs.ListStands.{begun_contents, list_stands}
+use Rattle.control_mgr.specs.InUse.{AreStocked}
 use Rattle.control_mgr.specs.WholeControls.{IsTrackable}
 
 abbrev GoesOnStanding : Call → Result Reply Refusal → ToolboxState → ToolboxState → Type 0
@@ -45,7 +53,10 @@ step_stands : (call : Call) (answer : Result Reply Refusal) (before after : Tool
 step_stands call answer before after was step = of_step GoesOnStanding each_stands call answer before after step was (step_stays_right call answer before after (record { right = was.right; contents = was.contents }) step)
 
 pub step_keeps_consistent : (call : Call) (answer : Result Reply Refusal) (before after : ToolboxState) → IsConsistent before → IsStep call answer before after → IsConsistent after
-step_keeps_consistent call answer before after was step = consistent after (step_stands call answer before after (stands before was) step)
+step_keeps_consistent call answer before after was step =
+    let now = step_stands call answer before after (stands before was) step in
+    consistent after now (step_keeps_stocked call answer before after step was.held) (step_keeps_live call answer before after step was.live)
+    (step_keeps_held call answer before after step now.pull.pulled (record { stocked = was.stocked; title = was.title }))
 
 pub run_keeps_consistent : (first last : ToolboxState) (calls : List Call) (answers : List (Result Reply Refusal)) → IsConsistent first → IsRunOfCalls first calls answers last → IsConsistent last
 run_keeps_consistent first last [] [] was run = subst IsConsistent (sym run) was
@@ -67,10 +78,14 @@ just_begun_is_consistent s begun =
       contents = begun_contents s begun;
       trackable = subst (λ a. IsTrackable a s.controls.controls) (sym begun.idle) tt;
       queued = All-same (λ (e : Event). is_posted e.what ≡ true) s.events.queue.events [] (ap (λ (e : Events). e.queue.events) begun.events) (All-nil (λ (e : Event). is_posted e.what ≡ true));
+      held = subst (λ (ws : List WindowRecord). AreStocked (λ (d : Definition). d.stage) (map (λ w. w.slot) ws) s.desk.windows.desk.stock) (sym begun.windows) (λ k. none_used_at (λ (d : Definition). d.stage) s.desk.windows.desk.stock k begun.stock);
+      live = All-same HasLiveDefinition windows [] begun.windows (All-nil HasLiveDefinition);
       informed = All-same (λ (w : WindowRecord). Knows Highlighting w × Knows Zooming w) windows [] begun.windows (All-nil (λ (w : WindowRecord). Knows Highlighting w × Knows Zooming w));
       tracked = All-same (IsTrackedIfHeard s.desk.activity) windows [] begun.windows (All-nil (IsTrackedIfHeard s.desk.activity));
       bar = begun.titles ∙ sym (λ i. titles_of (begun.highlighted i) (begun.menus i));
       apart = subst AreApart (sym begun.menus) (λ id. omega arith);
       pulled = subst (λ a. IsPulledThere a s.menus) (sym begun.idle) tt;
       lit = All-same (IsLit s.desk.activity) s.menus.menus [] begun.menus (All-nil (IsLit s.desk.activity));
+      title = subst (λ o. IfSome o (λ id. is_in_bar (pos id) s.menus.menus ≡ true)) (sym begun.highlighted) tt;
+      stocked = subst (λ ls. AreMenusStocked ls s.menus.stock) (sym begun.menus) (stocked_by_full s.menus.stock begun.kept);
     }

@@ -15,6 +15,8 @@ pub mod StepCounts
 pub mod Told
 pub mod Telling
 pub mod Tracked
+pub mod LiveDefinitions
+pub mod HeldWindows
 pub mod Stands
 pub mod StandsOpen
 pub mod MenuKinds
@@ -24,6 +26,8 @@ pub mod ListKinds
 pub mod ListNumbers
 pub mod MenuNumbers
 pub mod LitMenus
+pub mod HeldMenus
+pub mod HeldSteps
 pub mod PulledMenus
 pub mod PulledSteps
 pub mod MenuStands
@@ -40,6 +44,9 @@ pub mod FindWindowLaws
 pub mod LeftByMenus
 pub mod MenusBeside
 pub mod UpdatesBeside
+pub mod OpenUpdates
+pub mod ServedRuns
+pub mod RegionLaws
 pub mod Lent
 pub mod Asked
 pub mod WaitingShown

@@ -1,5 +1,6 @@
 -- What holds of a reached state, with windows counted, after calls on windows and about events.
 use Rattle.std.proofs.Common.{◌≡◌, ℕ, List, Option, None, Some, Result, Ok, Err, refl, sym, ap, ◌∙◌, subst, arith}
+use Rattle.std.specs.Prelude.{All}
 use Rattle.tb_geom.specs.declared.refusal.Refusal.{Refusal}
 use Rattle.tb_geom.specs.Points.{PixelSet}
 use Rattle.desk_call.specs.declared.activity.Activity.{Activity}
@@ -26,9 +27,10 @@ use Rattle.window_frame.proofs.FrameKeeps.{caught_up_keeps}
 use Rattle.desk_toolbox.specs.declared.events.Events.{Events}
 use Rattle.desk_toolbox.specs.Activations.{to_dispose}
 use Rattle.desk_toolbox.specs.EventSteps.{event_step}
-use Rattle.desk_toolbox.specs.Reached.{AreApart, AreContentsRight, IsThere, IsConsistent, open_window}
+use Rattle.desk_toolbox.specs.Reached.{AreApart, AreContentsRight, AreWindowsStocked, HasLiveDefinition, IsThere, IsConsistent, open_window}
 use Rattle.desk_toolbox.specs.Run.{AreControlsLeft, IsWindowAnswer, IsWindowMade, IsEventAnswer}
 use Rattle.desk_toolbox.specs.ToolboxStates.{ToolboxState}
+use Rattle.desk_toolbox.proofs.HeldSteps.{AreMenusHeld}
 use Rattle.desk_toolbox.proofs.PulledMenus.{IsPullRight, same_pull}
 use Rattle.desk_toolbox.proofs.Totals.{total, Present, present_when, found_counts, counted_is_found}
 use Rattle.desk_toolbox.proofs.Recounts.{done_counts, done_keeps_active}
@@ -77,8 +79,8 @@ stands s h = record {
   pull = record { pulled = h.pulled; lit = h.lit };
 }
 
-pub consistent : (s : ToolboxState) → Stands s → IsConsistent s
-consistent s h = record {
+pub consistent : (s : ToolboxState) → Stands s → AreWindowsStocked s.desk.windows.desk → All HasLiveDefinition s.desk.windows.desk.windows → AreMenusHeld s.menus → IsConsistent s
+consistent s h held live menus = record {
   right = h.right;
   active = present_is_there s.desk.windows.desk.active s.desk.windows.desk.windows h.active;
   told = present_is_there s.events.told s.desk.windows.desk.windows h.told;
@@ -86,12 +88,16 @@ consistent s h = record {
   contents = h.contents;
   trackable = h.trackable;
   queued = h.queued;
+  held = held;
+  live = live;
   informed = h.informed;
   tracked = all_heard_rightly s.desk.activity s.desk.windows.desk.windows h.tracked;
   bar = h.bar;
   apart = h.apart;
   pulled = h.pull.pulled;
   lit = h.pull.lit;
+  title = menus.title;
+  stocked = menus.stocked;
 }
 
 -- the menu bar has the same titles, and they are those of the same menus

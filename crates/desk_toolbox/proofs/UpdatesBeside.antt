@@ -64,7 +64,7 @@ updates_or_not (TrackingControl c) = inl tt
 updates_or_not (Pulling m) = inl tt
 
 -- a call on windows comes while an update is open only if it asks
-window_asks_then : (call : WindowCall) (s : ℕ) → gate (Updating s) (window_standing call) ≡ None → window_standing call ≡ Asks
+pub window_asks_then : (call : WindowCall) (s : ℕ) → gate (Updating s) (window_standing call) ≡ None → window_standing call ≡ Asks
 window_asks_then (asks.Find p) s may = refl
 window_asks_then asks.Front s may = refl
 window_asks_then (asks.Info w) s may = refl
@@ -73,7 +73,7 @@ window_asks_then (asks.UpdateRegion w) s may = refl
 window_asks_then _ s may = absurd (cc)
 
 -- and one about frames or menus never does
-frame_comes_apart : (call : FrameCall) (a : Activity) → gate a (frame_standing call) ≡ None → UpdatesNone a
+pub frame_comes_apart : (call : FrameCall) (a : Activity) → gate a (frame_standing call) ≡ None → UpdatesNone a
 frame_comes_apart call Idle may = tt
 frame_comes_apart call (Tracking s) may = tt
 frame_comes_apart call (TrackingControl c) may = tt
@@ -84,7 +84,7 @@ frame_comes_apart (TrackGoAway g) (Updating s) may = absurd (cc)
 frame_comes_apart (StepGoAway p) (Updating s) may = absurd (cc)
 frame_comes_apart (EndGoAway p) (Updating s) may = absurd (cc)
 
-menu_comes_apart : (call : MenuCall) (a : Activity) → gate a (menu_standing call) ≡ None → UpdatesNone a
+pub menu_comes_apart : (call : MenuCall) (a : Activity) → gate a (menu_standing call) ≡ None → UpdatesNone a
 menu_comes_apart call Idle may = tt
 menu_comes_apart call (Tracking s) may = tt
 menu_comes_apart call (TrackingControl c) may = tt

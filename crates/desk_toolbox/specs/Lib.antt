@@ -1,10 +1,13 @@
--- What the contracts speak of: a whole Toolbox and its state, steps of any manager's calls, runs of steps, and what holds of
--- each state that a run reaches, and that reasons to refuse stand in the written order.
+-- What the contracts speak of: a whole Toolbox and its state, steps of any manager's calls, runs of steps, what a run does while
+-- an update is open, the regions of windows, what holds of each state that a run reaches, and that reasons to refuse stand in
+-- the written order.
 pub mod EventSteps
 pub mod ToolboxStates
 pub mod Fronts
 pub mod WholeToolbox
 pub mod Run
+pub mod OpenUpdates
+pub mod Regions
 pub mod Reached
 pub mod Activations
 pub mod Ordered

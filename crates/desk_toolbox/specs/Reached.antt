@@ -1,22 +1,27 @@
 -- What holds of each state that a Toolbox reaches.
-use Rattle.std.specs.Prelude.{◌≡◌, ℕ, ◌+◌, ◌≤◌, pos, true, false, if◌then◌else◌, List, [], ◌∷◌, Option, None, Some, All}
+use Rattle.std.specs.Prelude.{◌≡◌, ℕ, ◌+◌, ◌≤◌, pos, true, false, if◌then◌else◌, List, [], ◌∷◌, map, Option, None, Some, IfSome, All}
 use Rattle.std.specs.Option.{is_some}
+use Rattle.def_iface.specs.declared.window_def.Stage.TheVariants.{Live}
+use Rattle.def_iface.specs.Meaning.{Definition, GoesBy}
 use Rattle.def_iface.specs.News.{AllNews}
 use Rattle.def_iface.specs.MenuMeaning.{MenuGoesBy}
+use Rattle.def_iface.specs.Stocked.{IsFull}
 use Rattle.event_queue.specs.Events.{is_posted}
 use Rattle.desk_call.specs.declared.activity.Activity.{Activity}
 use Rattle.desk_call.specs.declared.activity.Activity.TheVariants.{Idle, Updating, Tracking, Pulling, TrackingControl}
-use Rattle.vis_update.specs.Records.{WindowRecord}
-use Rattle.window_mgr.specs.FullDesk.{IsRightState}
+use Rattle.vis_update.specs.Records.{WindowRecord, news_of}
+use Rattle.window_mgr.specs.FullDesk.{FullDesk, IsRightState}
 use Rattle.window_mgr.specs.Refused.{is_missing}
 use Rattle.window_frame.specs.Followers.{AreInformed}
 use Rattle.control_mgr.specs.ControlClosing.{IsControlFull}
 use Rattle.control_mgr.specs.ControlDesks.{ShowsControls}
+use Rattle.control_mgr.specs.InUse.{AreStocked}
 use Rattle.control_mgr.specs.WholeControls.{AreWholeControls, IsTrackable}
 use Rattle.list_mgr.specs.ListClosing.{IsListFull}
 use Rattle.list_mgr.specs.WholeLists.{AreWholeLists}
 use Rattle.menu_list.specs.Lists.{has_number, is_in_bar}
-use Rattle.menu_mgr.specs.MenuDesks.{IsBarOf, MenuRecord, MenusState}
+use Rattle.menu_mgr.specs.MenuDesks.{IsBarOf, IsMenuFull, MenuRecord, MenusState}
+use Rattle.menu_mgr.specs.WholeMenus.{AreMenusStocked}
 use Rattle.desk_toolbox.specs.EventSteps.{first_events}
 use Rattle.desk_toolbox.specs.ToolboxStates.{ToolboxState, with_controls}
 
@@ -36,6 +41,17 @@ open_window (TrackingControl k) = Some k.control.window
 -- where the window's definition heard last that the go-away box is tracked, it is
 abbrev pub IsTrackedIfHeard : Activity → WindowRecord → Type 0
 IsTrackedIfHeard activity w = w.heard.tracked ≡ true → activity ≡ Tracking w.serial
+
+-- the window's definition is live, was told the window's size, and goes by what the record says that it heard
+pub record HasLiveDefinition (w : WindowRecord) : Type 0 where
+  pub live : w.definition.stage ≡ Live
+  pub told : w.definition.size ≡ w.size
+  pub goes_by : GoesBy (news_of w) w.definition
+
+-- the empty slots of the stock are those of the windows' definitions, each of another, and the definitions in the other slots
+-- are fresh or closed
+abbrev pub AreWindowsStocked : FullDesk → Type 0
+AreWindowsStocked desk = AreStocked (λ (d : Definition). d.stage) (map (λ w. w.slot) desk.windows) desk.stock
 
 -- how many of the menus have this number
 abbrev pub numbered : ℕ → List MenuRecord → ℕ
@@ -60,6 +76,10 @@ abbrev pub IsPulledThere : Activity → MenusState → Type 0
 IsPulledThere (Pulling m) menus = (is_in_bar (pos m.menu) menus.menus ≡ true) × (menus.highlighted ≡ Some m.menu)
 IsPulledThere _ menus = Unit {0}
 
+-- no title is highlighted, or that of a menu in the menu bar
+abbrev pub IsTitleInBar : MenusState → Type 0
+IsTitleInBar menus = IfSome menus.highlighted (λ id. is_in_bar (pos id) menus.menus ≡ true)
+
 -- the controls and the lists of a state are whole beside its windows, which show them
 pub record AreContentsRight (s : ToolboxState) : Type 0 where
   pub controls : AreWholeControls s.desk.windows.desk.windows s.controls
@@ -67,16 +87,20 @@ pub record AreContentsRight (s : ToolboxState) : Type 0 where
   pub shown : ShowsControls (with_controls s)
 
 -- a right state, in which the active window, the one last told active and that of what is open are windows of the desk, and
--- only events of kinds that are posted are queued. Each window's definition knows how the window stands, and none heard last
--- that a go-away box is tracked which is not. Its controls and lists are whole, the control that is tracked is there, and its windows show them.
--- The menu bar has the titles of the menus that are inserted, and no two menus have
--- one number. The menu that is pulled down is there, and each menu's definition goes by which of its items is highlighted.
+-- only events of kinds that are posted are queued. Each window's definition is live and knows how the window stands, and none
+-- heard last that a go-away box is tracked which is not. Its controls and lists are whole, the control that is tracked is there,
+-- and its windows show them. The menu bar has the titles of the menus that are inserted, no two menus have one number, and a
+-- highlighted title is in the bar. The menu that is pulled down is there, and each menu's definition goes by which of its items
+-- is highlighted. The stocks of windows and of menus have all definitions but those of the windows and menus that are there, as
+-- those of controls and of lists have.
 pub record IsConsistent (s : ToolboxState) : Type 0 where
   pub right : IsRightState s.desk.windows
   pub active : IsThere s.desk.windows.desk.active s.desk.windows.desk.windows
   pub told : IsThere s.events.told s.desk.windows.desk.windows
   pub opened : IsThere (open_window s.desk.activity) s.desk.windows.desk.windows
   pub queued : All (λ e. is_posted e.what ≡ true) s.events.queue.events
+  pub held : AreWindowsStocked s.desk.windows.desk
+  pub live : All HasLiveDefinition s.desk.windows.desk.windows
   pub informed : AreInformed s.desk.windows.desk.windows
   pub tracked : All (IsTrackedIfHeard s.desk.activity) s.desk.windows.desk.windows
   pub contents : AreContentsRight s
@@ -85,12 +109,15 @@ pub record IsConsistent (s : ToolboxState) : Type 0 where
   pub apart : AreApart s.menus.menus
   pub pulled : IsPulledThere s.desk.activity s.menus
   pub lit : All (IsLit s.desk.activity) s.menus.menus
+  pub title : IsTitleInBar s.menus
+  pub stocked : AreMenusStocked s.menus.menus s.menus.stock
 
--- a right state of a desk that just began: it has no windows, no controls, no lists and no menus, the stocks of controls and of
--- lists are full, and nothing is open, told or queued
+-- a right state of a desk that just began: it has no windows, no controls, no lists and no menus, the stocks of all of them are
+-- full, and nothing is open, told or queued
 pub record IsJustBegun (s : ToolboxState) : Type 0 where
   pub right : IsRightState s.desk.windows
   pub windows : s.desk.windows.desk.windows ≡ []
+  pub stock : All IsFull s.desk.windows.desk.stock
   pub active : s.desk.windows.desk.active ≡ None
   pub idle : s.desk.activity ≡ Idle
   pub controls : s.controls.controls ≡ []
@@ -102,6 +129,7 @@ pub record IsJustBegun (s : ToolboxState) : Type 0 where
   pub shown : ShowsControls (with_controls s)
   pub titles : s.desk.windows.desk.bar.titles ≡ []
   pub menus : s.menus.menus ≡ []
+  pub kept : All IsMenuFull s.menus.stock
   pub highlighted : s.menus.highlighted ≡ None
   pub events : s.events ≡ first_events
 

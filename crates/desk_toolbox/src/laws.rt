@@ -288,6 +288,13 @@ pub fn windows_are_shown_by_their_records()
         → All (λ w. GoesBy (news_by_record w) w.definition) desk.windows }
 {}
 
+/// So is each window of a state that a desk reaches.
+#[tactic(auto, using(crate::proofs::Shown::windows_go_by_records))]
+pub fn windows_of_a_reached_desk_are_shown_by_their_records()
+    ensures { (s : ToolboxState) → IsConsistent s
+        → All (λ w. GoesBy (news_by_record w) w.definition) s.desk.windows.desk.windows }
+{}
+
 /// So is each control of such a state, by what its record says.
 #[tactic(auto, using(crate::proofs::Shown::controls_go_by_records))]
 pub fn controls_are_shown_by_their_records()

@@ -4,7 +4,7 @@
 //! update regions, `window_frame` for titles, highlighting and go-away boxes, `control_mgr` for controls, `list_mgr` for
 //! lists, `menu_mgr` for menus, `event_queue` for events); here steps are strung together (`Run`), and the law that steps keep a right state right
 //! (`laws`) becomes one of runs: outside the update regions each pixel has the value that painting the desk from nothing
-//! gives.
+//! gives. `update_laws` says what serving an update does, and what the regions of windows are.
 //!
 //! At most one thing is open at a time. Whether a call may come then, one table says for every call (`desk_call`'s `gate`):
 //! Busy where it has to wait, NotBusy where what it goes on with is not open. A call that may not come is still refused first
@@ -17,6 +17,7 @@ mod answering;
 mod events;
 pub mod laws;
 mod toolbox;
+pub mod update_laws;
 
 pub use desk_call::{
     Activity, AppendItems, AreaRef, Call, CheckItem, Choice, ControlCall, ControlInfo,

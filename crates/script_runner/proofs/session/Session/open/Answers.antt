@@ -19,7 +19,7 @@ returns-in-Ok-clause-ends g c =
     let fits : may_be c.first_size-size.result ≡ true = simp to_z-of_z at c.in-Ok.ensures.in_range in
     let empty = simp to_z-of_z at (c.in-Ok.ensures.begun _ full.0) in
     rw (c.requires.unmade, ← c.in-Some.ensures.value) (opened c.args.raw _ _ _ _ _ c.args.command.now _ _ _ _ _ c.requires.known (sym (ap may_be c.first_size-size.ensures) ∙ fits)
-    (new_desk _ _ _ _ c.in-Ok.desk _ _ _ _ _ c.first_size-size.result _ c.first_size-size.ensures empty (c.in-Ok.ensures.just_begun _ _ _ _ full.0 full.1.1.0 full.1.1.1)) c.first_answer-outcome.ensures.answered)
+    (new_desk _ _ _ _ c.in-Ok.desk _ _ _ _ _ c.first_size-size.result _ c.first_size-size.ensures empty (c.in-Ok.ensures.just_begun _ _ _ _ full.0 full.1.0 full.1.1.0 full.1.1.1)) c.first_answer-outcome.ensures.answered)
 
 pub returns-in-NoMemory-clause-ends : goal.returns-in-NoMemory-clause-ends
 returns-in-NoMemory-clause-ends g c =
