@@ -27,7 +27,7 @@ use Rattle.window_mgr.specs.Refused.{is_missing}
 use Rattle.window_mgr.proofs.SlotLemmas.{map-set}
 use Rattle.control_mgr.specs.ControlDesks.{ControlDesk, ControlRecord, ControlSlot, ControlsState, IsControlDeskUnchanged, index_of}
 use Rattle.control_mgr.specs.ControlRefusals.{control_refusals, point_refusals}
-use Rattle.control_mgr.specs.ControlSteps.{AreControlsLaid, IsChangedTo, IsControlEffect, IsControlLaid, IsControlShut, IsControlStep, IsHighlighted, IsReleased, IsShownAnew, IsStepped, IsTracked, is_thumb, tested}
+use Rattle.control_mgr.specs.ControlSteps.{AreControlsLaid, IsChangedTo, IsControlEffect, IsControlLaid, IsControlShut, IsControlStep, IsHighlighted, IsControlReleased, IsShownAnew, IsStepped, IsTracked, is_thumb, tested}
 use Rattle.control_mgr.proofs.Steps.{none_hold}
 use Rattle.control_mgr.proofs.ControlBits.{bare, bare_laid, missing_alike}
 
@@ -202,7 +202,7 @@ module _ (before after : ControlDesk) where
   stepped_leaves (TrackingControl k) p answer done = highlighted_leaves (is_thumb k.part) k.control _ done.1.begun (inl done.1.activity) done.2
   stepped_leaves a p answer wrong = absurd wrong
 
-  released_leaves : (a : Activity) (p : Point) (answer : Option ControlPart) → IsReleased a p answer before after → LeavesBoth
+  released_leaves : (a : Activity) (p : Point) (answer : Option ControlPart) → IsControlReleased a p answer before after → LeavesBoth
   released_leaves (TrackingControl k) p answer done = anew_leaves k.control _ done.1.begun (inr (inl done.1.activity)) done.2
   released_leaves a p answer wrong = absurd wrong
 

@@ -25,7 +25,7 @@ use Rattle.control_mgr.specs.ControlDesks.{ControlRecord, ControlsState, control
 use Rattle.control_mgr.specs.ControlRefusals.{most_controls}
 use Rattle.control_mgr.specs.ControlSteps.{AreLayersOf}
 use Rattle.control_mgr.specs.Settled.{AreSettled, IsSettledControl}
-use Rattle.control_mgr.specs.WholeControls.{AreApart, AreWholeControls}
+use Rattle.control_mgr.specs.WholeControls.{AreControlsApart, AreWholeControls}
 use Rattle.control_mgr.proofs.Settled.{AreJoined}
 use Rattle.control_mgr.proofs.ControlBits.{same_own}
 use Rattle.control_mgr.proofs.SerialsFound.{StayControls, with_among}
@@ -112,7 +112,7 @@ both_all P Q R f (x ∷ xs) h k = All-cons R x xs (f x (All-head P x xs h) (All-
 
 module _ (window : ℕ) (before after : ControlsState) (left : IsWindowLeft window before after) where
   -- those of each window that has one are the same as before
-  stay_left : AreApart before.controls → StayControls (λ o. false) before.controls after.controls
+  stay_left : AreControlsApart before.controls → StayControls (λ o. false) before.controls after.controls
   stay_left apart s n was is other = by_test (window == s) refl
     where
       differ : (a b : ℕ) → (a == b) ≡ false → a ≡ b → ⊥
@@ -165,7 +165,7 @@ module _ (window : ℕ) (before after : ControlsState) (left : IsWindowLeft wind
           let same : count_of t after.controls ≡ count_of t before.controls = count_of-length t after.controls ∙ ap length (left.others t (differ window t e)) ∙ sym (count_of-length t before.controls) in
           subst (λ n. n ≤ most_controls) (sym same) (few t)
 
-  pub whole_left : (ws : List WindowRecord) → AreSettled before.controls → AreApart before.controls → are_before before.next before.controls ≡ true → ((t : ℕ) → count_of t before.controls ≤ most_controls) → AreJoined before.controls ws
+  pub whole_left : (ws : List WindowRecord) → AreSettled before.controls → AreControlsApart before.controls → are_before before.next before.controls ≡ true → ((t : ℕ) → count_of t before.controls ≤ most_controls) → AreJoined before.controls ws
       → All (λ c. is_in window c ≡ false → is_missing c.window ws ≡ false) before.controls → is_missing window ws ≡ true → AreWholeControls ws after
   whole_left ws settled apart given few joined there missing = record {
     settled = all_within IsSettledControl before.controls after.controls left.within settled;
@@ -179,7 +179,7 @@ module _ (window : ℕ) (before after : ControlsState) (left : IsWindowLeft wind
 
   -- ---- what is shown
 
-  right_left : (others : List ℕ → Part → PixelSet) (s : FullState) → IsRightState s → s.desk.shows ≡ controls_show others before.controls s.desk.font → AreApart before.controls
+  right_left : (others : List ℕ → Part → PixelSet) (s : FullState) → IsRightState s → s.desk.shows ≡ controls_show others before.controls s.desk.font → AreControlsApart before.controls
       → AreJoined before.controls s.desk.windows → is_missing window s.desk.windows ≡ true → IsRightState (state_showing (controls_show others after.controls) s)
   right_left others s right shows apart joined missing =
       shown_alike_right (controls_show others after.controls) s right
@@ -190,7 +190,7 @@ module _ (window : ℕ) (before after : ControlsState) (left : IsWindowLeft wind
 -- the controls of a window that is no more were taken out: a right state stays right, and whole controls whole, whatever other
 -- layers show
 pub followed_right : (others : List ℕ → Part → PixelSet) (window : ℕ) (s : FullState) (before after : ControlsState) → IsRightState s → s.desk.shows ≡ controls_show others before.controls s.desk.font
-    → AreSettled before.controls → AreApart before.controls → are_before before.next before.controls ≡ true → ((t : ℕ) → count_of t before.controls ≤ most_controls) → AreJoined before.controls s.desk.windows
+    → AreSettled before.controls → AreControlsApart before.controls → are_before before.next before.controls ≡ true → ((t : ℕ) → count_of t before.controls ≤ most_controls) → AreJoined before.controls s.desk.windows
     → All (λ c. is_in window c ≡ false → is_missing c.window s.desk.windows ≡ false) before.controls → is_missing window s.desk.windows ≡ true → IsWindowLeft window before after
     → IsRightState (state_showing (controls_show others after.controls) s) × AreWholeControls s.desk.windows after
 followed_right others window s before after right shows settled apart given few joined there missing left = (

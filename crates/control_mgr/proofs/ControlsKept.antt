@@ -24,7 +24,7 @@ use Rattle.window_mgr.specs.Refused.{is_missing}
 use Rattle.window_mgr.proofs.LayerParts.{layers_with, parts_alike}
 use Rattle.control_mgr.specs.ControlDesks.{ControlDesk, ControlRecord, ShowsControls}
 use Rattle.control_mgr.specs.ControlSteps.{AreLayersOf, IsControlStep, behind_controls}
-use Rattle.control_mgr.specs.WholeControls.{AreApart, AreWholeControls}
+use Rattle.control_mgr.specs.WholeControls.{AreControlsApart, AreWholeControls}
 use Rattle.control_mgr.proofs.Added.{none_in_window, or_parts}
 use Rattle.control_mgr.proofs.ControlBits.{bare, missing_alike}
 use Rattle.control_mgr.proofs.ControlFacts.{control_facts}
@@ -84,7 +84,7 @@ all_behind (l ∷ ls) others =
     ∙ ap (λ ks. l ∷ ks) (all_behind ls (All-tail (λ (x : Layer). is_of Controls x.part ≡ false) l ls others))
 
 -- all are apart where the controls are, and the layers behind them
-pub parts_of : (look : Look) (content : PixelSet) (w : WindowRecord) (cs : List ControlRecord) (ls : List Layer) → AreLayersOf cs ls → AreApart cs
+pub parts_of : (look : Look) (content : PixelSet) (w : WindowRecord) (cs : List ControlRecord) (ls : List Layer) → AreLayersOf cs ls → AreControlsApart cs
     → layers.AreParts (layers_with look content (behind_controls ls) w) → layers.AreParts (layers_with look content ls w)
 parts_of look content w [] ls h apart behind = subst (λ ks. layers.AreParts (layers_with look content ks w)) (all_behind ls h) behind
 parts_of look content w (c ∷ cs) [] h apart behind = absurd h
@@ -95,11 +95,11 @@ parts_of look content w (c ∷ cs) (l ∷ ls) h apart behind = (
 )
 
 -- the controls of one window are apart where all are
-pub apart_among : (window : ℕ) (cs : List ControlRecord) → AreApart cs → AreApart (controls_of window cs)
+pub apart_among : (window : ℕ) (cs : List ControlRecord) → AreControlsApart cs → AreControlsApart (controls_of window cs)
 apart_among window [] apart = tt
 apart_among window (c ∷ cs) apart = by_test (is_in window c) (apart_among window cs apart.1)
   where
-    by_test : (b : Bool) → AreApart (controls_of window cs) → AreApart (cond b (c ∷ controls_of window cs) (controls_of window cs))
+    by_test : (b : Bool) → AreControlsApart (controls_of window cs) → AreControlsApart (cond b (c ∷ controls_of window cs) (controls_of window cs))
     by_test true rest = (none_in_window c.serial window cs apart.0, rest)
     by_test false rest = rest
 
@@ -123,7 +123,7 @@ is_nothing (Some w) e = absurd (false≢true e)
 abbrev pub uncontrolled : WindowRecord → WindowRecord
 uncontrolled w = record w { layers = behind_controls w.layers }
 
-pub distinct_windows : (look other : Look) (ds : List ControlRecord) (ws vs : List WindowRecord) → AreApart ds → map bare vs ≡ map bare ws → map uncontrolled vs ≡ map uncontrolled ws → AreJoined ds vs
+pub distinct_windows : (look other : Look) (ds : List ControlRecord) (ws vs : List WindowRecord) → AreControlsApart ds → map bare vs ≡ map bare ws → map uncontrolled vs ≡ map uncontrolled ws → AreJoined ds vs
     → layers.AreWindows (map (layered_window look) ws) → layers.AreWindows (map (layered_window other) vs)
 distinct_windows look other ds ws [] apart same behind joined distinct = tt
 distinct_windows look other ds [] (v ∷ vs) apart same behind joined distinct = absurd (cc)
@@ -166,7 +166,7 @@ behind_laid look s ls (w ∷ ws) distinct same = by_test (w.serial == s) refl sa
 
 -- a call about controls leaves the windows as they are but for their controls' layers
 pub control_behind : (call : ControlCall) (result : Result ControlReply Refusal) (before after : ControlDesk) → layers.IsDesk (layered_desk before.desk.windows.desk)
-    → AreApart before.controls.controls → IsControlStep call result before after → map uncontrolled after.desk.windows.desk.windows ≡ map uncontrolled before.desk.windows.desk.windows
+    → AreControlsApart before.controls.controls → IsControlStep call result before after → map uncontrolled after.desk.windows.desk.windows ≡ map uncontrolled before.desk.windows.desk.windows
 control_behind call result before after distinct apart step = ⊎_elim
     (λ still. ap (λ (d : FullDesk). map uncontrolled d.windows) still.0.desk)
     (λ other. ⊎_elim

@@ -30,8 +30,8 @@ use Rattle.window_mgr.proofs.EachChanged.{numbered_map}
 use Rattle.window_mgr.proofs.Running.{unchanged_stays_right}
 use Rattle.control_list.specs.Lists.{with_highlight}
 use Rattle.control_mgr.specs.ControlDesks.{ControlDesk, ControlRecord, ControlsState, ShowsControls, controls_show}
-use Rattle.control_mgr.specs.ControlSteps.{AreControlsLaid, IsControlEffect, IsControlLaid, IsControlStep, IsHighlighted, IsReleased, IsShownAnew, IsStepped, IsTracked, SameShown, highlight_of, is_thumb, new_control, released, tested}
-use Rattle.control_mgr.specs.WholeControls.{AreApart, AreWholeControls}
+use Rattle.control_mgr.specs.ControlSteps.{AreControlsLaid, IsControlEffect, IsControlLaid, IsControlStep, IsHighlighted, IsControlReleased, IsShownAnew, IsStepped, IsTracked, SameShown, highlight_of, is_thumb, new_control, released, tested}
+use Rattle.control_mgr.specs.WholeControls.{AreControlsApart, AreWholeControls}
 use Rattle.control_mgr.proofs.Settled.{AreJoined}
 use Rattle.control_mgr.proofs.ControlBits.{bare, bare_laid, same_own}
 use Rattle.control_mgr.proofs.SerialsFound.{StayControls, stay_edited, stay_pushed, stay_removed}
@@ -71,7 +71,7 @@ module _ (before after : ControlDesk) where
     same.others,
   )
 
-  module _ (apart : AreApart before.controls.controls) where
+  module _ (apart : AreControlsApart before.controls.controls) where
     laid_leaves : (c : ControlOf) (f : ControlRecord → ControlRecord) → ((x : ControlRecord) → (f x).serial ≡ x.serial) → IsControlLaid c f before after → LeavesShown before after
     laid_leaves c f same done = inr (inl (record {
       window = c.window;
@@ -102,7 +102,7 @@ module _ (before after : ControlDesk) where
     stepped_leaves (TrackingControl k) p answer done = highlighted_leaves (is_thumb k.part) k.control (highlight_of answer) done.2
     stepped_leaves a p answer wrong = absurd wrong
 
-    released_leaves : (a : Activity) (p : Point) (answer : Option ControlPart) → IsReleased a p answer before after → LeavesShown before after
+    released_leaves : (a : Activity) (p : Point) (answer : Option ControlPart) → IsControlReleased a p answer before after → LeavesShown before after
     released_leaves (TrackingControl k) p answer done = anew_leaves k.control (released k p answer) (λ x. refl) done.2
     released_leaves a p answer wrong = absurd wrong
 
@@ -135,7 +135,7 @@ module _ (before after : ControlDesk) where
     effect_leaves (Step p) answer (its, is, done) = stepped_leaves before.desk.activity p its done
     effect_leaves (End p) answer (its, is, done) = released_leaves before.desk.activity p its done
 
-pub step_leaves : (call : ControlCall) (result : Result ControlReply Refusal) (before after : ControlDesk) → AreApart before.controls.controls → IsControlStep call result before after → LeavesShown before after
+pub step_leaves : (call : ControlCall) (result : Result ControlReply Refusal) (before after : ControlDesk) → AreControlsApart before.controls.controls → IsControlStep call result before after → LeavesShown before after
 step_leaves call (Ok answer) before after apart step = effect_leaves before after apart call answer step.1
 step_leaves call (Err e) before after apart step = inl (step.1.desk.windows, step.1.controls, step.1.others)
 
@@ -218,7 +218,7 @@ control_right call result before after right shows was are distinct step =
     leaves_right before after right shows was.joined are.joined distinct (step_leaves call result before after was.apart step)
 
 -- the windows show the controls after any such call
-pub control_shows : (call : ControlCall) (result : Result ControlReply Refusal) (before after : ControlDesk) → AreApart before.controls.controls → ShowsControls before → IsControlStep call result before after → ShowsControls after
+pub control_shows : (call : ControlCall) (result : Result ControlReply Refusal) (before after : ControlDesk) → AreControlsApart before.controls.controls → ShowsControls before → IsControlStep call result before after → ShowsControls after
 control_shows call result before after apart shows step = ⊎_elim
     (λ still. subst (λ (x : FullDesk × ControlsState × (List ℕ → Part → PixelSet)). x.0.shows ≡ controls_show x.2 x.1.controls x.0.font) (λ i. (sym still.0.desk i, sym still.1 i, sym still.2 i)) shows)
     (λ other. ⊎_elim (λ its. its.laid.shows) (λ its. its.shows) other)

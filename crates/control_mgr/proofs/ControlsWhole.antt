@@ -31,7 +31,7 @@ use Rattle.window_mgr.specs.Refused.{is_missing, longest_text}
 use Rattle.control_mgr.specs.declared.laying.Lie.{Lie}
 use Rattle.control_mgr.specs.ControlDesks.{ControlDesk, ControlRecord, ControlSlot, ControlsState, IsControlDeskUnchanged, control_of, index_of}
 use Rattle.control_mgr.specs.ControlRefusals.{control_refusals, is_full, is_setting, judged_refusals, may_be_maximum, may_be_minimum, most_controls, offered_control}
-use Rattle.control_mgr.specs.ControlSteps.{AreLayersOf, IsControlDisposed, IsControlEffect, IsControlLaid, IsControlMade, IsControlStep, IsHighlighted, IsReleased, IsShownAnew, IsStepped, IsTracked, SameShown, highlight_of, is_thumb, new_control, released, tested, with_maximum, with_minimum, with_value}
+use Rattle.control_mgr.specs.ControlSteps.{AreLayersOf, IsControlDisposed, IsControlEffect, IsControlLaid, IsControlMade, IsControlStep, IsHighlighted, IsControlReleased, IsShownAnew, IsStepped, IsTracked, SameShown, highlight_of, is_thumb, new_control, released, tested, with_maximum, with_minimum, with_value}
 use Rattle.control_mgr.specs.Judged.{may_be_in, may_get_size, may_go_to}
 use Rattle.control_mgr.specs.Settled.{IsSettledControl, MayHaveSetting}
 use Rattle.control_mgr.specs.Spots.{with_lie, with_state}
@@ -241,7 +241,7 @@ module _ (before after : ControlDesk) (whole : AreWholeControls before.desk.wind
   stepped_whole (TrackingControl k) p answer done = highlighted_whole (is_thumb k.part) k.control (highlight_of answer) (found_shows answer) done.2
   stepped_whole a p answer wrong = absurd wrong
 
-  released_whole : (a : Activity) (p : Point) (answer : Option ControlPart) → IsReleased a p answer before after → IsWhole
+  released_whole : (a : Activity) (p : Point) (answer : Option ControlPart) → IsControlReleased a p answer before after → IsWhole
   released_whole (TrackingControl k) p answer done = anew_whole k.control (released k p answer) (λ x. refl)
       (λ x e its. record { setting = released_given k p answer x its.setting; highlight = after_shows k.part x.highlight its.highlight }) done.2
   released_whole a p answer wrong = absurd wrong

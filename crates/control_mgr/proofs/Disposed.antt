@@ -46,7 +46,7 @@ use Rattle.control_mgr.specs.Ending.{IsEnding, IsPlannedEnd}
 use Rattle.control_mgr.specs.InUse.{AreStocked}
 use Rattle.control_mgr.specs.Settled.{AreSettled, IsSettledControl}
 use Rattle.control_mgr.specs.Spots.{IsSpotOf}
-use Rattle.control_mgr.specs.WholeControls.{AreApart, AreWholeControls, LeavesOver, control_desk, controls_state, records_of, slots_of}
+use Rattle.control_mgr.specs.WholeControls.{AreControlsApart, AreWholeControls, LeavesOver, control_desk, controls_state, records_of, slots_of}
 use Rattle.control_mgr.proofs.Added.{or_parts}
 use Rattle.control_mgr.proofs.Edited.{All-remove, All-there, AreNoControls, begin_remove, behind_removed, map-remove}
 use Rattle.control_mgr.proofs.LayerOut.{all-remove}
@@ -66,7 +66,7 @@ none-remove n (suc i) (c ∷ cs) h =
     let parts = or_parts (has_serial n c) (list_any (has_serial n) cs) h in
     let rest = none-remove n i cs parts.1 in (λ t. parts.0 t || rest t)
 
-apart-remove : (i : ℕ) (cs : List ControlRecord) → AreApart cs → AreApart (remove cs i)
+apart-remove : (i : ℕ) (cs : List ControlRecord) → AreControlsApart cs → AreControlsApart (remove cs i)
 apart-remove zero [] h = tt
 apart-remove (suc i) [] h = tt
 apart-remove zero (c ∷ cs) h = h.1

@@ -21,7 +21,7 @@ use Rattle.control_mgr.specs.ControlClosing.{AreAllControlsClosed, AreControlsCl
 use Rattle.control_mgr.specs.ControlDesks.{ControlRecord, ControlSlot, ControlsState}
 use Rattle.control_mgr.specs.ControlSteps.{IsControlShut}
 use Rattle.control_mgr.specs.InUse.{AreStocked}
-use Rattle.control_mgr.specs.WholeControls.{AreApart, AreLiveControls, slots_of}
+use Rattle.control_mgr.specs.WholeControls.{AreControlsApart, AreLiveControls, slots_of}
 use Rattle.control_mgr.proofs.Edited.{All-remove, All-there, map-remove}
 use Rattle.control_mgr.proofs.Stocks.{IsEmptyFor, Shut, full_where_unused, shut_facts, slot_is_left, slot_of, stocked_without}
 
@@ -53,7 +53,7 @@ closed_more cs c now new final slot is_shut closed = record {
   kinds = closed.kinds ∙ ap (map (λ (s : ControlSlot). s.kind)) shut.back ∙ map-set (λ (s : ControlSlot). s.kind) now c.definition.slot shut.slot _ shut.found refl;
   others = others;
   closed = All-push (IsControlClosedAt final) cs c closed.closed
-      (_, closed.others c.definition.slot _ shut.here (is_shut.definition, refl, inr is_shut.closed), (is_shut.definition, refl, is_shut.closed, is_shut.regions));
+      (_, closed.others c.definition.slot _ shut.here (is_shut.definition, refl, inr is_shut.closed), (is_shut.definition, refl, is_shut.closed, is_shut.look));
 }
   where
     shut : Shut stage_of (record { definition = is_shut.definition; slot = c.definition.slot }) now new
@@ -148,7 +148,7 @@ any-remove n (suc i) (c ∷ cs) e =
     let both = none_of (has_serial n c) (list_any (has_serial n) cs) e in
     ap (λ b. b || list_any (has_serial n) (remove cs i)) both.0 ∙ any-remove n i cs both.1
 
-pub apart-remove : (i : ℕ) (cs : List ControlRecord) → AreApart cs → AreApart (remove cs i)
+pub apart-remove : (i : ℕ) (cs : List ControlRecord) → AreControlsApart cs → AreControlsApart (remove cs i)
 apart-remove zero [] h = tt
 apart-remove (suc i) [] h = tt
 apart-remove zero (c ∷ cs) h = h.1
@@ -161,7 +161,7 @@ pub record IsBeingLeft (window : ℕ) (before now : ControlsState) : Type 0 wher
   pub rest : (final : List ControlSlot) → AreControlsClosed (controls_of window now.controls) now.stock final → AreControlsClosed (controls_of window before.controls) before.stock final
   pub others : (other : ℕ) → (window ≡ other → ⊥) → controls_of other now.controls ≡ controls_of other before.controls
   pub within : All (Contains before.controls) now.controls
-  pub apart : AreApart before.controls → AreApart now.controls
+  pub apart : AreControlsApart before.controls → AreControlsApart now.controls
   pub next : now.next ≡ before.next
 
 pub leaving_begins : (window : ℕ) (before : ControlsState) → AreLiveControls before.controls → AreStocked stage_of (slots_of before.controls) before.stock → IsBeingLeft window before before
@@ -194,7 +194,7 @@ module _ (window : ℕ) (before now : ControlsState) (c : ControlRecord) (under 
         (closed_more (controls_of window after.controls) c now.stock after.stock final (its_slot now.controls at.0 c at.1 now.stock under.stocked) is_shut closed));
     others = λ other apart. ap (controls_of other) is ∙ controls_of-without_youngest_other window other now.controls apart ∙ under.others other apart;
     within = subst (All (Contains before.controls)) (sym removed) (All-remove (Contains before.controls) at.0 now.controls under.within);
-    apart = λ h. subst AreApart (sym removed) (apart-remove at.0 now.controls (under.apart h));
+    apart = λ h. subst AreControlsApart (sym removed) (apart-remove at.0 now.controls (under.apart h));
     next = next ∙ under.next;
   }
     where
@@ -214,7 +214,7 @@ all_left window before now after under none is next stock = record {
   gone = ap (controls_of window) same ∙ gone.0;
   others = λ other apart. ap (controls_of other) same ∙ under.others other apart;
   within = subst (All (Contains before.controls)) (sym same) under.within;
-  apart = λ h. subst AreApart (sym same) (under.apart h);
+  apart = λ h. subst AreControlsApart (sym same) (under.apart h);
   next = next ∙ under.next;
   closed = under.rest after.stock (subst (λ xs. AreControlsClosed xs now.stock after.stock) (sym gone.0) (subst (λ s. AreControlsClosed [] s after.stock) stock (closed_none after.stock)));
   stocked = subst (λ s. AreStocked stage_of (slots_of after.controls) s) (sym stock) (subst (λ xs. AreStocked stage_of (slots_of xs) now.stock) (sym same) under.stocked);

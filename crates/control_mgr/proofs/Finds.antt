@@ -53,7 +53,7 @@ use Rattle.window_mgr.proofs.Showing.{owner_showing}
 use Rattle.control_mgr.specs.declared.controls.Controls.{Controls}
 use Rattle.control_mgr.specs.declared.spots.Spot.{Spot}
 use Rattle.control_mgr.specs.ControlDesks.{ControlRecord, controls_show, control_of, index_of}
-use Rattle.control_mgr.specs.ControlSteps.{IsControlStep, found_by, found_control, found_from, found_in, tested}
+use Rattle.control_mgr.specs.ControlSteps.{IsControlStep, control_found_by, found_control, found_from, found_in, tested}
 use Rattle.control_mgr.specs.Judged.{part_tested}
 use Rattle.control_mgr.specs.Settled.{AreSettled, IsSettledControl}
 use Rattle.control_mgr.specs.Spots.{IsSpotOf}
@@ -72,7 +72,7 @@ local_again place p = λ i. record { h = way_back place.h p.h i; v = way_back pl
 -- ---- by the owner of a pixel
 
 -- what is no content of the window is no control of it
-found_nowhere : (s : ℕ) (cs : List ControlRecord) (o : Owner) (p : Point) → is_content_of s o ≡ false → found_by s cs o p ≡ None
+found_nowhere : (s : ℕ) (cs : List ControlRecord) (o : Owner) (p : Point) → is_content_of s o ≡ false → control_found_by s cs o p ≡ None
 found_nowhere s cs Desktop p e = refl
 found_nowhere s cs Bar p e = refl
 found_nowhere s cs (Frame t) p e = refl
@@ -82,11 +82,11 @@ found_nowhere s cs (Content t (part.Control n)) p e =
     ap (λ b. if b then option_and_then (λ c. found_in c p) (control_of (record { window = s; control = n }) cs) else None) e
 
 -- a control of the window, where this is found of its number
-found_own : (s n : ℕ) (cs : List ControlRecord) (p : Point) → found_by s cs (Content s (part.Control n)) p ≡ option_and_then (λ c. found_in c p) (control_of (record { window = s; control = n }) cs)
+found_own : (s n : ℕ) (cs : List ControlRecord) (p : Point) → control_found_by s cs (Content s (part.Control n)) p ≡ option_and_then (λ c. found_in c p) (control_of (record { window = s; control = n }) cs)
 found_own s n cs p =
     ap (λ b. if b then option_and_then (λ c. found_in c p) (control_of (record { window = s; control = n }) cs) else None) (same_number s)
 
-no_control_there : (s : ℕ) (cs : List ControlRecord) (o : Part) (p : Point) → ((n : ℕ) → o ≡ part.Control n → ⊥) → found_by s cs (Content s o) p ≡ None
+no_control_there : (s : ℕ) (cs : List ControlRecord) (o : Part) (p : Point) → ((n : ℕ) → o ≡ part.Control n → ⊥) → control_found_by s cs (Content s o) p ≡ None
 no_control_there s cs part.Picture p none = refl
 no_control_there s cs (part.List n) p none = refl
 no_control_there s cs (part.Control n) p none = absurd (none n refl)
@@ -133,28 +133,28 @@ module _ {W : Type 0} {K : W → Type 0} (control_loan : TakenControl W K → Co
     pub nothing_found : (a : Area) → a ≡ get_or t.areas.items at a → holds a.visible pixel ≡ false → None ≡ found
     nothing_found a read unseen = by_test (on_screen desk pixel) (sym (area_there a read) ∙ unseen)
       where
-        by_test : (on : Bool) → (on && is_content_of w.serial (owner desk pixel)) ≡ false → None ≡ (if on then found_by w.serial cs (owner desk pixel) p else None)
+        by_test : (on : Bool) → (on && is_content_of w.serial (owner desk pixel)) ≡ false → None ≡ (if on then control_found_by w.serial cs (owner desk pixel) p else None)
         by_test true e = sym (found_nowhere w.serial cs (owner desk pixel) p e)
         by_test false e = refl
 
     -- where it has, that is found of the layer there
-    found_there : (a : Area) → a ≡ get_or t.areas.items at a → holds a.visible pixel ≡ true → found ≡ found_by w.serial cs (Content w.serial (part_at w.layers.layers p)) p
+    found_there : (a : Area) → a ≡ get_or t.areas.items at a → holds a.visible pixel ≡ true → found ≡ control_found_by w.serial cs (Content w.serial (part_at w.layers.layers p)) p
     found_there a read shown =
         let both = and_parts (on_screen desk pixel) (is_content_of w.serial (owner desk pixel)) (sym (area_there a read) ∙ shown) in
         let its : slice_get (map (record_of loan) t.windows.records.items) at ≡ Some (record_of loan w) =
         slice_get-map (record_of loan) t.windows.records.items at ∙ ap (option_map (record_of loan)) (slice_get-get_or t.windows.records.items at w low ∙ ap Some (sym there)) in
         let distinct = kept.whole.sound.distinct in
-        ap (λ b. if b then found_by w.serial cs (owner desk pixel) p else None) both.0
-        ∙ ap (λ o. found_by w.serial cs o p)
+        ap (λ b. if b then control_found_by w.serial cs (owner desk pixel) p else None) both.0
+        ∙ ap (λ o. control_found_by w.serial cs o p)
         (layer_there (desk_of loan t []) (record_of loan w) pixel distinct (record_at (look_on t) (map (record_of loan) t.windows.records.items) at (record_of loan w) distinct its) both.1)
-        ∙ ap (λ q. found_by w.serial cs (Content w.serial (part_at w.layers.layers q)) p) (local_again w.place p)
+        ∙ ap (λ q. control_found_by w.serial cs (Content w.serial (part_at w.layers.layers q)) p) (local_again w.place p)
 
     pub no_control_found : (a : Area) → a ≡ get_or t.areas.items at a → holds a.visible pixel ≡ true → ((n : ℕ) → part_at w.layers.layers p ≡ part.Control n → ⊥) → None ≡ found
     no_control_found a read shown none = sym (found_there a read shown ∙ no_control_there w.serial cs (part_at w.layers.layers p) p none)
 
     its_control : (a : Area) (n : ℕ) → a ≡ get_or t.areas.items at a → holds a.visible pixel ≡ true → part_at w.layers.layers p ≡ part.Control n
         → found ≡ option_and_then (λ c. found_in c p) (control_of (record { window = w.serial; control = n }) cs)
-    its_control a n read shown is = found_there a read shown ∙ ap (λ o. found_by w.serial cs (Content w.serial o) p) is ∙ found_own w.serial n cs p
+    its_control a n read shown is = found_there a read shown ∙ ap (λ o. control_found_by w.serial cs (Content w.serial o) p) is ∙ found_own w.serial n cs p
 
     index_seen : (n : ℕ) (o : Option ℕ) → o ≡ control_index w.serial n m.list.controls.items → index_of (record { window = w.serial; control = n }) cs ≡ o
     index_seen n o is = control_index-seen control_loan w.serial n m.list.controls.items ∙ sym is
@@ -235,7 +235,7 @@ module _ {V : Type 0} {H : V → Type 0} (loan : Taken V H → Loan) {W : Type 0
         here others slots =
             ap (λ r. option_map_or (λ v. found_from (desk_seen loan control_loan others t slots m) cs asked.window v.place asked.point) r None) its_record
             ∙ ap (λ n. found_from (desk_seen loan control_loan others t slots m) cs n w.place asked.point) (sym (stands.1 w window.1))
-            ∙ ap (λ x. if on_screen (layered_desk (desk_of loan t [])) (plus w.place asked.point) then found_by w.serial cs x asked.point else None)
+            ∙ ap (λ x. if on_screen (layered_desk (desk_of loan t [])) (plus w.place asked.point) then control_found_by w.serial cs x asked.point else None)
             (owner_showing (controls_show others cs) (desk_of loan t slots) (plus w.place asked.point))
 
 -- what holds of the window that the code reads holds of the one at its place

@@ -49,7 +49,7 @@ use Rattle.control_mgr.specs.ControlSteps.{AreLayersOf, IsControlMade, IsLayerOf
 use Rattle.control_mgr.specs.InUse.{AreStocked}
 use Rattle.control_mgr.specs.Making.{IsAddition}
 use Rattle.control_mgr.specs.Settled.{AreSettled, IsSettledControl, MayHaveSetting}
-use Rattle.control_mgr.specs.WholeControls.{AreApart, AreBeside, AreWholeControls, LeavesOver, controls_state, records_of, slots_of}
+use Rattle.control_mgr.specs.WholeControls.{AreControlsApart, AreBeside, AreWholeControls, LeavesOver, controls_state, records_of, slots_of}
 use Rattle.control_mgr.proofs.Added.{its, may_grow, may_lie_so, or_parts, unused}
 use Rattle.control_mgr.proofs.Edited.{AreNoControls, begin_behind, behind_inserted}
 use Rattle.control_mgr.proofs.Judging.{window_is}
@@ -71,7 +71,7 @@ same_number a b e = grind (arith, nat_tests)
 other_number : (a b : ℕ) → (b ≡ a → ⊥) → (a == b) ≡ false
 other_number a b e = grind (arith, nat_tests)
 
-apart_more : (c : ControlRecord) (cs : List ControlRecord) → list_any (has_serial c.serial) cs ≡ false → AreApart cs → AreApart (cs ++ c ∷ [])
+apart_more : (c : ControlRecord) (cs : List ControlRecord) → list_any (has_serial c.serial) cs ≡ false → AreControlsApart cs → AreControlsApart (cs ++ c ∷ [])
 apart_more c [] e h = (refl, tt)
 apart_more c (x ∷ xs) e h =
     let both = or_parts (x.serial == c.serial) (list_any (has_serial c.serial) xs) e in

@@ -13,7 +13,7 @@ use Rattle.def_iface.specs.Owner.Owner.{Content}
 use Rattle.desk_call.specs.declared.control.ControlOf.{ControlOf}
 use Rattle.control_mgr.specs.ControlDesks.{ControlDesk, ControlRecord, ControlsState, with_serial}
 use Rattle.control_mgr.specs.ControlSteps.{IsChangedTo}
-use Rattle.control_mgr.specs.WholeControls.{AreApart}
+use Rattle.control_mgr.specs.WholeControls.{AreControlsApart}
 use Rattle.control_mgr.proofs.Added.{none_in_window}
 use Rattle.control_mgr.proofs.Places.{found_names}
 use Rattle.control_mgr.proofs.Settled.{retold}
@@ -56,7 +56,7 @@ any_of n window cs h = by_test (list_any (has_serial n) cs) refl
     by_test false e = absurd (false≢true (sym (none_in_window n window cs e) ∙ h))
 
 -- where one behind it has the serial, the first one has not
-only_one : (n : ℕ) (c : ControlRecord) (cs : List ControlRecord) → AreApart (c ∷ cs) → list_any (has_serial n) cs ≡ true → has_serial n c ≡ false
+only_one : (n : ℕ) (c : ControlRecord) (cs : List ControlRecord) → AreControlsApart (c ∷ cs) → list_any (has_serial n) cs ≡ true → has_serial n c ≡ false
 only_one n c cs apart h = by_test (has_serial n c) refl
   where
     by_test : (b : Bool) → has_serial n c ≡ b → b ≡ false
@@ -75,7 +75,7 @@ any_there n zero (x ∷ xs) c there named =
 any_there n (suc i) (x ∷ xs) c there named = or_true (has_serial n x) (list_any (has_serial n) xs) (any_there n i xs c there named)
 
 -- a control of a serial that one of a window has is in that window
-pub one_window : (n window i : ℕ) (cs : List ControlRecord) (c : ControlRecord) → AreApart cs → slice_get cs i ≡ Some c → has_serial n c ≡ true
+pub one_window : (n window i : ℕ) (cs : List ControlRecord) (c : ControlRecord) → AreControlsApart cs → slice_get cs i ≡ Some c → has_serial n c ≡ true
     → list_any (has_serial n) (controls_of window cs) ≡ true → is_in window c ≡ true
 one_window n window i [] c apart there named h = absurd (cc)
 one_window n window zero (x ∷ xs) c apart there named h =
@@ -92,7 +92,7 @@ one_window n window (suc i) (x ∷ xs) c apart there named h = one_window n wind
     by_test false h = h
 
 -- it names the same control among those of its window
-pub with_among : (n window : ℕ) (cs : List ControlRecord) → AreApart cs → list_any (has_serial n) (controls_of window cs) ≡ true → with_serial n (controls_of window cs) ≡ with_serial n cs
+pub with_among : (n window : ℕ) (cs : List ControlRecord) → AreControlsApart cs → list_any (has_serial n) (controls_of window cs) ≡ true → with_serial n (controls_of window cs) ≡ with_serial n cs
 with_among n window [] apart h = refl
 with_among n window (x ∷ xs) apart h = by_test (with_among n window xs apart.1) (is_in window x) h
   where
@@ -117,7 +117,7 @@ with_pushed : (n : ℕ) (cs : List ControlRecord) (c : ControlRecord) → list_a
 with_pushed n [] c h = absurd (false≢true h)
 with_pushed n (x ∷ xs) c h = with_alike n x xs (xs ++ c ∷ []) (λ other. with_pushed n xs c (any_behind n x xs h other))
 
-with_removed : (n at : ℕ) (cs : List ControlRecord) → AreApart cs → list_any (has_serial n) (remove cs at) ≡ true → with_serial n (remove cs at) ≡ with_serial n cs
+with_removed : (n at : ℕ) (cs : List ControlRecord) → AreControlsApart cs → list_any (has_serial n) (remove cs at) ≡ true → with_serial n (remove cs at) ≡ with_serial n cs
 with_removed n zero [] apart h = refl
 with_removed n (suc at) [] apart h = refl
 with_removed n zero (x ∷ xs) apart h = sym (with_behind n x xs (only_one n x xs apart h))
@@ -130,7 +130,7 @@ abbrev pub StayControls : (Owner → Bool) → List ControlRecord → List Contr
 StayControls own cs ds = (window n : ℕ) → list_any (has_serial n) (controls_of window cs) ≡ true → list_any (has_serial n) (controls_of window ds) ≡ true
     → own (Content window (part.Control n)) ≡ false → with_serial n ds ≡ with_serial n cs
 
-pub stay_edited : (c : ControlOf) (f : ControlRecord → ControlRecord) → ((x : ControlRecord) → (f x).serial ≡ x.serial) → (before after : ControlDesk) → AreApart before.controls.controls → IsChangedTo c f before after
+pub stay_edited : (c : ControlOf) (f : ControlRecord → ControlRecord) → ((x : ControlRecord) → (f x).serial ≡ x.serial) → (before after : ControlDesk) → AreControlsApart before.controls.controls → IsChangedTo c f before after
     → StayControls (λ o. same_owner o (Content c.window (part.Control c.control))) before.controls.controls after.controls.controls
 stay_edited c f same before after apart done window n was is other = by_test (n == c.control) refl
   where
@@ -159,7 +159,7 @@ stay_edited c f same before after apart done window n was is other = by_test (n 
 pub stay_pushed : (own : Owner → Bool) (cs ds : List ControlRecord) (c : ControlRecord) → ds ≡ cs ++ c ∷ [] → StayControls own cs ds
 stay_pushed own cs ds c pushed window n was is other = ap (with_serial n) pushed ∙ with_pushed n cs c (any_of n window cs was)
 
-pub stay_removed : (own : Owner → Bool) (cs ds : List ControlRecord) (at : ℕ) → AreApart cs → ds ≡ remove cs at → StayControls own cs ds
+pub stay_removed : (own : Owner → Bool) (cs ds : List ControlRecord) (at : ℕ) → AreControlsApart cs → ds ≡ remove cs at → StayControls own cs ds
 stay_removed own cs ds at apart removed window n was is other =
     ap (with_serial n) removed
     ∙ with_removed n at cs apart (ap (list_any (has_serial n)) (sym removed) ∙ any_of n window ds is)

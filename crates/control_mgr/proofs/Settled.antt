@@ -30,7 +30,7 @@ use Rattle.control_mgr.specs.InUse.{AreStocked}
 use Rattle.control_mgr.specs.Laying.{IsShapeOf}
 use Rattle.control_mgr.specs.Spots.{with_lie, with_state}
 use Rattle.control_mgr.specs.Settled.{AreSettled, IsSettledControl, MayHaveSetting}
-use Rattle.control_mgr.specs.WholeControls.{AreApart, AreWholeControls, slots_of}
+use Rattle.control_mgr.specs.WholeControls.{AreControlsApart, AreWholeControls, slots_of}
 use Rattle.control_mgr.proofs.Edited.{All-edit, All-there, AreNoControls, any-edit, begin_edit, edit_alike, map-edit}
 use Rattle.control_mgr.proofs.Sound.{MayHave}
 
@@ -102,7 +102,7 @@ before-edit next f same i [] = refl
 before-edit next f same zero (c ∷ cs) = ap (λ s. is_before next s && are_before next cs) (same c)
 before-edit next f same (suc i) (c ∷ cs) = ap (λ b. is_before next c.serial && b) (before-edit next f same i cs)
 
-apart-edit : (f : ControlRecord → ControlRecord) → ((c : ControlRecord) → (f c).serial ≡ c.serial) → (i : ℕ) (cs : List ControlRecord) → AreApart cs → AreApart (edit_at f i cs)
+apart-edit : (f : ControlRecord → ControlRecord) → ((c : ControlRecord) → (f c).serial ≡ c.serial) → (i : ℕ) (cs : List ControlRecord) → AreControlsApart cs → AreControlsApart (edit_at f i cs)
 apart-edit f same i [] h = tt
 apart-edit f same zero (c ∷ cs) h = (ap (λ s. list_any (has_serial s) cs) (same c) ∙ h.0, h.1)
 apart-edit f same (suc i) (c ∷ cs) h = (any-edit c.serial f same i cs ∙ h.0, apart-edit f same i cs h.1)
@@ -192,7 +192,7 @@ laid_layer k c d same shape is l was = record {
 
 -- what a change of a control that keeps its serial and its window leaves, layers aside
 pub record AreSame (next : Option ℕ) (slots : List ControlSlot) (windows : List WindowRecord) (before after : List ControlRecord) : Type 0 where
-  pub apart : AreApart before → AreApart after
+  pub apart : AreControlsApart before → AreControlsApart after
   pub given : are_before next before ≡ true → are_before next after ≡ true
   pub somewhere : All (λ c. is_missing c.window windows ≡ false) before → All (λ c. is_missing c.window windows ≡ false) after
   pub few : ((t : ℕ) → count_of t before ≤ most_controls) → (t : ℕ) → count_of t after ≤ most_controls
@@ -201,7 +201,7 @@ pub record AreSame (next : Option ℕ) (slots : List ControlSlot) (windows : Lis
 pub edited_same : (f : ControlRecord → ControlRecord) → Keeps f → (d : ControlDefinition) (at : ℕ) (cs ds : List ControlRecord) → ds ≡ edit_at (retold f d) at cs
     → (next : Option ℕ) (slots : List ControlSlot) (windows : List WindowRecord) → AreSame next slots windows cs ds
 edited_same f keeps d at cs ds is next slots windows = record {
-  apart = λ h. subst AreApart (sym is) (apart-edit (retold f d) keeps.serial at cs h);
+  apart = λ h. subst AreControlsApart (sym is) (apart-edit (retold f d) keeps.serial at cs h);
   given = λ h. ap (are_before next) is ∙ before-edit next (retold f d) keeps.serial at cs ∙ h;
   somewhere = λ h. subst (λ xs. All (λ (c : ControlRecord). is_missing c.window windows ≡ false) xs) (sym is)
       (All-edit (λ (c : ControlRecord). is_missing c.window windows ≡ false) (retold f d) at cs h (λ c e. ap (λ w. is_missing w windows) (keeps.window c) ∙ All-there (λ (c : ControlRecord). is_missing c.window windows ≡ false) at cs c e h));

@@ -1,12 +1,12 @@
 -- What the end of a window or of a desk does to the stock of controls.
 use Rattle.std.specs.Prelude.{◌≡◌, ℕ, List, [], map, All, Contains, Some, slice_get}
 use Rattle.def_iface.specs.declared.window_def.Stage.TheVariants.{Closed}
-use Rattle.def_iface.specs.ControlMeaning.{ControlDefinition, SameControlRegions}
+use Rattle.def_iface.specs.ControlMeaning.{ControlDefinition, SameControlLook}
 use Rattle.def_iface.specs.Slots.{IsFull}
 use Rattle.control_list.specs.Lists.{controls_of}
 use Rattle.control_mgr.specs.ControlDesks.{ControlRecord, ControlSlot, ControlsState}
 use Rattle.control_mgr.specs.InUse.{AreStocked}
-use Rattle.control_mgr.specs.WholeControls.{AreApart, slots_of}
+use Rattle.control_mgr.specs.WholeControls.{AreControlsApart, slots_of}
 
 -- a slot with a definition that no desk uses
 abbrev pub IsControlFull : ControlSlot → Type 0
@@ -16,7 +16,7 @@ IsControlFull s = IsFull (λ (d : ControlDefinition). d.stage) s
 abbrev pub IsControlClosedAt : List ControlSlot → ControlRecord → Type 0
 IsControlClosedAt slots c =
     (s : ControlSlot) × (slice_get slots c.definition.slot ≡ Some s)
-    × ((d : ControlDefinition) × (s.held ≡ Some d) × (d.stage ≡ Closed) × SameControlRegions c.definition.definition d)
+    × ((d : ControlDefinition) × (s.held ≡ Some d) × (d.stage ≡ Closed) × SameControlLook c.definition.definition d)
 
 -- the definitions of these controls were closed and put into their slots, and every other slot is as it was
 pub record AreControlsClosed (cs : List ControlRecord) (old new : List ControlSlot) : Type 0 where
@@ -38,7 +38,7 @@ pub record IsWindowLeft (window : ℕ) (before after : ControlsState) : Type 0 w
   pub others : (other : ℕ) → (window ≡ other → ⊥) → controls_of other after.controls ≡ controls_of other before.controls
   -- each that stays was there
   pub within : All (Contains before.controls) after.controls
-  pub apart : AreApart before.controls → AreApart after.controls
+  pub apart : AreControlsApart before.controls → AreControlsApart after.controls
   pub next : after.next ≡ before.next
   pub closed : AreControlsClosed (controls_of window before.controls) before.stock after.stock
   pub stocked : AreStocked (λ (d : ControlDefinition). d.stage) (slots_of after.controls) after.stock

@@ -16,7 +16,7 @@ use Rattle.control_list.specs.Lists.{controls_of, edit_at, serial_after, with_hi
 use Rattle.def_iface.specs.declared.part.Part.{Part}
 use Rattle.def_iface.specs.declared.part.Part.TheVariants as part
 use Rattle.def_iface.specs.declared.window_def.Stage.TheVariants.{Closed}
-use Rattle.def_iface.specs.ControlMeaning.{ControlDefinition, ControlLoan, IsControlBegun, SameControlRegions}
+use Rattle.def_iface.specs.ControlMeaning.{ControlDefinition, ControlLoan, IsControlBegun, SameControlLook}
 use Rattle.def_iface.specs.ControlNews.{no_control_news, new_control_news}
 use Rattle.def_iface.specs.Desk.{on_screen}
 use Rattle.def_iface.specs.Owner.{Owner, owner}
@@ -160,7 +160,7 @@ pub record IsControlMade (n : NewControl) (serial : ℕ) (before after : Control
 pub record IsControlShut (loan : ControlLoan) (old new : List ControlSlot) : Type 0 where
   pub definition : ControlDefinition
   pub closed : definition.stage ≡ Closed
-  pub regions : SameControlRegions loan.definition definition
+  pub look : SameControlLook loan.definition definition
   pub left : is_left loan.slot old ≡ true
   pub back : IsPutBack (record { definition = definition; slot = loan.slot }) old new
 
@@ -197,15 +197,15 @@ found_in c p = if is_inactive c then None
     else option_map (λ part. record { part = part; control = c.serial }) (part_under c p)
 
 -- what is found at a point of a window where this is the owner of the pixel there
-abbrev pub found_by : ℕ → List ControlRecord → Owner → Point → Option FoundControl
-found_by s cs (Content t (part.Control n)) p =
+abbrev pub control_found_by : ℕ → List ControlRecord → Owner → Point → Option FoundControl
+control_found_by s cs (Content t (part.Control n)) p =
     if t == s then option_and_then (λ c. found_in c p) (control_of (record { window = s; control = n }) cs) else None
-found_by s cs _ p = None
+control_found_by s cs _ p = None
 
 -- what is found at a point of a window that lies at this place: the control that owns the pixel of the screen there
 abbrev pub found_from : FullDesk → List ControlRecord → ℕ → Point → Point → Option FoundControl
 found_from desk cs s place p = let q = plus place p in
-    if on_screen (layered_desk desk) q then found_by s cs (owner (layered_desk desk) q) p else None
+    if on_screen (layered_desk desk) q then control_found_by s cs (owner (layered_desk desk) q) p else None
 
 -- so in this window, if it is there
 abbrev pub found_control : FullDesk → List ControlRecord → ℕ → Point → Option FoundControl
@@ -279,11 +279,11 @@ IsStepped (TrackingControl k) p answer before after =
 IsStepped _ p answer before after = ⊥
 
 -- the mouse button was released at a point
-abbrev pub IsReleased : Activity → Point → Option ControlPart → ControlDesk → ControlDesk → Type 0
-IsReleased (TrackingControl k) p answer before after =
+abbrev pub IsControlReleased : Activity → Point → Option ControlPart → ControlDesk → ControlDesk → Type 0
+IsControlReleased (TrackingControl k) p answer before after =
     (answer ≡ tracked_part k (control_of k.control before.controls.controls) p)
     × Opens Idle before after × IsShownAnew k.control (released k p answer) before after
-IsReleased _ p answer before after = ⊥
+IsControlReleased _ p answer before after = ⊥
 
 -- ---- the step
 
@@ -329,7 +329,7 @@ IsControlEffect (Track p) answer before after =
 IsControlEffect (Step p) answer before after =
     (part : Option ControlPart) × (answer ≡ reply.Part part) × IsStepped before.desk.activity p part before after
 IsControlEffect (End p) answer before after =
-    (part : Option ControlPart) × (answer ≡ reply.Part part) × IsReleased before.desk.activity p part before after
+    (part : Option ControlPart) × (answer ≡ reply.Part part) × IsControlReleased before.desk.activity p part before after
 
 -- one step of a call about controls
 abbrev pub IsControlStep : ControlCall → Result ControlReply Refusal → ControlDesk → ControlDesk → Type 0

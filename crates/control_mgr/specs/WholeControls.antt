@@ -28,9 +28,9 @@ use Rattle.control_mgr.specs.InUse.{AreStocked}
 use Rattle.control_mgr.specs.Settled.{AreSettled}
 
 -- each of another serial
-abbrev pub AreApart : List ControlRecord → Type 0
-AreApart [] = Unit {0}
-AreApart (c ∷ cs) = (list_any (has_serial c.serial) cs ≡ false) × AreApart cs
+abbrev pub AreControlsApart : List ControlRecord → Type 0
+AreControlsApart [] = Unit {0}
+AreControlsApart (c ∷ cs) = (list_any (has_serial c.serial) cs ≡ false) × AreControlsApart cs
 
 abbrev pub AreLiveControls : List ControlRecord → Type 0
 AreLiveControls cs = All (λ c. c.definition.definition.stage ≡ Live) cs
@@ -44,7 +44,7 @@ slots_of cs = map (λ c. c.definition.slot) cs
 -- control's; and the empty slots of the stock are those of their definitions
 pub record AreWholeControls (windows : List WindowRecord) (s : ControlsState) : Type 0 where
   pub settled : AreSettled s.controls
-  pub apart : AreApart s.controls
+  pub apart : AreControlsApart s.controls
   pub given : are_before s.next s.controls ≡ true
   pub somewhere : All (λ c. is_missing c.window windows ≡ false) s.controls
   pub few : (window : ℕ) → count_of window s.controls ≤ most_controls

@@ -64,6 +64,12 @@ pub record ControlHears (news : ControlNews → ControlNews) (old new : ControlD
   pub hit : (n : ControlNews) (p : Point) → new.hit n p ≡ old.hit (news n) p
   pub thumb_value : (n : ControlNews) (p q : Point) → new.thumb_value n p q ≡ old.thumb_value (news n) p q
 
+-- it has the size that it was told, and answers as the old one, whatever it is told from here on
+pub record SameControlLook (old new : ControlDefinition) : Type 0 where
+  pub size : new.size ≡ old.size
+  pub regions : SameControlRegions old new
+  pub look : ControlHears (λ n. n) old new
+
 -- what a fresh definition is once it was made live and told all of this
 pub record IsControlBegun (all : AllControlNews) (old new : ControlDefinition) : Type 0 where
   pub live : new.stage ≡ Live

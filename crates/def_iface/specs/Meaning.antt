@@ -60,6 +60,12 @@ pub record Hears (news : News → News) (old new : Definition) : Type 0 where
   pub picture : (n : News) (font : List ℕ) (p : Point) → new.picture n font p ≡ old.picture (news n) font p
   pub hit : (n : News) (p : Point) → new.hit n p ≡ old.hit (news n) p
 
+-- it has the size that it was told, and answers as the old one, whatever it is told from here on
+pub record SameLook (old new : Definition) : Type 0 where
+  pub size : new.size ≡ old.size
+  pub regions : SameRegions old new
+  pub look : Hears (λ n. n) old new
+
 -- what a fresh definition is once it was made live and told all of this
 pub record IsBegun (all : AllNews) (old new : Definition) : Type 0 where
   pub live : new.stage ≡ Live

@@ -67,6 +67,11 @@ IsMenuDamage damage old new =
 pub record MenuHears (news : MenuNews → MenuNews) (old new : MenuDefinition) : Type 0 where
   pub picture : (n : MenuNews) (font : List ℕ) (menu : Menu) (p : Point) → new.picture n font menu p ≡ old.picture (news n) font menu p
 
+-- it answers as the old one, whatever it is told from here on
+pub record SameMenuLook (old new : MenuDefinition) : Type 0 where
+  pub measures : SameMeasures old new
+  pub look : MenuHears (λ n. n) old new
+
 -- what a fresh definition is once it was made live and told that no item is highlighted
 pub record IsMenuBegun (old new : MenuDefinition) : Type 0 where
   pub live : new.stage ≡ Live

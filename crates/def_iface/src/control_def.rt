@@ -6,7 +6,7 @@ ghost use Rattle.tb_geom.specs.Pixels.{holds};
 ghost use Rattle.bit_blit.specs.Draws.{Draws};
 ghost use Rattle.draw_port.specs.Canvases.{canvas_holds, canvas_point, SameFrame};
 ghost use Rattle.def_iface.specs.ControlNews.{no_control_news, told_control};
-ghost use Rattle.def_iface.specs.ControlMeaning.{ControlDefinition, SameControlRegions, ControlHears, IsControlDamage};
+ghost use Rattle.def_iface.specs.ControlMeaning.{ControlDefinition, SameControlLook, SameControlRegions, ControlHears, IsControlDamage};
 ghost use Rattle.def_iface.specs.ControlMeaning.{is_control_size, is_fitting_control, control_size_after};
 ghost use Rattle.def_iface.specs.Meaning.{IsWithin};
 
@@ -93,9 +93,9 @@ pub trait ControlDef: Drop {
             (λ p _. (control_meaning self.now).picture no_control_news canvas.old.font.now (canvas_point canvas.old p))
             canvas.old.map.now canvas.new.map.now };
 
-    /// Ends a Live definition's use.
+    /// Ends a Live definition's use. It answers as it did: the definition that goes back into its slot is told by that.
     fn dispose(&mut self)
         requires { (control_meaning self.old).stage ≡ Stage.Live }
         ensures closed { (control_meaning self.new).stage ≡ Stage.Closed }
-        ensures regions { SameControlRegions (control_meaning self.old) (control_meaning self.new) };
+        ensures same { SameControlLook (control_meaning self.old) (control_meaning self.new) };
 }

@@ -2,7 +2,7 @@
 ghost use Rattle.std.specs.Prelude.{◌≡◌, true};
 ghost use Rattle.bit_blit.specs.Draws.{Draws};
 ghost use Rattle.draw_port.specs.Canvases.{canvas_holds, canvas_point, SameFrame};
-ghost use Rattle.def_iface.specs.MenuMeaning.{MenuDefinition, SameMeasures, MenuHears, IsMenuDamage};
+ghost use Rattle.def_iface.specs.MenuMeaning.{MenuDefinition, SameMeasures, SameMenuLook, MenuHears, IsMenuDamage};
 ghost use Rattle.def_iface.specs.MenuMeaning.{no_menu_news, told_menu, is_menu_size, is_choice};
 
 use crate::{Size, Stage};
@@ -65,9 +65,9 @@ pub trait MenuDef: Drop {
             (λ p _. (menu_meaning self.now).picture no_menu_news canvas.old.font.now menu.now (canvas_point canvas.old p))
             canvas.old.map.now canvas.new.map.now };
 
-    /// Ends a Live definition's use.
+    /// Ends a Live definition's use. It answers as it did: the definition that goes back into its slot is told by that.
     fn dispose(&mut self)
         requires { (menu_meaning self.old).stage ≡ Stage.Live }
         ensures closed { (menu_meaning self.new).stage ≡ Stage.Closed }
-        ensures measures { SameMeasures (menu_meaning self.old) (menu_meaning self.new) };
+        ensures same { SameMenuLook (menu_meaning self.old) (menu_meaning self.new) };
 }

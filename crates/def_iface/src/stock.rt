@@ -1,9 +1,13 @@
 //! The stock: what the program made, to be taken for use and put back.
 ghost use Rattle.std.specs.Prelude.{◌≡◌, All, []};
 ghost use Rattle.def_iface.specs.Slots.{slot_views, seen_slots};
+ghost use Rattle.def_iface.specs.Slots as any_slots;
 ghost use Rattle.def_iface.specs.Stocked.{IsFull};
 
-use crate::{ControlStock, ListStock, MenuStock, Stocked, WindowStock};
+use crate::{
+    ControlStock, ListStock, MenuStock, Stocked, StockedControls, StockedLists, StockedMenus,
+    WindowStock,
+};
 use std::alloc::Global;
 
 /// Definitions of windows, controls, lists and menus, each of the four in slots of its own. So a kind goes by its name and
@@ -22,10 +26,16 @@ impl Stocked for Stock {
 }
 
 impl Stock {
-    /// A stock without a slot.
+    /// A stock without a slot, of windows, of controls, of lists and of menus.
     pub fn new(alloc: Global) -> Stock
         ensures empty { ⟦<Stock as Stocked>⟧.slots result ≡ [] }
         ensures full { All IsFull (⟦<Stock as Stocked>⟧.slots result) }
+        ensures empty_controls { ⟦<ControlStock as StockedControls>⟧.control_slots result.controls ≡ [] }
+        ensures full_controls { All (any_slots.IsFull (λ d. d.stage)) (⟦<ControlStock as StockedControls>⟧.control_slots result.controls) }
+        ensures empty_lists { ⟦<ListStock as StockedLists>⟧.list_slots result.lists ≡ [] }
+        ensures full_lists { All (any_slots.IsFull (λ d. d.stage)) (⟦<ListStock as StockedLists>⟧.list_slots result.lists) }
+        ensures empty_menus { ⟦<MenuStock as StockedMenus>⟧.menu_slots result.menus ≡ [] }
+        ensures full_menus { All (any_slots.IsFull (λ d. d.stage)) (⟦<MenuStock as StockedMenus>⟧.menu_slots result.menus) }
     {
         Stock {
             windows: WindowStock::new(alloc),

@@ -6,7 +6,7 @@ ghost use Rattle.tb_geom.specs.Pixels.{holds};
 ghost use Rattle.bit_blit.specs.Draws.{Draws};
 ghost use Rattle.draw_port.specs.Canvases.{canvas_holds, canvas_point, SameFrame};
 ghost use Rattle.def_iface.specs.Sizes.{is_size};
-ghost use Rattle.def_iface.specs.Meaning.{Loan, SameRegions, IsWithin, IsBegun, Hears, IsDamage, is_fitting, size_after};
+ghost use Rattle.def_iface.specs.Meaning.{Loan, SameLook, SameRegions, IsWithin, IsBegun, Hears, IsDamage, is_fitting, size_after};
 ghost use Rattle.def_iface.specs.News.{no_news, told_change, new_window_news};
 
 use crate::{Hit, Size, Stage, WindowChange, WindowDef, WindowRegions};
@@ -143,7 +143,7 @@ impl Taken {
     pub fn dispose(&mut self)
         requires { (⟦<Taken as Defined>⟧.loan self.old).definition.stage ≡ Stage.Live }
         ensures closed { (⟦<Taken as Defined>⟧.loan self.new).definition.stage ≡ Stage.Closed }
-        ensures regions { SameRegions (⟦<Taken as Defined>⟧.loan self.old).definition
+        ensures same { SameLook (⟦<Taken as Defined>⟧.loan self.old).definition
             (⟦<Taken as Defined>⟧.loan self.new).definition }
         ensures slot { (⟦<Taken as Defined>⟧.loan self.new).slot ≡ (⟦<Taken as Defined>⟧.loan self.old).slot }
     {

@@ -6,7 +6,7 @@ ghost use Rattle.tb_geom.specs.Pixels.{holds};
 ghost use Rattle.bit_blit.specs.Draws.{Draws};
 ghost use Rattle.draw_port.specs.Canvases.{canvas_holds, canvas_point, SameFrame};
 ghost use Rattle.def_iface.specs.ControlNews.{no_control_news, told_control, new_control_news};
-ghost use Rattle.def_iface.specs.ControlMeaning.{ControlLoan, SameControlRegions, ControlHears, IsControlBegun, IsControlDamage};
+ghost use Rattle.def_iface.specs.ControlMeaning.{ControlLoan, SameControlLook, SameControlRegions, ControlHears, IsControlBegun, IsControlDamage};
 ghost use Rattle.def_iface.specs.ControlMeaning.{is_control_size, is_fitting_control, control_size_after};
 ghost use Rattle.def_iface.specs.Meaning.{IsWithin};
 
@@ -153,7 +153,7 @@ impl TakenControl {
     pub fn dispose(&mut self)
         requires { (⟦<TakenControl as DefinedControl>⟧.control_loan self.old).definition.stage ≡ Stage.Live }
         ensures closed { (⟦<TakenControl as DefinedControl>⟧.control_loan self.new).definition.stage ≡ Stage.Closed }
-        ensures regions { SameControlRegions (⟦<TakenControl as DefinedControl>⟧.control_loan self.old).definition
+        ensures same { SameControlLook (⟦<TakenControl as DefinedControl>⟧.control_loan self.old).definition
             (⟦<TakenControl as DefinedControl>⟧.control_loan self.new).definition }
         ensures slot { (⟦<TakenControl as DefinedControl>⟧.control_loan self.new).slot
             ≡ (⟦<TakenControl as DefinedControl>⟧.control_loan self.old).slot }

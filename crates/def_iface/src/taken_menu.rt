@@ -2,7 +2,7 @@
 ghost use Rattle.std.specs.Prelude.{◌≡◌, true};
 ghost use Rattle.bit_blit.specs.Draws.{Draws};
 ghost use Rattle.draw_port.specs.Canvases.{canvas_holds, canvas_point, SameFrame};
-ghost use Rattle.def_iface.specs.MenuMeaning.{MenuLoan, SameMeasures, MenuHears, IsMenuBegun, IsMenuDamage};
+ghost use Rattle.def_iface.specs.MenuMeaning.{MenuLoan, SameMeasures, SameMenuLook, MenuHears, IsMenuBegun, IsMenuDamage};
 ghost use Rattle.def_iface.specs.MenuMeaning.{no_menu_news, told_menu, is_menu_size, is_choice};
 
 use crate::{MenuChange, MenuDef, Size, Stage};
@@ -105,7 +105,7 @@ impl TakenMenu {
     pub fn dispose(&mut self)
         requires { (⟦<TakenMenu as DefinedMenu>⟧.menu_loan self.old).definition.stage ≡ Stage.Live }
         ensures closed { (⟦<TakenMenu as DefinedMenu>⟧.menu_loan self.new).definition.stage ≡ Stage.Closed }
-        ensures measures { SameMeasures (⟦<TakenMenu as DefinedMenu>⟧.menu_loan self.old).definition
+        ensures same { SameMenuLook (⟦<TakenMenu as DefinedMenu>⟧.menu_loan self.old).definition
             (⟦<TakenMenu as DefinedMenu>⟧.menu_loan self.new).definition }
         ensures slot { (⟦<TakenMenu as DefinedMenu>⟧.menu_loan self.new).slot ≡ (⟦<TakenMenu as DefinedMenu>⟧.menu_loan self.old).slot }
     {

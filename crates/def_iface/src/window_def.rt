@@ -7,7 +7,7 @@ ghost use Rattle.tb_geom.specs.Pixels.{holds};
 ghost use Rattle.bit_blit.specs.Draws.{Draws};
 ghost use Rattle.draw_port.specs.Canvases.{canvas_holds, canvas_point, SameFrame};
 ghost use Rattle.def_iface.specs.Sizes.{is_size};
-ghost use Rattle.def_iface.specs.Meaning.{Definition, SameRegions, Hears, IsDamage, IsWithin, is_fitting, size_after};
+ghost use Rattle.def_iface.specs.Meaning.{Definition, SameLook, SameRegions, Hears, IsDamage, IsWithin, is_fitting, size_after};
 ghost use Rattle.def_iface.specs.News.{no_news, told_change};
 
 use crate::Size;
@@ -135,9 +135,9 @@ pub trait WindowDef: Drop {
             (λ p _. (meaning self.now).picture no_news canvas.old.font.now (canvas_point canvas.old p))
             canvas.old.map.now canvas.new.map.now };
 
-    /// Ends a Live definition's use.
+    /// Ends a Live definition's use. It answers as it did: the definition that goes back into its slot is told by that.
     fn dispose(&mut self)
         requires { (meaning self.old).stage ≡ Stage.Live }
         ensures closed { (meaning self.new).stage ≡ Stage.Closed }
-        ensures regions { SameRegions (meaning self.old) (meaning self.new) };
+        ensures same { SameLook (meaning self.old) (meaning self.new) };
 }

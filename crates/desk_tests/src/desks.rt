@@ -3,7 +3,7 @@ ghost use Rattle.std.specs.Prelude.{All};
 ghost use Rattle.def_iface.specs.Stocked.{IsFull};
 
 use bit_map::{Mode, Pattern};
-use def_iface::{ControlStock, ListStock, MenuStock, Size, Stock, Stocked, WindowDef, WindowStock};
+use def_iface::{Size, Stock, Stocked, WindowDef, WindowStock};
 use desk_toolbox::{
     Call, Found, NewPicture, NewWindow, PictureRef, Reply, Toolbox, UpdateCall, WindowCall,
     WindowPart, WindowReply,
@@ -135,9 +135,6 @@ fn a_desk_is_called_and_painted(rt: HostRuntime) -> Result<(), Fail> {
     }
     let mut stock = Stock::new(alloc);
     stock.windows = windows;
-    stock.controls = ControlStock::new(alloc);
-    stock.lists = ListStock::new(alloc);
-    stock.menus = MenuStock::new(alloc);
     let Ok(mut desk) = Toolbox::new(alloc, 16, 10, 0, Font::built_in(alloc)?) else {
         return Err(Fail::from(Refusal::NoMemory));
     };

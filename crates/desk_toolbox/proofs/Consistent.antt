@@ -15,7 +15,7 @@ use Rattle.vis_update.specs.Records.{WindowRecord}
 use Rattle.window_frame.specs.Followers.{Knows}
 use Rattle.window_frame.specs.Followers.Flag.{Highlighting, Zooming}
 use Rattle.desk_toolbox.specs.declared.events.Events.{Events}
-use Rattle.desk_toolbox.specs.Reached.{AreApart, HasLiveDefinition, IsLit, IsPulledThere, IsThere, IsTrackedIfHeard, IsConsistent, IsJustBegun, open_window}
+use Rattle.desk_toolbox.specs.Reached.{AreMenusApart, HasLiveDefinition, IsLit, IsPulledThere, IsThere, IsTrackedIfHeard, IsConsistent, IsJustBegun, open_window}
 use Rattle.desk_toolbox.specs.Run.{IsStep, IsRunOfCalls}
 use Rattle.desk_toolbox.specs.ToolboxStates.{ToolboxState}
 use Rattle.desk_toolbox.proofs.EachManager.{HoldsOfEach, of_step}
@@ -83,7 +83,7 @@ just_begun_is_consistent s begun =
       informed = All-same (λ (w : WindowRecord). Knows Highlighting w × Knows Zooming w) windows [] begun.windows (All-nil (λ (w : WindowRecord). Knows Highlighting w × Knows Zooming w));
       tracked = All-same (IsTrackedIfHeard s.desk.activity) windows [] begun.windows (All-nil (IsTrackedIfHeard s.desk.activity));
       bar = begun.titles ∙ sym (λ i. titles_of (begun.highlighted i) (begun.menus i));
-      apart = subst AreApart (sym begun.menus) (λ id. omega arith);
+      apart = subst AreMenusApart (sym begun.menus) (λ id. omega arith);
       pulled = subst (λ a. IsPulledThere a s.menus) (sym begun.idle) tt;
       lit = All-same (IsLit s.desk.activity) s.menus.menus [] begun.menus (All-nil (IsLit s.desk.activity));
       title = subst (λ o. IfSome o (λ id. is_in_bar (pos id) s.menus.menus ≡ true)) (sym begun.highlighted) tt;

@@ -27,7 +27,7 @@ use Rattle.window_update.specs.WholeUpdates.{IsWholeUpdates}
 use Rattle.control_mgr.specs.declared.controls.Controls.{Controls}
 use Rattle.control_mgr.specs.ControlDesks.{ControlDesk, ControlSlot, IsControlDeskUnchanged}
 use Rattle.control_mgr.specs.ControlSteps.{IsControlStep}
-use Rattle.control_mgr.specs.WholeControls.{AreApart, control_desk}
+use Rattle.control_mgr.specs.WholeControls.{AreControlsApart, control_desk}
 use Rattle.control_mgr.proofs.ControlFacts.{control_facts}
 use Rattle.control_mgr.proofs.ControlsKept.{control_behind}
 use Rattle.list_mgr.specs.ListDesks.{ListsState}
@@ -42,7 +42,7 @@ use Rattle.desk_toolbox.proofs.UpdatesBeside as updates
 use Rattle.desk_toolbox.proofs.UpdatesBeside.{UpdatesNone}
 
 -- lists that are whole are so after a call about controls
-pub control_leaves_lists : (call : ControlCall) (answer : Result ControlReply Refusal) (before after : ControlDesk) (s : ListsState) → IsDesk (layered_desk before.desk.windows.desk) → AreApart before.controls.controls
+pub control_leaves_lists : (call : ControlCall) (answer : Result ControlReply Refusal) (before after : ControlDesk) (s : ListsState) → IsDesk (layered_desk before.desk.windows.desk) → AreControlsApart before.controls.controls
     → IsControlStep call answer before after → AreWholeLists before.desk.windows.desk.windows s → AreWholeLists after.desk.windows.desk.windows s
 control_leaves_lists call answer before after s distinct apart step whole =
     whole_behind before.desk.windows.desk.windows after.desk.windows.desk.windows s (control_facts call answer before after step).0.windows (control_behind call answer before after distinct apart step) whole

@@ -23,7 +23,7 @@ use Rattle.window_mgr.specs.Finding.{record_with}
 use Rattle.window_mgr.specs.FullDesk.{layered_desk}
 use Rattle.window_mgr.specs.Refused.{is_missing}
 use Rattle.control_mgr.specs.ControlDesks.{ControlRecord}
-use Rattle.control_mgr.specs.ControlSteps.{found_by, found_from}
+use Rattle.control_mgr.specs.ControlSteps.{control_found_by, found_from}
 use Rattle.desk_toolbox.specs.Fronts.{found_by_owner, found_on_screen, is_on_menu, screen_owner}
 use Rattle.desk_toolbox.specs.ToolboxStates.{ToolboxState, IsToolboxUnchanged}
 use Rattle.desk_toolbox.specs.Run.{IsAdmitted, IsControlTold, IsGated, IsStep, is_under_menu, replied}
@@ -53,7 +53,7 @@ module _ (before : ToolboxState) (asked : PointInWindow) where
   not_under w away = by_test (on_screen desk (pixel w)) refl
     where
       by_test : (on : Bool) → on_screen desk (pixel w) ≡ on
-          → (if on then found_by asked.window cs (owner desk (pixel w)) asked.point else None)
+          → (if on then control_found_by asked.window cs (owner desk (pixel w)) asked.point else None)
           ≡ (if on then found_by_owner (screen_owner before (pixel w)) asked.window cs asked.point else None)
       by_test true on = sym (ap (λ o. found_by_owner o asked.window cs asked.point) (base_is_elsewhere before (pixel w) on away).0)
       by_test false on = refl

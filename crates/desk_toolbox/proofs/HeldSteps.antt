@@ -18,7 +18,7 @@ use Rattle.desk_call.specs.declared.menu.MenuReply.{MenuReply}
 use Rattle.desk_call.specs.declared.window.WindowCall.{WindowCall}
 use Rattle.desk_call.specs.declared.window.WindowReply.{WindowReply}
 use Rattle.menu_mgr.specs.MenuDesks.{MenuDesk, MenuRecord, MenuSlot, MenusState}
-use Rattle.menu_mgr.specs.MenuSteps.{IsDisposedAt, IsMenuEffect, IsMenuStep, IsMoved, IsMovedOn, IsPressedOn, IsReleased, IsToldAt, new_record, other_title, with_definition}
+use Rattle.menu_mgr.specs.MenuSteps.{IsDisposedAt, IsMenuEffect, IsMenuStep, IsMoved, IsMovedOn, IsPressedOn, IsMenuReleased, IsToldAt, new_record, other_title, with_definition}
 use Rattle.menu_mgr.specs.Pulling.{TitleOf, title_of_point}
 use Rattle.menu_mgr.specs.WholeMenus.{AreMenusStocked}
 use Rattle.menu_mgr.proofs.Stocks.{stocked_alike, stocked_with, stocked_without, uses-edit, uses-remove}
@@ -78,7 +78,7 @@ put_away_title : (o was : Option ℕ) (choice : Option Choice) (ls : List MenuRe
 put_away_title o was None ls is h = subst (λ x. IfSome x (λ n. Shows n ls)) (sym is) tt
 put_away_title o was (Some c) ls is h = subst (λ x. IfSome x (λ n. Shows n ls)) (sym is) h
 
-released_held : (a : Activity) (p : Point) (choice : Option Choice) (before after : MenuDesk) → IsReleased a p choice before after → AreMenusHeld before.menus → AreMenusHeld after.menus
+released_held : (a : Activity) (p : Point) (choice : Option Choice) (before after : MenuDesk) → IsMenuReleased a p choice before after → AreMenusHeld before.menus → AreMenusHeld after.menus
 released_held (Pulling m) p choice before after (is, away) h =
     let at = menu_index (pos m.menu) before.menus.menus in
     subst AreMenusHeld (sym away.shown.menus) (record {

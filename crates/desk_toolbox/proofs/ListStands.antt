@@ -21,7 +21,7 @@ use Rattle.list_mgr.specs.ListClosing.{IsListFull}
 use Rattle.list_mgr.specs.ListDesks.{IsListDeskUnchanged, KeptList, ListDesk, ListsState}
 use Rattle.list_mgr.specs.ListRefusals.{most_lists}
 use Rattle.list_mgr.specs.ListSteps.{AreListLayers, IsListEffect, IsListStep}
-use Rattle.list_mgr.specs.WholeLists.{AreApart, AreWholeLists, IsSettledList, slots_of}
+use Rattle.list_mgr.specs.WholeLists.{AreListsApart, AreWholeLists, IsSettledList, slots_of}
 use Rattle.list_mgr.proofs.ListFacts.{IsBesideLayers, list_facts}
 use Rattle.desk_toolbox.specs.declared.events.Events.{Events}
 use Rattle.desk_toolbox.specs.Reached.{AreContentsRight, IsJustBegun, open_window}
@@ -101,7 +101,7 @@ list_stands call (Ok answer) before after may was right step events menus = ⊎_
 pub no_lists_whole : (windows : List WindowRecord) (s : ListsState) → windows ≡ [] → s.lists ≡ [] → s.next ≡ Some 1 → All IsListFull s.stock → AreWholeLists windows s
 no_lists_whole windows s bare none next full = record {
   settled = All-same IsSettledList s.lists [] none (All-nil IsSettledList);
-  apart = subst AreApart (sym none) tt;
+  apart = subst AreListsApart (sym none) tt;
   given = (λ i. are_before (next i) (none i));
   somewhere = All-same (λ (l : KeptList). is_missing l.window windows ≡ false) s.lists [] none (All-nil (λ (l : KeptList). is_missing l.window windows ≡ false));
   few = λ t. subst (λ ls. count_of t ls ≤ most_lists) (sym none) (omega arith);

@@ -16,7 +16,7 @@ use Rattle.desk_call.specs.declared.menu.MenuCall.{MenuCall}
 use Rattle.desk_call.specs.declared.menu.MenuCall.TheVariants.{Append, SetItem, Insert, Delete, Enable, Disable, Check}
 use Rattle.menu_mgr.specs.MenuDesks.{MenuRecord}
 use Rattle.menu_mgr.specs.MenuSteps.{IsTold, IsToldAt, with_definition}
-use Rattle.desk_toolbox.specs.Reached.{AreApart, IsLit, numbered}
+use Rattle.desk_toolbox.specs.Reached.{AreMenusApart, IsLit, numbered}
 use Rattle.desk_toolbox.proofs.MenuNumbers.{none_numbered, number_of, numbered-remove}
 
 -- what a definition was told it goes by
@@ -151,7 +151,7 @@ found_number k (x ∷ xs) l e = by_test (has_number (pos k) x) refl (found_numbe
     by_test true is rest e = let same : x ≡ l = cc in subst (λ y. has_number (pos k) y ≡ true) same is
     by_test false is rest e = rest e
 
-pub told_lit : (m : PulledMenu) (item : Option ℕ) (before after : List MenuRecord) → AreApart before → All (IsLit (Pulling m)) before → IsTold m item before after → All (IsLitAs m.menu item) after
+pub told_lit : (m : PulledMenu) (item : Option ℕ) (before after : List MenuRecord) → AreMenusApart before → All (IsLit (Pulling m)) before → IsTold m item before after → All (IsLitAs m.menu item) after
 told_lit m item before after apart was told = by_index (menu_index (pos m.menu) before) refl told
   where
     by_index : (o : Option ℕ) → menu_index (pos m.menu) before ≡ o → IsToldAt o item before after → All (IsLitAs m.menu item) after

@@ -21,7 +21,7 @@ use Rattle.menu_list.specs.Lists.{menu_index}
 use Rattle.window_mgr.proofs.SlotLemmas.{map-set}
 use Rattle.menu_mgr.specs.MenuDesks.{MenuDesk, MenuRecord, MenuSlot, MenusState}
 use Rattle.menu_mgr.specs.MenuRefusals.{menu_kind}
-use Rattle.menu_mgr.specs.MenuSteps.{AreMenusShown, IsDisposedAt, IsMenuEffect, IsMenuShut, IsMenuStep, IsMoved, IsMovedOn, IsPressedOn, IsReleased, other_title}
+use Rattle.menu_mgr.specs.MenuSteps.{AreMenusShown, IsDisposedAt, IsMenuEffect, IsMenuShut, IsMenuStep, IsMoved, IsMovedOn, IsPressedOn, IsMenuReleased, other_title}
 use Rattle.menu_mgr.specs.Pulling.{TitleOf, title_of_point}
 use Rattle.desk_toolbox.specs.Run.{IsStep, IsWindowMade}
 use Rattle.desk_toolbox.specs.ToolboxStates.{ToolboxState, with_menus}
@@ -64,7 +64,7 @@ moved_keeps (Updating s) p answer before after wrong = absurd wrong
 moved_keeps (Tracking s) p answer before after wrong = absurd wrong
 moved_keeps (TrackingControl c) p answer before after wrong = absurd wrong
 
-released_keeps : (a : Activity) (p : Point) (choice : Option Choice) (before after : MenuDesk) → IsReleased a p choice before after → KeepsKinds before after
+released_keeps : (a : Activity) (p : Point) (choice : Option Choice) (before after : MenuDesk) → IsMenuReleased a p choice before after → KeepsKinds before after
 released_keeps (Pulling m) p choice before after (is, away) = shown_keeps _ _ before after away.shown
 released_keeps Idle p choice before after wrong = absurd wrong
 released_keeps (Updating s) p choice before after wrong = absurd wrong

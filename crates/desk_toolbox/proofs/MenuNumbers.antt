@@ -26,9 +26,9 @@ use Rattle.menu_edits.specs.EditRefusals.{is_long_text, is_no_menu}
 use Rattle.menu_edits.proofs.Indices.{with_none}
 use Rattle.menu_mgr.specs.MenuDesks.{MenuDesk, MenuRecord, MenuSlot, MenusState}
 use Rattle.menu_mgr.specs.MenuRefusals.{none_is_left, menu_refusals, new_refusals}
-use Rattle.menu_mgr.specs.MenuSteps.{AreMenusShown, IsDisposedAt, IsMenuEffect, IsMenuMade, IsMenuStep, IsMoved, IsMovedOn, IsPressedOn, IsReleased, IsToldAt, new_record, other_title, with_definition}
+use Rattle.menu_mgr.specs.MenuSteps.{AreMenusShown, IsDisposedAt, IsMenuEffect, IsMenuMade, IsMenuStep, IsMoved, IsMovedOn, IsPressedOn, IsMenuReleased, IsToldAt, new_record, other_title, with_definition}
 use Rattle.menu_mgr.specs.Pulling.{TitleOf, title_of_point}
-use Rattle.desk_toolbox.specs.Reached.{AreApart, numbered}
+use Rattle.desk_toolbox.specs.Reached.{AreMenusApart, numbered}
 
 -- ---- how many menus have a number
 
@@ -127,7 +127,7 @@ no_index (Some at) e = absurd (cc)
 pub same_number : (m n : ℕ) → int_eq (pos m) (pos n) ≡ true → m ≡ n
 same_number m n e = ap nat_abs ((Decides-int_eq (pos m) (pos n)).0 e)
 
-one_more : (k : ℕ) (xs : List MenuRecord) (l : MenuRecord) → AreApart xs → numbered l.menu.id xs ≡ 0 → numbered k (xs ++ l ∷ []) ≤ 1
+one_more : (k : ℕ) (xs : List MenuRecord) (l : MenuRecord) → AreMenusApart xs → numbered l.menu.id xs ≡ 0 → numbered k (xs ++ l ∷ []) ≤ 1
 one_more k xs l apart none = subst (λ n. n ≤ 1) (sym (numbered-append k xs l)) (by_test (has_number (pos k) l) refl)
   where
     by_test : (b : Bool) → has_number (pos k) l ≡ b → numbered k xs + (if b then 1 else 0) ≤ 1
@@ -137,21 +137,21 @@ one_more k xs l apart none = subst (λ n. n ≤ 1) (sym (numbered-append k xs l)
 -- ---- a step about menus
 
 abbrev KeepsApart : MenuDesk → MenuDesk → Type 0
-KeepsApart before after = AreApart before.menus.menus → AreApart after.menus.menus
+KeepsApart before after = AreMenusApart before.menus.menus → AreMenusApart after.menus.menus
 
 same_keeps : (before after : MenuDesk) → after.menus ≡ before.menus → KeepsApart before after
-same_keeps before after same was = subst (λ (m : MenusState). AreApart m.menus) (sym same) was
+same_keeps before after same was = subst (λ (m : MenusState). AreMenusApart m.menus) (sym same) was
 
-shown_keeps : (ls : List MenuRecord) (highlighted : Option ℕ) (slots : List MenuSlot) (before after : MenuDesk) → AreMenusShown ls highlighted slots before after → AreApart ls → AreApart after.menus.menus
-shown_keeps ls highlighted slots before after shown apart = subst (λ (m : MenusState). AreApart m.menus) (sym shown.menus) apart
+shown_keeps : (ls : List MenuRecord) (highlighted : Option ℕ) (slots : List MenuSlot) (before after : MenuDesk) → AreMenusShown ls highlighted slots before after → AreMenusApart ls → AreMenusApart after.menus.menus
+shown_keeps ls highlighted slots before after shown apart = subst (λ (m : MenusState). AreMenusApart m.menus) (sym shown.menus) apart
 
-alike_apart : (xs ys : List MenuRecord) → ((k : ℕ) → numbered k ys ≡ numbered k xs) → AreApart xs → AreApart ys
+alike_apart : (xs ys : List MenuRecord) → ((k : ℕ) → numbered k ys ≡ numbered k xs) → AreMenusApart xs → AreMenusApart ys
 alike_apart xs ys same apart k = subst (λ n. n ≤ 1) (sym (same k)) (apart k)
 
-pub told_apart : (at item : Option ℕ) (before after : List MenuRecord) → IsToldAt at item before after → AreApart before → AreApart after
-told_apart None item before after same was = subst AreApart (sym same) was
+pub told_apart : (at item : Option ℕ) (before after : List MenuRecord) → IsToldAt at item before after → AreMenusApart before → AreMenusApart after
+told_apart None item before after same was = subst AreMenusApart (sym same) was
 told_apart (Some at) item before after (l, found, (d, told, is)) was =
-    subst AreApart (sym is) (alike_apart before (edit_at (with_definition d) at before) (λ k. numbered-edit k (with_definition d) (λ m. refl) at before) was)
+    subst AreMenusApart (sym is) (alike_apart before (edit_at (with_definition d) at before) (λ k. numbered-edit k (with_definition d) (λ m. refl) at before) was)
 
 pressed_keeps : (t : Option TitleOf) (answer : Option ℕ) (before after : MenuDesk) → IsPressedOn t answer before after → KeepsApart before after
 pressed_keeps None answer before after (is, same) was = same_keeps before after same.menus was
@@ -161,7 +161,7 @@ moved_on_keeps : (m : PulledMenu) (t : Option TitleOf) (p : Point) (answer : Opt
 moved_on_keeps m (Some t) p answer before after (is, (menus, told, pulled)) was =
     shown_keeps _ _ _ before after pulled.shown (told_apart (menu_index (pos m.menu) before.menus.menus) None before.menus.menus menus told was)
 moved_on_keeps m None p answer before after (is, (menus, told, shown)) was =
-    subst (λ (s : MenusState). AreApart s.menus) (sym shown.menus) (told_apart (menu_index (pos m.menu) before.menus.menus) answer before.menus.menus menus told was)
+    subst (λ (s : MenusState). AreMenusApart s.menus) (sym shown.menus) (told_apart (menu_index (pos m.menu) before.menus.menus) answer before.menus.menus menus told was)
 
 moved_keeps : (a : Activity) (p : Point) (answer : Option ℕ) (before after : MenuDesk) → IsMoved a p answer before after → KeepsApart before after
 moved_keeps (Pulling m) p answer before after moved = moved_on_keeps m (other_title m (title_of_point before p)) p answer before after moved
@@ -170,7 +170,7 @@ moved_keeps (Updating s) p answer before after wrong = absurd wrong
 moved_keeps (Tracking s) p answer before after wrong = absurd wrong
 moved_keeps (TrackingControl c) p answer before after wrong = absurd wrong
 
-released_keeps : (a : Activity) (p : Point) (choice : Option Choice) (before after : MenuDesk) → IsReleased a p choice before after → KeepsApart before after
+released_keeps : (a : Activity) (p : Point) (choice : Option Choice) (before after : MenuDesk) → IsMenuReleased a p choice before after → KeepsApart before after
 released_keeps (Pulling m) p choice before after (is, away) was =
     shown_keeps _ _ _ before after away.shown (told_apart (menu_index (pos m.menu) before.menus.menus) None before.menus.menus away.told away.definition was)
 released_keeps Idle p choice before after wrong was = absurd wrong
@@ -182,7 +182,7 @@ disposed_keeps : (at : Option ℕ) (before after : MenuDesk) → IsDisposedAt at
 disposed_keeps None before after wrong was = absurd wrong
 disposed_keeps (Some at) before after gone was = shown_keeps _ _ _ before after gone.shown fewer
   where
-    fewer : AreApart (remove before.menus.menus at)
+    fewer : AreMenusApart (remove before.menus.menus at)
     fewer k = let a = numbered-remove k at before.menus.menus gone.listed gone.found in let b = was k in omega arith
 
 made_keeps : (n : NewMenu) (before after : MenuDesk) → first_refusal (new_refusals n before.menus) ≡ None → IsMenuMade n before after → KeepsApart before after

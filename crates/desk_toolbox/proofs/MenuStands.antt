@@ -15,7 +15,7 @@ use Rattle.vis_update.specs.Records.{WindowRecord}
 use Rattle.window_frame.specs.Followers.{AreInformed}
 use Rattle.menu_list.specs.Lists.{menu_index}
 use Rattle.menu_mgr.specs.MenuDesks.{MenuDesk}
-use Rattle.menu_mgr.specs.MenuSteps.{IsDisposedAt, IsMenuEffect, IsMenuStep, IsMoved, IsMovedOn, IsPressedOn, IsReleased, other_title}
+use Rattle.menu_mgr.specs.MenuSteps.{IsDisposedAt, IsMenuEffect, IsMenuStep, IsMoved, IsMovedOn, IsPressedOn, IsMenuReleased, other_title}
 use Rattle.menu_mgr.specs.Pulling.{TitleOf, title_of_point}
 use Rattle.menu_mgr.proofs.MenuKeeps.{menu_keeps, menu_keeps_bar}
 use Rattle.desk_toolbox.specs.declared.events.Events.{Events}
@@ -64,7 +64,7 @@ moved_opens (Updating s) p answer before after wrong = absurd wrong
 moved_opens (Tracking s) p answer before after wrong = absurd wrong
 moved_opens (TrackingControl c) p answer before after wrong = absurd wrong
 
-released_opens : (a : Activity) (p : Point) (choice : Option Choice) (before after : MenuDesk) → IsReleased a p choice before after → OpensNoWindow after.desk.activity
+released_opens : (a : Activity) (p : Point) (choice : Option Choice) (before after : MenuDesk) → IsMenuReleased a p choice before after → OpensNoWindow after.desk.activity
 released_opens (Pulling m) p choice before after (is, away) = inl away.activity
 released_opens Idle p choice before after wrong = absurd wrong
 released_opens (Updating s) p choice before after wrong = absurd wrong

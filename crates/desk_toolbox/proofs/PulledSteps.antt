@@ -20,9 +20,9 @@ use Rattle.desk_call.specs.declared.menu.MenuReply.{MenuReply}
 use Rattle.desk_call.specs.declared.menu.NewMenu.{NewMenu}
 use Rattle.desk_call.specs.Gates.{gate, menu_standing}
 use Rattle.menu_mgr.specs.MenuDesks.{MenuDesk, MenuRecord, MenusState, IsBarOf}
-use Rattle.menu_mgr.specs.MenuSteps.{IsDisposedAt, IsMenuEffect, IsMenuMade, IsMenuStep, IsMoved, IsMovedOn, IsPressedOn, IsPulledDown, IsReleased, new_record, other_title}
+use Rattle.menu_mgr.specs.MenuSteps.{IsDisposedAt, IsMenuEffect, IsMenuMade, IsMenuStep, IsMoved, IsMovedOn, IsPressedOn, IsPulledDown, IsMenuReleased, new_record, other_title}
 use Rattle.menu_mgr.specs.Pulling.{TitleOf, may_be_on_title, pulled_below, title_of_point, title_under, titled}
-use Rattle.desk_toolbox.specs.Reached.{AreApart, IsLit}
+use Rattle.desk_toolbox.specs.Reached.{AreMenusApart, IsLit}
 use Rattle.desk_toolbox.proofs.LitMenus.{all_remove, hears_goes, lit_after, lit_by_none, none_lit, told_in_bar, told_lit}
 use Rattle.desk_toolbox.proofs.PulledMenus.{IsPullRight, right_when_idle, same_pull}
 use Rattle.desk_toolbox.proofs.Stands.{idle_now}
@@ -95,7 +95,7 @@ pressed_right None p answer before after on bar idle was (is, same) = same_pull 
 pressed_right (Some t) p answer before after on bar idle was (is, down) =
     pulled_down t before.menus.menus before after (title_is_there before p t bar on) (subst (λ a. All (IsLit a) before.menus.menus) idle was.lit) down
 
-moved_on_right : (m : PulledMenu) (o : Option TitleOf) (p : Point) (answer : Option ℕ) (before after : MenuDesk) → other_title m (title_of_point before p) ≡ o → IsBarOf before.menus before.desk.windows.desk → AreApart before.menus.menus → IsPullRight (Pulling m) before.menus → IsMovedOn m o p answer before after → EndsRight after
+moved_on_right : (m : PulledMenu) (o : Option TitleOf) (p : Point) (answer : Option ℕ) (before after : MenuDesk) → other_title m (title_of_point before p) ≡ o → IsBarOf before.menus before.desk.windows.desk → AreMenusApart before.menus.menus → IsPullRight (Pulling m) before.menus → IsMovedOn m o p answer before after → EndsRight after
 moved_on_right m (Some t) p answer before after on bar apart was (is, (menus, told, down)) =
     pulled_down t menus before after
     (told_in_bar (pos t.hit.menu) (menu_index (pos m.menu) before.menus.menus) None before.menus.menus menus told
@@ -108,14 +108,14 @@ moved_on_right m None p answer before after on bar apart was (is, (menus, told, 
       lit = told_lit m answer before.menus.menus menus apart was.lit told;
     })
 
-moved_right : (a : Activity) (p : Point) (answer : Option ℕ) (before after : MenuDesk) → IsBarOf before.menus before.desk.windows.desk → AreApart before.menus.menus → IsPullRight a before.menus → IsMoved a p answer before after → EndsRight after
+moved_right : (a : Activity) (p : Point) (answer : Option ℕ) (before after : MenuDesk) → IsBarOf before.menus before.desk.windows.desk → AreMenusApart before.menus.menus → IsPullRight a before.menus → IsMoved a p answer before after → EndsRight after
 moved_right (Pulling m) p answer before after bar apart was moved = moved_on_right m (other_title m (title_of_point before p)) p answer before after refl bar apart was moved
 moved_right Idle p answer before after bar apart was wrong = absurd wrong
 moved_right (Updating s) p answer before after bar apart was wrong = absurd wrong
 moved_right (Tracking s) p answer before after bar apart was wrong = absurd wrong
 moved_right (TrackingControl c) p answer before after bar apart was wrong = absurd wrong
 
-released_right : (a : Activity) (p : Point) (choice : Option Choice) (before after : MenuDesk) → AreApart before.menus.menus → IsPullRight a before.menus → IsReleased a p choice before after → EndsRight after
+released_right : (a : Activity) (p : Point) (choice : Option Choice) (before after : MenuDesk) → AreMenusApart before.menus.menus → IsPullRight a before.menus → IsMenuReleased a p choice before after → EndsRight after
 released_right (Pulling m) p choice before after apart was (is, away) =
     right_when_idle after.desk.activity after.menus away.activity
     (subst (λ (s : MenusState). All (IsLit Idle) s.menus) (sym away.shown.menus)
@@ -145,7 +145,7 @@ disposed_right (Some at) before after idle lit gone =
 lit_when_idle : (d : MenuDesk) → d.desk.activity ≡ Idle → EndsRight d → All (IsLit Idle) d.menus.menus
 lit_when_idle d idle was = subst (λ a. All (IsLit a) d.menus.menus) idle was.lit
 
-effect_right : (call : MenuCall) (answer : MenuReply) (before after : MenuDesk) → gate before.desk.activity (menu_standing call) ≡ None → IsBarOf before.menus before.desk.windows.desk → AreApart before.menus.menus → EndsRight before → IsMenuEffect call answer before after → EndsRight after
+effect_right : (call : MenuCall) (answer : MenuReply) (before after : MenuDesk) → gate before.desk.activity (menu_standing call) ≡ None → IsBarOf before.menus before.desk.windows.desk → AreMenusApart before.menus.menus → EndsRight before → IsMenuEffect call answer before after → EndsRight after
 effect_right (New n) answer before after may bar apart was (is, made) =
     let idle = idle_now before.desk.activity may in made_right n before after idle (lit_when_idle before idle was) made
 effect_right (Dispose id) answer before after may bar apart was (is, gone) =
@@ -159,6 +159,6 @@ effect_right call answer before after may bar apart was edited =
     idle_right before after idle edited.activity.activity
     (subst (λ (s : MenusState). All (IsLit Idle) s.menus) (sym edited.shown.menus) (lit_after call before.menus.menus (lit_when_idle before idle was)))
 
-pub menu_keeps_pull : (call : MenuCall) (answer : Result MenuReply Refusal) (before after : MenuDesk) → gate before.desk.activity (menu_standing call) ≡ None → IsBarOf before.menus before.desk.windows.desk → AreApart before.menus.menus → EndsRight before → IsMenuStep call answer before after → EndsRight after
+pub menu_keeps_pull : (call : MenuCall) (answer : Result MenuReply Refusal) (before after : MenuDesk) → gate before.desk.activity (menu_standing call) ≡ None → IsBarOf before.menus before.desk.windows.desk → AreMenusApart before.menus.menus → EndsRight before → IsMenuStep call answer before after → EndsRight after
 menu_keeps_pull call (Ok answer) before after may bar apart was step = effect_right call answer before after may bar apart was step.1
 menu_keeps_pull call (Err e) before after may bar apart was step = same_pull before.desk.activity after.desk.activity before.menus after.menus step.1.desk.activity step.1.menus was

@@ -27,7 +27,7 @@ use Rattle.window_frame.proofs.FrameKeeps.{caught_up_keeps}
 use Rattle.desk_toolbox.specs.declared.events.Events.{Events}
 use Rattle.desk_toolbox.specs.Activations.{to_dispose}
 use Rattle.desk_toolbox.specs.EventSteps.{event_step}
-use Rattle.desk_toolbox.specs.Reached.{AreApart, AreContentsRight, AreWindowsStocked, HasLiveDefinition, IsThere, IsConsistent, open_window}
+use Rattle.desk_toolbox.specs.Reached.{AreMenusApart, AreContentsRight, AreWindowsStocked, HasLiveDefinition, IsThere, IsConsistent, open_window}
 use Rattle.desk_toolbox.specs.Run.{AreControlsLeft, IsWindowAnswer, IsWindowMade, IsEventAnswer}
 use Rattle.desk_toolbox.specs.ToolboxStates.{ToolboxState}
 use Rattle.desk_toolbox.proofs.HeldSteps.{AreMenusHeld}
@@ -52,7 +52,7 @@ pub record Stands (s : ToolboxState) : Type 0 where
   pub informed : AreInformed s.desk.windows.desk.windows
   pub tracked : total (misled s.desk.activity) s.desk.windows.desk.windows ≡ 0
   pub bar : IsBarOf s.menus s.desk.windows.desk
-  pub apart : AreApart s.menus.menus
+  pub apart : AreMenusApart s.menus.menus
   pub pull : IsPullRight s.desk.activity s.menus
 
 there_is_present : (o : Option ℕ) (ws : List WindowRecord) → IsThere o ws → Present o ws
@@ -109,8 +109,8 @@ pub trackable_stays : (before after : ToolboxState) → after.desk.activity ≡ 
 trackable_stays before after activity controls was = subst (λ (x : Activity × ControlsState). IsTrackable x.0 x.1.controls) (λ i. (sym activity i, sym controls i)) was
 
 -- the menus are the same
-pub apart_stays : (before after : ToolboxState) → after.menus ≡ before.menus → AreApart before.menus.menus → AreApart after.menus.menus
-apart_stays before after menus was = subst (λ (m : MenusState). AreApart m.menus) (sym menus) was
+pub apart_stays : (before after : ToolboxState) → after.menus ≡ before.menus → AreMenusApart before.menus.menus → AreMenusApart after.menus.menus
+apart_stays before after menus was = subst (λ (m : MenusState). AreMenusApart m.menus) (sym menus) was
 
 -- ---- where the desk and what is open did not change
 

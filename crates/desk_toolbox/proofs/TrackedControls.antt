@@ -39,10 +39,10 @@ use Rattle.window_frame.specs.FrameSteps.{IsBegunAt, IsFrameEffect, IsFrameStep}
 use Rattle.control_mgr.specs.ControlClosing.{IsControlFull}
 use Rattle.control_mgr.specs.ControlDesks.{ControlDesk, ControlRecord, ControlSlot, ControlsState, IsControlDeskUnchanged, index_of}
 use Rattle.control_mgr.specs.ControlRefusals.{control_refusals, most_controls}
-use Rattle.control_mgr.specs.ControlSteps.{AreLayersOf, IsControlEffect, IsControlStep, IsHighlighted, IsReleased, IsShownAnew, IsStepped, IsTracked, highlight_of, is_thumb, tested}
+use Rattle.control_mgr.specs.ControlSteps.{AreLayersOf, IsControlEffect, IsControlStep, IsHighlighted, IsControlReleased, IsShownAnew, IsStepped, IsTracked, highlight_of, is_thumb, tested}
 use Rattle.control_mgr.specs.InUse.{AreStocked, IsUsedBy}
 use Rattle.control_mgr.specs.Settled.{IsSettledControl}
-use Rattle.control_mgr.specs.WholeControls.{AreApart, AreWholeControls, IsTrackable, slots_of}
+use Rattle.control_mgr.specs.WholeControls.{AreControlsApart, AreWholeControls, IsTrackable, slots_of}
 use Rattle.control_mgr.proofs.ControlBits.{bare}
 use Rattle.control_mgr.proofs.ControlFacts.{IsBesideControls, IsOpenAfter, control_facts}
 use Rattle.control_mgr.proofs.Settled.{retold}
@@ -157,7 +157,7 @@ module _ (before after : ControlDesk) where
   stepped_there (Tracking s) p answer is was wrong = absurd wrong
   stepped_there (Pulling m) p answer is was wrong = absurd wrong
 
-  released_there : (a : Activity) (p : Point) (answer : Option ControlPart) → IsReleased a p answer before after → IsTrackable after.desk.activity after.controls.controls
+  released_there : (a : Activity) (p : Point) (answer : Option ControlPart) → IsControlReleased a p answer before after → IsTrackable after.desk.activity after.controls.controls
   released_there (TrackingControl k) p answer (told, opens, anew) = subst (λ a. IsTrackable a after.controls.controls) (sym opens.activity) tt
   released_there Idle p answer wrong = absurd wrong
   released_there (Updating s) p answer wrong = absurd wrong
@@ -293,7 +293,7 @@ none_used_at stage (s ∷ slots) (suc k) full = none_used_at stage slots k (All-
 pub none_whole : (windows : List WindowRecord) (s : ControlsState) → windows ≡ [] → s.controls ≡ [] → s.next ≡ Some 1 → All IsControlFull s.stock → AreWholeControls windows s
 none_whole windows s bare none next full = record {
   settled = All-same IsSettledControl s.controls [] none (All-nil IsSettledControl);
-  apart = subst AreApart (sym none) tt;
+  apart = subst AreControlsApart (sym none) tt;
   given = (λ i. are_before (next i) (none i));
   somewhere = All-same (λ (c : ControlRecord). is_missing c.window windows ≡ false) s.controls [] none (All-nil (λ (c : ControlRecord). is_missing c.window windows ≡ false));
   few = λ t. subst (λ cs. count_of t cs ≤ most_controls) (sym none) (omega arith);

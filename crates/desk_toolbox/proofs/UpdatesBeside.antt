@@ -43,7 +43,7 @@ use Rattle.window_frame.specs.Followers.{IsCaughtUpBy}
 use Rattle.window_frame.specs.FrameSteps.{IsBegunAt, IsFrameEffect, IsFrameStep}
 use Rattle.window_frame.proofs.FrameKeeps.{caught_up_keeps, frame_keeps}
 use Rattle.menu_mgr.specs.MenuDesks.{MenuDesk, MenusState}
-use Rattle.menu_mgr.specs.MenuSteps.{IsDisposedAt, IsMenuEffect, IsMenuStep, IsMoved, IsMovedOn, IsPressedOn, IsReleased, other_title}
+use Rattle.menu_mgr.specs.MenuSteps.{IsDisposedAt, IsMenuEffect, IsMenuStep, IsMoved, IsMovedOn, IsPressedOn, IsMenuReleased, other_title}
 use Rattle.menu_mgr.specs.Pulling.{TitleOf, title_of_point}
 use Rattle.menu_mgr.proofs.MenuKeeps.{menu_keeps}
 use Rattle.desk_toolbox.proofs.MenusBeside.{asked_changes_nothing, same_state}
@@ -133,7 +133,7 @@ moved_updates_none (Updating s) p answer before after wrong = absurd wrong
 moved_updates_none (Tracking s) p answer before after wrong = absurd wrong
 moved_updates_none (TrackingControl c) p answer before after wrong = absurd wrong
 
-released_updates_none : (a : Activity) (p : Point) (choice : Option Choice) (before after : MenuDesk) → IsReleased a p choice before after → UpdatesNone after.desk.activity
+released_updates_none : (a : Activity) (p : Point) (choice : Option Choice) (before after : MenuDesk) → IsMenuReleased a p choice before after → UpdatesNone after.desk.activity
 released_updates_none (Pulling m) p choice before after (is, away) = subst UpdatesNone (sym away.activity) tt
 released_updates_none Idle p choice before after wrong = absurd wrong
 released_updates_none (Updating s) p choice before after wrong = absurd wrong

@@ -17,7 +17,7 @@ use Rattle.window_mgr.specs.Finding.{found_none, record_with}
 use Rattle.window_mgr.specs.Finding as windows
 use Rattle.window_mgr.specs.FullDesk.{layered_desk}
 use Rattle.control_mgr.specs.ControlDesks.{ControlRecord}
-use Rattle.control_mgr.specs.ControlSteps.{found_by}
+use Rattle.control_mgr.specs.ControlSteps.{control_found_by}
 use Rattle.menu_mgr.specs.Pulling.{is_in, is_pulled_at, pulled_of}
 use Rattle.menu_mgr.specs.Pulling as menus
 use Rattle.desk_toolbox.specs.ToolboxStates.{ToolboxState, with_menus}
@@ -67,7 +67,7 @@ IsScreenAllRight s = (p : Point) → on_screen (layered_desk s.desk.windows.desk
 -- what is found at a point of this window by the owner of the pixel there: the pulled menu is none of its controls
 abbrev pub found_by_owner : ScreenOwner → ℕ → List ControlRecord → Point → Option FoundControl
 found_by_owner PulledMenu s cs p = None
-found_by_owner (Base o) s cs p = found_by s cs o p
+found_by_owner (Base o) s cs p = control_found_by s cs o p
 
 -- so at a point of a window of the desk, where that is a pixel of the screen
 abbrev pub found_on_screen : ToolboxState → PointInWindow → Option FoundControl

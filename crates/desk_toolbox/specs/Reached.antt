@@ -59,8 +59,8 @@ numbered id [] = 0
 numbered id (l ∷ ls) = (if has_number (pos id) l then 1 else 0) + numbered id ls
 
 -- no two menus have one number
-abbrev pub AreApart : List MenuRecord → Type 0
-AreApart menus = (id : ℕ) → numbered id menus ≤ 1
+abbrev pub AreMenusApart : List MenuRecord → Type 0
+AreMenusApart menus = (id : ℕ) → numbered id menus ≤ 1
 
 -- the item of a menu that is highlighted, if one is: of the pulled menu alone
 abbrev pub highlighted_item : Activity → MenuRecord → Option ℕ
@@ -106,7 +106,7 @@ pub record IsConsistent (s : ToolboxState) : Type 0 where
   pub contents : AreContentsRight s
   pub trackable : IsTrackable s.desk.activity s.controls.controls
   pub bar : IsBarOf s.menus s.desk.windows.desk
-  pub apart : AreApart s.menus.menus
+  pub apart : AreMenusApart s.menus.menus
   pub pulled : IsPulledThere s.desk.activity s.menus
   pub lit : All (IsLit s.desk.activity) s.menus.menus
   pub title : IsTitleInBar s.menus

@@ -16,7 +16,7 @@ use Rattle.desk_call.specs.declared.list.ListOf.{ListOf}
 use Rattle.list_mgr.specs.ListDesks.{KeptList, ListsState, index_of, list_of}
 use Rattle.list_mgr.specs.ListRefusals.{most_lists}
 use Rattle.list_mgr.specs.ListSteps.{AreListLayers, IsLayerOf}
-use Rattle.list_mgr.specs.WholeLists.{AreApart, AreSettled, AreWholeLists, IsSettledList}
+use Rattle.list_mgr.specs.WholeLists.{AreListsApart, AreSettled, AreWholeLists, IsSettledList}
 use Rattle.list_mgr.proofs.Drawn.{All-there}
 
 module _ {D : Type 0} (P : ListRecord D → Type 0) where
@@ -59,7 +59,7 @@ before-edit next f same i [] = refl
 before-edit next f same zero (x ∷ xs) = ap (λ s. is_before next s && are_before next xs) (same x)
 before-edit next f same (suc i) (x ∷ xs) = ap (λ b. is_before next x.serial && b) (before-edit next f same i xs)
 
-apart-edit : (f : KeptList → KeptList) → ((x : KeptList) → (f x).serial ≡ x.serial) → (i : ℕ) (xs : List KeptList) → AreApart xs → AreApart (edit_at f i xs)
+apart-edit : (f : KeptList → KeptList) → ((x : KeptList) → (f x).serial ≡ x.serial) → (i : ℕ) (xs : List KeptList) → AreListsApart xs → AreListsApart (edit_at f i xs)
 apart-edit f same i [] h = tt
 apart-edit f same zero (x ∷ xs) h = (ap (λ s. list_any (has_serial s) xs) (same x) ∙ h.0, h.1)
 apart-edit f same (suc i) (x ∷ xs) h = (any-edit x.serial f same i xs ∙ h.0, apart-edit f same i xs h.1)

@@ -12,7 +12,7 @@ use Rattle.window_paint.specs.Kinds.{is_of}
 use Rattle.control_mgr.specs.ControlSteps.{behind_controls}
 use Rattle.list_mgr.specs.ListDesks.{KeptList}
 use Rattle.list_mgr.specs.ListSteps.{AreListLayers, IsLayerOf}
-use Rattle.list_mgr.specs.WholeLists.{AreApart}
+use Rattle.list_mgr.specs.WholeLists.{AreListsApart}
 use Rattle.list_mgr.proofs.ListsApart.{lists_apart}
 use Rattle.list_mgr.proofs.Places.{one_place, with_list}
 
@@ -46,7 +46,7 @@ part_serial : (x y : KeptList) (k : Layer) → IsLayerOf x k → IsLayerOf y k �
 part_serial x y k x_is y_is = let both : part.List y.serial ≡ part.List x.serial = sym y_is.part ∙ x_is.part in cc
 
 -- the layers of a window without that of a list are its lists without it
-pub layers_left_are : (ls : List KeptList) (window at : ℕ) (x : KeptList) (ks : List Layer) (i : ℕ) (k : Layer) → AreApart ls → is_in_at window at ls ≡ true → slice_get ls at ≡ Some x
+pub layers_left_are : (ls : List KeptList) (window at : ℕ) (x : KeptList) (ks : List Layer) (i : ℕ) (k : Layer) → AreListsApart ls → is_in_at window at ls ≡ true → slice_get ls at ≡ Some x
     → AreListLayers (lists_of window ls) ks → slice_get ks i ≡ Some k → IsLayerOf x k → AreListLayers (lists_of window (remove ls at)) (remove ks i)
 layers_left_are ls window at x ks i k apart here there joined k_there k_is =
     let xs = lists_of window ls in

@@ -26,7 +26,7 @@ use Rattle.control_mgr.proofs.Edited.{AreNoControls}
 use Rattle.control_mgr.proofs.Settled.{AreJoined}
 use Rattle.list_mgr.specs.ListDesks.{KeptList}
 use Rattle.list_mgr.specs.ListSteps.{AreListLayers, IsLayerOf}
-use Rattle.list_mgr.specs.WholeLists.{AreApart}
+use Rattle.list_mgr.specs.WholeLists.{AreListsApart}
 use Rattle.list_mgr.proofs.ListsFound.{none_in_window}
 use Rattle.list_mgr.proofs.ListsStay.{AreListsJoined}
 
@@ -64,14 +64,14 @@ module _ (look : Look) (content : PixelSet) (w : WindowRecord) where
           ∙ rest xs h.1 both.1
 
   -- where none is a control's, each is another list's
-  list_parts : (ls : List KeptList) (ks : List Layer) → AreNoControls ks → AreListLayers ls ks → AreApart ls → layers.AreParts (layers_with look content ks w)
+  list_parts : (ls : List KeptList) (ks : List Layer) → AreNoControls ks → AreListLayers ls ks → AreListsApart ls → layers.AreParts (layers_with look content ks w)
   list_parts ls [] none h apart = (refl, tt)
   list_parts ls (k ∷ ks) none h apart =
       by_list ls (subst (λ b. AllZip IsLayerOf ls (cond (not b) (k ∷ behind_controls ks) (behind_controls ks))) (All-head (λ (x : Layer). is_of Controls x.part ≡ false) k ks none) h) apart
       (λ xs g away. list_parts xs ks (All-tail (λ (x : Layer). is_of Controls x.part ≡ false) k ks none) g away)
     where
-      by_list : (ys : List KeptList) → AllZip IsLayerOf ys (k ∷ behind_controls ks) → AreApart ys
-          → ((xs : List KeptList) → AreListLayers xs ks → AreApart xs → layers.AreParts (layers_with look content ks w)) → layers.AreParts (layers_with look content (k ∷ ks) w)
+      by_list : (ys : List KeptList) → AllZip IsLayerOf ys (k ∷ behind_controls ks) → AreListsApart ys
+          → ((xs : List KeptList) → AreListLayers xs ks → AreListsApart xs → layers.AreParts (layers_with look content ks w)) → layers.AreParts (layers_with look content (k ∷ ks) w)
       by_list [] h apart rest = absurd h
       by_list (x ∷ xs) h apart rest = (
         ap (λ q. layers.layer_of q (layers_with look content ks w)) h.0.part ∙ none_list x.serial xs ks h.1 apart.0,
@@ -79,7 +79,7 @@ module _ (look : Look) (content : PixelSet) (w : WindowRecord) where
       )
 
   -- controls in front, and lists behind them
-  all_parts : (cs : List ControlRecord) (ls : List KeptList) (ks : List Layer) → AreLayersOf cs ks → AreListLayers ls ks → kept.AreApart cs → AreApart ls → layers.AreParts (layers_with look content ks w)
+  all_parts : (cs : List ControlRecord) (ls : List KeptList) (ks : List Layer) → AreLayersOf cs ks → AreListLayers ls ks → kept.AreControlsApart cs → AreListsApart ls → layers.AreParts (layers_with look content ks w)
   all_parts [] ls ks h g apart away = list_parts ls ks h g away
   all_parts (c ∷ cs) ls [] h g apart away = absurd h
   all_parts (c ∷ cs) ls (k ∷ ks) h g apart away = (
@@ -90,20 +90,20 @@ module _ (look : Look) (content : PixelSet) (w : WindowRecord) where
 -- ---- those of one window
 
 -- the controls of one window are apart where all are
-controls_apart : (window : ℕ) (cs : List ControlRecord) → kept.AreApart cs → kept.AreApart (controls.controls_of window cs)
+controls_apart : (window : ℕ) (cs : List ControlRecord) → kept.AreControlsApart cs → kept.AreControlsApart (controls.controls_of window cs)
 controls_apart window [] apart = tt
 controls_apart window (c ∷ cs) apart = by_test (controls.is_in window c) (controls_apart window cs apart.1)
   where
-    by_test : (b : Bool) → kept.AreApart (controls.controls_of window cs) → kept.AreApart (cond b (c ∷ controls.controls_of window cs) (controls.controls_of window cs))
+    by_test : (b : Bool) → kept.AreControlsApart (controls.controls_of window cs) → kept.AreControlsApart (cond b (c ∷ controls.controls_of window cs) (controls.controls_of window cs))
     by_test true rest = (no_control_in c.serial window cs apart.0, rest)
     by_test false rest = rest
 
 -- and so are its lists
-pub lists_apart : (window : ℕ) (ls : List KeptList) → AreApart ls → AreApart (lists_of window ls)
+pub lists_apart : (window : ℕ) (ls : List KeptList) → AreListsApart ls → AreListsApart (lists_of window ls)
 lists_apart window [] apart = tt
 lists_apart window (l ∷ ls) apart = by_test (is_in window l) (lists_apart window ls apart.1)
   where
-    by_test : (b : Bool) → AreApart (lists_of window ls) → AreApart (cond b (l ∷ lists_of window ls) (lists_of window ls))
+    by_test : (b : Bool) → AreListsApart (lists_of window ls) → AreListsApart (cond b (l ∷ lists_of window ls) (lists_of window ls))
     by_test true rest = (none_in_window l.serial window ls apart.0, rest)
     by_test false rest = rest
 
@@ -124,7 +124,7 @@ is_nothing None e = refl
 is_nothing (Some w) e = absurd (false≢true e)
 
 -- windows that are the same but for their layers, which are their controls and their lists, are told apart as they were
-pub distinct_windows : (look other : Look) (cs : List ControlRecord) (ls : List KeptList) (ws vs : List WindowRecord) → kept.AreApart cs → AreApart ls → map bare vs ≡ map bare ws → AreJoined cs vs → AreListsJoined ls vs
+pub distinct_windows : (look other : Look) (cs : List ControlRecord) (ls : List KeptList) (ws vs : List WindowRecord) → kept.AreControlsApart cs → AreListsApart ls → map bare vs ≡ map bare ws → AreJoined cs vs → AreListsJoined ls vs
     → layers.AreWindows (map (layered_window look) ws) → layers.AreWindows (map (layered_window other) vs)
 distinct_windows look other cs ls ws [] apart away same joined its distinct = tt
 distinct_windows look other cs ls [] (v ∷ vs) apart away same joined its distinct = absurd (cc)

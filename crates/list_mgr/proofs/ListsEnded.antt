@@ -23,7 +23,7 @@ use Rattle.list_mgr.specs.declared.lists.Lists.{Lists}
 use Rattle.list_mgr.specs.ListClosing.{AreAllListsClosed, AreListsClosed, IsListClosedAt, IsListFull, AreListsOfLeft}
 use Rattle.list_mgr.specs.ListDesks.{KeptList, ListSlot, ListsState}
 use Rattle.list_mgr.specs.ListSteps.{IsListShut}
-use Rattle.list_mgr.specs.WholeLists.{AreApart, AreLiveLists, AreSettled, IsSettledList, records_of, slots_of}
+use Rattle.list_mgr.specs.WholeLists.{AreListsApart, AreLiveLists, AreSettled, IsSettledList, records_of, slots_of}
 use Rattle.list_mgr.proofs.Drawn.{All-there}
 use Rattle.list_mgr.proofs.ListsWhole.{All-remove, apart-remove, slots-remove}
 
@@ -145,7 +145,7 @@ pub record IsBeingLeft (window : ℕ) (before now : ListsState) : Type 0 where
   pub rest : (final : List ListSlot) → AreListsClosed (lists_of window now.lists) now.stock final → AreListsClosed (lists_of window before.lists) before.stock final
   pub others : (other : ℕ) → (window ≡ other → ⊥) → lists_of other now.lists ≡ lists_of other before.lists
   pub within : All (Contains before.lists) now.lists
-  pub apart : AreApart before.lists → AreApart now.lists
+  pub apart : AreListsApart before.lists → AreListsApart now.lists
   pub next : now.next ≡ before.next
 
 pub leaving_begins : (window : ℕ) (before : ListsState) → AreLiveLists before.lists → AreStocked stage_of (slots_of before.lists) before.stock → IsBeingLeft window before before
@@ -178,7 +178,7 @@ module _ (window : ℕ) (before now : ListsState) (l : KeptList) (under : IsBein
         (closed_more (lists_of window after.lists) l now.stock after.stock final (its_slot now.lists at.0 l at.1 now.stock under.stocked) is_shut closed));
     others = λ other apart. ap (lists_of other) is ∙ lists_of-without_youngest_other window other now.lists apart ∙ under.others other apart;
     within = subst (All (Contains before.lists)) (sym removed) (All-remove (Contains before.lists) at.0 now.lists under.within);
-    apart = λ h. subst AreApart (sym removed) (apart-remove at.0 now.lists (under.apart h));
+    apart = λ h. subst AreListsApart (sym removed) (apart-remove at.0 now.lists (under.apart h));
     next = next ∙ under.next;
   }
     where
@@ -198,7 +198,7 @@ all_left window before now after under none is next stock = record {
   gone = ap (lists_of window) same ∙ gone.0;
   others = λ other apart. ap (lists_of other) same ∙ under.others other apart;
   within = subst (All (Contains before.lists)) (sym same) under.within;
-  apart = λ h. subst AreApart (sym same) (under.apart h);
+  apart = λ h. subst AreListsApart (sym same) (under.apart h);
   next = next ∙ under.next;
   closed = under.rest after.stock (subst (λ xs. AreListsClosed xs now.stock after.stock) (sym gone.0) (subst (λ s. AreListsClosed [] s after.stock) stock (closed_none after.stock)));
   stocked = subst (λ s. AreStocked stage_of (slots_of after.lists) s) (sym stock) (subst (λ xs. AreStocked stage_of (slots_of xs) now.stock) (sym same) under.stocked);

@@ -14,7 +14,7 @@ use Rattle.desk_call.specs.declared.list.ListOf.{ListOf}
 use Rattle.control_mgr.proofs.Added.{or_parts}
 use Rattle.list_mgr.specs.ListDesks.{KeptList, ListDesk, ListsState, with_serial}
 use Rattle.list_mgr.specs.ListSteps.{IsChangedTo}
-use Rattle.list_mgr.specs.WholeLists.{AreApart}
+use Rattle.list_mgr.specs.WholeLists.{AreListsApart}
 use Rattle.list_mgr.proofs.Places.{found_names}
 
 -- ---- the first list, or one behind it
@@ -67,7 +67,7 @@ any_of n window ls h = by_test (list_any (has_serial n) ls) refl
     by_test false e = absurd (false≢true (sym (none_in_window n window ls e) ∙ h))
 
 -- where one behind it has the serial, the first one has not
-only_one : (n : ℕ) (l : KeptList) (ls : List KeptList) → AreApart (l ∷ ls) → list_any (has_serial n) ls ≡ true → has_serial n l ≡ false
+only_one : (n : ℕ) (l : KeptList) (ls : List KeptList) → AreListsApart (l ∷ ls) → list_any (has_serial n) ls ≡ true → has_serial n l ≡ false
 only_one n l ls apart h = by_test (has_serial n l) refl
   where
     by_test : (b : Bool) → has_serial n l ≡ b → b ≡ false
@@ -86,7 +86,7 @@ any_there n zero (x ∷ xs) l there named =
 any_there n (suc i) (x ∷ xs) l there named = or_true (has_serial n x) (list_any (has_serial n) xs) (any_there n i xs l there named)
 
 -- a list of a serial that one of a window has is in that window
-pub one_window : (n window i : ℕ) (ls : List KeptList) (l : KeptList) → AreApart ls → slice_get ls i ≡ Some l → has_serial n l ≡ true
+pub one_window : (n window i : ℕ) (ls : List KeptList) (l : KeptList) → AreListsApart ls → slice_get ls i ≡ Some l → has_serial n l ≡ true
     → list_any (has_serial n) (lists_of window ls) ≡ true → is_in window l ≡ true
 one_window n window i [] l apart there named h = absurd (cc)
 one_window n window zero (x ∷ xs) l apart there named h =
@@ -103,7 +103,7 @@ one_window n window (suc i) (x ∷ xs) l apart there named h = one_window n wind
     by_test false h = h
 
 -- it names the same list among those of its window
-pub with_among : (n window : ℕ) (ls : List KeptList) → AreApart ls → list_any (has_serial n) (lists_of window ls) ≡ true → with_serial n (lists_of window ls) ≡ with_serial n ls
+pub with_among : (n window : ℕ) (ls : List KeptList) → AreListsApart ls → list_any (has_serial n) (lists_of window ls) ≡ true → with_serial n (lists_of window ls) ≡ with_serial n ls
 with_among n window [] apart h = refl
 with_among n window (x ∷ xs) apart h = by_test (with_among n window xs apart.1) (is_in window x) h
   where
@@ -114,7 +114,7 @@ with_among n window (x ∷ xs) apart h = by_test (with_among n window xs apart.1
     by_test rest false h = rest h ∙ sym (with_behind n x xs (only_one n x xs apart (any_of n window xs h)))
 
 -- a list that stands somewhere is the one that its serial names
-pub with_own : (n at : ℕ) (ls : List KeptList) (x : KeptList) → AreApart ls → slice_get ls at ≡ Some x → has_serial n x ≡ true → with_serial n ls ≡ Some x
+pub with_own : (n at : ℕ) (ls : List KeptList) (x : KeptList) → AreListsApart ls → slice_get ls at ≡ Some x → has_serial n x ≡ true → with_serial n ls ≡ Some x
 with_own n at [] x apart there its = absurd (cc)
 with_own n zero (y ∷ ys) x apart there its =
     let same : y ≡ x = cc in
@@ -136,7 +136,7 @@ with_pushed : (n : ℕ) (ls : List KeptList) (l : KeptList) → list_any (has_se
 with_pushed n [] l h = absurd (false≢true h)
 with_pushed n (x ∷ xs) l h = with_alike n x xs (xs ++ l ∷ []) (λ other. with_pushed n xs l (any_behind n x xs h other))
 
-with_removed : (n at : ℕ) (ls : List KeptList) → AreApart ls → list_any (has_serial n) (remove ls at) ≡ true → with_serial n (remove ls at) ≡ with_serial n ls
+with_removed : (n at : ℕ) (ls : List KeptList) → AreListsApart ls → list_any (has_serial n) (remove ls at) ≡ true → with_serial n (remove ls at) ≡ with_serial n ls
 with_removed n zero [] apart h = refl
 with_removed n (suc at) [] apart h = refl
 with_removed n zero (x ∷ xs) apart h = sym (with_behind n x xs (only_one n x xs apart h))
@@ -155,7 +155,7 @@ abbrev pub StaySame : (Owner → Bool) → List KeptList → List KeptList → T
 StaySame own ls ks = (window n : ℕ) → list_any (has_serial n) (lists_of window ls) ≡ true → list_any (has_serial n) (lists_of window ks) ≡ true
     → own (Content window (part.List n)) ≡ false → with_serial n ks ≡ with_serial n ls
 
-pub stay_edited : (l : ListOf) (f : KeptList → KeptList) → ((x : KeptList) → (f x).serial ≡ x.serial) → (before after : ListDesk) → AreApart before.lists.lists → IsChangedTo l f before after
+pub stay_edited : (l : ListOf) (f : KeptList → KeptList) → ((x : KeptList) → (f x).serial ≡ x.serial) → (before after : ListDesk) → AreListsApart before.lists.lists → IsChangedTo l f before after
     → StaySame (λ o. same_owner o (Content l.window (part.List l.list))) before.lists.lists after.lists.lists
 stay_edited l f same before after apart done window n was is other = by_place (slice_get before.lists.lists done.at) refl
   where
@@ -187,7 +187,7 @@ stay_edited l f same before after apart done window n was is other = by_place (s
 pub stay_pushed : (own : Owner → Bool) (ls ks : List KeptList) (l : KeptList) → ks ≡ ls ++ l ∷ [] → StaySame own ls ks
 stay_pushed own ls ks l pushed window n was is other = ap (with_serial n) pushed ∙ with_pushed n ls l (any_of n window ls was)
 
-pub stay_removed : (own : Owner → Bool) (ls ks : List KeptList) (at : ℕ) → AreApart ls → ks ≡ remove ls at → StaySame own ls ks
+pub stay_removed : (own : Owner → Bool) (ls ks : List KeptList) (at : ℕ) → AreListsApart ls → ks ≡ remove ls at → StaySame own ls ks
 stay_removed own ls ks at apart removed window n was is other =
     ap (with_serial n) removed
     ∙ with_removed n at ls apart (ap (list_any (has_serial n)) (sym removed) ∙ any_of n window ks is)

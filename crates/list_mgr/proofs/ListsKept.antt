@@ -17,7 +17,7 @@ use Rattle.control_mgr.specs.ControlDesks.{ControlsState, controls_show}
 use Rattle.control_mgr.specs.WholeControls.{AreWholeControls}
 use Rattle.control_mgr.proofs.ControlsKept.{IsRightDesk}
 use Rattle.list_mgr.specs.ListDesks.{IsListDeskUnchanged, KeptList, ListDesk, ListsState, list_of, lists_show, with_controls}
-use Rattle.list_mgr.specs.ListSteps.{IsChangedTo, IsListChanged, IsMarked, IsSeenOrNot, IsShown, IsToggled, IsToggledOrNot, IsUnseen}
+use Rattle.list_mgr.specs.ListSteps.{IsChangedTo, IsListChanged, IsListMarked, IsSeenOrNot, IsShown, IsToggled, IsToggledOrNot, IsUnseen}
 use Rattle.list_mgr.specs.WholeLists.{AreWholeLists, IsSettledList}
 use Rattle.list_mgr.proofs.Drawn.{All-there}
 use Rattle.list_mgr.proofs.Edited.{Keeps, there_edited}
@@ -82,7 +82,7 @@ module _ (before after : ListDesk) (was : IsRightLists before) where
         }
 
     -- all that it owns is to be redrawn
-    pub marked_keeps : IsMarked l f before after → IsRightLists after
+    pub marked_keeps : IsListMarked l f before after → IsRightLists after
     marked_keeps its =
         let windows : after.desk.windows.desk.windows ≡ before.desk.windows.desk.windows = ap (λ (x : FullDesk). x.windows) its.marked.desk in
         let lists = lists_after its.changed windows in

@@ -20,7 +20,7 @@ use Rattle.list_mgr.specs.ListClosing.{AreListsOfLeft}
 use Rattle.list_mgr.specs.ListDesks.{KeptList, ListsState, lists_show, with_serial}
 use Rattle.list_mgr.specs.ListRefusals.{most_lists}
 use Rattle.list_mgr.specs.ListSteps.{AreListLayers}
-use Rattle.list_mgr.specs.WholeLists.{AreApart, AreSettled, AreWholeLists, IsSettledList}
+use Rattle.list_mgr.specs.WholeLists.{AreListsApart, AreSettled, AreWholeLists, IsSettledList}
 use Rattle.list_mgr.proofs.ListsFound.{StaySame, with_among}
 use Rattle.list_mgr.proofs.ListsStay.{AreListsJoined, lists_stay}
 
@@ -38,7 +38,7 @@ differ a b e f = grind (arith, nat_tests)
 
 module _ (window : ℕ) (before after : ListsState) (left : AreListsOfLeft window before after) where
   -- those of each window that has one are the same as before
-  stay_left : AreApart before.lists → StaySame (λ o. false) before.lists after.lists
+  stay_left : AreListsApart before.lists → StaySame (λ o. false) before.lists after.lists
   stay_left apart s n was is other = by_test (window == s) refl
     where
       by_test : (b : Bool) → (window == s) ≡ b → with_serial n after.lists ≡ with_serial n before.lists
@@ -76,7 +76,7 @@ module _ (window : ℕ) (before after : ListsState) (left : AreListsOfLeft windo
           subst (λ n. n ≤ most_lists) (sym same) (few t)
 
   -- the lists of a window that is no more were taken out: those that stay are whole
-  pub whole_left : (ws : List WindowRecord) → AreSettled before.lists → AreApart before.lists → are_before before.next before.lists ≡ true → ((t : ℕ) → count_of t before.lists ≤ most_lists) → AreListsJoined before.lists ws
+  pub whole_left : (ws : List WindowRecord) → AreSettled before.lists → AreListsApart before.lists → are_before before.next before.lists ≡ true → ((t : ℕ) → count_of t before.lists ≤ most_lists) → AreListsJoined before.lists ws
       → All (λ l. is_in window l ≡ false → is_missing l.window ws ≡ false) before.lists → is_missing window ws ≡ true → AreWholeLists ws after
   whole_left ws settled apart given few joined there missing = record {
     settled = all_within IsSettledList before.lists after.lists left.within settled;
@@ -91,7 +91,7 @@ module _ (window : ℕ) (before after : ListsState) (left : AreListsOfLeft windo
   }
 
   -- and a right state stays right, whose windows show these controls
-  pub right_left : (s : FullState) (cs : List ControlRecord) → IsRightState s → s.desk.shows ≡ controls_show (lists_show before.lists) cs s.desk.font → AreJoined cs s.desk.windows → AreApart before.lists
+  pub right_left : (s : FullState) (cs : List ControlRecord) → IsRightState s → s.desk.shows ≡ controls_show (lists_show before.lists) cs s.desk.font → AreJoined cs s.desk.windows → AreListsApart before.lists
       → AreListsJoined before.lists s.desk.windows → is_missing window s.desk.windows ≡ true → IsRightState (state_showing (controls_show (lists_show after.lists) cs) s)
   right_left s cs right shows controls apart joined missing =
       let now = desk_showing (controls_show (lists_show after.lists) cs) s.desk in

@@ -21,7 +21,7 @@ use Rattle.control_mgr.specs.ControlSteps.{behind_controls}
 use Rattle.control_mgr.proofs.ControlBits.{IsShownBy, StayLists, at_serial}
 use Rattle.list_mgr.specs.ListDesks.{KeptList, ListDesk, list_bit, lists_show}
 use Rattle.list_mgr.specs.ListSteps.{AreListLayers, IsChangedTo, IsLayerOf}
-use Rattle.list_mgr.specs.WholeLists.{AreApart}
+use Rattle.list_mgr.specs.WholeLists.{AreListsApart}
 use Rattle.list_mgr.proofs.ListsFound.{StaySame, stay_edited, stay_pushed, stay_removed}
 
 -- the layers of each window behind its controls are its lists
@@ -71,7 +71,7 @@ lists_stay own ls ks d e was are stay s n p its now other q =
 
 module _ (d e : FullDesk) where
   -- a list was changed
-  pub lists_edited : (l : ListOf) (f : KeptList → KeptList) → ((x : KeptList) → (f x).serial ≡ x.serial) → (before after : ListDesk) → AreApart before.lists.lists → IsChangedTo l f before after
+  pub lists_edited : (l : ListOf) (f : KeptList → KeptList) → ((x : KeptList) → (f x).serial ≡ x.serial) → (before after : ListDesk) → AreListsApart before.lists.lists → IsChangedTo l f before after
       → AreListsJoined before.lists.lists d.windows → AreListsJoined after.lists.lists e.windows
       → StayLists (λ o. same_owner o (Content l.window (part.List l.list))) d e (lists_show before.lists.lists) (lists_show after.lists.lists)
   lists_edited l f same before after apart changed was are =
@@ -82,6 +82,6 @@ module _ (d e : FullDesk) where
   lists_pushed own ls ks l pushed was are = lists_stay own ls ks d e was are (stay_pushed own ls ks l pushed)
 
   -- one was taken out
-  pub lists_removed : (own : Owner → Bool) (ls ks : List KeptList) (at : ℕ) → AreApart ls → ks ≡ remove ls at → AreListsJoined ls d.windows → AreListsJoined ks e.windows
+  pub lists_removed : (own : Owner → Bool) (ls ks : List KeptList) (at : ℕ) → AreListsApart ls → ks ≡ remove ls at → AreListsJoined ls d.windows → AreListsJoined ks e.windows
       → StayLists own d e (lists_show ls) (lists_show ks)
   lists_removed own ls ks at apart removed was are = lists_stay own ls ks d e was are (stay_removed own ls ks at apart removed)

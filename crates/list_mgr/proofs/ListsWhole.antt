@@ -27,7 +27,7 @@ use Rattle.control_mgr.proofs.Stocks.{stocked_with, stocked_without}
 use Rattle.list_mgr.specs.ListDesks.{KeptList, ListDesk, ListSlot, ListsState, list_of}
 use Rattle.list_mgr.specs.ListRefusals.{most_lists}
 use Rattle.list_mgr.specs.ListSteps.{AreListLayers, IsChangedTo, IsLayerOf, IsListShut}
-use Rattle.list_mgr.specs.WholeLists.{AreApart, AreWholeLists, IsSettledList, slots_of}
+use Rattle.list_mgr.specs.WholeLists.{AreListsApart, AreWholeLists, IsSettledList, slots_of}
 use Rattle.list_mgr.proofs.Edited.{Keeps, whole_edited}
 use Rattle.list_mgr.proofs.ListsStay.{AreListsJoined}
 
@@ -62,7 +62,7 @@ somewhere_laid s ks ws ls h =
 
 -- ---- lists with one more behind
 
-apart_more : (l : KeptList) (ls : List KeptList) → list_any (has_serial l.serial) ls ≡ false → AreApart ls → AreApart (ls ++ l ∷ [])
+apart_more : (l : KeptList) (ls : List KeptList) → list_any (has_serial l.serial) ls ≡ false → AreListsApart ls → AreListsApart (ls ++ l ∷ [])
 apart_more l [] e h = (refl, tt)
 apart_more l (x ∷ xs) e h =
     let both = or_parts (x.serial == l.serial) (list_any (has_serial l.serial) xs) e in
@@ -116,7 +116,7 @@ none-remove n (suc i) (l ∷ ls) h =
     let parts = or_parts (has_serial n l) (list_any (has_serial n) ls) h in
     let rest = none-remove n i ls parts.1 in (λ t. parts.0 t || rest t)
 
-pub apart-remove : (i : ℕ) (ls : List KeptList) → AreApart ls → AreApart (remove ls i)
+pub apart-remove : (i : ℕ) (ls : List KeptList) → AreListsApart ls → AreListsApart (remove ls i)
 apart-remove zero [] h = tt
 apart-remove (suc i) [] h = tt
 apart-remove zero (l ∷ ls) h = h.1

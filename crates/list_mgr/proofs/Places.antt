@@ -32,7 +32,7 @@ use Rattle.list_mgr.specs.Changing.{IsItsLayer, IsLayerFound}
 use Rattle.list_mgr.specs.ListDesks.{KeptList, ListsState}
 use Rattle.list_mgr.specs.ListSteps.{AreListLayers, IsLayerOf}
 use Rattle.list_mgr.specs.Spots.{IsSpotOf}
-use Rattle.list_mgr.specs.WholeLists.{AreApart, AreWholeLists, records_of}
+use Rattle.list_mgr.specs.WholeLists.{AreListsApart, AreWholeLists, records_of}
 use Rattle.list_mgr.proofs.Steps.{list_read, list_there}
 
 -- ---- places in lists
@@ -87,7 +87,7 @@ not_among n (y ∷ ys) i x none e = by_test (has_serial n y) refl none i e (λ r
     by_test false is none (suc i) e further = further none i e
 
 -- of lists that are apart those of one serial stand at one place
-pub one_place : (xs : List KeptList) (i j : ℕ) (x y : KeptList) → AreApart xs → slice_get xs i ≡ Some x → slice_get xs j ≡ Some y → y.serial ≡ x.serial → i ≡ j
+pub one_place : (xs : List KeptList) (i j : ℕ) (x y : KeptList) → AreListsApart xs → slice_get xs i ≡ Some x → slice_get xs j ≡ Some y → y.serial ≡ x.serial → i ≡ j
 one_place [] i j x y apart e f same = absurd (cc)
 one_place (z ∷ zs) zero zero x y apart e f same = refl
 one_place (z ∷ zs) zero (suc j) x y apart e f same =
@@ -99,7 +99,7 @@ one_place (z ∷ zs) (suc i) zero x y apart e f same =
 one_place (z ∷ zs) (suc i) (suc j) x y apart e f same = ap (λ n. suc n) (one_place zs i j x y apart.1 e f same)
 
 -- and are one
-pub one_serial : (xs : List KeptList) (i j : ℕ) (x y : KeptList) → AreApart xs → slice_get xs i ≡ Some x → slice_get xs j ≡ Some y → y.serial ≡ x.serial → x ≡ y
+pub one_serial : (xs : List KeptList) (i j : ℕ) (x y : KeptList) → AreListsApart xs → slice_get xs i ≡ Some x → slice_get xs j ≡ Some y → y.serial ≡ x.serial → x ≡ y
 one_serial xs i j x y apart e f same = let both : Some x ≡ Some y = sym e ∙ ap (slice_get xs) (one_place xs i j x y apart e f same) ∙ f in cc
 
 -- ---- the layer of a list
@@ -108,7 +108,7 @@ same_lists : (m n : ℕ) → part.List m ≡ part.List n → m ≡ n
 same_lists m n e = cc
 
 -- the layer of a list's part is the list's own
-own_layer : (ls : List KeptList) (window : ℕ) (ks : List Layer) (i : ℕ) (x : KeptList) (at : ℕ) (k : Layer) → AreApart ls → AreListLayers (lists_of window ls) ks
+own_layer : (ls : List KeptList) (window : ℕ) (ks : List Layer) (i : ℕ) (x : KeptList) (at : ℕ) (k : Layer) → AreListsApart ls → AreListLayers (lists_of window ls) ks
     → slice_get ls i ≡ Some x → slice_get ks at ≡ Some k → k.part ≡ part.List x.serial → IsLayerOf x k
 own_layer ls window ks i x at k apart joined there layer named =
     let behind = filtered_to (λ (l : Layer). not (is_of Controls l.part)) ks at k layer (ap (λ q. not (is_of Controls q)) named) in
@@ -164,7 +164,7 @@ module _ {V : Type 0} {H : V → Type 0} (loan : Taken V H → Loan) {X : Type 0
       list = its.item;
       there = its.there;
       low = found.0;
-      is = λ k read. own_layer ls w.serial w.layers.layers s.list its.item at k (subst AreApart same whole.apart) joined its.there (get_is w.layers.layers at k found.0 read) (found.1 k read);
+      is = λ k read. own_layer ls w.serial w.layers.layers s.list its.item at k (subst AreListsApart same whole.apart) joined its.there (get_is w.layers.layers at k found.0 read) (found.1 k read);
     }
 
     pub some_is_found : IsLayerFound (part.List its.item.serial) w.layers.layers None → ⊥

@@ -33,7 +33,7 @@ use Rattle.control_mgr.specs.ControlDesks.{ControlsState, controls_show}
 use Rattle.control_mgr.proofs.Places.{read_is, there_is}
 use Rattle.list_mgr.specs.declared.lists.Lists.{Lists}
 use Rattle.list_mgr.specs.declared.spots.Spot.{Spot}
-use Rattle.list_mgr.specs.Changing.{IsMark, IsMarkedBy, IsMarkedIf, IsSameOrNot, IsShownOrMarked, IsToggledOrMarked}
+use Rattle.list_mgr.specs.Changing.{IsMark, IsListMarkedBy, IsMarkedIf, IsSameOrNot, IsShownOrMarked, IsToggledOrMarked}
 use Rattle.list_mgr.specs.ListDesks.{KeptList, ListDesk, ListSlot, lists_show}
 use Rattle.list_mgr.specs.ListSteps.{IsListChanged, IsSeenOrNot, IsSelectionChanged, IsToggledOrNot, with_grid}
 use Rattle.list_mgr.specs.Spots.{IsSpotOf}
@@ -100,7 +100,7 @@ module _ {V : Type 0} {H : V → Type 0} (loan : Taken V H → Loan) {X : Type 0
 
   marked_or_not : (update : Pixels) (changes : Bool) (u : WindowManager V H) → IsMarkedIf list_loan loan changes y t u → IsShownOrMarked list_loan loan (Some update) changes s n t u
   marked_or_not update true u marked = λ z z_there.
-      subst (λ k. IsMarkedBy list_loan loan k t u)
+      subst (λ k. IsListMarkedBy list_loan loan k t u)
       (same_item (records_of list_loan n) s.list (with_grid g y) z
       (ap (λ ls. slice_get ls s.list) (edited loan list_loan l t m s is x read g cells now) ∙ there_edited (with_grid g) s.list (records_of list_loan m) y y_there) z_there) marked
   marked_or_not update false u same = same

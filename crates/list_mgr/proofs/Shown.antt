@@ -25,7 +25,7 @@ use Rattle.control_mgr.proofs.Lays.{one_item}
 use Rattle.control_mgr.proofs.Places.{IsThere, read_is, there_is}
 use Rattle.list_mgr.specs.declared.lists.Lists.{Lists}
 use Rattle.list_mgr.specs.declared.spots.Spot.{Spot}
-use Rattle.list_mgr.specs.Changing.{IsItsLayer, IsMarkedBy, IsMarkedRegion, IsShownAnewBy, LeavesShown}
+use Rattle.list_mgr.specs.Changing.{IsItsLayer, IsListMarkedBy, IsMarkedRegion, IsShownAnewBy, LeavesShown}
 use Rattle.list_mgr.specs.ListDesks.{KeptList, lists_show}
 use Rattle.list_mgr.specs.Spots.{IsSpot}
 use Rattle.list_mgr.specs.WholeLists.{records_of}
@@ -88,7 +88,7 @@ module _ {V : Type 0} {H : V → Type 0} (loan : Taken V H → Loan) {X : Type 0
 
     -- where all that it owns was put into the update region of its window it is marked
     pub marked_by : (update : Pixels) → IsMarkedRegion list_loan loan t m s update → s.window < length t.areas.items → (u : WindowManager V H)
-        → ((w : Window V H) → IsWindowAt t.windows.records.items s.window w → LeavesState loan (IsRemarked w.serial update) t u) → IsMarkedBy list_loan loan x t u
+        → ((w : Window V H) → IsWindowAt t.windows.records.items s.window w → LeavesState loan (IsRemarked w.serial update) t u) → IsListMarkedBy list_loan loan x t u
     marked_by update region low u leaves =
         let a = there_is t.areas.items s.window low in
         let read : a.item ≡ get_or t.areas.items s.window a.item = read_is t.areas.items s.window a.item a.there in

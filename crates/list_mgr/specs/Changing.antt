@@ -77,13 +77,13 @@ module _ {X : Type 0} {L : X → Type 0} (list_loan : TakenList X L → ListLoan
         → LeavesShown (IsLayerRedrawn x.window (part.List x.serial)) was is t u
 
     -- what it leaves of them that all that the list owns is to be redrawn
-    abbrev pub IsMarkedBy : KeptList → WindowManager V H → WindowManager V H → Type 0
-    IsMarkedBy x t u = (was is : List ℕ → Part → PixelSet) → LeavesShown (IsLayerMarked x.window (part.List x.serial)) was is t u
+    abbrev pub IsListMarkedBy : KeptList → WindowManager V H → WindowManager V H → Type 0
+    IsListMarkedBy x t u = (was is : List ℕ → Part → PixelSet) → LeavesShown (IsLayerMarked x.window (part.List x.serial)) was is t u
 
     -- the list that stands here was shown anew, or marked where its drawing is off and something of it changes
     abbrev pub IsShownOrMarked : Option Pixels → Bool → Spot → Lists (TakenList X L) → WindowManager V H → WindowManager V H → Type 0
     IsShownOrMarked None changes s m t u = (x : KeptList) → slice_get (records_of list_loan m) s.list ≡ Some x → IsShownAnewBy m x t u
-    IsShownOrMarked (Some update) true s m t u = (x : KeptList) → slice_get (records_of list_loan m) s.list ≡ Some x → IsMarkedBy x t u
+    IsShownOrMarked (Some update) true s m t u = (x : KeptList) → slice_get (records_of list_loan m) s.list ≡ Some x → IsListMarkedBy x t u
     IsShownOrMarked (Some update) false s m t u = u ≡ t
 
     -- what it leaves of them that what this makes of the selection of the list x, in the window that stands here, highlights
@@ -95,7 +95,7 @@ module _ {X : Type 0} {L : X → Type 0} (list_loan : TakenList X L → ListLoan
 
     -- it was marked where something of it changes
     abbrev pub IsMarkedIf : Bool → KeptList → WindowManager V H → WindowManager V H → Type 0
-    IsMarkedIf true x t u = IsMarkedBy x t u
+    IsMarkedIf true x t u = IsListMarkedBy x t u
     IsMarkedIf false x t u = u ≡ t
 
     -- the list x was toggled, or marked where its drawing is off and something is toggled

@@ -6,7 +6,7 @@ use Rattle.def_iface.specs.Slots.{IsFull}
 use Rattle.list_records.specs.Lists.{lists_of}
 use Rattle.control_mgr.specs.InUse.{AreStocked}
 use Rattle.list_mgr.specs.ListDesks.{KeptList, ListSlot, ListsState}
-use Rattle.list_mgr.specs.WholeLists.{AreApart, slots_of}
+use Rattle.list_mgr.specs.WholeLists.{AreListsApart, slots_of}
 
 -- a slot with a definition that no desk uses
 abbrev pub IsListFull : ListSlot → Type 0
@@ -38,7 +38,7 @@ pub record AreListsOfLeft (window : ℕ) (before after : ListsState) : Type 0 wh
   pub others : (other : ℕ) → (window ≡ other → ⊥) → lists_of other after.lists ≡ lists_of other before.lists
   -- each that stays was there
   pub within : All (Contains before.lists) after.lists
-  pub apart : AreApart before.lists → AreApart after.lists
+  pub apart : AreListsApart before.lists → AreListsApart after.lists
   pub next : after.next ≡ before.next
   pub closed : AreListsClosed (lists_of window before.lists) before.stock after.stock
   pub stocked : AreStocked (λ (d : ListDefinition). d.stage) (slots_of after.lists) after.stock

@@ -104,7 +104,7 @@ pub record IsLayerMarked (s : ℕ) (q : Part) (before after : FullState) : Type 
   pub pixels : IsChanged (marked_change s q) (layered_state before) (layered_state after)
 
 -- the list was changed so, and all that it owns is to be redrawn
-pub record IsMarked (l : ListOf) (f : KeptList → KeptList) (before after : ListDesk) : Type 0 where
+pub record IsListMarked (l : ListOf) (f : KeptList → KeptList) (before after : ListDesk) : Type 0 where
   pub changed : IsChangedTo l f before after
   pub marked : IsLayerMarked l.window (part.List l.list) before.desk.windows after.desk.windows
   pub shows : ShowsControls (with_controls after)
@@ -113,7 +113,7 @@ pub record IsMarked (l : ListOf) (f : KeptList → KeptList) (before after : Lis
 -- owns is to be redrawn
 abbrev pub IsUnseen : ListOf → (KeptList → KeptList) → KeptList → ListDesk → ListDesk → Type 0
 IsUnseen l f x before after =
-    ((f x ≡ x) × IsListDeskUnchanged before after) ⊎ ((f x ≡ x → ⊥) × IsMarked l f before after)
+    ((f x ≡ x) × IsListDeskUnchanged before after) ⊎ ((f x ≡ x → ⊥) × IsListMarked l f before after)
 
 -- the list x changed so, as its drawing is on or off
 abbrev pub IsSeenOrNot : Bool → ListOf → (KeptList → KeptList) → KeptList → ListDesk → ListDesk → Type 0

@@ -61,9 +61,9 @@ abbrev pub AreSettled : List KeptList → Type 0
 AreSettled ls = All IsSettledList ls
 
 -- each of another serial
-abbrev pub AreApart : List KeptList → Type 0
-AreApart [] = Unit {0}
-AreApart (l ∷ ls) = (list_any (has_serial l.serial) ls ≡ false) × AreApart ls
+abbrev pub AreListsApart : List KeptList → Type 0
+AreListsApart [] = Unit {0}
+AreListsApart (l ∷ ls) = (list_any (has_serial l.serial) ls ≡ false) × AreListsApart ls
 
 abbrev pub AreLiveLists : List KeptList → Type 0
 AreLiveLists ls = All (λ l. l.definition.definition.stage ≡ Live) ls
@@ -77,7 +77,7 @@ slots_of ls = map (λ l. l.definition.slot) ls
 -- stock are those of their definitions
 pub record AreWholeLists (windows : List WindowRecord) (s : ListsState) : Type 0 where
   pub settled : AreSettled s.lists
-  pub apart : AreApart s.lists
+  pub apart : AreListsApart s.lists
   pub given : are_before s.next s.lists ≡ true
   pub somewhere : All (λ l. is_missing l.window windows ≡ false) s.lists
   pub few : (window : ℕ) → count_of window s.lists ≤ most_lists

@@ -69,7 +69,7 @@ module _ (all xs : List MenuRecord) (l : MenuRecord) (old now : List MenuSlot) (
       kinds = c.kinds ∙ ap (map (λ (s : MenuSlot). s.kind)) shut.back ∙ map-set (λ (s : MenuSlot). s.kind) now l.definition.slot shut.slot _ shut.found refl;
       full = c.full;
       others = others final c;
-      closed = closed-append final xs l c.closed (_, c.others l.definition.slot _ shut.here (shut_is_full is_shut.definition shut.slot shut.closed), (is_shut.definition, refl, is_shut.closed, is_shut.measures));
+      closed = closed-append final xs l c.closed (_, c.others l.definition.slot _ shut.here (shut_is_full is_shut.definition shut.slot shut.closed), (is_shut.definition, refl, is_shut.closed, is_shut.look));
     });
   }
     where

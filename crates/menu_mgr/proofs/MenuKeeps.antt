@@ -23,7 +23,7 @@ use Rattle.window_mgr.specs.Effects.{IsUnchanged}
 use Rattle.window_mgr.specs.FullDesk.{FullDesk, FullState, IsRightState, AreSerials, layered_desk, layered_state}
 use Rattle.window_mgr.proofs.Running.{unchanged_stays_right}
 use Rattle.menu_mgr.specs.MenuDesks.{MenuDesk, MenuRecord, IsBarOf}
-use Rattle.menu_mgr.specs.MenuSteps.{AreMenusShown, IsDisposedAt, IsMenuEffect, IsMenuStep, IsMoved, IsMovedOn, IsPressedOn, IsReleased, IsToldAt, other_title, with_definition}
+use Rattle.menu_mgr.specs.MenuSteps.{AreMenusShown, IsDisposedAt, IsMenuEffect, IsMenuStep, IsMoved, IsMovedOn, IsPressedOn, IsMenuReleased, IsToldAt, other_title, with_definition}
 use Rattle.menu_mgr.specs.Pulling.{TitleOf, title_of_point}
 
 -- nothing of them changed, or the menu bar shows these titles
@@ -52,7 +52,7 @@ moved_leaves (Updating s) p answer before after wrong = absurd wrong
 moved_leaves (Tracking s) p answer before after wrong = absurd wrong
 moved_leaves (TrackingControl c) p answer before after wrong = absurd wrong
 
-released_leaves : (a : Activity) (p : Point) (choice : Option Choice) (before after : MenuDesk) → IsReleased a p choice before after → LeavesWindows before.desk.windows after.desk.windows
+released_leaves : (a : Activity) (p : Point) (choice : Option Choice) (before after : MenuDesk) → IsMenuReleased a p choice before after → LeavesWindows before.desk.windows after.desk.windows
 released_leaves (Pulling m) p choice before after (is, away) = inr (_, away.shown.bar)
 released_leaves Idle p choice before after wrong = absurd wrong
 released_leaves (Updating s) p choice before after wrong = absurd wrong
@@ -155,7 +155,7 @@ moved_bar (Updating s) p answer before after wrong was = absurd wrong
 moved_bar (Tracking s) p answer before after wrong was = absurd wrong
 moved_bar (TrackingControl c) p answer before after wrong was = absurd wrong
 
-released_bar : (a : Activity) (p : Point) (choice : Option Choice) (before after : MenuDesk) → IsReleased a p choice before after → IsBarOf after.menus after.desk.windows.desk
+released_bar : (a : Activity) (p : Point) (choice : Option Choice) (before after : MenuDesk) → IsMenuReleased a p choice before after → IsBarOf after.menus after.desk.windows.desk
 released_bar (Pulling m) p choice before after (is, away) = shown_is_bar before after away.shown
 released_bar Idle p choice before after wrong = absurd wrong
 released_bar (Updating s) p choice before after wrong = absurd wrong

@@ -19,7 +19,7 @@ use Rattle.window_mgr.specs.FullDesk.{FullDesk, FullState, layered_desk}
 use Rattle.window_mgr.specs.Records.{desk_showing, state_showing}
 use Rattle.window_mgr.proofs.StepsShowing.{changed_showing, shown, unchanged_desk_showing, same_activity_showing}
 use Rattle.menu_mgr.specs.MenuDesks.{MenuDesk, MenuRecord, MenuSlot, IsMenuDeskUnchanged}
-use Rattle.menu_mgr.specs.MenuSteps.{AreMenusShown, IsDisposedAt, IsPressedOn, IsPulledDown, IsItemShown, IsMovedOn, IsMoved, IsPutAway, IsReleased, AreEdited, IsMenuEffect, IsMenuStep, other_title}
+use Rattle.menu_mgr.specs.MenuSteps.{AreMenusShown, IsDisposedAt, IsPressedOn, IsPulledDown, IsItemShown, IsMovedOn, IsMoved, IsPutAway, IsMenuReleased, AreEdited, IsMenuEffect, IsMenuStep, other_title}
 use Rattle.menu_mgr.specs.Pulling.{TitleOf, title_of_point}
 
 module _ (shows : List ℕ → Part → PixelSet) where
@@ -78,7 +78,7 @@ module _ (shows : List ℕ → Part → PixelSet) where
     put_away_showing : (m : PulledMenu) (choice : Option Choice) → IsPutAway m choice before after → IsPutAway m choice (menus_shown before) (menus_shown after)
     put_away_showing m choice it = record { told = it.told; definition = it.definition; activity = it.activity; begun = it.begun; shown = titles_showing _ _ _ it.shown }
 
-    released_showing : (activity : Activity) (p : Point) (answer : Option Choice) → IsReleased activity p answer before after → IsReleased activity p answer (menus_shown before) (menus_shown after)
+    released_showing : (activity : Activity) (p : Point) (answer : Option Choice) → IsMenuReleased activity p answer before after → IsMenuReleased activity p answer (menus_shown before) (menus_shown after)
     released_showing Idle p answer none = none
     released_showing (Updating n) p answer none = none
     released_showing (Tracking n) p answer none = none

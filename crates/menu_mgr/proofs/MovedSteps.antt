@@ -28,7 +28,7 @@ use Rattle.menu_mgr.specs.declared.menus.Menus.{Menus}
 use Rattle.menu_mgr.specs.declared.pulling.Titled.{Titled}
 use Rattle.menu_mgr.specs.Leaving.{AreKeptMenus, LeavesMenus, indexed, of_another, opened}
 use Rattle.menu_mgr.specs.MenuDesks.{MenuSlot}
-use Rattle.menu_mgr.specs.MenuSteps.{IsMenuStep, IsMoved, IsMovedOn, IsReleased, IsTold, choice_of}
+use Rattle.menu_mgr.specs.MenuSteps.{IsMenuStep, IsMoved, IsMovedOn, IsMenuReleased, IsTold, choice_of}
 use Rattle.menu_mgr.specs.Pulling.{item_under, pulled_of, title_under}
 use Rattle.menu_mgr.specs.WholeMenus.{AreLive, AreMenusStocked, IsWholeMenus, menu_desk, menus_of}
 use Rattle.menu_mgr.proofs.PulledSteps.{near, seen_menus, IsHeld, IsPulledOver, shown, lies_below, pulled_whole}
@@ -206,7 +206,7 @@ module _ {V : Type 0} {H : V → Type 0} (loan : Taken V H → Loan) {W : Type 0
           (
             choice,
             refl,
-            subst (λ x. IsReleased x p choice before after) (sym pulling) (
+            subst (λ x. IsMenuReleased x p choice before after) (sym pulling) (
               chosen,
               record {
                 told = seen_menus loan menu_loan k;

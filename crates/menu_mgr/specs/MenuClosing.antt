@@ -1,14 +1,14 @@
 -- What the end of a desk does to the stock of menus.
 use Rattle.std.specs.Prelude.{◌≡◌, ℕ, List, [], ◌∷◌, map, Some, slice_get}
 use Rattle.def_iface.specs.declared.window_def.Stage.TheVariants.{Closed}
-use Rattle.def_iface.specs.MenuMeaning.{MenuDefinition, SameMeasures}
+use Rattle.def_iface.specs.MenuMeaning.{MenuDefinition, SameMenuLook}
 use Rattle.menu_mgr.specs.MenuDesks.{IsMenuFull, MenuRecord, MenuSlot}
 
--- the menu's slot is there, with a definition that is closed and answers sizes and choices as the menu's did
+-- the menu's slot is there, with its definition, which is closed
 abbrev pub IsMenuClosedAt : List MenuSlot → MenuRecord → Type 0
 IsMenuClosedAt slots l =
     (s : MenuSlot) × (slice_get slots l.definition.slot ≡ Some s)
-    × ((d : MenuDefinition) × (s.held ≡ Some d) × (d.stage ≡ Closed) × SameMeasures l.definition.definition d)
+    × ((d : MenuDefinition) × (s.held ≡ Some d) × (d.stage ≡ Closed) × SameMenuLook l.definition.definition d)
 
 abbrev pub AreClosedAt : List MenuSlot → List MenuRecord → Type 0
 AreClosedAt slots [] = Unit {0}

@@ -6,7 +6,7 @@ use Rattle.tb_geom.specs.declared.point.Point.{Point}
 use Rattle.tb_geom.specs.declared.refusal.Refusal.{Refusal}
 use Rattle.tb_geom.specs.Refusals.{first_refusal}
 use Rattle.def_iface.specs.declared.window_def.Stage.TheVariants.{Live, Closed}
-use Rattle.def_iface.specs.MenuMeaning.{MenuDefinition, MenuLoan, MenuHears, IsMenuBegun, SameMeasures, told_item}
+use Rattle.def_iface.specs.MenuMeaning.{MenuDefinition, MenuLoan, MenuHears, IsMenuBegun, SameMeasures, SameMenuLook, told_item}
 use Rattle.def_iface.specs.Slots.{IsPutBack, IsTaken, is_left}
 use Rattle.menu_record.specs.Edits.{new_menu}
 use Rattle.menu_list.specs.Lists.{edit_at, menu_index, titles_of, without_highlight}
@@ -59,7 +59,7 @@ pub record IsMenuMade (n : NewMenu) (before after : MenuDesk) : Type 0 where
 pub record IsMenuShut (loan : MenuLoan) (old new : List MenuSlot) : Type 0 where
   pub definition : MenuDefinition
   pub closed : definition.stage ≡ Closed
-  pub measures : SameMeasures loan.definition definition
+  pub look : SameMenuLook loan.definition definition
   pub left : is_left loan.slot old ≡ true
   pub back : IsPutBack (record { definition = definition; slot = loan.slot }) old new
 
@@ -147,10 +147,10 @@ abbrev pub IsMoved : Activity → Point → Option ℕ → MenuDesk → MenuDesk
 IsMoved (Pulling m) p answer before after = IsMovedOn m (other_title m (title_of_point before p)) p answer before after
 IsMoved _ p answer before after = ⊥
 
-abbrev pub IsReleased : Activity → Point → Option Choice → MenuDesk → MenuDesk → Type 0
-IsReleased (Pulling m) p answer before after =
+abbrev pub IsMenuReleased : Activity → Point → Option Choice → MenuDesk → MenuDesk → Type 0
+IsMenuReleased (Pulling m) p answer before after =
     (answer ≡ choice_of m (item_under before.desk.windows.desk m before.menus.menus p)) × IsPutAway m answer before after
-IsReleased _ p answer before after = ⊥
+IsMenuReleased _ p answer before after = ⊥
 
 -- ---- the step
 
@@ -179,7 +179,7 @@ IsMenuEffect (Down p) answer before after =
 IsMenuEffect (Move p) answer before after =
     (item : Option ℕ) × (answer ≡ reply.Item item) × IsMoved before.desk.activity p item before after
 IsMenuEffect (Up p) answer before after =
-    (choice : Option Choice) × (answer ≡ reply.Chosen choice) × IsReleased before.desk.activity p choice before after
+    (choice : Option Choice) × (answer ≡ reply.Chosen choice) × IsMenuReleased before.desk.activity p choice before after
 IsMenuEffect call answer before after = AreEdited call answer before after
 
 -- one step of a call about menus

@@ -5,7 +5,7 @@ ghost use Rattle.tb_geom.specs.declared.point.Point.{Point};
 ghost use Rattle.tb_geom.specs.Rects.{in_plane, rect_holds};
 ghost use Rattle.def_iface.specs.News.{told_change};
 ghost use Rattle.def_iface.specs.Sizes.{is_size};
-ghost use Rattle.def_iface.specs.Meaning.{SameRegions, Hears, IsDamage, is_fitting, size_after};
+ghost use Rattle.def_iface.specs.Meaning.{SameLook, SameRegions, Hears, IsDamage, is_fitting, size_after};
 ghost use Rattle.looks.specs.Letters.{Lettering};
 ghost use Rattle.looks.specs.Marks.{look_bit};
 ghost use Rattle.own_kind.specs.HollowWindows.{hollow_look, window_meaning, told_window, window_at};
@@ -138,7 +138,7 @@ impl WindowDef for HollowWindow {
     fn dispose(&mut self)
         requires { (window_meaning self.old).stage ≡ Stage.Live }
         ensures closed { (window_meaning self.new).stage ≡ Stage.Closed }
-        ensures regions { SameRegions (window_meaning self.old) (window_meaning self.new) }
+        ensures same { SameLook (window_meaning self.old) (window_meaning self.new) }
         ensures kept { self.new ≡ window_at Stage.Closed self.old }
     {
         self.stage = Stage::Closed;

@@ -4,7 +4,7 @@ ghost use Rattle.std.specs.Prelude.{◌≡◌, true, false};
 ghost use Rattle.tb_geom.specs.declared.point.Point.{Point};
 ghost use Rattle.tb_geom.specs.Rects.{in_plane, rect_holds};
 ghost use Rattle.def_iface.specs.ControlNews.{told_control};
-ghost use Rattle.def_iface.specs.ControlMeaning.{SameControlRegions, ControlHears, IsControlDamage};
+ghost use Rattle.def_iface.specs.ControlMeaning.{SameControlLook, SameControlRegions, ControlHears, IsControlDamage};
 ghost use Rattle.def_iface.specs.ControlMeaning.{is_fitting_control, control_size_after};
 ghost use Rattle.def_iface.specs.Sizes.{is_size};
 ghost use Rattle.looks.specs.Letters.{Lettering};
@@ -118,7 +118,7 @@ impl ControlDef for RingControl {
     fn dispose(&mut self)
         requires { (ring_meaning self.old).stage ≡ Stage.Live }
         ensures closed { (ring_meaning self.new).stage ≡ Stage.Closed }
-        ensures regions { SameControlRegions (ring_meaning self.old) (ring_meaning self.new) }
+        ensures same { SameControlLook (ring_meaning self.old) (ring_meaning self.new) }
         ensures kept { self.new ≡ ring_at Stage.Closed self.old }
     {
         self.stage = Stage::Closed;

@@ -9,7 +9,7 @@ mod banner;
 
 use anyhow::{Result, bail};
 use banner::Banner;
-use def_iface::{ControlStock, ListStock, MenuStock, Size, Stock};
+use def_iface::{Size, Stock};
 use desk_toolbox::{Call, NewWindow, Toolbox, WindowCall};
 use op_ref::BytesRef;
 use screen_pbm::write_p1;
@@ -44,9 +44,6 @@ fn main(rt: HostRuntime) -> Result<()> {
     // A window takes its definition out of a stock, by the name of the kind. So there is one box for each
     // window that we will make.
     let mut stock = Stock::new(alloc);
-    stock.controls = ControlStock::new(alloc);
-    stock.lists = ListStock::new(alloc);
-    stock.menus = MenuStock::new(alloc);
     let first = Box::new(alloc, Banner::new())?;
     let Ok(()) = stock.windows.add(b"banner", first) else {
         bail!("no memory for the stock");

@@ -14,7 +14,7 @@ use Rattle.script_runner.specs.Runs.{RunEnds}
 -- `opens` says what opening the file at a path may answer, and `input` how a file that was opened is seen
 module _ {File : Type 0} (opens : List ℕ → Result File Refusal → Type 0) (input : File → Input) where
   -- the file at the path was opened and read to its end, no read failed, and it has these bytes
-  pub record IsRead (path bytes : List ℕ) : Type 0 where
+  pub record IsReadFile (path bytes : List ℕ) : Type 0 where
     pub first : File
     pub last : File
     pub opened : opens path (Ok first)
@@ -22,7 +22,7 @@ module _ {File : Type 0} (opens : List ℕ → Result File Refusal → Type 0) (
     pub quiet : (input last).has_failed ≡ false
 
   -- the file at the path was opened, and why its bytes are not had
-  pub record IsUnread (path : List ℕ) (e : Refusal) : Type 0 where
+  pub record IsUnreadFile (path : List ℕ) (e : Refusal) : Type 0 where
     pub first : File
     pub last : File
     pub opened : opens path (Ok first)
@@ -32,12 +32,12 @@ module _ {File : Type 0} (opens : List ℕ → Result File Refusal → Type 0) (
   -- no path is named
   abbrev pub AreFontBytes : Option (List ℕ) → Option (List ℕ) → Type 0
   AreFontBytes None asked = asked ≡ None
-  AreFontBytes (Some path) asked = (bytes : List ℕ) × IsRead path bytes × (asked ≡ Some (take longest_record bytes))
+  AreFontBytes (Some path) asked = (bytes : List ℕ) × IsReadFile path bytes × (asked ≡ Some (take longest_record bytes))
 
   -- why the bytes of the font's file are not had
   abbrev pub IsFontLost : Option (List ℕ) → Refusal → Type 0
   IsFontLost None e = ⊥
-  IsFontLost (Some path) e = opens path (Err e) ⊎ IsUnread path e
+  IsFontLost (Some path) e = opens path (Err e) ⊎ IsUnreadFile path e
 
   -- why the script's file is not had
   abbrev pub IsScriptLost : Option (List ℕ) → Refusal → Type 0

@@ -4,7 +4,7 @@ ghost use Rattle.std.specs.Prelude.{⊤};
 
 use crate::paper::Paper;
 use crate::script::Script;
-use def_iface::{ControlStock, ListStock, MenuStock, Stock, WindowDef};
+use def_iface::{Stock, WindowDef};
 use font_tests::small::SMALL;
 use script_runner::{Choices, Opener, run_chosen};
 use std::alloc::Global;
@@ -63,9 +63,6 @@ fn run_here(
     paper: &mut Paper,
 ) -> Result<(Result<(), Refusal>, u32), Fail> {
     let mut stock = Stock::new(alloc);
-    stock.controls = ControlStock::new(alloc);
-    stock.lists = ListStock::new(alloc);
-    stock.menus = MenuStock::new(alloc);
     let plain: Box<dyn WindowDef> = Box::new(alloc, StdWindow::new(Variation::Plain))?;
     let Ok(()) = stock.windows.add(b"plain", plain) else {
         return Err(Fail::from(Refusal::NoMemory));

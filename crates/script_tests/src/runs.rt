@@ -5,7 +5,7 @@ ghost use Rattle.std.specs.Prelude.{◌<◌};
 
 use crate::paper::Paper;
 use crate::script::Script;
-use def_iface::{ControlStock, ListStock, MenuStock, Stock, WindowDef};
+use def_iface::{Stock, WindowDef};
 use font_tests::small::SMALL;
 use script_runner::{OptionsError, run};
 use std::alloc::{AllocError, Global};
@@ -55,9 +55,6 @@ fn run_with(
     paper: &mut Paper,
 ) -> Result<Ended, Fail> {
     let mut stock = Stock::new(alloc);
-    stock.controls = ControlStock::new(alloc);
-    stock.lists = ListStock::new(alloc);
-    stock.menus = MenuStock::new(alloc);
     let plain: Box<dyn WindowDef> = Box::new(alloc, StdWindow::new(Variation::Plain))?;
     let Ok(()) = stock.windows.add(b"plain", plain) else {
         return Err(Fail::from(Refusal::NoMemory));

@@ -4,7 +4,7 @@ ghost use Rattle.tb_geom.specs.declared.point.Point.{Point};
 ghost use Rattle.tb_geom.specs.Rects.{in_plane, rect_holds};
 ghost use Rattle.control_values.specs.declared.part.ControlPart.TheVariants.{Button};
 ghost use Rattle.def_iface.specs.ControlNews.{told_control};
-ghost use Rattle.def_iface.specs.ControlMeaning.{SameControlRegions, ControlHears, IsControlDamage};
+ghost use Rattle.def_iface.specs.ControlMeaning.{SameControlLook, SameControlRegions, ControlHears, IsControlDamage};
 ghost use Rattle.def_iface.specs.ControlMeaning.{is_control_size, is_fitting_control, control_size_after};
 ghost use Rattle.looks.specs.Letters.{Lettering};
 ghost use Rattle.looks.specs.Marks.{look_bit};
@@ -139,7 +139,7 @@ impl ControlDef for StdButton {
     fn dispose(&mut self)
         requires { (button_meaning self.old).stage ≡ Stage.Live }
         ensures closed { (button_meaning self.new).stage ≡ Stage.Closed }
-        ensures regions { SameControlRegions (button_meaning self.old) (button_meaning self.new) }
+        ensures same { SameControlLook (button_meaning self.old) (button_meaning self.new) }
         ensures kept { self.new ≡ button_at Stage.Closed self.old }
     {
         self.stage = Stage::Closed;

@@ -1,7 +1,7 @@
 //! The definition of check boxes and radio buttons.
 ghost use Rattle.std.specs.Prelude.{◌≡◌, true};
 ghost use Rattle.def_iface.specs.ControlNews.{told_control};
-ghost use Rattle.def_iface.specs.ControlMeaning.{SameControlRegions, ControlHears, IsControlDamage};
+ghost use Rattle.def_iface.specs.ControlMeaning.{SameControlLook, SameControlRegions, ControlHears, IsControlDamage};
 ghost use Rattle.def_iface.specs.ControlMeaning.{is_fitting_control, control_size_after};
 ghost use Rattle.std_cdef.specs.Told.{check_meaning, fresh_check, told_check, check_at};
 
@@ -108,7 +108,7 @@ impl ControlDef for StdCheck {
     fn dispose(&mut self)
         requires { (check_meaning self.old).stage ≡ Stage.Live }
         ensures closed { (check_meaning self.new).stage ≡ Stage.Closed }
-        ensures regions { SameControlRegions (check_meaning self.old) (check_meaning self.new) }
+        ensures same { SameControlLook (check_meaning self.old) (check_meaning self.new) }
         ensures kept { self.new ≡ check_at Stage.Closed self.old }
     {
         self.stage = Stage::Closed;

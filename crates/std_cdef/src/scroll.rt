@@ -1,7 +1,7 @@
 //! The definition of a scroll bar.
 ghost use Rattle.std.specs.Prelude.{◌≡◌, true};
 ghost use Rattle.def_iface.specs.ControlNews.{told_control};
-ghost use Rattle.def_iface.specs.ControlMeaning.{SameControlRegions, ControlHears, IsControlDamage};
+ghost use Rattle.def_iface.specs.ControlMeaning.{SameControlLook, SameControlRegions, ControlHears, IsControlDamage};
 ghost use Rattle.def_iface.specs.ControlMeaning.{is_fitting_control, control_size_after};
 ghost use Rattle.std_cdef.specs.Told.{scroll_meaning, fresh_scroll, told_scroll, scroll_at};
 
@@ -95,7 +95,7 @@ impl ControlDef for StdScroll {
     fn dispose(&mut self)
         requires { (scroll_meaning self.old).stage ≡ Stage.Live }
         ensures closed { (scroll_meaning self.new).stage ≡ Stage.Closed }
-        ensures regions { SameControlRegions (scroll_meaning self.old) (scroll_meaning self.new) }
+        ensures same { SameControlLook (scroll_meaning self.old) (scroll_meaning self.new) }
         ensures kept { self.new ≡ scroll_at Stage.Closed self.old }
     {
         self.stage = Stage::Closed;

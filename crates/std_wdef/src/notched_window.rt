@@ -3,7 +3,7 @@ ghost use Rattle.std.specs.Prelude.{◌≡◌, true, false, pos, ◌≤ℤ◌, �
 ghost use Rattle.tb_geom.specs.declared.point.Point.{Point};
 ghost use Rattle.tb_geom.specs.Rects.{in_plane, is_coordinate, rect_holds};
 ghost use Rattle.def_iface.specs.News.{told_change};
-ghost use Rattle.def_iface.specs.Meaning.{SameRegions, Hears, IsDamage, is_fitting, size_after};
+ghost use Rattle.def_iface.specs.Meaning.{SameLook, SameRegions, Hears, IsDamage, is_fitting, size_after};
 ghost use Rattle.def_iface.specs.Sizes.{is_size};
 ghost use Rattle.looks.specs.Letters.{Lettering};
 ghost use Rattle.looks.specs.Marks.{box, neg, look_bit};
@@ -181,7 +181,7 @@ impl WindowDef for NotchedWindow {
     fn dispose(&mut self)
         requires { (notched_meaning self.old).stage ≡ Stage.Live }
         ensures closed { (notched_meaning self.new).stage ≡ Stage.Closed }
-        ensures regions { SameRegions (notched_meaning self.old) (notched_meaning self.new) }
+        ensures same { SameLook (notched_meaning self.old) (notched_meaning self.new) }
         ensures kept { self.new ≡ notched_at Stage.Closed self.old }
     {
         self.stage = Stage::Closed;

@@ -1,7 +1,7 @@
 //! The definition of the standard windows.
 ghost use Rattle.std.specs.Prelude.{◌≡◌, true};
 ghost use Rattle.def_iface.specs.News.{told_change};
-ghost use Rattle.def_iface.specs.Meaning.{SameRegions, Hears, IsDamage, is_fitting, size_after};
+ghost use Rattle.def_iface.specs.Meaning.{SameLook, SameRegions, Hears, IsDamage, is_fitting, size_after};
 ghost use Rattle.std_wdef.specs.Told.{window_meaning, fresh_window, told_window, window_at};
 
 use crate::areas::{content_of, structure_box, structure_of};
@@ -116,7 +116,7 @@ impl WindowDef for StdWindow {
     fn dispose(&mut self)
         requires { (window_meaning self.old).stage ≡ Stage.Live }
         ensures closed { (window_meaning self.new).stage ≡ Stage.Closed }
-        ensures regions { SameRegions (window_meaning self.old) (window_meaning self.new) }
+        ensures same { SameLook (window_meaning self.old) (window_meaning self.new) }
         ensures kept { self.new ≡ window_at Stage.Closed self.old }
     {
         self.stage = Stage::Closed;

@@ -103,10 +103,11 @@ impl WindowList {
         self.records.reserve()
     }
 
-    /// Puts a new window in front of all others, where there is room. A visible one becomes the
-    /// active one, in place of the window that was.
+    /// Puts a new window, which has the next serial, in front of all others, where there is room. A visible one becomes
+    /// the active one, in place of the window that was.
     pub fn add(&mut self, window: Window)
-        requires { length self.old.records.items < self.old.records.capacity }
+        requires room { length self.old.records.items < self.old.records.capacity }
+        requires next { self.old.next ≡ Some window.serial }
         ensures { self.new ≡ record {
           records = record {
             items = window ∷ (if window.shown then map (dimmed self.old.active) self.old.records.items

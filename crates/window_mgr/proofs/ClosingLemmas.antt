@@ -10,7 +10,7 @@ use Rattle.std.proofs.lemmas.List.Elements.{All-nil, All-pop, All-push}
 use Rattle.std.proofs.lemmas.Option.{slice_get-get_or}
 use Rattle.def_iface.specs.declared.taken.Taken.{Taken}
 use Rattle.def_iface.specs.declared.window_def.Stage.TheVariants.{Live, Closed}
-use Rattle.def_iface.specs.Meaning.{Definition, Loan, SameRegions}
+use Rattle.def_iface.specs.Meaning.{Definition, Loan, SameLook}
 use Rattle.def_iface.specs.Stocked.{SlotView, IsFull, is_left, holding}
 use Rattle.window_list.specs.declared.window.Window.{Window}
 use Rattle.window_list.specs.Lists.{IsLastBox}
@@ -59,7 +59,7 @@ pub record Shut (loan : Loan) (old new : List SlotView) : Type 0 where
   pub found : slice_get old loan.slot ≡ Some view
   pub empty : view.held ≡ None
   pub closed : definition.stage ≡ Closed
-  pub regions : SameRegions loan.definition definition
+  pub look : SameLook loan.definition definition
   pub back : new ≡ slice_set old loan.slot (holding (Some definition) view)
 
 pub shut_facts : (loan : Loan) (old new : List SlotView) → IsShut loan old new → Shut loan old new
@@ -77,7 +77,7 @@ shut_facts loan old new shut = by_cases (slice_get old loan.slot) refl shut.left
       found = at;
       empty = held_none s.held e;
       closed = shut.closed;
-      regions = shut.regions;
+      look = shut.look;
       back = back;
     }
 
@@ -122,7 +122,7 @@ module _ (ws : List WindowRecord) (w : WindowRecord) (old new : List SlotView) (
     kinds = rest.kinds ∙ ap (map (λ s. s.kind)) shut.back ∙ map-set (λ (s : SlotView). s.kind) old w.slot shut.view _ shut.found refl;
     full = rest.full;
     others = others;
-    closed = All-push (IsClosedAt final) ws w rest.closed (_, rest.others w.slot _ here here_full, (shut.definition, refl, shut.closed, shut.regions));
+    closed = All-push (IsClosedAt final) ws w rest.closed (_, rest.others w.slot _ here here_full, (shut.definition, refl, shut.closed, shut.look));
   }
     where
       others : (k : ℕ) (s : SlotView) → slice_get old k ≡ Some s → IsFull s → slice_get final k ≡ Some s

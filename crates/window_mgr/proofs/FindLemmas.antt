@@ -22,7 +22,7 @@ use Rattle.def_iface.specs.Owner.{Owner, owner, owner_among, same_owner}
 use Rattle.def_iface.specs.Owner.Owner.{Desktop, Bar, Frame, Content}
 use Rattle.def_iface.proofs.Owning.{same_number, same_owner-true, not_first}
 use Rattle.vis_update.specs.declared.area.Area.{Area}
-use Rattle.layer_list.specs.Holders.{part_at as layer_at}
+use Rattle.layer_list.specs.Holders.{window_part_at as layer_at}
 use Rattle.vis_update.proofs.LayerOwners.{first_owner, owner_first}
 use Rattle.window_mgr.specs.declared.manager.WindowManager.{WindowManager}
 use Rattle.window_list.specs.declared.window.Window.{Window}
@@ -37,7 +37,7 @@ use Rattle.vis_update.specs.Areas.{area_has}
 use Rattle.desk_call.specs.declared.window.WindowPart.TheVariants as part
 use Rattle.window_mgr.specs.Edits.{StandsAt}
 use Rattle.window_mgr.proofs.EditSeats.{there_is}
-use Rattle.window_mgr.specs.Finding.{front_of, record_with, found_by, found_none, found_window, found_at, part_at, part_of_hit}
+use Rattle.window_mgr.specs.Finding.{front_of, record_with, found_by, found_none, found_window, found_at, window_part_at, part_of_hit}
 use Rattle.vis_update.specs.Areas.{IsArea, AreAreas, is_content_of}
 use Rattle.window_mgr.specs.Whole.{IsSettled}
 
@@ -176,7 +176,7 @@ module _ {V : Type 0} {H : V → Type 0} (loan : Taken V H → Loan) (t : Window
           let same : found.0 ≡ record_of loan x = let both : Some found.0 ≡ Some (record_of loan x) = sym found.1 ∙ there in cc in
           let owned : found_by windows (owner desk p) p ≡ found_window found.0.serial windows p = found_there desk (stale_in t.areas.items) windows found.0 _ p found.2 first.1 in
           let its_record : record_with x.serial windows ≡ Some (record_of loan x) = record_at (look_on t) windows i (record_of loan x) A.whole.sound.distinct there in
-          rw on (owned ∙ ap (λ (v : WindowRecord). found_window v.serial windows p) same ∙ ap (λ r. record { part = part_at r p; window = Some x.serial }) its_record)
+          rw on (owned ∙ ap (λ (v : WindowRecord). found_window v.serial windows p) same ∙ ap (λ r. record { part = window_part_at r p; window = Some x.serial }) its_record)
 
   -- where no area has it, it is the desktop's
   pub found_desk_is : layers.on_screen desk p ≡ true → layers.in_bar desk p ≡ false → position (area_has p) t.areas.items ≡ None → found_at (desk_of loan t []) p ≡ found_none part.InDesk

@@ -18,7 +18,7 @@ use Rattle.vis_update.proofs.KeptLayers.{IsKept, keeps_layers, kept_in_place, ke
 use Rattle.window_mgr.specs.declared.arrange.Edit.{Edit}
 use Rattle.window_mgr.specs.declared.manager.WindowManager.{WindowManager}
 use Rattle.window_mgr.specs.Edits.{put_record, IsWindowAt, IsOnItsWay, IsDeskOfEdit}
-use Rattle.window_mgr.specs.Effects.{desk_with}
+use Rattle.window_mgr.specs.Effects.{desk_with_new}
 use Rattle.window_mgr.specs.FullDesk.{FullDesk, layered_desk, look_of}
 use Rattle.window_mgr.specs.Records.{desk_of, look_on}
 use Rattle.window_mgr.specs.Without.{records_without, IsDeskWithout}
@@ -73,12 +73,12 @@ module _ {V : Type 0} {H : V → Type 0} (loan : Taken V H → Loan) (t : Window
 
   -- a call that puts a new window in front, whose serial owned nothing
   pub new_keeps : (w : NewWindow) (n slot : ℕ) (begun : Definition) (touch : Touch) → touch.window ≡ n → IsFree (look_on t) n before.windows
-      → KeepsLayers touch (layered_desk before) (layered_desk (desk_with w n slot begun before))
+      → KeepsLayers touch (layered_desk before) (layered_desk (desk_with_new w n slot begun before))
   new_keeps w n slot begun touch about free = keeps_layers touch (look_on t) (look_on t) before.windows after.windows (layered_desk before) (layered_desk after) refl refl
       (λ u v there now. at_place u v there now.0 now.1 now.2)
     where
       after : FullDesk
-      after = desk_with w n slot begun before
+      after = desk_with_new w n slot begun before
 
       none : (u : WindowRecord) → Contains before.windows u → u.serial ≡ n → ⊥
       none u there same = none_free (look_on t) n before.windows distinct free u there same

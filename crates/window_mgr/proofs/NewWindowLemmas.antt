@@ -39,7 +39,7 @@ use Rattle.tb_geom.specs.Refusals.{first_refusal}
 use Rattle.window_mgr.specs.Refused.{judged_refusals, is_full, longest_text, most_windows}
 use Rattle.vis_update.specs.Places.{is_placed}
 use Rattle.window_mgr.specs.Step.{IsWindowStep}
-use Rattle.window_mgr.specs.Effects.{IsNewWindow, first_news, new_record, desk_with}
+use Rattle.window_mgr.specs.Effects.{IsNewWindow, first_news, new_record, desk_with_new}
 use Rattle.window_mgr.specs.Arrange.{with_highlighting}
 use Rattle.window_mgr.specs.Planned.{IsPlanWith, IsAdded, IsUnplanned, SameDesk, new_touch}
 use Rattle.window_list.specs.Lists.{dimmed}
@@ -151,7 +151,7 @@ module _ {V : Type 0} {H : V → Type 0} (loan : Taken V H → Loan) where
 
     -- the desk with the new window in front
     abbrev after : FullDesk
-    after = record (desk_with w n taken.slot N.added.begun before) { stock = left }
+    after = record (desk_with_new w n taken.slot N.added.begun before) { stock = left }
 
     next_is : t.windows.next ≡ Some n
     next_is = sym N.same.next ∙ N.number

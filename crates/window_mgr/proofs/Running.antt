@@ -23,7 +23,7 @@ use Rattle.vis_update.specs.Contents.{scroll_change}
 use Rattle.vis_update.specs.Records.{WindowRecord, Look, layered_window}
 use Rattle.window_mgr.specs.FullDesk.{FullDesk, FullState, IsRightState, IsGiven, HaveSerials, AreSerials, layered_desk, layered_state, look_of}
 use Rattle.window_mgr.specs.Step.{IsWindowStep}
-use Rattle.window_mgr.specs.Effects.{IsNewWindow, IsDrawn, IsPictureSet, IsScrolled, IsUnchanged, IsArrangement, Effect, IsEffect, effect_of, new_record, desk_with, with_drawn, with_new_picture, with_scrolled, draw_change, picture_change}
+use Rattle.window_mgr.specs.Effects.{IsNewWindow, IsDrawn, IsPictureSet, IsScrolled, IsUnchanged, IsArrangement, Effect, IsEffect, effect_of, new_record, desk_with_new, with_drawn, with_new_picture, with_scrolled, draw_change, picture_change}
 use Rattle.window_mgr.specs.Effects.Effect.{Makes, Disposes, Draws, Pictures, Scrolls, Arranges, Places, Tells, Describes}
 use Rattle.window_mgr.specs.Arrange.{with_highlighting, Arrangement, activation_of, desk_activated, placed}
 use Rattle.window_mgr.specs.Finding.{front_of, record_with}
@@ -39,7 +39,7 @@ use Rattle.window_mgr.proofs.Disposed.{disposed_stays_right}
 -- ---- a window in front of others
 
 -- as layers, a desk with a new window has just one window more
-pub layered_desk-with : (w : NewWindow) (serial slot : ℕ) (d : Definition) (desk : FullDesk) (stock : _) → layered_desk (record (desk_with w serial slot d desk) { stock = stock }) ≡ record (layered_desk desk) { windows = layered_window (look_of desk) (new_record w serial slot d) ∷ map (layered_window (look_of desk)) desk.windows }
+pub layered_desk-with : (w : NewWindow) (serial slot : ℕ) (d : Definition) (desk : FullDesk) (stock : _) → layered_desk (record (desk_with_new w serial slot d desk) { stock = stock }) ≡ record (layered_desk desk) { windows = layered_window (look_of desk) (new_record w serial slot d) ∷ map (layered_window (look_of desk)) desk.windows }
 layered_desk-with w serial slot d desk stock =
     ap (λ ws. record (layered_desk desk) { windows = layered_window (look_of desk) (new_record w serial slot d) ∷ ws }) (by_shown w.shown)
   where
@@ -86,8 +86,8 @@ new_is_sound before w desk free parts = record {
 }
 
 -- the windows of a desk with a new window are serials, it by the last number
-pub numbered_with : (w : NewWindow) (serial slot : ℕ) (d : Definition) (desk : FullDesk) → AreSerials (Some serial) desk.windows → AreSerials (desk_with w serial slot d desk).next (desk_with w serial slot d desk).windows
-numbered_with w serial slot d desk serials = let first = serials.0 in after_number (desk_with w serial slot d desk).windows (nat_lt (serial + 1) (2 ^ 64)) ((first, omega arith), by_shown w.shown)
+pub numbered_with : (w : NewWindow) (serial slot : ℕ) (d : Definition) (desk : FullDesk) → AreSerials (Some serial) desk.windows → AreSerials (desk_with_new w serial slot d desk).next (desk_with_new w serial slot d desk).windows
+numbered_with w serial slot d desk serials = let first = serials.0 in after_number (desk_with_new w serial slot d desk).windows (nat_lt (serial + 1) (2 ^ 64)) ((first, omega arith), by_shown w.shown)
   where
     after_number : (ws : List WindowRecord) (b : Bool) → HaveSerials (IsGiven (Some (serial + 1))) ws → AreSerials (if b then Some (serial + 1) else None) ws
     after_number ws true h = (omega arith, h)

@@ -19,7 +19,7 @@ use Rattle.vis_update.specs.Records.{record_of}
 use Rattle.window_mgr.specs.Records.{desk_of, state_of}
 use Rattle.window_paint.specs.White.{all_white}
 use Rattle.vis_update.specs.Areas.{stale_in}
-use Rattle.window_mgr.specs.Effects.{IsUnchanged, desk_with}
+use Rattle.window_mgr.specs.Effects.{IsUnchanged, desk_with_new}
 use Rattle.window_mgr.specs.Step.{IsCallRefused}
 use Rattle.window_mgr.specs.Whole.{IsWholeManager, IsSettled, IsSoundDesk, AreFramesShown, LieThere}
 use Rattle.vis_update.specs.Areas.{IsGray, IsDesktop, AreAreas}
@@ -69,7 +69,7 @@ module _ {V : Type 0} {H : V → Type 0} (loan : Taken V H → Loan) (t u : Wind
   -- what was planned is still right
   pub plan_stays : (w : NewWindow) (n : ℕ) (d : Definition) (touch : Touch) (plan : Plan) → IsPlanWith loan w n d touch t plan → IsPlanWith loan w n d touch u plan
   plan_stays w n d touch plan h slot begun regions =
-      subst (λ (x : FullState × Pixels). IsPlan touch (layered_state x.0) (layered_desk (desk_with w n slot begun x.0.desk)) x.1 (desk_with w n slot begun x.0.desk).windows plan)
+      subst (λ (x : FullState × Pixels). IsPlan touch (layered_state x.0) (layered_desk (desk_with_new w n slot begun x.0.desk)) x.1 (desk_with_new w n slot begun x.0.desk).windows plan)
       (λ i. (record (sym state_stays i) { desk = record (sym state_stays i).desk { stock = [] } }, sym same.desktop i)) (h slot begun regions)
 
   -- the same, where the window's number goes by another name

@@ -24,7 +24,7 @@ use Rattle.vis_update.specs.Areas.{stale_in}
 use Rattle.vis_update.specs.Seats.{stand_of, seat_stand, IsPlacedSeat, IsNearSeat, IsSeatOf, IsArranged}
 use Rattle.vis_update.specs.Areas.{IsNowhere, IsNear}
 use Rattle.window_mgr.specs.Seats.{AreSeatsOf, AreSeatsBehind}
-use Rattle.window_mgr.specs.Effects.{new_record, desk_with}
+use Rattle.window_mgr.specs.Effects.{new_record, desk_with_new}
 use Rattle.window_mgr.specs.Arrange.{with_highlighting}
 use Rattle.vis_update.specs.Areas.{IsArea, AreAreas}
 use Rattle.window_mgr.specs.Whole.{IsSettled}
@@ -160,7 +160,7 @@ module _ {V : Type 0} {H : V → Type 0} (loan : Taken V H → Loan) where
     before = layered_state (state_of loan t [])
 
     abbrev after : FullDesk
-    after = desk_with w n slot begun (desk_of loan t [])
+    after = desk_with_new w n slot begun (desk_of loan t [])
 
     free : layers.window_of n before.desk.windows ≡ None
     free = number_is_free loan t kept n next

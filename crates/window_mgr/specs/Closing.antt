@@ -1,13 +1,13 @@
 -- What the end of a desk does to the stock.
 use Rattle.std.specs.Prelude.{◌≡◌, ℕ, true, List, map, Some, All, slice_get}
 use Rattle.def_iface.specs.declared.window_def.Stage.TheVariants.{Closed}
-use Rattle.def_iface.specs.Meaning.{Definition, Loan, SameRegions}
+use Rattle.def_iface.specs.Meaning.{Definition, Loan, SameLook}
 use Rattle.def_iface.specs.Stocked.{SlotView, IsFull, IsPutBack, is_left}
 use Rattle.vis_update.specs.Records.{WindowRecord}
 
--- a slot with a definition that is closed, and answers the regions of this one
+-- a slot with a definition that is closed, and answers as this one
 abbrev pub IsClosedSlot : Definition → SlotView → Type 0
-IsClosedSlot before s = (d : Definition) × (s.held ≡ Some d) × (d.stage ≡ Closed) × SameRegions before d
+IsClosedSlot before s = (d : Definition) × (s.held ≡ Some d) × (d.stage ≡ Closed) × SameLook before d
 
 -- the window's slot is there, with its definition, which is closed
 abbrev pub IsClosedAt : List SlotView → WindowRecord → Type 0
@@ -21,7 +21,7 @@ loan_of w = record { definition = w.definition; slot = w.slot }
 pub record IsShut (loan : Loan) (old new : List SlotView) : Type 0 where
   pub definition : Definition
   pub closed : definition.stage ≡ Closed
-  pub regions : SameRegions loan.definition definition
+  pub look : SameLook loan.definition definition
   pub left : is_left loan.slot old ≡ true
   pub back : IsPutBack (record { definition = definition; slot = loan.slot }) old new
 

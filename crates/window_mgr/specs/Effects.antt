@@ -60,8 +60,8 @@ new_record w serial slot d = record {
 }
 
 -- a new window in front of all: a visible one becomes active, in place of the window that was
-abbrev pub desk_with : NewWindow → ℕ → ℕ → Definition → FullDesk → FullDesk
-desk_with w serial slot d desk = record desk {
+abbrev pub desk_with_new : NewWindow → ℕ → ℕ → Definition → FullDesk → FullDesk
+desk_with_new w serial slot d desk = record desk {
   windows = new_record w serial slot d
       ∷ (if w.shown then map (with_highlighting false desk.active) desk.windows else desk.windows);
   active = if w.shown then Some serial else desk.active;
@@ -75,7 +75,7 @@ pub record IsNewWindow (w : NewWindow) (serial : ℕ) (before after : FullState)
   pub serials : before.desk.next ≡ Some serial
   pub taken : IsTaken w.kind loan before.desk.stock after.desk.stock
   pub live : IsBegun (first_news w) loan.definition begun
-  pub desk : after.desk ≡ record (desk_with w serial loan.slot begun before.desk) { stock = after.desk.stock }
+  pub desk : after.desk ≡ record (desk_with_new w serial loan.slot begun before.desk) { stock = after.desk.stock }
   pub pixels : IsChanged no_change (layered_state before) (layered_state after)
 
 -- the window has the operation too, if it is the one of this serial

@@ -32,9 +32,9 @@ record_with s [] = None
 record_with s (w ∷ ws) = if w.serial == s then Some w else record_with s ws
 
 -- the part of the window that the point lies in, by its definition
-abbrev pub part_at : Option WindowRecord → Point → WindowPart
-part_at None p = part.InDesk
-part_at (Some w) p = part_of_hit (w.definition.hit no_news (minus p w.place))
+abbrev pub window_part_at : Option WindowRecord → Point → WindowPart
+window_part_at None p = part.InDesk
+window_part_at (Some w) p = part_of_hit (w.definition.hit no_news (minus p w.place))
 
 -- no window, and this part
 abbrev pub found_none : WindowPart → Found
@@ -42,7 +42,7 @@ found_none which = record { part = which; window = None }
 
 -- the window of this serial, and the part of it that the point lies in
 abbrev pub found_window : ℕ → List WindowRecord → Point → Found
-found_window s ws p = record { part = part_at (record_with s ws) p; window = Some s }
+found_window s ws p = record { part = window_part_at (record_with s ws) p; window = Some s }
 
 -- what is found where this is the owner of the point
 abbrev pub found_by : List WindowRecord → Owner → Point → Found

@@ -30,7 +30,7 @@ use Rattle.window_mgr.specs.Records.{desk_of, state_of}
 use Rattle.tb_geom.specs.Refusals.{first_refusal}
 use Rattle.window_mgr.specs.Refused.{judged_refusals, most_operations}
 use Rattle.window_mgr.specs.Commits.{IsPlanDrawn}
-use Rattle.window_mgr.specs.Effects.{first_news, new_record, desk_with}
+use Rattle.window_mgr.specs.Effects.{first_news, new_record, desk_with_new}
 use Rattle.window_mgr.specs.Whole.{LieThere}
 use Rattle.tb_geom.specs.declared.point.Point.{Point}
 use Rattle.window_paint.specs.Hidden.{is_hidden}
@@ -115,7 +115,7 @@ module _ {V : Type 0} {H : V → Type 0} (loan : Taken V H → Loan) where
   -- all that changes on the screen once the window stands in front of the others, whichever slot its definition has
   abbrev pub IsPlanWith : NewWindow → ℕ → Definition → Touch → WindowManager V H → Plan → Type 0
   IsPlanWith w serial d touch t plan = (slot : ℕ) (begun : Definition) → SameRegions d begun
-      → let after = desk_with w serial slot begun (desk_of loan t []) in
+      → let after = desk_with_new w serial slot begun (desk_of loan t []) in
       IsPlan touch (layered_state (state_of loan t [])) (layered_desk after) t.desktop after.windows plan
 
   -- nothing refuses the window with this definition any more, whose content then lies in the box of its structure

@@ -37,12 +37,13 @@ pub fn paint_picture(map: &mut BitMap, region: &Region, window: &Window, font: &
     canvas.paint_picture(&window.picture);
 }
 
-/// Draws the last operation of a window's picture, if there is one, on the pixels of a region of the screen that no layer in
-/// front of the picture has.
+/// Draws the last operation of a window's picture on the pixels of a region of the screen that no layer in front of the picture
+/// has, and nothing where the picture has no operation.
 pub fn paint_last_operation(map: &mut BitMap, region: &Region, window: &Window, font: &Font)
     requires placed { in_plane window.now.place ≡ true }
     requires origin { in_plane window.now.origin ≡ true }
-    ensures { (before : List Op) (op : Op) → window.now.picture ≡ before ++ op ∷ []
+    ensures none { window.now.picture ≡ [] → map.new ≡ map.old }
+    ensures drawn { (before : List Op) (op : Op) → window.now.picture ≡ before ++ op ∷ []
         → Draws (λ p. holds region.now p && not (is_hidden window.now p))
         (λ p value. op_value font.now op (minus (minus p window.now.place) window.now.origin) value)
         map.old map.new }

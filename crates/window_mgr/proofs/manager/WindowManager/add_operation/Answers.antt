@@ -37,5 +37,5 @@ returns-clause-drawn g c =
     let pushed = drawing.when_ok c.push_operation.result (sym c.is_err.ensures.value ∙ c.if-is_err.false) c.push_operation.ensures.added in
     drawing.is_drawn_at _ c.args.self.now c.requires.kept c.args.at c.requires.may.window c.requires.may.there
     c.args.drawing.now c.in-Ok.operation c.at.result.now c.index.result.now c.paint_last_operation.new.map
-    (c.at.ensures ∙ ap (λ l. get_or l.records.items c.args.at c.at.result.now) pushed) c.index.ensures c.in-Ok.ensures.1 c.paint_last_operation.ensures
+    (c.at.ensures ∙ ap (λ l. get_or l.records.items c.args.at c.at.result.now) pushed) c.index.ensures c.in-Ok.ensures.1 c.paint_last_operation.ensures.drawn
     _ (ap (λ l. record c.args.self.now { windows = l; screen = c.paint_last_operation.new.map }) pushed)

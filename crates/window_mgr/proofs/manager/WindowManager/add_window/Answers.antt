@@ -1,4 +1,4 @@
-use Rattle.std.proofs.Common.{◌≡◌, ◌+◌, ◌∷◌, Bool, true, false, List, length, if◌then◌else◌, map, ap, ◌∙◌, Some, refl, arith}
+use Rattle.std.proofs.Common.{◌≡◌, ◌+◌, ◌∷◌, Bool, true, false, List, length, if◌then◌else◌, map, ap, ◌∙◌, Some, refl, sym, arith}
 use Rattle.std.proofs.lemmas.List.{length-map}
 use Rattle.window_list.specs.Lists.{dimmed, serial_after}
 use Rattle.vis_update.proofs.PlaceLemmas.{placed_parts}
@@ -13,6 +13,9 @@ counted false x xs f = omega arith
 
 pub record_for-added-requires-clause-placed : goal.record_for-added-requires-clause-placed
 record_for-added-requires-clause-placed g c = (placed_parts _ c.args.window.now.place c.args.window.now.size c.requires.may_stand).place_in
+
+pub add-requires-clause-next : goal.add-requires-clause-next
+add-requires-clause-next g c = c.requires.planned.ticket.next ∙ ap Some (sym c.record_for-added.ensures.serial)
 
 pub commit-requires-clause-settled : goal.commit-requires-clause-settled
 commit-requires-clause-settled g c =
