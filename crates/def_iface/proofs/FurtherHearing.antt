@@ -1,6 +1,5 @@
 -- What definitions of controls, menus and lists answer that were told things one after another.
 use Rattle.std.proofs.Common.{◌≡◌, ℕ, List, ◌∙◌, subst}
-use Rattle.tb_geom.specs.declared.point.Point.{Point}
 use Rattle.control_values.specs.Settings.{Setting}
 use Rattle.def_iface.specs.declared.size.Size.{Size}
 use Rattle.def_iface.specs.ControlNews.{ControlNews, told_all_of_control, new_control_news}

@@ -1,6 +1,5 @@
 -- A control's definition that keeps all that it is told answers as one that is told it later.
-use Rattle.std.proofs.Common.{◌≡◌, ℕ, ℤ, List, Option, None, Some, refl, sym, ap, ◌∙◌}
-use Rattle.std.specs.Prelude.{take}
+use Rattle.std.proofs.Common.{◌≡◌, ℕ, ℤ, List, Option, refl, sym, ap, ◌∙◌}
 use Rattle.tb_geom.specs.declared.point.Point.{Point}
 use Rattle.tb_geom.specs.Points.{PixelSet}
 use Rattle.control_values.specs.declared.part.ControlPart.{ControlPart}

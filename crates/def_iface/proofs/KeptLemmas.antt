@@ -11,7 +11,7 @@ use Rattle.def_iface.specs.declared.window_def.WindowChange.{WindowChange}
 use Rattle.def_iface.specs.declared.window_def.WindowChange.TheVariants.{Resized, Titled, Highlighted, Closable, Zoomed, Tracked}
 use Rattle.def_iface.specs.News.{News, told_change}
 use Rattle.def_iface.specs.Meaning.{Definition, Hears, size_after}
-use Rattle.def_iface.specs.Keeping.{flags_after, title_after, keeps_title, flags_in, title_in, size_in, kept_picture, kept_hit}
+use Rattle.def_iface.specs.Keeping.{flags_after, title_after, keeps_title, flags_in, size_in, kept_picture, kept_hit}
 
 -- of two titles the later one is kept
 pub later_title : (o : Option (List ℕ)) (t title : List ℕ)

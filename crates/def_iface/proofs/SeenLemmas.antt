@@ -1,7 +1,7 @@
 -- What is said of slots with boxes holds of the slots with what the boxes mean.
-use Rattle.std.proofs.Common.{◌≡◌, ℕ, Bool, true, false, ◌&&◌, ◌||◌, List, [], ◌∷◌, ◌++◌, map, set, Option, Some, None, refl, sym, ap, ◌∙◌, position}
+use Rattle.std.proofs.Common.{◌≡◌, ℕ, false, ◌&&◌, ◌||◌, List, [], ◌∷◌, ◌++◌, set, Option, Some, None, refl, ap, ◌∙◌, position}
 use Rattle.std.specs.Option.{option_map, option_map_or, is_none, IfSome}
-use Rattle.std.specs.List.{list_any, slice_get}
+use Rattle.std.specs.List.{slice_get}
 use Rattle.std.proofs.lemmas.Option.{slice_get-map}
 use Rattle.std.proofs.lemmas.List.{map-set, map-append}
 use Rattle.tb_geom.specs.declared.refusal.Refusal.{Refusal}

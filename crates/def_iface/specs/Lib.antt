@@ -11,6 +11,7 @@ pub mod ControlKeeping
 pub mod MenuMeaning
 pub mod ListMeaning
 pub mod Stocked
+pub mod Stocks
 pub mod Desk
 pub mod Owner
 pub mod Scratch

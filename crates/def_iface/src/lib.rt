@@ -72,7 +72,7 @@ pub use menu_def::{MenuChange, MenuDef};
 pub use menu_stock::{MenuStock, ReturnedMenu, StockedMenus};
 pub use part::Part;
 pub use size::Size;
-pub use stock::Stock;
+pub use stock::{Stock, StockedAll};
 pub use taken::{Defined, Taken};
 pub use taken_control::{DefinedControl, TakenControl};
 pub use taken_list::{DefinedList, TakenList};

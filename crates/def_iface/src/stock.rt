@@ -1,13 +1,10 @@
 //! The stock: what the program made, to be taken for use and put back.
 ghost use Rattle.std.specs.Prelude.{◌≡◌, All, []};
 ghost use Rattle.def_iface.specs.Slots.{slot_views, seen_slots};
-ghost use Rattle.def_iface.specs.Slots as any_slots;
 ghost use Rattle.def_iface.specs.Stocked.{IsFull};
+ghost use Rattle.def_iface.specs.Stocks.{AllSlots, AreAllFull};
 
-use crate::{
-    ControlStock, ListStock, MenuStock, Stocked, StockedControls, StockedLists, StockedMenus,
-    WindowStock,
-};
+use crate::{ControlStock, ListStock, MenuStock, Stocked, WindowStock};
 use std::alloc::Global;
 
 /// Definitions of windows, controls, lists and menus, each of the four in slots of its own. So a kind goes by its name and
@@ -25,17 +22,27 @@ impl Stocked for Stock {
     ghost slots = { λ s. seen_slots (λ b. (WindowDef-box b).meaning b.value) (slot_views s.windows.slots.slots.items) };
 }
 
+/// The slots of all four as contracts see them together.
+pub trait StockedAll {
+    ghost all_slots: { Self → AllSlots };
+}
+
+impl StockedAll for Stock {
+    ghost all_slots = { λ s. record {
+      windows = seen_slots (λ b. (WindowDef-box b).meaning b.value) (slot_views s.windows.slots.slots.items);
+      menus = seen_slots (λ b. (MenuDef-box b).menu_meaning b.value) (slot_views s.menus.slots.slots.items);
+      controls = seen_slots (λ b. (ControlDef-box b).control_meaning b.value) (slot_views s.controls.slots.slots.items);
+      lists = seen_slots (λ b. (ListDef-box b).list_meaning b.value) (slot_views s.lists.slots.slots.items);
+    } };
+}
+
 impl Stock {
     /// A stock without a slot, of windows, of controls, of lists and of menus.
     pub fn new(alloc: Global) -> Stock
         ensures empty { ⟦<Stock as Stocked>⟧.slots result ≡ [] }
         ensures full { All IsFull (⟦<Stock as Stocked>⟧.slots result) }
-        ensures empty_controls { ⟦<ControlStock as StockedControls>⟧.control_slots result.controls ≡ [] }
-        ensures full_controls { All (any_slots.IsFull (λ d. d.stage)) (⟦<ControlStock as StockedControls>⟧.control_slots result.controls) }
-        ensures empty_lists { ⟦<ListStock as StockedLists>⟧.list_slots result.lists ≡ [] }
-        ensures full_lists { All (any_slots.IsFull (λ d. d.stage)) (⟦<ListStock as StockedLists>⟧.list_slots result.lists) }
-        ensures empty_menus { ⟦<MenuStock as StockedMenus>⟧.menu_slots result.menus ≡ [] }
-        ensures full_menus { All (any_slots.IsFull (λ d. d.stage)) (⟦<MenuStock as StockedMenus>⟧.menu_slots result.menus) }
+        ensures none { ⟦<Stock as StockedAll>⟧.all_slots result ≡ record { windows = []; menus = []; controls = []; lists = [] } }
+        ensures all_full { AreAllFull (⟦<Stock as StockedAll>⟧.all_slots result) }
     {
         Stock {
             windows: WindowStock::new(alloc),

@@ -1,7 +1,7 @@
 use Rattle.desk_tests.proofs.desks.a_desk_is_called_and_painted.Goals as goal
 
 pub run-requires : goal.run-requires
-run-requires g c = c.in-Ok-new.ensures.whole _ _ _ _ c.loop.invariant c.new-stock.ensures.full_menus c.new-stock.ensures.full_controls c.new-stock.ensures.full_lists
+run-requires g c = c.in-Ok-new.ensures.whole _ _ _ _ c.loop.invariant c.new-stock.ensures.all_full.menus c.new-stock.ensures.all_full.controls c.new-stock.ensures.all_full.lists
 
 pub paint-requires : goal.paint-requires
 paint-requires g c = record { slots = _; kept = _; held = _; listed = _; whole = c.run.ensures.whole }

@@ -1,0 +1,22 @@
+-- The slots of a whole stock.
+use Rattle.std.specs.Prelude.{List, All}
+use Rattle.def_iface.specs.ControlMeaning.{ControlDefinition}
+use Rattle.def_iface.specs.ListMeaning.{ListDefinition}
+use Rattle.def_iface.specs.MenuMeaning.{MenuDefinition}
+use Rattle.def_iface.specs.Slots.{SlotOf}
+use Rattle.def_iface.specs.Slots as slots
+use Rattle.def_iface.specs.Stocked.{SlotView, IsFull}
+
+-- those of windows, of menus, of controls and of lists
+pub record AllSlots : Type 0 where
+  pub windows : List SlotView
+  pub menus : List (SlotOf MenuDefinition)
+  pub controls : List (SlotOf ControlDefinition)
+  pub lists : List (SlotOf ListDefinition)
+
+-- every one of them has a definition that no desk uses
+pub record AreAllFull (s : AllSlots) : Type 0 where
+  pub windows : All IsFull s.windows
+  pub menus : All (slots.IsFull (λ (d : MenuDefinition). d.stage)) s.menus
+  pub controls : All (slots.IsFull (λ (d : ControlDefinition). d.stage)) s.controls
+  pub lists : All (slots.IsFull (λ (d : ListDefinition). d.stage)) s.lists
