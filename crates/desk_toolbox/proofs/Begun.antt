@@ -12,11 +12,9 @@ use Rattle.def_iface.specs.Change as plain
 use Rattle.def_iface.specs.ControlMeaning.{ControlLoan}
 use Rattle.def_iface.specs.ListMeaning.{ListLoan}
 use Rattle.control_list.specs.Seen.{all_seen}
-use Rattle.control_mgr.specs.ControlClosing.{IsControlFull}
-use Rattle.control_mgr.specs.ControlDesks.{ControlSlot, controls_show}
+use Rattle.control_mgr.specs.ControlDesks.{controls_show}
 use Rattle.control_mgr.specs.WholeControls.{records_of}
-use Rattle.list_mgr.specs.ListClosing.{IsListFull}
-use Rattle.list_mgr.specs.ListDesks.{ListSlot, lists_show}
+use Rattle.list_mgr.specs.ListDesks.{lists_show}
 use Rattle.list_mgr.specs.WholeLists as lists
 use Rattle.list_records.specs.Seen as seen_lists
 use Rattle.vis_update.specs.Records.{layered_window}
@@ -24,10 +22,10 @@ use Rattle.window_mgr.specs.Records.{state_of, state_showing}
 use Rattle.def_iface.specs.Meaning.{Loan}
 use Rattle.def_iface.specs.MenuMeaning.{MenuLoan}
 use Rattle.def_iface.specs.Stocked.{SlotView, IsFull}
+use Rattle.def_iface.specs.Stocks.{AllSlots, AreAllFull}
 use Rattle.window_mgr.specs.Begin.{IsEmptyDesk}
 use Rattle.window_mgr.specs.FullDesk.{FullDesk, FullState, IsRightState, layered_desk, layered_state, look_of}
 use Rattle.menu_mgr.specs.declared.menus.Menus.{Menus}
-use Rattle.menu_mgr.specs.MenuDesks.{IsMenuFull, MenuSlot}
 use Rattle.menu_mgr.specs.WholeMenus.{AreNoMenus, menus_of}
 use Rattle.desk_toolbox.specs.declared.events.Events.{Events}
 use Rattle.desk_toolbox.specs.declared.toolbox.Toolbox.{Toolbox}
@@ -49,26 +47,26 @@ right_bare shows s none right = record {
     same = ap (map (layered_window (look_of s.desk))) none ∙ sym (ap (map (layered_window (look_of now))) none)
 
 module _ {V : Type 0} {H : V → Type 0} (loan : Taken V H → Loan) {W : Type 0} {K : W → Type 0} (menu_loan : TakenMenu W K → MenuLoan) {U : Type 0} {J : U → Type 0} (control_loan : TakenControl U J → ControlLoan) {X : Type 0} {L : X → Type 0} (list_loan : TakenList X L → ListLoan) (width height bar : ℤ) (font : List ℕ) where
-  has_just_begun : (t : Toolbox V U W X H J K L) (slots : List SlotView) (kept : List MenuSlot) (held : List ControlSlot) (listed : List ListSlot) → All IsFull slots → All IsMenuFull kept → All IsControlFull held → All IsListFull listed → IsEmptyDesk loan width height bar font t.windows slots → t.activity ≡ Idle → t.events ≡ first_events → AreNoMenus width height t.menus
-      → t.controls.list.controls.items ≡ [] → t.controls.list.next ≡ Some 1 → t.lists.list.lists.items ≡ [] → t.lists.list.next ≡ Some 1 → IsJustBegun (toolbox_state loan menu_loan control_loan list_loan t slots kept held listed)
-  has_just_begun t slots kept held listed full_windows full_menus full full_lists empty idle events none bare next no_lists next_list =
+  has_just_begun : (t : Toolbox V U W X H J K L) (stocks : AllSlots) → AreAllFull stocks → IsEmptyDesk loan width height bar font t.windows stocks.windows → t.activity ≡ Idle → t.events ≡ first_events → AreNoMenus width height t.menus
+      → t.controls.list.controls.items ≡ [] → t.controls.list.next ≡ Some 1 → t.lists.list.lists.items ≡ [] → t.lists.list.next ≡ Some 1 → IsJustBegun (toolbox_state loan menu_loan control_loan list_loan t stocks)
+  has_just_begun t stocks full empty idle events none bare next no_lists next_list =
       let windows = ap (λ (d : FullDesk). d.windows) empty.desk in
       record {
-        right = right_bare (controls_show (lists_show (lists.records_of list_loan t.lists)) (records_of control_loan t.controls)) (state_of loan t.windows slots) windows empty.right;
+        right = right_bare (controls_show (lists_show (lists.records_of list_loan t.lists)) (records_of control_loan t.controls)) (state_of loan t.windows stocks.windows) windows empty.right;
         windows = windows;
-        stock = full_windows;
+        stock = full.windows;
         active = ap (λ (d : FullDesk). d.active) empty.desk;
         idle = idle;
         controls = ap (all_seen control_loan) bare;
         next_control = next;
-        held = full;
+        held = full.controls;
         lists = ap (seen_lists.all_seen list_loan) no_lists;
         next_list = next_list;
-        listed = full_lists;
+        listed = full.lists;
         shown = refl;
         titles = ap (λ (d : FullDesk). d.bar.titles) empty.desk;
         menus = ap (menus_of menu_loan) none.none;
-        kept = full_menus;
+        kept = full.menus;
         highlighted = none.highlighted;
         events = events;
       }
@@ -76,7 +74,7 @@ module _ {V : Type 0} {H : V → Type 0} (loan : Taken V H → Loan) {W : Type 0
   pub begins : {E : Type 0} (events : Events) (menus : Menus W K) (r : Result (Toolbox V U W X H J K L) E) → IfOk r (λ t. (slots : List SlotView) → All IsFull slots → IsEmptyDesk loan width height bar font t.windows slots)
       → IfOk r (λ t. t.activity ≡ Idle) → IfOk r (λ t. t.events ≡ events) → IfOk r (λ t. t.menus ≡ menus) → IfOk r (λ t. (t.controls.list.controls.items ≡ []) × (t.controls.list.next ≡ Some 1))
       → IfOk r (λ t. (t.lists.list.lists.items ≡ []) × (t.lists.list.next ≡ Some 1)) → events ≡ first_events → AreNoMenus width height menus
-      → IfOk r (λ t. (slots : List SlotView) (kept : List MenuSlot) (held : List ControlSlot) (listed : List ListSlot) → All IsFull slots → All IsMenuFull kept → All IsControlFull held → All IsListFull listed → IsJustBegun (toolbox_state loan menu_loan control_loan list_loan t slots kept held listed))
-  begins events menus (Ok t) empty idle kept same bare bare_lists are_first none = λ slots stored held listed full full_menus full_controls full_lists.
-      has_just_begun t slots stored held listed full full_menus full_controls full_lists (empty slots full) idle (kept ∙ are_first) (subst (λ m. AreNoMenus width height m) (sym same) none) bare.0 bare.1 bare_lists.0 bare_lists.1
+      → IfOk r (λ t. (stocks : AllSlots) → AreAllFull stocks → IsJustBegun (toolbox_state loan menu_loan control_loan list_loan t stocks))
+  begins events menus (Ok t) empty idle kept same bare bare_lists are_first none = λ stocks full.
+      has_just_begun t stocks full (empty stocks.windows full.windows) idle (kept ∙ are_first) (subst (λ m. AreNoMenus width height m) (sym same) none) bare.0 bare.1 bare_lists.0 bare_lists.1
   begins events menus (Err e) empty idle kept same bare bare_lists are_first none = tt

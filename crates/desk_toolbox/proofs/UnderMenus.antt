@@ -15,6 +15,7 @@ use Rattle.def_iface.specs.ListMeaning.{ListLoan}
 use Rattle.def_iface.specs.Meaning.{Loan}
 use Rattle.def_iface.specs.MenuMeaning.{MenuLoan}
 use Rattle.def_iface.specs.Stocked.{SlotView}
+use Rattle.def_iface.specs.Stocks.{AllSlots}
 use Rattle.desk_call.specs.declared.control.PointInWindow.{PointInWindow}
 use Rattle.window_list.specs.declared.window.Window.{Window}
 use Rattle.vis_update.specs.Records.{record_of}
@@ -23,9 +24,6 @@ use Rattle.window_mgr.specs.Finding.{record_with}
 use Rattle.window_mgr.specs.Records.{desk_of, look_on}
 use Rattle.window_mgr.specs.Whole.{IsWholeManager}
 use Rattle.window_mgr.proofs.FindLemmas.{record_at}
-use Rattle.control_mgr.specs.ControlDesks.{ControlSlot}
-use Rattle.list_mgr.specs.ListDesks.{ListSlot}
-use Rattle.menu_mgr.specs.MenuDesks.{MenuSlot}
 use Rattle.menu_mgr.specs.Pulling.{is_pulled_at, pulled_of}
 use Rattle.menu_mgr.specs.WholeMenus.{menus_of}
 use Rattle.desk_toolbox.specs.declared.toolbox.Toolbox.{Toolbox}
@@ -47,9 +45,9 @@ module _ {V : Type 0} {H : V → Type 0} (loan : Taken V H → Loan) {W : Type 0
 
   pub found_under : (covered : Bool) (pixel : Point) → in_plane asked.point ≡ true → pixel ≡ plus x.place asked.point
       → covered ≡ is_pulled_at (desk_of loan t.windows []) (pulled_of t.activity (menus_of menu_loan t.menus.list.menus.items)) pixel
-      → (slots : List SlotView) (kept : List MenuSlot) (held : List ControlSlot) (listed : List ListSlot) → covered ≡ is_under_menu (toolbox_state loan menu_loan control_loan list_loan t slots kept held listed) asked
-  found_under covered pixel within place is slots kept held listed =
-      let s : ToolboxState = toolbox_state loan menu_loan control_loan list_loan t slots kept held listed in
+      → (stocks : AllSlots) → covered ≡ is_under_menu (toolbox_state loan menu_loan control_loan list_loan t stocks) asked
+  found_under covered pixel within place is stocks =
+      let s : ToolboxState = toolbox_state loan menu_loan control_loan list_loan t stocks in
       is
       ∙ ap (is_pulled_at (desk_of loan t.windows []) (pulled_of t.activity (menus_of menu_loan t.menus.list.menus.items))) place
       ∙ sym (ap (λ b. b && option_map_or (λ w. is_on_menu s (plus w.place asked.point)) (record_with asked.window s.desk.windows.desk.windows) false) within

@@ -1,5 +1,5 @@
 -- What holds of a Toolbox and its stock between calls, and its state.
-use Rattle.std.specs.Prelude.{List, []}
+use Rattle.std.specs.Prelude.{[]}
 use Rattle.def_iface.specs.declared.taken.Taken.{Taken}
 use Rattle.def_iface.specs.declared.taken_control.TakenControl.{TakenControl}
 use Rattle.def_iface.specs.declared.taken_list.TakenList.{TakenList}
@@ -8,17 +8,16 @@ use Rattle.def_iface.specs.ControlMeaning.{ControlLoan}
 use Rattle.def_iface.specs.ListMeaning.{ListLoan}
 use Rattle.def_iface.specs.Meaning.{Loan}
 use Rattle.def_iface.specs.MenuMeaning.{MenuLoan}
-use Rattle.def_iface.specs.Stocked.{SlotView}
+use Rattle.def_iface.specs.Stocks.{AllSlots}
 use Rattle.window_mgr.specs.Records.{desk_of, state_of, state_showing}
 use Rattle.window_mgr.specs.Whole.{IsWholeManager}
 use Rattle.window_mgr.specs.DeskStates.{desk_with}
 use Rattle.window_update.specs.WholeUpdates.{IsWholeUpdates, opened}
-use Rattle.control_mgr.specs.ControlDesks.{ControlSlot, controls_show}
+use Rattle.control_mgr.specs.ControlDesks.{controls_show}
 use Rattle.control_mgr.specs.WholeControls.{AreWholeControls, IsTrackable, controls_state, records_of}
-use Rattle.list_mgr.specs.ListDesks.{ListSlot, lists_show}
+use Rattle.list_mgr.specs.ListDesks.{lists_show}
 use Rattle.list_mgr.specs.WholeLists.{AreWholeLists, lists_state}
 use Rattle.list_mgr.specs.WholeLists as lists
-use Rattle.menu_mgr.specs.MenuDesks.{MenuSlot}
 use Rattle.menu_mgr.specs.WholeMenus.{IsWholeMenus, menus_state}
 use Rattle.desk_toolbox.specs.declared.toolbox.Toolbox.{Toolbox}
 use Rattle.desk_toolbox.specs.ToolboxStates.{ToolboxState}
@@ -28,28 +27,25 @@ use Rattle.desk_toolbox.specs.ToolboxStates.{ToolboxState}
 module _ {V : Type 0} {H : V → Type 0} (loan : Taken V H → Loan) {W : Type 0} {K : W → Type 0} (menu_loan : TakenMenu W K → MenuLoan)
     {U : Type 0} {J : U → Type 0} (control_loan : TakenControl U J → ControlLoan) {X : Type 0} {L : X → Type 0} (list_loan : TakenList X L → ListLoan) where
   -- a Toolbox and the slots of its stocks, between calls: each of its managers is whole
-  pub record IsWholeToolbox (t : Toolbox V U W X H J K L) (slots : List SlotView) (kept : List MenuSlot) (held : List ControlSlot) (listed : List ListSlot) : Type 0 where
-    pub windows : IsWholeManager loan t.windows slots
+  pub record IsWholeToolbox (t : Toolbox V U W X H J K L) (stocks : AllSlots) : Type 0 where
+    pub windows : IsWholeManager loan t.windows stocks.windows
     pub updates : IsWholeUpdates loan t.activity t.windows t.updates
-    pub controls : AreWholeControls (desk_of loan t.windows []).windows (controls_state control_loan t.controls held)
+    pub controls : AreWholeControls (desk_of loan t.windows []).windows (controls_state control_loan t.controls stocks.controls)
     pub trackable : IsTrackable t.activity (records_of control_loan t.controls)
-    pub menus : IsWholeMenus menu_loan t.windows t.activity t.menus kept
-    pub lists : AreWholeLists (desk_of loan t.windows []).windows (lists_state list_loan t.lists listed)
+    pub menus : IsWholeMenus menu_loan t.windows t.activity t.menus stocks.menus
+    pub lists : AreWholeLists (desk_of loan t.windows []).windows (lists_state list_loan t.lists stocks.lists)
 
   -- a Toolbox by itself: it is whole over some slots
   pub record IsKeptToolbox (t : Toolbox V U W X H J K L) : Type 0 where
-    pub slots : List SlotView
-    pub kept : List MenuSlot
-    pub held : List ControlSlot
-    pub listed : List ListSlot
-    pub whole : IsWholeToolbox t slots kept held listed
+    pub stocks : AllSlots
+    pub whole : IsWholeToolbox t stocks
 
   -- its state: what its windows show of controls and lists is what these show
-  abbrev pub toolbox_state : Toolbox V U W X H J K L → List SlotView → List MenuSlot → List ControlSlot → List ListSlot → ToolboxState
-  toolbox_state t slots kept held listed = record {
-    desk = desk_with (opened t.activity t.updates) (state_showing (controls_show (lists_show (lists.records_of list_loan t.lists)) (records_of control_loan t.controls)) (state_of loan t.windows slots));
-    controls = controls_state control_loan t.controls held;
-    lists = lists_state list_loan t.lists listed;
-    menus = menus_state menu_loan t.menus kept;
+  abbrev pub toolbox_state : Toolbox V U W X H J K L → AllSlots → ToolboxState
+  toolbox_state t stocks = record {
+    desk = desk_with (opened t.activity t.updates) (state_showing (controls_show (lists_show (lists.records_of list_loan t.lists)) (records_of control_loan t.controls)) (state_of loan t.windows stocks.windows));
+    controls = controls_state control_loan t.controls stocks.controls;
+    lists = lists_state list_loan t.lists stocks.lists;
+    menus = menus_state menu_loan t.menus stocks.menus;
     events = t.events;
   }

@@ -2,6 +2,7 @@
 ghost use Rattle.std.specs.Prelude.{◌≡◌, pos, true, false, None, [], if◌then◌else◌, List, All, IfOk, IfErr, OnErr, MatchResult};
 ghost use Rattle.tb_geom.specs.Rects.{rect_holds};
 ghost use Rattle.def_iface.specs.Stocked.{SlotView, IsFull};
+ghost use Rattle.def_iface.specs.Stocks.{AllSlots, AreAllFull};
 ghost use Rattle.desk_ground.specs.Screens as screens;
 ghost use Rattle.window_mgr.specs.Begin.{IsEmptyDesk};
 ghost use Rattle.window_mgr.specs.Closing.{IsClosed};
@@ -10,14 +11,13 @@ ghost use Rattle.window_mgr.specs.Records.{desk_of, state_of, state_showing};
 ghost use Rattle.window_mgr.specs.Refused.{is_missing};
 ghost use Rattle.desk_call.specs.declared.activity.Activity.TheVariants.{Idle};
 ghost use Rattle.bit_map.specs.Bits.{bit, on_map};
-ghost use Rattle.control_mgr.specs.ControlClosing.{AreAllControlsClosed, IsControlFull};
-ghost use Rattle.control_mgr.specs.ControlDesks.{ControlSlot, controls_show};
+ghost use Rattle.control_mgr.specs.ControlClosing.{AreAllControlsClosed};
+ghost use Rattle.control_mgr.specs.ControlDesks.{controls_show};
 ghost use Rattle.control_mgr.specs.WholeControls.{records_of};
-ghost use Rattle.list_mgr.specs.ListClosing.{AreAllListsClosed, IsListFull};
-ghost use Rattle.list_mgr.specs.ListDesks.{ListSlot, lists_show};
+ghost use Rattle.list_mgr.specs.ListClosing.{AreAllListsClosed};
+ghost use Rattle.list_mgr.specs.ListDesks.{lists_show};
 ghost use Rattle.list_mgr.specs.WholeLists as whole_lists;
 ghost use Rattle.menu_mgr.specs.MenuClosing.{AreMenusClosed};
-ghost use Rattle.menu_mgr.specs.MenuDesks.{IsMenuFull, MenuSlot};
 ghost use Rattle.menu_mgr.specs.WholeMenus.{AreNoMenus, menus_of};
 ghost use Rattle.tb_geom.specs.declared.point.Point.{Point};
 ghost use Rattle.desk_toolbox.specs.Fronts.{screen_of};
@@ -34,9 +34,8 @@ use crate::{Activity, Call, Reply};
 use bit_map::BitMap;
 use control_mgr::Controls;
 use def_iface::{
-    ControlStock, Defined, DefinedControl, DefinedList, DefinedMenu, ListStock, MenuStock, Stock,
-    Stocked, StockedControls, StockedLists, StockedMenus, Taken, TakenControl, TakenList,
-    TakenMenu,
+    Defined, DefinedControl, DefinedList, DefinedMenu, Stock, StockedAll, Taken, TakenControl,
+    TakenList, TakenMenu,
 };
 use desk_ground::is_screen;
 use list_mgr::{Contents, Lists};
@@ -107,10 +106,9 @@ impl Toolbox {
             → IsEmptyDesk ⟦<Taken as Defined>⟧.loan width height bar font t.windows slots) }
         ensures idle { IfOk result (λ t. t.activity ≡ Idle) }
         ensures events { IfOk result (λ t. t.events ≡ first_events) }
-        ensures whole { IfOk result (λ t. (slots : List SlotView) (kept : List MenuSlot) (held : List ControlSlot) (listed : List ListSlot) → All IsFull slots
-            → All IsMenuFull kept → All IsControlFull held → All IsListFull listed → IsWholeToolbox ⟦<Taken as Defined>⟧.loan ⟦<TakenMenu as DefinedMenu>⟧.menu_loan ⟦<TakenControl as DefinedControl>⟧.control_loan ⟦<TakenList as DefinedList>⟧.list_loan t slots kept held listed) }
-        ensures just_begun { IfOk result (λ t. (slots : List SlotView) (kept : List MenuSlot) (held : List ControlSlot) (listed : List ListSlot) → All IsFull slots → All IsMenuFull kept → All IsControlFull held → All IsListFull listed
-            → IsJustBegun (toolbox_state ⟦<Taken as Defined>⟧.loan ⟦<TakenMenu as DefinedMenu>⟧.menu_loan ⟦<TakenControl as DefinedControl>⟧.control_loan ⟦<TakenList as DefinedList>⟧.list_loan t slots kept held listed)) }
+        ensures whole { IfOk result (λ t. (stocks : AllSlots) → AreAllFull stocks → IsWholeToolbox ⟦<Taken as Defined>⟧.loan ⟦<TakenMenu as DefinedMenu>⟧.menu_loan ⟦<TakenControl as DefinedControl>⟧.control_loan ⟦<TakenList as DefinedList>⟧.list_loan t stocks) }
+        ensures just_begun { IfOk result (λ t. (stocks : AllSlots) → AreAllFull stocks
+            → IsJustBegun (toolbox_state ⟦<Taken as Defined>⟧.loan ⟦<TakenMenu as DefinedMenu>⟧.menu_loan ⟦<TakenControl as DefinedControl>⟧.control_loan ⟦<TakenList as DefinedList>⟧.list_loan t stocks)) }
         ensures in_range { IfOk result (λ t. screens.is_screen width height bar ≡ true) }
         ensures refused { IfErr result (λ e. (e.font ≡ font)
             × (e.refusal ≡ (if screens.is_screen width height bar then Refusal.NoMemory else Refusal.OutOfRange))) }
@@ -149,8 +147,7 @@ impl Toolbox {
         ensures menus { IfOk result (λ t. t.menus ≡ parts.menus) }
         ensures controls { IfOk result (λ t. (t.controls.list.controls.items ≡ []) × (t.controls.list.next ≡ Some 1)) }
         ensures lists { IfOk result (λ t. (t.lists.list.lists.items ≡ []) × (t.lists.list.next ≡ Some 1)) }
-        ensures whole { IfOk result (λ t. (slots : List SlotView) (kept : List MenuSlot) (held : List ControlSlot) (listed : List ListSlot) → All IsFull slots
-            → All IsMenuFull kept → All IsControlFull held → All IsListFull listed → IsWholeToolbox ⟦<Taken as Defined>⟧.loan ⟦<TakenMenu as DefinedMenu>⟧.menu_loan ⟦<TakenControl as DefinedControl>⟧.control_loan ⟦<TakenList as DefinedList>⟧.list_loan t slots kept held listed) }
+        ensures whole { IfOk result (λ t. (stocks : AllSlots) → AreAllFull stocks → IsWholeToolbox ⟦<Taken as Defined>⟧.loan ⟦<TakenMenu as DefinedMenu>⟧.menu_loan ⟦<TakenControl as DefinedControl>⟧.control_loan ⟦<TakenList as DefinedList>⟧.list_loan t stocks) }
         ensures in_range { IfOk result (λ t. screens.is_screen width height bar ≡ true) }
         ensures refused { IfErr result (λ e. (e.font ≡ font)
             × (e.refusal ≡ (if screens.is_screen width height bar then Refusal.NoMemory else Refusal.OutOfRange))) }
@@ -181,8 +178,8 @@ impl Toolbox {
         requires { IsKeptToolbox ⟦<Taken as Defined>⟧.loan ⟦<TakenMenu as DefinedMenu>⟧.menu_loan ⟦<TakenControl as DefinedControl>⟧.control_loan ⟦<TakenList as DefinedList>⟧.list_loan self.now }
         ensures width { result.now.width ≡ self.now.windows.screen.width }
         ensures height { result.now.height ≡ self.now.windows.screen.height }
-        ensures shown { (slots : List SlotView) (kept : List MenuSlot) (held : List ControlSlot) (listed : List ListSlot) (p : Point) → on_map result.now p ≡ true
-            → bit result.now p ≡ screen_of (toolbox_state ⟦<Taken as Defined>⟧.loan ⟦<TakenMenu as DefinedMenu>⟧.menu_loan ⟦<TakenControl as DefinedControl>⟧.control_loan ⟦<TakenList as DefinedList>⟧.list_loan self.now slots kept held listed) p }
+        ensures shown { (stocks : AllSlots) (p : Point) → on_map result.now p ≡ true
+            → bit result.now p ≡ screen_of (toolbox_state ⟦<Taken as Defined>⟧.loan ⟦<TakenMenu as DefinedMenu>⟧.menu_loan ⟦<TakenControl as DefinedControl>⟧.control_loan ⟦<TakenList as DefinedList>⟧.list_loan self.now stocks) p }
     {
         match self.activity {
             Activity::Pulling(_) => self.menus.screen(),
@@ -239,19 +236,13 @@ impl Toolbox {
     /// first where several would do stands with the call. While something is open, a call that may not
     /// come then is refused for that, but first for a name that no table has, or bytes without their form.
     pub fn call(&mut self, call: &Call<'_>, stock: &mut Stock) -> Result<Reply, Refusal>
-        requires { IsWholeToolbox ⟦<Taken as Defined>⟧.loan ⟦<TakenMenu as DefinedMenu>⟧.menu_loan ⟦<TakenControl as DefinedControl>⟧.control_loan ⟦<TakenList as DefinedList>⟧.list_loan self.old
-            (⟦<Stock as Stocked>⟧.slots stock.old) (⟦<MenuStock as StockedMenus>⟧.menu_slots stock.old.menus) (⟦<ControlStock as StockedControls>⟧.control_slots stock.old.controls) (⟦<ListStock as StockedLists>⟧.list_slots stock.old.lists) }
-        ensures whole { IsWholeToolbox ⟦<Taken as Defined>⟧.loan ⟦<TakenMenu as DefinedMenu>⟧.menu_loan ⟦<TakenControl as DefinedControl>⟧.control_loan ⟦<TakenList as DefinedList>⟧.list_loan self.new
-            (⟦<Stock as Stocked>⟧.slots stock.new) (⟦<MenuStock as StockedMenus>⟧.menu_slots stock.new.menus) (⟦<ControlStock as StockedControls>⟧.control_slots stock.new.controls) (⟦<ListStock as StockedLists>⟧.list_slots stock.new.lists) }
+        requires { IsWholeToolbox ⟦<Taken as Defined>⟧.loan ⟦<TakenMenu as DefinedMenu>⟧.menu_loan ⟦<TakenControl as DefinedControl>⟧.control_loan ⟦<TakenList as DefinedList>⟧.list_loan self.old (⟦<Stock as StockedAll>⟧.all_slots stock.old) }
+        ensures whole { IsWholeToolbox ⟦<Taken as Defined>⟧.loan ⟦<TakenMenu as DefinedMenu>⟧.menu_loan ⟦<TakenControl as DefinedControl>⟧.control_loan ⟦<TakenList as DefinedList>⟧.list_loan self.new (⟦<Stock as StockedAll>⟧.all_slots stock.new) }
         ensures step { IsStep call.now result
-            (toolbox_state ⟦<Taken as Defined>⟧.loan ⟦<TakenMenu as DefinedMenu>⟧.menu_loan ⟦<TakenControl as DefinedControl>⟧.control_loan ⟦<TakenList as DefinedList>⟧.list_loan self.old
-            (⟦<Stock as Stocked>⟧.slots stock.old) (⟦<MenuStock as StockedMenus>⟧.menu_slots stock.old.menus) (⟦<ControlStock as StockedControls>⟧.control_slots stock.old.controls) (⟦<ListStock as StockedLists>⟧.list_slots stock.old.lists))
-            (toolbox_state ⟦<Taken as Defined>⟧.loan ⟦<TakenMenu as DefinedMenu>⟧.menu_loan ⟦<TakenControl as DefinedControl>⟧.control_loan ⟦<TakenList as DefinedList>⟧.list_loan self.new
-            (⟦<Stock as Stocked>⟧.slots stock.new) (⟦<MenuStock as StockedMenus>⟧.menu_slots stock.new.menus) (⟦<ControlStock as StockedControls>⟧.control_slots stock.new.controls) (⟦<ListStock as StockedLists>⟧.list_slots stock.new.lists)) }
-        ensures right { IsRightState (toolbox_state ⟦<Taken as Defined>⟧.loan ⟦<TakenMenu as DefinedMenu>⟧.menu_loan ⟦<TakenControl as DefinedControl>⟧.control_loan ⟦<TakenList as DefinedList>⟧.list_loan self.old
-            (⟦<Stock as Stocked>⟧.slots stock.old) (⟦<MenuStock as StockedMenus>⟧.menu_slots stock.old.menus) (⟦<ControlStock as StockedControls>⟧.control_slots stock.old.controls) (⟦<ListStock as StockedLists>⟧.list_slots stock.old.lists)).desk.windows
-            → IsRightState (toolbox_state ⟦<Taken as Defined>⟧.loan ⟦<TakenMenu as DefinedMenu>⟧.menu_loan ⟦<TakenControl as DefinedControl>⟧.control_loan ⟦<TakenList as DefinedList>⟧.list_loan self.new
-            (⟦<Stock as Stocked>⟧.slots stock.new) (⟦<MenuStock as StockedMenus>⟧.menu_slots stock.new.menus) (⟦<ControlStock as StockedControls>⟧.control_slots stock.new.controls) (⟦<ListStock as StockedLists>⟧.list_slots stock.new.lists)).desk.windows }
+            (toolbox_state ⟦<Taken as Defined>⟧.loan ⟦<TakenMenu as DefinedMenu>⟧.menu_loan ⟦<TakenControl as DefinedControl>⟧.control_loan ⟦<TakenList as DefinedList>⟧.list_loan self.old (⟦<Stock as StockedAll>⟧.all_slots stock.old))
+            (toolbox_state ⟦<Taken as Defined>⟧.loan ⟦<TakenMenu as DefinedMenu>⟧.menu_loan ⟦<TakenControl as DefinedControl>⟧.control_loan ⟦<TakenList as DefinedList>⟧.list_loan self.new (⟦<Stock as StockedAll>⟧.all_slots stock.new)) }
+        ensures right { IsRightState (toolbox_state ⟦<Taken as Defined>⟧.loan ⟦<TakenMenu as DefinedMenu>⟧.menu_loan ⟦<TakenControl as DefinedControl>⟧.control_loan ⟦<TakenList as DefinedList>⟧.list_loan self.old (⟦<Stock as StockedAll>⟧.all_slots stock.old)).desk.windows
+            → IsRightState (toolbox_state ⟦<Taken as Defined>⟧.loan ⟦<TakenMenu as DefinedMenu>⟧.menu_loan ⟦<TakenControl as DefinedControl>⟧.control_loan ⟦<TakenList as DefinedList>⟧.list_loan self.new (⟦<Stock as StockedAll>⟧.all_slots stock.new)).desk.windows }
     {
         match self.activity.admit(call.standing()) {
             Ok(()) => self.perform(call, stock),
@@ -269,25 +260,17 @@ impl Toolbox {
         calls: &[Call<'_>],
         stock: &mut Stock,
     ) -> Result<Vec<Result<Reply, Refusal>>, AllocError>
-        requires { IsWholeToolbox ⟦<Taken as Defined>⟧.loan ⟦<TakenMenu as DefinedMenu>⟧.menu_loan ⟦<TakenControl as DefinedControl>⟧.control_loan ⟦<TakenList as DefinedList>⟧.list_loan self.old
-            (⟦<Stock as Stocked>⟧.slots stock.old) (⟦<MenuStock as StockedMenus>⟧.menu_slots stock.old.menus) (⟦<ControlStock as StockedControls>⟧.control_slots stock.old.controls) (⟦<ListStock as StockedLists>⟧.list_slots stock.old.lists) }
-        ensures whole { IsWholeToolbox ⟦<Taken as Defined>⟧.loan ⟦<TakenMenu as DefinedMenu>⟧.menu_loan ⟦<TakenControl as DefinedControl>⟧.control_loan ⟦<TakenList as DefinedList>⟧.list_loan self.new
-            (⟦<Stock as Stocked>⟧.slots stock.new) (⟦<MenuStock as StockedMenus>⟧.menu_slots stock.new.menus) (⟦<ControlStock as StockedControls>⟧.control_slots stock.new.controls) (⟦<ListStock as StockedLists>⟧.list_slots stock.new.lists) }
+        requires { IsWholeToolbox ⟦<Taken as Defined>⟧.loan ⟦<TakenMenu as DefinedMenu>⟧.menu_loan ⟦<TakenControl as DefinedControl>⟧.control_loan ⟦<TakenList as DefinedList>⟧.list_loan self.old (⟦<Stock as StockedAll>⟧.all_slots stock.old) }
+        ensures whole { IsWholeToolbox ⟦<Taken as Defined>⟧.loan ⟦<TakenMenu as DefinedMenu>⟧.menu_loan ⟦<TakenControl as DefinedControl>⟧.control_loan ⟦<TakenList as DefinedList>⟧.list_loan self.new (⟦<Stock as StockedAll>⟧.all_slots stock.new) }
         ensures run { IfOk result (λ answers. IsRunOfCalls
-            (toolbox_state ⟦<Taken as Defined>⟧.loan ⟦<TakenMenu as DefinedMenu>⟧.menu_loan ⟦<TakenControl as DefinedControl>⟧.control_loan ⟦<TakenList as DefinedList>⟧.list_loan self.old
-            (⟦<Stock as Stocked>⟧.slots stock.old) (⟦<MenuStock as StockedMenus>⟧.menu_slots stock.old.menus) (⟦<ControlStock as StockedControls>⟧.control_slots stock.old.controls) (⟦<ListStock as StockedLists>⟧.list_slots stock.old.lists))
+            (toolbox_state ⟦<Taken as Defined>⟧.loan ⟦<TakenMenu as DefinedMenu>⟧.menu_loan ⟦<TakenControl as DefinedControl>⟧.control_loan ⟦<TakenList as DefinedList>⟧.list_loan self.old (⟦<Stock as StockedAll>⟧.all_slots stock.old))
             calls.now answers.items
-            (toolbox_state ⟦<Taken as Defined>⟧.loan ⟦<TakenMenu as DefinedMenu>⟧.menu_loan ⟦<TakenControl as DefinedControl>⟧.control_loan ⟦<TakenList as DefinedList>⟧.list_loan self.new
-            (⟦<Stock as Stocked>⟧.slots stock.new) (⟦<MenuStock as StockedMenus>⟧.menu_slots stock.new.menus) (⟦<ControlStock as StockedControls>⟧.control_slots stock.new.controls) (⟦<ListStock as StockedLists>⟧.list_slots stock.new.lists))) }
+            (toolbox_state ⟦<Taken as Defined>⟧.loan ⟦<TakenMenu as DefinedMenu>⟧.menu_loan ⟦<TakenControl as DefinedControl>⟧.control_loan ⟦<TakenList as DefinedList>⟧.list_loan self.new (⟦<Stock as StockedAll>⟧.all_slots stock.new))) }
         ensures kept { OnErr result (IsToolboxUnchanged
-            (toolbox_state ⟦<Taken as Defined>⟧.loan ⟦<TakenMenu as DefinedMenu>⟧.menu_loan ⟦<TakenControl as DefinedControl>⟧.control_loan ⟦<TakenList as DefinedList>⟧.list_loan self.old
-            (⟦<Stock as Stocked>⟧.slots stock.old) (⟦<MenuStock as StockedMenus>⟧.menu_slots stock.old.menus) (⟦<ControlStock as StockedControls>⟧.control_slots stock.old.controls) (⟦<ListStock as StockedLists>⟧.list_slots stock.old.lists))
-            (toolbox_state ⟦<Taken as Defined>⟧.loan ⟦<TakenMenu as DefinedMenu>⟧.menu_loan ⟦<TakenControl as DefinedControl>⟧.control_loan ⟦<TakenList as DefinedList>⟧.list_loan self.new
-            (⟦<Stock as Stocked>⟧.slots stock.new) (⟦<MenuStock as StockedMenus>⟧.menu_slots stock.new.menus) (⟦<ControlStock as StockedControls>⟧.control_slots stock.new.controls) (⟦<ListStock as StockedLists>⟧.list_slots stock.new.lists))) }
-        ensures right { IsRightState (toolbox_state ⟦<Taken as Defined>⟧.loan ⟦<TakenMenu as DefinedMenu>⟧.menu_loan ⟦<TakenControl as DefinedControl>⟧.control_loan ⟦<TakenList as DefinedList>⟧.list_loan self.old
-            (⟦<Stock as Stocked>⟧.slots stock.old) (⟦<MenuStock as StockedMenus>⟧.menu_slots stock.old.menus) (⟦<ControlStock as StockedControls>⟧.control_slots stock.old.controls) (⟦<ListStock as StockedLists>⟧.list_slots stock.old.lists)).desk.windows
-            → IsRightState (toolbox_state ⟦<Taken as Defined>⟧.loan ⟦<TakenMenu as DefinedMenu>⟧.menu_loan ⟦<TakenControl as DefinedControl>⟧.control_loan ⟦<TakenList as DefinedList>⟧.list_loan self.new
-            (⟦<Stock as Stocked>⟧.slots stock.new) (⟦<MenuStock as StockedMenus>⟧.menu_slots stock.new.menus) (⟦<ControlStock as StockedControls>⟧.control_slots stock.new.controls) (⟦<ListStock as StockedLists>⟧.list_slots stock.new.lists)).desk.windows }
+            (toolbox_state ⟦<Taken as Defined>⟧.loan ⟦<TakenMenu as DefinedMenu>⟧.menu_loan ⟦<TakenControl as DefinedControl>⟧.control_loan ⟦<TakenList as DefinedList>⟧.list_loan self.old (⟦<Stock as StockedAll>⟧.all_slots stock.old))
+            (toolbox_state ⟦<Taken as Defined>⟧.loan ⟦<TakenMenu as DefinedMenu>⟧.menu_loan ⟦<TakenControl as DefinedControl>⟧.control_loan ⟦<TakenList as DefinedList>⟧.list_loan self.new (⟦<Stock as StockedAll>⟧.all_slots stock.new))) }
+        ensures right { IsRightState (toolbox_state ⟦<Taken as Defined>⟧.loan ⟦<TakenMenu as DefinedMenu>⟧.menu_loan ⟦<TakenControl as DefinedControl>⟧.control_loan ⟦<TakenList as DefinedList>⟧.list_loan self.old (⟦<Stock as StockedAll>⟧.all_slots stock.old)).desk.windows
+            → IsRightState (toolbox_state ⟦<Taken as Defined>⟧.loan ⟦<TakenMenu as DefinedMenu>⟧.menu_loan ⟦<TakenControl as DefinedControl>⟧.control_loan ⟦<TakenList as DefinedList>⟧.list_loan self.new (⟦<Stock as StockedAll>⟧.all_slots stock.new)).desk.windows }
     {
         let mut answers = Vec::with_capacity(self.alloc, calls.len())?;
         for call in calls {
@@ -302,12 +285,12 @@ impl Toolbox {
     /// memory, and changes nothing that a call can tell.
     pub fn pixels_right(&mut self, window: u64, rect: Rect) -> Result<bool, Refusal>
         requires { IsKeptToolbox ⟦<Taken as Defined>⟧.loan ⟦<TakenMenu as DefinedMenu>⟧.menu_loan ⟦<TakenControl as DefinedControl>⟧.control_loan ⟦<TakenList as DefinedList>⟧.list_loan self.old }
-        ensures whole { (slots : List SlotView) (kept : List MenuSlot) (held : List ControlSlot) (listed : List ListSlot)
-            → IsWholeToolbox ⟦<Taken as Defined>⟧.loan ⟦<TakenMenu as DefinedMenu>⟧.menu_loan ⟦<TakenControl as DefinedControl>⟧.control_loan ⟦<TakenList as DefinedList>⟧.list_loan self.old slots kept held listed
-            → IsWholeToolbox ⟦<Taken as Defined>⟧.loan ⟦<TakenMenu as DefinedMenu>⟧.menu_loan ⟦<TakenControl as DefinedControl>⟧.control_loan ⟦<TakenList as DefinedList>⟧.list_loan self.new slots kept held listed }
-        ensures same { (slots : List SlotView) (kept : List MenuSlot) (held : List ControlSlot) (listed : List ListSlot)
-            → toolbox_state ⟦<Taken as Defined>⟧.loan ⟦<TakenMenu as DefinedMenu>⟧.menu_loan ⟦<TakenControl as DefinedControl>⟧.control_loan ⟦<TakenList as DefinedList>⟧.list_loan self.new slots kept held listed
-            ≡ toolbox_state ⟦<Taken as Defined>⟧.loan ⟦<TakenMenu as DefinedMenu>⟧.menu_loan ⟦<TakenControl as DefinedControl>⟧.control_loan ⟦<TakenList as DefinedList>⟧.list_loan self.old slots kept held listed }
+        ensures whole { (stocks : AllSlots)
+            → IsWholeToolbox ⟦<Taken as Defined>⟧.loan ⟦<TakenMenu as DefinedMenu>⟧.menu_loan ⟦<TakenControl as DefinedControl>⟧.control_loan ⟦<TakenList as DefinedList>⟧.list_loan self.old stocks
+            → IsWholeToolbox ⟦<Taken as Defined>⟧.loan ⟦<TakenMenu as DefinedMenu>⟧.menu_loan ⟦<TakenControl as DefinedControl>⟧.control_loan ⟦<TakenList as DefinedList>⟧.list_loan self.new stocks }
+        ensures same { (stocks : AllSlots)
+            → toolbox_state ⟦<Taken as Defined>⟧.loan ⟦<TakenMenu as DefinedMenu>⟧.menu_loan ⟦<TakenControl as DefinedControl>⟧.control_loan ⟦<TakenList as DefinedList>⟧.list_loan self.new stocks
+            ≡ toolbox_state ⟦<Taken as Defined>⟧.loan ⟦<TakenMenu as DefinedMenu>⟧.menu_loan ⟦<TakenControl as DefinedControl>⟧.control_loan ⟦<TakenList as DefinedList>⟧.list_loan self.old stocks }
         ensures right { let state = state_showing (controls_show (lists_show (whole_lists.records_of ⟦<TakenList as DefinedList>⟧.list_loan self.old.lists))
             (records_of ⟦<TakenControl as DefinedControl>⟧.control_loan self.old.controls))
             (state_of ⟦<Taken as Defined>⟧.loan self.old.windows []) in MatchResult result
@@ -325,16 +308,15 @@ impl Toolbox {
     /// Ends the desk: the definition of every window, control, list and menu is disposed of, and put back Closed into its slot,
     /// while every other slot stays as it was. Takes no memory, and refuses nothing.
     pub fn close(self, stock: &mut Stock)
-        requires { IsWholeToolbox ⟦<Taken as Defined>⟧.loan ⟦<TakenMenu as DefinedMenu>⟧.menu_loan ⟦<TakenControl as DefinedControl>⟧.control_loan ⟦<TakenList as DefinedList>⟧.list_loan self
-            (⟦<Stock as Stocked>⟧.slots stock.old) (⟦<MenuStock as StockedMenus>⟧.menu_slots stock.old.menus) (⟦<ControlStock as StockedControls>⟧.control_slots stock.old.controls) (⟦<ListStock as StockedLists>⟧.list_slots stock.old.lists) }
-        ensures windows { IsClosed (desk_of ⟦<Taken as Defined>⟧.loan self.windows (⟦<Stock as Stocked>⟧.slots stock.old)).windows
-            (⟦<Stock as Stocked>⟧.slots stock.old) (⟦<Stock as Stocked>⟧.slots stock.new) }
+        requires { IsWholeToolbox ⟦<Taken as Defined>⟧.loan ⟦<TakenMenu as DefinedMenu>⟧.menu_loan ⟦<TakenControl as DefinedControl>⟧.control_loan ⟦<TakenList as DefinedList>⟧.list_loan self (⟦<Stock as StockedAll>⟧.all_slots stock.old) }
+        ensures windows { IsClosed (desk_of ⟦<Taken as Defined>⟧.loan self.windows (⟦<Stock as StockedAll>⟧.all_slots stock.old).windows).windows
+            (⟦<Stock as StockedAll>⟧.all_slots stock.old).windows (⟦<Stock as StockedAll>⟧.all_slots stock.new).windows }
         ensures controls { AreAllControlsClosed (records_of ⟦<TakenControl as DefinedControl>⟧.control_loan self.controls)
-            (⟦<ControlStock as StockedControls>⟧.control_slots stock.old.controls) (⟦<ControlStock as StockedControls>⟧.control_slots stock.new.controls) }
+            (⟦<Stock as StockedAll>⟧.all_slots stock.old).controls (⟦<Stock as StockedAll>⟧.all_slots stock.new).controls }
         ensures lists { AreAllListsClosed (whole_lists.records_of ⟦<TakenList as DefinedList>⟧.list_loan self.lists)
-            (⟦<ListStock as StockedLists>⟧.list_slots stock.old.lists) (⟦<ListStock as StockedLists>⟧.list_slots stock.new.lists) }
+            (⟦<Stock as StockedAll>⟧.all_slots stock.old).lists (⟦<Stock as StockedAll>⟧.all_slots stock.new).lists }
         ensures menus { AreMenusClosed (menus_of ⟦<TakenMenu as DefinedMenu>⟧.menu_loan self.menus.list.menus.items)
-            (⟦<MenuStock as StockedMenus>⟧.menu_slots stock.old.menus) (⟦<MenuStock as StockedMenus>⟧.menu_slots stock.new.menus) }
+            (⟦<Stock as StockedAll>⟧.all_slots stock.old).menus (⟦<Stock as StockedAll>⟧.all_slots stock.new).menus }
     {
         let Toolbox {
             windows,

@@ -1,6 +1,5 @@
 -- The menu that is pulled down, over the base image.
 use Rattle.std.proofs.Common.{◌≡◌, ℕ, List, [], Option, pos, sym, ap, ◌∙◌, subst}
-use Rattle.tb_geom.specs.Points.{PixelSet}
 use Rattle.bit_map.specs.Bits.{Bits, bit}
 use Rattle.bit_map.proofs.BitsLemmas.{on_map-same}
 use Rattle.def_iface.specs.declared.taken.Taken.{Taken}
@@ -29,7 +28,7 @@ use Rattle.desk_toolbox.specs.Fronts.{pulled}
 use Rattle.desk_toolbox.specs.ToolboxStates.{ToolboxState}
 use Rattle.desk_toolbox.specs.WholeToolbox.{toolbox_state}
 use Rattle.scratch_paint.specs.Paints.{IsPaintedDesk}
-use Rattle.scratch_paint.specs.Screens.{IsPaintedScreen}
+use Rattle.scratch_paint.specs.Screens.{IsPaintedScreen, no_slots}
 use Rattle.scratch_paint.proofs.DifferenceLemmas.{on_its_screen, shown_alike}
 
 -- the menu was drawn over the base image that was painted from nothing
@@ -49,9 +48,9 @@ pub screen_painted : {V : Type 0} {H : V → Type 0} (loan : Taken V H → Loan)
     → windows ≡ t.windows → menus ≡ t.menus → activity ≡ t.activity → font ≡ windows.font
     → IsPaintedDesk (desk_showing (controls_show (lists_show (lists.records_of list_loan t.lists)) (controls.records_of control_loan t.controls)) (desk_of loan windows [])) base
     → IsShown font (pulled_of activity (menus_of menu_loan menus.list.menus.items)) base new
-    → IsPaintedScreen (toolbox_state loan menu_loan control_loan list_loan t [] [] [] []) new
+    → IsPaintedScreen (toolbox_state loan menu_loan control_loan list_loan t no_slots) new
 screen_painted loan menu_loan control_loan list_loan t windows menus activity font base new same_windows same_menus same_activity letters painted shown =
-    over_base (toolbox_state loan menu_loan control_loan list_loan t [] [] [] []) base new
+    over_base (toolbox_state loan menu_loan control_loan list_loan t no_slots) base new
     (subst (λ w. IsPaintedDesk (desk_showing (controls_show (lists_show (lists.records_of list_loan t.lists)) (controls.records_of control_loan t.controls)) (desk_of loan w [])) base) same_windows painted)
     (subst (λ (x : List ℕ × Option Pulled). IsShown x.0 x.1 base new)
     (λ i. ((letters ∙ ap (λ w. w.font) same_windows) i, pulled_of (same_activity i) (menus_of menu_loan (same_menus i).list.menus.items))) shown)

@@ -8,7 +8,7 @@ ghost use Rattle.window_mgr.specs.Records.{desk_of, desk_showing};
 ghost use Rattle.window_mgr.specs.Whole.{IsSettled};
 ghost use Rattle.desk_toolbox.specs.WholeToolbox.{IsKeptToolbox, toolbox_state};
 ghost use Rattle.scratch_paint.specs.Paints.{IsPaintedDesk, look_in, windows_value};
-ghost use Rattle.scratch_paint.specs.Screens.{IsPaintedScreen};
+ghost use Rattle.scratch_paint.specs.Screens.{IsPaintedScreen, no_slots};
 
 use crate::windows::paint_window;
 use bit_map::BitMap;
@@ -32,7 +32,7 @@ use window_paint::Showing;
 pub fn paint(alloc: Global, toolbox: &Toolbox) -> Result<BitMap, AllocError>
     requires { IsKeptToolbox ⟦<Taken as Defined>⟧.loan ⟦<TakenMenu as DefinedMenu>⟧.menu_loan ⟦<TakenControl as DefinedControl>⟧.control_loan ⟦<TakenList as DefinedList>⟧.list_loan toolbox.now }
     ensures { IfOk result (IsPaintedScreen
-        (toolbox_state ⟦<Taken as Defined>⟧.loan ⟦<TakenMenu as DefinedMenu>⟧.menu_loan ⟦<TakenControl as DefinedControl>⟧.control_loan ⟦<TakenList as DefinedList>⟧.list_loan toolbox.now [] [] [] [])) }
+        (toolbox_state ⟦<Taken as Defined>⟧.loan ⟦<TakenMenu as DefinedMenu>⟧.menu_loan ⟦<TakenControl as DefinedControl>⟧.control_loan ⟦<TakenList as DefinedList>⟧.list_loan toolbox.now no_slots)) }
 {
     let windows = toolbox.windows();
     let mut image = paint_base(alloc, windows, &toolbox.contents())?;

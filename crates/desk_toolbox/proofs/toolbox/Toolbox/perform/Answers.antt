@@ -20,16 +20,16 @@ use Rattle.desk_toolbox.proofs.UpdatesBeside.{updates_after_frame, updates_after
 use Rattle.desk_toolbox.proofs.toolbox.Toolbox.perform.Goals as goal
 
 pub returns-in-Ok-tell_update-clause-whole : goal.returns-in-Ok-tell_update-clause-whole
-returns-in-Ok-tell_update-clause-whole g c = c.in-Ok-tell_update.ensures.whole _ _ _ _ c.requires.whole
+returns-in-Ok-tell_update-clause-whole g c = c.in-Ok-tell_update.ensures.whole _ c.requires.whole
 
 pub returns-in-Ok-tell_update-clause-step : goal.returns-in-Ok-tell_update-clause-step
-returns-in-Ok-tell_update-clause-step g c = rw c.in-Update.is (Ok c.in-Ok-tell_update.reply, refl, c.in-Ok-tell_update.ensures.step _ _ _ _ c.requires.whole)
+returns-in-Ok-tell_update-clause-step g c = rw c.in-Update.is (Ok c.in-Ok-tell_update.reply, refl, c.in-Ok-tell_update.ensures.step _ c.requires.whole)
 
 pub returns-in-Err-tell_update-clause-whole : goal.returns-in-Err-tell_update-clause-whole
-returns-in-Err-tell_update-clause-whole g c = c.in-Err-tell_update.ensures.whole _ _ _ _ c.requires.whole
+returns-in-Err-tell_update-clause-whole g c = c.in-Err-tell_update.ensures.whole _ c.requires.whole
 
 pub returns-in-Err-tell_update-clause-step : goal.returns-in-Err-tell_update-clause-step
-returns-in-Err-tell_update-clause-step g c = rw c.in-Update.is (Err c.in-Err-tell_update.refusal, refl, c.in-Err-tell_update.ensures.step _ _ _ _ c.requires.whole)
+returns-in-Err-tell_update-clause-step g c = rw c.in-Update.is (Err c.in-Err-tell_update.refusal, refl, c.in-Err-tell_update.ensures.step _ c.requires.whole)
 
 pub returns-in-Ok-perform-clause-whole : goal.returns-in-Ok-perform-clause-whole
 returns-in-Ok-perform-clause-whole g c =
@@ -148,16 +148,16 @@ returns-in-Err-perform-2-clause-step g c =
     )
 
 pub returns-in-Ok-answer_event-clause-whole : goal.returns-in-Ok-answer_event-clause-whole
-returns-in-Ok-answer_event-clause-whole g c = c.in-Ok-answer_event.ensures.whole _ _ _ _ c.requires.whole
+returns-in-Ok-answer_event-clause-whole g c = c.in-Ok-answer_event.ensures.whole _ c.requires.whole
 
 pub returns-in-Ok-answer_event-clause-step : goal.returns-in-Ok-answer_event-clause-step
-returns-in-Ok-answer_event-clause-step g c = rw c.in-Event.is (Ok c.in-Ok-answer_event.reply, refl, c.in-Ok-answer_event.ensures.step _ _ _ _)
+returns-in-Ok-answer_event-clause-step g c = rw c.in-Event.is (Ok c.in-Ok-answer_event.reply, refl, c.in-Ok-answer_event.ensures.step _)
 
 pub returns-in-Err-answer_event-clause-whole : goal.returns-in-Err-answer_event-clause-whole
-returns-in-Err-answer_event-clause-whole g c = c.in-Err-answer_event.ensures.whole _ _ _ _ c.requires.whole
+returns-in-Err-answer_event-clause-whole g c = c.in-Err-answer_event.ensures.whole _ c.requires.whole
 
 pub returns-in-Err-answer_event-clause-step : goal.returns-in-Err-answer_event-clause-step
-returns-in-Err-answer_event-clause-step g c = rw c.in-Event.is (Err c.in-Err-answer_event.refusal, refl, c.in-Err-answer_event.ensures.step _ _ _ _)
+returns-in-Err-answer_event-clause-step g c = rw c.in-Event.is (Err c.in-Err-answer_event.refusal, refl, c.in-Err-answer_event.ensures.step _)
 
 pub returns-in-Ok-tell_control-clause-whole : goal.returns-in-Ok-tell_control-clause-whole
 returns-in-Ok-tell_control-clause-whole g c = c.in-Ok-tell_control.ensures.whole

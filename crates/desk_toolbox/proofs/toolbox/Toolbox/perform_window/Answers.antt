@@ -2,12 +2,12 @@ use Rattle.std.proofs.Common.{refl, ap, ◌∙◌, ◌≡◌, None, sym, subst}
 use Rattle.std.proofs.lemmas.List.Elements.{All-weaker}
 use Rattle.def_iface.specs.contracts.control_stock.ControlStockStockedControls.TheImpl as control_stock
 use Rattle.def_iface.specs.contracts.list_stock.ListStockStockedLists.TheImpl as list_stock
-use Rattle.def_iface.specs.contracts.menu_stock.MenuStockStockedMenus.TheImpl as menu_stock
+use Rattle.def_iface.specs.contracts.stock.StockStockedAll.TheImpl as stock
 use Rattle.def_iface.specs.contracts.taken.TakenDefined.TheImpl as taken
 use Rattle.def_iface.specs.contracts.taken_control.TakenControlDefinedControl.TheImpl as taken_control
 use Rattle.def_iface.specs.contracts.taken_list.TakenListDefinedList.TheImpl as taken_list
 use Rattle.def_iface.specs.contracts.taken_menu.TakenMenuDefinedMenu.TheImpl as taken_menu
-use Rattle.def_iface.specs.contracts.window_stock.WindowStockStocked.TheImpl as stock
+use Rattle.def_iface.specs.contracts.window_stock.WindowStockStocked.TheImpl as window_stock
 use Rattle.desk_call.specs.Gates.{gate, window_standing}
 use Rattle.window_mgr.specs.DeskStates.{desk_with}
 use Rattle.window_update.specs.WholeUpdates.{opened}
@@ -81,15 +81,14 @@ returns-in-Ok-clause-whole g c =
     let menu_loan = (taken_menu.menu_loan-value g.dyn-3).it in
     let control_loan = (taken_control.control_loan-value g.dyn-2).it in
     let slots = (control_stock.control_slots-value g.dyn-2).it in
-    let menu_slots = (menu_stock.menu_slots-value g.dyn-3).it in
-    let window_slots = (stock.slots-value g.dyn-1).it in
+    let window_slots = (window_stock.slots-value g.dyn-1).it in
     let list_loan = (taken_list.list_loan-value g.dyn-4).it in
     let list_slots = (list_stock.list_slots-value g.dyn-4).it in
     let step = returns-in-Ok-clause-step g c in
     let its = step.0.2 in
     let told = c.follow.ensures _ c.in-Ok.ensures.windows in
     let may : gate mid.activity (window_standing c.args.call.now) ≡ None = ap (λ a. gate a (window_standing c.args.call.now)) c.in-Ok.ensures.activity ∙ c.requires.admitted in
-    let before : ToolboxState = toolbox_state loan menu_loan control_loan list_loan old (window_slots c.args.stock.now.windows) (menu_slots c.args.stock.now.menus) (slots c.args.stock.now.controls) (list_slots c.args.stock.now.lists) in
+    let before : ToolboxState = toolbox_state loan menu_loan control_loan list_loan old ((stock.all_slots-value g.dyn-1 g.dyn-2 g.dyn-4 g.dyn-3).it c.args.stock.now) in
     let after : ToolboxState = record {
       desk = desk_with (opened mid.activity mid.updates) (state_showing (controls_show (lists_show (lists.records_of list_loan c.forget_lists.new.lists)) (records_of control_loan c.forget_controls.new.controls)) (state_of loan c.follow.new.windows (window_slots c.answer_window.new.stock.windows)));
       controls = controls_state control_loan c.forget_controls.new.controls (slots c.forget_controls.new.stock);

@@ -12,9 +12,9 @@ use Rattle.desk_toolbox.proofs.TrackedControls.{update_trackable}
 use Rattle.desk_toolbox.proofs.toolbox.Toolbox.tell_update.Goals as goal
 
 pub returns-clause-whole : goal.returns-clause-whole
-returns-clause-whole g c slots kept held listed whole =
+returns-clause-whole g c stocks whole =
     let self = c.args.self.now in
-    let done = c.perform.ensures.step slots whole.windows in
+    let done = c.perform.ensures.step stocks.windows whole.windows in
     let shows = controls_show (lists_show (lists.records_of (taken_list.list_loan-value g.dyn-4).it self.lists)) (records_of (taken_control.control_loan-value g.dyn-2).it self.controls) in
     record {
       windows = done.0;
@@ -26,4 +26,4 @@ returns-clause-whole g c slots kept held listed whole =
     }
 
 pub returns-clause-step : goal.returns-clause-step
-returns-clause-step g c slots kept held listed whole = ((c.perform.ensures.step slots whole.windows).1, (refl, (refl, (refl, refl))))
+returns-clause-step g c stocks whole = ((c.perform.ensures.step stocks.windows whole.windows).1, (refl, (refl, (refl, refl))))

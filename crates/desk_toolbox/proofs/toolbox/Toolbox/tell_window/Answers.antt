@@ -3,7 +3,7 @@ use Rattle.desk_toolbox.proofs.Asked.{menu_is_told, window_is_told}
 use Rattle.desk_toolbox.proofs.toolbox.Toolbox.tell_window.Goals as goal
 
 pub returns-then-is_covered-clause-step : goal.returns-then-is_covered-clause-step
-returns-then-is_covered-clause-step g c = menu_is_told _ c.args.call.now _ (sym (c.is_covered.ensures _ _ _ _) ∙ c.if-is_covered.true)
+returns-then-is_covered-clause-step g c = menu_is_told _ c.args.call.now _ (sym (c.is_covered.ensures _) ∙ c.if-is_covered.true)
 
 pub returns-clause-step : goal.returns-clause-step
-returns-clause-step g c = window_is_told _ c.args.call.now c.perform_window.result _ _ (sym (c.is_covered.ensures _ _ _ _) ∙ c.if-is_covered.false) c.perform_window.ensures.step
+returns-clause-step g c = window_is_told _ c.args.call.now c.perform_window.result _ _ (sym (c.is_covered.ensures _) ∙ c.if-is_covered.false) c.perform_window.ensures.step

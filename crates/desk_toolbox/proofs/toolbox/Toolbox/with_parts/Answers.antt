@@ -19,17 +19,17 @@ returns-in-Ok-clause-begun g c slots full =
     begun slots full
 
 pub returns-in-Ok-clause-whole : goal.returns-in-Ok-clause-whole
-returns-in-Ok-clause-whole g c slots kept held listed full full_menus full_controls full_lists =
+returns-in-Ok-clause-whole g c stocks full =
     let fits_w : SFits w32 c.args.width = search rules in
     let fits_h : SFits w32 c.args.height = search rules in
     let fits_b : SFits w32 c.args.bar = search rules in
     let begun = simp to_z-of_z at c.in-Ok.ensures.begun in
-    let empty = begun slots full in
+    let empty = begun stocks.windows full.windows in
     record {
       windows = empty.whole;
-      updates = updates_begin _ c.args.width c.args.height c.args.bar _ _ _ slots c.requires.width c.requires.height empty;
-      controls = none_whole _ _ (ap (λ (d : FullDesk). d.windows) empty.desk) (ap (all_seen _) c.new-in-Ok.ensures.controls) c.new-in-Ok.ensures.next full_controls;
+      updates = updates_begin _ c.args.width c.args.height c.args.bar _ _ _ stocks.windows c.requires.width c.requires.height empty;
+      controls = none_whole _ _ (ap (λ (d : FullDesk). d.windows) empty.desk) (ap (all_seen _) c.new-in-Ok.ensures.controls) c.new-in-Ok.ensures.next full.controls;
       trackable = tt;
-      lists = no_lists_whole _ _ (ap (λ (d : FullDesk). d.windows) empty.desk) (ap (lists.all_seen _) c.new-in-Ok-2.ensures.lists) c.new-in-Ok-2.ensures.next full_lists;
-      menus = menus_begin _ _ c.args.width c.args.height c.args.bar _ _ _ slots kept c.requires.menus empty (stocked_by_full kept full_menus);
+      lists = no_lists_whole _ _ (ap (λ (d : FullDesk). d.windows) empty.desk) (ap (lists.all_seen _) c.new-in-Ok-2.ensures.lists) c.new-in-Ok-2.ensures.next full.lists;
+      menus = menus_begin _ _ c.args.width c.args.height c.args.bar _ _ _ stocks.windows stocks.menus c.requires.menus empty (stocked_by_full stocks.menus full.menus);
     }
