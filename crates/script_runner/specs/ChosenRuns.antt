@@ -26,7 +26,7 @@ module _ {File : Type 0} (opens : List ℕ → Result File Refusal → Type 0) (
     pub first : File
     pub last : File
     pub opened : opens path (Ok first)
-    pub why : IsNotHad (input last) e
+    pub why : IsNotHad (input first) (input last) e
 
   -- the bytes of the font that is asked for: the first of the file at this path, as many as a record may have, or none where
   -- no path is named

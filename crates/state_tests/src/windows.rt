@@ -1,5 +1,5 @@
 //! Lists of windows, and of values in an order of their own.
-ghost use Rattle.std.specs.Prelude.{◌≡◌, ◌<◌, [], length, true, IfOk, OnOk};
+ghost use Rattle.std.specs.Prelude.{◌≡◌, ◌<◌, [], length, true, IfOk, OnOk, Some};
 ghost use Rattle.def_iface.specs.Meaning.{is_fitting};
 
 use crate::titled_window::Titled;
@@ -44,6 +44,7 @@ const WIDE: Size = Size {
 
 /// A window of this serial, highlighted where it is visible, with a white picture.
 fn window(alloc: Global, serial: u64, shown: bool, taken: Taken) -> Window
+    ensures serial { result.serial ≡ serial }
     ensures taken { result.taken ≡ taken }
     ensures layers { result.layers.layers ≡ [] }
 {
@@ -66,6 +67,13 @@ fn window(alloc: Global, serial: u64, shown: bool, taken: Taken) -> Window
         layers: Layers::new(alloc, point!(0, 0)),
         taken,
     }
+}
+
+/// The serial of the next window.
+fn next(windows: &WindowList) -> Result<u64, Refusal>
+    ensures { IfOk result (λ serial. windows.now.next ≡ Some serial) }
+{
+    windows.next().ok_or(Refusal::TooMany)
 }
 
 /// Whether the windows, from front to back, have these serials, and are highlighted or not.
@@ -151,9 +159,10 @@ fn windows_lie_from_front_to_back(rt: HostRuntime) -> Result<(), Fail> {
     }
     let mut windows = WindowList::new(Ranks::new(alloc));
     assert!(rt; windows.active().is_none() && windows.next() == Some(1));
-    for (serial, shown) in [(1, true), (2, true), (3, false)] {
+    for shown in [true, true, false] {
         let taken = begun(&mut stock)?;
         windows.reserve()?;
+        let serial = next(&windows)?;
         windows.add(window(alloc, serial, shown, taken));
     }
     assert!(rt; are(&windows, &[(3, false), (2, true), (1, false)]));
@@ -180,7 +189,8 @@ fn a_windows_box_comes_out(rt: HostRuntime) -> Result<(), Fail> {
     let mut windows = WindowList::new(Ranks::new(alloc));
     let taken = begun(&mut stock)?;
     windows.reserve()?;
-    windows.add(window(alloc, 1, true, taken));
+    let serial = next(&windows)?;
+    windows.add(window(alloc, serial, true, taken));
     assert!(rt; windows.len() == 1 && windows.next_box().is_some());
     assert!(rt; windows.len() == 0 && windows.next_box().is_none());
     Ok(())
@@ -197,7 +207,8 @@ fn a_window_is_given_a_size_where_it_lies(rt: HostRuntime) -> Result<(), Fail> {
     let taken = begun(&mut stock)?;
     assert!(rt; WIDE.is_in_range() && taken.bounds(WIDE).is_in_range());
     windows.reserve()?;
-    windows.add(window(alloc, 1, false, taken));
+    let serial = next(&windows)?;
+    windows.add(window(alloc, serial, false, taken));
     let wide = Placement {
         place: point!(3, 4),
         size: WIDE,
@@ -220,7 +231,8 @@ fn a_window_is_told_its_title_where_it_lies(rt: HostRuntime) -> Result<(), Fail>
     let mut windows = WindowList::new(Ranks::new(alloc));
     let taken = begun(&mut stock)?;
     windows.reserve()?;
-    windows.add(window(alloc, 1, false, taken));
+    let serial = next(&windows)?;
+    windows.add(window(alloc, serial, false, taken));
     let damage = windows.notify(0, WindowChange::Titled(b"new"));
     assert!(rt; damage == SIZE.rect());
     assert!(rt; windows.len() == 1 && windows.at(0).title.as_slice() == b"new".as_slice());
@@ -237,7 +249,8 @@ fn a_window_is_told_its_highlighting_where_it_lies(rt: HostRuntime) -> Result<()
     let mut windows = WindowList::new(Ranks::new(alloc));
     let taken = begun(&mut stock)?;
     windows.reserve()?;
-    windows.add(window(alloc, 1, false, taken));
+    let serial = next(&windows)?;
+    windows.add(window(alloc, serial, false, taken));
     let damage = windows.notify(0, WindowChange::Highlighted(true));
     assert!(rt; damage == SIZE.rect());
     assert!(rt; windows.len() == 1 && windows.at(0).highlighted);

@@ -56,9 +56,14 @@ IsKeptOf most said kept = (all : List ℕ) × said all × (kept ≡ take most al
 abbrev pub IsCutOff : Input → Type 0
 IsCutOff rest = (rest.has_failed ≡ true) ⊎ ((rest.reads ≡ most_reads) × (rest.has_ended ≡ false))
 
--- why a call that reads all does not give it: ReadFault comes where the input is cut off, and NoMemory where further
--- reads were allowed
-abbrev pub IsNotHad : Input → Refusal → Type 0
-IsNotHad rest ReadFault = IsCutOff rest
-IsNotHad rest NoMemory = IsOpen rest × (rest.reads < most_reads)
-IsNotHad rest _ = ⊥
+-- why reading goes no further: ReadFault comes where the input is cut off, and NoMemory where further reads were allowed
+abbrev pub IsStuck : Input → Refusal → Type 0
+IsStuck rest ReadFault = IsCutOff rest
+IsStuck rest NoMemory = IsOpen rest × (rest.reads < most_reads)
+IsStuck rest _ = ⊥
+
+-- why a call that reads all of an input does not give it: it read a front of that, and goes no further
+pub record IsNotHad (input rest : Input) (e : Refusal) : Type 0 where
+  pub front : List ℕ
+  pub read : Consumes input.remaining rest.remaining front
+  pub why : IsStuck rest e

@@ -18,7 +18,7 @@ pub fn read_to_end<R: Source>(
     requires going { IsOpen (R.input source.old) }
     ensures whole { IfOk result (λ bytes. IsKeptOf most (IsEntire (R.input source.old) (R.input source.new)) bytes.items) }
     ensures quiet { OnOk result ((R.input source.new).has_failed ≡ false) }
-    ensures refused { IfErr result (IsNotHad (R.input source.new)) }
+    ensures refused { IfErr result (IsNotHad (R.input source.old) (R.input source.new)) }
 {
     let mut bytes = Vec::new(alloc);
     let mut buffer = [0u8; 4096];
