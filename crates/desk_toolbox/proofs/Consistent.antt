@@ -29,8 +29,10 @@ use Rattle.desk_toolbox.proofs.HeldWindows.{step_keeps_stocked}
 use Rattle.desk_toolbox.proofs.LiveDefinitions.{step_keeps_live}
 use Rattle.desk_toolbox.proofs.TrackedControls.{control_stands, none_used_at}
 use Rattle.desk_toolbox.proofs.ListStands.{begun_contents, list_stands}
+use Rattle.desk_toolbox.proofs.GivenBars.{step_keeps_bars}
 use Rattle.control_mgr.specs.InUse.{AreStocked}
 use Rattle.control_mgr.specs.WholeControls.{IsTrackable}
+use Rattle.list_mgr.specs.GivenBars.{HasGivenBars}
 
 abbrev GoesOnStanding : Call → Result Reply Refusal → ToolboxState → ToolboxState → Type 0
 GoesOnStanding call answer before after = Stands before → IsRightToolbox after → Stands after
@@ -57,6 +59,7 @@ step_keeps_consistent call answer before after was step =
     let now = step_stands call answer before after (stands before was) step in
     consistent after now (step_keeps_stocked call answer before after step was.held) (step_keeps_live call answer before after step was.live)
     (step_keeps_held call answer before after step now.pull.pulled (record { stocked = was.stocked; title = was.title }))
+    (step_keeps_bars call answer before after step was.bars)
 
 pub run_keeps_consistent : (first last : ToolboxState) (calls : List Call) (answers : List (Result Reply Refusal)) → IsConsistent first → IsRunOfCalls first calls answers last → IsConsistent last
 run_keeps_consistent first last [] [] was run = subst IsConsistent (sym run) was
@@ -77,6 +80,7 @@ just_begun_is_consistent s begun =
       opened = subst (λ a. IsThere (open_window a) windows) (sym begun.idle) tt;
       contents = begun_contents s begun;
       trackable = subst (λ a. IsTrackable a s.controls.controls) (sym begun.idle) tt;
+      bars = All-same (HasGivenBars s.controls.next) s.lists.lists [] begun.lists (All-nil (HasGivenBars s.controls.next));
       queued = All-same (λ (e : Event). is_posted e.what ≡ true) s.events.queue.events [] (ap (λ (e : Events). e.queue.events) begun.events) (All-nil (λ (e : Event). is_posted e.what ≡ true));
       held = subst (λ (ws : List WindowRecord). AreStocked (λ (d : Definition). d.stage) (map (λ w. w.slot) ws) s.desk.windows.desk.stock) (sym begun.windows) (λ k. none_used_at (λ (d : Definition). d.stage) s.desk.windows.desk.stock k begun.stock);
       live = All-same HasLiveDefinition windows [] begun.windows (All-nil HasLiveDefinition);

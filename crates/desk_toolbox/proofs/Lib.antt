@@ -33,6 +33,7 @@ pub mod PulledSteps
 pub mod MenuStands
 pub mod TrackedControls
 pub mod ListStands
+pub mod GivenBars
 pub mod ControlsAside
 pub mod ListsAside
 pub mod Consistent

@@ -40,6 +40,7 @@ pub mod ListsFollowed
 pub mod ListsSettled
 pub mod ListsSelected
 pub mod ListFacts
+pub mod GivenBars
 pub mod ListsLeft
 pub mod Numbers
 pub mod Judged

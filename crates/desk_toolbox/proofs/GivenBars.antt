@@ -1,0 +1,61 @@
+-- The scroll bars of each list have serials that controls were given, whatever is called.
+use Rattle.std.proofs.Common.{◌≡◌, Result, Ok, Err, sym, subst}
+use Rattle.std.specs.Prelude.{All}
+use Rattle.tb_geom.specs.declared.refusal.Refusal.{Refusal}
+use Rattle.desk_call.specs.declared.call.Call.{Call}
+use Rattle.desk_call.specs.declared.call.Reply.{Reply}
+use Rattle.desk_call.specs.declared.window.WindowCall.{WindowCall}
+use Rattle.desk_call.specs.declared.window.WindowCall.TheVariants.{Dispose}
+use Rattle.desk_call.specs.declared.window.WindowReply.{WindowReply}
+use Rattle.control_mgr.specs.ControlDesks.{ControlsState}
+use Rattle.control_mgr.proofs.ControlFacts.{control_facts}
+use Rattle.control_mgr.proofs.ControlsFollowed.{all_within}
+use Rattle.list_mgr.specs.GivenBars.{HasGivenBars}
+use Rattle.list_mgr.specs.ListDesks.{ListsState}
+use Rattle.list_mgr.proofs.GivenBars.{bars_go_on, control_goes_on, list_keeps_bars}
+use Rattle.desk_toolbox.specs.Run.{AreControlsLeft, AreListsLeft, IsStep, IsWindowMade}
+use Rattle.desk_toolbox.specs.ToolboxStates.{ToolboxState, with_controls, with_lists}
+use Rattle.desk_toolbox.proofs.EachManager.{HoldsOfEach, of_step}
+
+abbrev HaveGivenBars : ControlsState → ListsState → Type 0
+HaveGivenBars controls lists = All (HasGivenBars controls.next) lists.lists
+
+abbrev KeepsBars : Call → Result Reply Refusal → ToolboxState → ToolboxState → Type 0
+KeepsBars call answer before after = HaveGivenBars before.controls before.lists → HaveGivenBars after.controls after.lists
+
+same_bars : (before after : ToolboxState) → after.controls ≡ before.controls → after.lists ≡ before.lists → HaveGivenBars before.controls before.lists → HaveGivenBars after.controls after.lists
+same_bars before after controls lists h = subst (λ (s : ControlsState × ListsState). HaveGivenBars s.0 s.1) (λ i. (sym controls i, sym lists i)) h
+
+-- the controls and the lists of a window that is gone went with it
+left_bars : (call : WindowCall) (before after : ToolboxState) → AreControlsLeft call before.controls after.controls → AreListsLeft call before.lists after.lists
+    → HaveGivenBars before.controls before.lists → HaveGivenBars after.controls after.lists
+left_bars (Dispose s) before after controls lists h =
+    subst (λ o. All (HasGivenBars o) after.lists.lists) (sym controls.next)
+    (all_within (HasGivenBars before.controls.next) before.lists.lists after.lists.lists lists.within h)
+left_bars call before after controls lists h = same_bars before after controls lists h
+
+made_bars : (call : WindowCall) (answer : Result WindowReply Refusal) (before after : ToolboxState) → IsWindowMade call answer before after
+    → HaveGivenBars before.controls before.lists → HaveGivenBars after.controls after.lists
+made_bars call (Ok answer) before after ((middle, answered, (told, same, caught, shown, controls, lists)), kept) h = left_bars call before after controls lists h
+made_bars call (Err e) before after step h = same_bars before after step.1.1.0 step.1.1.1.0 h
+
+each_keeps_bars : HoldsOfEach KeepsBars
+each_keeps_bars = record {
+  unchanged = λ call e before after same h. same_bars before after same.controls same.lists h;
+  covered = λ p before after same h. same_bars before after same.controls same.lists h;
+  hidden = λ p before after same h. same_bars before after same.controls same.lists h;
+  window = λ call answer before after may step h. made_bars call answer before after step h;
+  update = λ call answer before after may step rest h. same_bars before after rest.1.0 rest.1.1.0 h;
+  frame = λ call answer before after may step rest h. same_bars before after rest.1.0 rest.1.1.0 h;
+  control = λ call answer before after may step events lists menus h.
+      let next = (control_facts call answer (with_controls before) (with_controls after) step).1 in
+      subst (HaveGivenBars after.controls) (sym lists)
+      (bars_go_on before.controls.next after.controls.next before.lists.lists (control_goes_on call answer before.controls after.controls next) h);
+  list = λ call answer before after may step events menus h. list_keeps_bars call answer (with_lists before) (with_lists after) step h;
+  menu = λ call answer before after may step events controls lists h. same_bars before after controls lists h;
+  event = λ call answer before after step h. same_bars before after step.1.0 step.1.1.0 h;
+}
+
+pub step_keeps_bars : (call : Call) (answer : Result Reply Refusal) (before after : ToolboxState) → IsStep call answer before after → All (HasGivenBars before.controls.next) before.lists.lists
+    → All (HasGivenBars after.controls.next) after.lists.lists
+step_keeps_bars = of_step KeepsBars each_keeps_bars
