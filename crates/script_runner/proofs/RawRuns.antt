@@ -4,10 +4,7 @@ use Rattle.std.proofs.lemmas.List.{length-append}
 use Rattle.std.proofs.lemmas.List.Concat.{flat_map-append}
 use Rattle.std.proofs.lemmas.List.Sums.{sum_by-cons}
 use Rattle.tb_geom.specs.declared.refusal.Refusal.{Refusal}
-use Rattle.def_iface.specs.Stocked.{SlotView}
-use Rattle.control_mgr.specs.ControlDesks.{ControlSlot}
-use Rattle.list_mgr.specs.ListDesks.{ListSlot}
-use Rattle.menu_mgr.specs.MenuDesks.{MenuSlot}
+use Rattle.def_iface.specs.Stocks.{AllSlots}
 use Rattle.desk_toolbox.specs.ToolboxStates.{ToolboxState}
 use Rattle.script_text.specs.declared.command.Command.{Command}
 use Rattle.script_text.specs.declared.command.Command.TheVariants.{Desk, Image, Call}
@@ -40,19 +37,19 @@ first_images s Image text after answered = answers_images s Image text after ans
 first_images s (Call call) text after answered = answers_images s (Call call) text after answered
 
 -- the usual desk can always be made, so `image` is not refused
-opens_images : (font : List ℕ) (slots : List SlotView) (kept : List MenuSlot) (held : List ControlSlot) (listed : List ListSlot) (command : Command) (why : Option Refusal) (text : List ℕ) (new : SessionState)
-    → why_unmade command slots kept held listed ≡ why → Opens true why font slots kept held listed command text new → AreImages (asked command) text
-opens_images font slots kept held listed command None text new is (first, after, fresh, answered, then) = first_images first command text after answered
-opens_images font slots kept held listed (Desk size) (Some e) text new is opened = subst (AreImages 0) (sym opened.0) none
-opens_images font slots kept held listed Image (Some e) text new is opened =
+opens_images : (font : List ℕ) (stocks : AllSlots) (command : Command) (why : Option Refusal) (text : List ℕ) (new : SessionState)
+    → why_unmade command stocks ≡ why → Opens true why font stocks command text new → AreImages (asked command) text
+opens_images font stocks command None text new is (first, after, fresh, answered, then) = first_images first command text after answered
+opens_images font stocks (Desk size) (Some e) text new is opened = subst (AreImages 0) (sym opened.0) none
+opens_images font stocks Image (Some e) text new is opened =
     let bad : ◌≡◌ {A = Option Refusal} None (Some e) = is in
     absurd (cc)
-opens_images font slots kept held listed (Call call) (Some e) text new is opened = subst (AreImages 0) (sym opened.0) none
+opens_images font stocks (Call call) (Some e) text new is opened = subst (AreImages 0) (sym opened.0) none
 
 said_images : (old : SessionState) (says : Option (Result Command Refusal)) (text : List ℕ) (new : SessionState) → SaidAnswers true old says text new → AreImages (cond (asks_image says) 1 0) text
 said_images old None text new answered = subst (AreImages 0) (sym answered.0) none
 said_images old (Some (Err e)) text new answered = subst (AreImages 0) (sym answered.0) none
-said_images (unmade font slots kept held listed) (Some (Ok command)) text new obeyed = opens_images font slots kept held listed command (why_unmade command slots kept held listed) text new refl obeyed
+said_images (unmade font stocks) (Some (Ok command)) text new obeyed = opens_images font stocks command (why_unmade command stocks) text new refl obeyed
 said_images (made s) (Some (Ok command)) text new (after, answered, is) = answers_images s command text after answered
 
 pub written_images : (old : SessionState) (lines : List (List ℕ)) (text : List ℕ) (new : SessionState) → Written true old lines text new

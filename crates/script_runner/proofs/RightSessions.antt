@@ -1,10 +1,7 @@
 -- Whatever a script's lines do, its desk stays right.
 use Rattle.std.proofs.Common.{◌≡◌, ◌⊎◌, inl, inr, ℕ, Bool, List, [], ◌∷◌, Option, None, Some, Result, Ok, Err, sym, ap, ◌∙◌, subst}
 use Rattle.tb_geom.specs.declared.refusal.Refusal.{Refusal}
-use Rattle.def_iface.specs.Stocked.{SlotView}
-use Rattle.control_mgr.specs.ControlDesks.{ControlSlot}
-use Rattle.list_mgr.specs.ListDesks.{ListSlot}
-use Rattle.menu_mgr.specs.MenuDesks.{MenuSlot}
+use Rattle.def_iface.specs.Stocks.{AllSlots}
 use Rattle.desk_toolbox.specs.ToolboxStates.{ToolboxState}
 use Rattle.desk_toolbox.proofs.ContentsBeside.{IsRightToolbox}
 use Rattle.desk_toolbox.proofs.Runs.{step_stays_right}
@@ -17,7 +14,7 @@ use Rattle.script_runner.specs.Session.{SessionState, unmade, made, Answers, Fir
 
 -- the session's desk, if it has one, is right
 abbrev IsRightSession : SessionState → Type 0
-IsRightSession (unmade font slots kept held listed) = Unit {0}
+IsRightSession (unmade font stocks) = Unit {0}
 IsRightSession (made s) = IsRightToolbox s
 
 answers_right : (raw : Bool) (s : ToolboxState) (command : Command) (text : List ℕ) (after : ToolboxState) → Answers raw s command text after → IsRightToolbox s → IsRightToolbox after
@@ -30,12 +27,12 @@ first_right raw s (Desk size) text after answered right = subst IsRightToolbox (
 first_right raw s Image text after answered right = answers_right raw s Image text after answered right
 first_right raw s (Call asked) text after answered right = answers_right raw s (Call asked) text after answered right
 
-opens_right : (raw : Bool) (why : Option Refusal) (font : List ℕ) (slots : List SlotView) (kept : List MenuSlot) (held : List ControlSlot) (listed : List ListSlot) (command : Command) (text : List ℕ) (new : SessionState) → Opens raw why font slots kept held listed command text new → IsRightSession new
-opens_right raw (Some e) font slots kept held listed command text new opened = subst IsRightSession (sym opened.1) tt
-opens_right raw None font slots kept held listed command text new (first, after, fresh, answered, is) = subst IsRightSession (sym is) (first_right raw first command text after answered (record { right = fresh.right; contents = fresh.contents }))
+opens_right : (raw : Bool) (why : Option Refusal) (font : List ℕ) (stocks : AllSlots) (command : Command) (text : List ℕ) (new : SessionState) → Opens raw why font stocks command text new → IsRightSession new
+opens_right raw (Some e) font stocks command text new opened = subst IsRightSession (sym opened.1) tt
+opens_right raw None font stocks command text new (first, after, fresh, answered, is) = subst IsRightSession (sym is) (first_right raw first command text after answered (record { right = fresh.right; contents = fresh.contents }))
 
 obeys_right : (raw : Bool) (old : SessionState) (command : Command) (text : List ℕ) (new : SessionState) → Obeys raw old command text new → IsRightSession old → IsRightSession new
-obeys_right raw (unmade font slots kept held listed) command text new obeyed right = opens_right raw (why_unmade command slots kept held listed) font slots kept held listed command text new obeyed
+obeys_right raw (unmade font stocks) command text new obeyed right = opens_right raw (why_unmade command stocks) font stocks command text new obeyed
 obeys_right raw (made s) command text new (after, answered, is) right = subst IsRightSession (sym is) (answers_right raw s command text after answered right)
 
 said_right : (raw : Bool) (old : SessionState) (line : Option (Result Command Refusal)) (text : List ℕ) (new : SessionState) → SaidAnswers raw old line text new → IsRightSession old → IsRightSession new
@@ -49,10 +46,10 @@ written_right raw old (line ∷ lines) text new (middle, first, others, one, res
     written_right raw middle lines others new rest (said_right raw old (said line) first middle one right)
 
 found : (session : SessionState) (line : List ℕ) → IsRightSession session → IsCheckLine session line → (line ≡ check_text (Some 0)) ⊎ (line ≡ check_text None)
-found (unmade font slots kept held listed) line right is = inl is
+found (unmade font stocks) line right is = inl is
 found (made s) line right (inl counted) = inl (counted ∙ ap (λ n. check_text (Some n)) (none_differs s right.right))
 found (made s) line right (inr none) = inr none
 
-pub no_pixel_found : (raw : Bool) (font : List ℕ) (slots : List SlotView) (kept : List MenuSlot) (held : List ControlSlot) (listed : List ListSlot) (lines : List (List ℕ)) (text line : List ℕ) (session : SessionState) → Written raw (unmade font slots kept held listed) lines text session
+pub no_pixel_found : (raw : Bool) (font : List ℕ) (stocks : AllSlots) (lines : List (List ℕ)) (text line : List ℕ) (session : SessionState) → Written raw (unmade font stocks) lines text session
     → IsCheckLine session line → (line ≡ check_text (Some 0)) ⊎ (line ≡ check_text None)
-no_pixel_found raw font slots kept held listed lines text line session written is = found session line (written_right raw (unmade font slots kept held listed) lines text session written tt) is
+no_pixel_found raw font stocks lines text line session written is = found session line (written_right raw (unmade font stocks) lines text session written tt) is

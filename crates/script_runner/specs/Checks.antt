@@ -13,7 +13,7 @@ check_text None = codes "check NoMemory\n"
 -- the line on a session: how many pixels of its screen in no update set differ from the desk painted from nothing, or
 -- that there was no memory for painting; without a desk there is none that differs
 abbrev pub IsCheckLine : SessionState → List ℕ → Type 0
-IsCheckLine (unmade font slots kept held listed) text = text ≡ check_text (Some 0)
+IsCheckLine (unmade font stocks) text = text ≡ check_text (Some 0)
 IsCheckLine (made s) text = (text ≡ check_text (Some (difference_count s))) ⊎ (text ≡ check_text None)
 
 -- a script ended with `script` and left this session, with the writer at `between`: where a check is asked for and each

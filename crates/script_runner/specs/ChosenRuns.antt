@@ -2,10 +2,7 @@
 use Rattle.std.specs.Prelude.{◌≡◌, ◌⊎◌, ℕ, false, List, take, Option, None, Some, Result, Ok, Err, option_map}
 use Rattle.tb_geom.specs.declared.refusal.Refusal.{Refusal}
 use Rattle.strike_font.specs.Record.{longest_record}
-use Rattle.def_iface.specs.Stocked.{SlotView}
-use Rattle.control_mgr.specs.ControlDesks.{ControlSlot}
-use Rattle.list_mgr.specs.ListDesks.{ListSlot}
-use Rattle.menu_mgr.specs.MenuDesks.{MenuSlot}
+use Rattle.def_iface.specs.Stocks.{AllSlots}
 use Rattle.watched_io.specs.Reads.{Input, IsEntire, IsNotHad}
 use Rattle.watched_io.specs.Writes.{Output}
 use Rattle.script_runner.specs.declared.command_line.Choices.{Choices}
@@ -44,29 +41,25 @@ module _ {File : Type 0} (opens : List ℕ → Result File Refusal → Type 0) (
   IsScriptLost None e = ⊥
   IsScriptLost (Some path) e = opens path (Err e)
 
-  -- from a stock with these slots of windows, these of menus, these of controls and these of lists, of which it leaves those, and
-  -- from one state of standard input and of the writer to another
-  module _ (chosen : Choices) (slots left : List SlotView) (kept left_menus : List MenuSlot) (held left_controls : List ControlSlot) (listed left_lists : List ListSlot) (standard rest : Input) (old new : Output) where
+  -- from stocks with these slots, of which it leaves those, and from one state of standard input and of the writer to another
+  module _ (chosen : Choices) (stocks left : AllSlots) (standard rest : Input) (old new : Output) where
     -- nothing was read of standard input, written, or taken out of the stock
     pub record IsUntouched : Type 0 where
       pub unread : rest ≡ standard
       pub silent : new ≡ old
-      pub same : left ≡ slots
-      pub same_menus : left_menus ≡ kept
-      pub same_controls : left_controls ≡ held
-      pub same_lists : left_lists ≡ listed
+      pub same : left ≡ stocks
 
     -- the script was the file at the path, and standard input is as it was
     pub record HasRunFile (path : List ℕ) (asked : Option (List ℕ)) {X : Type 0} (r : Result X Refusal) : Type 0 where
       pub first : File
       pub last : File
       pub opened : opens path (Ok first)
-      pub ends : RunEnds asked chosen.raw chosen.check slots left kept left_menus held left_controls listed left_lists (input first) (input last) old new r
+      pub ends : RunEnds asked chosen.raw chosen.check stocks left (input first) (input last) old new r
       pub unread : rest ≡ standard
 
     -- the script was that file, or standard input where no path is named
     abbrev pub HasRunScript : Option (List ℕ) → Option (List ℕ) → {X : Type 0} → Result X Refusal → Type 0
-    HasRunScript None asked r = RunEnds asked chosen.raw chosen.check slots left kept left_menus held left_controls listed left_lists standard rest old new r
+    HasRunScript None asked r = RunEnds asked chosen.raw chosen.check stocks left standard rest old new r
     HasRunScript (Some path) asked r = HasRunFile path asked r
 
     -- the script that was chosen was run, in the font that was

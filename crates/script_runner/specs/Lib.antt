@@ -2,6 +2,7 @@ pub mod Checks
 pub mod Choices
 pub mod Endings
 pub mod Fonts
+pub mod Kinds
 pub mod Progress
 pub mod RawText
 pub mod Runs

@@ -3,10 +3,7 @@ use Rattle.std.specs.Prelude.{◌≡◌, ◌⊎◌, ℕ, Bool, true, false, List
 use Rattle.std.specs.Io.KnownBytes.{Consumes}
 use Rattle.tb_geom.specs.declared.refusal.Refusal.{Refusal}
 use Rattle.tb_geom.specs.declared.refusal.Refusal.TheVariants.{NoMemory, ReadFault, WriteFault}
-use Rattle.def_iface.specs.Stocked.{SlotView}
-use Rattle.control_mgr.specs.ControlDesks.{ControlSlot}
-use Rattle.list_mgr.specs.ListDesks.{ListSlot}
-use Rattle.menu_mgr.specs.MenuDesks.{MenuSlot}
+use Rattle.def_iface.specs.Stocks.{AllSlots}
 use Rattle.script_text.specs.declared.command.Command.{Command}
 use Rattle.script_text.specs.Lines.{said, whole_lines, lines_of}
 use Rattle.watched_io.specs.Reads.{Input, IsEntire, IsCutOff}
@@ -89,26 +86,22 @@ pub record CheckedEnds (raw check : Bool) (first : SessionState) (input rest : I
   pub followed : IsFollowed check script session between new r
 
 -- `asked` are the bytes of the font that a run is asked to draw texts in, if it is; `raw` says whether it is raw, and `check`
--- whether it is to be checked at its end. It is a run from a stock with these slots of windows, these of menus, these of
--- controls and these of lists, and leaves those
-module _ (asked : Option (List ℕ)) (raw check : Bool) (slots left : List SlotView) (kept left_menus : List MenuSlot) (held left_controls : List ControlSlot) (listed left_lists : List ListSlot) (input rest : Input) (old new : Output) where
+-- whether it is to be checked at its end. It is a run from stocks with these slots, and leaves those
+module _ (asked : Option (List ℕ)) (raw check : Bool) (stocks left : AllSlots) (input rest : Input) (old new : Output) where
   -- with that font the script ran, from no desk to its end, and was checked
   pub record HasRun {X : Type 0} (r : Result X Refusal) : Type 0 where
     pub font : List ℕ
     pub is_font : IsFontOf asked font
     pub session : SessionState
-    pub ends : CheckedEnds raw check (unmade font slots kept held listed) input rest old new session r
-    pub closed : LeavesStock session left left_menus left_controls left_lists
+    pub ends : CheckedEnds raw check (unmade font stocks) input rest old new session r
+    pub closed : LeavesStock session left
 
   -- there was no font: nothing was read, written or taken out of the stock
   pub record IsFontless (e : Refusal) : Type 0 where
     pub why : e ≡ why_fontless asked
     pub unread : rest ≡ input
     pub silent : new ≡ old
-    pub same : left ≡ slots
-    pub same_menus : left_menus ≡ kept
-    pub same_controls : left_controls ≡ held
-    pub same_lists : left_lists ≡ listed
+    pub same : left ≡ stocks
 
   abbrev pub RunEnds : {X : Type 0} → Result X Refusal → Type 0
   RunEnds {X} (Ok x) = HasRun {X = X} (Ok x)

@@ -4,7 +4,8 @@ use Rattle.tb_geom.specs.declared.point.Point.{Point}
 use Rattle.tb_geom.specs.declared.refusal.Refusal.{Refusal}
 use Rattle.tb_geom.specs.declared.refusal.Refusal.TheVariants.{NoSuchName, OutOfRange, Busy}
 use Rattle.tb_geom.specs.Points.{PixelSet}
-use Rattle.def_iface.specs.Stocked.{SlotView, has_kind}
+use Rattle.def_iface.specs.Stocked.{has_kind}
+use Rattle.def_iface.specs.Stocks.{AllSlots}
 use Rattle.desk_call.specs.declared.call.Call.TheVariants.{Window, Update, Frame, Control, Menu, Event}
 use Rattle.desk_call.specs.declared.call.Call.TheVariants as asks
 use Rattle.desk_call.specs.declared.control.ControlCall.TheVariants as controls
@@ -17,12 +18,9 @@ use Rattle.window_mgr.specs.FullDesk.{IsRightState}
 use Rattle.window_mgr.specs.Begin.{empty_desk}
 use Rattle.window_mgr.specs.Closing.{IsClosed}
 use Rattle.control_mgr.specs.ControlClosing.{AreAllControlsClosed}
-use Rattle.control_mgr.specs.ControlDesks.{ControlSlot}
 use Rattle.list_mgr.specs.ListClosing.{AreAllListsClosed}
-use Rattle.list_mgr.specs.ListDesks.{ListSlot}
 use Rattle.list_mgr.specs.ListRefusals.{lacks_kind}
 use Rattle.menu_mgr.specs.MenuClosing.{AreMenusClosed}
-use Rattle.menu_mgr.specs.MenuDesks.{MenuSlot}
 use Rattle.menu_mgr.specs.MenuRefusals.{menu_kind}
 use Rattle.desk_toolbox.specs.EventSteps.{first_events}
 use Rattle.desk_toolbox.specs.Fronts.{screen_of}
@@ -38,23 +36,22 @@ use Rattle.screen_pbm.specs.Pbm.{p1, p4}
 use Rattle.reply_lines.specs.Texts.{done_text}
 use Rattle.script_text.specs.Replies.{refused_text, reply_text}
 
--- the desk of a script: none so far, with this font and over these slots of the stock, of windows, of menus, of controls and of
--- lists, or one in this state
+-- the desk of a script: none so far, with this font and over these slots of the stocks, or one in this state
 pub data SessionState : Type 0 where
-  unmade : List ℕ → List SlotView → List MenuSlot → List ControlSlot → List ListSlot → SessionState
+  unmade : List ℕ → AllSlots → SessionState
   made : ToolboxState → SessionState
 
 -- a new desk of this size, with this font: it has no windows, no controls, no lists and no menus, no title is highlighted, nothing
 -- of it is to be redrawn, it is right, as its controls and lists are, and nothing was posted or told
-pub record IsNewDesk (size : DeskSize) (font : List ℕ) (slots : List SlotView) (kept : List MenuSlot) (held : List ControlSlot) (listed : List ListSlot) (s : ToolboxState) : Type 0 where
-  pub desk : s.desk.windows.desk ≡ empty_desk size.width size.height size.bar font slots
+pub record IsNewDesk (size : DeskSize) (font : List ℕ) (stocks : AllSlots) (s : ToolboxState) : Type 0 where
+  pub desk : s.desk.windows.desk ≡ empty_desk size.width size.height size.bar font stocks.windows
   pub idle : s.desk.activity ≡ Idle
   pub drawn : (p : Point) → s.desk.windows.stale p ≡ false
   pub right : IsRightState s.desk.windows
   pub contents : AreContentsRight s
-  pub menus : s.menus ≡ record { menus = []; highlighted = None; stock = kept }
-  pub controls : s.controls ≡ record { controls = []; next = Some 1; stock = held }
-  pub lists : s.lists ≡ record { lists = []; next = Some 1; stock = listed }
+  pub menus : s.menus ≡ record { menus = []; highlighted = None; stock = stocks.menus }
+  pub controls : s.controls ≡ record { controls = []; next = Some 1; stock = stocks.controls }
+  pub lists : s.lists ≡ record { lists = []; next = Some 1; stock = stocks.lists }
   pub events : s.events ≡ first_events
 
 -- the desk that the first command makes: of the size that it asks for, and else of 512 by 342 with a menu bar of 20 rows
@@ -65,32 +62,32 @@ first_size (Call call) = record { width = pos 512; height = pos 342; bar = pos 2
 
 -- whether the stock has a slot of the kind that a command names, if it names one; a new menu is of the one kind of menus, and
 -- with a new list come its scroll bars, where it is to have some
-abbrev pub is_known : Command → List SlotView → List MenuSlot → List ControlSlot → List ListSlot → Bool
-is_known (Desk size) slots kept held listed = true
-is_known Image slots kept held listed = true
-is_known (Call (Window (New w))) slots kept held listed = has_kind w.kind slots
-is_known (Call (Window _)) slots kept held listed = true
-is_known (Call (Update _)) slots kept held listed = true
-is_known (Call (Frame _)) slots kept held listed = true
-is_known (Call (Control (controls.New n))) slots kept held listed = has_kind n.kind held
-is_known (Call (Control _)) slots kept held listed = true
-is_known (Call (asks.List (lists.New n))) slots kept held listed = not (lacks_kind n listed held)
-is_known (Call (asks.List _)) slots kept held listed = true
-is_known (Call (Menu (menus.New n))) slots kept held listed = has_kind menu_kind kept
-is_known (Call (Menu _)) slots kept held listed = true
-is_known (Call (Event _)) slots kept held listed = true
+abbrev pub is_known : Command → AllSlots → Bool
+is_known (Desk size) stocks = true
+is_known Image stocks = true
+is_known (Call (Window (New w))) stocks = has_kind w.kind stocks.windows
+is_known (Call (Window _)) stocks = true
+is_known (Call (Update _)) stocks = true
+is_known (Call (Frame _)) stocks = true
+is_known (Call (Control (controls.New n))) stocks = has_kind n.kind stocks.controls
+is_known (Call (Control _)) stocks = true
+is_known (Call (asks.List (lists.New n))) stocks = not (lacks_kind n stocks.lists stocks.controls)
+is_known (Call (asks.List _)) stocks = true
+is_known (Call (Menu (menus.New n))) stocks = has_kind menu_kind stocks.menus
+is_known (Call (Menu _)) stocks = true
+is_known (Call (Event _)) stocks = true
 
 -- whether a screen may have this size
 abbrev pub may_be : DeskSize → Bool
 may_be size = is_screen size.width size.height size.bar
 
 -- why the first command makes no desk, want of memory aside
-abbrev pub why_unmade : Command → List SlotView → List MenuSlot → List ControlSlot → List ListSlot → Option Refusal
-why_unmade command slots kept held listed = if is_known command slots kept held listed then (if may_be (first_size command) then None else Some OutOfRange) else Some NoSuchName
+abbrev pub why_unmade : Command → AllSlots → Option Refusal
+why_unmade command stocks = if is_known command stocks then (if may_be (first_size command) then None else Some OutOfRange) else Some NoSuchName
 
 -- whether the command is the one that makes the desk
 abbrev pub makes_desk : SessionState → Command → Bool
-makes_desk (unmade font slots kept held listed) command = is_none (why_unmade command slots kept held listed)
+makes_desk (unmade font stocks) command = is_none (why_unmade command stocks)
 makes_desk (made s) command = false
 
 -- what is written of a reply: nothing in a raw run
@@ -120,14 +117,14 @@ module _ (raw : Bool) where
   FirstAnswers s (Call call) text after = Answers s (Call call) text after
 
   -- without a desk, the command is refused, or makes the desk and is then answered
-  abbrev pub Opens : Option Refusal → List ℕ → List SlotView → List MenuSlot → List ControlSlot → List ListSlot → Command → List ℕ → SessionState → Type 0
-  Opens (Some e) font slots kept held listed command text new = (text ≡ reply_shown raw (refused_text e)) × (new ≡ unmade font slots kept held listed)
-  Opens None font slots kept held listed command text new = (first : ToolboxState) × (after : ToolboxState) × IsNewDesk (first_size command) font slots kept held listed first
+  abbrev pub Opens : Option Refusal → List ℕ → AllSlots → Command → List ℕ → SessionState → Type 0
+  Opens (Some e) font stocks command text new = (text ≡ reply_shown raw (refused_text e)) × (new ≡ unmade font stocks)
+  Opens None font stocks command text new = (first : ToolboxState) × (after : ToolboxState) × IsNewDesk (first_size command) font stocks first
       × FirstAnswers first command text after × (new ≡ made after)
 
   -- the command may be answered so, and leave this
   abbrev pub Obeys : SessionState → Command → List ℕ → SessionState → Type 0
-  Obeys (unmade font slots kept held listed) command text new = Opens (why_unmade command slots kept held listed) font slots kept held listed command text new
+  Obeys (unmade font stocks) command text new = Opens (why_unmade command stocks) font stocks command text new
   Obeys (made s) command text new = (after : ToolboxState) × Answers s command text after × (new ≡ made after)
 
   -- what a line says may be answered so, and leave this: a line that says nothing is not answered
@@ -142,11 +139,11 @@ module _ (raw : Bool) where
   Written old (line ∷ lines) text new = (middle : SessionState) × (first : List ℕ) × (others : List ℕ)
       × SaidAnswers old (said line) first middle × Written middle lines others new × (text ≡ first ++ others)
 
--- what the end of the session leaves of the stock, of windows, of menus, of controls and of lists: the definitions of the desk's
--- windows, menus, controls and lists are closed and back in their slots, and every other slot is as it was
-abbrev pub LeavesStock : SessionState → List SlotView → List MenuSlot → List ControlSlot → List ListSlot → Type 0
-LeavesStock (unmade font slots kept held listed) left left_menus left_controls left_lists = (left ≡ slots) × ((left_menus ≡ kept) × ((left_controls ≡ held) × (left_lists ≡ listed)))
-LeavesStock (made s) left left_menus left_controls left_lists =
-    IsClosed s.desk.windows.desk.windows s.desk.windows.desk.stock left
-    × (AreMenusClosed s.menus.menus s.menus.stock left_menus
-    × (AreAllControlsClosed s.controls.controls s.controls.stock left_controls × AreAllListsClosed s.lists.lists s.lists.stock left_lists))
+-- what the end of the session leaves of the stocks: the definitions of the desk's windows, menus, controls and lists are closed
+-- and back in their slots, and every other slot is as it was
+abbrev pub LeavesStock : SessionState → AllSlots → Type 0
+LeavesStock (unmade font stocks) left = left ≡ stocks
+LeavesStock (made s) left =
+    IsClosed s.desk.windows.desk.windows s.desk.windows.desk.stock left.windows
+    × (AreMenusClosed s.menus.menus s.menus.stock left.menus
+    × (AreAllControlsClosed s.controls.controls s.controls.stock left.controls × AreAllListsClosed s.lists.lists s.lists.stock left.lists))

@@ -1,18 +1,14 @@
 //! A run of what the command line chose: its files are opened, and its flags are those of the run.
-ghost use Rattle.std.specs.Prelude.{◌≡◌, All, map, option_map, false, IfOk, IfErr};
-ghost use Rattle.def_iface.specs.Stocked.{IsFull};
+ghost use Rattle.std.specs.Prelude.{◌≡◌, option_map, false, IfOk, IfErr};
+ghost use Rattle.def_iface.specs.Stocks.{AreAllFull};
 ghost use Rattle.watched_io.specs.Reads.{IsOpen};
-ghost use Rattle.control_mgr.specs.ControlClosing.{IsControlFull};
-ghost use Rattle.list_mgr.specs.ListClosing.{IsListFull};
-ghost use Rattle.menu_mgr.specs.MenuDesks.{IsMenuFull};
 ghost use Rattle.script_runner.specs.ChosenRuns.{AreFontBytes, IsFontLost, ChosenEnds};
+ghost use Rattle.script_runner.specs.Kinds.{kinds_of};
 
 use crate::command_line::Choices;
 use crate::files::Opener;
 use crate::runner::run;
-use def_iface::{
-    ControlStock, ListStock, MenuStock, Stock, Stocked, StockedControls, StockedLists, StockedMenus,
-};
+use def_iface::{Stock, StockedAll};
 use std::alloc::Global;
 use strike_font::LONGEST_RECORD;
 use tb_geom::Refusal;
@@ -33,30 +29,14 @@ pub fn run_chosen<F: Opener, R: Source, W: Sink>(
     stock: &mut Stock,
     chosen: &Choices<'_>,
 ) -> Result<(), Refusal>
-    requires full { All IsFull (⟦<Stock as Stocked>⟧.slots stock.old) }
-    requires full_menus { All IsMenuFull (⟦<MenuStock as StockedMenus>⟧.menu_slots stock.old.menus) }
-    requires full_controls { All IsControlFull (⟦<ControlStock as StockedControls>⟧.control_slots stock.old.controls) }
-    requires full_lists { All IsListFull (⟦<ListStock as StockedLists>⟧.list_slots stock.old.lists) }
+    requires full { AreAllFull (⟦<Stock as StockedAll>⟧.all_slots stock.old) }
     requires unread { (R.input standard.old).reads ≡ 0 }
     requires going { IsOpen (R.input standard.old) }
     requires unfailed { (W.output sink.old).has_failed ≡ false }
-    ensures full { All IsFull (⟦<Stock as Stocked>⟧.slots stock.new) }
-    ensures full_menus { All IsMenuFull (⟦<MenuStock as StockedMenus>⟧.menu_slots stock.new.menus) }
-    ensures full_controls { All IsControlFull (⟦<ControlStock as StockedControls>⟧.control_slots stock.new.controls) }
-    ensures full_lists { All IsListFull (⟦<ListStock as StockedLists>⟧.list_slots stock.new.lists) }
-    ensures kinds { map (λ s. s.kind) (⟦<Stock as Stocked>⟧.slots stock.new)
-        ≡ map (λ s. s.kind) (⟦<Stock as Stocked>⟧.slots stock.old) }
-    ensures kinds_of_menus { map (λ s. s.kind) (⟦<MenuStock as StockedMenus>⟧.menu_slots stock.new.menus)
-        ≡ map (λ s. s.kind) (⟦<MenuStock as StockedMenus>⟧.menu_slots stock.old.menus) }
-    ensures kinds_of_controls { map (λ s. s.kind) (⟦<ControlStock as StockedControls>⟧.control_slots stock.new.controls)
-        ≡ map (λ s. s.kind) (⟦<ControlStock as StockedControls>⟧.control_slots stock.old.controls) }
-    ensures kinds_of_lists { map (λ s. s.kind) (⟦<ListStock as StockedLists>⟧.list_slots stock.new.lists)
-        ≡ map (λ s. s.kind) (⟦<ListStock as StockedLists>⟧.list_slots stock.old.lists) }
+    ensures full { AreAllFull (⟦<Stock as StockedAll>⟧.all_slots stock.new) }
+    ensures kinds { kinds_of (⟦<Stock as StockedAll>⟧.all_slots stock.new) ≡ kinds_of (⟦<Stock as StockedAll>⟧.all_slots stock.old) }
     ensures ends { ChosenEnds (F.opens files.now) F.Opened.input chosen.now
-        (⟦<Stock as Stocked>⟧.slots stock.old) (⟦<Stock as Stocked>⟧.slots stock.new)
-        (⟦<MenuStock as StockedMenus>⟧.menu_slots stock.old.menus) (⟦<MenuStock as StockedMenus>⟧.menu_slots stock.new.menus)
-        (⟦<ControlStock as StockedControls>⟧.control_slots stock.old.controls) (⟦<ControlStock as StockedControls>⟧.control_slots stock.new.controls)
-        (⟦<ListStock as StockedLists>⟧.list_slots stock.old.lists) (⟦<ListStock as StockedLists>⟧.list_slots stock.new.lists)
+        (⟦<Stock as StockedAll>⟧.all_slots stock.old) (⟦<Stock as StockedAll>⟧.all_slots stock.new)
         (R.input standard.old) (R.input standard.new) (W.output sink.old) (W.output sink.new) result }
 {
     let bytes = font_bytes(alloc, files, chosen.font)?;

@@ -3,9 +3,7 @@ ghost use Rattle.std.specs.Prelude.{◌≡◌};
 ghost use Rattle.desk_call.specs.declared.call.Call.TheVariants as asks;
 ghost use Rattle.script_runner.specs.Session.{is_known};
 
-use def_iface::{
-    ControlStock, ListStock, MenuStock, Stock, Stocked, StockedControls, StockedLists, StockedMenus,
-};
+use def_iface::{Stock, StockedAll};
 use desk_toolbox::{Call, ControlCall, ListCall, MenuCall, WindowCall};
 use list_mgr::form_refusal;
 use script_text::Command;
@@ -15,9 +13,7 @@ const MENU_KIND: &[u8] = b"menu";
 
 /// Whether the stock has a slot of the kind that a command names, if it names one.
 pub(crate) fn is_known(command: &Command<'_>, stock: &Stock) -> bool
-    ensures { result ≡ is_known command.now (⟦<Stock as Stocked>⟧.slots stock.now)
-        (⟦<MenuStock as StockedMenus>⟧.menu_slots stock.now.menus)
-        (⟦<ControlStock as StockedControls>⟧.control_slots stock.now.controls) (⟦<ListStock as StockedLists>⟧.list_slots stock.now.lists) }
+    ensures { result ≡ is_known command.now (⟦<Stock as StockedAll>⟧.all_slots stock.now) }
 {
     match command {
         Command::Call(Call::Window(call)) => is_known_call(call, stock),
@@ -34,9 +30,7 @@ pub(crate) fn is_known(command: &Command<'_>, stock: &Stock) -> bool
 
 /// Whether the stock has a slot of the kind that a call names, if it names one.
 fn is_known_call(call: &WindowCall<'_>, stock: &Stock) -> bool
-    ensures { result ≡ is_known (Command.Call (asks.Window call.now)) (⟦<Stock as Stocked>⟧.slots stock.now)
-        (⟦<MenuStock as StockedMenus>⟧.menu_slots stock.now.menus)
-        (⟦<ControlStock as StockedControls>⟧.control_slots stock.now.controls) (⟦<ListStock as StockedLists>⟧.list_slots stock.now.lists) }
+    ensures { result ≡ is_known (Command.Call (asks.Window call.now)) (⟦<Stock as StockedAll>⟧.all_slots stock.now) }
 {
     match call {
         WindowCall::New(window) => stock.windows.has(window.kind.as_slice()),
@@ -46,9 +40,7 @@ fn is_known_call(call: &WindowCall<'_>, stock: &Stock) -> bool
 
 /// Whether the stock has a slot of the kind of control that a call names, if it names one.
 fn is_known_control_call(call: &ControlCall<'_>, stock: &Stock) -> bool
-    ensures { result ≡ is_known (Command.Call (asks.Control call.now)) (⟦<Stock as Stocked>⟧.slots stock.now)
-        (⟦<MenuStock as StockedMenus>⟧.menu_slots stock.now.menus)
-        (⟦<ControlStock as StockedControls>⟧.control_slots stock.now.controls) (⟦<ListStock as StockedLists>⟧.list_slots stock.now.lists) }
+    ensures { result ≡ is_known (Command.Call (asks.Control call.now)) (⟦<Stock as StockedAll>⟧.all_slots stock.now) }
 {
     match call {
         ControlCall::New(control) => stock.controls.has(control.kind.as_slice()),
@@ -59,9 +51,7 @@ fn is_known_control_call(call: &ControlCall<'_>, stock: &Stock) -> bool
 /// Whether the stock has a slot of the kind of list that a call names, if it names one, and one of scroll bars, if that
 /// list is to have any.
 fn is_known_list_call(call: &ListCall<'_>, stock: &Stock) -> bool
-    ensures { result ≡ is_known (Command.Call (asks.List call.now)) (⟦<Stock as Stocked>⟧.slots stock.now)
-        (⟦<MenuStock as StockedMenus>⟧.menu_slots stock.now.menus)
-        (⟦<ControlStock as StockedControls>⟧.control_slots stock.now.controls) (⟦<ListStock as StockedLists>⟧.list_slots stock.now.lists) }
+    ensures { result ≡ is_known (Command.Call (asks.List call.now)) (⟦<Stock as StockedAll>⟧.all_slots stock.now) }
 {
     match call {
         ListCall::New(_) => form_refusal(call, &stock.lists, &stock.controls).is_none(),
@@ -71,9 +61,7 @@ fn is_known_list_call(call: &ListCall<'_>, stock: &Stock) -> bool
 
 /// Whether the stock has a slot of the kind of menus, if a call makes one.
 fn is_known_menu_call(call: &MenuCall<'_>, stock: &Stock) -> bool
-    ensures { result ≡ is_known (Command.Call (asks.Menu call.now)) (⟦<Stock as Stocked>⟧.slots stock.now)
-        (⟦<MenuStock as StockedMenus>⟧.menu_slots stock.now.menus)
-        (⟦<ControlStock as StockedControls>⟧.control_slots stock.now.controls) (⟦<ListStock as StockedLists>⟧.list_slots stock.now.lists) }
+    ensures { result ≡ is_known (Command.Call (asks.Menu call.now)) (⟦<Stock as StockedAll>⟧.all_slots stock.now) }
 {
     match call {
         MenuCall::New(_) => stock.menus.has(MENU_KIND),

@@ -1,12 +1,10 @@
 //! A run: the lines of a script, from a reader, and what each answers, to a writer.
-ghost use Rattle.std.specs.Prelude.{◌≡◌, ◌≢◌, Option, Some, IsOk, IfOk, IfErr, OnOk, All, [], map, option_map, false};
-ghost use Rattle.def_iface.specs.Stocked.{IsFull};
+ghost use Rattle.std.specs.Prelude.{◌≡◌, ◌≢◌, Option, Some, IsOk, IfOk, IfErr, OnOk, [], option_map, false};
+ghost use Rattle.def_iface.specs.Stocks.{AreAllFull};
 ghost use Rattle.script_text.specs.Held.{pushed, said_held};
 ghost use Rattle.script_runner.specs.SessionViews.{session_of, IsReady};
 ghost use Rattle.script_runner.specs.Fonts.{IsFontOf, why_fontless};
-ghost use Rattle.control_mgr.specs.ControlClosing.{IsControlFull};
-ghost use Rattle.list_mgr.specs.ListClosing.{IsListFull};
-ghost use Rattle.menu_mgr.specs.MenuDesks.{IsMenuFull};
+ghost use Rattle.script_runner.specs.Kinds.{kinds_of};
 ghost use Rattle.script_runner.specs.Session.{SessionState};
 ghost use Rattle.script_runner.specs.Endings.{LineEnds};
 ghost use Rattle.script_runner.specs.Progress.{SoFar, GoesOn};
@@ -16,9 +14,8 @@ ghost use Rattle.watched_io.specs.Writes.{Output};
 
 use crate::session::Session;
 use def_iface::{
-    ControlStock, Defined, DefinedControl, DefinedList, DefinedMenu, ListStock, MenuStock, Stock,
-    Stocked, StockedControls, StockedLists, StockedMenus, Taken, TakenControl, TakenList,
-    TakenMenu,
+    Defined, DefinedControl, DefinedList, DefinedMenu, Stock, StockedAll, Taken, TakenControl,
+    TakenList, TakenMenu,
 };
 use script_text::LineBuffer;
 use std::alloc::Global;
@@ -47,30 +44,14 @@ pub fn run<R: Source, W: Sink>(
     raw: bool,
     check: bool,
 ) -> Result<(), Refusal>
-    requires full { All IsFull (⟦<Stock as Stocked>⟧.slots stock.old) }
-    requires full_menus { All IsMenuFull (⟦<MenuStock as StockedMenus>⟧.menu_slots stock.old.menus) }
-    requires full_controls { All IsControlFull (⟦<ControlStock as StockedControls>⟧.control_slots stock.old.controls) }
-    requires full_lists { All IsListFull (⟦<ListStock as StockedLists>⟧.list_slots stock.old.lists) }
+    requires full { AreAllFull (⟦<Stock as StockedAll>⟧.all_slots stock.old) }
     requires unread { (R.input source.old).reads ≡ 0 }
     requires going { IsOpen (R.input source.old) }
     requires unfailed { (W.output sink.old).has_failed ≡ false }
-    ensures full { All IsFull (⟦<Stock as Stocked>⟧.slots stock.new) }
-    ensures full_menus { All IsMenuFull (⟦<MenuStock as StockedMenus>⟧.menu_slots stock.new.menus) }
-    ensures full_controls { All IsControlFull (⟦<ControlStock as StockedControls>⟧.control_slots stock.new.controls) }
-    ensures full_lists { All IsListFull (⟦<ListStock as StockedLists>⟧.list_slots stock.new.lists) }
-    ensures kinds { map (λ s. s.kind) (⟦<Stock as Stocked>⟧.slots stock.new)
-        ≡ map (λ s. s.kind) (⟦<Stock as Stocked>⟧.slots stock.old) }
-    ensures kinds_of_menus { map (λ s. s.kind) (⟦<MenuStock as StockedMenus>⟧.menu_slots stock.new.menus)
-        ≡ map (λ s. s.kind) (⟦<MenuStock as StockedMenus>⟧.menu_slots stock.old.menus) }
-    ensures kinds_of_controls { map (λ s. s.kind) (⟦<ControlStock as StockedControls>⟧.control_slots stock.new.controls)
-        ≡ map (λ s. s.kind) (⟦<ControlStock as StockedControls>⟧.control_slots stock.old.controls) }
-    ensures kinds_of_lists { map (λ s. s.kind) (⟦<ListStock as StockedLists>⟧.list_slots stock.new.lists)
-        ≡ map (λ s. s.kind) (⟦<ListStock as StockedLists>⟧.list_slots stock.old.lists) }
+    ensures full { AreAllFull (⟦<Stock as StockedAll>⟧.all_slots stock.new) }
+    ensures kinds { kinds_of (⟦<Stock as StockedAll>⟧.all_slots stock.new) ≡ kinds_of (⟦<Stock as StockedAll>⟧.all_slots stock.old) }
     ensures ends { RunEnds (option_map (λ bytes. bytes.now) font.entry) raw check
-        (⟦<Stock as Stocked>⟧.slots stock.old) (⟦<Stock as Stocked>⟧.slots stock.new)
-        (⟦<MenuStock as StockedMenus>⟧.menu_slots stock.old.menus) (⟦<MenuStock as StockedMenus>⟧.menu_slots stock.new.menus)
-        (⟦<ControlStock as StockedControls>⟧.control_slots stock.old.controls) (⟦<ControlStock as StockedControls>⟧.control_slots stock.new.controls)
-        (⟦<ListStock as StockedLists>⟧.list_slots stock.old.lists) (⟦<ListStock as StockedLists>⟧.list_slots stock.new.lists)
+        (⟦<Stock as StockedAll>⟧.all_slots stock.old) (⟦<Stock as StockedAll>⟧.all_slots stock.new)
         (R.input source.old) (R.input source.new) (W.output sink.old) (W.output sink.new) result }
 {
     let font = make_font(alloc, font)?;
@@ -89,23 +70,15 @@ fn answer_and_check<R: Source, W: Sink>(
     raw: bool,
     check: bool,
 ) -> Result<(), Refusal>
-    requires ready { IsReady ⟦<Taken as Defined>⟧.loan ⟦<TakenMenu as DefinedMenu>⟧.menu_loan ⟦<TakenControl as DefinedControl>⟧.control_loan ⟦<TakenList as DefinedList>⟧.list_loan session.old
-        (⟦<Stock as Stocked>⟧.slots stock.old) (⟦<MenuStock as StockedMenus>⟧.menu_slots stock.old.menus)
-        (⟦<ControlStock as StockedControls>⟧.control_slots stock.old.controls) (⟦<ListStock as StockedLists>⟧.list_slots stock.old.lists) }
+    requires ready { IsReady ⟦<Taken as Defined>⟧.loan ⟦<TakenMenu as DefinedMenu>⟧.menu_loan ⟦<TakenControl as DefinedControl>⟧.control_loan ⟦<TakenList as DefinedList>⟧.list_loan session.old (⟦<Stock as StockedAll>⟧.all_slots stock.old) }
     requires unread { (R.input source.old).reads ≡ 0 }
     requires going { IsOpen (R.input source.old) }
     requires unfailed { (W.output sink.old).has_failed ≡ false }
-    ensures ready { IsReady ⟦<Taken as Defined>⟧.loan ⟦<TakenMenu as DefinedMenu>⟧.menu_loan ⟦<TakenControl as DefinedControl>⟧.control_loan ⟦<TakenList as DefinedList>⟧.list_loan session.new
-        (⟦<Stock as Stocked>⟧.slots stock.new) (⟦<MenuStock as StockedMenus>⟧.menu_slots stock.new.menus)
-        (⟦<ControlStock as StockedControls>⟧.control_slots stock.new.controls) (⟦<ListStock as StockedLists>⟧.list_slots stock.new.lists) }
+    ensures ready { IsReady ⟦<Taken as Defined>⟧.loan ⟦<TakenMenu as DefinedMenu>⟧.menu_loan ⟦<TakenControl as DefinedControl>⟧.control_loan ⟦<TakenList as DefinedList>⟧.list_loan session.new (⟦<Stock as StockedAll>⟧.all_slots stock.new) }
     ensures ends { CheckedEnds raw check
-        (session_of ⟦<Taken as Defined>⟧.loan ⟦<TakenMenu as DefinedMenu>⟧.menu_loan ⟦<TakenControl as DefinedControl>⟧.control_loan ⟦<TakenList as DefinedList>⟧.list_loan session.old
-        (⟦<Stock as Stocked>⟧.slots stock.old) (⟦<MenuStock as StockedMenus>⟧.menu_slots stock.old.menus)
-        (⟦<ControlStock as StockedControls>⟧.control_slots stock.old.controls) (⟦<ListStock as StockedLists>⟧.list_slots stock.old.lists))
+        (session_of ⟦<Taken as Defined>⟧.loan ⟦<TakenMenu as DefinedMenu>⟧.menu_loan ⟦<TakenControl as DefinedControl>⟧.control_loan ⟦<TakenList as DefinedList>⟧.list_loan session.old (⟦<Stock as StockedAll>⟧.all_slots stock.old))
         (R.input source.old) (R.input source.new) (W.output sink.old) (W.output sink.new)
-        (session_of ⟦<Taken as Defined>⟧.loan ⟦<TakenMenu as DefinedMenu>⟧.menu_loan ⟦<TakenControl as DefinedControl>⟧.control_loan ⟦<TakenList as DefinedList>⟧.list_loan session.new
-        (⟦<Stock as Stocked>⟧.slots stock.new) (⟦<MenuStock as StockedMenus>⟧.menu_slots stock.new.menus)
-        (⟦<ControlStock as StockedControls>⟧.control_slots stock.new.controls) (⟦<ListStock as StockedLists>⟧.list_slots stock.new.lists)) result }
+        (session_of ⟦<Taken as Defined>⟧.loan ⟦<TakenMenu as DefinedMenu>⟧.menu_loan ⟦<TakenControl as DefinedControl>⟧.control_loan ⟦<TakenList as DefinedList>⟧.list_loan session.new (⟦<Stock as StockedAll>⟧.all_slots stock.new)) result }
 {
     match answer_all(session, source, sink, stock, raw) {
         Ok(()) if check => session.check(sink),
@@ -133,23 +106,15 @@ fn answer_all<R: Source, W: Sink>(
     stock: &mut Stock,
     raw: bool,
 ) -> Result<(), Refusal>
-    requires ready { IsReady ⟦<Taken as Defined>⟧.loan ⟦<TakenMenu as DefinedMenu>⟧.menu_loan ⟦<TakenControl as DefinedControl>⟧.control_loan ⟦<TakenList as DefinedList>⟧.list_loan session.old
-        (⟦<Stock as Stocked>⟧.slots stock.old) (⟦<MenuStock as StockedMenus>⟧.menu_slots stock.old.menus)
-        (⟦<ControlStock as StockedControls>⟧.control_slots stock.old.controls) (⟦<ListStock as StockedLists>⟧.list_slots stock.old.lists) }
+    requires ready { IsReady ⟦<Taken as Defined>⟧.loan ⟦<TakenMenu as DefinedMenu>⟧.menu_loan ⟦<TakenControl as DefinedControl>⟧.control_loan ⟦<TakenList as DefinedList>⟧.list_loan session.old (⟦<Stock as StockedAll>⟧.all_slots stock.old) }
     requires unread { (R.input source.old).reads ≡ 0 }
     requires going { IsOpen (R.input source.old) }
     requires unfailed { (W.output sink.old).has_failed ≡ false }
-    ensures ready { IsReady ⟦<Taken as Defined>⟧.loan ⟦<TakenMenu as DefinedMenu>⟧.menu_loan ⟦<TakenControl as DefinedControl>⟧.control_loan ⟦<TakenList as DefinedList>⟧.list_loan session.new
-        (⟦<Stock as Stocked>⟧.slots stock.new) (⟦<MenuStock as StockedMenus>⟧.menu_slots stock.new.menus)
-        (⟦<ControlStock as StockedControls>⟧.control_slots stock.new.controls) (⟦<ListStock as StockedLists>⟧.list_slots stock.new.lists) }
+    ensures ready { IsReady ⟦<Taken as Defined>⟧.loan ⟦<TakenMenu as DefinedMenu>⟧.menu_loan ⟦<TakenControl as DefinedControl>⟧.control_loan ⟦<TakenList as DefinedList>⟧.list_loan session.new (⟦<Stock as StockedAll>⟧.all_slots stock.new) }
     ensures ends { ScriptEnds raw
-        (session_of ⟦<Taken as Defined>⟧.loan ⟦<TakenMenu as DefinedMenu>⟧.menu_loan ⟦<TakenControl as DefinedControl>⟧.control_loan ⟦<TakenList as DefinedList>⟧.list_loan session.old
-        (⟦<Stock as Stocked>⟧.slots stock.old) (⟦<MenuStock as StockedMenus>⟧.menu_slots stock.old.menus)
-        (⟦<ControlStock as StockedControls>⟧.control_slots stock.old.controls) (⟦<ListStock as StockedLists>⟧.list_slots stock.old.lists))
+        (session_of ⟦<Taken as Defined>⟧.loan ⟦<TakenMenu as DefinedMenu>⟧.menu_loan ⟦<TakenControl as DefinedControl>⟧.control_loan ⟦<TakenList as DefinedList>⟧.list_loan session.old (⟦<Stock as StockedAll>⟧.all_slots stock.old))
         (R.input source.old) (R.input source.new) (W.output sink.old) (W.output sink.new)
-        (session_of ⟦<Taken as Defined>⟧.loan ⟦<TakenMenu as DefinedMenu>⟧.menu_loan ⟦<TakenControl as DefinedControl>⟧.control_loan ⟦<TakenList as DefinedList>⟧.list_loan session.new
-        (⟦<Stock as Stocked>⟧.slots stock.new) (⟦<MenuStock as StockedMenus>⟧.menu_slots stock.new.menus)
-        (⟦<ControlStock as StockedControls>⟧.control_slots stock.new.controls) (⟦<ListStock as StockedLists>⟧.list_slots stock.new.lists)) result }
+        (session_of ⟦<Taken as Defined>⟧.loan ⟦<TakenMenu as DefinedMenu>⟧.menu_loan ⟦<TakenControl as DefinedControl>⟧.control_loan ⟦<TakenList as DefinedList>⟧.list_loan session.new (⟦<Stock as StockedAll>⟧.all_slots stock.new)) result }
 {
     let mut line = LineBuffer::new();
     let mut buffer = [0u8; 4096];
@@ -172,22 +137,14 @@ fn take_all<W: Sink>(
     sink: &mut W,
     raw: bool,
 ) -> Result<(), Refusal>
-    requires ready { IsReady ⟦<Taken as Defined>⟧.loan ⟦<TakenMenu as DefinedMenu>⟧.menu_loan ⟦<TakenControl as DefinedControl>⟧.control_loan ⟦<TakenList as DefinedList>⟧.list_loan session.old
-        (⟦<Stock as Stocked>⟧.slots stock.old) (⟦<MenuStock as StockedMenus>⟧.menu_slots stock.old.menus)
-        (⟦<ControlStock as StockedControls>⟧.control_slots stock.old.controls) (⟦<ListStock as StockedLists>⟧.list_slots stock.old.lists) }
+    requires ready { IsReady ⟦<Taken as Defined>⟧.loan ⟦<TakenMenu as DefinedMenu>⟧.menu_loan ⟦<TakenControl as DefinedControl>⟧.control_loan ⟦<TakenList as DefinedList>⟧.list_loan session.old (⟦<Stock as StockedAll>⟧.all_slots stock.old) }
     requires unfailed { (W.output sink.old).has_failed ≡ false }
-    ensures ready { IsReady ⟦<Taken as Defined>⟧.loan ⟦<TakenMenu as DefinedMenu>⟧.menu_loan ⟦<TakenControl as DefinedControl>⟧.control_loan ⟦<TakenList as DefinedList>⟧.list_loan session.new
-        (⟦<Stock as Stocked>⟧.slots stock.new) (⟦<MenuStock as StockedMenus>⟧.menu_slots stock.new.menus)
-        (⟦<ControlStock as StockedControls>⟧.control_slots stock.new.controls) (⟦<ListStock as StockedLists>⟧.list_slots stock.new.lists) }
+    ensures ready { IsReady ⟦<Taken as Defined>⟧.loan ⟦<TakenMenu as DefinedMenu>⟧.menu_loan ⟦<TakenControl as DefinedControl>⟧.control_loan ⟦<TakenList as DefinedList>⟧.list_loan session.new (⟦<Stock as StockedAll>⟧.all_slots stock.new) }
     ensures quiet { OnOk result ((W.output sink.new).has_failed ≡ false) }
     ensures goes_on { (first : SessionState) (input rest : Input) (old : Output) → SoFar raw first input old rest (W.output sink.old)
-        (session_of ⟦<Taken as Defined>⟧.loan ⟦<TakenMenu as DefinedMenu>⟧.menu_loan ⟦<TakenControl as DefinedControl>⟧.control_loan ⟦<TakenList as DefinedList>⟧.list_loan session.old
-        (⟦<Stock as Stocked>⟧.slots stock.old) (⟦<MenuStock as StockedMenus>⟧.menu_slots stock.old.menus)
-        (⟦<ControlStock as StockedControls>⟧.control_slots stock.old.controls) (⟦<ListStock as StockedLists>⟧.list_slots stock.old.lists)) line.old bytes.now
+        (session_of ⟦<Taken as Defined>⟧.loan ⟦<TakenMenu as DefinedMenu>⟧.menu_loan ⟦<TakenControl as DefinedControl>⟧.control_loan ⟦<TakenList as DefinedList>⟧.list_loan session.old (⟦<Stock as StockedAll>⟧.all_slots stock.old)) line.old bytes.now
         → GoesOn raw first input old rest (W.output sink.new)
-        (session_of ⟦<Taken as Defined>⟧.loan ⟦<TakenMenu as DefinedMenu>⟧.menu_loan ⟦<TakenControl as DefinedControl>⟧.control_loan ⟦<TakenList as DefinedList>⟧.list_loan session.new
-        (⟦<Stock as Stocked>⟧.slots stock.new) (⟦<MenuStock as StockedMenus>⟧.menu_slots stock.new.menus)
-        (⟦<ControlStock as StockedControls>⟧.control_slots stock.new.controls) (⟦<ListStock as StockedLists>⟧.list_slots stock.new.lists)) line.new result }
+        (session_of ⟦<Taken as Defined>⟧.loan ⟦<TakenMenu as DefinedMenu>⟧.menu_loan ⟦<TakenControl as DefinedControl>⟧.control_loan ⟦<TakenList as DefinedList>⟧.list_loan session.new (⟦<Stock as StockedAll>⟧.all_slots stock.new)) line.new result }
 {
     for byte in bytes {
         take(session, line, *byte, stock, sink, raw)?;
@@ -204,30 +161,18 @@ fn take<W: Sink>(
     sink: &mut W,
     raw: bool,
 ) -> Result<(), Refusal>
-    requires ready { IsReady ⟦<Taken as Defined>⟧.loan ⟦<TakenMenu as DefinedMenu>⟧.menu_loan ⟦<TakenControl as DefinedControl>⟧.control_loan ⟦<TakenList as DefinedList>⟧.list_loan session.old
-        (⟦<Stock as Stocked>⟧.slots stock.old) (⟦<MenuStock as StockedMenus>⟧.menu_slots stock.old.menus)
-        (⟦<ControlStock as StockedControls>⟧.control_slots stock.old.controls) (⟦<ListStock as StockedLists>⟧.list_slots stock.old.lists) }
+    requires ready { IsReady ⟦<Taken as Defined>⟧.loan ⟦<TakenMenu as DefinedMenu>⟧.menu_loan ⟦<TakenControl as DefinedControl>⟧.control_loan ⟦<TakenList as DefinedList>⟧.list_loan session.old (⟦<Stock as StockedAll>⟧.all_slots stock.old) }
     requires unfailed { (W.output sink.old).has_failed ≡ false }
-    ensures ready { IsReady ⟦<Taken as Defined>⟧.loan ⟦<TakenMenu as DefinedMenu>⟧.menu_loan ⟦<TakenControl as DefinedControl>⟧.control_loan ⟦<TakenList as DefinedList>⟧.list_loan session.new
-        (⟦<Stock as Stocked>⟧.slots stock.new) (⟦<MenuStock as StockedMenus>⟧.menu_slots stock.new.menus)
-        (⟦<ControlStock as StockedControls>⟧.control_slots stock.new.controls) (⟦<ListStock as StockedLists>⟧.list_slots stock.new.lists) }
+    ensures ready { IsReady ⟦<Taken as Defined>⟧.loan ⟦<TakenMenu as DefinedMenu>⟧.menu_loan ⟦<TakenControl as DefinedControl>⟧.control_loan ⟦<TakenList as DefinedList>⟧.list_loan session.new (⟦<Stock as StockedAll>⟧.all_slots stock.new) }
     ensures quiet { OnOk result ((W.output sink.new).has_failed ≡ false) }
     ensures newline { byte ≡ 10 → LineEnds raw
-        (session_of ⟦<Taken as Defined>⟧.loan ⟦<TakenMenu as DefinedMenu>⟧.menu_loan ⟦<TakenControl as DefinedControl>⟧.control_loan ⟦<TakenList as DefinedList>⟧.list_loan session.old
-        (⟦<Stock as Stocked>⟧.slots stock.old) (⟦<MenuStock as StockedMenus>⟧.menu_slots stock.old.menus)
-        (⟦<ControlStock as StockedControls>⟧.control_slots stock.old.controls) (⟦<ListStock as StockedLists>⟧.list_slots stock.old.lists)) (said_held line.old)
-        (session_of ⟦<Taken as Defined>⟧.loan ⟦<TakenMenu as DefinedMenu>⟧.menu_loan ⟦<TakenControl as DefinedControl>⟧.control_loan ⟦<TakenList as DefinedList>⟧.list_loan session.new
-        (⟦<Stock as Stocked>⟧.slots stock.new) (⟦<MenuStock as StockedMenus>⟧.menu_slots stock.new.menus)
-        (⟦<ControlStock as StockedControls>⟧.control_slots stock.new.controls) (⟦<ListStock as StockedLists>⟧.list_slots stock.new.lists))
+        (session_of ⟦<Taken as Defined>⟧.loan ⟦<TakenMenu as DefinedMenu>⟧.menu_loan ⟦<TakenControl as DefinedControl>⟧.control_loan ⟦<TakenList as DefinedList>⟧.list_loan session.old (⟦<Stock as StockedAll>⟧.all_slots stock.old)) (said_held line.old)
+        (session_of ⟦<Taken as Defined>⟧.loan ⟦<TakenMenu as DefinedMenu>⟧.menu_loan ⟦<TakenControl as DefinedControl>⟧.control_loan ⟦<TakenList as DefinedList>⟧.list_loan session.new (⟦<Stock as StockedAll>⟧.all_slots stock.new))
         (W.output sink.old) (W.output sink.new) result }
     ensures cleared { byte ≡ 10 → OnOk result (line.new ≡ Some []) }
     ensures other { byte ≢ 10 → IsOk result × (line.new ≡ pushed line.old byte)
-        × (session_of ⟦<Taken as Defined>⟧.loan ⟦<TakenMenu as DefinedMenu>⟧.menu_loan ⟦<TakenControl as DefinedControl>⟧.control_loan ⟦<TakenList as DefinedList>⟧.list_loan session.new
-        (⟦<Stock as Stocked>⟧.slots stock.new) (⟦<MenuStock as StockedMenus>⟧.menu_slots stock.new.menus)
-        (⟦<ControlStock as StockedControls>⟧.control_slots stock.new.controls) (⟦<ListStock as StockedLists>⟧.list_slots stock.new.lists)
-        ≡ session_of ⟦<Taken as Defined>⟧.loan ⟦<TakenMenu as DefinedMenu>⟧.menu_loan ⟦<TakenControl as DefinedControl>⟧.control_loan ⟦<TakenList as DefinedList>⟧.list_loan session.old
-        (⟦<Stock as Stocked>⟧.slots stock.old) (⟦<MenuStock as StockedMenus>⟧.menu_slots stock.old.menus)
-        (⟦<ControlStock as StockedControls>⟧.control_slots stock.old.controls) (⟦<ListStock as StockedLists>⟧.list_slots stock.old.lists))
+        × (session_of ⟦<Taken as Defined>⟧.loan ⟦<TakenMenu as DefinedMenu>⟧.menu_loan ⟦<TakenControl as DefinedControl>⟧.control_loan ⟦<TakenList as DefinedList>⟧.list_loan session.new (⟦<Stock as StockedAll>⟧.all_slots stock.new)
+        ≡ session_of ⟦<Taken as Defined>⟧.loan ⟦<TakenMenu as DefinedMenu>⟧.menu_loan ⟦<TakenControl as DefinedControl>⟧.control_loan ⟦<TakenList as DefinedList>⟧.list_loan session.old (⟦<Stock as StockedAll>⟧.all_slots stock.old))
         × (W.output sink.new ≡ W.output sink.old) }
 {
     if byte != b'\n' {

@@ -1,11 +1,6 @@
 //! The desk of a script: none, until the first command makes it, with the font that waits for it.
-ghost use Rattle.std.specs.Prelude.{◌≡◌, ℕ, true, List, All, None, Some, OnOk, false};
-ghost use Rattle.def_iface.specs.Stocked.{IsFull, SlotView};
-ghost use Rattle.control_mgr.specs.ControlClosing.{IsControlFull};
-ghost use Rattle.control_mgr.specs.ControlDesks.{ControlSlot};
-ghost use Rattle.list_mgr.specs.ListClosing.{IsListFull};
-ghost use Rattle.list_mgr.specs.ListDesks.{ListSlot};
-ghost use Rattle.menu_mgr.specs.MenuDesks.{IsMenuFull, MenuSlot};
+ghost use Rattle.std.specs.Prelude.{◌≡◌, ℕ, true, List, None, Some, OnOk, false};
+ghost use Rattle.def_iface.specs.Stocks.{AllSlots, AreAllFull};
 ghost use Rattle.desk_toolbox.specs.WholeToolbox.{IsKeptToolbox, IsWholeToolbox, toolbox_state};
 ghost use Rattle.watched_io.specs.Writes.{Sends};
 ghost use Rattle.script_runner.specs.Checks.{IsCheckLine};
@@ -17,9 +12,8 @@ use crate::check_line::write_check;
 use crate::known::is_known;
 use crate::shown::{show_done, show_image, show_reply};
 use def_iface::{
-    ControlStock, Defined, DefinedControl, DefinedList, DefinedMenu, ListStock, MenuStock, Stock,
-    Stocked, StockedControls, StockedLists, StockedMenus, Taken, TakenControl, TakenList,
-    TakenMenu,
+    Defined, DefinedControl, DefinedList, DefinedMenu, Stock, StockedAll, Taken, TakenControl,
+    TakenList, TakenMenu,
 };
 use desk_toolbox::{NotBegun, Toolbox};
 use scratch_paint::differences;
@@ -69,21 +63,13 @@ impl Session {
         sink: &mut S,
         raw: bool,
     ) -> Result<(), Refusal>
-        requires ready { IsReady ⟦<Taken as Defined>⟧.loan ⟦<TakenMenu as DefinedMenu>⟧.menu_loan ⟦<TakenControl as DefinedControl>⟧.control_loan ⟦<TakenList as DefinedList>⟧.list_loan self.old
-            (⟦<Stock as Stocked>⟧.slots stock.old) (⟦<MenuStock as StockedMenus>⟧.menu_slots stock.old.menus)
-            (⟦<ControlStock as StockedControls>⟧.control_slots stock.old.controls) (⟦<ListStock as StockedLists>⟧.list_slots stock.old.lists) }
+        requires ready { IsReady ⟦<Taken as Defined>⟧.loan ⟦<TakenMenu as DefinedMenu>⟧.menu_loan ⟦<TakenControl as DefinedControl>⟧.control_loan ⟦<TakenList as DefinedList>⟧.list_loan self.old (⟦<Stock as StockedAll>⟧.all_slots stock.old) }
         requires unfailed { (S.output sink.old).has_failed ≡ false }
-        ensures ready { IsReady ⟦<Taken as Defined>⟧.loan ⟦<TakenMenu as DefinedMenu>⟧.menu_loan ⟦<TakenControl as DefinedControl>⟧.control_loan ⟦<TakenList as DefinedList>⟧.list_loan self.new
-            (⟦<Stock as Stocked>⟧.slots stock.new) (⟦<MenuStock as StockedMenus>⟧.menu_slots stock.new.menus)
-            (⟦<ControlStock as StockedControls>⟧.control_slots stock.new.controls) (⟦<ListStock as StockedLists>⟧.list_slots stock.new.lists) }
+        ensures ready { IsReady ⟦<Taken as Defined>⟧.loan ⟦<TakenMenu as DefinedMenu>⟧.menu_loan ⟦<TakenControl as DefinedControl>⟧.control_loan ⟦<TakenList as DefinedList>⟧.list_loan self.new (⟦<Stock as StockedAll>⟧.all_slots stock.new) }
         ensures quiet { OnOk result ((S.output sink.new).has_failed ≡ false) }
         ensures ends { LineEnds raw
-            (session_of ⟦<Taken as Defined>⟧.loan ⟦<TakenMenu as DefinedMenu>⟧.menu_loan ⟦<TakenControl as DefinedControl>⟧.control_loan ⟦<TakenList as DefinedList>⟧.list_loan self.old
-            (⟦<Stock as Stocked>⟧.slots stock.old) (⟦<MenuStock as StockedMenus>⟧.menu_slots stock.old.menus)
-            (⟦<ControlStock as StockedControls>⟧.control_slots stock.old.controls) (⟦<ListStock as StockedLists>⟧.list_slots stock.old.lists)) said.entry
-            (session_of ⟦<Taken as Defined>⟧.loan ⟦<TakenMenu as DefinedMenu>⟧.menu_loan ⟦<TakenControl as DefinedControl>⟧.control_loan ⟦<TakenList as DefinedList>⟧.list_loan self.new
-            (⟦<Stock as Stocked>⟧.slots stock.new) (⟦<MenuStock as StockedMenus>⟧.menu_slots stock.new.menus)
-            (⟦<ControlStock as StockedControls>⟧.control_slots stock.new.controls) (⟦<ListStock as StockedLists>⟧.list_slots stock.new.lists))
+            (session_of ⟦<Taken as Defined>⟧.loan ⟦<TakenMenu as DefinedMenu>⟧.menu_loan ⟦<TakenControl as DefinedControl>⟧.control_loan ⟦<TakenList as DefinedList>⟧.list_loan self.old (⟦<Stock as StockedAll>⟧.all_slots stock.old)) said.entry
+            (session_of ⟦<Taken as Defined>⟧.loan ⟦<TakenMenu as DefinedMenu>⟧.menu_loan ⟦<TakenControl as DefinedControl>⟧.control_loan ⟦<TakenList as DefinedList>⟧.list_loan self.new (⟦<Stock as StockedAll>⟧.all_slots stock.new))
             (S.output sink.old) (S.output sink.new) result }
     {
         match said {
@@ -101,21 +87,13 @@ impl Session {
         sink: &mut S,
         raw: bool,
     ) -> Result<(), Refusal>
-        requires ready { IsReady ⟦<Taken as Defined>⟧.loan ⟦<TakenMenu as DefinedMenu>⟧.menu_loan ⟦<TakenControl as DefinedControl>⟧.control_loan ⟦<TakenList as DefinedList>⟧.list_loan self.old
-            (⟦<Stock as Stocked>⟧.slots stock.old) (⟦<MenuStock as StockedMenus>⟧.menu_slots stock.old.menus)
-            (⟦<ControlStock as StockedControls>⟧.control_slots stock.old.controls) (⟦<ListStock as StockedLists>⟧.list_slots stock.old.lists) }
+        requires ready { IsReady ⟦<Taken as Defined>⟧.loan ⟦<TakenMenu as DefinedMenu>⟧.menu_loan ⟦<TakenControl as DefinedControl>⟧.control_loan ⟦<TakenList as DefinedList>⟧.list_loan self.old (⟦<Stock as StockedAll>⟧.all_slots stock.old) }
         requires unfailed { (S.output sink.old).has_failed ≡ false }
-        ensures ready { IsReady ⟦<Taken as Defined>⟧.loan ⟦<TakenMenu as DefinedMenu>⟧.menu_loan ⟦<TakenControl as DefinedControl>⟧.control_loan ⟦<TakenList as DefinedList>⟧.list_loan self.new
-            (⟦<Stock as Stocked>⟧.slots stock.new) (⟦<MenuStock as StockedMenus>⟧.menu_slots stock.new.menus)
-            (⟦<ControlStock as StockedControls>⟧.control_slots stock.new.controls) (⟦<ListStock as StockedLists>⟧.list_slots stock.new.lists) }
+        ensures ready { IsReady ⟦<Taken as Defined>⟧.loan ⟦<TakenMenu as DefinedMenu>⟧.menu_loan ⟦<TakenControl as DefinedControl>⟧.control_loan ⟦<TakenList as DefinedList>⟧.list_loan self.new (⟦<Stock as StockedAll>⟧.all_slots stock.new) }
         ensures quiet { OnOk result ((S.output sink.new).has_failed ≡ false) }
         ensures ends { CommandEnds raw
-            (session_of ⟦<Taken as Defined>⟧.loan ⟦<TakenMenu as DefinedMenu>⟧.menu_loan ⟦<TakenControl as DefinedControl>⟧.control_loan ⟦<TakenList as DefinedList>⟧.list_loan self.old
-            (⟦<Stock as Stocked>⟧.slots stock.old) (⟦<MenuStock as StockedMenus>⟧.menu_slots stock.old.menus)
-            (⟦<ControlStock as StockedControls>⟧.control_slots stock.old.controls) (⟦<ListStock as StockedLists>⟧.list_slots stock.old.lists)) command.now
-            (session_of ⟦<Taken as Defined>⟧.loan ⟦<TakenMenu as DefinedMenu>⟧.menu_loan ⟦<TakenControl as DefinedControl>⟧.control_loan ⟦<TakenList as DefinedList>⟧.list_loan self.new
-            (⟦<Stock as Stocked>⟧.slots stock.new) (⟦<MenuStock as StockedMenus>⟧.menu_slots stock.new.menus)
-            (⟦<ControlStock as StockedControls>⟧.control_slots stock.new.controls) (⟦<ListStock as StockedLists>⟧.list_slots stock.new.lists))
+            (session_of ⟦<Taken as Defined>⟧.loan ⟦<TakenMenu as DefinedMenu>⟧.menu_loan ⟦<TakenControl as DefinedControl>⟧.control_loan ⟦<TakenList as DefinedList>⟧.list_loan self.old (⟦<Stock as StockedAll>⟧.all_slots stock.old)) command.now
+            (session_of ⟦<Taken as Defined>⟧.loan ⟦<TakenMenu as DefinedMenu>⟧.menu_loan ⟦<TakenControl as DefinedControl>⟧.control_loan ⟦<TakenList as DefinedList>⟧.list_loan self.new (⟦<Stock as StockedAll>⟧.all_slots stock.new))
             (S.output sink.old) (S.output sink.new) result }
     {
         match &mut self.desk {
@@ -135,24 +113,14 @@ impl Session {
         raw: bool,
     ) -> Result<(), Refusal>
         requires unmade { self.old.desk ≡ None }
-        requires ready { IsReady ⟦<Taken as Defined>⟧.loan ⟦<TakenMenu as DefinedMenu>⟧.menu_loan ⟦<TakenControl as DefinedControl>⟧.control_loan ⟦<TakenList as DefinedList>⟧.list_loan self.old
-            (⟦<Stock as Stocked>⟧.slots stock.old) (⟦<MenuStock as StockedMenus>⟧.menu_slots stock.old.menus)
-            (⟦<ControlStock as StockedControls>⟧.control_slots stock.old.controls) (⟦<ListStock as StockedLists>⟧.list_slots stock.old.lists) }
-        requires known { is_known command.now (⟦<Stock as Stocked>⟧.slots stock.old)
-            (⟦<MenuStock as StockedMenus>⟧.menu_slots stock.old.menus)
-            (⟦<ControlStock as StockedControls>⟧.control_slots stock.old.controls) (⟦<ListStock as StockedLists>⟧.list_slots stock.old.lists) ≡ true }
+        requires ready { IsReady ⟦<Taken as Defined>⟧.loan ⟦<TakenMenu as DefinedMenu>⟧.menu_loan ⟦<TakenControl as DefinedControl>⟧.control_loan ⟦<TakenList as DefinedList>⟧.list_loan self.old (⟦<Stock as StockedAll>⟧.all_slots stock.old) }
+        requires known { is_known command.now (⟦<Stock as StockedAll>⟧.all_slots stock.old) ≡ true }
         requires unfailed { (S.output sink.old).has_failed ≡ false }
-        ensures ready { IsReady ⟦<Taken as Defined>⟧.loan ⟦<TakenMenu as DefinedMenu>⟧.menu_loan ⟦<TakenControl as DefinedControl>⟧.control_loan ⟦<TakenList as DefinedList>⟧.list_loan self.new
-            (⟦<Stock as Stocked>⟧.slots stock.new) (⟦<MenuStock as StockedMenus>⟧.menu_slots stock.new.menus)
-            (⟦<ControlStock as StockedControls>⟧.control_slots stock.new.controls) (⟦<ListStock as StockedLists>⟧.list_slots stock.new.lists) }
+        ensures ready { IsReady ⟦<Taken as Defined>⟧.loan ⟦<TakenMenu as DefinedMenu>⟧.menu_loan ⟦<TakenControl as DefinedControl>⟧.control_loan ⟦<TakenList as DefinedList>⟧.list_loan self.new (⟦<Stock as StockedAll>⟧.all_slots stock.new) }
         ensures quiet { OnOk result ((S.output sink.new).has_failed ≡ false) }
         ensures ends { CommandEnds raw
-            (session_of ⟦<Taken as Defined>⟧.loan ⟦<TakenMenu as DefinedMenu>⟧.menu_loan ⟦<TakenControl as DefinedControl>⟧.control_loan ⟦<TakenList as DefinedList>⟧.list_loan self.old
-            (⟦<Stock as Stocked>⟧.slots stock.old) (⟦<MenuStock as StockedMenus>⟧.menu_slots stock.old.menus)
-            (⟦<ControlStock as StockedControls>⟧.control_slots stock.old.controls) (⟦<ListStock as StockedLists>⟧.list_slots stock.old.lists)) command.now
-            (session_of ⟦<Taken as Defined>⟧.loan ⟦<TakenMenu as DefinedMenu>⟧.menu_loan ⟦<TakenControl as DefinedControl>⟧.control_loan ⟦<TakenList as DefinedList>⟧.list_loan self.new
-            (⟦<Stock as Stocked>⟧.slots stock.new) (⟦<MenuStock as StockedMenus>⟧.menu_slots stock.new.menus)
-            (⟦<ControlStock as StockedControls>⟧.control_slots stock.new.controls) (⟦<ListStock as StockedLists>⟧.list_slots stock.new.lists))
+            (session_of ⟦<Taken as Defined>⟧.loan ⟦<TakenMenu as DefinedMenu>⟧.menu_loan ⟦<TakenControl as DefinedControl>⟧.control_loan ⟦<TakenList as DefinedList>⟧.list_loan self.old (⟦<Stock as StockedAll>⟧.all_slots stock.old)) command.now
+            (session_of ⟦<Taken as Defined>⟧.loan ⟦<TakenMenu as DefinedMenu>⟧.menu_loan ⟦<TakenControl as DefinedControl>⟧.control_loan ⟦<TakenList as DefinedList>⟧.list_loan self.new (⟦<Stock as StockedAll>⟧.all_slots stock.new))
             (S.output sink.old) (S.output sink.new) result }
     {
         let size = first_size(command);
@@ -182,8 +150,8 @@ impl Session {
         requires kept { (desk : _) → self.now.desk ≡ Some desk
             → IsKeptToolbox ⟦<Taken as Defined>⟧.loan ⟦<TakenMenu as DefinedMenu>⟧.menu_loan ⟦<TakenControl as DefinedControl>⟧.control_loan ⟦<TakenList as DefinedList>⟧.list_loan desk }
         requires unfailed { (S.output sink.old).has_failed ≡ false }
-        ensures { (slots : List SlotView) (kept : List MenuSlot) (held : List ControlSlot) (listed : List ListSlot) → (text : List ℕ)
-            × IsCheckLine (session_of ⟦<Taken as Defined>⟧.loan ⟦<TakenMenu as DefinedMenu>⟧.menu_loan ⟦<TakenControl as DefinedControl>⟧.control_loan ⟦<TakenList as DefinedList>⟧.list_loan self.now slots kept held listed) text
+        ensures { (stocks : AllSlots) → (text : List ℕ)
+            × IsCheckLine (session_of ⟦<Taken as Defined>⟧.loan ⟦<TakenMenu as DefinedMenu>⟧.menu_loan ⟦<TakenControl as DefinedControl>⟧.control_loan ⟦<TakenList as DefinedList>⟧.list_loan self.now stocks) text
             × Sends (S.output sink.old) (S.output sink.new) result text }
     {
         let count = match &self.desk {
@@ -196,19 +164,11 @@ impl Session {
     /// Ends the session: the definition of every window, control, list and menu is disposed of, and put back
     /// Closed into its slot, while every other slot stays as it was.
     pub fn close(self, stock: &mut Stock)
-        requires { IsReady ⟦<Taken as Defined>⟧.loan ⟦<TakenMenu as DefinedMenu>⟧.menu_loan ⟦<TakenControl as DefinedControl>⟧.control_loan ⟦<TakenList as DefinedList>⟧.list_loan self
-            (⟦<Stock as Stocked>⟧.slots stock.old) (⟦<MenuStock as StockedMenus>⟧.menu_slots stock.old.menus)
-            (⟦<ControlStock as StockedControls>⟧.control_slots stock.old.controls) (⟦<ListStock as StockedLists>⟧.list_slots stock.old.lists) }
-        ensures full { All IsFull (⟦<Stock as Stocked>⟧.slots stock.new) }
-        ensures full_menus { All IsMenuFull (⟦<MenuStock as StockedMenus>⟧.menu_slots stock.new.menus) }
-        ensures full_controls { All IsControlFull (⟦<ControlStock as StockedControls>⟧.control_slots stock.new.controls) }
-        ensures full_lists { All IsListFull (⟦<ListStock as StockedLists>⟧.list_slots stock.new.lists) }
+        requires { IsReady ⟦<Taken as Defined>⟧.loan ⟦<TakenMenu as DefinedMenu>⟧.menu_loan ⟦<TakenControl as DefinedControl>⟧.control_loan ⟦<TakenList as DefinedList>⟧.list_loan self (⟦<Stock as StockedAll>⟧.all_slots stock.old) }
+        ensures full { AreAllFull (⟦<Stock as StockedAll>⟧.all_slots stock.new) }
         ensures left { LeavesStock
-            (session_of ⟦<Taken as Defined>⟧.loan ⟦<TakenMenu as DefinedMenu>⟧.menu_loan ⟦<TakenControl as DefinedControl>⟧.control_loan ⟦<TakenList as DefinedList>⟧.list_loan self
-            (⟦<Stock as Stocked>⟧.slots stock.old) (⟦<MenuStock as StockedMenus>⟧.menu_slots stock.old.menus)
-            (⟦<ControlStock as StockedControls>⟧.control_slots stock.old.controls) (⟦<ListStock as StockedLists>⟧.list_slots stock.old.lists))
-            (⟦<Stock as Stocked>⟧.slots stock.new) (⟦<MenuStock as StockedMenus>⟧.menu_slots stock.new.menus)
-            (⟦<ControlStock as StockedControls>⟧.control_slots stock.new.controls) (⟦<ListStock as StockedLists>⟧.list_slots stock.new.lists) }
+            (session_of ⟦<Taken as Defined>⟧.loan ⟦<TakenMenu as DefinedMenu>⟧.menu_loan ⟦<TakenControl as DefinedControl>⟧.control_loan ⟦<TakenList as DefinedList>⟧.list_loan self (⟦<Stock as StockedAll>⟧.all_slots stock.old))
+            (⟦<Stock as StockedAll>⟧.all_slots stock.new) }
     {
         let Session { desk, .. } = self;
         if let Some(desk) = desk {
@@ -236,21 +196,13 @@ fn first_answer<S: Sink>(
     sink: &mut S,
     raw: bool,
 ) -> Result<(), Refusal>
-    requires whole { IsWholeToolbox ⟦<Taken as Defined>⟧.loan ⟦<TakenMenu as DefinedMenu>⟧.menu_loan ⟦<TakenControl as DefinedControl>⟧.control_loan ⟦<TakenList as DefinedList>⟧.list_loan desk.old
-        (⟦<Stock as Stocked>⟧.slots stock.old) (⟦<MenuStock as StockedMenus>⟧.menu_slots stock.old.menus)
-        (⟦<ControlStock as StockedControls>⟧.control_slots stock.old.controls) (⟦<ListStock as StockedLists>⟧.list_slots stock.old.lists) }
+    requires whole { IsWholeToolbox ⟦<Taken as Defined>⟧.loan ⟦<TakenMenu as DefinedMenu>⟧.menu_loan ⟦<TakenControl as DefinedControl>⟧.control_loan ⟦<TakenList as DefinedList>⟧.list_loan desk.old (⟦<Stock as StockedAll>⟧.all_slots stock.old) }
     requires unfailed { (S.output sink.old).has_failed ≡ false }
-    ensures whole { IsWholeToolbox ⟦<Taken as Defined>⟧.loan ⟦<TakenMenu as DefinedMenu>⟧.menu_loan ⟦<TakenControl as DefinedControl>⟧.control_loan ⟦<TakenList as DefinedList>⟧.list_loan desk.new
-        (⟦<Stock as Stocked>⟧.slots stock.new) (⟦<MenuStock as StockedMenus>⟧.menu_slots stock.new.menus)
-        (⟦<ControlStock as StockedControls>⟧.control_slots stock.new.controls) (⟦<ListStock as StockedLists>⟧.list_slots stock.new.lists) }
+    ensures whole { IsWholeToolbox ⟦<Taken as Defined>⟧.loan ⟦<TakenMenu as DefinedMenu>⟧.menu_loan ⟦<TakenControl as DefinedControl>⟧.control_loan ⟦<TakenList as DefinedList>⟧.list_loan desk.new (⟦<Stock as StockedAll>⟧.all_slots stock.new) }
     ensures quiet { OnOk result ((S.output sink.new).has_failed ≡ false) }
     ensures answered { IsFirstAnswered raw
-        (toolbox_state ⟦<Taken as Defined>⟧.loan ⟦<TakenMenu as DefinedMenu>⟧.menu_loan ⟦<TakenControl as DefinedControl>⟧.control_loan ⟦<TakenList as DefinedList>⟧.list_loan desk.old
-        (⟦<Stock as Stocked>⟧.slots stock.old) (⟦<MenuStock as StockedMenus>⟧.menu_slots stock.old.menus)
-        (⟦<ControlStock as StockedControls>⟧.control_slots stock.old.controls) (⟦<ListStock as StockedLists>⟧.list_slots stock.old.lists)) command.now
-        (toolbox_state ⟦<Taken as Defined>⟧.loan ⟦<TakenMenu as DefinedMenu>⟧.menu_loan ⟦<TakenControl as DefinedControl>⟧.control_loan ⟦<TakenList as DefinedList>⟧.list_loan desk.new
-        (⟦<Stock as Stocked>⟧.slots stock.new) (⟦<MenuStock as StockedMenus>⟧.menu_slots stock.new.menus)
-        (⟦<ControlStock as StockedControls>⟧.control_slots stock.new.controls) (⟦<ListStock as StockedLists>⟧.list_slots stock.new.lists))
+        (toolbox_state ⟦<Taken as Defined>⟧.loan ⟦<TakenMenu as DefinedMenu>⟧.menu_loan ⟦<TakenControl as DefinedControl>⟧.control_loan ⟦<TakenList as DefinedList>⟧.list_loan desk.old (⟦<Stock as StockedAll>⟧.all_slots stock.old)) command.now
+        (toolbox_state ⟦<Taken as Defined>⟧.loan ⟦<TakenMenu as DefinedMenu>⟧.menu_loan ⟦<TakenControl as DefinedControl>⟧.control_loan ⟦<TakenList as DefinedList>⟧.list_loan desk.new (⟦<Stock as StockedAll>⟧.all_slots stock.new))
         (S.output sink.old) (S.output sink.new) result }
 {
     match command {
@@ -268,21 +220,13 @@ fn answer_on<S: Sink>(
     sink: &mut S,
     raw: bool,
 ) -> Result<(), Refusal>
-    requires whole { IsWholeToolbox ⟦<Taken as Defined>⟧.loan ⟦<TakenMenu as DefinedMenu>⟧.menu_loan ⟦<TakenControl as DefinedControl>⟧.control_loan ⟦<TakenList as DefinedList>⟧.list_loan desk.old
-        (⟦<Stock as Stocked>⟧.slots stock.old) (⟦<MenuStock as StockedMenus>⟧.menu_slots stock.old.menus)
-        (⟦<ControlStock as StockedControls>⟧.control_slots stock.old.controls) (⟦<ListStock as StockedLists>⟧.list_slots stock.old.lists) }
+    requires whole { IsWholeToolbox ⟦<Taken as Defined>⟧.loan ⟦<TakenMenu as DefinedMenu>⟧.menu_loan ⟦<TakenControl as DefinedControl>⟧.control_loan ⟦<TakenList as DefinedList>⟧.list_loan desk.old (⟦<Stock as StockedAll>⟧.all_slots stock.old) }
     requires unfailed { (S.output sink.old).has_failed ≡ false }
-    ensures whole { IsWholeToolbox ⟦<Taken as Defined>⟧.loan ⟦<TakenMenu as DefinedMenu>⟧.menu_loan ⟦<TakenControl as DefinedControl>⟧.control_loan ⟦<TakenList as DefinedList>⟧.list_loan desk.new
-        (⟦<Stock as Stocked>⟧.slots stock.new) (⟦<MenuStock as StockedMenus>⟧.menu_slots stock.new.menus)
-        (⟦<ControlStock as StockedControls>⟧.control_slots stock.new.controls) (⟦<ListStock as StockedLists>⟧.list_slots stock.new.lists) }
+    ensures whole { IsWholeToolbox ⟦<Taken as Defined>⟧.loan ⟦<TakenMenu as DefinedMenu>⟧.menu_loan ⟦<TakenControl as DefinedControl>⟧.control_loan ⟦<TakenList as DefinedList>⟧.list_loan desk.new (⟦<Stock as StockedAll>⟧.all_slots stock.new) }
     ensures quiet { OnOk result ((S.output sink.new).has_failed ≡ false) }
     ensures answered { IsAnswered raw
-        (toolbox_state ⟦<Taken as Defined>⟧.loan ⟦<TakenMenu as DefinedMenu>⟧.menu_loan ⟦<TakenControl as DefinedControl>⟧.control_loan ⟦<TakenList as DefinedList>⟧.list_loan desk.old
-        (⟦<Stock as Stocked>⟧.slots stock.old) (⟦<MenuStock as StockedMenus>⟧.menu_slots stock.old.menus)
-        (⟦<ControlStock as StockedControls>⟧.control_slots stock.old.controls) (⟦<ListStock as StockedLists>⟧.list_slots stock.old.lists)) command.now
-        (toolbox_state ⟦<Taken as Defined>⟧.loan ⟦<TakenMenu as DefinedMenu>⟧.menu_loan ⟦<TakenControl as DefinedControl>⟧.control_loan ⟦<TakenList as DefinedList>⟧.list_loan desk.new
-        (⟦<Stock as Stocked>⟧.slots stock.new) (⟦<MenuStock as StockedMenus>⟧.menu_slots stock.new.menus)
-        (⟦<ControlStock as StockedControls>⟧.control_slots stock.new.controls) (⟦<ListStock as StockedLists>⟧.list_slots stock.new.lists))
+        (toolbox_state ⟦<Taken as Defined>⟧.loan ⟦<TakenMenu as DefinedMenu>⟧.menu_loan ⟦<TakenControl as DefinedControl>⟧.control_loan ⟦<TakenList as DefinedList>⟧.list_loan desk.old (⟦<Stock as StockedAll>⟧.all_slots stock.old)) command.now
+        (toolbox_state ⟦<Taken as Defined>⟧.loan ⟦<TakenMenu as DefinedMenu>⟧.menu_loan ⟦<TakenControl as DefinedControl>⟧.control_loan ⟦<TakenList as DefinedList>⟧.list_loan desk.new (⟦<Stock as StockedAll>⟧.all_slots stock.new))
         (S.output sink.old) (S.output sink.new) result }
 {
     match command {

@@ -14,15 +14,15 @@ pub differences-count-requires : goal.differences-count-requires
 differences-count-requires g c = c.requires.kept c.in-Some.desk c.in-Some.is
 
 pub returns : goal.returns
-returns g c = λ slots kept held listed.
+returns g c = λ stocks.
     let loan = (taken.loan-value g.dyn-1).it in
     let menu_loan = (taken_menu.menu_loan-value g.dyn-3).it in
     let control_loan = (taken_control.control_loan-value g.dyn-2).it in
     let list_loan = (taken_list.list_loan-value g.dyn-4).it in
-    let session = session_of loan menu_loan control_loan list_loan c.args.self.now slots kept held listed in
+    let session = session_of loan menu_loan control_loan list_loan c.args.self.now stocks in
     let line : IsCheckLine session (check_text (result_ok c.match-self.count)) =
     elim c.match-self.branch [
-      | in-Some w ↦ subst (λ n. IsCheckLine session (check_text (result_ok n))) (sym w.count-is) (line_of_desk loan menu_loan control_loan list_loan c.args.self.now.font slots kept held listed c.args.self.now.desk w.in-Some.desk w.differences-count.result w.in-Some.is w.differences-count.ensures)
-      | in-None w ↦ subst (λ n. IsCheckLine session (check_text (result_ok n))) (sym w.count-is) (line_of_none loan menu_loan control_loan list_loan c.args.self.now.font slots kept held listed c.args.self.now.desk w.in-None.is)
+      | in-Some w ↦ subst (λ n. IsCheckLine session (check_text (result_ok n))) (sym w.count-is) (line_of_desk loan menu_loan control_loan list_loan c.args.self.now.font stocks c.args.self.now.desk w.in-Some.desk w.differences-count.result w.in-Some.is w.differences-count.ensures)
+      | in-None w ↦ subst (λ n. IsCheckLine session (check_text (result_ok n))) (sym w.count-is) (line_of_none loan menu_loan control_loan list_loan c.args.self.now.font stocks c.args.self.now.desk w.in-None.is)
     ] in
     (check_text c.ok.result, subst (λ n. IsCheckLine session (check_text n)) (sym c.ok.ensures.value) line, c.write_check.ensures)
