@@ -27,8 +27,8 @@ left_keeps (Dispose s) before after left = left.closed.kinds
 left_keeps call before after same = same_controls before after same
 
 window_keeps : (call : WindowCall) (answer : Result WindowReply Refusal) (before after : ToolboxState) → IsWindowMade call answer before after → control_kinds after.controls.stock ≡ control_kinds before.controls.stock
-window_keeps call (Ok answer) before after step = left_keeps call before.controls after.controls step.0.2.4
-window_keeps call (Err e) before after step = same_controls before.controls after.controls step.1.1.0
+window_keeps call (Ok answer) before after step = left_keeps call before.controls after.controls step.controls
+window_keeps call (Err e) before after step = same_controls before.controls after.controls step.1.controls
 
 each_keeps : HoldsOfEach KeepsControlKinds
 each_keeps = record {
@@ -36,12 +36,12 @@ each_keeps = record {
   covered = λ p before after same. same_controls before.controls after.controls same.controls;
   hidden = λ p before after same. same_controls before.controls after.controls same.controls;
   window = λ call answer before after may step. window_keeps call answer before after step;
-  update = λ call answer before after may step rest. same_controls before.controls after.controls rest.1.0;
-  frame = λ call answer before after may step rest. same_controls before.controls after.controls rest.1.0;
+  update = λ call answer before after may step rest. same_controls before.controls after.controls rest.controls;
+  frame = λ call answer before after may step rest. same_controls before.controls after.controls rest.controls;
   control = λ call answer before after may step events lists menus. (control_facts call answer (with_controls before) (with_controls after) step).0.kinds;
   list = λ call answer before after may step events menus. (list_facts call answer (with_lists before) (with_lists after) step).0.kinds;
   menu = λ call answer before after may step events controls lists. same_controls before.controls after.controls controls;
-  event = λ call answer before after step. same_controls before.controls after.controls step.1.0;
+  event = λ call answer before after step. same_controls before.controls after.controls step.controls;
 }
 
 pub step_keeps_control_kinds : (call : Call) (answer : Result Reply Refusal) (before after : ToolboxState) → IsStep call answer before after → control_kinds after.controls.stock ≡ control_kinds before.controls.stock

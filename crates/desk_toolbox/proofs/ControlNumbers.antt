@@ -32,8 +32,8 @@ left_next (windows.Dispose s) before after left = left.next
 left_next call before after same = ap (λ (s : ControlsState). s.next) same
 
 window_next : (call : WindowCall) (answer : Result WindowReply Refusal) (before after : ToolboxState) → IsWindowMade call answer before after → after.controls.next ≡ before.controls.next
-window_next call (Ok answer) before after step = left_next call before.controls after.controls step.0.2.4
-window_next call (Err e) before after step = ap (λ (s : ControlsState). s.next) step.1.1.0
+window_next call (Ok answer) before after step = left_next call before.controls after.controls step.controls
+window_next call (Err e) before after step = ap (λ (s : ControlsState). s.next) step.1.controls
 
 told_none : (o : Option ControlRecord) → control_serial (info_of o) ≡ []
 told_none None = refl
@@ -102,12 +102,12 @@ each_is_counted = record {
   covered = λ p before after same numbers h. next_counted before.controls after.controls numbers (next_of before after same.controls) h;
   hidden = λ p before after same numbers h. next_counted before.controls after.controls numbers (next_of before after same.controls) h;
   window = λ call answer before after may step numbers h. none_made reply.Window (calls.Window call) answer before.controls after.controls numbers (λ a. refl) (window_next call answer before after step) h;
-  update = λ call answer before after may step rest numbers h. none_made reply.Window (calls.Update call) answer before.controls after.controls numbers (λ a. refl) (next_of before after rest.1.0) h;
-  frame = λ call answer before after may step rest numbers h. none_made reply.Frame (calls.Frame call) answer before.controls after.controls numbers (λ a. refl) (next_of before after rest.1.0) h;
+  update = λ call answer before after may step rest numbers h. none_made reply.Window (calls.Update call) answer before.controls after.controls numbers (λ a. refl) (next_of before after rest.controls) h;
+  frame = λ call answer before after may step rest numbers h. none_made reply.Frame (calls.Frame call) answer before.controls after.controls numbers (λ a. refl) (next_of before after rest.controls) h;
   control = λ call answer before after may step events lists menus numbers h. control_is_counted call answer before after numbers step h;
   list = λ call answer before after may step events menus numbers h. list_is_counted call answer before after numbers step h;
   menu = λ call answer before after may step events controls lists numbers h. none_made reply.Menu (calls.Menu call) answer before.controls after.controls numbers (λ a. refl) (next_of before after controls) h;
-  event = λ call answer before after step numbers h. none_made reply.Event (calls.Event call) answer before.controls after.controls numbers (λ a. refl) (next_of before after step.1.0) h;
+  event = λ call answer before after step numbers h. none_made reply.Event (calls.Event call) answer before.controls after.controls numbers (λ a. refl) (next_of before after step.controls) h;
 }
 
 pub controls_are_counted : (first last : ToolboxState) (calls : List Call) (answers : List (Result Reply Refusal)) → IsRunOfCalls first calls answers last → AreCountedAlong first.controls.next (controls_made calls answers)

@@ -49,7 +49,7 @@ module _ (before : ToolboxState) (p : Point) where
     told_so : (covered : Bool) (own : Result WindowReply Refusal) → is_on_menu before p ≡ covered
         → IsWindowTold covered (Find p) own before after → own ≡ Ok (Found (window_on_screen before p))
     told_so true own on (is, same) = is ∙ ap (λ f. Ok (Found f)) (on_the_menu on)
-    told_so false (Ok told) away ((middle, (activity, (free, (is, same))), caught), rest) = ap Ok (is ∙ ap Found (off_the_menu away))
+    told_so false (Ok told) away made = let (activity, (free, (is, same))) = made.answered in ap Ok (is ∙ ap Found (off_the_menu away))
     told_so false (Err e) away ((activity, (inl why, same)), rest) = absurd (some_is_none (sym why ∙ (λ i. first_refusal ((not (inside i), OutOfRange) ∷ []))))
       where
         some_is_none : Some e ≡ None → ⊥

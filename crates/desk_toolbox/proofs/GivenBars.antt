@@ -36,8 +36,8 @@ left_bars call before after controls lists h = same_bars before after controls l
 
 made_bars : (call : WindowCall) (answer : Result WindowReply Refusal) (before after : ToolboxState) → IsWindowMade call answer before after
     → HaveGivenBars before.controls before.lists → HaveGivenBars after.controls after.lists
-made_bars call (Ok answer) before after ((middle, answered, (told, same, caught, shown, controls, lists)), kept) h = left_bars call before after controls lists h
-made_bars call (Err e) before after step h = same_bars before after step.1.1.0 step.1.1.1.0 h
+made_bars call (Ok answer) before after made h = left_bars call before after made.controls made.lists h
+made_bars call (Err e) before after step h = same_bars before after step.1.controls step.1.lists h
 
 each_keeps_bars : HoldsOfEach KeepsBars
 each_keeps_bars = record {
@@ -45,15 +45,15 @@ each_keeps_bars = record {
   covered = λ p before after same h. same_bars before after same.controls same.lists h;
   hidden = λ p before after same h. same_bars before after same.controls same.lists h;
   window = λ call answer before after may step h. made_bars call answer before after step h;
-  update = λ call answer before after may step rest h. same_bars before after rest.1.0 rest.1.1.0 h;
-  frame = λ call answer before after may step rest h. same_bars before after rest.1.0 rest.1.1.0 h;
+  update = λ call answer before after may step rest h. same_bars before after rest.controls rest.lists h;
+  frame = λ call answer before after may step rest h. same_bars before after rest.controls rest.lists h;
   control = λ call answer before after may step events lists menus h.
       let next = (control_facts call answer (with_controls before) (with_controls after) step).1 in
       subst (HaveGivenBars after.controls) (sym lists)
       (bars_go_on before.controls.next after.controls.next before.lists.lists (control_goes_on call answer before.controls after.controls next) h);
   list = λ call answer before after may step events menus h. list_keeps_bars call answer (with_lists before) (with_lists after) step h;
   menu = λ call answer before after may step events controls lists h. same_bars before after controls lists h;
-  event = λ call answer before after step h. same_bars before after step.1.0 step.1.1.0 h;
+  event = λ call answer before after step h. same_bars before after step.controls step.lists h;
 }
 
 pub step_keeps_bars : (call : Call) (answer : Result Reply Refusal) (before after : ToolboxState) → IsStep call answer before after → All (HasGivenBars before.controls.next) before.lists.lists

@@ -133,8 +133,8 @@ menu_held call (Err e) before after there step h = same_held before.menus after.
 -- ---- any step
 
 made_menus : (call : WindowCall) (answer : Result WindowReply Refusal) (before after : ToolboxState) → IsWindowMade call answer before after → after.menus ≡ before.menus
-made_menus call (Ok answer) before after (made, (events, menus)) = menus
-made_menus call (Err e) before after (answered, (events, (controls, (lists, menus)))) = menus
+made_menus call (Ok answer) before after made = made.menus
+made_menus call (Err e) before after (answered, rest) = rest.menus
 
 abbrev KeepsHeld : Call → Result Reply Refusal → ToolboxState → ToolboxState → Type 0
 KeepsHeld call answer before after = IsPulledThere after.desk.activity after.menus → AreMenusHeld before.menus → AreMenusHeld after.menus
@@ -145,12 +145,12 @@ each_keeps_held = record {
   covered = λ p before after same there h. same_held before.menus after.menus same.menus h;
   hidden = λ p before after same there h. same_held before.menus after.menus same.menus h;
   window = λ call answer before after may step there h. same_held before.menus after.menus (made_menus call answer before after step) h;
-  update = λ call answer before after may step rest there h. same_held before.menus after.menus rest.1.1.1 h;
-  frame = λ call answer before after may step rest there h. same_held before.menus after.menus rest.1.1.1 h;
+  update = λ call answer before after may step rest there h. same_held before.menus after.menus rest.menus h;
+  frame = λ call answer before after may step rest there h. same_held before.menus after.menus rest.menus h;
   control = λ call answer before after may step events lists menus there h. same_held before.menus after.menus menus h;
   list = λ call answer before after may step events menus there h. same_held before.menus after.menus menus h;
   menu = λ call answer before after may step events controls lists there h. menu_held call answer (with_menus before) (with_menus after) there step h;
-  event = λ call answer before after step there h. same_held before.menus after.menus step.1.1.1 h;
+  event = λ call answer before after step there h. same_held before.menus after.menus step.menus h;
 }
 
 pub step_keeps_held : (call : Call) (answer : Result Reply Refusal) (before after : ToolboxState) → IsStep call answer before after → IsPulledThere after.desk.activity after.menus → AreMenusHeld before.menus → AreMenusHeld after.menus

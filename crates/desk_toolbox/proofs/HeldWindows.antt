@@ -260,9 +260,9 @@ caught_up_stocked TracksControl before after (ts, told, informed) h = are_told_s
 caught_up_stocked Changes before after (ts, told, informed) h = are_told_stocked ts before after told h
 
 made_stocked : (call : WindowCall) (answer : Result WindowReply Refusal) (before after : ToolboxState) → IsWindowMade call answer before after → AreWindowsStocked before.desk.windows.desk → AreWindowsStocked after.desk.windows.desk
-made_stocked call (Ok answer) before after ((middle, answered, (told, same, caught, shown, gone, ended)), kept) h =
-    same_stocked told.desk after.desk.windows.desk (record { stock = ap (λ (s : FullState). s.desk.stock) shown; all = λ k. ap (λ (s : FullState). takes k s.desk.windows) shown })
-    (caught_up_stocked (window_standing call) middle.windows told caught (answer_stocked (narrowed call before.desk.activity before.desk.begun) call answer before.desk middle answered h))
+made_stocked call (Ok answer) before after made h =
+    same_stocked made.told.desk after.desk.windows.desk (record { stock = ap (λ (s : FullState). s.desk.stock) made.shown; all = λ k. ap (λ (s : FullState). takes k s.desk.windows) made.shown })
+    (caught_up_stocked (window_standing call) made.middle.windows made.told made.caught_up (answer_stocked (narrowed call before.desk.activity before.desk.begun) call answer before.desk made.middle made.answered h))
 made_stocked call (Err e) before after step h =
     same_stocked before.desk.windows.desk after.desk.windows.desk (same_desk before.desk.windows.desk after.desk.windows.desk (refused_keeps_desk (narrowed call before.desk.activity before.desk.begun) call e before.desk after.desk step.0)) h
 
@@ -324,7 +324,7 @@ each_keeps_stocked = record {
         stock = menu_keeps (λ d. d.stock) (λ d titles. refl) call answer (with_menus before) (with_menus after) step;
         all = λ k. menu_keeps (λ d. takes k d.windows) (λ d titles. refl) call answer (with_menus before) (with_menus after) step;
       }) h;
-  event = λ call answer before after step h. still_stocked before after step.0.windows.desk h;
+  event = λ call answer before after step h. still_stocked before after step.desk.windows.desk h;
 }
 
 pub step_keeps_stocked : (call : Call) (answer : Result Reply Refusal) (before after : ToolboxState) → IsStep call answer before after → AreWindowsStocked before.desk.windows.desk → AreWindowsStocked after.desk.windows.desk

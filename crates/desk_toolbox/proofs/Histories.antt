@@ -58,24 +58,24 @@ quiet None told active new_active new rest is = ap (λ t. telling t new_active r
 quiet (Some w) told active new_active new rest is = ap (λ t. telling t new_active rest) (sym is)
 
 window_step : (call : WindowCall) (answer : Result WindowReply Refusal) (before after : ToolboxState) → IsWindowMade call answer before after → IsOneStep (asks.Window call) (replied reply.Window answer) before after
-window_step call (Ok answer) before after ((middle, answered, (told, same, caught, shown, gone, ended)), (events, menus)) = record {
-  tells = λ rest. quiet (to_dispose call) before.events.told before.desk.windows.desk.active after.desk.windows.desk.active after.events.told rest (ap (λ (e : Events). e.told) (events ∙ left_after call before.events));
-  recount = window_recounts call answer before.desk middle told after.desk.windows after.controls.controls after.lists.lists answered caught shown;
+window_step call (Ok answer) before after made = record {
+  tells = λ rest. quiet (to_dispose call) before.events.told before.desk.windows.desk.active after.desk.windows.desk.active after.events.told rest (ap (λ (e : Events). e.told) (made.events ∙ left_after call before.events));
+  recount = window_recounts call answer before.desk made.middle made.told after.desk.windows after.controls.controls after.lists.lists made.answered made.caught_up made.shown;
 }
-window_step call (Err e) before after (answered, (events, menus)) = record {
-  tells = λ rest. quiet None before.events.told before.desk.windows.desk.active after.desk.windows.desk.active after.events.told rest (ap (λ (e : Events). e.told) events);
+window_step call (Err e) before after (answered, kept) = record {
+  tells = λ rest. quiet None before.events.told before.desk.windows.desk.active after.desk.windows.desk.active after.events.told rest (ap (λ (e : Events). e.told) kept.events);
   recount = inl (same_desk before.desk.windows.desk after.desk.windows.desk (refused_keeps_desk (narrowed call before.desk.activity before.desk.begun) call e before.desk after.desk answered));
 }
 
 event_step_is : (call : EventCall) (answer : Result EventReply Refusal) (before after : ToolboxState) → Stands before → IsEventAnswer call answer before after → IsOneStep (asks.Event call) (replied reply.Event answer) before after
-event_step_is call answer before after was (same, rest, (update, first, is)) = record {
+event_step_is call answer before after was step = record {
   tells = λ rest.
       let active = before.desk.windows.desk.active in
-      let now : after.desk.windows.desk.active ≡ active = ap (λ (d : FullDesk). d.active) same.windows.desk in
+      let now : after.desk.windows.desk.active ≡ active = ap (λ (d : FullDesk). d.active) step.desk.windows.desk in
       subst (λ o. telling before.events.told o (telling_on (asks.Event call) (replied reply.Event answer) rest) ≡ activate_event_told (asks.Event call) (replied reply.Event answer) ++ telling after.events.told o rest) (sym now)
-      (subst (λ (x : EventStep). telling before.events.told active (telling_on (asks.Event call) (replied reply.Event x.0) rest) ≡ activate_event_told (asks.Event call) (replied reply.Event x.0) ++ telling x.1.told active rest) (sym is)
-      (event_tells call active update before.events rest was.queued));
-  recount = inl (same_desk before.desk.windows.desk after.desk.windows.desk same.windows.desk);
+      (subst (λ (x : EventStep). telling before.events.told active (telling_on (asks.Event call) (replied reply.Event x.0) rest) ≡ activate_event_told (asks.Event call) (replied reply.Event x.0) ++ telling x.1.told active rest) (sym step.step)
+      (event_tells call active step.update before.events rest was.queued));
+  recount = inl (same_desk before.desk.windows.desk after.desk.windows.desk step.desk.windows.desk);
 }
 
 -- neither events nor windows come or go
@@ -114,8 +114,8 @@ each_goes_on = record {
   covered = λ p before after same was. still_step (asks.Window (Find p)) (Ok (reply.Window found_menu)) before after refl refl (λ rest. refl) same.events (same_desk before.desk.windows.desk after.desk.windows.desk same.desk.windows.desk);
   hidden = λ p before after same was. still_step (asks.Control (controls.Find p)) (Ok (reply.Control (control_reply.Found None))) before after refl refl (λ rest. refl) same.events (same_desk before.desk.windows.desk after.desk.windows.desk same.desk.windows.desk);
   window = λ call answer before after may step was. window_step call answer before after step;
-  update = λ call answer before after may step kept was. still_step (asks.Update call) (replied reply.Window answer) before after refl refl (λ rest. refl) kept.0 (same_desk before.desk.windows.desk after.desk.windows.desk (update_keeps_desk call answer before.desk after.desk step));
-  frame = λ call answer before after may step kept was. still_step (asks.Frame call) (replied reply.Frame answer) before after refl refl (λ rest. refl) kept.0 (frame_counts call answer before.desk after.desk step);
+  update = λ call answer before after may step kept was. still_step (asks.Update call) (replied reply.Window answer) before after refl refl (λ rest. refl) kept.events (same_desk before.desk.windows.desk after.desk.windows.desk (update_keeps_desk call answer before.desk after.desk step));
+  frame = λ call answer before after may step kept was. still_step (asks.Frame call) (replied reply.Frame answer) before after refl refl (λ rest. refl) kept.events (frame_counts call answer before.desk after.desk step);
   control = λ call answer before after may step events lists menus was. still_step (asks.Control call) (replied reply.Control answer) before after refl refl (λ rest. refl) events (control_counts call answer before after step);
   list = λ call answer before after may step events menus was. still_step (asks.List call) (replied reply.List answer) before after refl refl (λ rest. refl) events (list_counts call answer before after step);
   menu = λ call answer before after may step events controls lists was. still_step (asks.Menu call) (replied reply.Menu answer) before after refl refl (λ rest. refl) events (menu_counts call answer (with_menus before) (with_menus after) step);

@@ -45,8 +45,8 @@ module _ {A : Type 0} (f : FullDesk → A) (apart : (d : FullDesk) (ws : List Wi
 
   -- whatever it shows of controls and lists then
   pub made_keeps : ((d : FullDesk) (shows : Part → PixelSet) → f (record d { shows = shows }) ≡ f d) → (call : WindowCall) (answer : Result WindowReply Refusal) (before after : ToolboxState) → IsWindowMade call answer before after → f after.desk.windows.desk ≡ f before.desk.windows.desk
-  made_keeps beside call (Ok answer) before after ((middle, answered, (told, same, caught, shown, left, ended)), rest) =
-      ap (λ (s : FullState). f s.desk) shown ∙ beside told.desk _ ∙ told_keeps call (Ok answer) before.desk middle told answered caught
+  made_keeps beside call (Ok answer) before after made =
+      ap (λ (s : FullState). f s.desk) made.shown ∙ beside made.told.desk _ ∙ told_keeps call (Ok answer) before.desk made.middle made.told made.answered made.caught_up
   made_keeps beside call (Err e) before after step = answer_keeps (narrowed call before.desk.activity before.desk.begun) call (Err e) before.desk after.desk step.0
 
 -- a refused call leaves the desk

@@ -23,8 +23,8 @@ left_keeps (Dispose s) before after left = left.closed.kinds
 left_keeps call before after same = same_lists before after same
 
 window_keeps : (call : WindowCall) (answer : Result WindowReply Refusal) (before after : ToolboxState) → IsWindowMade call answer before after → list_kinds_of after.lists ≡ list_kinds_of before.lists
-window_keeps call (Ok answer) before after step = left_keeps call before.lists after.lists step.0.2.5
-window_keeps call (Err e) before after step = same_lists before.lists after.lists step.1.1.1.0
+window_keeps call (Ok answer) before after step = left_keeps call before.lists after.lists step.lists
+window_keeps call (Err e) before after step = same_lists before.lists after.lists step.1.lists
 
 each_keeps : HoldsOfEach KeepsListKinds
 each_keeps = record {
@@ -32,12 +32,12 @@ each_keeps = record {
   covered = λ p before after same. same_lists before.lists after.lists same.lists;
   hidden = λ p before after same. same_lists before.lists after.lists same.lists;
   window = λ call answer before after may step. window_keeps call answer before after step;
-  update = λ call answer before after may step rest. same_lists before.lists after.lists rest.1.1.0;
-  frame = λ call answer before after may step rest. same_lists before.lists after.lists rest.1.1.0;
+  update = λ call answer before after may step rest. same_lists before.lists after.lists rest.lists;
+  frame = λ call answer before after may step rest. same_lists before.lists after.lists rest.lists;
   control = λ call answer before after may step events lists menus. same_lists before.lists after.lists lists;
   list = λ call answer before after may step events menus. (list_facts call answer (with_lists before) (with_lists after) step).0.list_kinds;
   menu = λ call answer before after may step events controls lists. same_lists before.lists after.lists lists;
-  event = λ call answer before after step. same_lists before.lists after.lists step.1.1.0;
+  event = λ call answer before after step. same_lists before.lists after.lists step.lists;
 }
 
 pub step_keeps_list_kinds : (call : Call) (answer : Result Reply Refusal) (before after : ToolboxState) → IsStep call answer before after → list_kinds_of after.lists ≡ list_kinds_of before.lists

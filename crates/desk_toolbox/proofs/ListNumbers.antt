@@ -35,8 +35,8 @@ left_next (windows.Dispose s) before after left = left.next
 left_next call before after same = ap (λ (s : ListsState). s.next) same
 
 window_next : (call : WindowCall) (answer : Result WindowReply Refusal) (before after : ToolboxState) → IsWindowMade call answer before after → after.lists.next ≡ before.lists.next
-window_next call (Ok answer) before after step = left_next call before.lists after.lists step.0.2.5
-window_next call (Err e) before after step = ap (λ (s : ListsState). s.next) step.1.1.1.0
+window_next call (Ok answer) before after step = left_next call before.lists after.lists step.lists
+window_next call (Err e) before after step = ap (λ (s : ListsState). s.next) step.1.lists
 
 -- what is told of a list is no serial of a new one, where no answer of this sort is
 told_none : (l : ListOf) (f : KeptList → ListReply) → ((x : KeptList) → list_serial (f x) ≡ []) → (ls : List KeptList) → list_serial (told_of l f ls) ≡ []
@@ -108,12 +108,12 @@ each_is_counted = record {
   covered = λ p before after same numbers h. next_counted before.lists after.lists numbers (next_of before after same.lists) h;
   hidden = λ p before after same numbers h. next_counted before.lists after.lists numbers (next_of before after same.lists) h;
   window = λ call answer before after may step numbers h. none_made reply.Window answer before.lists after.lists numbers (λ a. refl) (window_next call answer before after step) h;
-  update = λ call answer before after may step rest numbers h. none_made reply.Window answer before.lists after.lists numbers (λ a. refl) (next_of before after rest.1.1.0) h;
-  frame = λ call answer before after may step rest numbers h. none_made reply.Frame answer before.lists after.lists numbers (λ a. refl) (next_of before after rest.1.1.0) h;
+  update = λ call answer before after may step rest numbers h. none_made reply.Window answer before.lists after.lists numbers (λ a. refl) (next_of before after rest.lists) h;
+  frame = λ call answer before after may step rest numbers h. none_made reply.Frame answer before.lists after.lists numbers (λ a. refl) (next_of before after rest.lists) h;
   control = λ call answer before after may step events lists menus numbers h. none_made reply.Control answer before.lists after.lists numbers (λ a. refl) (next_of before after lists) h;
   list = λ call answer before after may step events menus numbers h. list_is_counted call answer before after numbers step h;
   menu = λ call answer before after may step events controls lists numbers h. none_made reply.Menu answer before.lists after.lists numbers (λ a. refl) (next_of before after lists) h;
-  event = λ call answer before after step numbers h. none_made reply.Event answer before.lists after.lists numbers (λ a. refl) (next_of before after step.1.1.0) h;
+  event = λ call answer before after step numbers h. none_made reply.Event answer before.lists after.lists numbers (λ a. refl) (next_of before after step.lists) h;
 }
 
 made_first : (answer : Result Reply Refusal) (answers : List (Result Reply Refusal)) → made_by answer ++ lists_made answers ≡ lists_made (answer ∷ answers)

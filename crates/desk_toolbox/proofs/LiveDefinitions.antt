@@ -282,9 +282,9 @@ caught_up_live TracksControl before after (ts, told, informed) h = are_told_live
 caught_up_live Changes before after (ts, told, informed) h = are_told_live ts before after told h
 
 made_live : (call : WindowCall) (answer : Result WindowReply Refusal) (before after : ToolboxState) → IsWindowMade call answer before after → HaveLive before.desk.windows.desk.windows → HaveLive after.desk.windows.desk.windows
-made_live call (Ok answer) before after ((middle, answered, (told, same, caught, shown, gone, ended)), kept) h =
-    subst (λ (s : FullState). HaveLive s.desk.windows) (sym shown)
-    (caught_up_live (window_standing call) middle.windows told caught (answer_live (narrowed call before.desk.activity before.desk.begun) call answer before.desk middle answered h))
+made_live call (Ok answer) before after made h =
+    subst (λ (s : FullState). HaveLive s.desk.windows) (sym made.shown)
+    (caught_up_live (window_standing call) made.middle.windows made.told made.caught_up (answer_live (narrowed call before.desk.activity before.desk.begun) call answer before.desk made.middle made.answered h))
 made_live call (Err e) before after step h =
     same_live before.desk.windows after.desk.windows (refused_keeps_desk (narrowed call before.desk.activity before.desk.begun) call e before.desk after.desk step.0) h
 
@@ -347,7 +347,7 @@ each_keeps_live = record {
       same_but_layers before.desk.windows.desk.windows after.desk.windows.desk.windows (list_facts call answer (with_lists before) (with_lists after) step).0.windows h;
   menu = λ call answer before after may step events controls lists h.
       subst HaveLive (sym (menu_keeps (λ d. d.windows) (λ d titles. refl) call answer (with_menus before) (with_menus after) step)) h;
-  event = λ call answer before after step h. same_live before.desk.windows after.desk.windows step.0.windows.desk h;
+  event = λ call answer before after step h. same_live before.desk.windows after.desk.windows step.desk.windows.desk h;
 }
 
 pub step_keeps_live : (call : Call) (answer : Result Reply Refusal) (before after : ToolboxState) → IsStep call answer before after → All HasLiveDefinition before.desk.windows.desk.windows → All HasLiveDefinition after.desk.windows.desk.windows

@@ -95,8 +95,8 @@ same_menus : (before after : ToolboxState) → after.menus ≡ before.menus → 
 same_menus before after same = ap (λ (m : MenusState). menu_kinds m.stock) same
 
 window_keeps : (call : WindowCall) (answer : Result WindowReply Refusal) (before after : ToolboxState) → IsWindowMade call answer before after → menu_kinds after.menus.stock ≡ menu_kinds before.menus.stock
-window_keeps call (Ok answer) before after step = same_menus before after step.1.1
-window_keeps call (Err e) before after step = same_menus before after step.1.1.1.1
+window_keeps call (Ok answer) before after step = same_menus before after step.menus
+window_keeps call (Err e) before after step = same_menus before after step.1.menus
 
 each_keeps : HoldsOfEach KeepsMenuKinds
 each_keeps = record {
@@ -104,12 +104,12 @@ each_keeps = record {
   covered = λ p before after same. same_menus before after same.menus;
   hidden = λ p before after same. same_menus before after same.menus;
   window = λ call answer before after may step. window_keeps call answer before after step;
-  update = λ call answer before after may step rest. same_menus before after rest.1.1.1;
-  frame = λ call answer before after may step rest. same_menus before after rest.1.1.1;
+  update = λ call answer before after may step rest. same_menus before after rest.menus;
+  frame = λ call answer before after may step rest. same_menus before after rest.menus;
   control = λ call answer before after may step events lists menus. same_menus before after menus;
   list = λ call answer before after may step events menus. same_menus before after menus;
   menu = λ call answer before after may step events controls lists. menu_step_keeps call answer (with_menus before) (with_menus after) step;
-  event = λ call answer before after step. same_menus before after step.1.1.1;
+  event = λ call answer before after step. same_menus before after step.menus;
 }
 
 pub step_keeps_menu_kinds : (call : Call) (answer : Result Reply Refusal) (before after : ToolboxState) → IsStep call answer before after → menu_kinds after.menus.stock ≡ menu_kinds before.menus.stock

@@ -96,16 +96,16 @@ shown_still before after middle shows controls lists is same =
     }
 
 made_changes_nothing : (call : WindowCall) (answer : Result WindowReply Refusal) (before after : ToolboxState) → window_standing call ≡ Asks → ShowsControls (with_controls before) → IsWindowMade call answer before after → IsUnchanged before.desk.windows after.desk.windows
-made_changes_nothing call (Ok answer) before after e shows ((middle, answered, (told, same, caught, shown, gone, ended)), rest) =
-    let told_is : told ≡ middle.windows = subst (λ standing. IsCaughtUpBy standing middle.windows told) e caught in
-    shown_still before after told shows (asking_leaves_controls call before.controls after.controls e gone) (asking_leaves_lists call before.lists after.lists e ended) shown
-    (subst (λ (s : FullState). IsUnchanged before.desk.windows s) (sym told_is) (answer_asks (narrowed call before.desk.activity before.desk.begun) call (Ok answer) before.desk middle answered e))
+made_changes_nothing call (Ok answer) before after e shows made =
+    let told_is : made.told ≡ made.middle.windows = subst (λ standing. IsCaughtUpBy standing made.middle.windows made.told) e made.caught_up in
+    shown_still before after made.told shows (asking_leaves_controls call before.controls after.controls e made.controls) (asking_leaves_lists call before.lists after.lists e made.lists) made.shown
+    (subst (λ (s : FullState). IsUnchanged before.desk.windows s) (sym told_is) (answer_asks (narrowed call before.desk.activity before.desk.begun) call (Ok answer) before.desk made.middle made.answered e))
 made_changes_nothing call (Err e) before after asks_only shows step = answer_asks (narrowed call before.desk.activity before.desk.begun) call (Err e) before.desk after.desk step.0 asks_only
 
 made_stays_open : (call : WindowCall) (answer : Result WindowReply Refusal) (before after : ToolboxState) → IsWindowMade call answer before after → SameActivity before.desk after.desk
-made_stays_open call (Ok answer) before after ((middle, answered, (told, same, caught, shown, gone, ended)), kept) =
-    let first = answer_stays_open (narrowed call before.desk.activity before.desk.begun) call (Ok answer) before.desk middle answered in
-    record { activity = same.activity ∙ first.activity; begun = same.begun ∙ first.begun }
+made_stays_open call (Ok answer) before after made =
+    let first = answer_stays_open (narrowed call before.desk.activity before.desk.begun) call (Ok answer) before.desk made.middle made.answered in
+    record { activity = made.activity.activity ∙ first.activity; begun = made.activity.begun ∙ first.begun }
 made_stays_open call (Err e) before after step = answer_stays_open (narrowed call before.desk.activity before.desk.begun) call (Err e) before.desk after.desk step.0
 
 -- ---- each call while the update of a window is open
@@ -194,7 +194,7 @@ module _ (s : ℕ) where
     control = λ call answer before after may step events lists menus opened rests. control_goes_on call answer before after may step opened;
     list = λ call answer before after may step events menus opened rests. list_goes_on call answer before after may step opened;
     menu = λ call answer before after may step events controls lists opened rests. absurd (menu_comes_apart call (Updating s) (may_then before.desk.activity (menu_standing call) opened may));
-    event = λ call answer before after step opened rests. still_open (Event call) (replied reply.Event answer) before after (λ kinds. refl) opened step.0;
+    event = λ call answer before after step opened rests. still_open (Event call) (replied reply.Event answer) before after (λ kinds. refl) opened step.desk;
   }
 
   pub step_goes_on : (call : Call) (answer : Result Reply Refusal) (before after : ToolboxState) → IsStep call answer before after → before.desk.activity ≡ Updating s → call ≢ Update (update.End s) → GoesOn call answer before after

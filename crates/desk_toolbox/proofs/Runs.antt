@@ -66,15 +66,15 @@ unchanged_desk_stays_right : (before after : ToolboxState) → IsRightState befo
 unchanged_desk_stays_right before after right same = unchanged_stays_right before.desk.windows after.desk.windows right same.windows
 
 window_stays_right : (call : WindowCall) (answer : Result WindowReply Refusal) (before after : ToolboxState) → IsRightToolbox before → IsWindowMade call answer before after → IsRightToolbox after
-window_stays_right call (Ok answer) before after was (((middle, answered, (told, same, caught, shown, left, lists)), rest)) =
+window_stays_right call (Ok answer) before after was made =
     let asked = narrowed call before.desk.activity before.desk.begun in
-    made_stays_right call answer before middle told after was answered caught shown left lists
-    (caught_up_stays_right (window_standing call) middle.windows told (answer_stays_right asked call (Ok answer) before.desk middle was.right answered) caught)
-window_stays_right call (Err e) before after was (answered, (events, (controls, (lists, menus)))) =
+    made_stays_right call answer before made.middle made.told after was made.answered made.caught_up made.shown made.controls made.lists
+    (caught_up_stays_right (window_standing call) made.middle.windows made.told (answer_stays_right asked call (Ok answer) before.desk made.middle was.right made.answered) made.caught_up)
+window_stays_right call (Err e) before after was (answered, rest) =
     let asked = narrowed call before.desk.activity before.desk.begun in
     record {
       right = answer_stays_right asked call (Err e) before.desk after.desk was.right answered;
-      contents = still before after (refused_keeps_desk asked call e before.desk after.desk answered) controls lists was.contents;
+      contents = still before after (refused_keeps_desk asked call e before.desk after.desk answered) rest.controls rest.lists was.contents;
     }
 
 unchanged_stays : (before after : ToolboxState) → IsDeskUnchanged before.desk after.desk → after.controls ≡ before.controls → after.lists ≡ before.lists → IsRightToolbox before → IsRightToolbox after
@@ -94,11 +94,11 @@ each_stays_right = record {
   window = λ call answer before after may step was. window_stays_right call answer before after was step;
   update = λ call answer before after may step rest was. record {
     right = update_stays_right call answer before.desk after.desk was.right step;
-    contents = still before after (update_keeps_desk call answer before.desk after.desk step) rest.1.0 rest.1.1.0 was.contents;
+    contents = still before after (update_keeps_desk call answer before.desk after.desk step) rest.controls rest.lists was.contents;
   };
   frame = λ call answer before after may step rest was. record {
     right = frame_stays_right call answer before.desk after.desk was.right step;
-    contents = beside_frames call answer before after step rest.1.0 rest.1.1.0 was.contents;
+    contents = beside_frames call answer before after step rest.controls rest.lists was.contents;
   };
   control = λ call answer before after may step events lists menus was. control_stays_right call answer before after was step lists;
   list = λ call answer before after may step events menus was. list_stays_right call answer before after was step;
@@ -106,7 +106,7 @@ each_stays_right = record {
     right = menu_stays_right call answer (with_menus before) (with_menus after) was.right step;
     contents = beside_menus call answer before after step controls lists was.contents;
   };
-  event = λ call answer before after step was. unchanged_stays before after step.0 step.1.0 step.1.1.0 was;
+  event = λ call answer before after step was. unchanged_stays before after step.desk step.controls step.lists was;
 }
 
 pub admitted_stays_right : (call : Call) (answer : Result Reply Refusal) (before after : ToolboxState) → gate before.desk.activity (standing_of call) ≡ None → IsRightToolbox before → IsAdmitted call answer before after → IsRightToolbox after
@@ -124,10 +124,10 @@ answer_keeps_kinds None call answer before after step = kinds.step_keeps_kinds c
 answer_keeps_kinds (Some set) call answer before after step = same_kinds before.windows after.windows step.1.windows.desk
 
 window_keeps_kinds : (call : WindowCall) (answer : Result WindowReply Refusal) (before after : ToolboxState) → IsWindowMade call answer before after → kinds_of after.desk.windows ≡ kinds_of before.desk.windows
-window_keeps_kinds call (Ok answer) before after ((middle, answered, (told, same, caught, shown, left, lists)), rest) =
-    ap kinds_of shown
-    ∙ caught_up_keeps (λ d. map (λ slot. slot.kind) d.stock) (λ d ws. refl) (window_standing call) middle.windows told caught
-    ∙ answer_keeps_kinds (narrowed call before.desk.activity before.desk.begun) call (Ok answer) before.desk middle answered
+window_keeps_kinds call (Ok answer) before after made =
+    ap kinds_of made.shown
+    ∙ caught_up_keeps (λ d. map (λ slot. slot.kind) d.stock) (λ d ws. refl) (window_standing call) made.middle.windows made.told made.caught_up
+    ∙ answer_keeps_kinds (narrowed call before.desk.activity before.desk.begun) call (Ok answer) before.desk made.middle made.answered
 window_keeps_kinds call (Err e) before after step = answer_keeps_kinds (narrowed call before.desk.activity before.desk.begun) call (Err e) before.desk after.desk step.0
 
 abbrev KeepsKinds : Call → Result Reply Refusal → ToolboxState → ToolboxState → Type 0
@@ -144,7 +144,7 @@ each_keeps_kinds = record {
   control = λ call answer before after may step events lists menus. ap (λ stock. map (λ slot. slot.kind) stock) (control_facts call answer (with_controls before) (with_controls after) step).0.stock;
   list = λ call answer before after may step events menus. ap (λ (d : FullDesk). map (λ slot. slot.kind) d.stock) (list_facts call answer (with_lists before) (with_lists after) step).0.rest;
   menu = λ call answer before after may step events controls lists. menu_keeps (λ d. map (λ slot. slot.kind) d.stock) (λ d titles. refl) call answer (with_menus before) (with_menus after) step;
-  event = λ call answer before after step. same_kinds before.desk.windows after.desk.windows step.0.windows.desk;
+  event = λ call answer before after step. same_kinds before.desk.windows after.desk.windows step.desk.windows.desk;
 }
 
 pub step_keeps_kinds : (call : Call) (answer : Result Reply Refusal) (before after : ToolboxState) → IsStep call answer before after → kinds_of after.desk.windows ≡ kinds_of before.desk.windows
@@ -306,10 +306,10 @@ next_counted : (before after : FullState) (numbers : List ℕ) → after.desk.ne
 next_counted before after numbers same h = subst (λ n. AreCounted n numbers) same h
 
 window_is_counted : (call : WindowCall) (answer : Result WindowReply Refusal) (before after : ToolboxState) (numbers : List ℕ) → IsWindowMade call answer before after → AreCounted after.desk.windows.desk.next numbers → AreCounted before.desk.windows.desk.next (made_by (replied reply.Window answer) ++ numbers)
-window_is_counted call (Ok answer) before after numbers ((middle, answered, (told, same, caught, shown, left, lists)), rest) h =
-    answer_is_counted (narrowed call before.desk.activity before.desk.begun) call (Ok answer) before.desk middle numbers answered
-    (next_counted middle.windows after.desk.windows numbers
-    (ap (λ (s : FullState). s.desk.next) shown ∙ caught_up_keeps (λ d. d.next) (λ d ws. refl) (window_standing call) middle.windows told caught) h)
+window_is_counted call (Ok answer) before after numbers made h =
+    answer_is_counted (narrowed call before.desk.activity before.desk.begun) call (Ok answer) before.desk made.middle numbers made.answered
+    (next_counted made.middle.windows after.desk.windows numbers
+    (ap (λ (s : FullState). s.desk.next) made.shown ∙ caught_up_keeps (λ d. d.next) (λ d ws. refl) (window_standing call) made.middle.windows made.told made.caught_up) h)
 window_is_counted call (Err e) before after numbers step h = answer_is_counted (narrowed call before.desk.activity before.desk.begun) call (Err e) before.desk after.desk numbers step.0 h
 
 update_is_counted : (call : UpdateCall) (answer : Result WindowReply Refusal) (before after : DeskState) (numbers : List ℕ) → IsUpdateStep call answer before after → AreCounted after.windows.desk.next numbers → AreCounted before.windows.desk.next (made_by (replied reply.Window answer) ++ numbers)
@@ -322,8 +322,8 @@ frame_is_counted call (Ok answer) before after numbers step h = next_counted bef
 frame_is_counted call (Err e) before after numbers step h = next_counted before.windows after.windows numbers (frame_keeps (λ d. d.next) (λ d ws. refl) call (Err e) before after step) h
 
 event_is_counted : (call : EventCall) (answer : Result EventReply Refusal) (before after : ToolboxState) (numbers : List ℕ) → IsEventAnswer call answer before after → AreCounted after.desk.windows.desk.next numbers → AreCounted before.desk.windows.desk.next (made_by (replied reply.Event answer) ++ numbers)
-event_is_counted call (Ok answer) before after numbers step h = counted_on before.desk.windows after.desk.windows numbers step.0.windows h
-event_is_counted call (Err e) before after numbers step h = counted_on before.desk.windows after.desk.windows numbers step.0.windows h
+event_is_counted call (Ok answer) before after numbers step h = counted_on before.desk.windows after.desk.windows numbers step.desk.windows h
+event_is_counted call (Err e) before after numbers step h = counted_on before.desk.windows after.desk.windows numbers step.desk.windows h
 
 menu_is_counted : (call : MenuCall) (answer : Result MenuReply Refusal) (before after : ToolboxState) (numbers : List ℕ) → IsMenuStep call answer (with_menus before) (with_menus after) → AreCounted after.desk.windows.desk.next numbers → AreCounted before.desk.windows.desk.next (made_by (replied reply.Menu answer) ++ numbers)
 menu_is_counted call (Ok answer) before after numbers step h = next_counted before.desk.windows after.desk.windows numbers (menu_keeps (λ d. d.next) (λ d titles. refl) call (Ok answer) (with_menus before) (with_menus after) step) h

@@ -148,11 +148,15 @@ drawn_update_leaves_others window other first last cs answers was rests all run 
 -- ---- an update that was drawn, with no other call between
 
 rest_kept : (a b c : ToolboxState) → IsRestKept a b → IsRestKept b c → IsRestKept a c
-rest_kept a b c (events, (controls, (lists, menus))) (more_events, (more_controls, (more_lists, more_menus))) =
-    (more_events ∙ events, (more_controls ∙ controls, (more_lists ∙ lists, more_menus ∙ menus)))
+rest_kept a b c first second = record {
+  events = second.events ∙ first.events;
+  controls = second.controls ∙ first.controls;
+  lists = second.lists ∙ first.lists;
+  menus = second.menus ∙ first.menus;
+}
 
 none_done : (s : ToolboxState) → IsRestKept s s
-none_done s = (refl, (refl, (refl, refl)))
+none_done s = record { events = refl; controls = refl; lists = refl; menus = refl }
 
 all_done : (cs : List UpdateCall) (first last : ToolboxState) → IsRunOfCalls first (map Update cs) (map (λ c. done) cs) last → AreDone cs first.desk last.desk × IsRestKept first last
 all_done [] first last run = (ap (λ (x : ToolboxState). x.desk) run, subst (IsRestKept first) (sym run) (none_done first))
@@ -180,7 +184,7 @@ served_update_leaves_others window other before after step = served_leaves_other
 -- what a call on windows that asks is answered comes from its desk
 told_by : (call : WindowCall) (set : PixelSet) (answer : WindowReply) (before after : ToolboxState) → ((x : WindowReply) (middle : DeskState) → IsWindowAnswer (narrowed call before.desk.activity before.desk.begun) call (Ok x) before.desk middle → IsRegionTold set x)
     → (own : Result WindowReply Refusal) → Ok (reply.Window answer) ≡ replied reply.Window own → IsWindowMade call own before after → IsRegionTold set answer
-told_by call set answer before after told (Ok x) is ((middle, answered, rest), kept) = let same : x ≡ answer = cc in subst (IsRegionTold set) same (told x middle answered)
+told_by call set answer before after told (Ok x) is made = let same : x ≡ answer = cc in subst (IsRegionTold set) same (told x made.middle made.answered)
 told_by call set answer before after told (Err e) is made = absurd (cc)
 
 visible_by : (window : ℕ) (answer : WindowReply) (before after : ToolboxState) (set : PixelSet) → ((x : WindowReply) (middle : DeskState) → IsWindowAnswer (narrowed (VisibleRegion window) before.desk.activity before.desk.begun) (VisibleRegion window) (Ok x) before.desk middle → IsRegionTold set x)

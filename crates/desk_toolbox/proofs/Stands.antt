@@ -141,12 +141,12 @@ module _ (before after : ToolboxState) (desk : after.desk.windows.desk ≡ befor
 -- ---- calls about events
 
 pub event_stands : (call : EventCall) (answer : Result EventReply Refusal) (before after : ToolboxState) → Stands before → IsRightToolbox after → IsEventAnswer call answer before after → Stands after
-event_stands call answer before after was right (same, (controls, (lists, menus)), (update, first, is)) =
+event_stands call answer before after was right step =
     let active = before.desk.windows.desk.active in
-    let events : after.events ≡ (event_step call active update before.events).1 = ap (λ (x : Result EventReply Refusal × Events). x.1) is in
-    stands_on before after same.windows.desk same.activity controls menus was right
-    (subst (λ (e : Events). Present e.told before.desk.windows.desk.windows) (sym events) (step_told_present call active update before.events before.desk.windows.desk.windows was.told was.active))
-    (subst (λ (e : Events). ArePosted e.queue.events) (sym events) (step_are_posted call active update before.events was.queued))
+    let events : after.events ≡ (event_step call active step.update before.events).1 = ap (λ (x : Result EventReply Refusal × Events). x.1) step.step in
+    stands_on before after step.desk.windows.desk step.desk.activity step.controls step.menus was right
+    (subst (λ (e : Events). Present e.told before.desk.windows.desk.windows) (sym events) (step_told_present call active step.update before.events before.desk.windows.desk.windows was.told was.active))
+    (subst (λ (e : Events). ArePosted e.queue.events) (sym events) (step_are_posted call active step.update before.events was.queued))
 
 -- ---- calls on windows
 
@@ -204,21 +204,21 @@ left_trackable (asks.Dispose s) before after may activity gone was = subst (λ a
 left_trackable call before after may activity gone was = trackable_stays before after activity gone was
 
 done_stands : (call : WindowCall) (answer : WindowReply) (before after : ToolboxState) → gate before.desk.activity (window_standing call) ≡ None → Stands before → IsRightToolbox after → IsWindowMade call (Ok answer) before after → Stands after
-done_stands call answer before after may was right ((middle, answered, (told, same, caught, shown, gone, ended)), (events, menus)) =
+done_stands call answer before after may was right made =
     let asked = narrowed call before.desk.activity before.desk.begun in
     let was_desk = before.desk.windows.desk in
     let desk = after.desk.windows.desk in
-    let recount = window_recounts call answer before.desk middle told after.desk.windows after.controls.controls after.lists.lists answered caught shown in
-    let followed = same_and_same middle.windows.desk told.desk desk (caught_up_counts (window_standing call) middle.windows told caught) (shown_counts after.controls.controls after.lists.lists told after.desk.windows shown) in
-    let activity : after.desk.activity ≡ before.desk.activity = same.activity ∙ answer_keeps_activity asked call (Ok answer) before.desk middle answered in
-    let left : after.events ≡ record before.events { told = _ } = events ∙ left_after call before.events in
+    let recount = window_recounts call answer before.desk made.middle made.told after.desk.windows after.controls.controls after.lists.lists made.answered made.caught_up made.shown in
+    let followed = same_and_same made.middle.windows.desk made.told.desk desk (caught_up_counts (window_standing call) made.middle.windows made.told made.caught_up) (shown_counts after.controls.controls after.lists.lists made.told after.desk.windows made.shown) in
+    let activity : after.desk.activity ≡ before.desk.activity = made.activity.activity ∙ answer_keeps_activity asked call (Ok answer) before.desk made.middle made.answered in
+    let left : after.events ≡ record before.events { told = _ } = made.events ∙ left_after call before.events in
     record {
       right = right.right;
       contents = right.contents;
-      trackable = left_trackable call before after may activity gone was.trackable;
+      trackable = left_trackable call before after may activity made.controls was.trackable;
       active =
-          subst (λ o. Present o desk.windows) (sym (ap (λ (s : FullState). s.desk.active) shown ∙ caught_up_keeps (λ d. d.active) (λ d ws. refl) (window_standing call) middle.windows told caught))
-          (present_when middle.windows.desk.active middle.windows.desk.windows desk.windows (λ s. let count = followed.count s in omega arith) (answer_keeps_active asked call answer before.desk middle answered was.active));
+          subst (λ o. Present o desk.windows) (sym (ap (λ (s : FullState). s.desk.active) made.shown ∙ caught_up_keeps (λ d. d.active) (λ d ws. refl) (window_standing call) made.middle.windows made.told made.caught_up))
+          (present_when made.middle.windows.desk.active made.middle.windows.desk.windows desk.windows (λ s. let count = followed.count s in omega arith) (answer_keeps_active asked call answer before.desk made.middle made.answered was.active));
       told =
           subst (λ (e : Events). Present e.told desk.windows) (sym left)
           (forgotten_present (to_dispose call) before.events.told desk.windows (λ apart. stays_present (to_dispose call) before.events.told was_desk desk recount apart was.told));
@@ -226,19 +226,19 @@ done_stands call answer before after may was right ((middle, answered, (told, sa
           subst (λ a. Present (open_window a) desk.windows) (sym activity)
           (stays_present (to_dispose call) (open_window before.desk.activity) was_desk desk recount (apart_open call before.desk.activity may) was.opened);
       queued = subst (λ (e : Events). ArePosted e.queue.events) (sym left) was.queued;
-      informed = subst (λ (s : FullState). AreInformed s.desk.windows) (sym shown) (caught_up_informs (window_standing call) before.desk.windows middle.windows told caught (answer_keeps_desk asked call answer before.desk middle answered) was.informed);
+      informed = subst (λ (s : FullState). AreInformed s.desk.windows) (sym made.shown) (caught_up_informs (window_standing call) before.desk.windows made.middle.windows made.told made.caught_up (answer_keeps_desk asked call answer before.desk made.middle made.answered) was.informed);
       tracked =
           ap (λ a. total (misled a) desk.windows) activity
-          ∙ ap (λ (s : FullState). total (misled before.desk.activity) s.desk.windows) shown
-          ∙ caught_up_total (misled before.desk.activity) (window_standing call) middle.windows told caught
-          ∙ answer_misleads_none asked call answer before.desk.activity before.desk middle answered was.tracked;
-      bar = bar_stays before after (made_keeps (λ d. d.bar.titles) (λ d ws active next stock. refl) (λ d shows. refl) call (Ok answer) before after ((middle, answered, (told, same, caught, shown, gone, ended)), (events, menus))) menus was.bar;
-      apart = apart_stays before after menus was.apart;
-      pull = same_pull before.desk.activity after.desk.activity before.menus after.menus activity menus was.pull;
+          ∙ ap (λ (s : FullState). total (misled before.desk.activity) s.desk.windows) made.shown
+          ∙ caught_up_total (misled before.desk.activity) (window_standing call) made.middle.windows made.told made.caught_up
+          ∙ answer_misleads_none asked call answer before.desk.activity before.desk made.middle made.answered was.tracked;
+      bar = bar_stays before after (made_keeps (λ d. d.bar.titles) (λ d ws active next stock. refl) (λ d shows. refl) call (Ok answer) before after made) made.menus was.bar;
+      apart = apart_stays before after made.menus was.apart;
+      pull = same_pull before.desk.activity after.desk.activity before.menus after.menus activity made.menus was.pull;
     }
 
 pub window_stands : (call : WindowCall) (answer : Result WindowReply Refusal) (before after : ToolboxState) → gate before.desk.activity (window_standing call) ≡ None → Stands before → IsRightToolbox after → IsWindowMade call answer before after → Stands after
 window_stands call (Ok answer) before after may was right made = done_stands call answer before after may was right made
-window_stands call (Err e) before after may was right (answered, (events, (controls, (lists, menus)))) =
+window_stands call (Err e) before after may was right (answered, rest) =
     let asked = narrowed call before.desk.activity before.desk.begun in
-    stands_still before after (refused_keeps_desk asked call e before.desk after.desk answered) (answer_keeps_activity asked call (Err e) before.desk after.desk answered) controls menus events was right
+    stands_still before after (refused_keeps_desk asked call e before.desk after.desk answered) (answer_keeps_activity asked call (Err e) before.desk after.desk answered) rest.controls rest.menus rest.events was right

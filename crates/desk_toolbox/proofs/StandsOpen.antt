@@ -85,28 +85,28 @@ update_misleads_none (update.Serve s) before after may (idle, drawn) none =
     ap (λ a. total (misled a) before.windows.desk.windows) idle ∙ sym (ap (λ a. total (misled a) before.windows.desk.windows) (idle_now before.activity may)) ∙ none
 
 pub update_stands : (call : UpdateCall) (answer : Result WindowReply Refusal) (before after : ToolboxState) → gate before.desk.activity (update_standing call) ≡ None → Stands before → IsRightToolbox after → IsUpdateStep call answer before.desk after.desk → IsRestKept before after → Stands after
-update_stands call (Ok answer) before after may was right step (events, (controls, (lists, menus))) =
+update_stands call (Ok answer) before after may was right step rest =
     let ws = before.desk.windows.desk.windows in
     let desk = update_keeps_desk call (Ok answer) before.desk after.desk step in
     let none = update_misleads_none call before.desk after.desk may step.1.1 was.tracked in
     record {
       right = right.right;
       contents = right.contents;
-      trackable = subst (λ (s : ControlsState). IsTrackable after.desk.activity s.controls) (sym controls) (update_trackable before.desk after.desk before.controls.controls was.trackable call (Ok answer) step);
+      trackable = subst (λ (s : ControlsState). IsTrackable after.desk.activity s.controls) (sym rest.controls) (update_trackable before.desk after.desk before.controls.controls was.trackable call (Ok answer) step);
       active = subst (λ (d : FullDesk). Present d.active d.windows) (sym desk) was.active;
-      told = subst (λ (d : FullDesk). Present after.events.told d.windows) (sym desk) (subst (λ (e : Events). Present e.told ws) (sym events) was.told);
+      told = subst (λ (d : FullDesk). Present after.events.told d.windows) (sym desk) (subst (λ (e : Events). Present e.told ws) (sym rest.events) was.told);
       opened = subst (λ (d : FullDesk). Present (open_window after.desk.activity) d.windows) (sym desk) (update_opens call before.desk after.desk step.0 step.1.1 was.opened);
-      queued = subst (λ (e : Events). ArePosted e.queue.events) (sym events) was.queued;
+      queued = subst (λ (e : Events). ArePosted e.queue.events) (sym rest.events) was.queued;
       informed = subst (λ (d : FullDesk). AreInformed d.windows) (sym desk) was.informed;
       tracked = ap (λ (d : FullDesk). total (misled after.desk.activity) d.windows) desk ∙ none;
-      bar = bar_stays before after (ap (λ (d : FullDesk). d.bar.titles) desk) menus was.bar;
-      apart = apart_stays before after menus was.apart;
+      bar = bar_stays before after (ap (λ (d : FullDesk). d.bar.titles) desk) rest.menus was.bar;
+      apart = apart_stays before after rest.menus was.apart;
       pull =
-          subst (IsPullRight after.desk.activity) (sym menus)
+          subst (IsPullRight after.desk.activity) (sym rest.menus)
           (still_unpulled before.desk.activity after.desk.activity before.menus (update_comes_then call before.desk.activity may)
           (update_pulls_none call (Ok answer) before.desk after.desk may step) was.pull);
     }
-update_stands call (Err e) before after may was right step (events, (controls, (lists, menus))) = stands_still before after step.1.windows.desk step.1.activity controls menus events was right
+update_stands call (Err e) before after may was right step rest = stands_still before after step.1.windows.desk step.1.activity rest.controls rest.menus rest.events was right
 
 -- ---- calls about frames
 
@@ -197,7 +197,7 @@ frame_misleads_none (StepGoAway p) Done before after may right wrong none = absu
 frame_misleads_none (EndGoAway p) Done before after may right wrong none = absurd wrong
 
 pub frame_stands : (call : FrameCall) (answer : Result FrameReply Refusal) (before after : ToolboxState) → gate before.desk.activity (frame_standing call) ≡ None → Stands before → IsRightToolbox after → IsFrameStep call answer before.desk after.desk → IsRestKept before after → Stands after
-frame_stands call (Ok answer) before after may was right step (events, (controls, (lists, menus))) =
+frame_stands call (Ok answer) before after may was right step rest =
     let was_ws = before.desk.windows.desk.windows in
     let ws = after.desk.windows.desk.windows in
     let counts = frame_counts call (Ok answer) before.desk after.desk step in
@@ -206,18 +206,18 @@ frame_stands call (Ok answer) before after may was right step (events, (controls
     record {
       right = right.right;
       contents = right.contents;
-      trackable = subst (λ (s : ControlsState). IsTrackable after.desk.activity s.controls) (sym controls) (frame_trackable before.desk after.desk before.controls.controls was.trackable call (Ok answer) step);
+      trackable = subst (λ (s : ControlsState). IsTrackable after.desk.activity s.controls) (sym rest.controls) (frame_trackable before.desk after.desk before.controls.controls was.trackable call (Ok answer) step);
       active = subst (λ o. Present o ws) (sym active) (stay before.desk.windows.desk.active was.active);
-      told = subst (λ (e : Events). Present e.told ws) (sym events) (stay before.events.told was.told);
+      told = subst (λ (e : Events). Present e.told ws) (sym rest.events) (stay before.events.told was.told);
       opened = stay (open_window after.desk.activity) (frame_opens call answer before.desk after.desk step.0 step.1 was.opened);
-      queued = subst (λ (e : Events). ArePosted e.queue.events) (sym events) was.queued;
+      queued = subst (λ (e : Events). ArePosted e.queue.events) (sym rest.events) was.queued;
       informed = frame_informs call answer before.desk after.desk step.1 was.informed;
       tracked = frame_misleads_none call answer before.desk after.desk may was.right step.1 was.tracked;
-      bar = bar_stays before after (frame_keeps (λ d. d.bar.titles) (λ d ws. refl) call (Ok answer) before.desk after.desk step) menus was.bar;
-      apart = apart_stays before after menus was.apart;
+      bar = bar_stays before after (frame_keeps (λ d. d.bar.titles) (λ d ws. refl) call (Ok answer) before.desk after.desk step) rest.menus was.bar;
+      apart = apart_stays before after rest.menus was.apart;
       pull =
-          subst (IsPullRight after.desk.activity) (sym menus)
+          subst (IsPullRight after.desk.activity) (sym rest.menus)
           (still_unpulled before.desk.activity after.desk.activity before.menus (frame_comes_then call before.desk.activity may)
           (frame_pulls_none call (Ok answer) before.desk after.desk may step) was.pull);
     }
-frame_stands call (Err e) before after may was right step (events, (controls, (lists, menus))) = stands_still before after step.1.windows.desk step.1.activity controls menus events was right
+frame_stands call (Err e) before after may was right step rest = stands_still before after step.1.windows.desk step.1.activity rest.controls rest.menus rest.events was right

@@ -37,7 +37,7 @@ use Rattle.window_frame.specs.Followers.{AreInformed, Knows}
 use Rattle.window_frame.specs.Followers.Flag.{Highlighting, Zooming}
 use Rattle.window_frame.specs.FrameSteps.{IsBegunAt, IsFrameEffect, IsFrameStep}
 use Rattle.control_mgr.specs.ControlClosing.{IsControlFull}
-use Rattle.control_mgr.specs.ControlDesks.{ControlDesk, ControlRecord, ControlSlot, ControlsState, IsControlDeskUnchanged, index_of}
+use Rattle.control_mgr.specs.ControlDesks.{ControlDesk, ControlRecord, ControlsState, IsControlDeskUnchanged, index_of}
 use Rattle.control_mgr.specs.ControlRefusals.{control_refusals, most_controls}
 use Rattle.control_mgr.specs.ControlSteps.{AreLayersOf, IsControlEffect, IsControlStep, IsHighlighted, IsControlReleased, IsShownAnew, IsStepped, IsTracked, highlight_of, is_thumb, tested}
 use Rattle.control_mgr.specs.InUse.{AreStocked, IsUsedBy}

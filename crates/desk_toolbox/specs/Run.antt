@@ -68,10 +68,21 @@ abbrev pub IsWindowAnswered : WindowCall → Result WindowReply Refusal → Desk
 IsWindowAnswered call result before after = IsWindowAnswer (narrowed call before.activity before.begun) call result before after
 
 -- a call about events leaves the desk as it is, and its answer and the events that it leaves are those of its step
-abbrev pub IsEventAnswer : EventCall → Result EventReply Refusal → ToolboxState → ToolboxState → Type 0
-IsEventAnswer call result before after = IsDeskUnchanged before.desk after.desk × ((after.controls ≡ before.controls) × ((after.lists ≡ before.lists) × (after.menus ≡ before.menus)))
-    × ((update : Option ℕ) × IsFirstToUpdate before.desk update
-    × ((result, after.events) ≡ event_step call before.desk.windows.desk.active update before.events))
+pub record IsEventAnswer (call : EventCall) (result : Result EventReply Refusal) (before after : ToolboxState) : Type 0 where
+  pub desk : IsDeskUnchanged before.desk after.desk
+  pub controls : after.controls ≡ before.controls
+  pub lists : after.lists ≡ before.lists
+  pub menus : after.menus ≡ before.menus
+  pub update : Option ℕ
+  pub first : IsFirstToUpdate before.desk update
+  pub step : (result, after.events) ≡ event_step call before.desk.windows.desk.active update before.events
+
+-- nothing but the desk changed
+pub record IsRestKept (before after : ToolboxState) : Type 0 where
+  pub events : after.events ≡ before.events
+  pub controls : after.controls ≡ before.controls
+  pub lists : after.lists ≡ before.lists
+  pub menus : after.menus ≡ before.menus
 
 -- the controls of a window that was disposed of go with it, and all others stay
 abbrev pub AreControlsLeft : WindowCall → ControlsState → ControlsState → Type 0
@@ -87,18 +98,24 @@ AreListsLeft _ before after = after ≡ before
 abbrev pub shown_with : List ControlRecord → List KeptList → FullState → FullState
 shown_with cs ls s = state_showing (controls_show (lists_show ls) cs) s
 
--- a call on windows that may come: once it was done, definitions are told how their windows stand, and a window that is gone
--- is forgotten, with its controls and its lists
+-- a call on windows that was done: then definitions were told how their windows stand, and a window that is gone is forgotten,
+-- with its controls and its lists
+pub record IsWindowDone (call : WindowCall) (answer : WindowReply) (before after : ToolboxState) : Type 0 where
+  pub middle : DeskState
+  pub answered : IsWindowAnswered call (Ok answer) before.desk middle
+  pub told : FullState
+  pub activity : SameActivity middle after.desk
+  pub caught_up : IsCaughtUpBy (window_standing call) middle.windows told
+  pub shown : after.desk.windows ≡ shown_with after.controls.controls after.lists.lists told
+  pub controls : AreControlsLeft call before.controls after.controls
+  pub lists : AreListsLeft call before.lists after.lists
+  pub events : after.events ≡ events_left call before.events
+  pub menus : after.menus ≡ before.menus
+
+-- a call on windows that may come, and was done or refused
 abbrev pub IsWindowMade : WindowCall → Result WindowReply Refusal → ToolboxState → ToolboxState → Type 0
-IsWindowMade call (Ok answer) before after =
-    ((middle : DeskState) × IsWindowAnswered call (Ok answer) before.desk middle
-    × ((told : FullState) × SameActivity middle after.desk × IsCaughtUpBy (window_standing call) middle.windows told
-    × (after.desk.windows ≡ shown_with after.controls.controls after.lists.lists told) × AreControlsLeft call before.controls after.controls
-    × AreListsLeft call before.lists after.lists))
-    × ((after.events ≡ events_left call before.events) × (after.menus ≡ before.menus))
-IsWindowMade call (Err e) before after =
-    IsWindowAnswered call (Err e) before.desk after.desk
-    × ((after.events ≡ before.events) × ((after.controls ≡ before.controls) × ((after.lists ≡ before.lists) × (after.menus ≡ before.menus))))
+IsWindowMade call (Ok answer) before after = IsWindowDone call answer before after
+IsWindowMade call (Err e) before after = IsWindowAnswered call (Err e) before.desk after.desk × IsRestKept before after
 
 -- FindWindow is asked for a point of the menu that is pulled down
 abbrev pub is_covered : WindowCall → ToolboxState → Bool
@@ -137,10 +154,6 @@ IsListTold call result before after =
 abbrev pub replied : {R : Type 0} → (R → Reply) → Result R Refusal → Result Reply Refusal
 replied reply_of (Ok answer) = Ok (reply_of answer)
 replied reply_of (Err e) = Err e
-
--- nothing but the desk changed
-abbrev pub IsRestKept : ToolboxState → ToolboxState → Type 0
-IsRestKept before after = (after.events ≡ before.events) × ((after.controls ≡ before.controls) × ((after.lists ≡ before.lists) × (after.menus ≡ before.menus)))
 
 -- a call about what is to be redrawn
 abbrev pub IsUpdateTold : UpdateCall → Result WindowReply Refusal → ToolboxState → ToolboxState → Type 0

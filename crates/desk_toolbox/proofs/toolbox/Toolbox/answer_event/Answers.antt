@@ -16,13 +16,14 @@ use Rattle.desk_toolbox.proofs.toolbox.Toolbox.answer_event.Goals as goal
 pub returns-clause-step : goal.returns-clause-step
 returns-clause-step g c stocks =
     let self = c.args.self.now in
-    let shows = controls_show (lists_show (lists.records_of (taken_list.list_loan-value g.dyn-4).it self.lists)) (records_of (taken_control.control_loan-value g.dyn-2).it self.controls) in (
-      record { windows = record { desk = refl; stale = λ p on. refl; image = λ p on. refl }; activity = refl; begun = refl },
-      (refl, (refl, refl)),
-      (
-        c.first_to_update-update.result,
-        first_showing shows (desk_state (taken.loan-value g.dyn-1).it self.windows (opened self.activity self.updates) stocks.windows) c.first_to_update-update.result (c.first_to_update-update.ensures (λ p. holds self.updates.begun p) stocks.windows),
-        subst (λ l. (c.perform.result, c.perform.new.self) ≡ event_step c.args.call l.active c.first_to_update-update.result self.events) c.list.ensures
-            (subst (λ active. (c.perform.result, c.perform.new.self) ≡ event_step c.args.call active c.first_to_update-update.result self.events) c.active-active.ensures c.perform.ensures),
-      ),
-    )
+    let shows = controls_show (lists_show (lists.records_of (taken_list.list_loan-value g.dyn-4).it self.lists)) (records_of (taken_control.control_loan-value g.dyn-2).it self.controls) in
+    record {
+      desk = record { windows = record { desk = refl; stale = λ p on. refl; image = λ p on. refl }; activity = refl; begun = refl };
+      controls = refl;
+      lists = refl;
+      menus = refl;
+      update = c.first_to_update-update.result;
+      first = first_showing shows (desk_state (taken.loan-value g.dyn-1).it self.windows (opened self.activity self.updates) stocks.windows) c.first_to_update-update.result (c.first_to_update-update.ensures (λ p. holds self.updates.begun p) stocks.windows);
+      step = subst (λ l. (c.perform.result, c.perform.new.self) ≡ event_step c.args.call l.active c.first_to_update-update.result self.events) c.list.ensures
+          (subst (λ active. (c.perform.result, c.perform.new.self) ≡ event_step c.args.call active c.first_to_update-update.result self.events) c.active-active.ensures c.perform.ensures);
+    }

@@ -58,7 +58,7 @@ returns-in-Ok-perform-clause-step g c =
       (
         frame_step_showing (controls_show (lists_show (lists.records_of (taken_list.list_loan-value g.dyn-4).it c.args.self.now.lists)) (records_of (taken_control.control_loan-value g.dyn-2).it c.args.self.now.controls)) c.in-Frame.call (Ok c.in-Ok-perform.reply) (desk_with before (state_of (taken.loan-value g.dyn-1).it c.args.self.now.windows _)) (desk_with after (state_of (taken.loan-value g.dyn-1).it c.perform.new.windows _))
             c.requires.whole.windows.sound.distinct done.1,
-        (refl, (refl, (refl, refl))),
+        record { events = refl; controls = refl; lists = refl; menus = refl },
       ),
     )
 
@@ -89,7 +89,7 @@ returns-in-Err-perform-clause-step g c =
       (
         frame_step_showing (controls_show (lists_show (lists.records_of (taken_list.list_loan-value g.dyn-4).it c.args.self.now.lists)) (records_of (taken_control.control_loan-value g.dyn-2).it c.args.self.now.controls)) c.in-Frame.call (Err c.in-Err-perform.refusal) (desk_with before (state_of (taken.loan-value g.dyn-1).it c.args.self.now.windows _)) (desk_with after (state_of (taken.loan-value g.dyn-1).it c.perform.new.windows _))
             c.requires.whole.windows.sound.distinct done.1,
-        (refl, (refl, (refl, refl))),
+        record { events = refl; controls = refl; lists = refl; menus = refl },
       ),
     )
 

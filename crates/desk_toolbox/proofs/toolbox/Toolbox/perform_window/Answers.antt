@@ -40,26 +40,21 @@ returns-in-Ok-clause-step g c =
     let list_loan = (taken_list.list_loan-value g.dyn-4).it in
     let list_slots = (list_stock.list_slots-value g.dyn-4).it in
     let shows = controls_show (lists_show (lists.records_of list_loan mid.lists)) (records_of control_loan mid.controls) in
-    let caught = (c.follow.ensures _ c.in-Ok.ensures.windows).1 in (
-      (
-        _,
-        c.in-Ok.ensures.step,
-        (
-          state_showing shows (state_of loan c.follow.new.windows _),
-          record { activity = refl; begun = refl },
-          caught_up_by_showing shows (window_standing c.args.call.now) (state_of loan mid.windows _) (state_of loan c.follow.new.windows _) c.in-Ok.ensures.windows.sound.distinct caught,
-          refl,
-          subst (λ (s : ControlsState). AreControlsLeft c.args.call.now s (controls_state control_loan c.forget_controls.new.controls (slots c.forget_controls.new.stock)))
-              (λ i. controls_state control_loan (c.in-Ok.ensures.controls i) (c.in-Ok.ensures.control_stock i)) c.forget_controls.ensures,
-          subst (λ (s : ListsState). AreListsLeft c.args.call.now s (lists_state list_loan c.forget_lists.new.lists (list_slots c.forget_lists.new.stock)))
-              (λ i. lists_state list_loan (c.in-Ok.ensures.lists i) (c.in-Ok.ensures.list_stock i)) c.forget_lists.ensures,
-        ),
-      ),
-      (
-        c.follow-in-Ok.ensures ∙ ap (events_left c.args.call.now) c.in-Ok.ensures.events,
-        λ i. menus_state (taken_menu.menu_loan-value g.dyn-3).it (c.in-Ok.ensures.menus i) (c.in-Ok.ensures.menu_stock i),
-      ),
-    )
+    let caught = (c.follow.ensures _ c.in-Ok.ensures.windows).1 in
+    record {
+      middle = _;
+      answered = c.in-Ok.ensures.step;
+      told = state_showing shows (state_of loan c.follow.new.windows _);
+      activity = record { activity = refl; begun = refl };
+      caught_up = caught_up_by_showing shows (window_standing c.args.call.now) (state_of loan mid.windows _) (state_of loan c.follow.new.windows _) c.in-Ok.ensures.windows.sound.distinct caught;
+      shown = refl;
+      controls = subst (λ (s : ControlsState). AreControlsLeft c.args.call.now s (controls_state control_loan c.forget_controls.new.controls (slots c.forget_controls.new.stock)))
+          (λ i. controls_state control_loan (c.in-Ok.ensures.controls i) (c.in-Ok.ensures.control_stock i)) c.forget_controls.ensures;
+      lists = subst (λ (s : ListsState). AreListsLeft c.args.call.now s (lists_state list_loan c.forget_lists.new.lists (list_slots c.forget_lists.new.stock)))
+          (λ i. lists_state list_loan (c.in-Ok.ensures.lists i) (c.in-Ok.ensures.list_stock i)) c.forget_lists.ensures;
+      events = c.follow-in-Ok.ensures ∙ ap (events_left c.args.call.now) c.in-Ok.ensures.events;
+      menus = λ i. menus_state (taken_menu.menu_loan-value g.dyn-3).it (c.in-Ok.ensures.menus i) (c.in-Ok.ensures.menu_stock i);
+    }
 
 pub forget_controls-requires-clause-live : goal.forget_controls-requires-clause-live
 forget_controls-requires-clause-live g c =
@@ -85,7 +80,6 @@ returns-in-Ok-clause-whole g c =
     let list_loan = (taken_list.list_loan-value g.dyn-4).it in
     let list_slots = (list_stock.list_slots-value g.dyn-4).it in
     let step = returns-in-Ok-clause-step g c in
-    let its = step.0.2 in
     let told = c.follow.ensures _ c.in-Ok.ensures.windows in
     let may : gate mid.activity (window_standing c.args.call.now) ≡ None = ap (λ a. gate a (window_standing c.args.call.now)) c.in-Ok.ensures.activity ∙ c.requires.admitted in
     let before : ToolboxState = toolbox_state loan menu_loan control_loan list_loan old ((stock.all_slots-value g.dyn-1 g.dyn-2 g.dyn-4 g.dyn-3).it c.args.stock.now) in
@@ -96,13 +90,13 @@ returns-in-Ok-clause-whole g c =
       menus = before.menus;
       events = before.events;
     } in
-    let right = made_keeps_contents c.args.call.now c.in-Ok.reply before step.0.0 its.0 after (record { controls = c.requires.whole.controls; lists = c.requires.whole.lists; shown = refl })
-    (record { look = look_on old.windows; distinct = c.requires.whole.windows.sound.distinct; serials = c.requires.whole.windows.sound.serials }) step.0.1 its.2 its.3 its.4 its.5 in
+    let right = made_keeps_contents c.args.call.now c.in-Ok.reply before step.middle step.told after (record { controls = c.requires.whole.controls; lists = c.requires.whole.lists; shown = refl })
+    (record { look = look_on old.windows; distinct = c.requires.whole.windows.sound.distinct; serials = c.requires.whole.windows.sound.serials }) step.answered step.caught_up step.shown step.controls step.lists in
     record {
       windows = told.0;
       updates = updates_after_following loan mid.windows c.follow.new.windows mid.updates _ _ mid.activity c.args.call.now may told.1 c.in-Ok.ensures.updates;
       controls = right.controls;
       lists = right.lists;
-      trackable = left_trackable c.args.call.now before after c.requires.admitted c.in-Ok.ensures.activity its.4 c.requires.whole.trackable;
+      trackable = left_trackable c.args.call.now before after c.requires.admitted c.in-Ok.ensures.activity step.controls c.requires.whole.trackable;
       menus = followed_whole loan menu_loan mid.windows c.follow.new.windows mid.menus _ _ _ mid.activity c.args.call.now may told.1 c.in-Ok.ensures.menus_whole;
     }

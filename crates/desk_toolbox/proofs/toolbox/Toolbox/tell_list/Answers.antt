@@ -1,5 +1,4 @@
 use Rattle.std.proofs.Common.{refl}
-use Rattle.tb_geom.specs.Pixels.{holds}
 use Rattle.def_iface.specs.contracts.taken.TakenDefined.TheImpl as taken
 use Rattle.def_iface.specs.contracts.taken_control.TakenControlDefinedControl.TheImpl as taken_control
 use Rattle.def_iface.specs.contracts.taken_list.TakenListDefinedList.TheImpl as taken_list

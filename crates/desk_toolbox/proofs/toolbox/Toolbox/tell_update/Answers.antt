@@ -26,4 +26,4 @@ returns-clause-whole g c stocks whole =
     }
 
 pub returns-clause-step : goal.returns-clause-step
-returns-clause-step g c stocks whole = ((c.perform.ensures.step stocks.windows whole.windows).1, (refl, (refl, (refl, refl))))
+returns-clause-step g c stocks whole = ((c.perform.ensures.step stocks.windows whole.windows).1, record { events = refl; controls = refl; lists = refl; menus = refl })
