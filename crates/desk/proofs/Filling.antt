@@ -12,6 +12,7 @@ use Rattle.def_iface.specs.MenuMeaning.{MenuDefinition}
 use Rattle.def_iface.specs.Slots as slots
 use Rattle.def_iface.specs.Slots.{SlotOf}
 use Rattle.def_iface.specs.Stocked.{SlotView, IsFull, IsIdle}
+use Rattle.def_iface.specs.Stocks.{AllSlots}
 use Rattle.std_cdef.specs.declared.check.Variation.TheVariants.{CheckBox, RadioButton}
 use Rattle.std_cdef.specs.Told.{button_meaning, check_meaning, fresh_button, fresh_check, fresh_scroll, scroll_meaning}
 use Rattle.std_mldef.specs.Lists.{fresh_list, std_list_meaning}
@@ -21,7 +22,7 @@ use Rattle.watched_io.specs.Reads.{Input}
 use Rattle.watched_io.specs.Writes.{Output}
 use Rattle.script_runner.specs.declared.command_line.Choices.{Choices}
 use Rattle.script_runner.specs.ChosenRuns.{ChosenEnds}
-use Rattle.desk.specs.StandardStock.{control_slot, controls_of_each, list_slot, menu_slot, notched_slot, one_of_each, so_many, standard_controls, standard_lists, standard_menus, standard_slots}
+use Rattle.desk.specs.StandardStock.{control_slot, controls_of_each, list_slot, menu_slot, notched_slot, one_of_each, so_many, standard_slots}
 use Rattle.desk.specs.Program.{EndsOver, StandardEnds}
 
 -- ---- slots, so many times over
@@ -133,29 +134,30 @@ so_many_lists_full = all_of_so_many IsListFull (list_slot ∷ []) (All-from_recu
 -- ---- the run
 
 module _ {File : Type 0} (opens : List ℕ → Result File Refusal → Type 0) (input : File → Input) (standard rest : Input) (old new : Output) (chosen : Choices) where
-  -- a run over a stock with these windows, these menus, these controls and these lists
-  run_over_stock : (windows left : List SlotView) (menus left_menus : List (SlotOf MenuDefinition)) (controls left_controls : List (SlotOf ControlDefinition)) (lists left_lists : List (SlotOf ListDefinition)) {X : Type 0} (r : Result X Refusal)
-      → ChosenEnds opens input chosen windows left menus left_menus controls left_controls lists left_lists standard rest old new r → EndsOver opens input standard rest old new windows menus controls lists chosen r
-  run_over_stock windows left menus left_menus controls left_controls lists left_lists (Ok x) ends = record { left = left; left_menus = left_menus; left_controls = left_controls; left_lists = left_lists; ends = ends }
-  run_over_stock windows left menus left_menus controls left_controls lists left_lists (Err e) ends = inl (record { left = left; left_menus = left_menus; left_controls = left_controls; left_lists = left_lists; ends = ends })
+  -- a run over a stock with these slots
+  run_over_stock : (stocks left : AllSlots) {X : Type 0} (r : Result X Refusal)
+      → ChosenEnds opens input chosen stocks left standard rest old new r → EndsOver opens input standard rest old new stocks chosen r
+  run_over_stock stocks left (Ok x) ends = record { left = left; ends = ends }
+  run_over_stock stocks left (Err e) ends = inl (record { left = left; ends = ends })
 
   -- a run over lists that are the standard ones
-  pub run_over_lists : (windows left : List SlotView) (menus left_menus : List (SlotOf MenuDefinition)) (controls left_controls : List (SlotOf ControlDefinition)) (lists left_lists : List (SlotOf ListDefinition)) → lists ≡ standard_lists → {X : Type 0} (r : Result X Refusal)
-      → ChosenEnds opens input chosen windows left menus left_menus controls left_controls lists left_lists standard rest old new r → EndsOver opens input standard rest old new windows menus controls standard_lists chosen r
-  run_over_lists windows left menus left_menus controls left_controls lists left_lists is r ends =
-      subst (λ s. EndsOver opens input standard rest old new windows menus controls s chosen r) is (run_over_stock windows left menus left_menus controls left_controls lists left_lists r ends)
+  pub run_over_lists : (windows : List SlotView) (menus : List (SlotOf MenuDefinition)) (controls : List (SlotOf ControlDefinition)) (lists : List (SlotOf ListDefinition)) (left : AllSlots) → lists ≡ standard_slots.lists → {X : Type 0} (r : Result X Refusal)
+      → ChosenEnds opens input chosen (record { windows = windows; menus = menus; controls = controls; lists = lists }) left standard rest old new r
+      → EndsOver opens input standard rest old new (record standard_slots { windows = windows; menus = menus; controls = controls }) chosen r
+  run_over_lists windows menus controls lists left is r ends =
+      subst (λ s. EndsOver opens input standard rest old new (record { windows = windows; menus = menus; controls = controls; lists = s }) chosen r) is (run_over_stock _ left r ends)
 
   -- a run over controls that are the standard ones
-  pub run_over_controls : (windows : List SlotView) (menus : List (SlotOf MenuDefinition)) (controls : List (SlotOf ControlDefinition)) → controls ≡ standard_controls → {X : Type 0} (r : Result X Refusal)
-      → EndsOver opens input standard rest old new windows menus controls standard_lists chosen r → EndsOver opens input standard rest old new windows menus standard_controls standard_lists chosen r
-  run_over_controls windows menus controls is r ends = subst (λ s. EndsOver opens input standard rest old new windows menus s standard_lists chosen r) is ends
+  pub run_over_controls : (windows : List SlotView) (menus : List (SlotOf MenuDefinition)) (controls : List (SlotOf ControlDefinition)) → controls ≡ standard_slots.controls → {X : Type 0} (r : Result X Refusal)
+      → EndsOver opens input standard rest old new (record standard_slots { windows = windows; menus = menus; controls = controls }) chosen r → EndsOver opens input standard rest old new (record standard_slots { windows = windows; menus = menus }) chosen r
+  run_over_controls windows menus controls is r ends = subst (λ s. EndsOver opens input standard rest old new (record standard_slots { windows = windows; menus = menus; controls = s }) chosen r) is ends
 
   -- a run over menus that are the standard ones
-  pub run_over_menus : (windows : List SlotView) (menus : List (SlotOf MenuDefinition)) → menus ≡ standard_menus → {X : Type 0} (r : Result X Refusal)
-      → EndsOver opens input standard rest old new windows menus standard_controls standard_lists chosen r → EndsOver opens input standard rest old new windows standard_menus standard_controls standard_lists chosen r
-  run_over_menus windows menus is r ends = subst (λ m. EndsOver opens input standard rest old new windows m standard_controls standard_lists chosen r) is ends
+  pub run_over_menus : (windows : List SlotView) (menus : List (SlotOf MenuDefinition)) → menus ≡ standard_slots.menus → {X : Type 0} (r : Result X Refusal)
+      → EndsOver opens input standard rest old new (record standard_slots { windows = windows; menus = menus }) chosen r → EndsOver opens input standard rest old new (record standard_slots { windows = windows }) chosen r
+  run_over_menus windows menus is r ends = subst (λ s. EndsOver opens input standard rest old new (record standard_slots { windows = windows; menus = s }) chosen r) is ends
 
   -- a run over windows that are the standard ones
-  pub run_over_standard : (windows : List SlotView) → windows ≡ standard_slots → {X : Type 0} (r : Result X Refusal)
-      → EndsOver opens input standard rest old new windows standard_menus standard_controls standard_lists chosen r → StandardEnds opens input standard rest old new chosen r
-  run_over_standard windows is r ends = subst (λ s. EndsOver opens input standard rest old new s standard_menus standard_controls standard_lists chosen r) is ends
+  pub run_over_standard : (windows : List SlotView) → windows ≡ standard_slots.windows → {X : Type 0} (r : Result X Refusal)
+      → EndsOver opens input standard rest old new (record standard_slots { windows = windows }) chosen r → StandardEnds opens input standard rest old new chosen r
+  run_over_standard windows is r ends = subst (λ s. EndsOver opens input standard rest old new (record standard_slots { windows = s }) chosen r) is ends

@@ -2,17 +2,13 @@
 use Rattle.std.specs.Prelude.{◌≡◌, ◌⊎◌, ◌&&◌, ℕ, false, List, [], Result, Ok, Err}
 use Rattle.tb_geom.specs.declared.refusal.Refusal.{Refusal}
 use Rattle.tb_geom.specs.declared.refusal.Refusal.TheVariants.{NoMemory}
-use Rattle.def_iface.specs.ControlMeaning.{ControlDefinition}
-use Rattle.def_iface.specs.ListMeaning.{ListDefinition}
-use Rattle.def_iface.specs.MenuMeaning.{MenuDefinition}
-use Rattle.def_iface.specs.Slots.{SlotOf}
-use Rattle.def_iface.specs.Stocked.{SlotView}
+use Rattle.def_iface.specs.Stocks.{AllSlots}
 use Rattle.watched_io.specs.Reads.{Input}
 use Rattle.watched_io.specs.Writes.{Output}
 use Rattle.script_runner.specs.declared.command_line.Choices.{Choices}
 use Rattle.script_runner.specs.Choices.{IsChosen, AreWordsRefused, faults_in}
 use Rattle.script_runner.specs.ChosenRuns.{ChosenEnds}
-use Rattle.desk.specs.StandardStock.{standard_controls, standard_lists, standard_menus, standard_slots}
+use Rattle.desk.specs.StandardStock.{standard_slots}
 use Rattle.desk.specs.declared.program.Stopped.{Stopped}
 use Rattle.desk.specs.declared.program.Stopped.TheVariants.{Words, Run}
 
@@ -30,22 +26,19 @@ module _ {File : Type 0} (opens : List ℕ → Result File Refusal → Type 0) (
     pub unread : rest ≡ standard
     pub silent : new ≡ old
 
-  -- the choices were run over a stock with these windows, these menus, these controls and these lists
-  pub record HasRunOver (windows : List SlotView) (menus : List (SlotOf MenuDefinition)) (controls : List (SlotOf ControlDefinition)) (lists : List (SlotOf ListDefinition)) (chosen : Choices) {X : Type 0} (r : Result X Refusal) : Type 0 where
-    pub left : List SlotView
-    pub left_menus : List (SlotOf MenuDefinition)
-    pub left_controls : List (SlotOf ControlDefinition)
-    pub left_lists : List (SlotOf ListDefinition)
-    pub ends : ChosenEnds opens input chosen windows left menus left_menus controls left_controls lists left_lists standard rest old new r
+  -- the choices were run over a stock with these slots
+  pub record HasRunOver (stocks : AllSlots) (chosen : Choices) {X : Type 0} (r : Result X Refusal) : Type 0 where
+    pub left : AllSlots
+    pub ends : ChosenEnds opens input chosen stocks left standard rest old new r
 
   -- so it ends, or there was no memory for that stock
-  abbrev pub EndsOver : List SlotView → List (SlotOf MenuDefinition) → List (SlotOf ControlDefinition) → List (SlotOf ListDefinition) → Choices → {X : Type 0} → Result X Refusal → Type 0
-  EndsOver windows menus controls lists chosen {X} (Ok x) = HasRunOver windows menus controls lists chosen {X = X} (Ok x)
-  EndsOver windows menus controls lists chosen {X} (Err e) = HasRunOver windows menus controls lists chosen {X = X} (Err e) ⊎ ((e ≡ NoMemory) × IsSilent)
+  abbrev pub EndsOver : AllSlots → Choices → {X : Type 0} → Result X Refusal → Type 0
+  EndsOver stocks chosen {X} (Ok x) = HasRunOver stocks chosen {X = X} (Ok x)
+  EndsOver stocks chosen {X} (Err e) = HasRunOver stocks chosen {X = X} (Err e) ⊎ ((e ≡ NoMemory) × IsSilent)
 
   -- so it ends over the standard stock
   abbrev pub StandardEnds : Choices → {X : Type 0} → Result X Refusal → Type 0
-  StandardEnds chosen r = EndsOver standard_slots standard_menus standard_controls standard_lists chosen r
+  StandardEnds chosen r = EndsOver standard_slots chosen r
 
   -- nothing is wrong with the words, and what they choose was run
   pub record HasRunWords (words : List (List ℕ)) {X : Type 0} (r : Result X Refusal) : Type 0 where

@@ -5,7 +5,7 @@ ghost use Rattle.def_iface.specs.Slots as slots;
 ghost use Rattle.def_iface.specs.Stocked.{IsFull};
 ghost use Rattle.watched_io.specs.Reads.{IsOpen};
 ghost use Rattle.desk.specs.Program.{EndsOver, ProgramEnds, StandardEnds};
-ghost use Rattle.desk.specs.StandardStock.{standard_controls, standard_lists, standard_menus};
+ghost use Rattle.desk.specs.StandardStock.{standard_slots};
 
 use def_iface::{
     ControlStock, ListStock, MenuStock, Stock, Stocked, StockedControls, StockedMenus, WindowStock,
@@ -125,7 +125,7 @@ fn run_with_windows<F: Opener, R: Source, W: Sink>(
     requires unfailed { (W.output sink.old).has_failed ≡ false }
     ensures { EndsOver (F.opens files.now) F.Opened.input
         (R.input standard.old) (R.input standard.new) (W.output sink.old) (W.output sink.new)
-        (⟦<WindowStock as Stocked>⟧.slots windows) standard_menus standard_controls standard_lists chosen.now result }
+        (record standard_slots { windows = ⟦<WindowStock as Stocked>⟧.slots windows }) chosen.now result }
 {
     let mut menus = MenuStock::new(alloc);
     for round in 0..MENUS {
@@ -155,8 +155,8 @@ fn run_with_menus<F: Opener, R: Source, W: Sink>(
     requires unfailed { (W.output sink.old).has_failed ≡ false }
     ensures { EndsOver (F.opens files.now) F.Opened.input
         (R.input standard.old) (R.input standard.new) (W.output sink.old) (W.output sink.new)
-        (⟦<WindowStock as Stocked>⟧.slots windows) (⟦<MenuStock as StockedMenus>⟧.menu_slots menus)
-        standard_controls standard_lists chosen.now result }
+        (record standard_slots { windows = ⟦<WindowStock as Stocked>⟧.slots windows; menus = ⟦<MenuStock as StockedMenus>⟧.menu_slots menus })
+        chosen.now result }
 {
     let mut controls = ControlStock::new(alloc);
     for round in 0..CONTROLS {
@@ -202,8 +202,11 @@ fn run_with_controls<F: Opener, R: Source, W: Sink>(
     requires unfailed { (W.output sink.old).has_failed ≡ false }
     ensures { EndsOver (F.opens files.now) F.Opened.input
         (R.input standard.old) (R.input standard.new) (W.output sink.old) (W.output sink.new)
-        (⟦<WindowStock as Stocked>⟧.slots windows) (⟦<MenuStock as StockedMenus>⟧.menu_slots menus)
-        (⟦<ControlStock as StockedControls>⟧.control_slots controls) standard_lists chosen.now result }
+        (record standard_slots {
+          windows = ⟦<WindowStock as Stocked>⟧.slots windows;
+          menus = ⟦<MenuStock as StockedMenus>⟧.menu_slots menus;
+          controls = ⟦<ControlStock as StockedControls>⟧.control_slots controls;
+        }) chosen.now result }
 {
     let mut lists = ListStock::new(alloc);
     for round in 0..LISTS {

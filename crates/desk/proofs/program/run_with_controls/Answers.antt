@@ -18,10 +18,15 @@ loop-round-preserved g c =
     let means = read_made own.own-4 ((own.own-4).entry own.at-4-1) own.at-4-1 refl ListDefinition (λ j y. j.1.list_meaning y) c.into_dyn_box.result.vtable c.into_dyn_box.result.value c.in_ok-list.list.value c.into_dyn_box.ensures.1 in
     slot_added (codes "text") (std_list_meaning fresh_list) c.loop-round.round _ _ _ c.loop-round.invariant c.in-Ok.ensures.added (means ∙ ap std_list_meaning (c.in_ok-list.ensures.ok ∙ c.new.ensures.value))
 
-pub run_chosen-requires-clause-full_lists : goal.run_chosen-requires-clause-full_lists
-run_chosen-requires-clause-full_lists g c = subst (All IsListFull) (sym c.loop-round.invariant) (so_many_lists_full c.loop-round.round)
+pub run_chosen-requires-clause-full : goal.run_chosen-requires-clause-full
+run_chosen-requires-clause-full g c = record {
+  windows = c.requires.full;
+  menus = c.requires.full_menus;
+  controls = c.requires.full_controls;
+  lists = subst (All IsListFull) (sym c.loop-round.invariant) (so_many_lists_full c.loop-round.round);
+}
 
 pub returns : goal.returns
 returns g c =
     let all : c.loop-round.round ≡ 16 = omega arith in
-    run_over_lists _ _ _ _ _ _ _ _ _ _ _ _ _ _ _ (c.loop-round.invariant ∙ ap (λ n. so_many n (list_slot ∷ [])) all) c.run_chosen.result c.run_chosen.ensures.ends
+    run_over_lists _ _ _ _ _ _ _ _ _ _ _ _ (c.loop-round.invariant ∙ ap (λ n. so_many n (list_slot ∷ [])) all) c.run_chosen.result c.run_chosen.ensures.ends
