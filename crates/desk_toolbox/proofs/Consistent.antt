@@ -32,7 +32,7 @@ use Rattle.desk_toolbox.proofs.ListStands.{begun_contents, list_stands}
 use Rattle.desk_toolbox.proofs.GivenBars.{step_keeps_bars}
 use Rattle.control_mgr.specs.InUse.{AreStocked}
 use Rattle.control_mgr.specs.WholeControls.{IsTrackable}
-use Rattle.list_mgr.specs.GivenBars.{HasGivenBars}
+use Rattle.list_mgr.specs.GivenBars.{HasGivenBars, IsFromOne}
 
 abbrev GoesOnStanding : Call → Result Reply Refusal → ToolboxState → ToolboxState → Type 0
 GoesOnStanding call answer before after = Stands before → IsRightToolbox after → Stands after
@@ -80,7 +80,7 @@ just_begun_is_consistent s begun =
       opened = subst (λ a. IsThere (open_window a) windows) (sym begun.idle) tt;
       contents = begun_contents s begun;
       trackable = subst (λ a. IsTrackable a s.controls.controls) (sym begun.idle) tt;
-      bars = All-same (HasGivenBars s.controls.next) s.lists.lists [] begun.lists (All-nil (HasGivenBars s.controls.next));
+      bars = (subst IsFromOne (sym begun.next_control) (omega arith), All-same (HasGivenBars s.controls.next) s.lists.lists [] begun.lists (All-nil (HasGivenBars s.controls.next)));
       queued = All-same (λ (e : Event). is_posted e.what ≡ true) s.events.queue.events [] (ap (λ (e : Events). e.queue.events) begun.events) (All-nil (λ (e : Event). is_posted e.what ≡ true));
       held = subst (λ (ws : List WindowRecord). AreStocked (λ (d : Definition). d.stage) (map (λ w. w.slot) ws) s.desk.windows.desk.stock) (sym begun.windows) (λ k. none_used_at (λ (d : Definition). d.stage) s.desk.windows.desk.stock k begun.stock);
       live = All-same HasLiveDefinition windows [] begun.windows (All-nil HasLiveDefinition);

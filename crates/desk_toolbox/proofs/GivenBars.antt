@@ -1,6 +1,5 @@
 -- The scroll bars of each list have serials that controls were given, whatever is called.
 use Rattle.std.proofs.Common.{◌≡◌, Result, Ok, Err, sym, subst}
-use Rattle.std.specs.Prelude.{All}
 use Rattle.tb_geom.specs.declared.refusal.Refusal.{Refusal}
 use Rattle.desk_call.specs.declared.call.Call.{Call}
 use Rattle.desk_call.specs.declared.call.Reply.{Reply}
@@ -10,15 +9,15 @@ use Rattle.desk_call.specs.declared.window.WindowReply.{WindowReply}
 use Rattle.control_mgr.specs.ControlDesks.{ControlsState}
 use Rattle.control_mgr.proofs.ControlFacts.{control_facts}
 use Rattle.control_mgr.proofs.ControlsFollowed.{all_within}
-use Rattle.list_mgr.specs.GivenBars.{HasGivenBars}
+use Rattle.list_mgr.specs.GivenBars.{AreBarsGiven, HasGivenBars}
 use Rattle.list_mgr.specs.ListDesks.{ListsState}
-use Rattle.list_mgr.proofs.GivenBars.{bars_go_on, control_goes_on, list_keeps_bars}
+use Rattle.list_mgr.proofs.GivenBars.{bars_go_on, control_from_one, control_goes_on, list_keeps_bars}
 use Rattle.desk_toolbox.specs.Run.{AreControlsLeft, AreListsLeft, IsStep, IsWindowMade}
 use Rattle.desk_toolbox.specs.ToolboxStates.{ToolboxState, with_controls, with_lists}
 use Rattle.desk_toolbox.proofs.EachManager.{HoldsOfEach, of_step}
 
 abbrev HaveGivenBars : ControlsState → ListsState → Type 0
-HaveGivenBars controls lists = All (HasGivenBars controls.next) lists.lists
+HaveGivenBars controls lists = AreBarsGiven controls.next lists.lists
 
 abbrev KeepsBars : Call → Result Reply Refusal → ToolboxState → ToolboxState → Type 0
 KeepsBars call answer before after = HaveGivenBars before.controls before.lists → HaveGivenBars after.controls after.lists
@@ -30,8 +29,8 @@ same_bars before after controls lists h = subst (λ (s : ControlsState × ListsS
 left_bars : (call : WindowCall) (before after : ToolboxState) → AreControlsLeft call before.controls after.controls → AreListsLeft call before.lists after.lists
     → HaveGivenBars before.controls before.lists → HaveGivenBars after.controls after.lists
 left_bars (Dispose s) before after controls lists h =
-    subst (λ o. All (HasGivenBars o) after.lists.lists) (sym controls.next)
-    (all_within (HasGivenBars before.controls.next) before.lists.lists after.lists.lists lists.within h)
+    subst (λ o. AreBarsGiven o after.lists.lists) (sym controls.next)
+    (h.0, all_within (HasGivenBars before.controls.next) before.lists.lists after.lists.lists lists.within h.1)
 left_bars call before after controls lists h = same_bars before after controls lists h
 
 made_bars : (call : WindowCall) (answer : Result WindowReply Refusal) (before after : ToolboxState) → IsWindowMade call answer before after
@@ -49,13 +48,15 @@ each_keeps_bars = record {
   frame = λ call answer before after may step rest h. same_bars before after rest.controls rest.lists h;
   control = λ call answer before after may step events lists menus h.
       let next = (control_facts call answer (with_controls before) (with_controls after) step).1 in
-      subst (HaveGivenBars after.controls) (sym lists)
-      (bars_go_on before.controls.next after.controls.next before.lists.lists (control_goes_on call answer before.controls after.controls next) h);
+      subst (HaveGivenBars after.controls) (sym lists) (
+        control_from_one call answer before.controls after.controls next h.0,
+        bars_go_on before.controls.next after.controls.next before.lists.lists (control_goes_on call answer before.controls after.controls next) h.1,
+      );
   list = λ call answer before after may step events menus h. list_keeps_bars call answer (with_lists before) (with_lists after) step h;
   menu = λ call answer before after may step events controls lists h. same_bars before after controls lists h;
   event = λ call answer before after step h. same_bars before after step.controls step.lists h;
 }
 
-pub step_keeps_bars : (call : Call) (answer : Result Reply Refusal) (before after : ToolboxState) → IsStep call answer before after → All (HasGivenBars before.controls.next) before.lists.lists
-    → All (HasGivenBars after.controls.next) after.lists.lists
+pub step_keeps_bars : (call : Call) (answer : Result Reply Refusal) (before after : ToolboxState) → IsStep call answer before after
+    → AreBarsGiven before.controls.next before.lists.lists → AreBarsGiven after.controls.next after.lists.lists
 step_keeps_bars = of_step KeepsBars each_keeps_bars

@@ -20,7 +20,7 @@ use Rattle.window_mgr.specs.FullDesk.{FullDesk, FullState, IsRightState}
 use Rattle.window_mgr.specs.DeskStates.{DeskState, narrowed}
 use Rattle.control_mgr.specs.ControlDesks.{ControlsState}
 use Rattle.control_mgr.specs.WholeControls.{IsTrackable}
-use Rattle.list_mgr.specs.GivenBars.{HasGivenBars}
+use Rattle.list_mgr.specs.GivenBars.{AreBarsGiven}
 use Rattle.menu_list.specs.Lists.{titles_of}
 use Rattle.menu_mgr.specs.MenuDesks.{IsBarOf, MenusState}
 use Rattle.window_frame.specs.Followers.{AreInformed, IsCaughtUpBy}
@@ -80,7 +80,7 @@ stands s h = record {
   pull = record { pulled = h.pulled; lit = h.lit };
 }
 
-pub consistent : (s : ToolboxState) → Stands s → AreWindowsStocked s.desk.windows.desk → All HasLiveDefinition s.desk.windows.desk.windows → AreMenusHeld s.menus → All (HasGivenBars s.controls.next) s.lists.lists → IsConsistent s
+pub consistent : (s : ToolboxState) → Stands s → AreWindowsStocked s.desk.windows.desk → All HasLiveDefinition s.desk.windows.desk.windows → AreMenusHeld s.menus → AreBarsGiven s.controls.next s.lists.lists → IsConsistent s
 consistent s h held live menus bars = record {
   right = h.right;
   active = present_is_there s.desk.windows.desk.active s.desk.windows.desk.windows h.active;

@@ -17,7 +17,7 @@ use Rattle.control_mgr.specs.ControlClosing.{IsControlFull}
 use Rattle.control_mgr.specs.ControlDesks.{ShowsControls}
 use Rattle.control_mgr.specs.InUse.{AreStocked}
 use Rattle.control_mgr.specs.WholeControls.{AreWholeControls, IsTrackable}
-use Rattle.list_mgr.specs.GivenBars.{HasGivenBars}
+use Rattle.list_mgr.specs.GivenBars.{AreBarsGiven}
 use Rattle.list_mgr.specs.ListClosing.{IsListFull}
 use Rattle.list_mgr.specs.WholeLists.{AreWholeLists}
 use Rattle.menu_list.specs.Lists.{has_number, is_in_bar}
@@ -90,10 +90,11 @@ pub record AreContentsRight (s : ToolboxState) : Type 0 where
 -- a right state, in which the active window, the one last told active and that of what is open are windows of the desk, and
 -- only events of kinds that are posted are queued. Each window's definition is live and knows how the window stands, and none
 -- heard last that a go-away box is tracked which is not. Its controls and lists are whole, the control that is tracked is there,
--- and its windows show them. The scroll bars of each list have serials that controls were given, each another. The menu bar has
--- the titles of the menus that are inserted, no two menus have one number, and a highlighted title is in the bar. The menu that
--- is pulled down is there, and each menu's definition goes by which of its items is highlighted. The stocks of windows and of
--- menus have all definitions but those of the windows and menus that are there, as those of controls and of lists have.
+-- and its windows show them. The scroll bars of each list have serials that controls were given, and two bars of one list have
+-- two. The menu bar has the titles of the menus that are inserted, no two menus have one number, and a highlighted title is in
+-- the bar. The menu that is pulled down is there, and each menu's definition goes by which of its items is highlighted. The
+-- stocks of windows and of menus have all definitions but those of the windows and menus that are there, as those of controls
+-- and of lists have.
 pub record IsConsistent (s : ToolboxState) : Type 0 where
   pub right : IsRightState s.desk.windows
   pub active : IsThere s.desk.windows.desk.active s.desk.windows.desk.windows
@@ -106,7 +107,7 @@ pub record IsConsistent (s : ToolboxState) : Type 0 where
   pub tracked : All (IsTrackedIfHeard s.desk.activity) s.desk.windows.desk.windows
   pub contents : AreContentsRight s
   pub trackable : IsTrackable s.desk.activity s.controls.controls
-  pub bars : All (HasGivenBars s.controls.next) s.lists.lists
+  pub bars : AreBarsGiven s.controls.next s.lists.lists
   pub bar : IsBarOf s.menus s.desk.windows.desk
   pub apart : AreMenusApart s.menus.menus
   pub pulled : IsPulledThere s.desk.activity s.menus
