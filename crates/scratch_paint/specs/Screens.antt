@@ -6,7 +6,7 @@ use Rattle.desk_toolbox.specs.Fronts.{screen_scratch}
 use Rattle.desk_toolbox.specs.ToolboxStates.{ToolboxState}
 use Rattle.scratch_paint.specs.Paints.{IsPaintedSo}
 
--- no slot of any kind: whatever the stocks, a screen shows the same
+-- no slot at all: whatever the slots, a screen shows the same
 abbrev pub no_slots : AllSlots
 no_slots = record { windows = []; menus = []; controls = []; lists = [] }
 

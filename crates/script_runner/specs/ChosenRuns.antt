@@ -41,7 +41,7 @@ module _ {File : Type 0} (opens : List ℕ → Result File Refusal → Type 0) (
   IsScriptLost None e = ⊥
   IsScriptLost (Some path) e = opens path (Err e)
 
-  -- from stocks with these slots, of which it leaves those, and from one state of standard input and of the writer to another
+  -- from a stock with these slots, of which it leaves those, and from one state of standard input and of the writer to another
   module _ (chosen : Choices) (stocks left : AllSlots) (standard rest : Input) (old new : Output) where
     -- nothing was read of standard input, written, or taken out of the stock
     pub record IsUntouched : Type 0 where

@@ -86,7 +86,7 @@ pub record CheckedEnds (raw check : Bool) (first : SessionState) (input rest : I
   pub followed : IsFollowed check script session between new r
 
 -- `asked` are the bytes of the font that a run is asked to draw texts in, if it is; `raw` says whether it is raw, and `check`
--- whether it is to be checked at its end. It is a run from stocks with these slots, and leaves those
+-- whether it is to be checked at its end. It is a run from a stock with these slots, and leaves those
 module _ (asked : Option (List ℕ)) (raw check : Bool) (stocks left : AllSlots) (input rest : Input) (old new : Output) where
   -- with that font the script ran, from no desk to its end, and was checked
   pub record HasRun {X : Type 0} (r : Result X Refusal) : Type 0 where

@@ -36,7 +36,7 @@ use Rattle.screen_pbm.specs.Pbm.{p1, p4}
 use Rattle.reply_lines.specs.Texts.{done_text}
 use Rattle.script_text.specs.Replies.{refused_text, reply_text}
 
--- the desk of a script: none so far, with this font and over these slots of the stocks, or one in this state
+-- the desk of a script: none so far, with this font and over these slots of the stock, or one in this state
 pub data SessionState : Type 0 where
   unmade : List ℕ → AllSlots → SessionState
   made : ToolboxState → SessionState
@@ -139,7 +139,7 @@ module _ (raw : Bool) where
   Written old (line ∷ lines) text new = (middle : SessionState) × (first : List ℕ) × (others : List ℕ)
       × SaidAnswers old (said line) first middle × Written middle lines others new × (text ≡ first ++ others)
 
--- what the end of the session leaves of the stocks: the definitions of the desk's windows, menus, controls and lists are closed
+-- what the end of the session leaves of the stock: the definitions of the desk's windows, menus, controls and lists are closed
 -- and back in their slots, and every other slot is as it was
 abbrev pub LeavesStock : SessionState → AllSlots → Type 0
 LeavesStock (unmade font stocks) left = left ≡ stocks

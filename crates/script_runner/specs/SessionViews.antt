@@ -22,7 +22,7 @@ module _ {V : Type 0} {H : V → Type 0} (loan : Taken V H → Loan) {W : Type 0
   state_with None (Some font) stocks = unmade font stocks
   state_with None None stocks = unmade [] stocks
 
-  -- the session over the slots of the stocks
+  -- the session over the slots of a stock
   abbrev pub session_of : Session V U W X H J K L → AllSlots → SessionState
   session_of s stocks = state_with s.desk s.font stocks
 
