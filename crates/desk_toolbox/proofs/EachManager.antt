@@ -70,22 +70,22 @@ module _ (R : Call → Result Reply Refusal → ToolboxState → ToolboxState �
 
     -- whether the point lies under a pulled menu, or the controls answer
     of_controls : (covered : Bool) (call : ControlCall) (p : PointInWindow) → call ≡ controls.Find p → (own : Result ControlReply Refusal) (before after : ToolboxState) → gate before.desk.activity (standing_of (Control call)) ≡ None → IsControlTold covered call own before after → R (Control call) (replied reply.Control own) before after
-    of_controls false call p is own before after may (step, (events, (lists, menus))) = each.control call own before after may step events lists menus
+    of_controls false call p is own before after may told = each.control call own before after may told.step told.events told.lists told.menus
     of_controls true call p is own before after may (told, same) =
         subst (λ c. R (Control c) (replied reply.Control own) before after) (sym is)
         (subst (λ r. R (Control (controls.Find p)) (replied reply.Control r) before after) (sym told) (each.hidden p before after same))
 
     of_control : (call : ControlCall) (own : Result ControlReply Refusal) (before after : ToolboxState) → gate before.desk.activity (standing_of (Control call)) ≡ None → IsControlTold (is_hidden_by_menu call before) call own before after → R (Control call) (replied reply.Control own) before after
     of_control (controls.Find p) own before after may step = of_controls (is_under_menu before p) (controls.Find p) p refl own before after may step
-    of_control call own before after may (step, (events, (lists, menus))) = each.control call own before after may step events lists menus
+    of_control call own before after may told = each.control call own before after may told.step told.events told.lists told.menus
 
     pub of_admitted : (call : Call) (answer : Result Reply Refusal) (before after : ToolboxState) → gate before.desk.activity (standing_of call) ≡ None → IsAdmitted call answer before after → R call answer before after
     of_admitted (Window call) answer before after may (own, is, step) = subst (λ r. R (Window call) r before after) (sym is) (of_window call own before after may step)
     of_admitted (Update call) answer before after may (own, is, step) = subst (λ r. R (Update call) r before after) (sym is) (each.update call own before after may step.0 step.1)
     of_admitted (Frame call) answer before after may (own, is, step) = subst (λ r. R (Frame call) r before after) (sym is) (each.frame call own before after may step.0 step.1)
     of_admitted (Control call) answer before after may (own, is, step) = subst (λ r. R (Control call) r before after) (sym is) (of_control call own before after may step)
-    of_admitted (calls.List call) answer before after may (own, is, (step, (events, menus))) = subst (λ r. R (calls.List call) r before after) (sym is) (each.list call own before after may step events menus)
-    of_admitted (Menu call) answer before after may (own, is, step) = subst (λ r. R (Menu call) r before after) (sym is) (each.menu call own before after may step.0 step.1.0 step.1.1.0 step.1.1.1)
+    of_admitted (calls.List call) answer before after may (own, is, told) = subst (λ r. R (calls.List call) r before after) (sym is) (each.list call own before after may told.step told.events told.menus)
+    of_admitted (Menu call) answer before after may (own, is, told) = subst (λ r. R (Menu call) r before after) (sym is) (each.menu call own before after may told.step told.events told.controls told.lists)
     of_admitted (Event call) answer before after may (own, is, step) = subst (λ r. R (Event call) r before after) (sym is) (each.event call own before after step)
 
     of_gated : (stopped : Option Refusal) (call : Call) (answer : Result Reply Refusal) (before after : ToolboxState) → gate before.desk.activity (standing_of call) ≡ stopped → IsGated stopped call answer before after → R call answer before after

@@ -23,10 +23,10 @@ use Rattle.window_mgr.specs.Finding.{record_with}
 use Rattle.window_mgr.specs.FullDesk.{layered_desk}
 use Rattle.window_mgr.specs.Refused.{is_missing}
 use Rattle.control_mgr.specs.ControlDesks.{ControlRecord}
-use Rattle.control_mgr.specs.ControlSteps.{control_found_by, found_from}
+use Rattle.control_mgr.specs.ControlSteps.{IsControlStep, control_found_by, found_from}
 use Rattle.desk_toolbox.specs.Fronts.{found_by_owner, found_on_screen, is_on_menu, screen_owner}
-use Rattle.desk_toolbox.specs.ToolboxStates.{ToolboxState, IsToolboxUnchanged}
-use Rattle.desk_toolbox.specs.Run.{IsAdmitted, IsControlTold, IsGated, IsStep, is_under_menu, replied}
+use Rattle.desk_toolbox.specs.ToolboxStates.{ToolboxState, IsToolboxUnchanged, with_controls}
+use Rattle.desk_toolbox.specs.Run.{IsAdmitted, IsControlAnswer, IsControlTold, IsGated, IsStep, is_under_menu, replied}
 use Rattle.desk_toolbox.proofs.FrontLaws.{asks_may_come, base_is_elsewhere, menu_is_in_front}
 
 -- neither of two reasons to refuse holds
@@ -81,19 +81,24 @@ module _ (before : ToolboxState) (asked : PointInWindow) where
     unrefused : (e : Option Refusal) → first_refusal ((is_missing asked.window before.desk.windows.desk.windows, NoSuchWindow) ∷ (not (in_plane asked.point), OutOfRange) ∷ []) ≡ e → e ≡ None
     unrefused e is = sym is ∙ no_reason (is_missing asked.window before.desk.windows.desk.windows) (in_plane asked.point) NoSuchWindow OutOfRange present inside
 
+    answered_so : (own : Result ControlReply Refusal) → is_under_menu before asked ≡ false
+        → IsControlStep (controls.Find asked) own (with_controls before) (with_controls after) → IsControlAnswer (controls.Find asked) own before after
+        → (own ≡ Ok (control_reply.Found (found_on_screen before asked))) × IsToolboxUnchanged before after
+    answered_so (Ok own) away (may, (is, same)) told = (
+      ap Ok (is ∙ ap control_reply.Found (found_so (record_with asked.window before.desk.windows.desk.windows) inside away)),
+      record { desk = same.desk; controls = same.controls; lists = told.lists; menus = told.menus; events = told.events },
+    )
+    answered_so (Err e) away (inl why, same) told = absurd (some_is_none (unrefused (Some e) why))
+      where
+        some_is_none : Some e ≡ None → ⊥
+        some_is_none is = absurd (cc)
+    answered_so (Err e) away (inr (why, (grows, is)), same) told = absurd (false≢true grows)
+
     told_so : (covered : Bool) (own : Result ControlReply Refusal) → is_under_menu before asked ≡ covered
         → IsControlTold covered (controls.Find asked) own before after
         → (own ≡ Ok (control_reply.Found (found_on_screen before asked))) × IsToolboxUnchanged before after
     told_so true own on (is, same) = (is ∙ ap (λ f. Ok (control_reply.Found f)) (none_so (record_with asked.window before.desk.windows.desk.windows) on), same)
-    told_so false (Ok own) away ((may, (is, same)), (events, (lists, menus))) = (
-      ap Ok (is ∙ ap control_reply.Found (found_so (record_with asked.window before.desk.windows.desk.windows) inside away)),
-      record { desk = same.desk; controls = same.controls; lists = lists; menus = menus; events = events },
-    )
-    told_so false (Err e) away ((inl why, same), rest) = absurd (some_is_none (unrefused (Some e) why))
-      where
-        some_is_none : Some e ≡ None → ⊥
-        some_is_none is = absurd (cc)
-    told_so false (Err e) away ((inr (why, (grows, is)), same), rest) = absurd (false≢true grows)
+    told_so false own away told = answered_so own away told.step told
 
     admitted_so : IsAdmitted (Control (controls.Find asked)) answer before after
         → (answer ≡ Ok (reply.Control (control_reply.Found (found_on_screen before asked)))) × IsToolboxUnchanged before after

@@ -22,7 +22,7 @@ use Rattle.desk_toolbox.specs.ToolboxStates.{ToolboxState, with_menus}
 -- nothing of the windows changed, or the menu bar shows other titles
 leaves_by_gate : (why : Option Refusal) (call : MenuCall) (answer : Result Reply Refusal) (before after : ToolboxState) → IsGated why (Menu call) answer before after
     → IsUnchanged before.desk.windows after.desk.windows ⊎ ((titles : List BarTitle) × IsBarShown titles before.desk.windows after.desk.windows)
-leaves_by_gate None call answer before after step = step_leaves call step.0 (with_menus before) (with_menus after) step.2.0
+leaves_by_gate None call answer before after step = step_leaves call step.0 (with_menus before) (with_menus after) step.2.step
 leaves_by_gate (Some e) call (Ok reply) before after wrong = absurd wrong
 leaves_by_gate (Some e) call (Err f) before after stopped = inl stopped.2.1.desk.windows
 

@@ -22,6 +22,7 @@ use Rattle.desk_call.specs.declared.list.ListCall.{ListCall}
 use Rattle.desk_call.specs.declared.list.ListCall.TheVariants as list_calls
 use Rattle.desk_call.specs.declared.list.ListReply.{ListReply}
 use Rattle.desk_call.specs.declared.list.ListReply.TheVariants as list_reply
+use Rattle.desk_call.specs.declared.menu.MenuCall.{MenuCall}
 use Rattle.desk_call.specs.declared.menu.MenuReply.{MenuReply}
 use Rattle.desk_call.specs.declared.update.UpdateCall.{UpdateCall}
 use Rattle.desk_call.specs.declared.window.WindowCall.{WindowCall}
@@ -138,17 +139,30 @@ abbrev pub is_hidden_by_menu : ControlCall → ToolboxState → Bool
 is_hidden_by_menu (controls.Find p) s = is_under_menu s p
 is_hidden_by_menu _ s = false
 
+-- a call about controls leaves the events, the lists and the menus as they are, and is a step of the controls
+pub record IsControlAnswer (call : ControlCall) (result : Result ControlReply Refusal) (before after : ToolboxState) : Type 0 where
+  pub step : IsControlStep call result (with_controls before) (with_controls after)
+  pub events : after.events ≡ before.events
+  pub lists : after.lists ≡ before.lists
+  pub menus : after.menus ≡ before.menus
+
 -- a call about controls, where the pulled menu lies or not
 abbrev pub IsControlTold : Bool → ControlCall → Result ControlReply Refusal → ToolboxState → ToolboxState → Type 0
-IsControlTold false call result before after =
-    IsControlStep call result (with_controls before) (with_controls after)
-    × ((after.events ≡ before.events) × ((after.lists ≡ before.lists) × (after.menus ≡ before.menus)))
+IsControlTold false call result before after = IsControlAnswer call result before after
 IsControlTold true call result before after = (result ≡ Ok (control_reply.Found None)) × IsToolboxUnchanged before after
 
--- a call about lists
-abbrev pub IsListTold : ListCall → Result ListReply Refusal → ToolboxState → ToolboxState → Type 0
-IsListTold call result before after =
-    IsListStep call result (with_lists before) (with_lists after) × ((after.events ≡ before.events) × (after.menus ≡ before.menus))
+-- a call about lists leaves the events and the menus as they are, and is a step of the lists
+pub record IsListAnswer (call : ListCall) (result : Result ListReply Refusal) (before after : ToolboxState) : Type 0 where
+  pub step : IsListStep call result (with_lists before) (with_lists after)
+  pub events : after.events ≡ before.events
+  pub menus : after.menus ≡ before.menus
+
+-- a call about menus leaves the events, the controls and the lists as they are, and is a step of the menus
+pub record IsMenuAnswer (call : MenuCall) (result : Result MenuReply Refusal) (before after : ToolboxState) : Type 0 where
+  pub step : IsMenuStep call result (with_menus before) (with_menus after)
+  pub events : after.events ≡ before.events
+  pub controls : after.controls ≡ before.controls
+  pub lists : after.lists ≡ before.lists
 
 -- the answer of a manager, as one of the Toolbox
 abbrev pub replied : {R : Type 0} → (R → Reply) → Result R Refusal → Result Reply Refusal
@@ -170,10 +184,9 @@ IsAdmitted (Frame call) result before after =
 IsAdmitted (Control call) result before after =
     (own : Result ControlReply Refusal) × (result ≡ replied reply.Control own) × IsControlTold (is_hidden_by_menu call before) call own before after
 IsAdmitted (asks.List call) result before after =
-    (own : Result ListReply Refusal) × (result ≡ replied reply.List own) × IsListTold call own before after
+    (own : Result ListReply Refusal) × (result ≡ replied reply.List own) × IsListAnswer call own before after
 IsAdmitted (Menu call) result before after =
-    (own : Result MenuReply Refusal) × (result ≡ replied reply.Menu own)
-    × (IsMenuStep call own (with_menus before) (with_menus after) × ((after.events ≡ before.events) × ((after.controls ≡ before.controls) × (after.lists ≡ before.lists))))
+    (own : Result MenuReply Refusal) × (result ≡ replied reply.Menu own) × IsMenuAnswer call own before after
 IsAdmitted (Event call) result before after =
     (own : Result EventReply Refusal) × (result ≡ replied reply.Event own) × IsEventAnswer call own before after
 

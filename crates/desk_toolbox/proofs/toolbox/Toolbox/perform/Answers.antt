@@ -114,10 +114,12 @@ returns-in-Ok-perform-2-clause-step g c =
     rw c.in-Menu.is (
       Ok c.in-Ok-perform-2.reply,
       refl,
-      (
-        menu_step_showing (controls_show (lists_show (lists.records_of (taken_list.list_loan-value g.dyn-4).it c.args.self.now.lists)) (records_of (taken_control.control_loan-value g.dyn-2).it c.args.self.now.controls)) _ _ c.requires.whole.windows.sound.distinct c.in-Menu.call (Ok c.in-Ok-perform-2.reply) done.2,
-        (refl, (refl, refl)),
-      ),
+      record {
+        step = menu_step_showing (controls_show (lists_show (lists.records_of (taken_list.list_loan-value g.dyn-4).it c.args.self.now.lists)) (records_of (taken_control.control_loan-value g.dyn-2).it c.args.self.now.controls)) _ _ c.requires.whole.windows.sound.distinct c.in-Menu.call (Ok c.in-Ok-perform-2.reply) done.2;
+        events = refl;
+        controls = refl;
+        lists = refl;
+      },
     )
 
 pub returns-in-Err-perform-2-clause-whole : goal.returns-in-Err-perform-2-clause-whole
@@ -141,10 +143,12 @@ returns-in-Err-perform-2-clause-step g c =
     rw c.in-Menu.is (
       Err c.in-Err-perform-2.refusal,
       refl,
-      (
-        menu_step_showing (controls_show (lists_show (lists.records_of (taken_list.list_loan-value g.dyn-4).it c.args.self.now.lists)) (records_of (taken_control.control_loan-value g.dyn-2).it c.args.self.now.controls)) _ _ c.requires.whole.windows.sound.distinct c.in-Menu.call (Err c.in-Err-perform-2.refusal) done.2,
-        (refl, (refl, refl)),
-      ),
+      record {
+        step = menu_step_showing (controls_show (lists_show (lists.records_of (taken_list.list_loan-value g.dyn-4).it c.args.self.now.lists)) (records_of (taken_control.control_loan-value g.dyn-2).it c.args.self.now.controls)) _ _ c.requires.whole.windows.sound.distinct c.in-Menu.call (Err c.in-Err-perform-2.refusal) done.2;
+        events = refl;
+        controls = refl;
+        lists = refl;
+      },
     )
 
 pub returns-in-Ok-answer_event-clause-whole : goal.returns-in-Ok-answer_event-clause-whole

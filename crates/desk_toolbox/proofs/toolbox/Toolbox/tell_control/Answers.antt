@@ -40,4 +40,4 @@ returns-clause-whole g c =
 pub returns-clause-step : goal.returns-clause-step
 returns-clause-step g c =
     let done = c.perform.ensures.step (λ p. holds c.args.self.now.updates.begun p) (lists_show (lists.records_of (taken_list.list_loan-value g.dyn-4).it c.args.self.now.lists)) _ c.requires.whole.windows c.requires.whole.controls in
-    performed_is_told _ c.args.call.now c.perform.result _ _ (sym (c.is_hidden_by_menu.ensures _) ∙ c.if-is_hidden_by_menu.false) (done.2, (refl, (refl, refl)))
+    performed_is_told _ c.args.call.now c.perform.result _ _ (sym (c.is_hidden_by_menu.ensures _) ∙ c.if-is_hidden_by_menu.false) (record { step = done.2; events = refl; lists = refl; menus = refl })

@@ -32,4 +32,4 @@ pub returns-clause-step : goal.returns-clause-step
 returns-clause-step g c =
     let began = opened c.args.self.now.activity c.args.self.now.updates in
     let done = c.perform.ensures began _ c.requires.whole.windows c.requires.whole.controls c.requires.whole.lists in
-    (done.3, (refl, refl))
+    record { step = done.3; events = refl; menus = refl }
