@@ -2,11 +2,16 @@
 
 import contextlib
 import os
-import shutil
+import re
 import sys
 import threading
+import time
 
-from edits_small import LOW, Fault, Repository, edits, edits_read, same
+import edits_checks
+import edits_read
+import edits_record
+
+from edits_small import LOW, Fault, Repository, same
 
 # What no check is to read: the places of functions are found in it.
 PLACES = """mod deep;
@@ -106,84 +111,117 @@ def a_sum_is_of_all_that_a_check_reads(folder):
         repository = Repository(os.path.join(folder, name))
         repository.edit("low/wrong", "n + 1", "n + 2")
         repository.edit("high/wrong", "n + 2", "n + 3")
-        repository.build()
         alter(repository)
-        return repository.sum("low/wrong"), repository.sum("high/wrong")
+        return repository.sums("low/wrong"), repository.sums("high/wrong")
 
     def wants(name, alter, is_low, is_high):
+        """Which of the sums of the edit, of its crate and of what that cites change, of low's and of high's edit."""
         found = low_and_high(name, alter)
-        same(f"which sums change: {name}", (found[0] != low, found[1] != high), (is_low, is_high))
+        differ = ["".join("0" if a == b else "1" for a, b in zip(*its)) for its in zip((low, high), found)]
+        same(f"which sums change: {name}", differ, [is_low, is_high])
 
     low, high = low_and_high("as it is")
-    wants("elsewhere", lambda it: None, False, False)
-    wants("edit", lambda it: it.edit("low/wrong", "n + 1", "n + 3"), True, False)
-    wants("another edit", lambda it: it.edit("low/right", "n + 1", "1 + n"), False, False)
-    wants("code below", lambda it: it.change("low", "MOST: u32 = 7", "MOST: u32 = 6"), True, False)
-    wants("comment below", lambda it: it.change("low", "Numbers", "Some numbers"), True, False)
-    wants("code above", lambda it: it.change("high", "n + 3", "3 + n"), False, True)
-    wants("spec", lambda it: it.write("crates/low/specs/Lib.antt", ""), True, False)
-    wants("proof", lambda it: it.write("crates/high/proofs/Lib.antt", ""), False, True)
-    wants("built", lambda it: it.write("crates/low/out/rlib/stamp", "1"), False, False)
-    wants("a built body", lambda it: it.build(files={"toolchain/mir.json": "1 + n"}), False, False)
-    wants("a built spec", lambda it: it.build(files={"lang/antt/specs/Shown.antt": "-- none\n"}), False, True)
-    wants("listed", lambda it: it.write("crates.txt", "low: itoa\nhigh: low\n"), True, True)
-    wants("listed above", lambda it: it.write("crates.txt", "low:\nhigh: low itoa\n"), False, True)
+    wants("elsewhere", lambda it: None, "000", "000")
+    wants("edit", lambda it: it.edit("low/wrong", "n + 1", "n + 3"), "100", "000")
+    wants("another edit", lambda it: it.edit("low/right", "n + 1", "1 + n"), "000", "000")
+    wants("code below", lambda it: it.change("low", "    n + 1", "    1 + n"), "010", "000")
+    wants("comment", lambda it: it.change("low", "Numbers", "Some numbers"), "000", "000")
+    wants("clause below", lambda it: it.change("low", "result ≡ n + 1", "n + 1 ≡ result"), "010", "001")
+    wants("code above", lambda it: it.change("high", "n + 3", "3 + n"), "000", "010")
+    wants("spec", lambda it: it.write("crates/low/specs/Lib.antt", ""), "010", "000")
+    wants("proof", lambda it: it.write("crates/high/proofs/Lib.antt", ""), "000", "010")
+    wants("built", lambda it: it.build(), "000", "000")
+    wants("listed", lambda it: it.write("crates.txt", "low: itoa\nhigh: low\n"), "010", "000")
+    wants("listed above", lambda it: it.write("crates.txt", "low:\nhigh: low itoa\n"), "000", "010")
 
 
-def a_program_has_the_bodies_below_in_its_sums(folder):
-    repository = Repository(folder)
-    repository.write("crates/high/src/main.rt", "")
-    repository.edit("high/wrong", "n + 2", "n + 3")
-    repository.build()
-    first = repository.sum("high/wrong")
-    repository.build(files={"toolchain/mir.json": "1 + n"})
-    if repository.sum("high/wrong") == first:
-        raise Fault("a body below is not in the sum")
-
-
-def a_sum_is_of_the_name_the_program_and_the_kit(folder):
+def a_sum_is_of_the_name_the_judgement_and_the_logic(folder):
     repository = Repository(folder)
     repository.edit("low/wrong", "n + 1", "n + 2")
     repository.edit("low/copy", "n + 1", "n + 2")
-    first, here, kit = repository.sum("low/wrong"), edits.HERE, edits.rt.KIT
-    found = {first, repository.sum("low/copy")}
+    first, kit, judgement = repository.sums("low/wrong"), edits_read.rt.KIT, edits_record.JUDGEMENT
+    same("which differ by the name", [a == b for a, b in zip(first, repository.sums("low/copy"))], [False, True, True])
+    changed = first._replace(own="")
     try:
-        for it in edits.OWN:
-            edits.HERE = f"{folder}/{it} changed"
-            shutil.copytree(here, edits.HERE)
-            same("the program elsewhere", repository.sum("low/wrong"), first)
-            with open(f"{edits.HERE}/{it}", "a", encoding="utf-8") as file:
-                file.write("\n")
-            found.add(repository.sum("low/wrong"))
-        edits.HERE, edits.rt.KIT = here, folder
-        repository.write("KIT-ID", "another kit\n")
-        found.add(repository.sum("low/wrong"))
+        edits_record.JUDGEMENT += 1
+        same("another judgement", repository.sums("low/wrong")._replace(own=""), changed)
+        same("is seen", repository.sums("low/wrong") == first, False)
+        edits_record.JUDGEMENT, edits_read.rt.KIT = judgement, folder
+        for said, is_same in [(f"another-kit logic {logic_of(kit)}", True), (f"{name_of(kit)} logic 123", False)]:
+            repository.write("KIT-ID", f"{said}\n")
+            same(f"a kit of the line {said}", repository.sums("low/wrong") == first, is_same)
     finally:
-        edits.HERE, edits.rt.KIT = here, kit
-    same("how many sums there are", len(found), 3 + len(edits.OWN))
+        edits_record.JUDGEMENT, edits_read.rt.KIT = judgement, kit
+
+
+def name_of(kit):
+    return edits_read.data_of(f"{kit}/KIT-ID").decode().split()[0]
+
+
+def logic_of(kit):
+    return edits_read.data_of(f"{kit}/KIT-ID").decode().split()[-1]
 
 
 def a_record_keeps_what_it_is_told(folder):
-    record, other = edits.Record(f"{folder}/edits.seen"), edits.Record(f"{folder}/edits.seen")
-    same("no file", record.read(), {})
-    sums = {f"low/{it}.edit": edits.sum_of(it) for it in range(8)}
-    threads = [threading.Thread(target=edits.Record(record.file).keep, args=it) for it in sums.items()]
+    record, other = edits_record.Record(f"{folder}/edits.seen"), edits_record.Record(f"{folder}/edits.seen")
+    same("no file", record.lines(), {})
+    made = lambda it: edits_record.Sums(*(edits_record.short_sum(it, part) for part in range(3)))
+    sums = {f"low/{it}.edit": made(it) for it in range(8)}
+    threads = [threading.Thread(target=edits_record.Record(record.file).keep, args=it) for it in sums.items()]
     for it in threads:
         it.start()
     for it in threads:
         it.join()
-    same("eight at once", record.read(), sums)
-    elsewhere = edits.Record(record.file, "another-kit")
-    for it in ("low/3.edit", "low/5.edit", "low/6.edit"):
-        elsewhere.keep(it, sums["low/0.edit"])
+    same("eight at once", record.lines(), {name: (it, "") for name, it in sums.items()})
     other.drop("low/3.edit")
-    record.drop("low/3.edit")
     with open(record.file, "a", encoding="utf-8") as file:
-        file.write("<<<<<<< HEAD\n1234 a-kit low/9.edit\nhello\n")
-    record.keep_only(["low/5.edit", "low/3.edit"])
-    same("what is left", other.read(), {"low/5.edit": sums["low/5.edit"]})
-    same("what is left of another kit", elsewhere.read(), dict.fromkeys(["low/3.edit", "low/5.edit"], sums["low/0.edit"]))
+        file.write("<<<<<<< HEAD\n1234 - low/9.edit\nhello\n")
+    record.settle({"low/5.edit": sums["low/5.edit"], "low/6.edit": sums["low/0.edit"]}, ["low/5.edit", "low/6.edit"])
+    (five, waits_not), (six, since) = (other.lines()[f"low/{it}.edit"] for it in (5, 6))
+    same("what is left", (len(other.lines()), five, six), (2, sums["low/5.edit"], sums["low/6.edit"]))
+    same("which waits", (waits_not, bool(re.fullmatch(r"\d{4}-\d\d-\d\dT\d\d:\d\d", since))), ("", True))
+    record.change(lambda known: known.update({"low/6.edit": (six, "2001-02-03T04:05")}))
+    record.settle({"low/6.edit": sums["low/0.edit"]}, ["low/6.edit"])
+    same("which waits on", other.lines(), {"low/6.edit": (six, "2001-02-03T04:05")})
+    record.settle({"low/6.edit": six}, ["low/6.edit"])
+    same("which waits no longer", other.lines(), {"low/6.edit": (six, "")})
     same("files", os.listdir(folder), ["edits.seen"])
+
+
+def an_edit_is_new_or_its_crate_or_what_that_cites_changed(_):
+    seen = edits_record.Sums("a", "b", "c")
+    for sums, wanted in [
+        (seen, None),
+        (seen._replace(cited="d"), edits_record.CITED),
+        (seen._replace(own="d"), edits_record.OWN),
+        (edits_record.Sums("a", "d", "d"), edits_record.OWN),
+        (seen._replace(edit="d"), edits_record.NEW),
+        (edits_record.Sums("d", "d", "d"), edits_record.NEW),
+    ]:
+        same(f"at {sums}", edits_record.kind_of(seen, sums), wanted)
+    same("never seen", edits_record.kind_of(None, seen), edits_record.NEW)
+
+
+def what_waits_goes_in_order_while_time_is_left(folder):
+    repository = Repository(folder)
+    low, high = (repository.crates()[it] for it in ("low", "high"))
+    todo = {
+        (edits_record.CITED, "2001-01-01T00:00", high): ["a"],
+        (edits_record.OWN, "2002-02-02T00:00", high): ["b"],
+        (edits_record.OWN, "2001-01-01T00:00", high): ["c"],
+        (edits_record.OWN, "2002-02-02T00:00", low): ["d"],
+        (edits_record.NEW, "", high): ["e"],
+    }
+
+    def begun(end):
+        run, found = edits_checks.Run({}, None, None, 1, folder, end=end), []
+        run.begin = lambda batch: found.extend(batch.paths)
+        run.go(todo)
+        return "".join(found)
+
+    same("with time", begun(None), "ecdba")
+    same("with time left", begun(time.monotonic() + 600), "ecdba")
+    same("without", begun(time.monotonic()), "e")
 
 
 def an_edit_that_cannot_be_made_is_told(folder):
@@ -232,7 +270,7 @@ def edits_of_bodies_go_together_and_apart(folder):
     repository.edit("low/e", "next(next(n))", "next(n) + 2")
     crate = repository.crates()["low"]
     functions = edits_read.functions_in(crate, names)
-    found = [edits_read.Edit(crate, it, functions) for it in edits.rt.edits_of(crate)[0]]
+    found = [edits_read.Edit(crate, it, functions) for it in edits_read.rt.edits_of(crate)[0]]
     groups = edits_read.grouped(found, functions)
     letters = ["".join(it.name[4] for it in group) for group in groups]
     same("the groups", letters, ["ad", "b", "c", "e"])
@@ -279,33 +317,42 @@ def only_goals_and_answers_of_its_own_refuse_a_function(_):
 def what_changes_while_it_is_checked_is_not_recorded(folder):
     repository = Repository(folder)
     repository.edit("low/wrong", "n + 1", "n + 2")
-    crate, name, record = repository.crates()["low"], "low/wrong.edit", edits.Record(f"{folder}/tests/edits.seen")
-    run = edits.Run({crate: [name] * 3}, {name: repository.sum("low/wrong")}, record, 1, folder)
-    with open(os.devnull, "w", encoding="utf-8") as nowhere, contextlib.redirect_stdout(nowhere):
-        run.tell(crate, name, True, "")
-        same("as it was", (record.read(), run.refused), ({name: run.sums[name]}, {name}))
+    crates, name = repository.crates(), "low/wrong.edit"
+    texts, record = edits_record.Texts(list(crates.values())), edits_record.Record(f"{folder}/tests/edits.seen")
+    sums = {name: texts.sums_of(crates["low"], f"{folder}/crates/low/must-fail/wrong.edit")}
+    run = edits_checks.Run(sums, texts, record, 1, folder)
+    batch = edits_checks.Batch((0,), crates["low"], [name] * 4, folder)
+
+    def told(what, is_kept, alter=lambda: None):
         run.refused.clear()
-        repository.change("low", "MOST: u32 = 7", "MOST: u32 = 6")
-        run.tell(crate, name, True, "")
-    same("once changed", (record.read(), run.refused), ({}, set()))
+        alter()
+        run.tell(batch, name, True, "")
+        same(what, (repository.record(), run.refused), ({name: sums[name]}, {name}) if is_kept else ({}, set()))
+
+    with open(os.devnull, "w", encoding="utf-8") as nowhere, contextlib.redirect_stdout(nowhere):
+        told("as it was", True)
+        told("written anew", True, lambda: repository.change("low", "MOST: u32 = 7", "MOST: u32 = 7"))
+        told("once changed", False, lambda: repository.change("low", "MOST: u32 = 7", "MOST: u32 = 6"))
+        told("once back, and the edit changed", False, lambda: repository.edit("low/wrong", "n + 1", "n + 3"))
 
 
 def a_call_that_fails_holds_up_no_other(_):
-    lanes, done = edits.Lanes(2), []
+    lanes, done = edits_checks.Lanes(2), []
     lanes.add(1, done.append, 1)
     lanes.add(0, lambda: sys.exit("no"))
     lanes.add(0, lambda: lanes.add(2, done.append, 2))
     lanes.add(0, lambda: [][0])
     with open(os.devnull, "w", encoding="utf-8") as nowhere, contextlib.redirect_stderr(nowhere):
         lanes.run()
-    same("what was done", sorted(done), [1, 2])
+    same("what was done", (sorted(done), lanes.is_broken), ([1, 2], True))
 
 
 TESTS = [
     a_sum_is_of_all_that_a_check_reads,
-    a_program_has_the_bodies_below_in_its_sums,
-    a_sum_is_of_the_name_the_program_and_the_kit,
+    a_sum_is_of_the_name_the_judgement_and_the_logic,
     a_record_keeps_what_it_is_told,
+    an_edit_is_new_or_its_crate_or_what_that_cites_changed,
+    what_waits_goes_in_order_while_time_is_left,
     an_edit_that_cannot_be_made_is_told,
     an_edit_lies_in_one_body_or_is_tried_alone,
     the_text_tells_the_names_of_functions,
