@@ -1,36 +1,20 @@
-//! What no clause says of the script crates, by tests: that a script is answered as was worked out by hand, in whatever
-//! pieces it is read and its answers are written, how a run ends whose reader or writer breaks at any moment, and what
-//! no script reaches. What a script can show is a row of `tests/rows`.
+//! What no clause says of the script crates and no script shows, by tests: which files a run of what was chosen reads and
+//! which fault ends it, what a run that ends at any moment leaves of its stock, numbers of replies and sizes of images that
+//! no script has, and how often a slow reader is read and a slow writer written to. What a script can show is a row of
+//! `tests/rows`, and `tests/ends` has the reads and writes of the program fail.
 //!
-//! `runs` and `chosen` test `script_runner`, and `lines` tests `script_text`; with it `drawings`, `windows`, `updates` and
-//! `frames` test `window_words`, `menus` tests `menu_words`, and `events` tests `event_words`. `images` tests `screen_pbm`,
-//! and `reading` and `sending` test `watched_io`. `Script` and `Paper` are a reader and a writer that can be slow or break;
-//! they are proved, and no part of the program.
+//! `chosen` tests `script_runner`, `lines` tests `script_text`, `images` tests `screen_pbm`, and `watched` tests
+//! `watched_io`. `Script` and `Paper` are a reader and a writer that can be slow or break; they are proved, and no part of
+//! the program.
 #![tactic(auto)]
 
 #[cfg(test)]
 mod chosen;
 #[cfg(test)]
-mod drawings;
-#[cfg(test)]
-mod events;
-#[cfg(test)]
-mod frames;
-#[cfg(test)]
 mod images;
 #[cfg(test)]
 mod lines;
-#[cfg(test)]
-mod menus;
 pub mod paper;
-#[cfg(test)]
-mod reading;
-#[cfg(test)]
-mod runs;
 pub mod script;
 #[cfg(test)]
-mod sending;
-#[cfg(test)]
-mod updates;
-#[cfg(test)]
-mod windows;
+mod watched;

@@ -1,7 +1,6 @@
 //! A writer which keeps what it is given and can be slow or break.
 ghost use Rattle.std.specs.Prelude.{Some};
 
-use std::alloc::Global;
 use std::io;
 use std::io::{ErrorKind, Write};
 
@@ -11,17 +10,6 @@ pub struct Paper {
     pub text: Vec<u8>,
     pub piece: usize,
     pub writes_left: usize,
-}
-
-impl Paper {
-    /// An empty paper.
-    pub fn new(alloc: Global, piece: usize, writes_left: usize) -> Paper {
-        Paper {
-            text: Vec::new(alloc),
-            piece,
-            writes_left,
-        }
-    }
 }
 
 impl Write for Paper {

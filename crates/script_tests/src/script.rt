@@ -1,29 +1,15 @@
 //! A reader of a script, which can be slow or break.
-ghost use Rattle.std.specs.Prelude.{Some, ◌<◌};
+ghost use Rattle.std.specs.Prelude.{Some};
 
 use std::io;
 use std::io::{ErrorKind, Read};
 
-/// Gives its bytes, at most `piece` of them at each read, and fails once `reads_left` is 0.
+/// Gives its bytes, at most `piece` of them at each read, or one where that is 0, and fails once `reads_left` is 0.
 #[derive(Drop)]
 pub struct Script<'a> {
-    rest: &'a [u8],
-    piece: usize,
+    pub rest: &'a [u8],
+    pub piece: usize,
     pub reads_left: u32,
-    ghost some: { 0 < piece },
-}
-
-impl<'a> Script<'a> {
-    /// A script of which nothing was read yet.
-    pub fn new(bytes: &'a [u8], piece: usize, reads_left: u32) -> Script<'a>
-        requires { 0 < piece }
-    {
-        Script {
-            rest: bytes,
-            piece,
-            reads_left,
-        }
-    }
 }
 
 impl<'a> Read for Script<'a> {
@@ -34,7 +20,7 @@ impl<'a> Read for Script<'a> {
             return Err(io::Error::from(ErrorKind::Other));
         }
         self.reads_left -= 1;
-        let count = buf.len().min(self.piece);
+        let count = buf.len().min(self.piece.max(1));
         self.rest.read(&mut buf[..count])
     }
 }
