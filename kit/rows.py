@@ -180,6 +180,11 @@ def rows_of(folder):
     return [Row(path) for path, ending in parts if ending == SCRIPT]
 
 
+def folders_in(folder):
+    """The paths of the folders in a folder, by their names: the rows of one subject lie together."""
+    return sorted(it.path for it in os.scandir(folder) if it.is_dir())
+
+
 def strays(folder):
     """The paths of the files of a folder that are part of no row."""
     paths = [os.path.join(folder, file) for file in sorted(os.listdir(folder))]

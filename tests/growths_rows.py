@@ -11,8 +11,9 @@ from growths_program import ALL, MOST_COPIES, each, questions, refusal
 from preloaded import ROWS, TOP, read
 
 from kit.answers import LONGEST_SHOWN, Fault, answers_to, commands_of
+from kit.rows import folders_in
 
-FOLDERS = (ROWS, os.path.join(TOP, "examples"))
+FOLDERS = (*folders_in(ROWS), os.path.join(TOP, "examples"))
 # In a row with more commands than this a copy of the program is given so many after the refused one, and not all.
 LONG = 100
 AFTER = 20
