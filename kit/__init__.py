@@ -1,7 +1,26 @@
-"""What the programs that run scripts and compare their answers share. Nothing beyond Python's own library is needed.
+"""What the Python programs of the tree share. Nothing beyond Python's own library is needed, except Tk for a window.
 
-  answers      the commands of a script, and the answers that a text is made of
-  pictures     images, as rows and as files
-  rows         scripts with what has to come of them, in files beside them
-  differences  where a script is answered otherwise than is due
+To run scripts and compare their answers:
+
+  answers         the commands of a script, and the answers that a text is made of
+  pictures        images, as rows and as files
+  rows            scripts with what has to come of them, in files beside them
+  differences     where a script is answered otherwise than is due
+  which           which program ./desk runs
+
+To drive a desk over two pipes and use it with a mouse and keys, for desk-view:
+
+  driven          a desk that is asked line by line
+  event_loop      the loop of events of a Macintosh program over it
+  mouse_tracking  what follows the mouse as long as its button is down
+  known           what a script has made on its desk, as far as the loop has to know it
+  screen_window   the screen in a window of Tk
+  with_tk         which Python has Tk
+  view.desk       the script that desk-view runs where none is named
+
+Beside these lie commands over the Rattle kit, which are no modules:
+
+  rt              rt of the kit, in as little time as it needs
+  unproved        compiles a program without proof, and keeps it
+  prove           proves the crates that a program stands on, some at a time, and builds it
 """
