@@ -125,7 +125,7 @@ def names_that_are_nowhere_are_found(folder):
         ("crates/NAME/NONE.md", "no file or folder"),
     ]:
         finds(folder, "CHANGELOG.md", f"a\nb\nc `{span}`", f"CHANGELOG.md:3: `{span}` names {what}")
-    for span in ("next", "low::Small", "lib.rt", "src/lib", "docs/*.png", "-1", "--fast", "a + b", "crates/low/src/", "_"):
+    for span in ("next", "low::Small", "lib.rt", "src/lib", "docs/*.png", "..UIDE.md", "-1", "--fast", "a + b", "crates/low/src/", "_"):
         finds(folder, "CHANGELOG.md", f"`{span}`, and ``prior`` and prior")
 
 

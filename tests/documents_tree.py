@@ -80,8 +80,10 @@ class Tree:
         return [(number, line.partition(":")[0].strip()) for number, line in lines if ":" in line and line[:1] != "#"]
 
     def has_path(self, path):
-        """Whether some file or folder has this path, or one that ends so, with its ending or without."""
-        path = path.removeprefix("./").rstrip("/")
+        """Whether some file or folder has this path, or one that ends so, with its ending or without. '*' stands for any
+        characters, and so does '..' at the begin.
+        """
+        path = re.sub(r"^\.\.(?=\w)", "*", path.removeprefix("./").rstrip("/"))
         crate, out, _ = f"/{path}/".partition("/out/")
         if out:
             return not crate or self.has_path(crate[1:])
