@@ -1,9 +1,11 @@
 """Tests of the parts of kit, one by one, for kit-tests."""
 
+import fcntl
 import importlib.machinery
 import importlib.util
 import os
 import subprocess
+import types
 import zlib
 
 from kit import rows
@@ -143,20 +145,45 @@ def a_run_that_does_not_end_is_broken_off(place):
         rows.SECONDS = usual
 
 
-def a_command_of_the_rattle_kit_is_the_kit_s_own(_):
+def kit_rt():
+    """The command kit/rt as a module."""
     loader = importlib.machinery.SourceFileLoader("kit_rt", RT)
-    kit_rt = importlib.util.module_from_spec(importlib.util.spec_from_loader("kit_rt", loader))
-    loader.exec_module(kit_rt)
+    made = importlib.util.module_from_spec(importlib.util.spec_from_loader("kit_rt", loader))
+    loader.exec_module(made)
+    return made
+
+
+def a_command_of_the_rattle_kit_is_the_kit_s_own(_):
     asked = []
 
     class Crate:
-        stamp = kit_rt.once(lambda self: asked.append(self) or len(asked))
+        stamp = kit_rt().once(lambda self: asked.append(self) or len(asked))
 
     one, other = Crate(), Crate()
     same("sums", [one.stamp(), other.stamp(), one.stamp(), other.stamp()], [1, 2, 1, 2])
     same("what is summed", asked, [one, other])
     told = [subprocess.run([*it, "version"], capture_output=True, check=True).stdout for it in (["rt"], [RT])]
     same("the version", told[1], told[0])
+
+
+def a_lock_that_is_known_is_left_out_and_no_other(_):
+    def lock(crates):
+        held = [(it, fcntl.LOCK_EX) for it in crates]
+        return held
+
+    def gives_none(crates):
+        return [(it, fcntl.LOCK_EX) for it in crates]
+
+    def locks_none(crates):
+        held = crates
+        return held
+
+    for found, is_known in [(lock, True), (gives_none, False), (locks_none, False), (None, False), (len, False)]:
+        rtlib = types.SimpleNamespace(lock=found)
+        same(f"whether {found} is known", kit_rt().lock_nothing(rtlib), is_known)
+        same(f"whether {found} stays", rtlib.lock is found, not is_known)
+        same("what is held", rtlib.lock([1]) if is_known else [], [])
+    same("whether there is one", kit_rt().lock_nothing(types.SimpleNamespace()), False)
 
 
 TESTS = [
@@ -169,4 +196,5 @@ TESTS = [
     a_long_answer_is_shown_where_it_differs,
     a_run_that_does_not_end_is_broken_off,
     a_command_of_the_rattle_kit_is_the_kit_s_own,
+    a_lock_that_is_known_is_left_out_and_no_other,
 ]
