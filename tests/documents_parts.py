@@ -44,6 +44,7 @@ RIGHT = {
     "go": "#!/bin/sh\ncase $1 in --fast) ;; esac\n",
     "tests/try": "#!/usr/bin/env python3\nimport try_parts\n",
     "tests/try_parts.py": 'OPTIONS = ["--all"]\n',
+    "tests/documents_words.py": "ALLOWED = [prior, is_prior]\n",
 }
 
 
@@ -175,12 +176,12 @@ def anchors_are_those_of_github(_):
 
 
 def blocks_are_read_as_they_are_shown(_):
-    text = "# A #\nb\nc\n- d\n  e\n\n  f\n\n      g\n\nh\n***\n> i\n\n"
+    text = "# A #\nb\nc\n- d\n  e\n\n  f\n\n      g\n\nh\n\n    q\n***\n> i\n\n"
     text += "| j | k\\|l |\n|---|:-:|\n~~~\nm\n~~~\n<!-- n\no -->\np"
     wanted = [
         ("heading", 1, "A"), ("paragraph", 2, "b\nc"), ("item", 4, "d\ne"), ("paragraph", 7, "f"), ("code", 9, "g"),
-        ("paragraph", 11, "h"), ("paragraph", 13, "i"), ("cell", 15, "j"), ("cell", 15, "k\\|l"), ("code", 18, "m"),
-        ("paragraph", 22, "p"),
+        ("paragraph", 11, "h"), ("code", 13, "q"), ("paragraph", 15, "i"), ("cell", 17, "j"), ("cell", 17, "k\\|l"),
+        ("code", 20, "m"), ("paragraph", 24, "p"),
     ]  # fmt: skip
     same("the blocks", [tuple(it) for it in Document("a.md", text).blocks], wanted)
     same("the words", count_words("a - `b c` [d e](f g) 1, 2 – *h*."), 8)
