@@ -13,6 +13,7 @@ FIRST = {"README.md", "CHANGELOG.md"}
 
 NAME = re.compile(r"[A-Za-z_.*][A-Za-z0-9_.*/:-]*[A-Za-z0-9_*/]|[A-Za-z]")
 # What is a name also in the midst of other signs.
+RUST = re.compile(r"(?ms)^```rust\n(.*?)^```$")
 INNER = re.compile(r"\w+(?:::\w+)+|[A-Za-z]\w*_\w+|[A-Z][a-z]+[A-Z]\w*")
 # Where a command begins that the tree has to have, and what of its words have to be files.
 COMMAND = re.compile(r"(?:\./|tests/|examples/|docs/gallery/)[^\s;|&>()`]+")
@@ -165,9 +166,18 @@ def lonely_documents(tree):
         yield path, 1, "no other document has a link to this one"
 
 
+def untested_code(tree):
+    """Code of the library in README.md that stands in no file: what is shown there is tested text."""
+    text = tree.documents["README.md"].text if "README.md" in tree.documents else ""
+    files = [tree.text_of(path) for path in tree.files if path.endswith(".rt")]
+    for it in RUST.finditer(text):
+        if not any(it[1] in file for file in files):
+            yield "README.md", text.count("\n", 0, it.start()) + 1, "this code stands in no file of the tree"
+
+
 def faults_of(tree):
     """Every fault of the documents of this tree, in the order of the files and their lines."""
-    faults = [*crates_without_readme(tree), *lonely_documents(tree)]
+    faults = [*crates_without_readme(tree), *lonely_documents(tree), *untested_code(tree)]
     for document in tree.documents.values():
         faults += [*long_blocks(document), *long_documents(document)]
         faults += [*dead_links(tree, document), *unknown_names(tree, document), *wrong_commands(tree, document)]

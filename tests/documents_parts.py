@@ -152,6 +152,15 @@ def what_nothing_leads_to_is_found(folder):
     finds(folder, "crates.txt", "low:\nhigh: low\n", "crates.txt:2: the crate high has no crates/high/README.md")
 
 
+def code_of_the_library_is_tested_text(folder):
+    line = README.count("\n") + 1
+    code = "```rust\npub fn none() {}\n```\n"
+    finds(folder, "README.md", README + code, f"README.md:{line}: this code stands in no file of the tree")
+    with open(os.path.join(folder, "crates/low/src/lib.rt"), encoding="utf-8") as file:
+        first = file.readline()
+    finds(folder, "README.md", f"{README}```rust\n{first}```\n")
+
+
 def what_git_leaves_out_is_no_part_of_the_tree(folder):
     tree_of(folder, {"crates/low/out/NEW.md": "", ".gitignore": "out/\n"})
     same("by a walk", "crates/low/out/NEW.md" in Tree(folder).files, False)
@@ -194,6 +203,7 @@ TESTS = [
     names_that_are_nowhere_are_found,
     commands_that_are_wrong_are_found,
     what_nothing_leads_to_is_found,
+    code_of_the_library_is_tested_text,
     what_git_leaves_out_is_no_part_of_the_tree,
     anchors_are_those_of_github,
     blocks_are_read_as_they_are_shown,

@@ -13,7 +13,7 @@ WORD = re.compile(r"[A-Za-z_][A-Za-z0-9_]*(?:-[A-Za-z0-9_]+)*")
 # The files of this program: the words that it allows, and those of its tests, are no words of the tree.
 OWN = "tests/documents"
 # Words that stand in a path for any name.
-ANY = {"NAME", "CRATE", "FILE", "FOLDER", "FUNCTION", "MODULE", "TYPE", "KIND", "SCRIPT", "WORD"}
+ANY = {"NAME", "CRATE", "FILE", "FOLDER", "SUBJECT", "FUNCTION", "MODULE", "TYPE", "KIND", "SCRIPT", "WORD"}
 IMPORT = re.compile(r"(?m)^ *(?:import|from) ([\w.]+)(?: import ([\w, ]+))?")
 
 
