@@ -14,7 +14,9 @@ the file 'asked' of the kit what it is asked for. What else it does, files of th
 import os
 import re
 import shutil
+import signal
 import subprocess
+import threading
 
 from kit.answers import Fault
 
@@ -195,14 +197,19 @@ class Tree:
         return lines
 
     def start(self, *words, program="desk"):
-        """A call that runs on, with pipes."""
+        """A call that runs on, with pipes. It is ended with all that it has started where that takes too long."""
         how = {"stdin": subprocess.PIPE, "stdout": subprocess.PIPE, "stderr": subprocess.PIPE, "bufsize": 0}
-        return subprocess.Popen([self.path(program), *words], cwd=self.kit, env=self.environment, **how)
+        called = [self.path(program), *words]
+        ran = subprocess.Popen(called, cwd=self.kit, env=self.environment, start_new_session=True, **how)
+        timer = threading.Timer(SECONDS, lambda: ran.poll() is None and os.killpg(ran.pid, signal.SIGKILL))
+        timer.daemon = True
+        timer.start()
+        return ran
 
     def call(self, *words, program="desk", given="in\n"):
         """The status of a call, and what it writes on standard output and on standard error."""
         with self.start(*words, program=program) as ran:
-            out, error = ran.communicate(given.encode(), timeout=SECONDS)
+            out, error = ran.communicate(given.encode())
         return ran.returncode, out.decode(), error.decode()
 
     def wants(self, status, out, lines, *words, **how):
