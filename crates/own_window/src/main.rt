@@ -1,22 +1,44 @@
 //! A first program over the library: a kind of window of its own, and a desk with two windows of that kind.
 //!
-//! `banner` has the definition of the kind. `main` fills a stock, makes a desk, asks it some things, prints its
-//! answers and its screen, and ends it. That the desk and the stock fit each other, which each call requires, is
-//! proved: `proofs/main` says why in one line.
+//! `banner` has the definition of the kind. `main` fills a stock, makes a desk, calls it, and prints its answers, its
+//! screen, the same desk painted from nothing, and which pixels of a window are right; then it ends the desk. That the
+//! desk and the stock fit each other, which each call requires, is proved: `proofs/main` says why.
+//!
+//! So it also shows what no script does: calls in a list, a picture that is given whole, and the desk painted from
+//! nothing. What it has to print was worked out apart, from what the calls mean.
 #![tactic(auto)]
 
 mod banner;
 
 use anyhow::{Result, bail};
 use banner::Banner;
+use bit_map::{Mode, Pattern};
 use def_iface::{Size, Stock};
-use desk_toolbox::{Call, NewWindow, Toolbox, WindowCall};
+use desk_toolbox::{Call, NewPicture, NewWindow, PictureRef, Toolbox, UpdateCall, WindowCall};
+use draw_port::{Op, Picture, Shade, Shape};
 use op_ref::BytesRef;
+use scratch_paint::paint;
 use screen_pbm::write_p1;
+use std::alloc::Global;
 use std::io;
 use strike_font::Font;
-use tb_geom::Point;
+use tb_geom::{Point, Rect, Refusal};
 use watched_io::WatchedWriter;
+
+/// The columns of the first window's content that the second one never covers, and those that it does.
+const UNCOVERED: Rect = Rect {
+    left: 0,
+    top: 0,
+    right: 17,
+    bottom: 14,
+};
+
+const COVERED: Rect = Rect {
+    left: 17,
+    top: 0,
+    right: 30,
+    bottom: 14,
+};
 
 /// The call that makes a window. Its content, of 30 by 14 pixels, begins at this place of the screen.
 fn window_at(h: i32, v: i32) -> Call<'static> {
@@ -36,6 +58,35 @@ fn window_at(h: i32, v: i32) -> Call<'static> {
 /// The call that asks whose a point of the screen is.
 fn find(h: i32, v: i32) -> Call<'static> {
     Call::Window(WindowCall::Find(Point { h, v }))
+}
+
+/// The call that gives the first window a picture, from column 2 and row 1 of its content on.
+fn with_picture(picture: &Picture) -> Call<'_> {
+    Call::Window(WindowCall::SetPicture(NewPicture {
+        window: 1,
+        picture: PictureRef::new(picture),
+        origin: Point { h: 2, v: 1 },
+    }))
+}
+
+/// A picture of a black bar, 24 pixels wide and 6 high.
+fn bar(alloc: Global) -> Result<Picture, Refusal> {
+    let area = Rect {
+        left: 0,
+        top: 0,
+        right: 24,
+        bottom: 6,
+    };
+    let black = Shade {
+        pattern: Pattern::BLACK,
+        mode: Mode::Copy,
+    };
+    let mut bar = Picture::new(alloc);
+    bar.push(Op {
+        clip: None,
+        shape: Shape::Fill(area, black),
+    })?;
+    Ok(bar)
 }
 
 fn main(rt: HostRuntime) -> Result<()> {
@@ -61,12 +112,19 @@ fn main(rt: HostRuntime) -> Result<()> {
         Err(not_begun) => bail!("no desk: {}", not_begun.refusal),
     };
 
-    // Two windows, the second in front of the first, and three questions. A call that is refused changes
-    // nothing, and its answer says why.
+    // A window, a picture for it, and its update, by which the picture is drawn; a second window over a part of the
+    // first, and no definition for a third; two questions; the first window in front again, and what is in front.
+    // A call that is refused changes nothing, and its answer says why.
+    let bar = bar(alloc)?;
     let calls = [
         window_at(6, 32),
+        with_picture(&bar),
+        Call::Update(UpdateCall::Serve(1)),
         window_at(24, 44),
+        window_at(0, 32),
         find(8, 28),
+        find(30, 45),
+        Call::Window(WindowCall::Select(1)),
         find(30, 45),
         Call::Window(WindowCall::Front),
     ];
@@ -74,9 +132,13 @@ fn main(rt: HostRuntime) -> Result<()> {
         println!(rt; "{answer:?}")?;
     }
 
-    // The screen, as an image in the plain PBM format.
+    // The screen, as an image in the plain PBM format, and the same desk painted from nothing. They differ where the
+    // second window covered the first one's picture: that is to be redrawn, and not right until then.
     let mut output = WatchedWriter::new(io::writer(&rt));
     write_p1(&mut output, desk.screen())?;
+    write_p1(&mut output, &paint(alloc, &desk)?)?;
+    println!(rt; "{:?}", desk.pixels_right(1, UNCOVERED))?;
+    println!(rt; "{:?}", desk.pixels_right(1, COVERED))?;
 
     // The end of the desk: each definition goes back to its slot, used up.
     desk.close(&mut stock);
