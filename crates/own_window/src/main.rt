@@ -14,12 +14,14 @@ use anyhow::{Result, bail};
 use banner::Banner;
 use bit_map::{Mode, Pattern};
 use def_iface::{Size, Stock};
-use desk_toolbox::{Call, NewPicture, NewWindow, PictureRef, Toolbox, UpdateCall, WindowCall};
+use desk_toolbox::{
+    Call, NewPicture, NewWindow, PictureRef, Reply, Toolbox, UpdateCall, WindowCall,
+};
 use draw_port::{Op, Picture, Shade, Shape};
 use op_ref::BytesRef;
 use scratch_paint::paint;
 use screen_pbm::write_p1;
-use std::alloc::Global;
+use std::alloc::{AllocError, Global};
 use std::io;
 use strike_font::Font;
 use tb_geom::{Point, Rect, Refusal};
@@ -60,13 +62,27 @@ fn find(h: i32, v: i32) -> Call<'static> {
     Call::Window(WindowCall::Find(Point { h, v }))
 }
 
-/// The call that gives the first window a picture, from column 2 and row 1 of its content on.
-fn with_picture(picture: &Picture) -> Call<'_> {
-    Call::Window(WindowCall::SetPicture(NewPicture {
+/// A window, a picture for it, from column 2 and row 1 of its content on, and its update, by which the picture is drawn; a
+/// second window over a part of the first, and a third, for which there is no definition; two questions; and the first
+/// window in front again, with what is asked then.
+fn calls(picture: &Picture) -> [Call<'_>; 10] {
+    let given = NewPicture {
         window: 1,
         picture: PictureRef::new(picture),
         origin: Point { h: 2, v: 1 },
-    }))
+    };
+    [
+        window_at(6, 32),
+        Call::Window(WindowCall::SetPicture(given)),
+        Call::Update(UpdateCall::Serve(1)),
+        window_at(24, 44),
+        window_at(0, 32),
+        find(8, 28),
+        find(30, 45),
+        Call::Window(WindowCall::Select(1)),
+        find(30, 45),
+        Call::Window(WindowCall::Front),
+    ]
 }
 
 /// A picture of a black bar, 24 pixels wide and 6 high.
@@ -89,6 +105,18 @@ fn bar(alloc: Global) -> Result<Picture, Refusal> {
     Ok(bar)
 }
 
+/// What the calls of a list answered.
+type Answers = Vec<Result<Reply, Refusal>>;
+
+/// Prints a line for each answer, where there was memory for them. A call that is refused changes nothing, and its
+/// answer says why.
+fn print_answers(rt: &impl Print, answers: Result<Answers, AllocError>) -> Result<()> {
+    for answer in answers? {
+        println!(rt; "{answer:?}")?;
+    }
+    Ok(())
+}
+
 fn main(rt: HostRuntime) -> Result<()> {
     let alloc = rt.alloc();
 
@@ -104,6 +132,9 @@ fn main(rt: HostRuntime) -> Result<()> {
         bail!("no memory for the stock");
     };
 
+    let bar = bar(alloc)?;
+    let mut output = WatchedWriter::new(io::writer(&rt));
+
     // A desk on a screen of 64 by 64 pixels, of which the first 20 rows are the menu bar. Its texts are in the
     // built-in font; a refusal would give the font back.
     let font = Font::built_in(alloc)?;
@@ -112,35 +143,20 @@ fn main(rt: HostRuntime) -> Result<()> {
         Err(not_begun) => bail!("no desk: {}", not_begun.refusal),
     };
 
-    // A window, a picture for it, and its update, by which the picture is drawn; a second window over a part of the
-    // first, and no definition for a third; two questions; the first window in front again, and what is in front.
-    // A call that is refused changes nothing, and its answer says why.
-    let bar = bar(alloc)?;
-    let calls = [
-        window_at(6, 32),
-        with_picture(&bar),
-        Call::Update(UpdateCall::Serve(1)),
-        window_at(24, 44),
-        window_at(0, 32),
-        find(8, 28),
-        find(30, 45),
-        Call::Window(WindowCall::Select(1)),
-        find(30, 45),
-        Call::Window(WindowCall::Front),
-    ];
-    for answer in desk.run(&calls, &mut stock)? {
-        println!(rt; "{answer:?}")?;
-    }
-
-    // The screen, as an image in the plain PBM format, and the same desk painted from nothing. They differ where the
-    // second window covered the first one's picture: that is to be redrawn, and not right until then.
-    let mut output = WatchedWriter::new(io::writer(&rt));
-    write_p1(&mut output, desk.screen())?;
-    write_p1(&mut output, &paint(alloc, &desk)?)?;
-    println!(rt; "{:?}", desk.pixels_right(1, UNCOVERED))?;
-    println!(rt; "{:?}", desk.pixels_right(1, COVERED))?;
-
-    // The end of the desk: each definition goes back to its slot, used up.
+    // Nothing returns until the desk has ended, so each definition goes back to its slot, used up. The screen and the
+    // desk painted from nothing differ where the second window covered the first one's picture: that is to be redrawn,
+    // and not right until then.
+    let answered = print_answers(&rt, desk.run(&calls(&bar), &mut stock));
+    let shown = write_p1(&mut output, desk.screen());
+    let painted = paint(alloc, &desk);
+    let uncovered = desk.pixels_right(1, UNCOVERED);
+    let covered = desk.pixels_right(1, COVERED);
     desk.close(&mut stock);
+
+    answered?;
+    shown?;
+    write_p1(&mut output, &painted?)?;
+    println!(rt; "{uncovered:?}")?;
+    println!(rt; "{covered:?}")?;
     Ok(())
 }
