@@ -2,7 +2,7 @@
 //!
 //! `banner` has the definition of the kind. `main` fills a stock, makes a desk, asks it some things, prints its
 //! answers and its screen, and ends it. That the desk and the stock fit each other, which each call requires, is
-//! proved: `proofs/main` says why in one line.
+//! proved: `proofs/main` says why.
 #![tactic(auto)]
 
 mod banner;
