@@ -19,7 +19,8 @@ import functools
 import os
 import re
 
-from edits_faces import ANTT, IMPORT, RUST, WRITTEN_IMPORT, Face, Part, Place, Written, plain_paths, without_comments, written_imports
+from edits_faces import ANTT, IMPORT, RUST, WRITTEN_IMPORT, Face, Part, Place, Written
+from edits_faces import plain_paths, without_comments, written_imports
 from edits_read import data_of
 
 # What begins a path into what rattle makes of src/.
