@@ -4,7 +4,7 @@ import os
 
 import edits_record
 
-from edits_small import Fault, Repository, same
+from edits_small import Repository, same
 
 # A crate with what a crate above may cite and with what it may not, and one that stands between.
 FILES = {
@@ -43,6 +43,7 @@ pub struct Open {
 
 impl Kept {
     /// The size.
+    #[tactic(auto, using(crate::proofs::Lemmas::small))]
     pub fn size(&self) -> u32
         ensures { least ≤ result }
     {
@@ -104,6 +105,7 @@ IsLaw = Unit
 # What may change of these files, and whether an edit of high cites it.
 CHANGES = [
     ("a comment", "kept.rt", "/// The size.", "/// A size.", False),
+    ("how a proof is looked for", "kept.rt", "Lemmas::small))", "Lemmas::smaller))", False),
     ("a body", "kept.rt", "helper(self.items)", "self.items", False),
     ("a clause", "kept.rt", "least ≤ result", "least < result", True),
     ("a function that nobody calls", "kept.rt", "result ≤ most", "result < most", False),
@@ -177,12 +179,18 @@ def an_edit_cites_what_it_names_itself(folder):
 
 def what_leads_nowhere_cites_a_whole_crate(folder):
     repository = made(folder)
-    repository.change("high", "use middle::{Kept, opened};", "use middle::{Kept, opened};\nuse low::unheard_of;")
-    first = repository.sums("high/wrong")
-    changed(repository, "kept.rt", "    items: u64,", "    items: u16,")
-    repository.change("low", "pub fn other", "pub struct More {}\n\npub fn other", "src/other.rt")
-    if repository.sums("high/wrong").cited == first.cited:
-        raise Fault("a file that it may cite is not seen")
+
+    def is_seen():
+        """Whether a type more is, in a file that nothing leads to."""
+        first = repository.sums("high/wrong")
+        changed(repository, "other.rt", "pub fn other", "pub struct More {}\n\npub fn other")
+        found = repository.sums("high/wrong")
+        changed(repository, "other.rt", "pub struct More {}\n\npub fn other", "pub fn other")
+        return found.cited != first.cited
+
+    same("whether it is seen", is_seen(), False)
+    changed(repository, "high/src/lib.rt", "use middle::{Kept, opened};", "use middle::{Kept, opened};\nuse low::unheard_of;")
+    same("whether it is with a name that is not found", is_seen(), True)
 
 
 def a_repository_has_its_sums_wherever_it_lies(folder):
