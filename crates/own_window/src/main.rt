@@ -10,12 +10,13 @@ mod banner;
 use anyhow::{Result, bail};
 use banner::Banner;
 use def_iface::{Size, Stock};
-use desk_toolbox::{Call, NewWindow, Toolbox, WindowCall};
+use desk_toolbox::{Call, NewWindow, Reply, Toolbox, WindowCall};
 use op_ref::BytesRef;
 use screen_pbm::write_p1;
+use std::alloc::AllocError;
 use std::io;
 use strike_font::Font;
-use tb_geom::Point;
+use tb_geom::{Point, Refusal};
 use watched_io::WatchedWriter;
 
 /// The call that makes a window. Its content, of 30 by 14 pixels, begins at this place of the screen.
@@ -36,6 +37,17 @@ fn window_at(h: i32, v: i32) -> Call<'static> {
 /// The call that asks whose a point of the screen is.
 fn find(h: i32, v: i32) -> Call<'static> {
     Call::Window(WindowCall::Find(Point { h, v }))
+}
+
+/// What the calls of a run answered.
+type Answers = Vec<Result<Reply, Refusal>>;
+
+/// Prints a line for each answer, where there was memory for them.
+fn print_answers(rt: &impl Print, answers: Result<Answers, AllocError>) -> Result<()> {
+    for answer in answers? {
+        println!(rt; "{answer:?}")?;
+    }
+    Ok(())
 }
 
 fn main(rt: HostRuntime) -> Result<()> {
@@ -70,15 +82,16 @@ fn main(rt: HostRuntime) -> Result<()> {
         find(30, 45),
         Call::Window(WindowCall::Front),
     ];
-    for answer in desk.run(&calls, &mut stock)? {
-        println!(rt; "{answer:?}")?;
-    }
+    let answered = print_answers(&rt, desk.run(&calls, &mut stock));
 
     // The screen, as an image in the plain PBM format.
     let mut output = WatchedWriter::new(io::writer(&rt));
-    write_p1(&mut output, desk.screen())?;
+    let shown = write_p1(&mut output, desk.screen());
 
-    // The end of the desk: each definition goes back to its slot, used up.
+    // The end of the desk: each definition goes back to its slot, used up. No line between the desk's beginning
+    // and its end returns, so that the desk ends whatever the output does.
     desk.close(&mut stock);
+    answered?;
+    shown?;
     Ok(())
 }
