@@ -1,6 +1,6 @@
 //! The calls of a canvas and of pictures.
 
-use crate::images::{NOTHING_CUT, drawn, image_of, shade, shows};
+use crate::images::{NOTHING_CUT, drawn, image_of, push, shade, shows};
 use bit_map::{BitMap, Mode, Pattern};
 use draw_port::{
     Bytes, Canvas, Cut, Line, Op, Picture, RowsOfBits, Shape, ShortText, TextMode, TextRun,
@@ -33,10 +33,6 @@ fn put(table: [bool; 4], source: bool, old: bool) -> bool {
         (true, false) => table[2],
         (true, true) => table[3],
     }
-}
-
-fn push(picture: &mut Picture, shape: Shape) -> Result<(), Refusal> {
-    picture.push(Op { clip: None, shape })
 }
 
 /// Operations by one mode, which lie over one another.

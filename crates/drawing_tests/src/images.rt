@@ -1,7 +1,7 @@
 //! Maps of 8 by 8 pixels. An image is written as its rows from the top down, with a space after each.
 
 use bit_map::{BitMap, Mode, Pattern};
-use draw_port::{Canvas, Cut, Picture, Shade};
+use draw_port::{Canvas, Cut, Op, Picture, Shade, Shape};
 use std::alloc::{AllocError, Global};
 use strike_font::Font;
 use tb_geom::{Point, Rect, Refusal};
@@ -43,6 +43,11 @@ pub fn drawn(alloc: Global, font: &Font, picture: &Picture) -> Result<Vec<u8>, R
     };
     canvas.paint_picture(picture);
     Ok(image_of(alloc, &map)?)
+}
+
+/// Puts a shape without a clip at the end of a picture.
+pub fn push(picture: &mut Picture, shape: Shape) -> Result<(), Refusal> {
+    picture.push(Op { clip: None, shape })
 }
 
 pub fn shade(pattern: Pattern, mode: Mode) -> Shade {

@@ -2,12 +2,10 @@
 //! the contracts are QuickDraw's. Expected values are images written by hand, or come from slow programs over single
 //! pixels, and never from the libraries.
 //!
-//! `blits` tests `bit_blit`. Of `draw_port`, `pictures` tests operations, one after another, `canvases` the calls of a
-//! canvas and of pictures, `fills` the fills of a canvas, and `given` operations as calls carry them. `sheet` and
-//! `images` have what they draw on.
+//! Of `draw_port`, `pictures` tests operations, one after another, and `canvases` the calls of a canvas and of pictures.
+//! `given` tests `op_ref`, operations as calls carry them. `images` has what they draw on. The crate `blit_tests` compares the
+//! fills of a canvas with a loop over all pixels.
 #![tactic(auto)]
-
-pub mod sheet;
 
 /// A rectangle, by its left side, its top, its right side and its bottom.
 #[cfg(test)]
@@ -31,11 +29,7 @@ macro_rules! point {
 }
 
 #[cfg(test)]
-mod blits;
-#[cfg(test)]
 mod canvases;
-#[cfg(test)]
-mod fills;
 #[cfg(test)]
 mod given;
 #[cfg(test)]

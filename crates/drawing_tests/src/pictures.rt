@@ -1,6 +1,6 @@
 //! Operations, one after another.
 
-use crate::images::{drawn, shade, shows};
+use crate::images::{drawn, push, shade, shows};
 use bit_map::{Mode, Pattern};
 use draw_port::{Bytes, Line, Op, Picture, RowsOfBits, Shape, ShortText, TextMode, TextRun};
 use font_tests::small::SMALL;
@@ -10,20 +10,26 @@ use std::test::Fail;
 use strike_font::Font;
 use tb_geom::{Point, Refusal};
 
-/// The image of shapes without a clip, one after another.
-fn image_of_shapes<const N: usize>(alloc: Global, shapes: [Shape; N]) -> Result<Vec<u8>, Refusal> {
+/// The image of two shapes without a clip, the second over the first.
+fn one_over_another(alloc: Global, first: Shape, second: Shape) -> Result<Vec<u8>, Refusal> {
     let font = Font::from_bytes(alloc, &SMALL)?;
     let mut picture = Picture::new(alloc);
-    for shape in Vec::from_array(alloc, shapes)? {
-        picture.push(Op { clip: None, shape })?;
-    }
+    push(&mut picture, first)?;
+    push(&mut picture, second)?;
     drawn(alloc, &font, &picture)
 }
 
 /// The image of one shape over the pattern gray.
 fn over_gray(alloc: Global, shape: Shape) -> Result<Vec<u8>, Refusal> {
     let gray = Shape::Fill(rect!(0, 0, 8, 8), shade(Pattern::GRAY, Mode::Copy));
-    image_of_shapes(alloc, [gray, shape])
+    one_over_another(alloc, gray, shape)
+}
+
+/// The image of one shape by this font.
+fn image_by(alloc: Global, font: &Font, shape: Shape) -> Result<Vec<u8>, Refusal> {
+    let mut picture = Picture::new(alloc);
+    push(&mut picture, shape)?;
+    drawn(alloc, font, &picture)
 }
 
 fn line(h: i32, v: i32, count: u16) -> Line {
@@ -155,7 +161,8 @@ fn texts(rt: HostRuntime) -> Result<(), Fail> {
             "00101010 00010101 10101010 01010101 10101010 01010101 10101010 01010101 "
         )
     );
-    let both = image_of_shapes(alloc, [text(b"AB", point!(0, 2), TextMode::Or)?])?;
+    let font = Font::from_bytes(alloc, &SMALL)?;
+    let both = image_by(alloc, &font, text(b"AB", point!(0, 2), TextMode::Or)?)?;
     assert!(rt;
         shows(
             &both,
@@ -169,10 +176,7 @@ fn texts(rt: HostRuntime) -> Result<(), Fail> {
 fn the_built_in_font(rt: HostRuntime) -> Result<(), Fail> {
     let alloc = rt.alloc();
     let font = Font::built_in(alloc)?;
-    let shape = text(b"A", point!(1, 7), TextMode::Or)?;
-    let mut picture = Picture::new(alloc);
-    picture.push(Op { clip: None, shape })?;
-    let letter = drawn(alloc, &font, &picture)?;
+    let letter = image_by(alloc, &font, text(b"A", point!(1, 7), TextMode::Or)?)?;
     assert!(rt;
         shows(
             &letter,
@@ -195,10 +199,7 @@ fn overlapping(alloc: Global) -> Result<Font, Refusal> {
 fn what_several_glyphs_have_is_inverted_once(rt: HostRuntime) -> Result<(), Fail> {
     let alloc = rt.alloc();
     let font = overlapping(alloc)?;
-    let shape = text(b"AA", point!(1, 3), TextMode::Xor)?;
-    let mut picture = Picture::new(alloc);
-    picture.push(Op { clip: None, shape })?;
-    let shown = drawn(alloc, &font, &picture)?;
+    let shown = image_by(alloc, &font, text(b"AA", point!(1, 3), TextMode::Xor)?)?;
     assert!(rt;
         shows(
             &shown,
@@ -213,13 +214,12 @@ fn clips_are_kept(rt: HostRuntime) -> Result<(), Fail> {
     let alloc = rt.alloc();
     let font = Font::from_bytes(alloc, &SMALL)?;
     let mut picture = Picture::new(alloc);
-    for shape in [
-        Shape::Fill(rect!(0, 0, 8, 2), shade(Pattern::GRAY, Mode::Copy)),
-        Shape::Fill(rect!(0, 0, 4, 2), shade(Pattern::BLACK, Mode::Xor)),
-        bits(alloc, point!(2, 1), 3, 2, Mode::NotCopy, &[0xA0, 0x40])?,
-    ] {
-        picture.push(Op { clip: None, shape })?;
-    }
+    let gray = shade(Pattern::GRAY, Mode::Copy);
+    let black = shade(Pattern::BLACK, Mode::Xor);
+    let image = bits(alloc, point!(2, 1), 3, 2, Mode::NotCopy, &[0xA0, 0x40])?;
+    push(&mut picture, Shape::Fill(rect!(0, 0, 8, 2), gray))?;
+    push(&mut picture, Shape::Fill(rect!(0, 0, 4, 2), black))?;
+    push(&mut picture, image)?;
     picture.push(Op {
         clip: Some(Region::from_rect(alloc, rect!(6, 0, 8, 2))?),
         shape: Shape::Frame(rect!(5, 0, 8, 4), shade(Pattern::BLACK, Mode::Or)),
@@ -250,14 +250,14 @@ fn clips_are_kept(rt: HostRuntime) -> Result<(), Fail> {
 fn the_last_operation_is_drawn_last(rt: HostRuntime) -> Result<(), Fail> {
     let alloc = rt.alloc();
     let (left, all) = (rect!(0, 0, 4, 8), rect!(0, 0, 8, 8));
-    let inverted = image_of_shapes(alloc, [Shape::Erase(left), Shape::Invert(all)])?;
+    let inverted = one_over_another(alloc, Shape::Erase(left), Shape::Invert(all))?;
     assert!(rt;
         shows(
             &inverted,
             "11111111 11111111 11111111 11111111 11111111 11111111 11111111 11111111 "
         )
     );
-    let erased = image_of_shapes(alloc, [Shape::Invert(all), Shape::Erase(left)])?;
+    let erased = one_over_another(alloc, Shape::Invert(all), Shape::Erase(left))?;
     assert!(rt;
         shows(
             &erased,

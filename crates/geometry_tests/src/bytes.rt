@@ -1,4 +1,5 @@
 //! Region bytes read in place, against a reader that counts inversion points.
+use pixel_pictures::pixels::{Pixels, are_alike, mark, picture};
 use region_bytes::{Form, RegionBytes};
 use std::alloc::{AllocError, Global};
 use std::test::Fail;
@@ -35,18 +36,22 @@ const RING: &[u8] = &[
     0x7F, 0xFF, 0, 4, 0, 1, 0, 3, 0x7F, 0xFF, 0, 6, 0xFF, 0xFF, 0, 5, 0x7F, 0xFF, 0x7F, 0xFF,
 ];
 
-/// The pixels of a field of 9 columns and 8 rows from -2 -1 on, with a newline after each row: 1 where
-/// the region has the pixel, and 0 elsewhere.
-fn picture(alloc: Global, region: &RegionBytes<'_>) -> Result<Vec<u8>, AllocError> {
-    let mut rows = Vec::new(alloc);
-    for v in -1..7 {
-        for h in -2..7 {
-            let has = region.contains(Point { h, v });
-            rows.push(if has { b'1' } else { b'0' })?;
-        }
-        rows.push(b'\n')?;
+/// The pixels that tests look at.
+const FIELD: Rect = Rect {
+    left: -2,
+    top: -1,
+    right: 7,
+    bottom: 7,
+};
+
+/// The pixels of a region, by its own answers.
+#[derive(Drop)]
+struct Own<'a>(RegionBytes<'a>);
+
+impl Pixels for Own<'_> {
+    fn byte(&self, point: Point) -> u8 {
+        mark(self.0.contains(point))
     }
-    Ok(rows)
 }
 
 /// The word of this number, 0 where there is none.
@@ -81,17 +86,14 @@ fn counted(bytes: &[u8], point: Point) -> bool {
     odd
 }
 
-/// The picture by that reader.
-fn counted_picture(alloc: Global, bytes: &[u8]) -> Result<Vec<u8>, AllocError> {
-    let mut rows = Vec::new(alloc);
-    for v in -1..7 {
-        for h in -2..7 {
-            let has = counted(bytes, Point { h, v });
-            rows.push(if has { b'1' } else { b'0' })?;
-        }
-        rows.push(b'\n')?;
+/// The pixels of a region's bytes, by that reader.
+#[derive(Drop)]
+struct SlowReader<'a>(&'a [u8]);
+
+impl Pixels for SlowReader<'_> {
+    fn byte(&self, point: Point) -> u8 {
+        mark(counted(self.0, point))
     }
-    Ok(rows)
 }
 
 /// Whether the bytes are a region with this picture, by the region's own answer and by the other reader.
@@ -99,21 +101,21 @@ fn shows(alloc: Global, bytes: &[u8], wanted: &[u8]) -> Result<bool, AllocError>
     let Ok(region) = RegionBytes::read(bytes) else {
         return Ok(false);
     };
-    let pixels = picture(alloc, &region)?;
-    let slow = counted_picture(alloc, bytes)?;
+    let pixels = picture(alloc, &Own(region), FIELD)?;
+    let slow = picture(alloc, &SlowReader(bytes), FIELD)?;
     Ok(pixels.as_slice() == wanted && slow.as_slice() == wanted)
 }
 
 #[test]
 fn regions_show_their_pixels(rt: HostRuntime) -> Result<(), Fail> {
     let none =
-        b"000000000\n000000000\n000000000\n000000000\n000000000\n000000000\n000000000\n000000000\n";
+        b".........\n.........\n.........\n.........\n.........\n.........\n.........\n.........\n";
     let rectangle =
-        b"000000000\n000000000\n000011100\n000011100\n000011100\n000000000\n000000000\n000000000\n";
+        b".........\n.........\n....###..\n....###..\n....###..\n.........\n.........\n.........\n";
     let step =
-        b"000000000\n001100000\n001100000\n001111000\n001111000\n000000000\n000000000\n000000000\n";
+        b".........\n..##.....\n..##.....\n..####...\n..####...\n.........\n.........\n.........\n";
     let ring =
-        b"000000000\n011111100\n011111100\n011001100\n011001100\n011111100\n011111100\n000000000\n";
+        b".........\n.######..\n.######..\n.##..##..\n.##..##..\n.######..\n.######..\n.........\n";
     assert!(rt; shows(rt.alloc(), EMPTY, none)?);
     assert!(rt; shows(rt.alloc(), RECTANGLE, rectangle)?);
     assert!(rt; shows(rt.alloc(), &STEP, step)?);
@@ -216,16 +218,15 @@ fn cut_bytes_are_refused(rt: HostRuntime) {
 
 /// Whether changed bytes are refused for their form or their range, or say the pixels that they have
 /// by the other reader.
-fn is_right(alloc: Global, bytes: &[u8]) -> Result<bool, AllocError> {
-    let wanted = counted_picture(alloc, bytes)?;
-    match refusal(bytes) {
-        None => shows(alloc, bytes, wanted.as_slice()),
-        Some(why) => Ok(why == Refusal::BadRegion || why == Refusal::OutOfRange),
+fn is_right(bytes: &[u8]) -> bool {
+    match RegionBytes::read(bytes) {
+        Ok(region) => are_alike(&Own(region), &SlowReader(bytes), FIELD),
+        Err(why) => why == Refusal::BadRegion || why == Refusal::OutOfRange,
     }
 }
 
 #[test]
-fn damaged_bytes_are_judged(rt: HostRuntime) -> Result<(), Fail> {
+fn damaged_bytes_are_judged(rt: HostRuntime) {
     let mut taken = 0_u8;
     for (place, byte) in STEP.iter().enumerate() {
         for value in [
@@ -239,7 +240,7 @@ fn damaged_bytes_are_judged(rt: HostRuntime) -> Result<(), Fail> {
             byte.wrapping_sub(1),
         ] {
             let bytes = with_byte(STEP, place, value);
-            assert!(rt; is_right(rt.alloc(), &bytes)?, "{place} {value}");
+            assert!(rt; is_right(&bytes), "{place} {value}");
             if value != *byte && refusal(&bytes).is_none() {
                 taken = taken.wrapping_add(1);
             }
@@ -247,29 +248,43 @@ fn damaged_bytes_are_judged(rt: HostRuntime) -> Result<(), Fail> {
     }
     // the second row at 1 or 3, each written twice in the list
     assert!(rt; taken == 4);
-    Ok(())
+}
+
+/// The box of a region's bytes; None where they are none.
+fn box_of(bytes: &[u8]) -> Option<Rect> {
+    match RegionBytes::read(bytes) {
+        Ok(region) => Some(region.bbox()),
+        Err(_) => None,
+    }
 }
 
 #[test]
-fn regions_have_their_box(rt: HostRuntime) -> Result<(), Fail> {
+fn regions_have_their_box(rt: HostRuntime) {
     let ring = Rect {
         left: -1,
         top: 0,
         right: 5,
         bottom: 6,
     };
-    assert!(rt; RegionBytes::read(RECTANGLE)?.bbox() == CORNER);
-    assert!(rt; RegionBytes::read(EMPTY)?.bbox() == NOTHING);
-    assert!(rt; RegionBytes::read(RING)?.bbox() == ring);
-    Ok(())
+    assert!(rt; box_of(RECTANGLE) == Some(CORNER));
+    assert!(rt; box_of(EMPTY) == Some(NOTHING));
+    assert!(rt; box_of(RING) == Some(ring));
+}
+
+/// The rectangle that the bytes are, or the points that they have after their box; two of none where they are no region.
+fn form_of(bytes: &[u8]) -> (Option<Rect>, Option<&[u8]>) {
+    match RegionBytes::read(bytes) {
+        Ok(region) => match region.form() {
+            Form::Rect(rect) => (Some(rect), None),
+            Form::Rows(rows) => (None, Some(rows)),
+        },
+        Err(_) => (None, None),
+    }
 }
 
 #[test]
-fn regions_have_their_form_and_points(rt: HostRuntime) -> Result<(), Fail> {
-    assert!(rt; matches!(RegionBytes::read(RECTANGLE)?.form(), Form::Rect(rect) if rect == CORNER));
-    assert!(rt; matches!(RegionBytes::read(EMPTY)?.form(), Form::Rect(rect) if rect == NOTHING));
-    assert!(rt;
-        matches!(RegionBytes::read(&STEP)?.form(), Form::Rows(bytes) if Some(bytes) == STEP.get(10..))
-    );
-    Ok(())
+fn regions_have_their_form_and_points(rt: HostRuntime) {
+    assert!(rt; form_of(RECTANGLE) == (Some(CORNER), None));
+    assert!(rt; form_of(EMPTY) == (Some(NOTHING), None));
+    assert!(rt; form_of(&STEP) == (None, Some(&STEP[10..])));
 }

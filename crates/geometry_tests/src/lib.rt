@@ -3,10 +3,8 @@
 //! over single pixels, and never from the libraries.
 //!
 //! `geometry` tests `tb_geom`, `bytes` tests `region_bytes`, `regions` and `written` test `scan_region`, and `maps` tests
-//! `bit_map`. `pixels` has what they compare with.
+//! `bit_map`. The crate `pixel_pictures` has what they compare with.
 #![tactic(auto)]
-
-pub mod pixels;
 
 /// A rectangle, by its left side, its top, its right side and its bottom.
 #[cfg(test)]

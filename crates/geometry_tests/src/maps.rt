@@ -1,7 +1,7 @@
 //! Bitmaps, patterns and modes, by tables from outside.
 
-use crate::pixels::{Pixels, mark, picture};
 use bit_map::{BitImage, BitMap, Mode, Pattern};
+use pixel_pictures::pixels::picture;
 use std::alloc::Global;
 use std::test::Fail;
 use tb_geom::{Point, Rect, Refusal};
@@ -156,6 +156,9 @@ const NAMES: [(Mode, &'static [u8], &'static [u8]); 8] = [
     (Mode::NotBic, b"notSrcBic", b"notPatBic"),
 ];
 
+/// Words that are the name of no mode.
+const NO_NAMES: [&'static [u8]; 5] = [b"", b"patBlue", b"PatCopy", b"patCopy ", b"patCop"];
+
 #[test]
 fn names_modes(rt: HostRuntime) {
     for (mode, source, pattern) in NAMES {
@@ -165,30 +168,13 @@ fn names_modes(rt: HostRuntime) {
         assert!(rt; Mode::from_pattern_name(pattern) == Some(mode));
         assert!(rt; Mode::from_source_name(pattern).is_none());
     }
-    for word in [
-        b"".as_slice(),
-        b"patBlue",
-        b"PatCopy",
-        b"patCopy ",
-        b"patCop",
-    ] {
+    for word in NO_NAMES {
         assert!(rt; Mode::from_pattern_name(word).is_none());
     }
 }
 
 /// Two rows of ten pixels: the second byte of each has two bits that count.
 static ROWS: [u8; 4] = [0xA0, 0x7F, 0x01, 0x80];
-
-/// Its pixels; a point that it does not have is a blank.
-impl Pixels for BitImage<'_> {
-    fn byte(&self, point: Point) -> u8 {
-        if self.contains(point) {
-            mark(self.bit(point))
-        } else {
-            b' '
-        }
-    }
-}
 
 #[test]
 fn reads_bit_images(rt: HostRuntime) -> Result<(), Fail> {

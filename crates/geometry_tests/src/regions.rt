@@ -1,6 +1,6 @@
 //! Regions against slow programs over sets of single pixels.
 
-use crate::pixels::{Pixels, is_region_of, mark, picture, pixel, region_of};
+use pixel_pictures::pixels::{Pixels, is_region_of, mark, picture, pixel, region_of};
 use scan_region::{Region, Span};
 use std::alloc::{AllocError, Global};
 use std::test::Fail;
@@ -25,8 +25,16 @@ const OPERATORS: [Operator; 4] = [
     Operator::Xor,
 ];
 
-/// Those that use up the first region, or both.
-const USING_UP: [Operator; 3] = [Operator::CutTo, Operator::Joined, Operator::Less];
+/// These, and those that use up the first region, or both.
+const ALL_OPERATORS: [Operator; 7] = [
+    Operator::Sect,
+    Operator::Union,
+    Operator::Diff,
+    Operator::Xor,
+    Operator::CutTo,
+    Operator::Joined,
+    Operator::Less,
+];
 
 impl Operator {
     fn region(self, alloc: Global, a: &Region, b: &Region) -> Result<Region, AllocError> {
@@ -99,7 +107,7 @@ fn operators_agree_with_single_pixels(rt: HostRuntime) -> Result<(), Fail> {
         for b in &SHAPES {
             let first = region_of(alloc, a, AROUND_SHAPES)?;
             let second = region_of(alloc, b, AROUND_SHAPES)?;
-            for operator in OPERATORS.into_iter().chain(USING_UP) {
+            for operator in ALL_OPERATORS {
                 let made = operator.region(alloc, &first, &second)?;
                 let pixels = Made { operator, a, b };
                 assert!(rt; is_region_of(alloc, &made, &pixels, AROUND_SHAPES)?);

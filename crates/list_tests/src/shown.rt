@@ -2,8 +2,8 @@
 
 use crate::listed::{By, Change, empty_cells, paint, text_cells, told, turn, view};
 use crate::plain_list::{PlainView, black_map, plain_map};
-use geometry_tests::pixels::{are_alike, picture};
 use list_cells::{Cell, ClickKeys};
+use pixel_pictures::pixels::{are_alike, picture};
 use std::test::Fail;
 use std_mldef::StdList;
 use strike_font::Font;

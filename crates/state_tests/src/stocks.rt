@@ -5,7 +5,7 @@ ghost use Rattle.def_iface.specs.Meaning.{is_fitting};
 use crate::titled_window::Titled;
 use def_iface::{Defined, Hit, Size, Stage, Taken, WindowDef, WindowRegions, WindowStock};
 use draw_port::{Canvas, Cut};
-use geometry_tests::pixels::{Pixels, map_of, mark, picture};
+use pixel_pictures::pixels::{Pixels, map_of, mark, picture};
 use scan_region::Region;
 use std::alloc::Global;
 use std::test::Fail;

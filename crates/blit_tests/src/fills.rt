@@ -2,11 +2,11 @@
 ghost use Rattle.std.specs.Prelude.{◌≡◌, true};
 ghost use Rattle.draw_port.specs.Origins.{is_near_origin};
 
-use crate::sheet::{MIXED, SHEET, Sheet, inked};
 use bit_map::{BitMap, Mode};
 use draw_port::{Canvas, Cut};
 use font_tests::small::SMALL;
-use geometry_tests::pixels::{Pixels, are_alike, map_of, mark};
+use pixel_pictures::pixels::{Pixels, are_alike, map_of, mark};
+use pixel_pictures::sheet::{MIXED, SHEET, Sheet, inked};
 use scan_region::Region;
 use std::alloc::Global;
 use std::test::Fail;

@@ -1,7 +1,7 @@
 //! What tests look at pixel by pixel, and pictures of it: `#` for a black pixel or one that a set has, and `.` for
 //! one that is white or not in the set.
 
-use bit_map::BitMap;
+use bit_map::{BitImage, BitMap};
 use scan_region::{Region, Span};
 use std::alloc::{AllocError, Global};
 use tb_geom::{Point, Rect, Refusal};
@@ -21,6 +21,17 @@ impl Pixels for BitMap {
     fn byte(&self, point: Point) -> u8 {
         if self.bounds().contains(point) {
             mark(self.get(point))
+        } else {
+            b' '
+        }
+    }
+}
+
+/// A pixel that the image lacks is a blank.
+impl Pixels for BitImage<'_> {
+    fn byte(&self, point: Point) -> u8 {
+        if self.contains(point) {
+            mark(self.bit(point))
         } else {
             b' '
         }

@@ -1,8 +1,8 @@
 //! Drawings against a plain loop over all pixels.
-use crate::sheet::{MIXED, MODES, SHEET, Sheet, before, inked};
 use bit_blit::{Inverse, copy, draw_cut, draw_rect, fill, invert, shift};
 use bit_map::{BitImage, BitMap, Mode};
-use geometry_tests::pixels::{Pixels, are_alike, map_of, mark, picture};
+use pixel_pictures::pixels::{Pixels, are_alike, map_of, mark, picture};
+use pixel_pictures::sheet::{MIXED, MODES, SHEET, Sheet, before, inked};
 use scan_region::{Cut, Region};
 use std::alloc::Global;
 use std::test::Fail;

@@ -1,7 +1,7 @@
 //! What tests draw on, and a pattern with which they do.
 
+use crate::pixels::{Pixels, mark};
 use bit_map::{Mode, Pattern};
-use geometry_tests::pixels::{Pixels, mark};
 use tb_geom::{Point, Rect};
 
 /// The modes, by their numbers.
