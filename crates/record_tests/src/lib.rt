@@ -1,10 +1,9 @@
-//! What no clause says of `menu_record`, `menu_list`, `control_list`, `control_values`, `list_cells`, `list_view` and
-//! `list_records`, by tests: that calls succeed where memory is not refused, and that the words of the contracts are the Menu
-//! Manager's, the Control Manager's and the List Manager's. Expected values are tables written by hand, and never come from
-//! the libraries.
+//! What no clause says of `control_list`, `control_values`, `list_cells`, `list_view` and `list_records`, by tests: that calls
+//! succeed where memory is not refused, and that the words of the contracts are the Control Manager's and the List Manager's.
+//! Expected values are tables written by hand, and never come from the libraries.
 //!
-//! `menus` tests `menu_record`, `menu_lists` tests `menu_list`, `controls` tests `control_values`, `control_lists` tests
-//! `control_list`, `lists` tests `list_cells`, `list_views` tests `list_view`, and `desk_lists` tests `list_records`.
+//! `controls` tests `control_values`, `control_lists` tests `control_list`, `lists` tests `list_cells`, `list_views` tests
+//! `list_view`, and `desk_lists` tests `list_records`.
 #![tactic(auto)]
 
 #[cfg(test)]
@@ -17,7 +16,3 @@ mod desk_lists;
 mod list_views;
 #[cfg(test)]
 mod lists;
-#[cfg(test)]
-mod menu_lists;
-#[cfg(test)]
-mod menus;
