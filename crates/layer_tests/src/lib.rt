@@ -4,9 +4,9 @@
 //! show is as plain as the model needs it.
 //!
 //! The model goes by single pixels and uses no region: `plain_desk` says whose a pixel is, `plain_steps` what calls change of
-//! the desk, and `plain_pixels` what each pixel shows after them. `stripes` says what the controls and lists of these tests show,
-//! `relaying` changes the layers of a window, `updating` updates one, `steps` carries out each call by the library and by the
-//! model and compares them, and `followed` has the tests.
+//! the desk, and `plain_pixels` what each pixel shows after them. `steps` carries out each call by the library and by the model
+//! and compares them, and `followed` has the tests. The crate `striped_layers` has the controls and lists of these tests, and
+//! changes the layers of a window.
 #![tactic(auto)]
 
 /// A rectangle, by its left side, its top, its right side and its bottom.
@@ -38,8 +38,5 @@ mod plain_desk;
 mod plain_pixels;
 #[cfg(test)]
 mod plain_steps;
-pub mod relaying;
 #[cfg(test)]
 mod steps;
-pub mod stripes;
-pub mod updating;

@@ -113,6 +113,13 @@ impl Plain {
         self.after(alloc, self.desk, Effect::Redraws(window, layers))
     }
 
+    /// What is seen where all that is to be redrawn of the window is drawn.
+    pub fn served(&self, alloc: Global, window: u64) -> Result<Plain, AllocError> {
+        let drawn = self.redrawn(alloc, window, Kind::Picture)?;
+        let drawn = drawn.redrawn(alloc, window, Kind::Lists)?;
+        drawn.redrawn(alloc, window, Kind::Controls)
+    }
+
     /// What is seen where the desk becomes this one, and that is done.
     pub fn after(
         &self,

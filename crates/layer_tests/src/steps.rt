@@ -6,8 +6,6 @@ ghost use Rattle.window_update.specs.WholeUpdates.{IsWholeUpdates};
 use crate::plain_desk::{Owner, Painting, PlainDesk, PlainLayer, PlainWindow, seen_from};
 use crate::plain_pixels::Plain;
 use crate::plain_steps::{Effect, Step};
-use crate::relaying::{put, take_out};
-use crate::updating::{update, updates_for};
 use bit_map::{BitMap, Mode, Pattern};
 use def_iface::{Defined, Part, Size, Stocked, Taken, WindowDef, WindowStock};
 use desk_call::{Activity, PictureRef};
@@ -16,6 +14,8 @@ use op_ref::{BytesRef, OpRef, ShapeRef};
 use std::alloc::Global;
 use std_wdef::{StdWindow, Variation};
 use strike_font::Font;
+use striped_layers::relaying::{put, take_out};
+use striped_layers::updating::{update, updates_for};
 use tb_geom::{Point, Refusal};
 use window_list::{Ranks, WindowList};
 use window_mgr::{
@@ -297,18 +297,23 @@ impl Desk {
         Ok(agree && self.agrees())
     }
 
-    /// Serves a window.
-    fn serve(&mut self, window: u64) -> Result<bool, Refusal>
+    /// Performs a call on updates while none is open.
+    fn update_at_once(&mut self, call: &UpdateCall<'_>) -> Result<(), Refusal>
         requires { IsWholeManager ⟦<Taken as Defined>⟧.loan self.old.windows (⟦<WindowStock as Stocked>⟧.slots self.old.stock) }
         ensures { IsWholeManager ⟦<Taken as Defined>⟧.loan self.new.windows (⟦<WindowStock as Stocked>⟧.slots self.new.stock) }
     {
         let mut updates = updates_for(self.alloc, &self.windows)?;
         let mut activity = Activity::Idle;
-        let serve = UpdateCall::Serve(window);
-        self.update_by(&mut updates, &mut activity, &serve)?;
-        let drawn = self.plain.redrawn(self.alloc, window, Kind::Picture)?;
-        let drawn = drawn.redrawn(self.alloc, window, Kind::Lists)?;
-        self.plain = drawn.redrawn(self.alloc, window, Kind::Controls)?;
+        self.update_by(&mut updates, &mut activity, call)
+    }
+
+    /// Serves a window.
+    fn serve(&mut self, window: u64) -> Result<bool, Refusal>
+        requires { IsWholeManager ⟦<Taken as Defined>⟧.loan self.old.windows (⟦<WindowStock as Stocked>⟧.slots self.old.stock) }
+        ensures { IsWholeManager ⟦<Taken as Defined>⟧.loan self.new.windows (⟦<WindowStock as Stocked>⟧.slots self.new.stock) }
+    {
+        self.update_at_once(&UpdateCall::Serve(window))?;
+        self.plain = self.plain.served(self.alloc, window)?;
         Ok(self.agrees())
     }
 }

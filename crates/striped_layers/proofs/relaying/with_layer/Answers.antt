@@ -1,6 +1,6 @@
 use Rattle.std.proofs.Common.{sym}
-use Rattle.layer_tests.proofs.Changed.{insert_apart, put_in}
-use Rattle.layer_tests.proofs.relaying.with_layer.Goals as goal
+use Rattle.striped_layers.proofs.Changed.{insert_apart, put_in}
+use Rattle.striped_layers.proofs.relaying.with_layer.Goals as goal
 
 pub returns-in_ok-relaid-in-None : goal.returns-in_ok-relaid-in-None
 returns-in_ok-relaid-in-None c =

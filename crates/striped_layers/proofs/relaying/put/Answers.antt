@@ -1,7 +1,7 @@
 use Rattle.std.proofs.Common.{false}
 use Rattle.window_mgr.proofs.Contents.{layers_apart}
-use Rattle.layer_tests.proofs.Changed.{read_there}
-use Rattle.layer_tests.proofs.relaying.put.Goals as goal
+use Rattle.striped_layers.proofs.Changed.{read_there}
+use Rattle.striped_layers.proofs.relaying.put.Goals as goal
 
 pub with_layer-requires-clause-apart : goal.with_layer-requires-clause-apart
 with_layer-requires-clause-apart g c =

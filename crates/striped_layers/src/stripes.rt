@@ -1,7 +1,7 @@
 //! Controls and lists that nobody but these tests keeps.
 ghost use Rattle.std.specs.Prelude.{◌≡◌};
 ghost use Rattle.bit_map.specs.Patterns.{pattern_bit};
-ghost use Rattle.layer_tests.specs.Striped.{stripes_of};
+ghost use Rattle.striped_layers.specs.Striped.{stripes_of};
 
 use bit_map::{Mode, Pattern};
 use def_iface::Part;

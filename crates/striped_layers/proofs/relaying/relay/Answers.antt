@@ -5,8 +5,8 @@ use Rattle.vis_update.specs.declared.area.Area.{Area}
 use Rattle.vis_update.specs.Relayings.{IsGained}
 use Rattle.window_mgr.specs.Relayered.{HasUpdate, MayHaveLayers}
 use Rattle.window_mgr.proofs.Remarked.{area_there}
-use Rattle.layer_tests.proofs.Changed.{one_there, part_of, part_is, read_there}
-use Rattle.layer_tests.proofs.relaying.relay.Goals as goal
+use Rattle.striped_layers.proofs.Changed.{one_there, part_of, part_is, read_there}
+use Rattle.striped_layers.proofs.relaying.relay.Goals as goal
 
 pub area-requires : goal.area-requires
 area-requires g c = area_there _ c.args.windows.now c.requires.kept c.args.at c.requires.at

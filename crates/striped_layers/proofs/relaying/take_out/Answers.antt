@@ -1,7 +1,7 @@
 use Rattle.std.proofs.Common.{false}
 use Rattle.window_mgr.proofs.Contents.{layers_apart}
-use Rattle.layer_tests.proofs.Changed.{read_there}
-use Rattle.layer_tests.proofs.relaying.take_out.Goals as goal
+use Rattle.striped_layers.proofs.Changed.{read_there}
+use Rattle.striped_layers.proofs.relaying.take_out.Goals as goal
 
 pub without-requires : goal.without-requires
 without-requires g c = record {

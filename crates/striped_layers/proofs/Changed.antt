@@ -20,7 +20,7 @@ use Rattle.window_list.specs.declared.list.WindowList.{WindowList}
 use Rattle.window_list.specs.declared.window.Window.{Window}
 use Rattle.window_mgr.specs.Edits.{IsWindowAt}
 use Rattle.window_mgr.specs.Relayered.{IsPartAt}
-use Rattle.layer_tests.specs.Relaying.{IsRelaying}
+use Rattle.striped_layers.specs.Relaying.{IsRelaying}
 
 -- ---- layers at an index
 

@@ -6,7 +6,7 @@ ghost use Rattle.layer_list.specs.Holders.{ArePartsApart, IsLayerAt};
 ghost use Rattle.window_mgr.specs.Kept.{IsKept};
 ghost use Rattle.window_mgr.specs.Whole.{IsWholeManager};
 ghost use Rattle.window_mgr.specs.Edits.{IsWindowAt};
-ghost use Rattle.layer_tests.specs.Relaying.{IsRelaying};
+ghost use Rattle.striped_layers.specs.Relaying.{IsRelaying};
 
 use crate::stripes::Stripes;
 use def_iface::{Defined, Part, Taken};

@@ -2,7 +2,7 @@
 use Rattle.std.specs.Prelude.{◌≡◌, ◌<◌, length, Option, IfSome}
 use Rattle.def_iface.specs.declared.part.Part.{Part}
 use Rattle.layer_list.specs.Holders.{PlacedLayers, ArePartsApart}
-use Rattle.layer_tests.specs.declared.relaying.Relaying.{Relaying}
+use Rattle.striped_layers.specs.declared.relaying.Relaying.{Relaying}
 use Rattle.vis_update.specs.Relayings.{IsGained}
 use Rattle.window_mgr.specs.Relayered.{IsPartAt}
 
