@@ -25,6 +25,21 @@ fn over_gray(alloc: Global, shape: Shape) -> Result<Vec<u8>, Refusal> {
     one_over_another(alloc, gray, shape)
 }
 
+/// Whether the image of one shape over the pattern gray has these rows.
+fn is_over_gray(alloc: Global, shape: Shape, rows: &str) -> Result<bool, Refusal> {
+    Ok(shows(&over_gray(alloc, shape)?, rows))
+}
+
+/// Whether the image of two shapes, the second over the first, has these rows.
+fn is_one_over_another(
+    alloc: Global,
+    first: Shape,
+    second: Shape,
+    rows: &str,
+) -> Result<bool, Refusal> {
+    Ok(shows(&one_over_another(alloc, first, second)?, rows))
+}
+
 /// The image of one shape by this font.
 fn image_by(alloc: Global, font: &Font, shape: Shape) -> Result<Vec<u8>, Refusal> {
     let mut picture = Picture::new(alloc);
@@ -65,35 +80,35 @@ fn bits(
 #[test]
 fn rectangles(rt: HostRuntime) -> Result<(), Fail> {
     let alloc = rt.alloc();
-    let erased = over_gray(alloc, Shape::Erase(rect!(2, 1, 5, 3)))?;
     assert!(rt;
-        shows(
-            &erased,
+        is_over_gray(
+            alloc,
+            Shape::Erase(rect!(2, 1, 5, 3)),
             "10101010 01000101 10000010 01010101 10101010 01010101 10101010 01010101 "
-        )
+        )?
     );
-    let inverted = over_gray(alloc, Shape::Invert(rect!(2, 1, 5, 3)))?;
     assert!(rt;
-        shows(
-            &inverted,
+        is_over_gray(
+            alloc,
+            Shape::Invert(rect!(2, 1, 5, 3)),
             "10101010 01101101 10010010 01010101 10101010 01010101 10101010 01010101 "
-        )
+        )?
     );
     let light = shade(Pattern::LIGHT_GRAY, Mode::Copy);
-    let filled = over_gray(alloc, Shape::Fill(rect!(2, 1, 5, 3), light))?;
     assert!(rt;
-        shows(
-            &filled,
+        is_over_gray(
+            alloc,
+            Shape::Fill(rect!(2, 1, 5, 3), light),
             "10101010 01100101 10001010 01010101 10101010 01010101 10101010 01010101 "
-        )
+        )?
     );
     let black = shade(Pattern::BLACK, Mode::Xor);
-    let framed = over_gray(alloc, Shape::Frame(rect!(1, 2, 6, 6), black))?;
     assert!(rt;
-        shows(
-            &framed,
+        is_over_gray(
+            alloc,
+            Shape::Frame(rect!(1, 2, 6, 6), black),
             "10101010 01010101 11010110 00010001 11101110 00101001 10101010 01010101 "
-        )
+        )?
     );
     Ok(())
 }
@@ -102,20 +117,20 @@ fn rectangles(rt: HostRuntime) -> Result<(), Fail> {
 fn lines(rt: HostRuntime) -> Result<(), Fail> {
     let alloc = rt.alloc();
     let row = Shape::HLine(line(3, 4, 3), shade(Pattern::BLACK, Mode::Bic));
-    let row = over_gray(alloc, row)?;
     assert!(rt;
-        shows(
-            &row,
+        is_over_gray(
+            alloc,
+            row,
             "10101010 01010101 10101010 01010101 10100010 01010101 10101010 01010101 "
-        )
+        )?
     );
     let column = Shape::VLine(line(4, 3, 9), shade(Pattern::BLACK, Mode::Or));
-    let column = over_gray(alloc, column)?;
     assert!(rt;
-        shows(
-            &column,
+        is_over_gray(
+            alloc,
+            column,
             "10101010 01010101 10101010 01011101 10101010 01011101 10101010 01011101 "
-        )
+        )?
     );
     Ok(())
 }
@@ -124,22 +139,22 @@ fn lines(rt: HostRuntime) -> Result<(), Fail> {
 fn images_and_regions(rt: HostRuntime) -> Result<(), Fail> {
     let alloc = rt.alloc();
     let image = bits(alloc, point!(5, 6), 3, 2, Mode::Copy, &[0xA0, 0x40])?;
-    let image = over_gray(alloc, image)?;
     assert!(rt;
-        shows(
-            &image,
+        is_over_gray(
+            alloc,
+            image,
             "10101010 01010101 10101010 01010101 10101010 01010101 10101101 01010010 "
-        )
+        )?
     );
     let region = Region::from_rect(alloc, rect!(0, 0, 3, 2))?;
     let region = region.union(alloc, &Region::from_rect(alloc, rect!(6, 1, 9, 3))?)?;
     let region = Shape::FillRgn(region, shade(Pattern::WHITE, Mode::NotCopy));
-    let region = over_gray(alloc, region)?;
     assert!(rt;
-        shows(
-            &region,
+        is_over_gray(
+            alloc,
+            region,
             "11101010 11110111 10101011 01010101 10101010 01010101 10101010 01010101 "
-        )
+        )?
     );
     Ok(())
 }
@@ -147,19 +162,19 @@ fn images_and_regions(rt: HostRuntime) -> Result<(), Fail> {
 #[test]
 fn texts(rt: HostRuntime) -> Result<(), Fail> {
     let alloc = rt.alloc();
-    let letter = over_gray(alloc, text(b"A", point!(1, 3), TextMode::Xor)?)?;
     assert!(rt;
-        shows(
-            &letter,
+        is_over_gray(
+            alloc,
+            text(b"A", point!(1, 3), TextMode::Xor)?,
             "10101010 00010101 10001010 01010101 10101010 01010101 10101010 01010101 "
-        )
+        )?
     );
-    let cleared = over_gray(alloc, text(b"A", point!(0, 2), TextMode::Bic)?)?;
     assert!(rt;
-        shows(
-            &cleared,
+        is_over_gray(
+            alloc,
+            text(b"A", point!(0, 2), TextMode::Bic)?,
             "00101010 00010101 10101010 01010101 10101010 01010101 10101010 01010101 "
-        )
+        )?
     );
     let font = Font::from_bytes(alloc, &SMALL)?;
     let both = image_by(alloc, &font, text(b"AB", point!(0, 2), TextMode::Or)?)?;
@@ -250,19 +265,21 @@ fn clips_are_kept(rt: HostRuntime) -> Result<(), Fail> {
 fn the_last_operation_is_drawn_last(rt: HostRuntime) -> Result<(), Fail> {
     let alloc = rt.alloc();
     let (left, all) = (rect!(0, 0, 4, 8), rect!(0, 0, 8, 8));
-    let inverted = one_over_another(alloc, Shape::Erase(left), Shape::Invert(all))?;
     assert!(rt;
-        shows(
-            &inverted,
+        is_one_over_another(
+            alloc,
+            Shape::Erase(left),
+            Shape::Invert(all),
             "11111111 11111111 11111111 11111111 11111111 11111111 11111111 11111111 "
-        )
+        )?
     );
-    let erased = one_over_another(alloc, Shape::Invert(all), Shape::Erase(left))?;
     assert!(rt;
-        shows(
-            &erased,
+        is_one_over_another(
+            alloc,
+            Shape::Invert(all),
+            Shape::Erase(left),
             "00001111 00001111 00001111 00001111 00001111 00001111 00001111 00001111 "
-        )
+        )?
     );
     Ok(())
 }
