@@ -15,7 +15,7 @@ use std::alloc::Global;
 use std_wdef::{StdWindow, Variation};
 use strike_font::Font;
 use striped_layers::relaying::{put, take_out};
-use striped_layers::updating::{update, updates_for};
+use striped_layers::updating::{update, update_at_once, updates_for};
 use tb_geom::{Point, Refusal};
 use window_list::{Ranks, WindowList};
 use window_mgr::{
@@ -216,10 +216,8 @@ impl Desk {
         requires { IsWholeManager ⟦<Taken as Defined>⟧.loan self.old.windows (⟦<WindowStock as Stocked>⟧.slots self.old.stock) }
         ensures { IsWholeManager ⟦<Taken as Defined>⟧.loan self.new.windows (⟦<WindowStock as Stocked>⟧.slots self.new.stock) }
     {
-        match self.perform(step) {
-            Err(Refusal::OutOfRange) => self.agrees(),
-            _ => false,
-        }
+        let answer = self.perform(step);
+        is_out_of_range(answer) && self.agrees()
     }
 
     /// Carries out a step that is no update by the library.
@@ -302,9 +300,7 @@ impl Desk {
         requires { IsWholeManager ⟦<Taken as Defined>⟧.loan self.old.windows (⟦<WindowStock as Stocked>⟧.slots self.old.stock) }
         ensures { IsWholeManager ⟦<Taken as Defined>⟧.loan self.new.windows (⟦<WindowStock as Stocked>⟧.slots self.new.stock) }
     {
-        let mut updates = updates_for(self.alloc, &self.windows)?;
-        let mut activity = Activity::Idle;
-        self.update_by(&mut updates, &mut activity, call)
+        update_at_once(self.alloc, &mut self.windows, call)
     }
 
     /// Serves a window.
@@ -315,6 +311,14 @@ impl Desk {
         self.update_at_once(&UpdateCall::Serve(window))?;
         self.plain = self.plain.served(self.alloc, window)?;
         Ok(self.agrees())
+    }
+}
+
+/// Whether a call was refused as out of range.
+fn is_out_of_range(answer: Result<(), Refusal>) -> bool {
+    match answer {
+        Ok(()) => false,
+        Err(refusal) => refusal == Refusal::OutOfRange,
     }
 }
 

@@ -40,3 +40,18 @@ pub fn update(
     let _done = updates.perform(windows, activity, call, &Stripes)?;
     Ok(())
 }
+
+/// Performs a call while no update is open. What is kept for updates ends with the call.
+pub fn update_at_once(
+    alloc: Global,
+    windows: &mut WindowManager,
+    call: &UpdateCall<'_>,
+) -> Result<(), Refusal>
+    requires { IsKept ⟦<Taken as Defined>⟧.loan windows.old }
+    ensures { (slots : List SlotView) → IsWholeManager ⟦<Taken as Defined>⟧.loan windows.old slots
+        → IsWholeManager ⟦<Taken as Defined>⟧.loan windows.new slots }
+{
+    let mut updates = updates_for(alloc, windows)?;
+    let mut activity = Activity::Idle;
+    update(windows, &mut updates, &mut activity, call)
+}
