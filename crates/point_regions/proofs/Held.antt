@@ -1,0 +1,54 @@
+-- Regions whose boxes are apart, and a rectangle that holds the box of another region.
+use Rattle.std.proofs.Common.{◌≡◌, Bool, true, false, not, ◌&&◌, List, refl, sym, ap, ◌∙◌}
+use Rattle.std.specs.Ordering.{int_eq}
+use Rattle.std.proofs.lemmas.Bool.{true≢false, false≢true, and_parts}
+use Rattle.std.proofs.lemmas.Bool.Decides.{Decides-int_eq}
+use Rattle.tb_geom.specs.declared.point.Point.{Point}
+use Rattle.tb_geom.specs.declared.rect.Rect.{Rect}
+use Rattle.tb_geom.specs.Rects.{rect_holds}
+use Rattle.tb_geom.specs.Pixels.{Pixels, holds, pixels_where}
+use Rattle.region_bytes.specs.Points.{in_rows}
+use Rattle.region_rows.specs.Rows.{EdgeRow}
+use Rattle.region_rows.specs.Hull.{IsRegion}
+use Rattle.region_rows.proofs.Hulls.{held}
+use Rattle.region_rows.proofs.Plane.{has_viewed}
+
+-- a pixel of a region lies in its box
+pub in_box : (rows : List EdgeRow) (r : Rect) (s : Pixels) → IsRegion rows r → pixels_where (in_rows rows) ≡ s → (p : Point) → holds s p ≡ true → rect_holds r p ≡ true
+in_box rows r s g e p here = held rows r g p (sym (has_viewed rows s e g.are_rows p.h p.v) ∙ here)
+
+pub not_both : (a b : Bool) → (a ≡ true → b ≡ true → ⊥) → (a && b) ≡ false
+not_both true true f = absurd (f refl refl)
+not_both true false f = refl
+not_both false b f = refl
+
+pub none_left : (a b : Bool) → (a ≡ true → b ≡ true) → (a && not b) ≡ false
+none_left true true f = refl
+none_left true false f = absurd (false≢true (f refl))
+none_left false b f = refl
+
+-- what is in no second set stays
+pub alone_left : (a b : Bool) → (a && b) ≡ false → a ≡ (a && not b)
+alone_left true true e = e
+alone_left true false e = refl
+alone_left false b e = refl
+
+-- what both boxes hold is in what they share
+pub in_both : (r q shared : Rect) (p : Point) → rect_holds shared p ≡ (rect_holds r p && rect_holds q p) → rect_holds shared p ≡ false → rect_holds r p ≡ true → rect_holds q p ≡ true → ⊥
+in_both r q shared p e none a b = true≢false (sym (λ i. a i && b i) ∙ sym e ∙ none)
+
+-- what is in a box that a rectangle holds is in the rectangle
+pub in_second : (r q shared : Rect) (p : Point) → rect_holds shared p ≡ (rect_holds r p && rect_holds q p) → shared ≡ r → rect_holds r p ≡ true → rect_holds q p ≡ true
+in_second r q shared p e same a = (and_parts (rect_holds r p) (rect_holds q p) (sym e ∙ ap (λ s. rect_holds s p) same ∙ a)).1
+
+-- rectangles that pass the test for equal ones are the same
+pub same_sides : (a b : Rect) → (int_eq a.left b.left && (int_eq a.top b.top && (int_eq a.right b.right && int_eq a.bottom b.bottom))) ≡ true → a ≡ b
+same_sides a b e =
+    let p = and_parts (int_eq a.left b.left) (int_eq a.top b.top && (int_eq a.right b.right && int_eq a.bottom b.bottom)) e in
+    let q = and_parts (int_eq a.top b.top) (int_eq a.right b.right && int_eq a.bottom b.bottom) p.1 in
+    let r = and_parts (int_eq a.right b.right) (int_eq a.bottom b.bottom) q.1 in
+    let left = (Decides-int_eq a.left b.left).0 p.0 in
+    let top = (Decides-int_eq a.top b.top).0 q.0 in
+    let right = (Decides-int_eq a.right b.right).0 r.0 in
+    let bottom = (Decides-int_eq a.bottom b.bottom).0 r.1 in
+    λ i. record { left = left i; top = top i; right = right i; bottom = bottom i }

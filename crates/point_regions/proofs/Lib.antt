@@ -1,0 +1,13 @@
+-- Lemmas on walks and their runs, on the boxes of regions, and on the spans that a cut has.
+pub mod InPlace
+pub mod Held
+pub mod OneScan
+pub mod WalkRuns
+pub mod WalkScan
+pub mod PartSteps
+pub mod WalkSteps
+pub mod KeptRuns
+pub mod CutLayers
+pub mod Scanned
+pub mod Boxes
+pub mod TurningRows

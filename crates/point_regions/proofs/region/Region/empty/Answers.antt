@@ -1,0 +1,12 @@
+use Rattle.std.proofs.Common.{◌∙◌, refl}
+use Rattle.region_bytes.proofs.Rows.{nil_has}
+use Rattle.region_rows.proofs.Merged.{AreRows-nil}
+use Rattle.region_rows.proofs.Plane.{has_view}
+use Rattle.region_rows.proofs.Hulls.{hull_none}
+use Rattle.point_regions.proofs.region.Region.empty.Goals as goal
+
+pub invariant_of-result : goal.invariant_of-result
+invariant_of-result c = rw c.new.ensures.items (record { are_rows = AreRows-nil; hull = hull_none _ refl })
+
+pub returns : goal.returns
+returns c = rw c.new.ensures.items (λ p. has_view _ AreRows-nil p.h p.v ∙ nil_has p.h p.v)

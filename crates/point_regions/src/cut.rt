@@ -1,0 +1,46 @@
+//! The pixels that several regions leave.
+ghost use Rattle.std.specs.Prelude.{◌≡◌};
+ghost use Rattle.point_regions.specs.Cuts.{cut_holds, in_part, in_hole};
+
+use crate::region::Region;
+use tb_geom::Point;
+
+/// The pixels that lie in each of up to three regions, and not in a fourth. A region that is not
+/// there cuts nothing. Regions are in the coordinates of the map.
+#[derive(Clone, Copy)]
+pub struct Cut<'a> {
+    /// Those in each of which a pixel must lie.
+    pub inside: [Option<&'a Region>; 3],
+    /// The one in which it must not lie.
+    pub outside: Option<&'a Region>,
+}
+
+impl Cut<'_> {
+    /// Whether the cut leaves the pixel at `point`, in the coordinates of the map.
+    #[tactic(auto, unfolding(crate::specs::Cuts::cut_holds))]
+    pub fn holds(&self, point: Point) -> bool
+        ensures { result ≡ cut_holds self.now point }
+    {
+        self.inside.iter().all(|part| is_in_part(*part, point)) && !is_in_hole(self.outside, point)
+    }
+}
+
+/// Whether the region has the pixel; without a region every pixel counts.
+fn is_in_part(part: Option<&Region>, point: Point) -> bool
+    ensures { result ≡ in_part part.entry point }
+{
+    match part {
+        Some(region) => region.contains(point),
+        None => true,
+    }
+}
+
+/// Whether the region has the pixel; without a region none counts.
+fn is_in_hole(hole: Option<&Region>, point: Point) -> bool
+    ensures { result ≡ in_hole hole.entry point }
+{
+    match hole {
+        Some(region) => region.contains(point),
+        None => false,
+    }
+}

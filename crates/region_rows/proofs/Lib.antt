@@ -1,0 +1,22 @@
+-- Lemmas on edges, on rows of points, on what is read of them so far, and on lines and layers.
+pub mod Edges
+pub mod Climbs
+pub mod Pushes
+pub mod RunEdges
+pub mod Turnings
+pub mod InPlace
+pub mod Merged
+pub mod Plane
+pub mod Above
+pub mod TurningPoints
+pub mod Hulls
+pub mod MovedRows
+pub mod RectRows
+pub mod Sets
+pub mod WrittenColumns
+pub mod Restored
+pub mod Counts
+pub mod BitPlaces
+pub mod LineTurns
+pub mod LayerSteps
+pub mod SeenRows

@@ -1,0 +1,225 @@
+//! The merge of the rows of two regions.
+ghost use Rattle.std.specs.Prelude.{◌≡◌, false, ◌⊎◌, ℕ, ◌+◌, ◌<◌, ◌≤◌, ◌&&◌, int_le, length, map, take, ℤ, pos, ◌<ℤ◌, ◌≤ℤ◌, slice_index_or, IfSome, IfNone, IfOk, OnOk};
+ghost use Rattle.region_bytes.specs.Points.{top_of, in_rows};
+ghost use Rattle.region_rows.specs.Edges.{applied, by_first, by_second, differ, inside, kept, IsCoordinate, IsEdges, IsRow};
+ghost use Rattle.region_rows.specs.Rows.{with_row, AreRows, IsPushed};
+ghost use Rattle.region_rows.specs.RowsAt.{RowsAt};
+
+use crate::kernel::{Kept, Turning, keep_part};
+use crate::operator::Operator;
+use crate::row::Row;
+use std::alloc::{AllocError, Global};
+
+/// The points of a row, none where the region has no such row, and the place of the row after it.
+#[derive(Clone, Copy)]
+pub struct RowRead<'a> {
+    pub points: &'a [i32],
+    pub next: usize,
+}
+
+/// Reads the row `v` of rows that are read up to `next`.
+fn read_row<'a>(rows: &'a [Row], next: usize, v: i32) -> RowRead<'a>
+    requires rows { AreRows rows.now }
+    requires within { next ≤ length rows.now }
+    requires least { next < length rows.now → v ≤ℤ slice_index_or (map top_of rows.now) next (pos 0) }
+    ensures row { IsRow result.points.now }
+    ensures pixels { (h w : ℤ) → in_rows (take result.next rows.now) h w
+        ≡ differ (int_le v w && inside result.points.now h) (in_rows (take next rows.now) h w) }
+    ensures at { (x : ℤ) → RowsAt rows.now next x → x <ℤ v → RowsAt rows.now result.next v }
+    ensures on { next ≤ result.next }
+    ensures hit { next < length rows.now → slice_index_or (map top_of rows.now) next (pos 0) ≡ v
+        → result.next ≡ next + 1 }
+{
+    match rows.get(next) {
+        Some(row) if row.v() == v => RowRead {
+            points: row.points(),
+            next: next + 1,
+        },
+        _ => RowRead { points: &[], next },
+    }
+}
+
+/// The next row of either region.
+fn next_row(a: &[Row], i: usize, b: &[Row], j: usize) -> Option<i32>
+    requires a_rows { AreRows a.now }
+    requires b_rows { AreRows b.now }
+    ensures none { IfNone result ((length a.now ≤ i) × (length b.now ≤ j)) }
+    ensures least_a { IfSome result (λ v.
+        i < length a.now → v ≤ℤ slice_index_or (map top_of a.now) i (pos 0)) }
+    ensures least_b { IfSome result (λ v.
+        j < length b.now → v ≤ℤ slice_index_or (map top_of b.now) j (pos 0)) }
+    ensures here { IfSome result (λ v.
+        ((i < length a.now) × (slice_index_or (map top_of a.now) i (pos 0) ≡ v))
+        ⊎ ((j < length b.now) × (slice_index_or (map top_of b.now) j (pos 0) ≡ v))) }
+    ensures in_range { IfSome result IsCoordinate }
+{
+    match (a.get(i), b.get(j)) {
+        (Some(p), Some(q)) => Some(p.v().min(q.v())),
+        (Some(p), None) => Some(p.v()),
+        (None, Some(q)) => Some(q.v()),
+        (None, None) => None,
+    }
+}
+
+/// Adds a row of these points, if it has any.
+#[inline]
+fn push_row(alloc: Global, rows: &mut Vec<Row>, v: i32, points: &[i32]) -> Result<(), AllocError>
+    ensures { OnOk result (rows.new.items ≡ with_row rows.old.items v points.now) }
+{
+    if !points.is_empty() {
+        rows.push(Row::of(alloc, v, points)?)?;
+    }
+    Ok(())
+}
+
+/// Adds a row of those of these points that are kept beside another row, if there are any.
+#[inline]
+fn push_part(
+    alloc: Global,
+    rows: &mut Vec<Row>,
+    v: i32,
+    points: &[i32],
+    other: &[i32],
+    what: Kept,
+    room: &mut Vec<i32>,
+) -> Result<(), AllocError>
+    requires points { IsRow points.now }
+    requires other { IsEdges other.now }
+    ensures { OnOk result (IsPushed rows.old.items rows.new.items v
+        (λ h. kept what (inside points.now h) (inside other.now h))) }
+{
+    if other.is_empty() {
+        return match what {
+            Kept::Shared => Ok(()),
+            Kept::Alone | Kept::All => push_row(alloc, rows, v, points),
+        };
+    }
+    keep_part(room, points, other, what)?;
+    push_row(alloc, rows, v, room.as_slice())?;
+    Ok(())
+}
+
+/// Turns both sides at their points `p` and `q` of a row, and adds the row of the points at which the
+/// combination turns: what turns of the first side, seen beside the second one as it was, and what turns
+/// of the second one, seen beside the first one as it is then.
+fn turn_both(
+    alloc: Global,
+    rows: &mut Vec<Row>,
+    v: i32,
+    p: &[i32],
+    of_a: &mut Turning,
+    q: &[i32],
+    of_b: &mut Turning,
+    operator: Operator,
+    points: &mut Turning,
+    second: &mut Vec<i32>,
+) -> Result<(), AllocError>
+    requires p_row { IsRow p.now }
+    requires q_row { IsRow q.now }
+    requires a_edges { IsEdges of_a.old.edges.items }
+    requires b_edges { IsEdges of_b.old.edges.items }
+    ensures a_left { OnOk result ((h : ℤ) → inside of_a.new.edges.items h
+        ≡ differ (inside of_a.old.edges.items h) (inside p.now h)) }
+    ensures b_left { OnOk result ((h : ℤ) → inside of_b.new.edges.items h
+        ≡ differ (inside of_b.old.edges.items h) (inside q.now h)) }
+    ensures a_edges { OnOk result (IsEdges of_a.new.edges.items) }
+    ensures b_edges { OnOk result (IsEdges of_b.new.edges.items) }
+    ensures pushed { OnOk result (IsPushed rows.old.items rows.new.items v (λ h.
+        differ (kept (by_first operator) (inside p.now h) (inside of_b.old.edges.items h))
+        (kept (by_second operator) (inside q.now h)
+        (differ (inside of_a.old.edges.items h) (inside p.now h))))) }
+{
+    let what = operator.by_first();
+    keep_part(&mut points.edges, p, of_b.edges.as_slice(), what)?;
+    of_a.turn(p)?;
+    keep_part(second, q, of_a.edges.as_slice(), operator.by_second())?;
+    of_b.turn(q)?;
+    points.turn(second.as_slice())?;
+    push_row(alloc, rows, v, points.edges.as_slice())?;
+    Ok(())
+}
+
+/// Turns the sides at their points `p` and `q` of a row, where either may have none, and adds the row of
+/// the points at which the combination turns.
+fn turn_row(
+    alloc: Global,
+    rows: &mut Vec<Row>,
+    v: i32,
+    p: &[i32],
+    of_a: &mut Turning,
+    q: &[i32],
+    of_b: &mut Turning,
+    operator: Operator,
+    points: &mut Turning,
+    second: &mut Vec<i32>,
+) -> Result<(), AllocError>
+    requires p_row { IsRow p.now }
+    requires q_row { IsRow q.now }
+    requires a_edges { IsEdges of_a.old.edges.items }
+    requires b_edges { IsEdges of_b.old.edges.items }
+    ensures a_left { OnOk result ((h : ℤ) → inside of_a.new.edges.items h
+        ≡ differ (inside of_a.old.edges.items h) (inside p.now h)) }
+    ensures b_left { OnOk result ((h : ℤ) → inside of_b.new.edges.items h
+        ≡ differ (inside of_b.old.edges.items h) (inside q.now h)) }
+    ensures a_edges { OnOk result (IsEdges of_a.new.edges.items) }
+    ensures b_edges { OnOk result (IsEdges of_b.new.edges.items) }
+    ensures pushed { OnOk result (IsPushed rows.old.items rows.new.items v (λ h.
+        differ (kept (by_first operator) (inside p.now h) (inside of_b.old.edges.items h))
+        (kept (by_second operator) (inside q.now h)
+        (differ (inside of_a.old.edges.items h) (inside p.now h))))) }
+{
+    if q.is_empty() {
+        let (edges, what) = (of_b.edges.as_slice(), operator.by_first());
+        push_part(alloc, rows, v, p, edges, what, &mut points.edges)?;
+        of_a.turn(p)?;
+        return Ok(());
+    }
+    if p.is_empty() {
+        let (edges, what) = (of_a.edges.as_slice(), operator.by_second());
+        push_part(alloc, rows, v, q, edges, what, &mut points.edges)?;
+        of_b.turn(q)?;
+        return Ok(());
+    }
+    turn_both(alloc, rows, v, p, of_a, q, of_b, operator, points, second)
+}
+
+/// The rows of the pixels that the operator keeps of two regions. The rows of both are gone through from
+/// the top down, with the edges that those up to there leave.
+pub fn merge_rows(
+    alloc: Global,
+    a: &[Row],
+    b: &[Row],
+    operator: Operator,
+) -> Result<Vec<Row>, AllocError>
+    requires a_rows { AreRows a.now }
+    requires b_rows { AreRows b.now }
+    ensures pixels { IfOk result (λ rows. (h v : ℤ) → in_rows rows.items h v
+        ≡ applied operator (in_rows a.now h v) (in_rows b.now h v)) }
+    ensures rows { IfOk result (λ rows. AreRows rows.items) }
+{
+    let mut rows = Vec::with_capacity(alloc, a.len().saturating_add(b.len()))?;
+    let (mut i, mut j) = (0, 0);
+    let mut of_a = Turning::new(alloc);
+    let mut of_b = Turning::new(alloc);
+    let mut points = Turning::new(alloc);
+    let mut second = Vec::new(alloc);
+    while let Some(v) = next_row(a, i, b, j) {
+        let in_a = read_row(a, i, v);
+        let in_b = read_row(b, j, v);
+        turn_row(
+            alloc,
+            &mut rows,
+            v,
+            in_a.points,
+            &mut of_a,
+            in_b.points,
+            &mut of_b,
+            operator,
+            &mut points,
+            &mut second,
+        )?;
+        i = in_a.next;
+        j = in_b.next;
+    }
+    Ok(rows)
+}
