@@ -1,7 +1,7 @@
 //! A fixed linear congruential generator, and the regions that it makes.
 ghost use Rattle.std.specs.Prelude.{pos, ◌≤ℤ◌, ◌<ℤ◌};
 
-use point_regions::Region;
+use scan_region::Region;
 use std::alloc::{AllocError, Global};
 use tb_geom::Rect;
 

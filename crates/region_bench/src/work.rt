@@ -2,7 +2,7 @@
 
 use crate::random::Random;
 use anyhow::{Result, bail};
-use point_regions::{Cut, Region, Span};
+use scan_region::{Cut, Region, Span};
 use std::alloc::Global;
 use tb_geom::Rect;
 

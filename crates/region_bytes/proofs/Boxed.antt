@@ -41,17 +41,17 @@ odd_one (x ∷ xs) (suc k) r l =
     let right = rising_head x xs r k (omega arith) in
     (λ i. differ (int_eq-apart x (get_or xs k (pos 0)) (λ e. omega (arith, ints)) i) (odd_one xs k (rising_tail x xs r) (omega arith) i))
 
-column_turns : (xs : List ℤ) (k : ℕ) → IsRising xs → k < length xs → differ (inside xs (get_or xs k (pos 0))) (inside xs (get_or xs k (pos 0) -ℤ pos 1)) ≡ true
+pub column_turns : (xs : List ℤ) (k : ℕ) → IsRising xs → k < length xs → differ (inside xs (get_or xs k (pos 0))) (inside xs (get_or xs k (pos 0) -ℤ pos 1)) ≡ true
 column_turns xs k r l = sym (odd_turns (get_or xs k (pos 0)) xs) ∙ odd_one xs k r l
 
-no_row : PointRow
+abbrev pub no_row : PointRow
 no_row = (pos 0, [])
 
 differ-none : (b : Bool) → b ≡ differ b false
 differ-none true = refl
 differ-none false = refl
 
-row_turns : (rows : List PointRow) (k : ℕ) (h : ℤ) → ArePointRows rows → k < length rows
+pub row_turns : (rows : List PointRow) (k : ℕ) (h : ℤ) → ArePointRows rows → k < length rows
     → in_rows rows h (get_or rows k no_row).0 ≡ differ (inside (get_or rows k no_row).1 h) (in_rows rows h ((get_or rows k no_row).0 -ℤ pos 1))
 unfolding in_rows
 row_turns [] k h r l = absurd (omega arith)
@@ -68,7 +68,7 @@ row_turns (row ∷ rows) (suc k) h r l =
     ∙ sym (λ i. differ (inside at.1 h) (differ (int_le-true row.0 (at.0 -ℤ pos 1) (omega (arith, ints)) i && inside row.1 h) (in_rows rows h (at.0 -ℤ pos 1))))
 
 -- so one of the four pixels about it is in
-one_of : (a b c d s t : Bool) → a ≡ differ s c → b ≡ differ t d → differ s t ≡ true → (a ≡ true) ⊎ ((b ≡ true) ⊎ ((c ≡ true) ⊎ (d ≡ true)))
+pub one_of : (a b c d s t : Bool) → a ≡ differ s c → b ≡ differ t d → differ s t ≡ true → (a ≡ true) ⊎ ((b ≡ true) ⊎ ((c ≡ true) ⊎ (d ≡ true)))
 one_of true b c d s t e f g = inl refl
 one_of false true c d s t e f g = inr (inl refl)
 one_of false false true d s t e f g = inr (inr (inl refl))
@@ -113,7 +113,7 @@ point_in q rows r f k j l m =
       | inr (inr (inr e)) ↦ near q (record { h = x -ℤ pos 1; v = row.0 -ℤ pos 1 }) x row.0 (omega (arith, ints)) (omega (arith, ints)) (omega (arith, ints)) (omega (arith, ints)) (held (x -ℤ pos 1) (row.0 -ℤ pos 1) e)
     ]
 
-rows_in : (q : Rect) (rows : List PointRow) → ArePointRows rows → ((p : Point) → inverted (points_of rows) p ≡ true → rect_holds q p ≡ true) → All (IsRowIn q) rows
+pub rows_in : (q : Rect) (rows : List PointRow) → ArePointRows rows → ((p : Point) → inverted (points_of rows) p ≡ true → rect_holds q p ≡ true) → All (IsRowIn q) rows
 rows_in q rows r f =
     All-from_get_or (IsRowIn q) rows no_row (λ k l.
     let good : IsPointRow (get_or rows k no_row) = All-get_or IsPointRow rows k no_row l r.each in

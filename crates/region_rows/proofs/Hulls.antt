@@ -12,7 +12,7 @@ use Rattle.region_bytes.specs.Points.{IsPointRow, in_rows, top_of}
 use Rattle.region_bytes.proofs.Rows.{inverted-points_of}
 use Rattle.region_bytes.proofs.Ranges.{IsIn, IsRowIn}
 use Rattle.region_bytes.proofs.Said.{pixel_within}
-use Rattle.region_rows.proofs.TurningPoints.{rows_in, row_turns, column_turns, one_of}
+use Rattle.region_bytes.proofs.Boxed.{rows_in, row_turns, column_turns, one_of}
 use Rattle.std.proofs.lemmas.List.{get_or_default, get_or-map, length-map}
 use Rattle.region_rows.specs.Edges.{inside, IsRising, IsCoordinate}
 use Rattle.region_rows.specs.Rows.{EdgeRow, AreRows}

@@ -8,7 +8,6 @@ pub mod InPlace
 pub mod Merged
 pub mod Plane
 pub mod Above
-pub mod TurningPoints
 pub mod Hulls
 pub mod MovedRows
 pub mod RectRows

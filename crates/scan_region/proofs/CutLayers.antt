@@ -1,13 +1,27 @@
 -- A cut as layers of one row.
-use Rattle.std.proofs.Common.{◌≡◌, ℤ, Bool, true, false, not, ◌&&◌, List, [], ◌∷◌, Option, length, get_or, refl, sym, ap, ◌∙◌, arith}
+use Rattle.std.proofs.Common.{◌≡◌, ℕ, zero, suc, ◌≤◌, Bool, true, false, not, ◌&&◌, List, [], ◌∷◌, ◌++◌, Option, Some, None, length, get_or, drop, ℤ, refl, sym, ap, ◌∙◌, subst, arith}
 use Rattle.std.specs.List.{list_all}
+use Rattle.std.proofs.lemmas.Int.{ints}
 use Rattle.std.specs.Borrow.{Bor}
 use Rattle.tb_geom.specs.declared.point.Point.{Point}
+use Rattle.tb_geom.specs.declared.rect.Rect.{Rect}
+use Rattle.tb_geom.specs.Points.{PixelSet}
+use Rattle.tb_geom.specs.Rects.{rect_holds}
 use Rattle.tb_geom.specs.Pixels.{Pixels}
 use Rattle.scan_region.specs.Cuts.{cut_holds, in_part, in_hole}
-use Rattle.scan_region.specs.Layers.{layer_holds, layers_hold}
+use Rattle.scan_region.specs.Descents.{spans_of}
+use Rattle.scan_region.specs.Parts.{lets, IsPart, IsFit, IsWalk}
+use Rattle.scan_region.specs.Scan.{IsScanOf}
+use Rattle.region_rows.specs.Seen.{seen_point, seen_set}
+use Rattle.region_rows.specs.Counts.{count_to}
+use Rattle.scan_region.specs.Walks.{runs_on, rows_runs}
 use Rattle.scan_region.specs.declared.cut.Cut.{Cut}
-use Rattle.scan_region.specs.declared.layers.Layers.{Layers}
+use Rattle.scan_region.specs.declared.descent.Run.{Run}
+use Rattle.scan_region.specs.declared.part.Part.{Part}
+use Rattle.scan_region.specs.declared.part.Part.TheVariants.{Open, Lined, Tested}
+use Rattle.scan_region.specs.declared.walk.Walk.{Walk}
+use Rattle.scan_region.proofs.WalkRuns.{runs-end}
+use Rattle.scan_region.proofs.WalkScan.{IsScanOf-rows_runs}
 
 -- a list of three is its elements
 three : (parts : List (Option (Bor Pixels))) (a b c : Option (Bor Pixels)) → length parts ≡ 3 → a ≡ get_or parts 0 a → b ≡ get_or parts 1 b → c ≡ get_or parts 2 c → parts ≡ a ∷ b ∷ c ∷ []
@@ -17,21 +31,96 @@ three (x ∷ y ∷ []) a b c l d e f = absurd (omega (arith, l))
 three (x ∷ y ∷ z ∷ []) a b c l d e f = sym (λ i. d i ∷ e i ∷ f i ∷ [])
 three (x ∷ y ∷ z ∷ u ∷ rest) a b c l d e f = absurd (omega (arith, l))
 
-grouped : (a b c d : Bool) → (a && (b && (c && d))) ≡ ((a && (b && (c && true))) && d)
+grouped : (a b c d : Bool) → ((a && (b && (c && true))) && d) ≡ (a && (b && (c && d)))
 grouped true true true d = refl
 grouped true true false d = refl
 grouped true false c d = refl
 grouped false b c d = refl
 
--- layers that let through what the parts of a cut have, and not what its hole has
-pub cut-layers : (cut : Cut) (s : Layers) (a b c : Option (Bor Pixels)) (x v : ℤ) → length cut.inside ≡ 3 → a ≡ get_or cut.inside 0 a → b ≡ get_or cut.inside 1 b → c ≡ get_or cut.inside 2 c
-    → layer_holds s.first x ≡ in_part a (record { h = x; v = v }) → layer_holds s.second x ≡ in_part b (record { h = x; v = v }) → layer_holds s.third x ≡ in_part c (record { h = x; v = v })
-    → layer_holds s.hole x ≡ not (in_hole cut.outside (record { h = x; v = v })) → layers_hold s x ≡ cut_holds cut (record { h = x; v = v })
+parted : (cut : Cut) (a b c : Option (Bor Pixels)) (p : Point) → length cut.inside ≡ 3 → a ≡ get_or cut.inside 0 a → b ≡ get_or cut.inside 1 b → c ≡ get_or cut.inside 2 c
+    → cut_holds cut p ≡ (in_part a p && (in_part b p && (in_part c p && not (in_hole cut.outside p))))
 unfolding cut_holds
-cut-layers cut s a b c x v l d e f first second third hole =
-    (λ i. first i && (second i && (third i && hole i)))
+parted cut a b c p l d e f =
+    ap (λ parts. list_all (λ part. in_part part p) parts && not (in_hole cut.outside p)) (three cut.inside a b c l d e f)
     ∙ grouped (in_part a p) (in_part b p) (in_part c p) (not (in_hole cut.outside p))
-    ∙ ap (λ parts. list_all (λ part. in_part part p) parts && not (in_hole cut.outside p)) (sym (three cut.inside a b c l d e f))
+
+as_part : (r : Option (Bor Pixels)) (p : Point) → in_part r p ≡ lets false r p
+as_part None p = refl
+as_part (Some r) p = refl
+
+as_hole : (r : Option (Bor Pixels)) (p : Point) → not (in_hole r p) ≡ lets true r p
+as_hole None p = refl
+as_hole (Some r) p = refl
+
+-- a cut is what each of its parts lets through
+pub cut_parts : (cut : Cut) (a b c : Option (Bor Pixels)) (p : Point) → length cut.inside ≡ 3 → a ≡ get_or cut.inside 0 a → b ≡ get_or cut.inside 1 b → c ≡ get_or cut.inside 2 c
+    → cut_holds cut p ≡ (lets false a p && (lets false b p && (lets false c p && lets true cut.outside p)))
+cut_parts cut a b c p l d e f = parted cut a b c p l d e f ∙ (λ i. as_part a p i && (as_part b p i && (as_part c p i && as_hole cut.outside p i)))
+
+-- a walk of parts that let through what those of a cut have, and not what its hole has
+pub cut_walk : (w : Walk) (cut : Cut) (up : Bool) (a b c : Option (Bor Pixels)) → length cut.inside ≡ 3 → a ≡ get_or cut.inside 0 a → b ≡ get_or cut.inside 1 b → c ≡ get_or cut.inside 2 c
+    → IsPart w.words w.first (seen_set up (lets false a)) w.v w.at → IsPart w.words w.second (seen_set up (lets false b)) w.v w.at → IsPart w.words w.third (seen_set up (lets false c)) w.v w.at
+    → IsPart w.words w.hole (seen_set up (lets true cut.outside)) w.v w.at → IsWalk w (seen_set up (cut_holds cut))
+cut_walk w cut up a b c l d e f first second third hole = record {
+  first_set = seen_set up (lets false a);
+  second_set = seen_set up (lets false b);
+  third_set = seen_set up (lets false c);
+  hole_set = seen_set up (lets true cut.outside);
+  all = λ h v. cut_parts cut a b c (seen_point up (record { h = h; v = v })) l d e f;
+  first = first;
+  second = second;
+  third = third;
+  hole = hole;
+}
+
+-- a part fits a longer row of places
+pub fit_up : (left right : ℤ) (low high top : ℕ) (part : Part) → high ≤ top → IsFit left right low high part → IsFit left right low top part
+fit_up left right low high top Open l fit = omega (arith, fit)
+fit_up left right low high top (Lined r) l fit =
+    let to = fit.3 in
+    (fit.0, fit.1, fit.2, omega arith, fit.4)
+fit_up left right low high top (Tested t) l fit =
+    let to = fit.1 in
+    (fit.0, omega arith)
+
+none_dropped : (n : ℕ) (v : ℤ) (runs : List Run) → runs ≡ [] → spans_of v (drop n runs) ≡ []
+none_dropped zero v [] e = refl
+none_dropped (suc n) v [] e = refl
+none_dropped n v (x ∷ runs) e = absurd (omega (arith, ap length e))
+
+-- before its first row a walk has the spans of the whole area left
+pub new_scan : (s : PixelSet) (area : Rect) (v row : ℤ) (told : ℕ) (kept : List Run) → kept ≡ []
+    → IsScanOf (spans_of v (drop told kept) ++ (runs_on (λ h. s (record { h = h; v = row })) row None area.right (count_to area.right area.right) ++ rows_runs s area.top area.left area.right (count_to area.top area.bottom))) (λ p. rect_holds area p && s p)
+new_scan s area v row told kept none =
+    subst (λ spans. IsScanOf spans (λ p. rect_holds area p && s p))
+    (sym (λ i. none_dropped told v kept none i ++ (runs-end (λ h. s (record { h = h; v = row })) row area.right area.right (omega (arith, ints)) i ++ rows_runs s area.top area.left area.right (count_to area.top area.bottom))))
+    (IsScanOf-rows_runs s area.left area.top area.right area.bottom)
+
+-- ---- an area that is cut to the boxes of the parts
+
+-- one part after another
+pub one_more : (a0 a1 f0 f1 rest : Bool) → (a1 && f1) ≡ (a0 && f0) → (a1 && (f1 && rest)) ≡ (a0 && (f0 && rest))
+one_more a0 a1 f0 f1 rest e = sym (grouped_and a1 f1 rest) ∙ ap (λ x. x && rest) e ∙ grouped_and a0 f0 rest
   where
-    p : Point
-    p = record { h = x; v = v }
+    grouped_and : (x y z : Bool) → ((x && y) && z) ≡ (x && (y && z))
+    grouped_and true y z = refl
+    grouped_and false y z = refl
+
+swapped : (x y z : Bool) → (x && (y && z)) ≡ (y && (x && z))
+swapped true true z = refl
+swapped true false z = refl
+swapped false true z = refl
+swapped false false z = refl
+
+pub all_narrowed : (a0 a1 a2 a3 f0 f1 s0 s1 t0 t1 h0 h1 : Bool) → (a1 && f1) ≡ (a0 && f0) → (a2 && s1) ≡ (a1 && s0) → (a3 && t1) ≡ (a2 && t0) → (a3 && h1) ≡ (a3 && h0)
+    → (a3 && (f1 && (s1 && (t1 && h1)))) ≡ (a0 && (f0 && (s0 && (t0 && h0))))
+all_narrowed a0 a1 a2 a3 f0 f1 s0 s1 t0 t1 h0 h1 e1 e2 e3 e4 =
+    swapped a3 f1 (s1 && (t1 && h1))
+    ∙ ap (λ x. f1 && x) (swapped a3 s1 (t1 && h1) ∙ ap (λ x. s1 && x) (swapped a3 t1 h1 ∙ ap (λ x. t1 && x) e4 ∙ sym (swapped a3 t1 h0) ∙ one_more a2 a3 t0 t1 h0 e3) ∙ sym (swapped a2 s1 (t0 && h0)) ∙ one_more a1 a2 s0 s1 (t0 && h0) e2)
+    ∙ sym (swapped a1 f1 (s0 && (t0 && h0)))
+    ∙ one_more a0 a1 f0 f1 (s0 && (t0 && h0)) e1
+
+-- an area is what it shares with itself
+pub both_same : (a b : Bool) → b ≡ (a && a) → a ≡ b
+both_same true b e = sym e
+both_same false b e = sym e

@@ -1,24 +1,14 @@
--- Lemmas on edges, on rows, on what is read of them so far, and on the pixels that they stand for.
-pub mod Edges
-pub mod Combined
-pub mod Merged
-pub mod Plane
+-- Lemmas on walks and their runs, on the boxes of regions, and on the spans that a cut has.
+pub mod Opened
 pub mod InPlace
-pub mod MovedRows
-pub mod RectRows
-pub mod SpanRuns
-pub mod SpansUpRuns
-pub mod OneList
-pub mod FoundRow
+pub mod Held
 pub mod OneScan
-pub mod Shared
-pub mod Around
-pub mod Inverted
-pub mod InvertedSets
-pub mod Remaining
-pub mod Restored
-pub mod LayerTurns
 pub mod WalkRuns
-pub mod CutLayers
-pub mod RowSteps
 pub mod WalkScan
+pub mod PartSteps
+pub mod WalkSteps
+pub mod KeptRuns
+pub mod CutLayers
+pub mod Scanned
+pub mod Boxes
+pub mod TurningRows

@@ -12,7 +12,7 @@ use Rattle.tb_geom.specs.Rects.{between}
 use Rattle.tb_geom.specs.Pixels.{Pixels}
 use Rattle.scan_region.specs.declared.spans.Span.{Span}
 use Rattle.scan_region.specs.Scan.{span_holds, IsRun, Precedes, IsScan}
-use Rattle.scan_region.proofs.Merged.{int_eq-same, int_eq-apart}
+use Rattle.region_rows.proofs.Merged.{int_eq-same, int_eq-apart}
 
 -- spans that are runs, in their order
 record AreRuns (spans : List Span) : Type 0 where

@@ -1,8 +1,10 @@
 -- The runs of a set, column by column.
-use Rattle.std.proofs.Common.{◌≡◌, ℕ, zero, suc, ◌+◌, ◌<◌, Bool, true, false, cond, [], ◌∷◌, ◌++◌, Option, Some, None, ℤ, pos, negsuc, ◌+ℤ◌, ◌-ℤ◌, ◌≤ℤ◌, ◌<ℤ◌, refl, sym, ap, ◌∙◌, arith}
+use Rattle.std.proofs.Common.{◌≡◌, ℕ, zero, suc, ◌+◌, ◌<◌, Bool, true, false, cond, [], ◌∷◌, ◌++◌, Option, Some, None, ℤ, pos, ◌+ℤ◌, ◌≤ℤ◌, ◌<ℤ◌, refl, sym, ap, ◌∙◌, arith}
 use Rattle.std.proofs.lemmas.Int.{ints}
 use Rattle.tb_geom.specs.Points.{PixelSet}
-use Rattle.scan_region.specs.Walks.{natural, count_to, runs_on, row_runs, rows_runs}
+use Rattle.region_rows.specs.Counts.{count_to}
+use Rattle.scan_region.specs.Walks.{runs_on, row_runs, rows_runs}
+use Rattle.region_rows.proofs.Counts.{count-is, count-none}
 
 -- ---- columns that count alike
 
@@ -58,22 +60,6 @@ run f v h k n m e all out =
     ∙ close f v h (h +ℤ pos (suc k)) n out
 
 -- ---- the same from column to column
-
-natural-of : (x : ℤ) → pos 0 ≤ℤ x → pos (natural x) ≡ x
-natural-of (pos n) low = refl
-natural-of (negsuc n) low = absurd (omega (arith, ints))
-
--- how many columns there are
-pub count-is : (low high : ℤ) → low ≤ℤ high → pos (count_to low high) ≡ high -ℤ low
-count-is low high l = natural-of (high -ℤ low) (omega (arith, ints))
-
-pub count-none : (low high : ℤ) → high ≤ℤ low → count_to low high ≡ zero
-count-none low high l = natural-none (high -ℤ low) (omega (arith, ints))
-  where
-    natural-none : (x : ℤ) → x ≤ℤ pos 0 → natural x ≡ zero
-    natural-none (pos zero) low = refl
-    natural-none (pos (suc n)) low = absurd (omega (arith, ints))
-    natural-none (negsuc n) low = refl
 
 same_nat : (m n : ℕ) → pos m ≡ pos n → m ≡ n
 same_nat m n e = omega (arith, ints, e)

@@ -1,9 +1,10 @@
 -- The runs of a set in rows of columns are its maximal runs there, each once.
-use Rattle.std.proofs.Common.{◌≡◌, ℕ, zero, suc, Bool, true, false, ◌&&◌, ◌||◌, cond, List, [], ◌∷◌, ◌++◌, Option, Some, None, ℤ, pos, negsuc, ◌+ℤ◌, ◌≤ℤ◌, ◌<ℤ◌, refl, sym, ap, ◌∙◌, inl, inr, arith}
+use Rattle.std.proofs.Common.{◌≡◌, ℕ, zero, suc, Bool, true, false, ◌&&◌, ◌||◌, cond, List, [], ◌∷◌, ◌++◌, Option, Some, None, ℤ, pos, negsuc, ◌+ℤ◌, ◌≤ℤ◌, ◌<ℤ◌, refl, sym, ap, ◌∙◌, subst, inl, inr, arith}
 use Rattle.std.specs.List.{list_any, All, AllPairs}
 use Rattle.std.specs.Ordering.{int_eq}
 use Rattle.std.proofs.Math.Bool.{and-false}
-use Rattle.std.proofs.lemmas.Int.{ints, by_lt_z}
+use Rattle.std.specs.Int.{int_min}
+use Rattle.std.proofs.lemmas.Int.{ints, clamps, by_lt_z}
 use Rattle.std.proofs.lemmas.Bool.Decides.{Decides-int_eq}
 use Rattle.std.proofs.lemmas.List.Folds.{list_any-append}
 use Rattle.std.proofs.lemmas.List.Elements.{All-nil, All-cons, All-append, All-weaker}
@@ -13,10 +14,14 @@ use Rattle.tb_geom.specs.declared.rect.Rect.{Rect}
 use Rattle.tb_geom.specs.Points.{PixelSet}
 use Rattle.tb_geom.specs.Rects.{between, rect_holds}
 use Rattle.scan_region.specs.Scan.{span_holds, IsScanOf, IsRun, Precedes}
-use Rattle.scan_region.specs.Walks.{count_to, runs_on, row_runs, rows_runs}
+use Rattle.region_rows.specs.Counts.{count_to}
+use Rattle.scan_region.specs.Walks.{runs_on, row_runs, rows_runs}
 use Rattle.scan_region.specs.declared.spans.Span.{Span}
-use Rattle.scan_region.proofs.SpanRuns.{IsRunAfter}
-use Rattle.scan_region.proofs.WalkRuns.{count-is, count-none}
+use Rattle.region_rows.proofs.Counts.{count-is, count-none}
+
+-- the run lies in the row w, right of the column x
+abbrev IsRunAfter : ℤ → ℤ → Span → Type 0
+IsRunAfter w x s = (s.left <ℤ s.right) × (s.v ≡ w) × (x <ℤ s.left)
 
 -- ---- the pixels
 
@@ -191,7 +196,7 @@ IsScanOf-rows_runs s left top right bottom = record {
 }
 
 -- spans of the same pixels by another test
-IsScanOf-same : (spans : List Span) (s t : PixelSet) → ((p : Point) → t p ≡ s p) → IsScanOf spans s → IsScanOf spans t
+pub IsScanOf-same : (spans : List Span) (s t : PixelSet) → ((p : Point) → t p ≡ s p) → IsScanOf spans s → IsScanOf spans t
 IsScanOf-same spans s t e scan = record { pixels = λ p. e p ∙ scan.pixels p; runs = scan.runs; order = scan.order }
 
 -- a walk begins before its first row; where no column lies in the rectangle, it has no row
@@ -206,3 +211,24 @@ walk-scan s area first next none some empty =
     apart p l =
         let out : between area.left p.h area.right ≡ false = grind (arith, ints) in
         (λ i. (out i && between area.top p.v area.bottom) && s p) ∙ sym (λ i. (out i && between area.bottom p.v area.bottom) && s p)
+
+-- a walk between sides that do not lie crosswise
+pub seen-scan : (s : PixelSet) (area : Rect) (first : List Span) (next left right bottom : ℤ) → first ≡ [] → left ≡ int_min area.left area.right → right ≡ area.right → bottom ≡ area.bottom
+    → (area.left <ℤ area.right → next ≡ area.top) → (area.right ≤ℤ area.left → next ≡ area.bottom)
+    → IsScanOf (first ++ rows_runs s next left right (count_to next bottom)) (λ p. rect_holds area p && s p)
+seen-scan s area first next left right bottom none el er eb some empty =
+    let scan = walk-scan s sides first next none (λ l. some (omega (arith, ints, clamps))) (λ l. empty (omega (arith, ints, clamps))) in
+    subst (λ spans. IsScanOf spans (λ p. rect_holds area p && s p)) (λ i. first ++ rows_runs s next (sym el i) (sym er i) (count_to next (sym eb i)))
+    (IsScanOf-same _ (λ p. rect_holds sides p && s p) (λ p. rect_holds area p && s p) (λ p. ap (λ b. (b && between area.top p.v area.bottom) && s p) (alike p)) scan)
+  where
+    sides : Rect
+    sides = record { left = int_min area.left area.right; top = area.top; right = area.right; bottom = area.bottom }
+
+    alike : (p : Point) → between area.left p.h area.right ≡ between (int_min area.left area.right) p.h area.right
+    alike p = by_lt_z area.left area.right
+        (λ l. let e : int_min area.left area.right ≡ area.left = omega (arith, ints, clamps) in ap (λ x. between x p.h area.right) (sym e))
+        (λ l.
+        let e : int_min area.left area.right ≡ area.right = omega (arith, ints, clamps) in
+        let a : between area.left p.h area.right ≡ false = grind (arith, ints) in
+        let b : between area.right p.h area.right ≡ false = grind (arith, ints) in
+        a ∙ sym b ∙ ap (λ x. between x p.h area.right) (sym e))

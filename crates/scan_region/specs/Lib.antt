@@ -1,13 +1,9 @@
--- What the contracts speak of: the edges of a row, the rows of a region, how far they are read, spans, and inversion points.
-pub mod Edges
-pub mod Cursor
-pub mod Rows
-pub mod RowsAt
-pub mod Runs
-pub mod Scan
-pub mod Moves
-pub mod Inverted
-pub mod Restored
-pub mod Cuts
-pub mod Layers
+-- What the contracts speak of: runs and spans, the parts of a walk, cuts, and regions that are moved.
+pub mod Kept
 pub mod Walks
+pub mod Parts
+pub mod Descents
+pub mod Scan
+pub mod Cuts
+pub mod Turned
+pub mod Moves

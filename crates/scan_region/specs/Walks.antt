@@ -1,15 +1,8 @@
 -- The runs of a set's pixels, column by column and row by row.
-use Rattle.std.specs.Prelude.{ℕ, zero, suc, Bool, cond, List, [], ◌∷◌, ◌++◌, Option, Some, None, ℤ, pos, negsuc, ◌+ℤ◌, ◌-ℤ◌}
+use Rattle.std.specs.Prelude.{ℕ, zero, suc, Bool, cond, List, [], ◌∷◌, ◌++◌, Option, Some, None, ℤ, pos, ◌+ℤ◌}
 use Rattle.tb_geom.specs.Points.{PixelSet}
+use Rattle.region_rows.specs.Counts.{count_to}
 use Rattle.scan_region.specs.declared.spans.Span.{Span}
-
--- how many numbers there are from `low` up to `high`
-abbrev pub natural : ℤ → ℕ
-natural (pos n) = n
-natural (negsuc n) = zero
-
-abbrev pub count_to : ℤ → ℤ → ℕ
-count_to low high = natural (high -ℤ low)
 
 -- the runs of the row v in n columns from h on, by whether a column counts; where `open` has a column, a run from there reaches up to h
 unfoldable pub runs_on : (ℤ → Bool) → ℤ → Option ℤ → ℤ → ℕ → List Span

@@ -1,18 +1,22 @@
 //! The spans that a cut leaves of a rectangle, row by row.
-ghost use Rattle.std.specs.Prelude.{◌≡◌, ◌&&◌, not, ℤ, ◌≤ℤ◌};
+ghost use Rattle.std.specs.Prelude.{◌≡◌, ◌&&◌, false, true};
 ghost use Rattle.std.specs.Iterator.{YieldsFirst, item_count};
 ghost use Rattle.tb_geom.specs.declared.point.Point.{Point};
+ghost use Rattle.tb_geom.specs.Points.{PixelSet};
 ghost use Rattle.tb_geom.specs.Rects.{rect_holds};
-ghost use Rattle.scan_region.specs.Cuts.{cut_holds, in_part, in_hole};
-ghost use Rattle.scan_region.specs.Layers.{layer_holds, layers_hold, IsAhead, AreAhead};
+ghost use Rattle.scan_region.specs.Cuts.{cut_holds};
+ghost use Rattle.scan_region.specs.Descents.{IsUpright};
+ghost use Rattle.scan_region.specs.Parts.{lets};
 ghost use Rattle.scan_region.specs.Scan.{IsScanOf};
-ghost use Rattle.scan_region.specs.Walks.{row_runs, rows_runs, count_to};
+ghost use Rattle.region_rows.specs.Seen.{seen_set};
 
 use crate::cut::Cut;
-use crate::layers::{Layer, Layers};
+use crate::descent::Descent;
+use crate::part::{Columns, Part};
 use crate::region::Region;
-use crate::row_spans::RowSpans;
 use crate::spans::Span;
+use crate::walk::Walk;
+use arrayvec::ArrayVec;
 use std::marker::Model;
 use tb_geom::Rect;
 
@@ -21,91 +25,110 @@ use tb_geom::Rect;
 #[derive(Drop)]
 pub struct CutSpans<'a> {
     cut: Cut<'a>,
-    left: i32,
-    right: i32,
-    /// The row at hand.
-    row: RowSpans<'a>,
-    /// The one after it.
-    next: i32,
-    bottom: i32,
+    /// Whether all is seen turned by half a turn, from the bottom up and from right to left.
+    up: bool,
+    descent: Descent<'a>,
 }
 
 impl<'a> Model for CutSpans<'a> {
-    ghost use Rattle.std.specs.Prelude.{List, ◌++◌};
+    ghost use Rattle.std.specs.Prelude.{List};
     ghost use Rattle.scan_region.specs.declared.spans.Span.{Span};
 
     ghost Value = { List Span };
 
     ghost use Rattle.scan_region.specs.Cuts.{cut_holds};
-    ghost use Rattle.scan_region.specs.Walks.{rows_runs, count_to};
+    ghost use Rattle.scan_region.specs.Descents.{IsDescent, spans_left};
+    ghost use Rattle.region_rows.specs.Seen.{seen_set};
 
-    ghost view = { λ s. s.row ++ rows_runs (cut_holds s.cut) s.next s.left s.right (count_to s.next s.bottom) };
+    ghost view = { λ s. spans_left s.descent (seen_set s.up (cut_holds s.cut)) };
+
+    ghost invariant = { λ s. IsDescent s.descent (seen_set s.up (cut_holds s.cut)) };
 }
 
-/// What a region in which pixels must lie lets through of the row `v` from the column `left` on.
-#[tactic(auto, unfolding(crate::specs::Edges::inside))]
-fn part_layer(part: Option<&Region>, v: i32, left: i32) -> Layer<'_>
-    ensures same { (x : ℤ) → left ≤ℤ x → layer_holds result x ≡ in_part part.entry (record { h = x; v = v }) }
-    ensures ahead { IsAhead result left }
+/// What is left to be asked of a region in which pixels of the area must lie: nothing, where it is a rectangle.
+/// The area is cut to its box.
+fn part_within<'a>(part: Option<&'a Region>, up: bool, area: &mut Rect) -> Option<&'a Region>
+    ensures pixels { (p : Point) → (rect_holds area.new p && seen_set up (lets false result) p)
+        ≡ (rect_holds area.old p && seen_set up (lets false part.entry) p) }
+    ensures upright { IsUpright area.old → IsUpright area.new }
 {
-    match part {
-        Some(region) => {
-            let edges = region.row_edges(v);
-            Layer {
-                edges,
-                counts: false,
-            }
-            .past(left)
-        }
-        None => Layer {
-            edges: &[],
-            counts: true,
-        },
+    let region = part?;
+    let boxed = region.boxed(up);
+    *area = area.sect(boxed.bounds);
+    if boxed.is_full {
+        return None;
     }
+    Some(region)
 }
 
-/// What a region in which no pixel may lie lets through of the row `v` from the column `left` on.
-#[tactic(auto, unfolding(crate::specs::Edges::inside))]
-fn hole_layer(hole: Option<&Region>, v: i32, left: i32) -> Layer<'_>
-    ensures same { (x : ℤ) → left ≤ℤ x → layer_holds result x ≡ not (in_hole hole.entry (record { h = x; v = v })) }
-    ensures ahead { IsAhead result left }
+/// What is left to be asked of a region in which no pixel of the area may lie: nothing, where its box lies apart.
+fn hole_within<'a>(hole: Option<&'a Region>, up: bool, area: Rect) -> Option<&'a Region>
+    ensures { (p : Point) → (rect_holds area p && seen_set up (lets true result) p)
+        ≡ (rect_holds area p && seen_set up (lets true hole.entry) p) }
 {
-    match hole {
-        Some(region) => {
-            let edges = region.row_edges(v);
-            Layer {
-                edges,
-                counts: true,
-            }
-            .past(left)
-        }
-        None => Layer {
-            edges: &[],
-            counts: true,
-        },
+    let region = hole?;
+    if area.sect(region.boxed(up).bounds).is_empty() {
+        return None;
     }
+    Some(region)
 }
 
 impl<'a> Cut<'a> {
-    /// What it leaves of the row `v` from the column `left` on.
-    fn row_layers(&self, v: i32, left: i32) -> Layers<'a>
-        ensures same { (x : ℤ) → left ≤ℤ x → layers_hold result x ≡ cut_holds self.now (record { h = x; v = v }) }
-        ensures ahead { AreAhead result left }
+    /// The spans of an area's pixels that the cut leaves, seen so.
+    fn walk_within(&self, up: bool, area: Rect) -> CutSpans<'a>
+        requires { IsUpright area }
+        ensures { IsScanOf result (λ p. rect_holds area p && seen_set up (cut_holds self.now) p) }
     {
+        let columns = Columns {
+            up,
+            left: area.left,
+            right: area.right,
+        };
         let parts = &self.inside[..];
-        Layers {
-            first: part_layer(parts[0], v, left),
-            second: part_layer(parts[1], v, left),
-            third: part_layer(parts[2], v, left),
-            hole: hole_layer(self.outside, v, left),
+        let mut free = 0;
+        let first = Part::new(parts[0], false, columns, &mut free);
+        let second = Part::new(parts[1], false, columns, &mut free);
+        let third = Part::new(parts[2], false, columns, &mut free);
+        let hole = Part::new(self.outside, true, columns, &mut free);
+        CutSpans {
+            cut: *self,
+            up,
+            descent: Descent {
+                left: area.left,
+                v: area.top,
+                kept: ArrayVec::new(),
+                told: 0,
+                walk: Walk {
+                    v: i32::MIN,
+                    at: area.right,
+                    right: area.right,
+                    first,
+                    second,
+                    third,
+                    hole,
+                    words: [0; 512],
+                },
+                next: area.top,
+                until: area.top,
+                bottom: area.bottom,
+            },
         }
     }
 
-    /// The spans that it leaves of the row `v` from the column `left` up to the column `right`.
-    fn row_spans(&self, v: i32, left: i32, right: i32) -> RowSpans<'a>
-        ensures { result ≡ row_runs (cut_holds self.now) v left right }
+    /// The spans of the area's pixels that the cut leaves, seen so.
+    pub(crate) fn spans_seen(&self, up: bool, area: Rect) -> CutSpans<'a>
+        ensures { IsScanOf result (λ p. rect_holds area p && seen_set up (cut_holds self.now) p) }
     {
-        RowSpans::new(self.row_layers(v, left), v, left, right)
+        let parts = &self.inside[..];
+        let mut area = area.sect(area);
+        let first = part_within(parts[0], up, &mut area);
+        let second = part_within(parts[1], up, &mut area);
+        let third = part_within(parts[2], up, &mut area);
+        let narrowed = Cut {
+            inside: [first, second, third],
+            outside: hole_within(self.outside, up, area),
+        };
+        narrowed.walk_within(up, area)
     }
 
     /// The spans of the area's pixels that the cut leaves, by rising rows and columns: their maximal runs
@@ -113,19 +136,7 @@ impl<'a> Cut<'a> {
     pub fn spans_within(&self, area: Rect) -> CutSpans<'a>
         ensures { IsScanOf result (λ p. rect_holds area p && cut_holds self.now p) }
     {
-        let rows = if area.left < area.right {
-            area.top
-        } else {
-            area.bottom
-        };
-        CutSpans {
-            cut: *self,
-            left: area.left,
-            right: area.right,
-            row: self.row_spans(area.top, area.right, area.right),
-            next: rows,
-            bottom: area.bottom,
-        }
+        self.spans_seen(false, area)
     }
 }
 
@@ -137,15 +148,6 @@ impl<'a> Iterator for CutSpans<'a> {
     ghost remaining = { item_count (λ rest. rest) };
 
     fn next(&mut self) -> Option<Span> {
-        'rows: loop {
-            if let Some(span) = self.row.next() {
-                return Some(span);
-            }
-            if self.bottom <= self.next {
-                return None;
-            }
-            self.row = self.cut.row_spans(self.next, self.left, self.right);
-            self.next += 1;
-        }
+        self.descent.next_span()
     }
 }

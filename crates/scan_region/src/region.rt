@@ -1,27 +1,22 @@
 //! The public calls: each wraps a function of the rows.
-ghost use Rattle.std.specs.Prelude.{◌≡◌, true, false, ◌&&◌, ◌||◌, not, ◌↔◌, ℤ, IsTrue, IfOk, IfErr, OnOk, OnErr, MatchResult, reverse};
+ghost use Rattle.std.specs.Prelude.{◌≡◌, true, false, ◌&&◌, ◌||◌, not, ◌↔◌, ℕ, List, ℤ, IsTrue, IfOk, IfErr, OnOk, OnErr, MatchResult, reverse};
 ghost use Rattle.tb_geom.specs.declared.point.Point.{Point};
 ghost use Rattle.tb_geom.specs.Points.{minus};
 ghost use Rattle.tb_geom.specs.Rects.{rect_holds, is_in_range, IsBoxOf, empty_rect};
 ghost use Rattle.tb_geom.specs.Pixels.{has, holds};
-ghost use Rattle.scan_region.specs.Edges.{applied, differ, inside, IsRising};
+ghost use Rattle.region_bytes.specs.Points.{in_rows};
+ghost use Rattle.region_rows.specs.Edges.{applied, differ};
+ghost use Rattle.region_rows.specs.Rows.{AreRows};
 
-use crate::bounds::rows_bounds;
-use crate::contains::{edges_at, is_inside};
-use crate::copy::copy_rows;
-use crate::inversion::write_rows;
-use crate::kernel::Operator;
-use crate::meets::rows_meet;
-use crate::merge::merge_rows;
-use crate::offset::{move_rows, rows_stay};
-use crate::rect::rect_rows;
-use crate::remain::rows_remaining;
-use crate::restore::form_rows;
-use crate::row::Row;
-use crate::same::same_rows;
+use crate::boxed::{Boxed, is_rect, seen_rect};
+use crate::cut::Cut;
 use crate::spans::Spans;
 use crate::spans_up::SpansUp;
 use region_bytes::RegionBytes;
+use region_rows::{
+    Layer, Line, NOTHING, Operator, Row, combined_rows, copy_rows, form_rows, is_in_rows,
+    move_rows, rect_of, rect_rows, rows_hull, same_rows, write_rows,
+};
 use std::alloc::{AllocError, Global};
 use std::marker::Model;
 use tb_geom::{Point, Rect, Refusal};
@@ -29,6 +24,8 @@ use tb_geom::{Point, Rect, Refusal};
 /// A finite set of pixels, in the coordinate space of the call that uses it.
 #[derive(Drop)]
 pub struct Region {
+    /// The smallest rectangle around the pixels.
+    bounds: Rect,
     rows: Vec<Row>,
 }
 
@@ -39,16 +36,21 @@ impl Model for Region {
 
     ghost coded = { pixels_code };
 
-    ghost use Rattle.scan_region.specs.Rows.{has_in_rows, AreRows};
+    ghost use Rattle.region_bytes.specs.Points.{in_rows};
+    ghost use Rattle.scan_region.specs.Kept.{IsKept};
 
-    ghost view = { λ r. pixels_where (has_in_rows r.rows.items) };
+    ghost view = { λ r. pixels_where (in_rows r.rows.items) };
 
-    ghost invariant = { λ r. AreRows r.rows.items };
+    ghost invariant = { λ r. IsKept r.rows.items r.bounds };
 }
 
 impl Region {
-    ghost use Rattle.scan_region.specs.Moves.{StaysInRange, LeavesRange};
+    ghost use Rattle.scan_region.specs.Cuts.{cut_holds};
+    ghost use Rattle.region_rows.specs.Layers.{HasRows, IsLayer};
+    ghost use Rattle.region_rows.specs.Lines.{IsLine};
     ghost use Rattle.scan_region.specs.Scan.{IsScan};
+    ghost use Rattle.region_rows.specs.Seen.{seen_point};
+    ghost use Rattle.region_rows.specs.Moves.{StaysInRange, LeavesRange};
     ghost use Rattle.region_bytes.specs.Bytes.{IsRegionBytes, IsUnread, IsUnwritten};
 
     /// The region of no pixel (*Inside Macintosh* I, "QuickDraw": `NewRgn`), in any coordinate space.
@@ -57,6 +59,7 @@ impl Region {
         ensures { (p : Point) → holds result p ≡ false }
     {
         Region {
+            bounds: NOTHING,
             rows: Vec::new(alloc),
         }
     }
@@ -80,7 +83,7 @@ impl Region {
         ensures { IfOk result (λ region. (p : Point) → holds region p ≡ rect_holds rect p) }
     {
         let rows = rect_rows(alloc, rect)?;
-        Ok(Region { rows })
+        Ok(Region::of_rows(rows))
     }
 
     /// The region whose bytes these are, as `to_bytes` gives them. BadRegion where they have not the form
@@ -91,7 +94,7 @@ impl Region {
     {
         let read = RegionBytes::read(bytes)?;
         let rows = form_rows(alloc, read.form())?;
-        Ok(Region { rows })
+        Ok(Region::of_rows(rows))
     }
 
     /// A region of the same pixels (*Inside Macintosh* I, "QuickDraw": `CopyRgn`), in the same
@@ -99,8 +102,11 @@ impl Region {
     pub fn copy(&self, alloc: Global) -> Result<Region, AllocError>
         ensures { IfOk result (λ region. region ≡ self.now) }
     {
-        let rows = copy_rows(alloc, self.rows.as_slice())?;
-        Ok(Region { rows })
+        let rows = copy_rows(alloc, self.rows.as_slice(), &[])?;
+        Ok(Region {
+            bounds: self.bounds,
+            rows,
+        })
     }
 
     /// The pixels of both regions.
@@ -108,6 +114,12 @@ impl Region {
         ensures { IfOk result (λ region. (p : Point)
             → holds region p ≡ (holds self.now p && holds other.now p)) }
     {
+        if self.is_held_by(other) {
+            return self.copy(alloc);
+        }
+        if other.is_held_by(self) {
+            return other.copy(alloc);
+        }
         self.combined(alloc, other, Operator::Intersection)
     }
 
@@ -116,6 +128,12 @@ impl Region {
         ensures { IfOk result (λ region. (p : Point)
             → holds region p ≡ (holds self.now p || holds other.now p)) }
     {
+        if self.is_held_by(other) {
+            return other.copy(alloc);
+        }
+        if other.is_held_by(self) {
+            return self.copy(alloc);
+        }
         self.combined(alloc, other, Operator::Union)
     }
 
@@ -124,6 +142,9 @@ impl Region {
         ensures { IfOk result (λ region. (p : Point)
             → holds region p ≡ (holds self.now p && not (holds other.now p))) }
     {
+        if self.is_held_by(other) {
+            return Ok(Region::empty(alloc));
+        }
         self.combined(alloc, other, Operator::Difference)
     }
 
@@ -136,26 +157,28 @@ impl Region {
         self.combined(alloc, other, Operator::SymmetricDifference)
     }
 
-    /// The pixels of both regions, as `sect` answers them, where this one is not needed any more: a row
-    /// that stays as it is takes no memory.
+    /// The pixels of both regions, as `sect` answers them, where this one is not needed any more: within a
+    /// rectangle it stays as it is, and takes no memory.
     pub fn cut_to(self, alloc: Global, other: &Region) -> Result<Region, AllocError>
         ensures { IfOk result (λ region. (p : Point)
             → holds region p ≡ (holds self p && holds other.now p)) }
     {
-        let kept = Operator::Intersection;
-        let rows = rows_remaining(alloc, self.rows, other.rows.as_slice(), kept)?;
-        Ok(Region { rows })
+        if self.is_held_by(other) {
+            return Ok(self);
+        }
+        self.sect(alloc, other)
     }
 
     /// The pixels of this region that the other lacks, as `diff` answers them, where this one is not
-    /// needed any more: a row that stays as it is takes no memory.
+    /// needed any more: where their boxes are apart it stays as it is, and takes no memory.
     pub fn less(self, alloc: Global, other: &Region) -> Result<Region, AllocError>
         ensures { IfOk result (λ region. (p : Point)
             → holds region p ≡ (holds self p && not (holds other.now p))) }
     {
-        let kept = Operator::Difference;
-        let rows = rows_remaining(alloc, self.rows, other.rows.as_slice(), kept)?;
-        Ok(Region { rows })
+        if self.bounds.sect(other.bounds).is_empty() {
+            return Ok(self);
+        }
+        self.diff(alloc, other)
     }
 
     /// The pixels of either region, as `union` answers them, where neither is needed any more: beside
@@ -183,9 +206,10 @@ impl Region {
             (e ≡ Refusal.OutOfRange) × LeavesRange self.old (record { h = dh; v = dv })) }
         ensures kept { OnErr result (self.new ≡ self.old) }
     {
-        if !rows_stay(self.rows.as_slice(), dh, dv) {
-            return Err(Refusal::OutOfRange);
+        if self.rows.is_empty() {
+            return Ok(());
         }
+        self.bounds = self.bounds.offset(dh, dv)?;
         move_rows(self.rows.as_mut_slice(), dh, dv);
         Ok(())
     }
@@ -194,7 +218,10 @@ impl Region {
     pub fn contains(&self, point: Point) -> bool
         ensures { result ≡ holds self.now point }
     {
-        is_inside(self.row_edges(point.v), point.h)
+        if !self.bounds.contains(point) {
+            return false;
+        }
+        is_in_rows(self.rows.as_slice(), point.h, point.v)
     }
 
     /// Whether the region has no pixel (*Inside Macintosh* I, "QuickDraw": `EmptyRgn`).
@@ -219,7 +246,18 @@ impl Region {
         ensures { IsTrue result
             ↔ ((p : Point) × (holds self.now p ≡ true) × (rect_holds rect p ≡ true)) }
     {
-        rows_meet(self.rows.as_slice(), rect)
+        let area = self.bounds.sect(rect);
+        if area.is_empty() {
+            return false;
+        }
+        if is_rect(self.rows.as_slice(), self.bounds) {
+            return true;
+        }
+        let mut spans = self.alone().spans_within(area);
+        if let Some(_) = spans.next() {
+            return true;
+        }
+        false
     }
 
     /// The smallest rectangle around the pixels of the region, in its coordinate space, 0 0 0 0 where
@@ -228,29 +266,21 @@ impl Region {
         ensures exact { IsBoxOf result (holds self.now) }
         ensures none { ((p : Point) → holds self.now p ≡ false) → result ≡ empty_rect }
     {
-        rows_bounds(self.rows.as_slice())
-    }
-
-    /// The edges of the row `v`.
-    pub(crate) fn row_edges(&self, v: i32) -> &[i32]
-        ensures pixels { (h : ℤ) → inside result.now h ≡ has self.now h v }
-        ensures rising { IsRising result.now }
-    {
-        edges_at(self.rows.as_slice(), v)
+        self.bounds
     }
 
     /// The spans of the region, by rising rows and columns: its maximal runs of pixels in a row.
     pub fn spans(&self) -> Spans<'_>
         ensures { IsScan result self.now }
     {
-        Spans::new(self.rows.as_slice())
+        Spans::new(self.alone().spans_within(self.bounds))
     }
 
     /// The spans of the region the other way round: from the bottom up, and from right to left.
     pub fn spans_up(&self) -> SpansUp<'_>
         ensures { IsScan (reverse result) self.now }
     {
-        SpansUp::new(self.rows.as_slice())
+        SpansUp::new(self.alone().spans_seen(true, seen_rect(true, self.bounds)))
     }
 
     /// The bytes of the region (*Inside Macintosh* I, "QuickDraw": the type `Region`): big-endian words,
@@ -263,6 +293,55 @@ impl Region {
         write_rows(alloc, self.rows.as_slice()).finish(alloc)
     }
 
+    /// A layer that lets through what the line has, turned where the region, seen so, has its points.
+    pub(crate) fn layer(&self, up: bool, line: Line) -> Layer<'_>
+        ensures layer { (words : List ℕ) → IsLine words line (λ h. line.first) → (v : ℤ)
+            → IsLayer words result (λ p. differ line.first (holds self.now (seen_point up p))) v line.right }
+        ensures line { result.line ≡ line }
+        ensures rows { HasRows result }
+    {
+        Layer {
+            rows: self.rows.as_slice(),
+            up,
+            line,
+            counts: line.first,
+        }
+    }
+
+    /// The box of the region, as it is seen, and whether it is full.
+    pub(crate) fn boxed(&self, up: bool) -> Boxed
+        ensures within { (p : Point) → holds self.now (seen_point up p) ≡ true → rect_holds result.bounds p ≡ true }
+        ensures full { IsTrue result.is_full → (p : Point) → holds self.now (seen_point up p) ≡ rect_holds result.bounds p }
+    {
+        Boxed {
+            bounds: seen_rect(up, self.bounds),
+            is_full: is_rect(self.rows.as_slice(), self.bounds),
+        }
+    }
+
+    /// What leaves its pixels.
+    fn alone(&self) -> Cut<'_>
+        ensures { (p : Point) → cut_holds result p ≡ holds self.now p }
+    {
+        Cut {
+            inside: [Some(self), None, None],
+            outside: None,
+        }
+    }
+
+    /// Whether the other region is a rectangle that holds the box of this one.
+    fn is_held_by(&self, other: &Region) -> bool
+        ensures { IsTrue result → (p : Point) → (holds self.now p && not (holds other.now p)) ≡ false }
+    {
+        if self.bounds.left < other.bounds.left || other.bounds.right < self.bounds.right {
+            return false;
+        }
+        match rect_of(other.rows.as_slice()) {
+            Some(rect) => self.bounds.sect(rect) == self.bounds,
+            None => false,
+        }
+    }
+
     /// The pixels that the operator keeps of the two regions.
     fn combined(
         &self,
@@ -273,7 +352,16 @@ impl Region {
         ensures { IfOk result (λ region. (p : Point)
             → holds region p ≡ applied operator (holds self.now p) (holds other.now p)) }
     {
-        let rows = merge_rows(alloc, self.rows.as_slice(), other.rows.as_slice(), operator)?;
-        Ok(Region { rows })
+        let rows = combined_rows(alloc, self.rows.as_slice(), other.rows.as_slice(), operator)?;
+        Ok(Region::of_rows(rows))
+    }
+
+    /// The region of these rows.
+    fn of_rows(rows: Vec<Row>) -> Region
+        requires { AreRows rows.items }
+        ensures { (h v : ℤ) → has result h v ≡ in_rows rows.items h v }
+    {
+        let bounds = rows_hull(rows.as_slice());
+        Region { bounds, rows }
     }
 }

@@ -2,7 +2,7 @@
 ghost use Rattle.std.specs.Prelude.{◌≡◌};
 ghost use Rattle.std.specs.Iterator.{YieldsFirst, item_count};
 
-use crate::row::Row;
+use crate::cut_spans::CutSpans;
 use std::marker::Model;
 
 /// The pixels of the row `v` with `left <= h < right`.
@@ -17,34 +17,24 @@ pub struct Span {
 /// that are left. It takes no memory.
 #[derive(Drop)]
 pub struct Spans<'a> {
-    v: i32,
-    edges: &'a [i32],
-    rows: &'a [Row],
+    spans: CutSpans<'a>,
 }
 
 impl<'a> Model for Spans<'a> {
-    ghost use Rattle.std.specs.Prelude.{List, ◌++◌};
+    ghost use Rattle.std.specs.Prelude.{List};
     ghost use Rattle.scan_region.specs.declared.spans.Span.{Span};
 
     ghost Value = { List Span };
 
-    ghost use Rattle.scan_region.specs.Runs.{runs_of, all_runs};
-
-    ghost view = { λ s. runs_of s.v s.edges.now ++ all_runs s.rows.now };
+    ghost view = { λ s. s.spans };
 }
 
 impl<'a> Spans<'a> {
-    ghost use Rattle.scan_region.specs.Runs.{all_runs};
-
-    /// The spans of rows.
-    pub(crate) fn new(rows: &'a [Row]) -> Self
-        ensures { result ≡ all_runs rows.now }
+    /// The spans that a walk has left.
+    pub(crate) fn new(spans: CutSpans<'a>) -> Self
+        ensures { result ≡ spans.entry }
     {
-        Spans {
-            v: 0,
-            edges: &[],
-            rows,
-        }
+        Spans { spans }
     }
 }
 
@@ -56,20 +46,6 @@ impl<'a> Iterator for Spans<'a> {
     ghost remaining = { item_count (λ rest. rest) };
 
     fn next(&mut self) -> Option<Span> {
-        loop {
-            if let [left, right, edges @ ..] = self.edges {
-                let span = Span {
-                    v: self.v,
-                    left: *left,
-                    right: *right,
-                };
-                self.edges = edges;
-                return Some(span);
-            }
-            let (row, rows) = self.rows.split_first()?;
-            self.v = row.v();
-            self.edges = row.edges();
-            self.rows = rows;
-        }
+        self.spans.next()
     }
 }

@@ -1,7 +1,12 @@
-use Rattle.scan_region.proofs.Plane.{has_merged}
+use Rattle.std.proofs.Common.{◌∙◌, sym}
+use Rattle.region_rows.specs.Edges.{applied}
+use Rattle.region_rows.proofs.Plane.{has_viewed}
+use Rattle.scan_region.proofs.Opened.{opened}
 use Rattle.scan_region.proofs.region.Region.combined.Goals as goal
 
 pub returns : goal.returns
 returns c =
     let pixels = simp (c.as_slice.ensures.value, c.as_slice-2.ensures.value) at c.in_ok-rows.ensures.pixels in
-    λ p. has_merged c.self.inside.rows.items c.other.inside.rows.items _ c.args.operator _ _ c.self.view_is c.other.view_is c.self.invariant c.other.invariant c.in_ok-rows.ensures.rows pixels p.h p.v
+    let of_self = has_viewed c.self.inside.rows.items _ c.self.view_is (opened _ _ c.self.invariant).are_rows in
+    let of_other = has_viewed c.other.inside.rows.items _ c.other.view_is (opened _ _ c.other.invariant).are_rows in
+    λ p. c.of_rows.ensures p.h p.v ∙ pixels p.h p.v ∙ sym (λ i. applied c.args.operator (of_self p.h p.v i) (of_other p.h p.v i))

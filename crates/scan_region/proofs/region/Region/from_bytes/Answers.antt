@@ -1,10 +1,7 @@
 use Rattle.std.proofs.Common.{sym, ◌∙◌, subst, refl, inr}
 use Rattle.std.proofs.lemmas.Result.{err_from_is_err_and}
-use Rattle.tb_geom.specs.Pixels.{pixels_where}
 use Rattle.tb_geom.proofs.PixelsLemmas.{same_pixels}
 use Rattle.region_bytes.specs.Bytes.{IsRegionBytes}
-use Rattle.scan_region.specs.Rows.{has_in_rows}
-use Rattle.scan_region.proofs.Plane.{has_view}
 use Rattle.scan_region.proofs.region.Region.from_bytes.Goals as goal
 
 pub returns-in_err-rows : goal.returns-in_err-rows
@@ -15,7 +12,6 @@ returns-in_err-rows c =
 pub returns : goal.returns
 returns c =
     let s = c.in_ok-read.read in
-    let rows = c.in_ok-rows.rows.items in
     subst (IsRegionBytes c.args.bytes.now)
-    (sym (same_pixels (pixels_where (has_in_rows rows)) s (λ h v. has_view rows c.in_ok-rows.ensures.rows h v ∙ c.in_ok-rows.ensures.pixels s c.form.ensures h v)))
+    (sym (same_pixels c.of_rows.result s (λ h v. c.of_rows.ensures h v ∙ c.in_ok-rows.ensures.pixels s c.form.ensures h v)))
     c.in_ok-read.ensures

@@ -1,8 +1,10 @@
-use Rattle.scan_region.specs.declared.kernel.Operator.TheVariants.{Difference}
-use Rattle.scan_region.proofs.Plane.{has_merged}
+use Rattle.scan_region.proofs.Held.{in_box, not_both, in_both, alone_left}
+use Rattle.scan_region.proofs.Opened.{opened}
 use Rattle.scan_region.proofs.region.Region.less.Goals as goal
 
-pub returns : goal.returns
-returns c =
-    let pixels = simp c.as_slice.ensures.value at c.in_ok-rows.ensures.pixels in
-    λ p. has_merged c.self.inside.rows.items c.other.inside.rows.items _ Difference _ _ c.self.view_is c.other.view_is c.self.invariant c.other.invariant c.in_ok-rows.ensures.rows pixels p.h p.v
+pub returns-then-is_empty : goal.returns-then-is_empty
+returns-then-is_empty c = λ p.
+    let a = c.self.inside in
+    let b = c.other.inside in
+    alone_left _ _ (not_both _ _ (λ m n. in_both a.bounds b.bounds c.sect.result p (c.sect.ensures.pixels p) (c.is_empty.ensures.pixels.0 c.if-is_empty.true p)
+    (in_box a.rows.items a.bounds _ (opened _ _ c.self.invariant) c.self.view_is p m) (in_box b.rows.items b.bounds _ (opened _ _ c.other.invariant) c.other.view_is p n)))

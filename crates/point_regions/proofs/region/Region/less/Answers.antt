@@ -1,9 +1,0 @@
-use Rattle.point_regions.proofs.Held.{in_box, not_both, in_both, alone_left}
-use Rattle.point_regions.proofs.region.Region.less.Goals as goal
-
-pub returns-then-is_empty : goal.returns-then-is_empty
-returns-then-is_empty c = λ p.
-    let a = c.self.inside in
-    let b = c.other.inside in
-    alone_left _ _ (not_both _ _ (λ m n. in_both a.bounds b.bounds c.sect.result p (c.sect.ensures.pixels p) (c.is_empty.ensures.pixels.0 c.if-is_empty.true p)
-    (in_box a.rows.items a.bounds _ c.self.invariant c.self.view_is p m) (in_box b.rows.items b.bounds _ c.other.invariant c.other.view_is p n)))

@@ -1,8 +1,0 @@
-use Rattle.region_rows.proofs.Plane.{has_view}
-use Rattle.point_regions.proofs.region.Region.of_rows.Goals as goal
-
-pub invariant_of-result : goal.invariant_of-result
-invariant_of-result c = record { are_rows = c.requires; hull = rw c.as_slice.ensures.value at c.rows_hull-bounds.ensures }
-
-pub returns : goal.returns
-returns c = has_view _ c.requires

@@ -1,8 +1,0 @@
--- What the contracts speak of: runs and spans, the parts of a walk, cuts, and regions that are moved.
-pub mod Walks
-pub mod Parts
-pub mod Descents
-pub mod Scan
-pub mod Cuts
-pub mod Turned
-pub mod Moves

@@ -1,0 +1,24 @@
+use Rattle.std.proofs.Common.{sym, ap, ◌∙◌}
+use Rattle.tb_geom.specs.Rects.{rect_holds}
+use Rattle.region_bytes.specs.Points.{in_rows}
+use Rattle.region_rows.specs.Seen.{seen_point}
+use Rattle.scan_region.proofs.Boxes.{seen_box}
+use Rattle.region_rows.proofs.Hulls.{held}
+use Rattle.region_rows.proofs.Plane.{has_viewed}
+use Rattle.scan_region.proofs.Opened.{opened}
+use Rattle.scan_region.proofs.region.Region.boxed.Goals as goal
+
+pub returns-clause-within : goal.returns-clause-within
+returns-clause-within c = λ p h.
+    let s = c.self.inside in
+    let q = seen_point c.args.up p in
+    ap (λ r. rect_holds r p) c.seen_rect.ensures ∙ seen_box c.args.up s.bounds p ∙ held s.rows.items s.bounds (opened _ _ c.self.invariant) q (sym (has_viewed s.rows.items c.args.self.now c.self.view_is (opened _ _ c.self.invariant).are_rows q.h q.v) ∙ h)
+
+pub returns-clause-full : goal.returns-clause-full
+returns-clause-full c = λ t p.
+    let s = c.self.inside in
+    let q = seen_point c.args.up p in
+    let rows = c.as_slice.ensures.value in
+    has_viewed s.rows.items c.args.self.now c.self.view_is (opened _ _ c.self.invariant).are_rows q.h q.v ∙ ap (λ all. in_rows all q.h q.v) (sym rows)
+    ∙ c.is_rect.ensures t q.h q.v
+    ∙ sym (seen_box c.args.up s.bounds p) ∙ ap (λ r. rect_holds r p) (sym c.seen_rect.ensures)
