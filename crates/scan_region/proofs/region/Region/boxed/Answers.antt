@@ -2,7 +2,7 @@ use Rattle.std.proofs.Common.{sym, ap, ◌∙◌}
 use Rattle.tb_geom.specs.Rects.{rect_holds}
 use Rattle.region_bytes.specs.Points.{in_rows}
 use Rattle.region_rows.specs.Seen.{seen_point}
-use Rattle.scan_region.proofs.Boxes.{seen_box}
+use Rattle.scan_region.proofs.Boxes.{seen_box, box_in_range}
 use Rattle.region_rows.proofs.Hulls.{held}
 use Rattle.region_rows.proofs.Plane.{has_viewed}
 use Rattle.scan_region.proofs.Opened.{opened}
@@ -22,3 +22,9 @@ returns-clause-full c = λ t p.
     has_viewed s.rows.items c.args.self.now c.self.view_is (opened _ _ c.self.invariant).are_rows q.h q.v ∙ ap (λ all. in_rows all q.h q.v) (sym rows)
     ∙ c.is_rect.ensures t q.h q.v
     ∙ sym (seen_box c.args.up s.bounds p) ∙ ap (λ r. rect_holds r p) (sym c.seen_rect.ensures)
+
+pub seen_rect-requires : goal.seen_rect-requires
+seen_rect-requires c = box_in_range c.self.inside.rows.items c.self.inside.bounds (opened _ _ c.self.invariant)
+
+pub is_rect-requires : goal.is_rect-requires
+is_rect-requires c = rw c.as_slice.ensures.value (opened _ _ c.self.invariant).are_rows

@@ -12,3 +12,6 @@ returns-in-Some c = λ t p.
     let rect = rw c.as_slice.ensures.value at c.in-Some.ensures in
     none_left _ _ (λ m. has_viewed b.rows.items _ c.other.view_is (opened _ _ c.other.invariant).are_rows p.h p.v ∙ rect p.h p.v
     ∙ in_second a.bounds c.in-Some.rect c.sect.result p (c.sect.ensures.pixels p) same (in_box a.rows.items a.bounds _ (opened _ _ c.self.invariant) c.self.view_is p m))
+
+pub rect_of-requires : goal.rect_of-requires
+rect_of-requires c = rw c.as_slice.ensures.value (opened _ _ c.other.invariant).are_rows

@@ -48,3 +48,6 @@ returns-then-is_rect c =
       ),
       λ m. refl,
     )
+
+pub is_rect-requires : goal.is_rect-requires
+is_rect-requires c = rw c.as_slice.ensures.value (opened _ _ c.self.invariant).are_rows
