@@ -24,6 +24,7 @@
 //! (`laws::written_and_read`, `laws::read_and_written`).
 #![tactic(auto)]
 
+mod bounds;
 mod boxed;
 mod cut;
 mod cut_spans;

@@ -8,6 +8,7 @@ ghost use Rattle.region_bytes.specs.Points.{in_rows};
 ghost use Rattle.region_rows.specs.Edges.{applied, differ};
 ghost use Rattle.region_rows.specs.Rows.{AreRows};
 
+use crate::bounds::Bounds;
 use crate::boxed::{Boxed, is_rect, seen_rect};
 use crate::cut::Cut;
 use crate::spans::Spans;
@@ -25,7 +26,7 @@ use tb_geom::{Point, Rect, Refusal};
 #[derive(Drop)]
 pub struct Region {
     /// The smallest rectangle around the pixels.
-    bounds: Rect,
+    bounds: Bounds,
     rows: Vec<Row>,
 }
 
@@ -59,7 +60,7 @@ impl Region {
         ensures { (p : Point) → holds result p ≡ false }
     {
         Region {
-            bounds: NOTHING,
+            bounds: Bounds::of(NOTHING),
             rows: Vec::new(alloc),
         }
     }
@@ -104,7 +105,7 @@ impl Region {
     {
         let rows = copy_rows(alloc, self.rows.as_slice(), &[])?;
         Ok(Region {
-            bounds: self.bounds,
+            bounds: Bounds::of(self.bounds.rect()),
             rows,
         })
     }
@@ -175,7 +176,7 @@ impl Region {
         ensures { IfOk result (λ region. (p : Point)
             → holds region p ≡ (holds self p && not (holds other.now p))) }
     {
-        if self.bounds.sect(other.bounds).is_empty() {
+        if self.bounds.rect().sect(other.bounds.rect()).is_empty() {
             return Ok(self);
         }
         self.diff(alloc, other)
@@ -209,7 +210,7 @@ impl Region {
         if self.rows.is_empty() {
             return Ok(());
         }
-        self.bounds = self.bounds.offset(dh, dv)?;
+        self.bounds = Bounds::of(self.bounds.rect().offset(dh, dv)?);
         move_rows(self.rows.as_mut_slice(), dh, dv);
         Ok(())
     }
@@ -218,7 +219,7 @@ impl Region {
     pub fn contains(&self, point: Point) -> bool
         ensures { result ≡ holds self.now point }
     {
-        if !self.bounds.contains(point) {
+        if !self.bounds.rect().contains(point) {
             return false;
         }
         is_in_rows(self.rows.as_slice(), point.h, point.v)
@@ -246,11 +247,12 @@ impl Region {
         ensures { IsTrue result
             ↔ ((p : Point) × (holds self.now p ≡ true) × (rect_holds rect p ≡ true)) }
     {
-        let area = self.bounds.sect(rect);
+        let bounds = self.bounds.rect();
+        let area = bounds.sect(rect);
         if area.is_empty() {
             return false;
         }
-        if is_rect(self.rows.as_slice(), self.bounds) {
+        if is_rect(self.rows.as_slice(), bounds) {
             return true;
         }
         let mut spans = self.alone().spans_within(area);
@@ -266,21 +268,24 @@ impl Region {
         ensures exact { IsBoxOf result (holds self.now) }
         ensures none { ((p : Point) → holds self.now p ≡ false) → result ≡ empty_rect }
     {
-        self.bounds
+        self.bounds.rect()
     }
 
     /// The spans of the region, by rising rows and columns: its maximal runs of pixels in a row.
     pub fn spans(&self) -> Spans<'_>
         ensures { IsScan result self.now }
     {
-        Spans::new(self.alone().spans_within(self.bounds))
+        Spans::new(self.alone().spans_within(self.bounds.rect()))
     }
 
     /// The spans of the region the other way round: from the bottom up, and from right to left.
     pub fn spans_up(&self) -> SpansUp<'_>
         ensures { IsScan (reverse result) self.now }
     {
-        SpansUp::new(self.alone().spans_seen(true, seen_rect(true, self.bounds)))
+        SpansUp::new(
+            self.alone()
+                .spans_seen(true, seen_rect(true, self.bounds.rect())),
+        )
     }
 
     /// The bytes of the region (*Inside Macintosh* I, "QuickDraw": the type `Region`): big-endian words,
@@ -313,9 +318,10 @@ impl Region {
         ensures within { (p : Point) → holds self.now (seen_point up p) ≡ true → rect_holds result.bounds p ≡ true }
         ensures full { IsTrue result.is_full → (p : Point) → holds self.now (seen_point up p) ≡ rect_holds result.bounds p }
     {
+        let bounds = self.bounds.rect();
         Boxed {
-            bounds: seen_rect(up, self.bounds),
-            is_full: is_rect(self.rows.as_slice(), self.bounds),
+            bounds: seen_rect(up, bounds),
+            is_full: is_rect(self.rows.as_slice(), bounds),
         }
     }
 
@@ -333,11 +339,12 @@ impl Region {
     fn is_held_by(&self, other: &Region) -> bool
         ensures { IsTrue result → (p : Point) → (holds self.now p && not (holds other.now p)) ≡ false }
     {
-        if self.bounds.left < other.bounds.left || other.bounds.right < self.bounds.right {
+        let (own, others) = (self.bounds.rect(), other.bounds.rect());
+        if own.left < others.left || others.right < own.right {
             return false;
         }
         match rect_of(other.rows.as_slice()) {
-            Some(rect) => self.bounds.sect(rect) == self.bounds,
+            Some(rect) => own.sect(rect) == own,
             None => false,
         }
     }
@@ -361,7 +368,7 @@ impl Region {
         requires { AreRows rows.items }
         ensures { (h v : ℤ) → has result h v ≡ in_rows rows.items h v }
     {
-        let bounds = rows_hull(rows.as_slice());
+        let bounds = Bounds::of(rows_hull(rows.as_slice()));
         Region { bounds, rows }
     }
 }

@@ -1,5 +1,6 @@
-use Rattle.std.proofs.Common.{sym, ◌∙◌, rules, SFits, w32}
+use Rattle.std.proofs.Common.{sym, ap, ◌∙◌, rules, SFits, w32}
 use Rattle.std.proofs.lemmas.Int.{to_z-of_z}
+use Rattle.tb_geom.specs.Rects.{rect_holds}
 use Rattle.region_rows.proofs.Plane.{has_viewed}
 use Rattle.region_rows.proofs.Hulls.{none_outside}
 use Rattle.scan_region.proofs.Opened.{opened}
@@ -7,7 +8,7 @@ use Rattle.scan_region.proofs.region.Region.contains.Goals as goal
 
 pub returns-then-not-contains : goal.returns-then-not-contains
 returns-then-not-contains c =
-    sym (has_viewed c.self.inside.rows.items _ c.self.view_is (opened _ _ c.self.invariant).are_rows c.args.point.h c.args.point.v ∙ none_outside c.self.inside.rows.items _ (opened _ _ c.self.invariant) c.args.point (sym c.contains.ensures ∙ search rules))
+    sym (has_viewed c.self.inside.rows.items _ c.self.view_is (opened _ _ c.self.invariant).are_rows c.args.point.h c.args.point.v ∙ none_outside c.self.inside.rows.items _ (opened _ _ c.self.invariant) c.args.point (ap (λ r. rect_holds r c.args.point) (sym c.rect.ensures) ∙ sym c.contains.ensures ∙ search rules))
 
 pub returns : goal.returns
 returns c =

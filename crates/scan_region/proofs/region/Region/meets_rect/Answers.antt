@@ -15,13 +15,13 @@ pub returns-in-Some : goal.returns-in-Some
 returns-in-Some c =
     let s = c.self.inside in
     let scan = c.spans_within-spans.ensures in
-    (λ t. some_meets c.spans_within-spans.result c.next.new.self c.in-Some.field-0 c.args.self.now s.bounds c.args.rect c.sect-area.result (cut_holds c.alone.result) scan c.in-Some.ensures.steps c.alone.ensures c.sect-area.ensures.pixels, λ m. refl)
+    (λ t. some_meets c.spans_within-spans.result c.next.new.self c.in-Some.field-0 c.args.self.now s.bounds c.args.rect c.sect-area.result (cut_holds c.alone.result) scan c.in-Some.ensures.steps c.alone.ensures (rw c.rect-bounds.ensures at c.sect-area.ensures.pixels), λ m. refl)
 
 pub returns : goal.returns
 returns c =
     let s = c.self.inside in
     let scan = c.spans_within-spans.ensures in
-    (λ t. absurd (false≢true t), λ m. absurd (none_meet s.rows.items c.spans_within-spans.result c.args.self.now s.bounds c.args.rect c.sect-area.result (cut_holds c.alone.result) (opened _ _ c.self.invariant) c.self.view_is scan c.in_default.ensures.steps.0 c.alone.ensures c.sect-area.ensures.pixels m.0 m.1 m.2))
+    (λ t. absurd (false≢true t), λ m. absurd (none_meet s.rows.items c.spans_within-spans.result c.args.self.now s.bounds c.args.rect c.sect-area.result (cut_holds c.alone.result) (opened _ _ c.self.invariant) c.self.view_is scan c.in_default.ensures.steps.0 c.alone.ensures (rw c.rect-bounds.ensures at c.sect-area.ensures.pixels) m.0 m.1 m.2))
 
 pub returns-then-is_empty : goal.returns-then-is_empty
 returns-then-is_empty c =
@@ -30,7 +30,7 @@ returns-then-is_empty c =
       λ m.
           let p = m.0 in
           let within = held s.rows.items s.bounds (opened _ _ c.self.invariant) p (sym (has_viewed s.rows.items c.args.self.now c.self.view_is (opened _ _ c.self.invariant).are_rows p.h p.v) ∙ m.1) in
-          absurd (false≢true (sym (c.is_empty.ensures.pixels.0 c.if-is_empty.true p) ∙ c.sect-area.ensures.pixels p ∙ (λ i. within i && m.2 i))),
+          absurd (false≢true (sym (c.is_empty.ensures.pixels.0 c.if-is_empty.true p) ∙ (rw c.rect-bounds.ensures at c.sect-area.ensures.pixels) p ∙ (λ i. within i && m.2 i))),
     )
 
 pub returns-then-is_rect : goal.returns-then-is_rect
@@ -38,12 +38,12 @@ returns-then-is_rect c =
     let s = c.self.inside in
     let area = c.sect-area.result in
     let p : Point = record { h = area.left; v = area.top } in
-    let parts = and_parts (rect_holds s.bounds p) (rect_holds c.args.rect p) (sym (c.sect-area.ensures.pixels p) ∙ first_pixel area (sym c.is_empty.ensures.sides ∙ c.if-is_empty.false)) in
+    let parts = and_parts (rect_holds s.bounds p) (rect_holds c.args.rect p) (sym ((rw c.rect-bounds.ensures at c.sect-area.ensures.pixels) p) ∙ first_pixel area (sym c.is_empty.ensures.sides ∙ c.if-is_empty.false)) in
     let rows = c.as_slice.ensures.value in (
       λ t. (
         p,
         has_viewed s.rows.items c.args.self.now c.self.view_is (opened _ _ c.self.invariant).are_rows p.h p.v ∙ ap (λ all. in_rows all p.h p.v) (sym rows)
-            ∙ c.is_rect.ensures c.if-is_rect.true p.h p.v ∙ parts.0,
+            ∙ (rw c.rect-bounds.ensures at c.is_rect.ensures) c.if-is_rect.true p.h p.v ∙ parts.0,
         parts.1,
       ),
       λ m. refl,

@@ -26,18 +26,18 @@ move_rows-requires c =
     let fits_d = c.ranges.dv in
     let d : Point = record { h = c.args.dh; v = c.args.dv } in
     let some : 0 < length c.self.inside.rows.items = search rules in
-    let stays : is_in_range (moved_rect c.self.inside.bounds c.args.dh c.args.dv) ≡ true = sym (simp to_z-of_z at c.in_ok-self-inside.ensures.in_range) in
+    let stays : is_in_range (moved_rect c.self.inside.bounds c.args.dh c.args.dv) ≡ true = sym (simp (to_z-of_z, c.rect.ensures) at c.in_ok-offset.ensures.in_range) in
     simp (to_z-of_z, c.as_mut_slice.ensures.value) (region_moved c.self.inside.rows.items c.self.inside.bounds d (opened _ _ c.self.invariant) some stays).are_rows.in_range
 
-pub returns-in_err-self-inside-clause-refused : goal.returns-in_err-self-inside-clause-refused
-returns-in_err-self-inside-clause-refused c =
+pub returns-in_err-offset-clause-refused : goal.returns-in_err-offset-clause-refused
+returns-in_err-offset-clause-refused c =
     let fits_h = c.ranges.dh in
     let fits_d = c.ranges.dv in
     let d : Point = record { h = c.args.dh; v = c.args.dv } in
     let some : 0 < length c.self.inside.rows.items = search rules in
-    let leaves : is_in_range (moved_rect c.self.inside.bounds c.args.dh c.args.dv) ≡ false = sym (simp to_z-of_z at c.in_err-self-inside.ensures.in_range) in
+    let leaves : is_in_range (moved_rect c.self.inside.bounds c.args.dh c.args.dv) ≡ false = sym (simp (to_z-of_z, c.rect.ensures) at c.in_err-offset.ensures.in_range) in
     let p = err_from_is_err_and c.from_residual.result c.from_residual.ensures.1 in
-    rw (p.1, p.2) (c.in_err-self-inside.ensures.refused, leaves_range c.self.inside.rows.items c.self.inside.bounds d _ (opened _ _ c.self.invariant) c.self.view_is some leaves)
+    rw (p.1, p.2) (c.in_err-offset.ensures.refused, leaves_range c.self.inside.rows.items c.self.inside.bounds d _ (opened _ _ c.self.invariant) c.self.view_is some leaves)
 
 pub invariant_of-self : goal.invariant_of-self
 invariant_of-self c =
@@ -45,12 +45,12 @@ invariant_of-self c =
     let fits_d = c.ranges.dv in
     let d : Point = record { h = c.args.dh; v = c.args.dv } in
     let some : 0 < length c.self.inside.rows.items = search rules in
-    let stays : is_in_range (moved_rect c.self.inside.bounds c.args.dh c.args.dv) ≡ true = sym (simp to_z-of_z at c.in_ok-self-inside.ensures.in_range) in
-    let sides = simp to_z-of_z at c.in_ok-self-inside.ensures.sides in
+    let stays : is_in_range (moved_rect c.self.inside.bounds c.args.dh c.args.dv) ≡ true = sym (simp (to_z-of_z, c.rect.ensures) at c.in_ok-offset.ensures.in_range) in
+    let sides = simp (to_z-of_z, c.rect.ensures) at c.in_ok-offset.ensures.sides in
     let long : length c.move_rows.new.rows ≡ c.self.inside.rows.len = c.move_rows.auto.rows ∙ c.as_mut_slice.ensures.len in
     let moved = simp to_z-of_z at c.move_rows.ensures in
     let rows = with_items_is c.self.inside.rows c.move_rows.new.rows long ∙ moved ∙ ap (λ r. moved_rows r d) c.as_mut_slice.ensures.value in
-    kept _ _ (rw (sides, rows) (region_moved c.self.inside.rows.items c.self.inside.bounds d (opened _ _ c.self.invariant) some stays))
+    kept _ _ (rw (c.of-self-inside.ensures, sides, rows) (region_moved c.self.inside.rows.items c.self.inside.bounds d (opened _ _ c.self.invariant) some stays))
 
 pub returns-clause-moved : goal.returns-clause-moved
 returns-clause-moved c =
@@ -58,7 +58,7 @@ returns-clause-moved c =
     let fits_d = c.ranges.dv in
     let d : Point = record { h = c.args.dh; v = c.args.dv } in
     let some : 0 < length c.self.inside.rows.items = search rules in
-    let stays : is_in_range (moved_rect c.self.inside.bounds c.args.dh c.args.dv) ≡ true = sym (simp to_z-of_z at c.in_ok-self-inside.ensures.in_range) in
+    let stays : is_in_range (moved_rect c.self.inside.bounds c.args.dh c.args.dv) ≡ true = sym (simp (to_z-of_z, c.rect.ensures) at c.in_ok-offset.ensures.in_range) in
     let long : length c.move_rows.new.rows ≡ c.self.inside.rows.len = c.move_rows.auto.rows ∙ c.as_mut_slice.ensures.len in
     let moved = simp to_z-of_z at c.move_rows.ensures in
     let rows = with_items_is c.self.inside.rows c.move_rows.new.rows long ∙ moved ∙ ap (λ r. moved_rows r d) c.as_mut_slice.ensures.value in
@@ -68,5 +68,5 @@ pub returns-clause-fits : goal.returns-clause-fits
 returns-clause-fits c =
     let fits_h = c.ranges.dh in
     let fits_d = c.ranges.dv in
-    let stays : is_in_range (moved_rect c.self.inside.bounds c.args.dh c.args.dv) ≡ true = sym (simp to_z-of_z at c.in_ok-self-inside.ensures.in_range) in
+    let stays : is_in_range (moved_rect c.self.inside.bounds c.args.dh c.args.dv) ≡ true = sym (simp (to_z-of_z, c.rect.ensures) at c.in_ok-offset.ensures.in_range) in
     stays_in_range c.self.inside.rows.items c.self.inside.bounds (record { h = c.args.dh; v = c.args.dv }) _ (opened _ _ c.self.invariant) c.self.view_is stays
