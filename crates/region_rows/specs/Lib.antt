@@ -11,3 +11,4 @@ pub mod Lines
 pub mod Seen
 pub mod Layers
 pub mod Moves
+pub mod Merges

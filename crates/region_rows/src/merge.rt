@@ -1,5 +1,5 @@
 //! The merge of the rows of two regions.
-ghost use Rattle.std.specs.Prelude.{◌≡◌, false, ◌⊎◌, ℕ, ◌+◌, ◌<◌, ◌≤◌, ◌&&◌, int_le, length, map, take, ℤ, pos, ◌<ℤ◌, ◌≤ℤ◌, slice_index_or, IfSome, IfNone, IfOk, OnOk};
+ghost use Rattle.std.specs.Prelude.{◌≡◌, [], false, ◌⊎◌, ℕ, ◌+◌, ◌<◌, ◌≤◌, ◌&&◌, int_le, length, map, take, ℤ, pos, ◌<ℤ◌, ◌≤ℤ◌, slice_index_or, IfSome, IfNone, IfOk, OnOk};
 ghost use Rattle.region_bytes.specs.Points.{top_of, in_rows};
 ghost use Rattle.region_rows.specs.Edges.{applied, by_first, by_second, differ, inside, kept, IsCoordinate, IsEdges, IsRow};
 ghost use Rattle.region_rows.specs.Rows.{with_row, AreRows, IsPushed};
@@ -99,92 +99,104 @@ fn push_part(
     Ok(())
 }
 
-/// Turns both sides at their points `p` and `q` of a row, and adds the row of the points at which the
-/// combination turns: what turns of the first side, seen beside the second one as it was, and what turns
-/// of the second one, seen beside the first one as it is then.
-fn turn_both(
-    alloc: Global,
-    rows: &mut Vec<Row>,
-    v: i32,
-    p: &[i32],
-    of_a: &mut Turning,
-    q: &[i32],
-    of_b: &mut Turning,
-    operator: Operator,
-    points: &mut Turning,
-    second: &mut Vec<i32>,
-) -> Result<(), AllocError>
-    requires p_row { IsRow p.now }
-    requires q_row { IsRow q.now }
-    requires a_edges { IsEdges of_a.old.edges.items }
-    requires b_edges { IsEdges of_b.old.edges.items }
-    ensures a_left { OnOk result ((h : ℤ) → inside of_a.new.edges.items h
-        ≡ differ (inside of_a.old.edges.items h) (inside p.now h)) }
-    ensures b_left { OnOk result ((h : ℤ) → inside of_b.new.edges.items h
-        ≡ differ (inside of_b.old.edges.items h) (inside q.now h)) }
-    ensures a_edges { OnOk result (IsEdges of_a.new.edges.items) }
-    ensures b_edges { OnOk result (IsEdges of_b.new.edges.items) }
-    ensures pushed { OnOk result (IsPushed rows.old.items rows.new.items v (λ h.
-        differ (kept (by_first operator) (inside p.now h) (inside of_b.old.edges.items h))
-        (kept (by_second operator) (inside q.now h)
-        (differ (inside of_a.old.edges.items h) (inside p.now h))))) }
-{
-    let what = operator.by_first();
-    keep_part(&mut points.edges, p, of_b.edges.as_slice(), what)?;
-    of_a.turn(p)?;
-    keep_part(second, q, of_a.edges.as_slice(), operator.by_second())?;
-    of_b.turn(q)?;
-    points.turn(second.as_slice())?;
-    push_row(alloc, rows, v, points.edges.as_slice())?;
-    Ok(())
+/// The row of pixels at hand of either side, and room for what is kept of a turn.
+#[derive(Drop)]
+pub struct Sides {
+    pub of_a: Turning,
+    pub of_b: Turning,
+    points: Turning,
+    second: Vec<i32>,
 }
 
-/// Turns the sides at their points `p` and `q` of a row, where either may have none, and adds the row of
-/// the points at which the combination turns.
-fn turn_row(
-    alloc: Global,
-    rows: &mut Vec<Row>,
-    v: i32,
-    p: &[i32],
-    of_a: &mut Turning,
-    q: &[i32],
-    of_b: &mut Turning,
-    operator: Operator,
-    points: &mut Turning,
-    second: &mut Vec<i32>,
-) -> Result<(), AllocError>
-    requires p_row { IsRow p.now }
-    requires q_row { IsRow q.now }
-    requires a_edges { IsEdges of_a.old.edges.items }
-    requires b_edges { IsEdges of_b.old.edges.items }
-    ensures a_left { OnOk result ((h : ℤ) → inside of_a.new.edges.items h
-        ≡ differ (inside of_a.old.edges.items h) (inside p.now h)) }
-    ensures b_left { OnOk result ((h : ℤ) → inside of_b.new.edges.items h
-        ≡ differ (inside of_b.old.edges.items h) (inside q.now h)) }
-    ensures a_edges { OnOk result (IsEdges of_a.new.edges.items) }
-    ensures b_edges { OnOk result (IsEdges of_b.new.edges.items) }
-    ensures pushed { OnOk result (IsPushed rows.old.items rows.new.items v (λ h.
-        differ (kept (by_first operator) (inside p.now h) (inside of_b.old.edges.items h))
-        (kept (by_second operator) (inside q.now h)
-        (differ (inside of_a.old.edges.items h) (inside p.now h))))) }
-{
-    if q.is_empty() {
-        let (edges, what) = (of_b.edges.as_slice(), operator.by_first());
-        push_part(alloc, rows, v, p, edges, what, &mut points.edges)?;
-        of_a.turn(p)?;
-        return Ok(());
+impl Sides {
+    ghost use Rattle.region_rows.specs.Merges.{AreTurned, turns_of};
+
+    /// Rows without pixels.
+    fn new(alloc: Global) -> Sides
+        ensures a { result.of_a.edges.items ≡ [] }
+        ensures b { result.of_b.edges.items ≡ [] }
+    {
+        Sides {
+            of_a: Turning::new(alloc),
+            of_b: Turning::new(alloc),
+            points: Turning::new(alloc),
+            second: Vec::new(alloc),
+        }
     }
-    if p.is_empty() {
-        let (edges, what) = (of_a.edges.as_slice(), operator.by_second());
-        push_part(alloc, rows, v, q, edges, what, &mut points.edges)?;
-        of_b.turn(q)?;
-        return Ok(());
+
+    /// Turns both sides at their points `p` and `q` of a row, and adds the row of the points at which the
+    /// combination turns: what turns of the first side, seen beside the second one as it was, and what
+    /// turns of the second one, seen beside the first one as it is then.
+    fn turn_both(
+        &mut self,
+        alloc: Global,
+        rows: &mut Vec<Row>,
+        v: i32,
+        p: &[i32],
+        q: &[i32],
+        operator: Operator,
+    ) -> Result<(), AllocError>
+        requires p_row { IsRow p.now }
+        requires q_row { IsRow q.now }
+        requires a_edges { IsEdges self.old.of_a.edges.items }
+        requires b_edges { IsEdges self.old.of_b.edges.items }
+        ensures turned { OnOk result (AreTurned self.old self.new p.now q.now) }
+        ensures pushed { OnOk result (IsPushed rows.old.items rows.new.items v
+            (turns_of operator self.old p.now q.now)) }
+    {
+        let what = operator.by_first();
+        keep_part(&mut self.points.edges, p, self.of_b.edges.as_slice(), what)?;
+        self.of_a.turn(p)?;
+        keep_part(
+            &mut self.second,
+            q,
+            self.of_a.edges.as_slice(),
+            operator.by_second(),
+        )?;
+        self.of_b.turn(q)?;
+        self.points.turn(self.second.as_slice())?;
+        push_row(alloc, rows, v, self.points.edges.as_slice())?;
+        Ok(())
     }
-    turn_both(alloc, rows, v, p, of_a, q, of_b, operator, points, second)
+
+    /// Turns the sides at their points `p` and `q` of a row, where either may have none, and adds the row
+    /// of the points at which the combination turns.
+    fn turn(
+        &mut self,
+        alloc: Global,
+        rows: &mut Vec<Row>,
+        v: i32,
+        p: &[i32],
+        q: &[i32],
+        operator: Operator,
+    ) -> Result<(), AllocError>
+        requires p_row { IsRow p.now }
+        requires q_row { IsRow q.now }
+        requires a_edges { IsEdges self.old.of_a.edges.items }
+        requires b_edges { IsEdges self.old.of_b.edges.items }
+        ensures turned { OnOk result (AreTurned self.old self.new p.now q.now) }
+        ensures pushed { OnOk result (IsPushed rows.old.items rows.new.items v
+            (turns_of operator self.old p.now q.now)) }
+    {
+        if q.is_empty() {
+            let (edges, what) = (self.of_b.edges.as_slice(), operator.by_first());
+            push_part(alloc, rows, v, p, edges, what, &mut self.points.edges)?;
+            self.of_a.turn(p)?;
+            return Ok(());
+        }
+        if p.is_empty() {
+            let (edges, what) = (self.of_a.edges.as_slice(), operator.by_second());
+            push_part(alloc, rows, v, q, edges, what, &mut self.points.edges)?;
+            self.of_b.turn(q)?;
+            return Ok(());
+        }
+        self.turn_both(alloc, rows, v, p, q, operator)
+    }
 }
 
 /// The rows of the pixels that the operator keeps of two regions. The rows of both are gone through from
 /// the top down, with the edges that those up to there leave.
+#[inline(never)]
 pub fn merge_rows(
     alloc: Global,
     a: &[Row],
@@ -199,25 +211,11 @@ pub fn merge_rows(
 {
     let mut rows = Vec::with_capacity(alloc, a.len().saturating_add(b.len()))?;
     let (mut i, mut j) = (0, 0);
-    let mut of_a = Turning::new(alloc);
-    let mut of_b = Turning::new(alloc);
-    let mut points = Turning::new(alloc);
-    let mut second = Vec::new(alloc);
+    let mut sides = Sides::new(alloc);
     while let Some(v) = next_row(a, i, b, j) {
         let in_a = read_row(a, i, v);
         let in_b = read_row(b, j, v);
-        turn_row(
-            alloc,
-            &mut rows,
-            v,
-            in_a.points,
-            &mut of_a,
-            in_b.points,
-            &mut of_b,
-            operator,
-            &mut points,
-            &mut second,
-        )?;
+        sides.turn(alloc, &mut rows, v, in_a.points, in_b.points, operator)?;
         i = in_a.next;
         j = in_b.next;
     }

@@ -4,7 +4,7 @@ use Rattle.region_rows.proofs.Merged.{Reads, Merged-none, Merged-with_row, merge
 use Rattle.region_rows.proofs.merge.merge_rows.Goals as goal
 
 pub loop-v-init : goal.loop-v-init
-loop-v-init c = rw (c.in_ok-rows.ensures.items, c.new-of_a.ensures, c.new-of_b.ensures) (Merged-none _ _ _)
+loop-v-init c = rw (c.in_ok-rows.ensures.items, c.new-sides.ensures.a, c.new-sides.ensures.b) (Merged-none _ _ _)
 
 pub loop-v-preserved : goal.loop-v-preserved
 loop-v-preserved c =
@@ -13,18 +13,18 @@ loop-v-preserved c =
     let ra = simp to_z-of_z at c.read_row-in_a.ensures in
     let rb = simp to_z-of_z at c.read_row-in_b.ensures in
     let next : s.upto <ℤ c.in-Some.v = elim c.in-Some.ensures.here [ inl w ↦ omega (arith, ints, s.a_at.ahead w.0) | inr w ↦ omega (arith, ints, s.b_at.ahead w.0) ] in
-    let made = simp to_z-of_z at c.in_ok-turn_row.ensures in
+    let made = simp to_z-of_z at c.in_ok-turn.ensures in
     let pushed = made.pushed in
-    let reads : Reads c.args.a.now c.args.b.now c.args.operator c.loop-v.i c.loop-v.j c.read_row-in_a.result.next c.read_row-in_b.result.next c.in-Some.v c.read_row-in_a.result.points.now c.read_row-in_b.result.points.now c.loop-v.of_a.edges.items c.loop-v.of_b.edges.items c.turn_row.new.of_a.edges.items c.turn_row.new.of_b.edges.items pushed.points =
+    let reads : Reads c.args.a.now c.args.b.now c.args.operator c.loop-v.i c.loop-v.j c.read_row-in_a.result.next c.read_row-in_b.result.next c.in-Some.v c.read_row-in_a.result.points.now c.read_row-in_b.result.points.now c.loop-v.sides.of_a.edges.items c.loop-v.sides.of_b.edges.items c.turn.new.self.of_a.edges.items c.turn.new.self.of_b.edges.items pushed.points =
     record {
       a_at = ra.at s.upto s.a_at next;
       b_at = rb.at s.upto s.b_at next;
       a_pixels = ra.pixels;
       b_pixels = rb.pixels;
-      a_left = made.a_left;
-      b_left = made.b_left;
-      a_row = made.a_edges;
-      b_row = made.b_edges;
+      a_left = made.turned.a_left;
+      b_left = made.turned.b_left;
+      a_row = made.turned.a_edges;
+      b_row = made.turned.b_edges;
       points = pushed.pixels;
       row = pushed.row;
     } in

@@ -3,7 +3,7 @@ use Rattle.region_rows.proofs.Merged.{Merged}
 use Rattle.region_rows.proofs.merge.merge_rows.Given as goal
 
 abbrev pub invariant-loop-v : goal.invariant-loop-v
-invariant-loop-v l = Merged l.a l.b l.rows.items l.operator l.i l.j l.of_a.edges.items l.of_b.edges.items
+invariant-loop-v l = Merged l.a l.b l.rows.items l.operator l.i l.j l.sides.of_a.edges.items l.sides.of_b.edges.items
 
 abbrev pub decreases-loop-v : goal.decreases-loop-v
 decreases-loop-v l = (length l.a - l.i) + (length l.b - l.j)

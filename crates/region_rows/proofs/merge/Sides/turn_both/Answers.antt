@@ -3,26 +3,20 @@ use Rattle.std.proofs.lemmas.Int.{to_z-of_z}
 use Rattle.region_rows.specs.Edges.{differ, inside, kept, by_second}
 use Rattle.region_rows.proofs.Climbs.{edges_of}
 use Rattle.region_rows.proofs.Merged.{row_turned}
-use Rattle.region_rows.proofs.merge.turn_both.Goals as goal
+use Rattle.region_rows.proofs.merge.Sides.turn_both.Goals as goal
 
-pub returns : goal.returns
-returns c =
+pub returns-clause-pushed : goal.returns-clause-pushed
+returns-clause-pushed c =
     let fits_v = c.ranges.v in
     let first = rw (c.by_first-what.ensures, c.as_slice.ensures.value) at c.in_ok-keep_part.ensures.pixels in
     let second = rw (c.by_second.ensures, c.as_slice-2.ensures.value) at c.in_ok-keep_part-2.ensures.pixels in
     let both = rw c.as_slice-3.ensures.value at c.in_ok-turn-3.ensures.pixels in
     let pushed = simp (to_z-of_z, c.as_slice-4.ensures.value) at c.in_ok-push_row.ensures in
     record {
-      a_left = c.in_ok-turn.ensures.pixels;
-      b_left = c.in_ok-turn-2.ensures.pixels;
-      a_edges = c.in_ok-turn.ensures.edges;
-      b_edges = c.in_ok-turn-2.ensures.edges;
-      pushed = record {
-        points = c.turn-3.new.self.edges.items;
-        pixels = λ h. both h ∙ (λ i. differ (first h i) ((second h ∙ ap (kept (by_second c.args.operator) (inside c.args.q.now h)) (c.in_ok-turn.ensures.pixels h)) i));
-        row = row_turned _ _ c.turn-3.new.self.edges.items c.in_ok-keep_part.ensures.row c.in_ok-keep_part-2.ensures.row c.in_ok-turn-3.ensures.edges both;
-        pushed = pushed;
-      };
+      points = c.turn-3.new.self.edges.items;
+      pixels = λ h. both h ∙ (λ i. differ (first h i) ((second h ∙ ap (kept (by_second c.args.operator) (inside c.args.q.now h)) (c.in_ok-turn.ensures.pixels h)) i));
+      row = row_turned _ _ c.turn-3.new.self.edges.items c.in_ok-keep_part.ensures.row c.in_ok-keep_part-2.ensures.row c.in_ok-turn-3.ensures.edges both;
+      pushed = pushed;
     }
 
 pub turn-requires-clause-columns : goal.turn-requires-clause-columns
