@@ -17,7 +17,7 @@ use Rattle.bit_map.specs.Modes.{mode_bit}
 use Rattle.bit_map.specs.Patterns.{pattern_bit, bit_of, eighth_of}
 use Rattle.bit_blit.specs.Draws.{Draws}
 use Rattle.bit_blit.proofs.DrawsLemmas.{Draws-on_map}
-use Rattle.desk_ground.specs.Screens.{gray}
+use Rattle.desk_ground.specs.Screens.{gray, is_bar, is_screen}
 use Rattle.desk_ground.specs.Grounds.{last_row, below, IsEmptyPainted, IsGround}
 
 abbrev pub black : Pattern
@@ -111,3 +111,7 @@ is_ground width height bar old new region desktop same sides white painted under
       painted.pixels p (sym (same_sides old new painted.width painted.height p) ∙ on)
       ∙ ap (λ b. if int_eq p.v (bar -ℤ pos 1) then true else (if holds region p then pattern_bit gray p else b)) (white p);
 }
+
+-- a screen has a menu bar of its size
+pub has_bar : (width height bar : ℤ) → is_screen width height bar ≡ true → is_bar bar ≡ true
+has_bar width height bar e = (and_parts _ _ (and_parts _ _ (and_parts _ _ e).1).1).0
