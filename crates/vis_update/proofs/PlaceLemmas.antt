@@ -76,3 +76,14 @@ none_arrive within region copy empty d nw nr same leaves none p = none p ∙ by_
 -- what is left of a region near is near
 pub left_near : (rest left : Pixels) (taken : Point → Bool) → IsNear rest → ((p : Point) → holds left p ≡ (holds rest p && taken p)) → IsNear left
 left_near rest left taken near left_is p e = near p (and_parts (holds rest p) (taken p) (sym (left_is p) ∙ e)).0
+
+-- what of a moved copy lies in a region is what the region has of what was moved
+pub carried : (within region copy moved cut : Pixels) (by p : Point) → copy ≡ region → holds moved p ≡ holds copy (minus p by) → holds cut p ≡ (holds moved p && holds within p) → holds cut p ≡ (holds within p && holds region (minus p by))
+carried within region copy moved cut by p same arrived kept =
+    kept ∙ turned_round (holds moved p) (holds within p) ∙ ap (λ b. holds within p && b) (arrived ∙ ap (λ r. holds r (minus p by)) same)
+  where
+    turned_round : (a b : Bool) → (a && b) ≡ (b && a)
+    turned_round true true = refl
+    turned_round true false = refl
+    turned_round false true = refl
+    turned_round false false = refl
