@@ -16,16 +16,6 @@ macro_rules! axis {
     };
 }
 
-/// A cell, by its column and its row.
-macro_rules! cell {
-    ($column:expr, $row:expr) => {
-        Cell {
-            column: $column,
-            row: $row,
-        }
-    };
-}
-
 /// A rectangle, by its left, top, right and bottom side.
 macro_rules! rect {
     ($left:expr, $top:expr, $right:expr, $bottom:expr) => {

@@ -1,6 +1,6 @@
 //! The lists of a desk: whose they are, their order, and what changes one.
 
-use list_cells::{Cell, ListCells, SelectionFlags};
+use list_cells::{ListCells, SelectionFlags};
 use list_records::{ListRecord, ListRecords};
 use list_view::{Axis, ListView};
 use std::alloc::Global;
@@ -111,7 +111,7 @@ fn one_list_changes(rt: HostRuntime) -> Result<(), Fail> {
     let at = list.find(9, 2).expect(&rt, "it is one of them");
     list.set_view(at, view_of(40)?);
     list.set_drawing(at, false);
-    let cell = Cell { column: 1, row: 2 };
+    let cell = cell!(1, 2);
     list.lists[at].cells.set_cell(cell, b"Pear")?;
     let changed = list.remove(at);
     let at = list.find(7, 1).expect(&rt, "it is one of them");

@@ -4,16 +4,6 @@ use list_cells::{Cell, Click, ClickKeys, ListCells, Selecting, SelectionFlags};
 use std::test::Fail;
 use tb_geom::Refusal;
 
-/// A cell, by its column and its row.
-macro_rules! cell {
-    ($column:expr, $row:expr) => {
-        Cell {
-            column: $column,
-            row: $row,
-        }
-    };
-}
-
 #[test]
 fn cells_move_with_their_rows_and_columns(rt: HostRuntime) -> Result<(), Fail> {
     let mut list = ListCells::new(rt.alloc(), 2, 2)?;
