@@ -20,3 +20,10 @@ returns-in-Ok-clause-begun g c slots full =
       active = c.requires.active;
       next = c.requires.first;
     }) slots full)
+
+pub returns-in-Ok-clause-in_range : goal.returns-in-Ok-clause-in_range
+returns-in-Ok-clause-in_range g c =
+    let fits_w : SFits w32 c.args.width = search rules in
+    let fits_h : SFits w32 c.args.height = search rules in
+    let fits_b : SFits w32 c.args.bar = search rules in
+    simp to_z-of_z at c.in-Ok.ensures.in_range
