@@ -22,3 +22,10 @@ returns-in-Ok-clause-just_begun g c =
     let menus = simp to_z-of_z at c.in-Ok.ensures.menus in
     begins _ (taken_menu.menu_loan-value g.dyn-3).it (taken_control.control_loan-value g.dyn-2).it (taken_list.list_loan-value g.dyn-4).it c.args.width c.args.height c.args.bar _ _ _ c.with_parts.result begun c.with_parts.ensures.idle c.with_parts.ensures.events c.with_parts.ensures.menus
     c.with_parts.ensures.controls c.with_parts.ensures.lists c.in-Ok.ensures.events menus
+
+pub returns-in-Ok-clause-in_range : goal.returns-in-Ok-clause-in_range
+returns-in-Ok-clause-in_range g c =
+    let fits_w : SFits w32 c.args.width = search rules in
+    let fits_h : SFits w32 c.args.height = search rules in
+    let fits_b : SFits w32 c.args.bar = search rules in
+    simp to_z-of_z at c.with_parts.ensures.in_range

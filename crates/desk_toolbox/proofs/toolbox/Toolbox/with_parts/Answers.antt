@@ -33,3 +33,10 @@ returns-in-Ok-clause-whole g c stocks full =
       lists = no_lists_whole _ _ (ap (λ (d : FullDesk). d.windows) empty.desk) (ap (lists.all_seen _) c.new-in-Ok-2.ensures.lists) c.new-in-Ok-2.ensures.next full.lists;
       menus = menus_begin _ _ c.args.width c.args.height c.args.bar _ _ _ stocks.windows stocks.menus c.requires.menus empty (stocked_by_full stocks.menus full.menus);
     }
+
+pub returns-in-Ok-clause-in_range : goal.returns-in-Ok-clause-in_range
+returns-in-Ok-clause-in_range g c =
+    let fits_w : SFits w32 c.args.width = search rules in
+    let fits_h : SFits w32 c.args.height = search rules in
+    let fits_b : SFits w32 c.args.bar = search rules in
+    simp to_z-of_z at c.in-Ok.ensures.in_range
