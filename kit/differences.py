@@ -79,8 +79,14 @@ def differing(found, due):
     """Where two images differ, as an image that has both: 1 in each pixel that they have otherwise, or just one of them
     has."""
     width = max(len(found[0]), len(due[0]))
-    pairs = zip_longest(found, due, fillvalue="")
-    return ["".join("01"[a != b] for a, b in zip_longest(*rows)).ljust(width, "0") for rows in pairs]
+    return [differing_row(*rows, width) for rows in zip_longest(found, due, fillvalue="")]
+
+
+def differing_row(found, due, width):
+    """The same of two rows, in a row of so many columns."""
+    if len(found) == len(due) == width:
+        return f"{int(found, 2) ^ int(due, 2):0{width}b}"
+    return "".join("01"[a != b] for a, b in zip_longest(found, due)).ljust(width, "0")
 
 
 def pixel(rows, h, v):

@@ -6,6 +6,8 @@ import zlib
 from kit.answers import PIXELS_OF_A_LINE, Fault, is_image, lines_of_a_row, split
 
 SIGNATURE = b"\x89PNG\r\n\x1a\n"
+# Each byte with the other color in each of its bits.
+INVERTED = bytes(range(255, -1, -1))
 
 
 def images(text):
@@ -46,11 +48,9 @@ def part(kind, data):
 
 def png_of(rows, scale):
     """The PNG of an image. Each pixel becomes a square of scale by scale pixels."""
-    data = b""
-    for row in rows:
-        # A PNG has 1 for white.
-        wide = bytes(255 - byte for byte in packed("".join(bit * scale for bit in row)))
-        data += (b"\0" + wide) * scale
+    wide = (row.replace("0", "0" * scale).replace("1", "1" * scale) for row in rows)
+    # A PNG has 1 for white.
+    data = b"".join((b"\0" + packed(row).translate(INVERTED)) * scale for row in wide)
     head = struct.pack(">IIBBBBB", len(rows[0]) * scale, len(rows) * scale, 1, 0, 0, 0, 0)
     chunks = [part(b"IHDR", head), part(b"IDAT", zlib.compress(data, 9)), part(b"IEND", b"")]
     return SIGNATURE + b"".join(chunks)
