@@ -6,6 +6,9 @@ To run scripts and compare their answers:
   pictures        images, as rows and as files
   rows            scripts with what has to come of them, in files beside them
   differences     where a script is answered otherwise than is due
+  screen_tests    what is wrong with a run of a row, and pictures of it
+  side_by_side    calls in several processes at a time, and a line on a terminal about them
+  reports         JUnit's XML and a page of HTML on what came of rows
   which           which program ./desk runs
 
 To drive a desk over two pipes and use it with a mouse and keys, for desk-view:
