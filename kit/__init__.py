@@ -9,6 +9,8 @@ To run scripts and compare their answers:
   screen_tests    what is wrong with a run of a row, and pictures of it
   side_by_side    calls in several processes at a time, and a line on a terminal about them
   reports         JUnit's XML and a page of HTML on what came of rows
+  manual          the forms of commands, as docs/SCRIPT.md has them
+  lint            lines that are refused, and the forms that they ought to have
   which           which program ./desk runs
 
 To drive a desk over two pipes and use it with a mouse and keys, for desk-view:

@@ -255,6 +255,8 @@ REFUSED = [
     (["--report", "screens/square.out"], "argument --report: 'screens/square.out' has the name of a part of a test"),
     (["--report", ""], "argument --report: '' cannot be written"),
     (["--junit", "it", "--report", "./it"], "--junit and --report name one file"),
+    (["--lint", "--accept"], "argument --accept/--update: not allowed with argument --lint"),
+    (["--update", "--lint"], "argument --lint: not allowed with argument --accept/--update"),
 ]
 
 

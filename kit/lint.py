@@ -1,0 +1,62 @@
+"""The lines of a script that are refused for what they are, whatever is on the desk, and what they ought to be."""
+
+import re
+from typing import NamedTuple
+
+from kit.answers import LONGEST_LINE, answers_to, commands_of, shown
+from kit.manual import Manual, words_of
+from kit.rows import said_of_status
+from kit.screen_tests import Found, empty_folder
+
+REFUSED = re.compile(rb"refused [0-9]+ (BadSyntax|NoSuchName|TooLong)\n")
+# A byte that stands in no line but a comment.
+STRANGE = re.compile(rb"[^\x20-\x7e]")
+
+
+class Lint(NamedTuple):
+    """Runs a script, and tells the lines that are refused so."""
+
+    program: str
+    manual: Manual
+
+    def find(self, row, room):
+        ran = row.run(self.program, (), empty_folder(room))
+        if ran.status:
+            return Found((f"{said_of_status(ran.status)} in place of 0",))
+        commands = commands_of(row.script())
+        answers = zip(commands, answers_to(commands, ran.out))
+        refused = [(command, answer) for command, answer in answers if REFUSED.fullmatch(answer)]
+        return Found(tuple(f"line {it.line}, {shown(it.text)}: {self.said(it.text, answer)}" for it, answer in refused))
+
+    def said(self, line, answer):
+        """What is said of a line that is answered so."""
+        answer = answer.decode("ascii").rstrip("\n")
+        if len(line) > LONGEST_LINE:
+            return f"{answer}: the line has {len(line)} bytes, and {LONGEST_LINE} is the most"
+        text = line.decode("latin-1")
+        reading = self.manual.reading(text)
+        reason = strange(line) or reading.unknown or misformed(text, reading.form)
+        form = f". The form is: {reading.form}" if reading.form else ""
+        return f"{answer}{f': {reason}' if reason else ''}{form}"
+
+
+def strange(line):
+    """What is wrong with the bytes of a line, or nothing."""
+    found = STRANGE.search(line)
+    return f"the byte {found[0].hex().upper()} in column {found.start() + 1} stands in no command" if found else ""
+
+
+def misformed(text, form):
+    """What is wrong with the spaces or the count of words of a line that is to have this form, or nothing where that is not
+    seen from these."""
+    words, wanted = words_of(text), words_of(form)
+    if " ".join(words) != text:
+        return "one space parts a word from the next, and none stands before the first or after the last"
+    if len(words) != len(wanted):
+        return f"{count_of(words)} in place of {len(wanted)}"
+    return ""
+
+
+def count_of(words):
+    """How many words these are, in words."""
+    return "1 word" if len(words) == 1 else f"{len(words)} words"
