@@ -13,6 +13,8 @@ from kit_place import TOP, blocks
 DESK = "desk 64 64 0\n"
 WINDOW = 'window KIND LEFT TOP WIDTH HEIGHT SHOWN GOAWAY "TITLE"'
 FILL = "fill LEFT TOP RIGHT BOTTOM MODE PATTERN"
+TITLE = 'title WINDOW "TITLE"'
+NO_FIL = "there is no operation 'fil', and the nearest is 'fill'"
 SPACES = "one space parts a word from the next, and none stands before the first or after the last"
 LONG_TITLE = f'title 1 "{"x" * 256}"'
 LONG_COMMENT = "#" + "x" * 1024
@@ -27,7 +29,7 @@ LINES = [
     ("select 7", None),
     ("# windw", None),
     ('window plian 2 2 9 6 1 0 "x"', f"refused 20 NoSuchName. The form is: {WINDOW}"),
-    ("draw 1 fil 0 0 4 4 patCopy black", f"refused 15 BadSyntax: there is no operation 'fil', and the nearest is 'fill'. The form is: draw WINDOW {FILL}"),
+    ("draw 1 fil 0 0 4 4 patCopy black", f"refused 15 BadSyntax: {NO_FIL}. The form is: draw WINDOW {FILL}"),
     ("draw 1 fill 0 0 4 4 patCopy", f"refused 15 BadSyntax: 8 words in place of 9. The form is: draw WINDOW {FILL}"),
     ("draw 1 clip 00 fill 0 0 4 4 patCopy blak", f"refused 20 NoSuchName. The form is: draw WINDOW clip HEX {FILL}"),
     ("draw 1 clip", "refused 15 BadSyntax: 3 words in place of 5. The form is: draw WINDOW clip HEX OPERATION"),
@@ -38,8 +40,8 @@ LINES = [
     ("image ", f"refused 15 BadSyntax: {SPACES}. The form is: image"),
     ("draw 1 erase 0 0 4 4", None),
     ("\timage", "refused 15 BadSyntax: the byte 09 in column 1 stands in no command. The form is: image"),
-    ('title 1 "\xe4"', 'refused 15 BadSyntax: the byte E4 in column 10 stands in no command. The form is: title WINDOW "TITLE"'),
-    (LONG_TITLE, 'refused 10 TooLong. The form is: title WINDOW "TITLE"'),
+    ('title 1 "\xe4"', f"refused 15 BadSyntax: the byte E4 in column 10 stands in no command. The form is: {TITLE}"),
+    (LONG_TITLE, f"refused 10 TooLong. The form is: {TITLE}"),
     (LONG_COMMENT, "refused 10 TooLong: the line has 1025 bytes, and 1024 is the most"),
 ]  # fmt: skip
 

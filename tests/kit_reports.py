@@ -69,17 +69,16 @@ def a_report_for_machines_has_a_case_for_each_script(place):
     differing(place)
     shown = f"{IMAGE_SAID}. See {IMAGE_NAMES} in one/differences"
     lost = "it belongs to no script here"
-    wanted = [
-        ("one", 3, 3, [("points", "one/points.desk", POINT_SAID), ("square", "one/square.desk", shown), ("gone.out", "one/gone.out", lost)]),
-        ("two", 1, 0, [("points", "two/points.desk", None)]),
-    ]  # fmt: skip
+    ones = [("points", "one/points.desk", POINT_SAID), ("square", "one/square.desk", shown), ("gone.out", "one/gone.out", lost)]
+    wanted = [("one", 3, 3, ones), ("two", 1, 0, [("points", "two/points.desk", None)])]
     for count in "14":
         place.call("--program", place.program, "--jobs", count, "--junit", "it.xml", "one", "two")
         tag, said, suites = read_back(place, "it.xml")
         same("the root", (tag, without_time(said)), ("testsuites", counted("desk-test", 4, 3)))
         for (found, cases), (name, tests, failures, its) in zip(suites, wanted, strict=True):
             same("a suite", without_time(found), counted(name, tests, failures))
-            same("its cases", [(tag, without_time(it), failed) for tag, it, failed in cases], [due_case(name, *it) for it in its])
+            found = [(tag, without_time(it), failed) for tag, it, failed in cases]
+            same("its cases", found, [due_case(name, *it) for it in its])
 
 
 def counted(name, tests, failures):
