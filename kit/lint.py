@@ -1,4 +1,4 @@
-"""The lines of a script that are refused for what they are, whatever is on the desk, and what they ought to be."""
+"""The lines of a script that are refused for their form, their names or their length, and the form that they ought to have."""
 
 import re
 from typing import NamedTuple
