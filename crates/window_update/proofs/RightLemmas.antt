@@ -10,7 +10,7 @@ use Rattle.bit_map.specs.Bits.{Bits, bit}
 use Rattle.bit_blit.specs.Draws.{in_row}
 use Rattle.bit_blit.proofs.SpansLemmas.{spans_hold}
 use Rattle.scan_region.specs.declared.spans.Span.{Span}
-use Rattle.scan_region.specs.Scan.{span_holds}
+use Rattle.scan_region.specs.Scan.{IsScanOf, span_holds}
 
 -- the maps have the same bits in what of the row lies in the set
 abbrev pub AgreeIn : Bits → Bits → PixelSet → PixelSet → Type 0
@@ -80,3 +80,17 @@ spans_agree m n set before span first second p e =
     let parts = and_parts (spans_hold (before ++ span ∷ []) p) (set p) e in
     or_cases (spans_hold before p) (span_holds span p || false) (λ (b : spans_hold before p ≡ true). first p (λ i. b i && parts.1 i)) (λ (s : (span_holds span p || false) ≡ true). second p (λ i. none_more (span_holds span p) s i && parts.1 i))
     (sym (list_any-append (λ s. span_holds s p) before (span ∷ [])) ∙ parts.0)
+
+-- a pixel of a set's span in which they differ is one of the set
+pub span_differs : (m n : Bits) (set all : PixelSet) (before : List Span) (span : Span) (rest after : List Span) → rest ≡ span ∷ after → IsScanOf (before ++ rest) all
+    → (p : Point) × ((span_holds span p && set p) ≡ true) × (bit m p ≡ bit n p → ⊥) → (p : Point) × ((all p && set p) ≡ true) × (bit m p ≡ bit n p → ⊥)
+span_differs m n set all before span rest after e scan found =
+    let p = found.0 in
+    let parts = and_parts (span_holds span p) (set p) found.1 in
+    let in_all : all p ≡ true = (subst (λ l. IsScanOf (before ++ l) all) e scan).pixels p ∙ list_any-append (λ s. span_holds s p) before (span ∷ after) ∙ middle (spans_hold before p) (span_holds span p) (spans_hold after p) parts.0 in
+    (p, (λ i. in_all i && parts.1 i), found.2)
+  where
+    middle : (t s r : Bool) → s ≡ true → (t || (s || r)) ≡ true
+    middle true s r e = refl
+    middle false true r e = refl
+    middle false false r e = absurd (cc)
