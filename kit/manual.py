@@ -1,0 +1,99 @@
+"""The manual of scripts, docs/SCRIPT.md: its commands with their forms and sections, the names that their words may have,
+and what refusals mean. Nothing of that is written a second time for the tools that need it."""
+
+import os
+import re
+from typing import NamedTuple
+
+from kit.markdown import blocks_of, codes_in, plain
+
+PATH = os.path.join(os.path.dirname(os.path.dirname(os.path.realpath(__file__))), "docs", "SCRIPT.md")
+HEADING = re.compile(r"(?m)^(#{2,3}) +(.*)$")
+
+
+class Entry(NamedTuple):
+    """A row of the table of all commands: its group, its forms, what it does and what it answers."""
+
+    group: str
+    forms: list
+    does: str
+    answer: str
+
+
+class Manual:
+    """What the manual says."""
+
+    def __init__(self, text):
+        self.sections = sections_of(text)
+        self.entries = entries_of(self.sections["All commands"])
+        # Each command with its forms, as 'find H V'.
+        self.forms = {}
+        for entry in self.entries:
+            for form in entry.forms:
+                self.forms.setdefault(form.split(" ")[0], []).append(form)
+        # Each operation of draw with its form.
+        operations = self.column("draw", "OPERATION")
+        self.operations = {form.split(" ")[0]: form for form in operations}
+        self.patterns = self.column("draw", "PATTERN")
+        # What each refusal means, by its number and name.
+        rows = blocks_of(self.sections["Refusals"])[0].rows()
+        self.refusals = {row[0]: plain(row[1]) for row in rows[1:]}
+
+    def section_of(self, command):
+        """The heading and the text of a command's section."""
+        for heading, text in self.sections.items():
+            if command in [form.split(" ")[0] for form in codes_in(heading)]:
+                return heading, text
+        raise KeyError(command)
+
+    def tables_of(self, command):
+        """The tables of a command's section, each as its rows."""
+        return [block.rows() for block in blocks_of(self.section_of(command)[1]) if block.kind == "table"]
+
+    def column(self, command, head):
+        """What stands in backquotes in the column that has this head, of a table in a command's section."""
+        for head_row, *rows in self.tables_of(command):
+            if head in map(plain, head_row):
+                at = [*map(plain, head_row)].index(head)
+                found = [name for row in rows for name in codes_in(row[at])]
+                if found:
+                    return found
+        return []
+
+    def kinds_of(self, command):
+        """The kinds that a command may name, or none."""
+        for rows in self.tables_of(command):
+            for row in rows:
+                if row[:2] == ["KIND", "name"]:
+                    return codes_in(row[2].partition(":")[0])
+        return []
+
+    def modes_of(self, operation):
+        """The modes in which an operation may draw."""
+        head = f"In {operation}" if operation in ("bits", "text") else "With PATTERN"
+        return self.column("draw", head)
+
+
+def sections_of(text):
+    """The text below each heading of a page, up to the next one."""
+    found = [*HEADING.finditer(text)]
+    ends = [*(it.start() for it in found[1:]), len(text)]
+    return {it[2]: text[it.end() : end].strip("\n") for it, end in zip(found, ends)}
+
+
+def entries_of(section):
+    """The rows of the tables of all commands."""
+    entries, group = [], ""
+    for block in blocks_of(section):
+        if block.kind == "paragraph":
+            group = plain(block.text())
+        elif block.kind == "table":
+            rows = block.rows()[1:]
+            entries += [Entry(group, codes_in(row[0]), plain(row[1]), plain(row[2])) for row in rows]
+    return entries
+
+
+def read_manual(path=PATH):
+    """The manual that lies in this file."""
+    with open(path, encoding="utf-8") as file:
+        return Manual(file.read())
