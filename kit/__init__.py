@@ -8,6 +8,16 @@ To run scripts and compare their answers:
   differences     where a script is answered otherwise than is due
   which           which program ./desk runs
 
+To read the manual, and to serve somebody at a terminal:
+
+  called          the words, programs and statuses of the tools
+  markdown        the blocks of a document
+  manual          the commands, kinds and refusals that the manual has
+  half_blocks     images as characters
+  talk            what desk-talk says, and how words are completed
+  man_page        the manual page
+  script_syntax   how editors color scripts
+
 To drive a desk over two pipes and use it with a mouse and keys, for desk-view:
 
   driven          a desk that is asked line by line
