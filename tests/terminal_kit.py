@@ -88,6 +88,7 @@ class Terminal:
             kept = {name: value for name, value in os.environ.items() if name not in ("COLUMNS", "LINES", "INPUTRC")}
             os.execvpe(words[0], words, {**kept, "TERM": "xterm", "LC_ALL": "C.UTF-8", "INPUTRC": "/dev/null"})
         self.ended = None
+        self.found = b""
 
     def __enter__(self):
         return self
@@ -102,17 +103,19 @@ class Terminal:
         os.write(self.here, text.encode())
 
     def until(self, wanted):
-        """What is written up to this text, without what moves the cursor."""
-        found, end = b"", time.monotonic() + SECONDS
-        while wanted not in (text := shown(found)):
+        """What is shown up to this text, since what was wanted last."""
+        end = time.monotonic() + SECONDS
+        while wanted not in (text := shown(self.found)):
             left = end - time.monotonic()
             if left <= 0 or not select.select([self.here], [], [], left)[0]:
                 raise Fault(f"at the terminal there is {text!r} and not {wanted!r}")
             try:
-                found += os.read(self.here, 4096)
+                self.found += os.read(self.here, 4096)
             except OSError:
                 raise Fault(f"at the terminal there is at last {text!r} and not {wanted!r}") from None
-        return text
+        before, _, after = text.partition(wanted)
+        self.found = after.encode()
+        return before + wanted
 
     def status(self):
         """The status with which the program ends, once it does."""

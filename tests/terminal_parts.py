@@ -57,9 +57,10 @@ Draws.
 |---|---|
 | `dot H MODE PATTERN` | a dot |
 
-| MODE | name |
-|---|---|
-| MODE | name |
+| Word | Form | Range |
+|---|---|---|
+| MODE | name | below |
+| KIND | number | 1, as `round` is |
 
 | With PATTERN | In `bits` | Black |
 |---|---|---|
