@@ -46,13 +46,13 @@ def part(kind, data):
 
 def png_of(rows, scale):
     """The PNG of an image. Each pixel becomes a square of scale by scale pixels."""
-    data = b""
+    lines = []
     for row in rows:
         # A PNG has 1 for white.
         wide = bytes(255 - byte for byte in packed("".join(bit * scale for bit in row)))
-        data += (b"\0" + wide) * scale
+        lines.append((b"\0" + wide) * scale)
     head = struct.pack(">IIBBBBB", len(rows[0]) * scale, len(rows) * scale, 1, 0, 0, 0, 0)
-    chunks = [part(b"IHDR", head), part(b"IDAT", zlib.compress(data, 9)), part(b"IEND", b"")]
+    chunks = [part(b"IHDR", head), part(b"IDAT", zlib.compress(b"".join(lines), 9)), part(b"IEND", b"")]
     return SIGNATURE + b"".join(chunks)
 
 
