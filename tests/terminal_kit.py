@@ -73,7 +73,8 @@ class Place:
 
     def call(self, tool, *words, given="", over=True):
         """The status of a tool that is called with these words, and over the program, with what it writes."""
-        called = [tool if os.path.isabs(tool) else os.path.join(TOP, tool), *(["--program", self.program] if over else []), *words]
+        program = ["--program", self.program] if over else []
+        called = [os.path.join(TOP, tool), *program, *words]
         ran = subprocess.run(called, cwd=self.folder, input=given.encode(), capture_output=True, timeout=SECONDS)
         return ran.returncode, ran.stdout.decode(), ran.stderr.decode()
 

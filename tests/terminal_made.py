@@ -19,7 +19,7 @@ COLORED = [
     [("control", "Command"), ("1", "Number"), ("check", "Kind"), ("0", "Number"), ('""', "Text")],
     [("list", "Command"), ("1", "Number"), ("text", "Kind"), ("0", "Number")],
     [("draw", "Command"), ("1", "Number"), ("text", "Operation"), ("2", "Number"), ("srcOr", "Mode"), ('"text"', "Text")],
-    [("draw", "Command"), ("12", "Number"), ("fill", "Operation"), ("0", "Number"), ("patCopy", "Mode"), ("ltGray", "Pattern")],
+    [("draw", "Command"), ("12", "Number"), ("fill", "Operation"), ("patCopy", "Mode"), ("ltGray", "Pattern")],
     [("draw", "Command"), ("1", "Number"), ("clip", "Operation"), ("0A0B", ""), ("rgn", "Operation"), ("0F", "")],
     [("frontwin", "Command")],
     [("front", "Command"), ("2", "Number")],
@@ -78,7 +78,7 @@ def the_manual_page_is_one(place):
         ("SYNOPSIS", "desk [--raw] [--check] [--font FILE] [SCRIPT]"),
         ("find H V", "asks whose a point of the screen is. Answer: ok PART WINDOW."),
         ('title WINDOW "TITLE"', "gives a window another title. Answer: ok."),
-        ("1; desk: 13 BadFont", "the bytes of FILE are no FONT record. See that it is a font's record alone, with nothing before it"),
+        ("0; nothing", "the script was read to its end and each command was answered, also where the answers are refusals"),
         ("15 BadSyntax", "the line is no command"),
         ("--which", "answers which program runs, proved PATH or unproved PATH, and compiles it first where that is due"),
     ]:

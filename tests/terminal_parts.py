@@ -157,11 +157,12 @@ def the_manual_has_every_command_of_the_rows(_):
     same("the commands", len(forms), 89)
     same("those that no row has", [it for it in forms if it.encode() not in used], [])
     same("those of the prompt alone", [it for it in OWN if it in forms], [])
-    same("kinds", {it: manual().kinds_of(it) for it in forms if manual().kinds_of(it)}, {
+    kinds = {
         "window": ["document", "nogrow", "zoom", "dialog", "plain", "shadow", "notched"],
         "control": ["button", "check", "radio", "scroll"],
         "list": ["text"],
-    })
+    }
+    same("kinds", {it: manual().kinds_of(it) for it in forms if manual().kinds_of(it)}, kinds)
     same("refusals", [*manual().refusals][::19], ["1 NoMemory", "20 NoSuchName"])
 
 
@@ -207,6 +208,7 @@ def refusals_have_their_reasons(_):
         (b"frob", ["refused 15 BadSyntax: the line is no command. There is no command 'frob'"]),
         (b"lidd", ["refused 15 BadSyntax: the line is no command. There is no command 'lidd'; the nearest is lid"]),
         (b"box x", ["ok 1"]),
+        (b"save no/x.png", ["nothing is saved: refused 15 BadSyntax"]),
         (b"", []),
         (b"# no", []),
     ]:
