@@ -9,9 +9,19 @@ To run scripts and compare their answers:
   screen_tests    what is wrong with a run of a row, and pictures of it
   side_by_side    calls in several processes at a time, and a line on a terminal about them
   reports         JUnit's XML and a page of HTML on what came of rows
-  manual          the forms of commands, as docs/SCRIPT.md has them
+  forms           the form that a line ought to have
   lint            lines that are refused, and the forms that they ought to have
   which           which program ./desk runs
+
+To read the manual, and to serve somebody at a terminal:
+
+  called          the words, programs and statuses of the tools
+  markdown        the blocks of a document
+  manual          the commands, kinds and refusals that the manual has
+  half_blocks     images as characters
+  talk            what desk-talk says, and how words are completed
+  man_page        the manual page
+  script_syntax   how editors color scripts
 
 To drive a desk over two pipes and use it with a mouse and keys, for desk-view:
 

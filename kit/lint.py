@@ -4,7 +4,7 @@ import re
 from typing import NamedTuple
 
 from kit.answers import LONGEST_LINE, answers_to, commands_of, shown
-from kit.manual import Manual, words_of
+from kit.forms import Forms, words_of
 from kit.rows import said_of_status
 from kit.screen_tests import Found, empty_folder
 
@@ -17,7 +17,7 @@ class Lint(NamedTuple):
     """Runs a script, and tells the lines that are refused so."""
 
     program: str
-    manual: Manual
+    forms: Forms
 
     def find(self, row, room):
         ran = row.run(self.program, (), empty_folder(room))
@@ -34,7 +34,7 @@ class Lint(NamedTuple):
         if len(line) > LONGEST_LINE:
             return f"{answer}: the line has {len(line)} bytes, and {LONGEST_LINE} is the most"
         text = line.decode("latin-1")
-        reading = self.manual.reading(text)
+        reading = self.forms.reading(text)
         reason = strange(line) or reading.unknown or misformed(text, reading.form)
         form = f". The form is: {reading.form}" if reading.form else ""
         return f"{answer}{f': {reason}' if reason else ''}{form}"

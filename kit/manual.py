@@ -1,79 +1,99 @@
-"""The forms of the commands, as the manual docs/SCRIPT.md has them."""
+"""The manual of scripts, docs/SCRIPT.md: its commands with their forms and sections, the names that their words may have,
+and what refusals mean. Nothing of that is written a second time for the tools that need it."""
 
-import difflib
 import os
 import re
 from typing import NamedTuple
 
-from kit.answers import Fault
+from kit.markdown import blocks_of, codes_in, plain
 
-MANUAL = os.path.join(os.path.dirname(os.path.dirname(os.path.realpath(__file__))), "docs", "SCRIPT.md")
-# The first cell of a row about commands, and a form in it.
-CELL = re.compile(r"(?m)^\| (\[`[^|]*) \|")
-FORM = re.compile(r"\[`([^`]+)`\]")
-# The rows of the table of what stands for OPERATION in the forms of draw, and a form in them.
-OPERATIONS = re.compile(r"(?m)^\| OPERATION \| Draws \|\n.*\n((?:\|.*\n)+)")
-OPERATION = re.compile(r"(?m)^\| `([^`]+)` \|")
-DRAW, CLIP, ANY = "draw", "clip", "OPERATION"
-WORD = re.compile(r'"[^"]*"|[^ ]+')
+PATH = os.path.join(os.path.dirname(os.path.dirname(os.path.realpath(__file__))), "docs", "SCRIPT.md")
+HEADING = re.compile(r"(?m)^(#{2,3}) +(.*)$")
 
 
-class Reading(NamedTuple):
-    """What the manual makes of a line."""
+class Entry(NamedTuple):
+    """A row of the table of all commands: its group, its forms, what it does and what it answers."""
 
-    # The form of the line, or the nearest one; None where none is near.
-    form: str
-    # What is said of a word that names no command or operation, or None where there is no such word.
-    unknown: str
-
-
-def words_of(line):
-    """The words of a line or of a form. A text in quotes is one word."""
-    return WORD.findall(line)
-
-
-def manual():
-    """The manual beside this folder."""
-    try:
-        with open(MANUAL, encoding="utf-8") as file:
-            found = Manual(file.read())
-    except OSError as fault:
-        raise Fault(f"the manual cannot be read: {fault}") from None
-    if not found.commands or not found.operations:
-        raise Fault(f"{MANUAL} has no tables of commands and operations")
-    return found
+    group: str
+    forms: list
+    does: str
+    answer: str
 
 
 class Manual:
-    """The forms of all commands and operations, by their names."""
+    """What the manual says."""
 
     def __init__(self, text):
-        forms = [form for cell in CELL.findall(text) for form in FORM.findall(cell)]
-        # Of the two forms of draw the one without clip comes first.
-        self.commands = {words_of(it)[0]: it for it in reversed(forms)}
-        table = OPERATIONS.search(text)
-        self.operations = {words_of(it)[0]: it for it in OPERATION.findall(table[1])} if table else {}
-        self.clipped = next((it for it in forms if CLIP in words_of(it)), ANY)
+        self.sections = sections_of(text)
+        self.entries = entries_of(self.sections["All commands"])
+        # Each command with its forms, as 'find H V'.
+        self.forms = {}
+        for entry in self.entries:
+            for form in entry.forms:
+                self.forms.setdefault(form.split(" ")[0], []).append(form)
+        # Each operation of draw with its form.
+        operations = self.column("draw", "OPERATION")
+        self.operations = {form.split(" ")[0]: form for form in operations}
+        self.patterns = self.column("draw", "PATTERN")
+        # What each refusal means, by its number and name.
+        rows = blocks_of(self.sections["Refusals"])[0].rows()
+        self.refusals = {row[0]: plain(row[1]) for row in rows[1:]}
 
-    def reading(self, line):
-        """What a line is by its first word, and one of draw by its operation too."""
-        words = words_of(line) or [line]
-        command, unknown = known(words[0], self.commands, "command")
-        if command != DRAW:
-            return Reading(self.commands.get(command), unknown)
-        is_clipped = words[2:3] == [CLIP]
-        form = self.clipped if is_clipped else self.commands[DRAW]
-        place = words_of(form).index(ANY)
-        if len(words) <= place:
-            return Reading(form, unknown)
-        operation, other = known(words[place], self.operations, "operation")
-        return Reading(form.replace(ANY, self.operations.get(operation, ANY)), unknown or other)
+    def section_of(self, command):
+        """The heading and the text of a command's section."""
+        for heading, text in self.sections.items():
+            if command in [form.split(" ")[0] for form in codes_in(heading)]:
+                return heading, text
+        raise KeyError(command)
+
+    def tables_of(self, command):
+        """The tables of a command's section, each as its rows."""
+        return [block.rows() for block in blocks_of(self.section_of(command)[1]) if block.kind == "table"]
+
+    def column(self, command, head):
+        """What stands in backquotes in the column that has this head, of a table in a command's section."""
+        for head_row, *rows in self.tables_of(command):
+            if head in map(plain, head_row):
+                at = [*map(plain, head_row)].index(head)
+                found = [name for row in rows for name in codes_in(row[at])]
+                if found:
+                    return found
+        return []
+
+    def kinds_of(self, command):
+        """The kinds that a command may name, or none."""
+        for rows in self.tables_of(command):
+            for row in rows:
+                if row[:2] == ["KIND", "name"]:
+                    return codes_in(row[2].partition(":")[0])
+        return []
+
+    def modes_of(self, operation):
+        """The modes in which an operation may draw."""
+        head = f"In {operation}" if operation in ("bits", "text") else "With PATTERN"
+        return self.column("draw", head)
 
 
-def known(word, names, what):
-    """The one of these names that a word is, and None; or else the nearest one, if there is one, and what is said of it."""
-    if word in names:
-        return word, None
-    near = difflib.get_close_matches(word.lower(), names, 1)
-    said = f"there is no {what} '{word}'"
-    return (near[0], f"{said}, and the nearest is '{near[0]}'") if near else (None, said)
+def sections_of(text):
+    """The text below each heading of a page, up to the next one."""
+    found = [*HEADING.finditer(text)]
+    ends = [*(it.start() for it in found[1:]), len(text)]
+    return {it[2]: text[it.end() : end].strip("\n") for it, end in zip(found, ends)}
+
+
+def entries_of(section):
+    """The rows of the tables of all commands."""
+    entries, group = [], ""
+    for block in blocks_of(section):
+        if block.kind == "paragraph":
+            group = plain(block.text())
+        elif block.kind == "table":
+            rows = block.rows()[1:]
+            entries += [Entry(group, codes_in(row[0]), plain(row[1]), plain(row[2])) for row in rows]
+    return entries
+
+
+def read_manual(path=PATH):
+    """The manual that lies in this file."""
+    with open(path, encoding="utf-8") as file:
+        return Manual(file.read())

@@ -1,11 +1,12 @@
-"""Tests of desk-test --lint, for kit-tests, and of what kit.manual reads in the manual."""
+"""Tests of desk-test --lint, for kit-tests, and of the forms that kit.forms makes of the manual."""
 
 import os
 import shutil
 
 from kit.answers import commands_of
+from kit.forms import Forms, Reading, forms
 from kit.lint import misformed, strange
-from kit.manual import Manual, Reading, manual
+from kit.manual import Manual
 from kit.rows import folders_in, rows_of
 from kit_parts import same
 from kit_place import TOP, blocks
@@ -109,10 +110,7 @@ def the_page_has_what_lint_says(place):
 
 
 SMALL = """
-| Command | What it does | Answer |
-|---|---|---|
-| [`draw WINDOW OPERATION`](#a), [`draw WINDOW clip HEX OPERATION`](#a) | draws, as [`no`](#n) command | `ok` |
-| [`title WINDOW "TITLE"`](#b) | titles | `ok` |
+### `draw WINDOW OPERATION`, `draw WINDOW clip HEX OPERATION`
 
 | OPERATION | Draws |
 |---|---|
@@ -121,11 +119,26 @@ SMALL = """
 | PATTERN | Black are |
 |---|---|
 | `gray` | some |
+
+## All commands
+
+Drawing.
+
+| Command | What it does | Answer |
+|---|---|---|
+| [`draw WINDOW OPERATION`](#a), [`draw WINDOW clip HEX OPERATION`](#a) | draws, as [`no`](#n) command | `ok` |
+| [`title WINDOW "TITLE"`](#b) | titles | `ok` |
+
+## Refusals
+
+| Answer | Why |
+|---|---|
+| `refused 1 NoMemory` | memory ran out |
 """
 
 
 def the_tables_of_the_manual_are_read(_):
-    small = Manual(SMALL)
+    small = Forms(Manual(SMALL))
     same("the commands", sorted(small.commands.items()), [("draw", "draw WINDOW OPERATION"), ("title", 'title WINDOW "TITLE"')])
     same("the operations", small.operations, {"line": "line H V"})
     for line, form, unknown in [
@@ -146,7 +159,7 @@ def the_tables_of_the_manual_are_read(_):
 
 def every_line_that_rows_have_answered_has_its_form(_):
     """Those of tests/rows, which were written by hand. A line that is not BadSyntax or TooLong has its form by the manual."""
-    its, seen = manual(), set()
+    its, seen = forms(), set()
     same("how many commands and operations there are", (len(its.commands), len(its.operations)), (89, 9))
     for folder in folders_in(os.path.join(TOP, "tests", "rows")):
         for row in rows_of(folder):

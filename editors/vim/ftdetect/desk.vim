@@ -1,0 +1,2 @@
+" Which files are scripts of desk.
+autocmd BufNewFile,BufRead *.desk setfiletype desk

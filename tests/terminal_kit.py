@@ -1,0 +1,138 @@
+"""What the tests of terminal stand on: a folder in which the tools are called, and a terminal at which one is."""
+
+import fcntl
+import os
+import pty
+import re
+import select
+import shutil
+import signal
+import struct
+import subprocess
+import termios
+import time
+
+from kit.answers import Fault
+from kit.pictures import pixels_of
+
+TOP = os.path.dirname(os.path.dirname(os.path.realpath(__file__)))
+SECONDS = 60
+# A desk of 8 by 8 without a menu bar, a window in it, and in that a black square of 2 by 2: two images.
+SQUARE = 'desk 8 8 0\nwindow plain 1 1 6 6 1 0 ""\nimage\ndraw 1 fill 2 2 4 4 patCopy black\nimage\n'
+WINDOW_IMAGE = ["11111111", *["10000001"] * 6, "11111111"]
+SQUARE_IMAGE = ["11111111", "10000001", "10000001", "10011001", "10011001", "10000001", "10000001", "11111111"]
+# Its second image, two pixels above each other in a character.
+SQUARE_BLOCKS = ["█▀▀▀▀▀▀█", "█  ▄▄  █", "█  ▀▀  █", "█▄▄▄▄▄▄█"]
+
+
+class Skipped(Exception):
+    """What a test wants that this machine does not have."""
+
+
+def same(what, found, wanted):
+    if found != wanted:
+        raise Fault(f"{what}: {found!r} in place of {wanted!r}")
+
+
+class Place:
+    """A folder in which the tools are called, over this program."""
+
+    def __init__(self, program, folder):
+        self.program = program
+        self.folder = os.path.realpath(folder)
+
+    def path(self, name):
+        return os.path.join(self.folder, name)
+
+    def write(self, name, text, mode=0o644):
+        os.makedirs(os.path.dirname(self.path(name)), exist_ok=True)
+        with open(self.path(name), "w", encoding="utf-8", newline="") as file:
+            file.write(text)
+        os.chmod(self.path(name), mode)
+
+    def read(self, name):
+        with open(self.path(name), encoding="utf-8") as file:
+            return file.read()
+
+    def picture(self, name):
+        with open(self.path(name), "rb") as file:
+            return pixels_of(file.read())
+
+    def files(self):
+        return sorted(os.listdir(self.folder))
+
+    def copy(self, *names):
+        """Copies these files and folders of the tree into a folder 'tree'."""
+        for name in names:
+            source, target = os.path.join(TOP, name), self.path(f"tree/{name}")
+            os.makedirs(os.path.dirname(target), exist_ok=True)
+            if os.path.isdir(source):
+                shutil.copytree(source, target, ignore=shutil.ignore_patterns("__pycache__"))
+            else:
+                shutil.copy(source, target)
+
+    def call(self, tool, *words, given="", over=True):
+        """The status of a tool that is called with these words, and over the program, with what it writes."""
+        program = ["--program", self.program] if over else []
+        called = [os.path.join(TOP, tool), *program, *words]
+        ran = subprocess.run(called, cwd=self.folder, input=given.encode(), capture_output=True, timeout=SECONDS)
+        return ran.returncode, ran.stdout.decode(), ran.stderr.decode()
+
+
+class Terminal:
+    """A program at a terminal of this many columns, for as long as a block goes on."""
+
+    def __init__(self, words, columns=80):
+        self.process, self.here = pty.fork()
+        if self.process == 0:
+            fcntl.ioctl(0, termios.TIOCSWINSZ, struct.pack("HHHH", 24, columns, 0, 0))
+            kept = {name: value for name, value in os.environ.items() if name not in ("COLUMNS", "LINES", "INPUTRC")}
+            os.execvpe(words[0], words, {**kept, "TERM": "xterm", "LC_ALL": "C.UTF-8", "INPUTRC": "/dev/null"})
+        self.ended = None
+        self.found = b""
+
+    def __enter__(self):
+        return self
+
+    def __exit__(self, *_):
+        if self.ended is None:
+            os.kill(self.process, signal.SIGKILL)
+            os.waitpid(self.process, 0)
+        os.close(self.here)
+
+    def type(self, text):
+        os.write(self.here, text.encode())
+
+    def until(self, wanted):
+        """What is shown up to this text, since what was wanted last."""
+        end = time.monotonic() + SECONDS
+        while wanted not in (text := shown(self.found)):
+            left = end - time.monotonic()
+            if left <= 0 or not select.select([self.here], [], [], left)[0]:
+                raise Fault(f"at the terminal there is {text!r} and not {wanted!r}")
+            try:
+                self.found += os.read(self.here, 4096)
+            except OSError:
+                raise Fault(f"at the terminal there is at last {text!r} and not {wanted!r}") from None
+        before, _, after = text.partition(wanted)
+        self.found = after.encode()
+        return before + wanted
+
+    def status(self):
+        """The status with which the program ends, once it does."""
+        end = time.monotonic() + SECONDS
+        while self.ended is None:
+            process, status = os.waitpid(self.process, os.WNOHANG)
+            if process:
+                self.ended = os.waitstatus_to_exitcode(status)
+            elif time.monotonic() > end:
+                raise Fault("the program at the terminal does not end")
+            else:
+                time.sleep(0.02)
+        return self.ended
+
+
+def shown(found):
+    """What a terminal shows of these bytes, but for colors, which stay, and cursor moves, which go."""
+    text = found.decode("utf-8", "replace").replace("\r", "")
+    return re.sub(r"\033\[(?:\?[0-9]+[hl]|[0-9]*[KCDJ])|\a", "", text)
