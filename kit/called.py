@@ -1,4 +1,4 @@
-"""How the tools of a terminal are called: their words, the program that they run, and the statuses with which they give up.
+"""How the tools are called: their words, the program that they run, and the statuses with which they give up.
 The status is 1 where a file or the program is at fault, 2 for words that are wrong, and 3 where there is no program."""
 
 import argparse
