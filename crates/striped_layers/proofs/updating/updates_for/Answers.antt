@@ -6,7 +6,7 @@ use Rattle.desk_call.specs.declared.activity.Activity.{Activity}
 use Rattle.desk_call.specs.declared.activity.Activity.TheVariants.{Updating}
 use Rattle.striped_layers.proofs.updating.updates_for.Goals as goal
 
-UpdatesNone : Activity → Type 0
+abbrev UpdatesNone : Activity → Type 0
 UpdatesNone (Updating s) = ⊥
 UpdatesNone _ = Unit {0}
 

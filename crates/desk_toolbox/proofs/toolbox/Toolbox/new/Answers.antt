@@ -1,5 +1,6 @@
-use Rattle.std.proofs.Common.{rules, SFits, w32}
+use Rattle.std.proofs.Common.{◌∙◌, rules, SFits, w32}
 use Rattle.std.proofs.lemmas.Int.{to_z-of_z}
+use Rattle.std.proofs.lemmas.Result.{IfOk-weaker}
 use Rattle.def_iface.specs.contracts.taken_control.TakenControlDefinedControl.TheImpl as taken_control
 use Rattle.def_iface.specs.contracts.taken_list.TakenListDefinedList.TheImpl as taken_list
 use Rattle.def_iface.specs.contracts.taken_menu.TakenMenuDefinedMenu.TheImpl as taken_menu
@@ -29,3 +30,13 @@ returns-in-Ok-clause-in_range g c =
     let fits_h : SFits w32 c.args.height = search rules in
     let fits_b : SFits w32 c.args.bar = search rules in
     simp to_z-of_z at c.with_parts.ensures.in_range
+
+pub returns-in-Ok-clause-events : goal.returns-in-Ok-clause-events
+returns-in-Ok-clause-events g c = IfOk-weaker c.with_parts.result _ _ (λ t events. events ∙ c.in-Ok.ensures.events) c.with_parts.ensures.events
+
+pub returns-in-Ok-clause-refused : goal.returns-in-Ok-clause-refused
+returns-in-Ok-clause-refused g c =
+    let fits_w : SFits w32 c.args.width = search rules in
+    let fits_h : SFits w32 c.args.height = search rules in
+    let fits_b : SFits w32 c.args.bar = search rules in
+    simp to_z-of_z at c.with_parts.ensures.refused

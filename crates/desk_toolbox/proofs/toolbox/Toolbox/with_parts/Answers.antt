@@ -40,3 +40,10 @@ returns-in-Ok-clause-in_range g c =
     let fits_h : SFits w32 c.args.height = search rules in
     let fits_b : SFits w32 c.args.bar = search rules in
     simp to_z-of_z at c.in-Ok.ensures.in_range
+
+pub returns-in-Err-clause-refused : goal.returns-in-Err-clause-refused
+returns-in-Err-clause-refused g c =
+    let fits_w : SFits w32 c.args.width = search rules in
+    let fits_h : SFits w32 c.args.height = search rules in
+    let fits_b : SFits w32 c.args.bar = search rules in
+    simp to_z-of_z at c.in-Err.ensures.refused
