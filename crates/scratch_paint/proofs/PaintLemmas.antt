@@ -1,15 +1,17 @@
 -- Windows painted over each other, and over the ground.
-use Rattle.std.proofs.Common.{◌≡◌, ℕ, ◌+◌, ◌<◌, Bool, true, false, not, ◌&&◌, if◌then◌else◌, List, [], ◌∷◌, ◌++◌, length, get_or, drop, fold, map, Some, ℤ, pos, refl, sym, subst, ap, ◌∙◌, arith}
-use Rattle.std.specs.Prelude.{int_lt}
+use Rattle.std.proofs.Common.{◌≡◌, ℕ, ◌+◌, ◌<◌, ◌≤◌, Bool, true, false, not, ◌&&◌, if◌then◌else◌, List, [], ◌∷◌, ◌++◌, length, get_or, drop, fold, map, Some, ℤ, pos, ◌≤ℤ◌, refl, sym, subst, ap, ◌∙◌, arith}
+use Rattle.std.specs.Prelude.{int_le, int_lt}
 use Rattle.std.proofs.lemmas.Bool.{and_parts, false≢true}
 use Rattle.std.proofs.lemmas.Grind.{fold-append}
 use Rattle.std.proofs.lemmas.List.{drop_all, drop_more}
+use Rattle.std.proofs.lemmas.Int.{ints}
 use Rattle.tb_geom.specs.declared.point.Point.{Point}
 use Rattle.tb_geom.specs.Points.{PixelSet, minus}
 use Rattle.tb_geom.specs.Rects.{between}
 use Rattle.tb_geom.specs.Pixels.{Pixels, holds}
 use Rattle.bit_map.specs.Bits.{Bits, on_map, bit}
 use Rattle.bit_map.specs.Patterns.{pattern_bit}
+use Rattle.region_bytes.proofs.Scanned.{from_le}
 use Rattle.scan_region.specs.Moves.{StaysInRange}
 use Rattle.bit_blit.specs.Draws.{Draws}
 use Rattle.bit_blit.proofs.DrawsLemmas.{Draws-on_map, Draws-over}
@@ -297,3 +299,10 @@ kept_painted {V} {H} loan shows t width height bar font titles windows g mid new
     (subst (λ (x : ℤ × (ℤ × ℤ)). IsGround x.0 x.1.0 x.1.1 g) (λ i. (wide i, (high i, rows i))) ground)
     (subst (λ (x : List ℕ × WindowList V H). Draws (holds g.gray) (windows_value (look_in shows x.0) (map (record_of loan) x.1.records.items)) g.screen mid) (λ i. (letters i, list i)) drawn)
     (subst (λ (x : ℤ × (List ℕ × List BarTitle)). Draws (λ p. int_lt p.v x.0) (λ p _. bar_picture x.1.0 x.1.1 p) mid new) (λ i. (rows i, (letters i, texts i))) topped)
+
+-- a map as wide as a screen has at most 1024 columns
+pub few_columns : (width height bar : ℤ) (wide drawn : ℕ) → is_screen width height bar ≡ true → pos wide ≡ width → drawn ≡ wide → drawn ≤ 1024
+few_columns width height bar wide drawn e is same =
+    let side = (and_parts (is_screen_side width) _ e).0 in
+    let most : width ≤ℤ pos 1024 = from_le width (pos 1024) (and_parts (int_le (pos 8) width) (int_le width (pos 1024)) side).1 in
+    omega (arith, ints)
