@@ -2,8 +2,8 @@
 //! the contracts are QuickDraw's. Expected values are tables and pictures written by hand, or come from slow programs
 //! over single pixels, and never from the libraries.
 //!
-//! `geometry` tests `tb_geom`, `regions` and `written` test `scan_region`, and `maps` tests `bit_map`. The crate
-//! `pixel_pictures` has what they compare with.
+//! `geometry` tests `tb_geom`, `regions` tests `scan_region`, and `maps` tests `bit_map`. The crate `pixel_pictures` has what
+//! they compare with.
 #![tactic(auto)]
 
 /// A rectangle, by its left side, its top, its right side and its bottom.
@@ -33,5 +33,3 @@ mod geometry;
 mod maps;
 #[cfg(test)]
 mod regions;
-#[cfg(test)]
-mod written;

@@ -1,9 +1,12 @@
-//! What no clause says of `region_bytes`, by tests: that the words of the contracts are those of QuickDraw's regions. Expected
-//! values are pictures and tables written by hand, or come from a slow reader that counts inversion points, and never from
-//! the library.
+//! What no clause says of the bytes of regions, by tests: that calls succeed where memory is not refused, and that the words of
+//! the contracts are those of QuickDraw's regions. Expected values are pictures and tables written by hand, or come from slow
+//! readers that count inversion points, and never from the libraries.
 //!
-//! `bytes` has the tests. The crate `pixel_pictures` has what they compare with.
+//! `bytes` tests `region_bytes`, and `written` tests the bytes that `scan_region` reads and writes. The crate `pixel_pictures`
+//! has what they compare with.
 #![tactic(auto)]
 
 #[cfg(test)]
 mod bytes;
+#[cfg(test)]
+mod written;

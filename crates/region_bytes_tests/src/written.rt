@@ -28,6 +28,19 @@ fn is_written(alloc: Global, region: &Region, words: &[u16]) -> Result<bool, Ref
     Ok(region.to_bytes(alloc)?.as_slice() == bytes_of(alloc, words)?.as_slice())
 }
 
+/// The region of a rectangle, by its left side, its top, its right side and its bottom.
+fn block(alloc: Global, [left, top, right, bottom]: [i32; 4]) -> Result<Region, Refusal> {
+    Region::from_rect(
+        alloc,
+        Rect {
+            left,
+            top,
+            right,
+            bottom,
+        },
+    )
+}
+
 /// A block, and a wider one below it.
 const BLOCKS: [u16; 18] = [
     0x24, 0, 0, 4, 4, 0, 0, 2, END, 2, 2, 4, END, 4, 0, 4, END, END,
@@ -47,12 +60,12 @@ const RING: [u16; 22] = [
 #[test]
 fn worked_bytes(rt: HostRuntime) -> Result<(), Fail> {
     let alloc = rt.alloc();
-    let block = Region::from_rect(alloc, rect!(2, 1, 5, 4))?;
-    assert!(rt; is_written(alloc, &block, &[0x0A, 1, 2, 4, 5])?);
-    let none = block.xor(alloc, &block)?;
+    let one = block(alloc, [2, 1, 5, 4])?;
+    assert!(rt; is_written(alloc, &one, &[0x0A, 1, 2, 4, 5])?);
+    let none = one.xor(alloc, &one)?;
     assert!(rt; is_written(alloc, &none, &[0x0A, 0, 0, 0, 0])?);
-    let below = Region::from_rect(alloc, rect!(0, 2, 4, 4))?;
-    let blocks = Region::from_rect(alloc, rect!(0, 0, 2, 2))?.union(alloc, &below)?;
+    let below = block(alloc, [0, 2, 4, 4])?;
+    let blocks = block(alloc, [0, 0, 2, 2])?.union(alloc, &below)?;
     assert!(rt; is_written(alloc, &blocks, &BLOCKS)?);
     Ok(())
 }
@@ -126,13 +139,13 @@ fn pixels_are_those_of_the_points(rt: HostRuntime) -> Result<(), Fail> {
 }
 
 /// The sides of small blocks.
-const BLOCK_SIDES: [Rect; 6] = [
-    rect!(0, 0, 2, 2),
-    rect!(1, 1, 4, 3),
-    rect!(2, 0, 3, 4),
-    rect!(-3, 3, 1, 4),
-    rect!(0, 0, 0, 0),
-    rect!(-16384, -16384, 16383, -16382),
+const BLOCK_SIDES: [[i32; 4]; 6] = [
+    [0, 0, 2, 2],
+    [1, 1, 4, 3],
+    [2, 0, 3, 4],
+    [-3, 3, 1, 4],
+    [0, 0, 0, 0],
+    [-16384, -16384, 16383, -16382],
 ];
 
 #[test]
@@ -140,7 +153,7 @@ fn what_is_written_is_read(rt: HostRuntime) -> Result<(), Fail> {
     let alloc = rt.alloc();
     for a in BLOCK_SIDES {
         for b in BLOCK_SIDES {
-            let region = Region::from_rect(alloc, a)?.xor(alloc, &Region::from_rect(alloc, b)?)?;
+            let region = block(alloc, a)?.xor(alloc, &block(alloc, b)?)?;
             assert!(rt; written_and_read(alloc, &region)?.equals(&region));
             let bytes = region.to_bytes(alloc)?;
             let again = read_and_written(alloc, bytes.as_slice())?;
@@ -155,7 +168,7 @@ fn dotted_row(alloc: Global, count: u8) -> Result<Region, Refusal> {
     let mut row = Region::empty(alloc);
     for i in 0..count {
         let left = 2 * i32::from(i);
-        let dot = Region::from_rect(alloc, rect!(left, 0, left + 1, 1))?;
+        let dot = block(alloc, [left, 0, left + 1, 1])?;
         row = row.union(alloc, &dot)?;
     }
     Ok(row)
