@@ -4,17 +4,33 @@ use list_cells::{Cell, Click, ClickKeys, ListCells, Selecting, SelectionFlags};
 use std::test::Fail;
 use tb_geom::Refusal;
 
+/// The cells of 2 columns and 2 rows, and what they hold.
+const FIRST: [(Cell, &[u8]); 4] = [
+    (cell!(0, 0), b"a"),
+    (cell!(1, 0), b"b"),
+    (cell!(0, 1), b"c"),
+    (cell!(1, 1), b"d"),
+];
+
+/// Some of them, after a row was put in before the second one and two columns behind the last.
+const MOVED: [(Cell, &[u8]); 4] = [
+    (cell!(1, 0), b"b"),
+    (cell!(1, 2), b"d"),
+    (cell!(0, 1), b""),
+    (cell!(3, 2), b""),
+];
+
 #[test]
 fn cells_move_with_their_rows_and_columns(rt: HostRuntime) -> Result<(), Fail> {
     let mut list = ListCells::new(rt.alloc(), 2, 2)?;
-    list.set_cell(cell!(0, 0), b"a")?;
-    list.set_cell(cell!(1, 0), b"b")?;
-    list.set_cell(cell!(0, 1), b"c")?;
-    list.set_cell(cell!(1, 1), b"d")?;
+    for (cell, data) in FIRST {
+        list.set_cell(cell, data)?;
+    }
     assert!(rt; list.add_rows(1, 1) == Ok(1) && list.add_columns(2, 9) == Ok(2));
     assert!(rt; list.rows() == 3 && list.columns() == 4);
-    assert!(rt; list.cell(cell!(1, 0)) == Ok(b"b") && list.cell(cell!(1, 2)) == Ok(b"d"));
-    assert!(rt; list.cell(cell!(0, 1)) == Ok(b"") && list.cell(cell!(3, 2)) == Ok(b""));
+    for (cell, data) in MOVED {
+        assert!(rt; list.cell(cell) == Ok(data));
+    }
     assert!(rt; list.delete_columns(1, 0) == Ok(()) && list.delete_rows(4096, 1) == Ok(()));
     assert!(rt; list.rows() == 1 && list.columns() == 3 && list.cell(cell!(0, 0)) == Ok(b"b"));
     Ok(())

@@ -105,23 +105,25 @@ fn a_window_loses_its_youngest_list_first(rt: HostRuntime) -> Result<(), Fail> {
 
 #[test]
 fn one_list_changes(rt: HostRuntime) -> Result<(), Fail> {
+    let view = view_of(20)?;
+    let high = view_of(40)?;
+    let cell = cell!(1, 2);
     let mut list = ListRecords::new(rt.alloc());
     add(&mut list, rt.alloc(), 7)?;
     add(&mut list, rt.alloc(), 9)?;
     let at = list.find(9, 2).expect(&rt, "it is one of them");
-    list.set_view(at, view_of(40)?);
+    list.set_view(at, high);
     list.set_drawing(at, false);
-    let cell = cell!(1, 2);
     list.lists[at].cells.set_cell(cell, b"Pear")?;
     let changed = list.remove(at);
-    let at = list.find(7, 1).expect(&rt, "it is one of them");
-    let kept = list.remove(at);
-    assert!(rt; changed.view == view_of(40)? && !changed.drawing);
-    assert!(rt; changed.cells.cell(cell) == Ok(b"Pear".as_slice()));
+    assert!(rt; changed.view == high && !changed.drawing);
+    assert!(rt; changed.cells.cell(cell) == Ok(b"Pear"));
     assert!(rt;
         changed.flags == ONLY_ONE && changed.vertical == Some(3) && changed.horizontal == None
     );
-    assert!(rt; kept.view == view_of(20)? && kept.drawing);
-    assert!(rt; kept.cells.cell(cell) == Ok(b"".as_slice()) && kept.cells.rows() == 3);
+    let at = list.find(7, 1).expect(&rt, "it is one of them");
+    let kept = list.remove(at);
+    assert!(rt; kept.view == view && kept.drawing);
+    assert!(rt; kept.cells.cell(cell) == Ok(b"") && kept.cells.rows() == 3);
     Ok(())
 }
