@@ -1,5 +1,5 @@
 //! Copying bits.
-ghost use Rattle.std.specs.Prelude.{◌≡◌, true, Bool, ◌&&◌, if◌then◌else◌};
+ghost use Rattle.std.specs.Prelude.{◌≡◌, ◌<◌, ◌≤ℤ◌, ℕ, pos, true, false, Bool, ◌&&◌, if◌then◌else◌};
 ghost use Rattle.std.specs.Int.{saturate_signed, w32};
 ghost use Rattle.std.specs.Prelude.{◌-ℤ◌};
 ghost use Rattle.tb_geom.specs.declared.point.Point.{Point};
@@ -8,11 +8,13 @@ ghost use Rattle.tb_geom.specs.Pixels.{holds};
 ghost use Rattle.bit_map.specs.Bits.{on_map, bit};
 ghost use Rattle.bit_map.specs.Images.{image_holds, image_bit};
 ghost use Rattle.bit_map.specs.Modes.{mode_bit};
+ghost use Rattle.bit_map.specs.Rules.{right_of};
+ghost use Rattle.bit_map.specs.Words.{bit_in};
 ghost use Rattle.bit_blit.specs.Draws.{Draws};
 ghost use Rattle.bit_blit.specs.Sources.{IsNearSource};
 
 use crate::walk::draw_region;
-use bit_map::{BitImage, BitMap, Mode, Rule};
+use bit_map::{BitImage, BitMap, Mode, Rule, blended};
 use scan_region::Region;
 use tb_geom::Point;
 
@@ -31,6 +33,17 @@ pub trait Source {
     fn bit(&self, point: Point) -> bool
         requires { has self.now point ≡ true }
         ensures { result ≡ bit_at self.now point };
+
+    /// Which of the 64 pixels of a row from `start` on the source has, the first at the high bit.
+    fn held(&self, start: Point) -> u64
+        ensures value { (k : ℕ) → k < 64 → bit_in result k ≡ has self.now (right_of start k) }
+        ensures near { IsNearSource (has self.now) };
+
+    /// The bits of the 64 pixels of a row from `start` on. Those that the source has not may be any.
+    fn word(&self, start: Point) -> u64
+        requires { pos 0 ≤ℤ start.h }
+        ensures { (k : ℕ) → k < 64 → has self.now (right_of start k) ≡ true
+            → bit_in result k ≡ bit_at self.now (right_of start k) };
 }
 
 impl Source for BitMap {
@@ -45,6 +58,14 @@ impl Source for BitMap {
     fn bit(&self, point: Point) -> bool {
         self.get(point)
     }
+
+    fn held(&self, start: Point) -> u64 {
+        BitMap::held(self, start)
+    }
+
+    fn word(&self, start: Point) -> u64 {
+        BitMap::word(self, start)
+    }
 }
 
 impl Source for BitImage<'_> {
@@ -58,6 +79,14 @@ impl Source for BitImage<'_> {
 
     fn bit(&self, point: Point) -> bool {
         BitImage::bit(self, point)
+    }
+
+    fn held(&self, start: Point) -> u64 {
+        BitImage::held(self, start)
+    }
+
+    fn word(&self, start: Point) -> u64 {
+        BitImage::word(self, start)
     }
 }
 
@@ -96,12 +125,36 @@ impl<S: Source> Rule for Copied<'_, S> {
             old
         }
     }
+
+    fn word(&self, start: Point, _count: usize, old: u64) -> u64 {
+        let place = from_origin(start, self.origin);
+        let held = self.source.held(place);
+        let bits = source_word(self.source, place);
+        blended(old, self.mode.effects(bits).of(old), held)
+    }
 }
 
-/// The point as seen from the origin. Where that is no point, it is one that no source has.
+/// The bits of 64 pixels of a row of a source. Those that it has not may be any.
+fn source_word<S: Source>(source: &S, start: Point) -> u64
+    requires { IsNearSource (S.has source.now) }
+    ensures { (k : ℕ) → k < 64 → S.has source.now (right_of start k) ≡ true
+        → bit_in result k ≡ S.bit_at source.now (right_of start k) }
+{
+    if start.h < 0 {
+        let first = Point { h: 0, v: start.v };
+        source.word(first) >> start.h.unsigned_abs().min(63)
+    } else {
+        source.word(start)
+    }
+}
+
+/// The point as seen from the origin. Where that is no point, it is one that no source has, and so are
+/// the points right of it.
 fn from_origin(point: Point, origin: Point) -> Point
-    ensures { (s : PixelSet) → IsNearSource s → (s result ≡ s (minus point origin))
+    ensures here { (s : PixelSet) → IsNearSource s → (s result ≡ s (minus point origin))
         × (s result ≡ true → result ≡ minus point origin) }
+    ensures row { (s : PixelSet) → IsNearSource s → (k : ℕ) → k < 64 → (s (right_of result k) ≡ s (minus (right_of point k) origin))
+        × (s (right_of result k) ≡ true → right_of result k ≡ minus (right_of point k) origin) }
 {
     Point {
         h: point.h.saturating_sub(origin.h),

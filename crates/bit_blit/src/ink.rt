@@ -1,13 +1,14 @@
 //! Filling with a pattern.
-ghost use Rattle.std.specs.Prelude.{◌≡◌, ◌-ℤ◌};
+ghost use Rattle.std.specs.Prelude.{◌≡◌, ◌-ℤ◌, ◌%◌, ℕ, Bool};
 ghost use Rattle.tb_geom.specs.Points.{minus};
 ghost use Rattle.tb_geom.specs.Pixels.{holds};
 ghost use Rattle.bit_blit.specs.Draws.{Draws};
 ghost use Rattle.bit_map.specs.Modes.{mode_bit};
 ghost use Rattle.bit_map.specs.Patterns.{pattern_bit, eighth_of};
+ghost use Rattle.bit_map.specs.Rules.{right_of, effects_bit};
 
 use crate::walk::draw_region;
-use bit_map::{BitMap, Mode, Pattern, Rule};
+use bit_map::{BitMap, Effects, Mode, Pattern, Rule};
 use scan_region::Region;
 use tb_geom::Point;
 
@@ -41,9 +42,23 @@ impl Rule for Ink {
         self.mode.apply(source, old)
     }
 
-    fn apply(&self, start: Point, run: &mut [bool]) {
+    fn word(&self, start: Point, _count: usize, old: u64) -> u64 {
+        self.effects(start).of(old)
+    }
+
+    fn words(&self, start: Point, run: &mut [u64]) {
+        self.effects(start).lay(run);
+    }
+}
+
+impl Ink {
+    /// What it makes of the bits of a row, of which the first lies at `start`.
+    fn effects(&self, start: Point) -> Effects
+        ensures { (k : ℕ) (old : Bool) → effects_bit result (k % 64) old
+            ≡ mode_bit self.now.mode (pattern_bit self.now.pattern (minus (right_of start k) self.now.offset)) old }
+    {
         self.pattern
-            .put_down(self.mode, near_origin(start, self.offset), run);
+            .effects(self.mode, near_origin(start, self.offset))
     }
 }
 

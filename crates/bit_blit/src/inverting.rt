@@ -4,7 +4,7 @@ ghost use Rattle.tb_geom.specs.Pixels.{holds};
 ghost use Rattle.bit_blit.specs.Draws.{Draws};
 
 use crate::walk::draw_region;
-use bit_map::{BitMap, Rule};
+use bit_map::{BitMap, Effect, Effects, Rule};
 use scan_region::Region;
 use tb_geom::Point;
 
@@ -25,5 +25,13 @@ impl Rule for Inverse {
 
     fn value(&self, _point: Point, old: bool) -> bool {
         !old
+    }
+
+    fn word(&self, _start: Point, _count: usize, old: u64) -> u64 {
+        Effects::all(Effect::INVERT).of(old)
+    }
+
+    fn words(&self, _start: Point, run: &mut [u64]) {
+        Effects::all(Effect::INVERT).lay(run);
     }
 }

@@ -8,8 +8,11 @@
 //! case of one region (`cut_inside`). `fill` puts a pattern down so, `copy` the bits of a `Source`, which is another map
 //! or a bit image, and `invert` turns each pixel.
 //!
-//! `shift` moves pixels within one map. It takes them in the order of a screen's scan, or against it
-//! where they move onward in it, so that the source of a pixel always has its old bit still.
+//! All of it goes by words of 64 pixels: a pattern, a mode and a source are asked for as many at a time.
+//!
+//! `shift` moves pixels within one map. It takes rows, and the words of a row, in the order of a screen's
+//! scan, or against it where they move onward in it, so that the source of a pixel always has its old
+//! bit still.
 #![tactic(auto)]
 
 mod copying;

@@ -1,12 +1,12 @@
 //! Shifting pixels within one map.
-ghost use Rattle.std.specs.Prelude.{◌≡◌, true, false, ◌&&◌, ◌≤ℤ◌, ◌<ℤ◌, pos};
+ghost use Rattle.std.specs.Prelude.{◌≡◌, true, ◌&&◌};
 ghost use Rattle.tb_geom.specs.declared.point.Point.{Point};
 ghost use Rattle.tb_geom.specs.Points.{minus};
 ghost use Rattle.tb_geom.specs.Rects.{rect_holds};
 ghost use Rattle.tb_geom.specs.Pixels.{holds};
 ghost use Rattle.scan_region.specs.Scan.{span_holds};
-ghost use Rattle.bit_map.specs.Bits.{on_map, is_point};
-ghost use Rattle.bit_blit.specs.Draws.{Draws, in_row};
+ghost use Rattle.bit_map.specs.Bits.{on_map};
+ghost use Rattle.bit_blit.specs.Draws.{Draws};
 ghost use Rattle.bit_blit.specs.Shifts.{shift_holds, shifted, is_onward};
 
 use bit_map::BitMap;
@@ -18,8 +18,9 @@ use tb_geom::{Point, Rect};
 /// bits so). A pixel whose source is off the map stays. Region and distance may be any, and source and
 /// destination may overlap. It takes no memory.
 ///
-/// Pixels are taken in the order of a screen's scan, or against it where the distance leads onward in
-/// it. So the source of a pixel is always one that still has its old bit.
+/// Rows and their parts are taken in the order of a screen's scan, or against it where the distance
+/// leads onward in it, and so are the words of a part (`shift_run`). So the source of a pixel is always
+/// one that still has its old bit.
 pub fn shift(map: &mut BitMap, region: &Region, distance: Point)
     ensures { Draws (shift_holds map.old (holds region.now) distance) (shifted map.old distance)
         map.old map.new }
@@ -65,65 +66,6 @@ fn shift_span(map: &mut BitMap, span: Span, area: Rect, distance: Point)
     if area.top <= span.v && span.v < area.bottom {
         let left = span.left.max(area.left);
         let right = span.right.min(area.right);
-        shift_row(map, span.v, left, right, distance);
-    }
-}
-
-/// Shifts to the pixels of a row, in the order in which each source still has its old bit.
-fn shift_row(map: &mut BitMap, v: i32, left: i32, right: i32, distance: Point)
-    requires { (p : Point) → in_row v left right p ≡ true
-        → (on_map map.old p && on_map map.old (minus p distance)) ≡ true }
-    ensures { Draws (in_row v left right) (shifted map.old distance) map.old map.new }
-{
-    if distance.h > 0 {
-        shift_row_right(map, v, left, right, distance);
-    } else {
-        shift_row_left(map, v, left, right, distance);
-    }
-}
-
-/// Shifts to the pixels of a row, from the left one on.
-fn shift_row_left(map: &mut BitMap, v: i32, left: i32, right: i32, distance: Point)
-    requires area { (p : Point) → in_row v left right p ≡ true
-        → (on_map map.old p && on_map map.old (minus p distance)) ≡ true }
-    requires leftward { distance.h ≤ℤ pos 0 }
-    ensures { Draws (in_row v left right) (shifted map.old distance) map.old map.new }
-{
-    for h in left..right {
-        shift_point(map, Point { h, v }, distance);
-    }
-}
-
-/// Shifts to the pixels of a row, from the right one on.
-fn shift_row_right(map: &mut BitMap, v: i32, left: i32, right: i32, distance: Point)
-    requires area { (p : Point) → in_row v left right p ≡ true
-        → (on_map map.old p && on_map map.old (minus p distance)) ≡ true }
-    requires rightward { pos 0 <ℤ distance.h }
-    ensures { Draws (in_row v left right) (shifted map.old distance) map.old map.new }
-{
-    for h in (left..right).rev() {
-        shift_point(map, Point { h, v }, distance);
-    }
-}
-
-/// Shifts to one pixel.
-fn shift_point(map: &mut BitMap, point: Point, distance: Point)
-    requires { (on_map map.old point && on_map map.old (minus point distance)) ≡ true }
-    ensures { Draws (is_point point) (shifted map.old distance) map.old map.new }
-{
-    let source = source_of(map, point, distance);
-    let bit = map.get(source);
-    map.set(point, bit);
-}
-
-/// The source of a pixel, which is on the map.
-fn source_of(map: &BitMap, point: Point, distance: Point) -> Point
-    requires { on_map map.now (minus point distance) ≡ true }
-    ensures { result ≡ minus point distance }
-{
-    let _bounds = map.bounds();
-    Point {
-        h: point.h - distance.h,
-        v: point.v - distance.v,
+        map.shift_run(span.v, left, right, distance);
     }
 }

@@ -1,4 +1,9 @@
 -- Lemmas on the bits of a map.
 pub mod BitsLemmas
+pub mod WordLemmas
+pub mod PartLemmas
+pub mod MoveLemmas
+pub mod ImageLemmas
 pub mod PatternLemmas
+pub mod StripeLemmas
 pub mod RunLemmas

@@ -1,5 +1,5 @@
 -- A map of bits, point by point.
-use Rattle.std.specs.Prelude.{◌≡◌, ℕ, ◌+◌, ◌*◌, ◌≤◌, ℤ, pos, negsuc, Bool, false, ◌&&◌, List, length, nat_lt, nat_abs, int_le, slice_index_or}
+use Rattle.std.specs.Prelude.{ℕ, ◌+◌, ◌*◌, ℤ, pos, negsuc, Bool, false, ◌&&◌, List, nat_lt, nat_abs, int_le, slice_index_or}
 use Rattle.std.specs.Ordering.{int_eq}
 use Rattle.tb_geom.specs.declared.point.Point.{Point}
 use Rattle.tb_geom.specs.declared.rect.Rect.{Rect}
@@ -11,12 +11,6 @@ pub record Bits : Type 0 where
   pub width : ℕ
   pub height : ℕ
   pub black : List Bool
-
--- the list has a bit for each pixel, and no side is longer than 32767
-pub record IsWholeMap (width height : ℕ) (black : List Bool) : Type 0 where
-  pub all : length black ≡ height * width
-  pub across : width ≤ 32767
-  pub down : height ≤ 32767
 
 -- whether a number is one of 0 .. limit - 1
 abbrev pub is_below : ℕ → ℤ → Bool

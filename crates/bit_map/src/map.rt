@@ -1,31 +1,39 @@
 //! Bitmaps.
-ghost use Rattle.std.specs.Prelude.{◌≡◌, ◌<◌, ◌≤◌, ◌≤ℤ◌, ◌+◌, ◌*◌, ◌&&◌, pos, true, false, nat_abs, length, IfOk, IfErr, if◌then◌else◌};
+ghost use Rattle.std.specs.Prelude.{◌≡◌, ◌<◌, ◌≤◌, ◌≤ℤ◌, ◌<ℤ◌, ◌-ℤ◌, ◌+◌, ◌*◌, ◌&&◌, pos, true, false, nat_abs, length, IfOk, IfErr, ℕ, if◌then◌else◌};
 ghost use Rattle.tb_geom.specs.declared.point.Point.{Point};
+ghost use Rattle.tb_geom.specs.Points.{minus};
 ghost use Rattle.tb_geom.specs.Rects.{rect_holds};
 ghost use Rattle.bit_map.specs.Bits.{on_map, bit, is_point, in_row, bounds_of, is_side};
-ghost use Rattle.bit_map.specs.Rules.{IsPartRuled, HasColumns};
+ghost use Rattle.bit_map.specs.Rules.{right_of};
+ghost use Rattle.bit_map.specs.Words.{words_across, bit_in};
 
+use crate::image::is_below;
+use crate::moves::{move_run, word_from};
 use crate::rule::Rule;
+use crate::run::rule_run;
+use crate::words::{bit_in, held, with_bit};
 use std::alloc::Global;
 use std::marker::Model;
 use tb_geom::{Point, Rect, Refusal};
 
-/// A rectangle of bits, its top left pixel at 0 0. Each side is 0..=32767 pixels long.
+/// A rectangle of bits, its top left pixel at 0 0. Each side is 0..=32767 pixels long. Each row begins
+/// with a word of its own; what the bits past its last column are does not matter.
 #[derive(Debug, Drop)]
 pub struct BitMap {
     width: u16,
     height: u16,
-    bits: Vec<bool>,
+    words: Vec<u64>,
 }
 
 impl Model for BitMap {
-    ghost use Rattle.bit_map.specs.Bits.{Bits, IsWholeMap};
+    ghost use Rattle.bit_map.specs.Bits.{Bits};
+    ghost use Rattle.bit_map.specs.Words.{black_of, IsWholeMap};
 
     ghost Value = { Bits };
 
-    ghost view = { λ m. record { width = m.width; height = m.height; black = m.bits.items } };
+    ghost view = { λ m. record { width = m.width; height = m.height; black = black_of m.width m.height m.words.items } };
 
-    ghost invariant = { λ m. IsWholeMap m.width m.height m.bits.items };
+    ghost invariant = { λ m. IsWholeMap m.width m.height m.words.items };
 }
 
 /// Whether a map may have a side of this length: 0..=32767.
@@ -43,13 +51,20 @@ fn natural(n: i32) -> usize
     n as usize
 }
 
-/// Gives each bit of a part of a list its new bit.
-fn rule_part<R: Rule>(bits: &mut [bool], place: usize, count: usize, start: Point, rule: &R)
-    requires within { place + count ≤ length bits.old }
-    requires columns { HasColumns start count }
-    ensures { IsPartRuled (R.value rule.now) start place count bits.old bits.new }
+/// How many columns there are from one on and up to another.
+fn columns_between(left: i32, right: i32) -> usize
+    requires low { pos 0 ≤ℤ left }
+    requires rising { left <ℤ right }
+    ensures { pos result ≡ right -ℤ left }
 {
-    rule.apply(start, &mut bits[place..place + count]);
+    natural(right - left)
+}
+
+/// How many words a row of so many columns takes.
+fn words_across(width: u16) -> usize
+    ensures { result ≡ words_across width }
+{
+    (usize::from(width) + 63) / 64
 }
 
 impl BitMap {
@@ -63,11 +78,12 @@ impl BitMap {
             e ≡ (if is_side width && is_side height then Refusal.NoMemory else Refusal.OutOfRange)) }
     {
         if is_side(width) && is_side(height) {
-            let bits = vec![in alloc; false; natural(width) * natural(height)]?;
+            let (width, height) = (width as u16, height as u16);
+            let words = vec![in alloc; 0; usize::from(height) * words_across(width)]?;
             Ok(BitMap {
-                width: width as u16,
-                height: height as u16,
-                bits,
+                width,
+                height,
+                words,
             })
         } else {
             Err(Refusal::OutOfRange)
@@ -93,7 +109,35 @@ impl BitMap {
         requires { on_map self.now point ≡ true }
         ensures { result ≡ bit self.now point }
     {
-        self.bits[self.place(point)]
+        let place = self.place(point);
+        bit_in(self.words[place / 64], place % 64)
+    }
+
+    /// Which of the 64 pixels of a row from `start` on the map has, the first at the high bit.
+    #[tactic(auto, unfolding(crate::specs::Bits::on_map))]
+    pub fn held(&self, start: Point) -> u64
+        ensures value { (k : ℕ) → k < 64 → bit_in result k ≡ on_map self.now (right_of start k) }
+        ensures limits { (self.now.width ≤ 32767) × (self.now.height ≤ 32767) }
+    {
+        if is_below(self.height, start.v) {
+            held(self.width, start.h)
+        } else {
+            0
+        }
+    }
+
+    /// The bits of the 64 pixels of a row from `start` on, the first at the high bit. Those off the map
+    /// may be any.
+    pub fn word(&self, start: Point) -> u64
+        requires { pos 0 ≤ℤ start.h }
+        ensures { (k : ℕ) → k < 64 → on_map self.now (right_of start k) ≡ true → bit_in result k ≡ bit self.now (right_of start k) }
+    {
+        if is_below(self.height, start.v) {
+            let row = natural(start.v) * (64 * words_across(self.width));
+            word_from(self.words.as_slice(), row + natural(start.h))
+        } else {
+            0
+        }
     }
 
     /// Gives the point of the map the bit `value`. Every other bit stays.
@@ -104,7 +148,7 @@ impl BitMap {
         ensures height { self.new.height ≡ self.old.height }
     {
         let place = self.place(point);
-        self.bits[place] = value;
+        self.words[place / 64] = with_bit(self.words[place / 64], place % 64, value);
     }
 
     /// Gives each pixel of the row `v` from the column `left` up to the column `right`, all in map
@@ -119,17 +163,37 @@ impl BitMap {
         if left < right {
             let start = Point { h: left, v };
             let place = self.place(start);
-            let count = natural(right - left);
-            rule_part(self.bits.as_mut_slice(), place, count, start, rule);
+            let count = columns_between(left, right);
+            rule_run(self.words.as_mut_slice(), place, count, start, rule);
         }
     }
 
-    /// Where the bit at a point of the map stands in the list.
+    /// Gives each pixel of the row `v` from the column `left` up to the column `right`, all in map
+    /// coordinates, the old bit of the pixel that lies `distance` before it. Every other bit stays.
+    pub fn shift_run(&mut self, v: i32, left: i32, right: i32, distance: Point)
+        requires { (p : Point) → in_row v left right p ≡ true → (on_map self.old p && on_map self.old (minus p distance)) ≡ true }
+        ensures bits { (p : Point) → bit self.new p
+            ≡ (if in_row v left right p then bit self.old (minus p distance) else bit self.old p) }
+        ensures width { self.new.width ≡ self.old.width }
+        ensures height { self.new.height ≡ self.old.height }
+    {
+        if left < right {
+            let place = self.place(Point { h: left, v });
+            let source = self.place(Point {
+                h: left - distance.h,
+                v: v - distance.v,
+            });
+            let count = columns_between(left, right);
+            move_run(self.words.as_mut_slice(), place, source, count);
+        }
+    }
+
+    /// Where the bit at a point of the map stands in the words.
     fn place(&self, point: Point) -> usize
         requires { on_map self.now point ≡ true }
-        ensures value { result ≡ nat_abs point.v * self.now.width + nat_abs point.h }
-        ensures within { result < length self.now.black }
+        ensures value { result ≡ nat_abs point.v * (64 * words_across self.now.width) + nat_abs point.h }
+        ensures limits { (self.now.width ≤ 32767) × (self.now.height ≤ 32767) }
     {
-        natural(point.v) * usize::from(self.width) + natural(point.h)
+        natural(point.v) * (64 * words_across(self.width)) + natural(point.h)
     }
 }

@@ -1,59 +1,56 @@
 //! Rows of patterns, put down by a mode.
-ghost use Rattle.std.specs.Prelude.{◌≡◌, ◌<◌, ℤ, Bool};
+ghost use Rattle.std.specs.Prelude.{◌≡◌, ◌+◌, ◌<◌, ◌%◌, ℕ, Bool};
 ghost use Rattle.bit_map.specs.Modes.{mode_bit};
-ghost use Rattle.bit_map.specs.Patterns.{pattern_bit, eighth_of};
-ghost use Rattle.bit_map.specs.Rules.{IsRuled};
-ghost use Rattle.bit_map.specs.Stripes.{stripe_bit};
+ghost use Rattle.bit_map.specs.Patterns.{pattern_bit, eighth_of, bit_of};
+ghost use Rattle.bit_map.specs.Rules.{right_of, effects_bit};
+ghost use Rattle.bit_map.specs.Words.{bit_in};
 
-use crate::effect::Effect;
+use crate::effect::Effects;
 use crate::mode::Mode;
-use crate::pattern::{Pattern, bit_of, eighth};
+use crate::pattern::{Pattern, eighth};
 use tb_geom::Point;
 
-/// A row of a pattern, and what becomes of old bits where it is black and where it is white.
-#[derive(Clone, Copy)]
-struct Stripe {
-    row: u8,
-    on_black: Effect,
-    on_white: Effect,
+/// The row of eight bits from its place `first` on, and then from its place 0 on.
+fn turned(row: u8, first: u8) -> u8
+    requires { first < 8 }
+    ensures { (j : ℕ) → j < 8 → bit_of result j ≡ bit_of row ((first + j) % 8) }
+{
+    (((u16::from(row) * 257) >> (8 - first)) % 256) as u8
 }
 
-impl Stripe {
-    /// The row of the pattern that comes to lie in the row `v` of the plane, put down by the mode.
-    fn of(pattern: Pattern, mode: Mode, v: i32) -> Stripe
-        ensures { (h : ℤ) (old : Bool) → stripe_bit result (eighth_of h) old
-            ≡ mode_bit mode (pattern_bit pattern (record { h = h; v = v })) old }
-    {
-        Stripe {
-            row: pattern.rows[eighth(v) as usize],
-            on_black: mode.effect(true),
-            on_white: mode.effect(false),
-        }
-    }
+/// The row of eight bits, repeated.
+fn repeated(row: u8) -> u64
+    ensures { (k : ℕ) → k < 64 → bit_in result k ≡ bit_of row (k % 8) }
+{
+    u64::from(row) * 0x0101_0101_0101_0101
+}
 
-    /// The new bit at a place of the row.
-    fn value(self, place: u8, old: bool) -> bool
-        requires { place < 8 }
-        ensures { result ≡ stripe_bit self place old }
+impl Mode {
+    /// What the mode makes of the bits of a word, of those of another as the source.
+    pub fn effects(self, source: u64) -> Effects
+        ensures { (k : ℕ) (old : Bool) → k < 64 → effects_bit result k old ≡ mode_bit self (bit_in source k) old }
     {
-        if bit_of(self.row, place) {
-            self.on_black.of(old)
-        } else {
-            self.on_white.of(old)
-        }
+        let (keeps, turns) = match self {
+            Mode::Copy => (0, source),
+            Mode::Or => (!source, source),
+            Mode::Xor => (u64::MAX, source),
+            Mode::Bic => (!source, 0),
+            Mode::NotCopy => (0, !source),
+            Mode::NotOr => (source, !source),
+            Mode::NotXor => (u64::MAX, !source),
+            Mode::NotBic => (source, 0),
+        };
+        Effects { keeps, turns }
     }
 }
 
 impl Pattern {
-    /// Puts the pattern down by the mode on a run of bits in one row. The first of them lies at `start`,
-    /// as seen from the pattern's origin.
-    pub fn put_down(self, mode: Mode, start: Point, run: &mut [bool])
-        ensures { IsRuled (λ p old. mode_bit mode (pattern_bit self p) old) start run.old run.new }
+    /// What putting the pattern down by the mode makes of the bits of a row, as it repeats word after
+    /// word. The first of them lies at `start`, as seen from the pattern's origin.
+    pub fn effects(self, mode: Mode, start: Point) -> Effects
+        ensures { (k : ℕ) (old : Bool) → effects_bit result (k % 64) old ≡ mode_bit mode (pattern_bit self (right_of start k)) old }
     {
-        let stripe = Stripe::of(self, mode, start.v);
-        let first = eighth(start.h);
-        for (k, bit) in run.iter_mut().enumerate() {
-            *bit = stripe.value((first + (k % 8) as u8) % 8, *bit);
-        }
+        let row = turned(self.rows[eighth(start.v) as usize], eighth(start.h));
+        mode.effects(repeated(row))
     }
 }

@@ -6,3 +6,4 @@ pub mod GlyphLemmas
 pub mod FrameLemmas
 pub mod OverLemmas
 pub mod SeenLemmas
+pub mod PutLemmas

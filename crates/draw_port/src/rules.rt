@@ -6,7 +6,7 @@ ghost use Rattle.draw_port.specs.Places.{stopped, IsSeenRun};
 
 use crate::shapes::Op;
 use bit_blit::Rule;
-use bit_map::right_of;
+use bit_map::{Effect, Effects, bit_in, one_bit, right_of};
 use strike_font::Font;
 use tb_geom::Point;
 
@@ -24,12 +24,26 @@ impl<R: Rule> Rule for Seen<'_, R> {
         self.rule.value(from_origin(point, self.origin), old)
     }
 
-    fn apply(&self, start: Point, run: &mut [bool]) {
-        match run_from_origin(start, self.origin, run.len()) {
-            Some(seen) => self.rule.apply(seen, run),
+    fn word(&self, start: Point, count: usize, old: u64) -> u64 {
+        match run_from_origin(start, self.origin, count) {
+            Some(seen) => self.rule.word(seen, count, old),
             None => {
-                for (k, bit) in run.iter_mut().enumerate() {
-                    *bit = self.value(right_of(start, k), *bit);
+                let mut new = 0;
+                for k in 0..count {
+                    let bit = self.value(right_of(start, k), bit_in(old, k));
+                    new |= one_bit(k, bit);
+                }
+                new
+            }
+        }
+    }
+
+    fn words(&self, start: Point, run: &mut [u64]) {
+        match run_from_origin(start, self.origin, 64 * run.len()) {
+            Some(seen) => self.rule.words(seen, run),
+            None => {
+                for (k, word) in run.iter_mut().enumerate() {
+                    *word = self.word(right_of(start, 64 * k), 64, *word);
                 }
             }
         }
@@ -85,7 +99,11 @@ impl Rule for White {
         false
     }
 
-    fn apply(&self, _start: Point, run: &mut [bool]) {
-        run.fill(false);
+    fn word(&self, _start: Point, _count: usize, old: u64) -> u64 {
+        Effects::all(Effect::WHITE).of(old)
+    }
+
+    fn words(&self, _start: Point, run: &mut [u64]) {
+        Effects::all(Effect::WHITE).lay(run);
     }
 }

@@ -1,6 +1,7 @@
 //! Drawing texts, glyph by glyph.
-ghost use Rattle.std.specs.Prelude.{◌≡◌, ◌+◌, ◌*◌, ◌^◌, ◌<◌, ◌≤◌, ◌≤ℤ◌, ◌-ℤ◌, ℤ, pos, true, false, ◌&&◌, length, if◌then◌else◌};
+ghost use Rattle.std.specs.Prelude.{◌≡◌, ◌+◌, ◌*◌, ◌^◌, ◌<◌, ◌≤◌, ◌≤ℤ◌, ◌-ℤ◌, ◌+ℤ◌, ℕ, ℤ, pos, true, false, ◌&&◌, length, if◌then◌else◌};
 ghost use Rattle.bit_map.specs.Modes.{mode_bit};
+ghost use Rattle.bit_map.specs.Words.{bit_in};
 ghost use Rattle.bit_blit.specs.Draws.{Draws};
 ghost use Rattle.strike_font.specs.Record.{words_of_row};
 ghost use Rattle.strike_font.specs.Text.{glyphs_pixel, glyph_pixel, glyph_rect, IsSized};
@@ -13,7 +14,7 @@ use crate::canvas::Canvas;
 use crate::placed::placed;
 use crate::values::clip_holds;
 use bit_blit::Rule;
-use bit_map::Mode;
+use bit_map::{Effects, Mode, bit_in, blended, one_bit};
 use scan_region::Region;
 use strike_font::{Font, Glyph};
 use tb_geom::{Point, Rect};
@@ -100,9 +101,44 @@ impl Rule for Put<'_> {
             old
         }
     }
+
+    fn word(&self, start: Point, count: usize, old: u64) -> u64 {
+        if self.clip.is_none() && self.is_right_of_text(start.h) {
+            return self.plain_word(start, old);
+        }
+        let mut new = 0;
+        for k in 0..count {
+            let bit = self.value(bit_map::right_of(start, k), bit_in(old, k));
+            new |= one_bit(k, bit);
+        }
+        new
+    }
 }
 
 impl Put<'_> {
+    /// Whether the text before has no pixel in a column and right of it.
+    fn is_right_of_text(&self, h: i32) -> bool
+        ensures { result ≡ true → pos self.now.reach ≤ℤ (h -ℤ self.now.pen.h) }
+    {
+        difference(h, self.pen.h) >= i64::from(self.reach)
+    }
+
+    /// The new bits of 64 pixels of a row from `start` on, drawn as if there were no text before and no
+    /// clip.
+    fn plain_word(&self, start: Point, old: u64) -> u64
+        ensures { (k : ℕ) → k < 64 → bit_in result k
+            ≡ (if glyph_pixel self.now.font.now self.now.glyph (start.h -ℤ self.now.pen.h -ℤ pos self.now.across +ℤ pos k) (start.v -ℤ self.now.pen.v)
+            then mode_bit self.now.mode true (bit_in old k) else bit_in old k) }
+    {
+        let x = difference(start.h, self.pen.h);
+        let y = difference(start.v, self.pen.v);
+        let bits = self
+            .font
+            .glyph_word(self.glyph, right_of(x, self.across), y);
+        let black = Effects::all(self.mode.effect(true));
+        blended(old, black.of(old), bits)
+    }
+
     /// A rectangle around what the glyph draws.
     fn bounds(&self) -> Rect
         ensures { Encloses result (λ p. clip_holds self.now.clip.now p

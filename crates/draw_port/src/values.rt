@@ -59,8 +59,12 @@ impl Rule for Shade {
         self.mode.apply(self.pattern.bit(point), old)
     }
 
-    fn apply(&self, start: Point, run: &mut [bool]) {
-        self.pattern.put_down(self.mode, start, run);
+    fn word(&self, start: Point, _count: usize, old: u64) -> u64 {
+        self.pattern.effects(self.mode, start).of(old)
+    }
+
+    fn words(&self, start: Point, run: &mut [u64]) {
+        self.pattern.effects(self.mode, start).lay(run);
     }
 }
 

@@ -94,14 +94,16 @@ fn patterns_by_value_and_over_the_plane(rt: HostRuntime) {
 }
 
 #[test]
-fn puts_a_pattern_down_on_a_run(rt: HostRuntime) {
+fn puts_a_pattern_down_on_words(rt: HostRuntime) {
     let pattern = Pattern {
         rows: [0x80, 0xC1, 0, 0, 0, 0, 0, 0x40],
     };
-    let mut run = [false, true, false, true, false, true, true];
-    // the columns 5, 6, 7, 0, 1, 2 and 3 of the second row
-    pattern.put_down(Mode::Xor, point!(-3, 9), &mut run);
-    assert!(rt; run == [false, true, true, false, true, true, true]);
+    let effects = pattern.effects(Mode::Xor, point!(-3, 9));
+    // the columns 5, 6, 7, 0 and so on of the second row, time after time
+    assert!(rt; effects.of(0) == 0x3838_3838_3838_3838);
+    let mut run = [0, u64::MAX];
+    effects.lay(&mut run);
+    assert!(rt; run == [0x3838_3838_3838_3838, 0xC7C7_C7C7_C7C7_C7C7]);
 }
 
 /// The sides of a map, and the bounds that it has then.

@@ -4,3 +4,4 @@ pub mod LongestRecord
 pub mod TextLemmas
 pub mod PartLemmas
 pub mod BuiltInLemmas
+pub mod WordsLemmas

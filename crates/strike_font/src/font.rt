@@ -1,5 +1,6 @@
 //! Fonts.
-ghost use Rattle.std.specs.Prelude.{◌≡◌, true, IfOk, IfErr, IsTrue, ◌↔◌, ◌≤◌, ◌<◌, ◌≤ℤ◌, ◌<ℤ◌, pos, negsuc, ◌*◌, ◌+◌, length, if◌then◌else◌};
+ghost use Rattle.std.specs.Prelude.{◌≡◌, ℕ, ◌+ℤ◌, true, IfOk, IfErr, IsTrue, ◌↔◌, ◌≤◌, ◌<◌, ◌≤ℤ◌, ◌<ℤ◌, pos, negsuc, ◌*◌, ◌+◌, length, if◌then◌else◌};
+ghost use Rattle.bit_map.specs.Words.{bit_in};
 ghost use Rattle.strike_font.specs.BuiltIn.{IsBuiltIn};
 ghost use Rattle.strike_font.specs.Record.{is_font, words_of_row, height, ascent, descent, kern};
 ghost use Rattle.strike_font.specs.Text.{glyph_of, text_width, text_holds, glyph_pixel, glyphs_pixel, glyph_rect, IsSized, IsTextPixel};
@@ -107,6 +108,17 @@ impl Font {
         ensures { result ≡ glyph_pixel self.now glyph x y }
     {
         glyph::glyph_pixel(&self.bytes, glyph, x, y)
+    }
+
+    /// Which of 64 pixels of a row a glyph of this font has, the first of them `x` columns right of the
+    /// pen and `y` rows below the baseline, and at the high bit. Either may be negative, and is at most
+    /// 2^34 either way.
+    pub fn glyph_word(&self, glyph: Glyph, x: i64, y: i64) -> u64
+        requires x_near { IsSized 34 x }
+        requires y_near { IsSized 34 y }
+        ensures { (k : ℕ) → k < 64 → bit_in result k ≡ glyph_pixel self.now glyph (x +ℤ pos k) y }
+    {
+        glyph::glyph_word(&self.bytes, glyph, x, y)
     }
 
     /// The rectangle of a glyph's columns and rows, seen from where the pen started on the baseline,

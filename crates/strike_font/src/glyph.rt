@@ -1,10 +1,12 @@
 //! Glyphs.
-ghost use Rattle.std.specs.Prelude.{◌≡◌, ◌+◌, ◌*◌, ◌^◌, ◌<◌, ◌≤◌, pos, negsuc, ◌-ℤ◌, ◌+ℤ◌, ◌≤ℤ◌, ◌<ℤ◌};
+ghost use Rattle.std.specs.Prelude.{◌≡◌, ℕ, nat_abs, ◌+◌, ◌*◌, ◌^◌, ◌<◌, ◌≤◌, pos, negsuc, ◌-ℤ◌, ◌+ℤ◌, ◌≤ℤ◌, ◌<ℤ◌};
+ghost use Rattle.bit_map.specs.Bits.{is_below};
+ghost use Rattle.bit_map.specs.Words.{bit_in};
 ghost use Rattle.strike_font.specs.Record.{IsFont, last_symbol, words_of_row, height};
 ghost use Rattle.strike_font.specs.Text.{symbol_of, glyph_at, glyph_of, image_bit, glyph_bit, glyph_pixel, glyph_rect, IsSized};
 
 use crate::record::{entry, first_char, gap, last_char, last_symbol, location, signed, word};
-use bit_map::bit_of;
+use bit_map::{bit_of, bits_from, held};
 use tb_geom::Rect;
 
 /// Where a glyph stands in the strike of its font, and how it is put down. All four are in pixels.
@@ -122,6 +124,67 @@ pub fn glyph_pixel(bytes: &[u8], glyph: Glyph, x: i64, y: i64) -> bool
     let column = column_of(x, signed(word(bytes, 4)), glyph.offset);
     let row = row_of(y, word(bytes, 9));
     glyph_bit(bytes, glyph, column, row)
+}
+
+/// 64 bits of a row of the strike, from a column on, the first at the high bit.
+#[tactic(auto, unfolding(crate::specs::Text::image_bit))]
+fn strike_word(bytes: &[u8], column: usize, row: u16) -> u64
+    requires font { IsFont bytes.now }
+    requires near { column < 2 ^ 18 }
+    ensures { (k : ℕ) → k < 64 → bit_in result k ≡ image_bit bytes.now (column + k) row }
+{
+    let row_words = usize::from(word(bytes, 12));
+    let place = 26 + usize::from(row) * (2 * row_words) + column / 8;
+    bits_from(bytes, place, column % 8)
+}
+
+/// 64 bits of a row of the strike, from so many columns right of a first one on. Those left of that one
+/// may be any.
+fn strike_from(bytes: &[u8], first: u16, start: i32, row: u16) -> u64
+    requires font { IsFont bytes.now }
+    requires near { start ≤ℤ pos 65536 }
+    ensures { (k : ℕ) → k < 64 → pos 0 ≤ℤ (start +ℤ pos k) → bit_in result k ≡ image_bit bytes.now (first + nat_abs (start +ℤ pos k)) row }
+{
+    let first = usize::from(first);
+    let far = start.unsigned_abs();
+    if start < 0 {
+        strike_word(bytes, first, row) >> far.min(63)
+    } else {
+        strike_word(bytes, first + far as usize, row)
+    }
+}
+
+/// Whether glyphs have a row.
+fn is_row(bytes: &[u8], row: i64) -> bool
+    requires { IsFont bytes.now }
+    ensures { result ≡ is_below (height bytes.now) row }
+{
+    0 <= row && row < i64::from(word(bytes, 7))
+}
+
+/// The bits of 64 columns of a glyph in a row, from a column on; it has none outside its own.
+fn glyph_bits(bytes: &[u8], glyph: Glyph, column: i64, row: i64) -> u64
+    requires { IsFont bytes.now }
+    ensures { (k : ℕ) → k < 64 → bit_in result k ≡ glyph_bit bytes.now glyph (column +ℤ pos k) row }
+{
+    if !is_row(bytes, row) {
+        return 0;
+    }
+    let start = column.clamp(-64, 65536) as i32;
+    strike_from(bytes, glyph.first, start, row as u16) & held(glyph.columns, start)
+}
+
+/// Which of 64 pixels of a row a glyph has, the first of them `x` columns right of the pen and `y` rows
+/// below the baseline, and at the high bit.
+pub fn glyph_word(bytes: &[u8], glyph: Glyph, x: i64, y: i64) -> u64
+    requires font { IsFont bytes.now }
+    requires x_near { IsSized 34 x }
+    requires y_near { IsSized 34 y }
+    ensures { (k : ℕ) → k < 64 → bit_in result k ≡ glyph_pixel bytes.now glyph (x +ℤ pos k) y }
+{
+    let start = column_of(x, signed(word(bytes, 4)), glyph.offset);
+    let row = row_of(y, word(bytes, 9));
+    glyph_bits(bytes, glyph, start, row)
 }
 
 /// How far right of where the pen started a glyph's first column lies.

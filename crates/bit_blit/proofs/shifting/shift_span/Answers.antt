@@ -1,13 +1,15 @@
 use Rattle.std.proofs.Common.{◌∙◌, sym, rules, SFits, w32}
 use Rattle.std.proofs.lemmas.Int.{ints, to_z-of_z}
-use Rattle.bit_blit.proofs.DrawsLemmas.{Draws-where, Draws-none}
+use Rattle.bit_blit.proofs.DrawsLemmas.{Draws-of, Draws-where, Draws-none}
+use Rattle.bit_blit.specs.Draws.{Draws, in_row}
+use Rattle.bit_blit.specs.Shifts.{shifted}
 use Rattle.bit_blit.proofs.WalkLemmas.{IsCut, cut_row-in_rect}
 use Rattle.bit_blit.proofs.ShiftLemmas.{span-cut, span-off, above_rows, below_rows}
 use Rattle.bit_blit.proofs.shifting.shift_span.Goals as goal
 use Rattle.bit_blit.proofs.shifting.shift_span.Goals.{else-area-span-via-then-area-span+else-span-area, else-area-span-via-else-area-span}
 
-pub shift_row-requires : goal.shift_row-requires
-shift_row-requires c =
+pub shift_run-requires : goal.shift_run-requires
+shift_run-requires c =
     let span = c.args.span in
     let area = c.args.area in
     let fits_v : SFits w32 span.v = search rules in
@@ -48,7 +50,7 @@ returns-then-span-area c =
       first_is = simp to_z-of_z at c.max-left.ensures.value;
       last_is = simp to_z-of_z at c.min-right.ensures.value;
     } in
-    let drawn = simp to_z-of_z at c.shift_row.ensures in
+    let drawn : Draws (in_row span.v c.max-left.result c.min-right.result) (shifted c.args.map.now c.args.distance) c.args.map.now c.shift_run.new.self = Draws-of _ _ _ _ (simp to_z-of_z at c.shift_run.ensures.bits) c.shift_run.ensures.width c.shift_run.ensures.height in
     Draws-where _ _ _ _ _ (λ x on. span-cut c.args.map.now span c.args.distance area _ _ c.requires cut x on) drawn
 
 pub returns-else-area-span : goal.returns-else-area-span

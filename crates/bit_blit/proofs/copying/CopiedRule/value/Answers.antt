@@ -9,7 +9,7 @@ returns-then-contains g c =
     let q = minus c.args.point r.origin in
     let has = g.S.Source.has r.source.now in
     let bit = g.S.Source.bit_at r.source.now in
-    let at = c.from_origin-place.ensures has c.contains.ensures.near in
+    let at = c.from_origin-place.ensures.here has c.contains.ensures.near in
     let on = sym c.contains.ensures.value ∙ c.if-contains.true in
     c.apply.ensures
     ∙ ap (λ b. mode_bit r.mode b c.args.old) (c.bit.ensures ∙ ap bit (at.1 on))

@@ -1,8 +1,8 @@
-use Rattle.std.proofs.Common.{◌≡◌, ◌*◌, replicate, false, rules}
+use Rattle.std.proofs.Common.{◌≡◌, ◌*◌, replicate, refl, rules}
 use Rattle.bit_map.proofs.BitsLemmas.{bit-white}
 use Rattle.bit_map.proofs.map.BitMap.new.Goals as goal
 
-pub returns-in_ok-bits-clause-white : goal.returns-in_ok-bits-clause-white
-returns-in_ok-bits-clause-white c =
-    let e : c.in_ok-bits.bits.items ≡ replicate (c.natural.result * c.natural-then-is_side-2.result) false = search rules in
-    bit-white _ _ e
+pub returns-in_ok-words-clause-white : goal.returns-in_ok-words-clause-white
+returns-in_ok-words-clause-white c =
+    let e : c.in_ok-words.words.items ≡ replicate (c.from.result * c.words_across.result) 0 = search rules in
+    bit-white _ c.in_ok-words.words.items _ refl e

@@ -1,0 +1,119 @@
+-- Glyphs by words.
+use Rattle.std.proofs.Common.{◌≡◌, ℕ, ◌+◌, ◌-◌, ◌*◌, ◌/◌, ◌%◌, ◌^◌, ◌<◌, ◌≤◌, ◌≤ℤ◌, ◌<ℤ◌, ◌+ℤ◌, ◌-ℤ◌, ℤ, pos, negsuc, nat_abs, min, Bool, true, false, ◌&&◌, List, get_or, nat_lt, refl, sym, ap, ◌∙◌, arith}
+use Rattle.std.specs.Int.{int_min, int_max}
+use Rattle.std.proofs.lemmas.Bool.Decides.{nat_tests}
+use Rattle.std.proofs.lemmas.Int.{ints, clamps}
+use Rattle.bit_map.specs.Bits.{is_below}
+use Rattle.bit_map.specs.Patterns.{bit_of}
+use Rattle.bit_map.specs.Words.{bit_in}
+use Rattle.bit_map.proofs.WordLemmas.{bit_in-right}
+use Rattle.strike_font.specs.declared.glyph.Glyph.{Glyph}
+use Rattle.strike_font.specs.Record.{words_of_row, height}
+use Rattle.strike_font.specs.Text.{image_bit, glyph_bit}
+
+-- a bit of the strike by the byte from which it is read
+pub strike_bit : (font : List ℕ) (column row w k : ℕ) → w ≡ words_of_row font
+    → bit_of (get_or font (26 + row * (2 * w) + column / 8 + (column % 8 + k) / 8) 0) ((column % 8 + k) % 8) ≡ image_bit font (column + k) row
+unfolding image_bit
+strike_bit font column row w k e =
+    let q : column / 8 + (column % 8 + k) / 8 ≡ (column + k) / 8 = omega arith in
+    let r : (column % 8 + k) % 8 ≡ (column + k) % 8 = omega arith in
+    let at : 26 + row * (2 * w) + column / 8 + (column % 8 + k) / 8 ≡ 26 + row * (2 * words_of_row font) + (column + k) / 8 = ap (λ n. 26 + row * (2 * n) + column / 8 + (column % 8 + k) / 8) e ∙ (let there : 26 + row * (2 * words_of_row font) + column / 8 + (column % 8 + k) / 8 ≡ 26 + row * (2 * words_of_row font) + (column + k) / 8 = omega (arith, q) in there) in
+    λ i. bit_of (get_or font (at i) 0) (r i)
+
+pub left_bits : (font : List ℕ) (first row far word k : ℕ) (start : ℤ) → start <ℤ pos 0 → far ≡ nat_abs start
+    → ((j : ℕ) → j < 64 → bit_in word j ≡ image_bit font (first + j) row)
+    → k < 64 → pos 0 ≤ℤ (start +ℤ pos k) → bit_in (word / 2 ^ (min far 63)) k ≡ image_bit font (first + nat_abs (start +ℤ pos k)) row
+left_bits font first row far word k (pos n) less is read low inside = absurd (omega (arith, ints))
+left_bits font first row far word k (negsuc n) less is read low inside =
+    let past : n < k = omega (arith, ints, inside) in
+    let f : far ≡ n + 1 = omega (arith, is) in
+    let m : min far 63 ≡ n + 1 = omega (arith, f, past, low) in
+    let there : nat_abs (negsuc n +ℤ pos k) ≡ k - (n + 1) = ap nat_abs (back n k past) in
+    ap (λ j. bit_in (word / 2 ^ j) k) m ∙ bit_in-right word (n + 1) k (omega (arith, past)) low ∙ read (k - (n + 1)) (omega (arith, low)) ∙ ap (λ j. image_bit font (first + j) row) (sym there)
+  where
+    back : (n k : ℕ) → n < k → (negsuc n +ℤ pos k) ≡ pos (k - (n + 1))
+    back n k past = omega (arith, ints, past)
+
+pub right_bits : (font : List ℕ) (first row far word k : ℕ) (start : ℤ) → pos 0 ≤ℤ start → far ≡ nat_abs start
+    → ((j : ℕ) → j < 64 → bit_in word j ≡ image_bit font (first + far + j) row)
+    → k < 64 → bit_in word k ≡ image_bit font (first + nat_abs (start +ℤ pos k)) row
+right_bits font first row far word k (pos n) low is read l =
+    let at : first + far + k ≡ first + (n + k) = omega (arith, is) in
+    read k l ∙ ap (λ j. image_bit font j row) at
+right_bits font first row far word k (negsuc n) low is read l = absurd (omega (arith, ints))
+
+-- a glyph has no bit in a row that there is not
+pub row_none : (font : List ℕ) (g : Glyph) (column row : ℤ) → is_below (height font) row ≡ false → glyph_bit font g column row ≡ false
+row_none font g (negsuc k) row off = refl
+row_none font g (pos k) (negsuc r) off = refl
+row_none font g (pos k) (pos r) off = ap (λ t. (nat_lt k g.columns && t) && image_bit font (g.first + k) r) off ∙ none (nat_lt k g.columns) (image_bit font (g.first + k) r)
+  where
+    none : (a b : Bool) → ((a && false) && b) ≡ false
+    none true b = refl
+    none false b = refl
+
+-- and in a row that there is those of its columns that the strike has
+pub row_bits : (font : List ℕ) (g : Glyph) (column row : ℤ) (r : ℕ) (bit held : Bool) → is_below (height font) row ≡ true → row ≡ pos r
+    → held ≡ is_below g.columns column → (is_below g.columns column ≡ true → bit ≡ image_bit font (g.first + nat_abs column) r) → (bit && held) ≡ glyph_bit font g column row
+row_bits font g (negsuc k) row r bit held on is is_held read = ap (λ t. bit && t) is_held ∙ none bit
+  where
+    none : (a : Bool) → (a && false) ≡ false
+    none true = refl
+    none false = refl
+row_bits font g (pos k) row r bit held on is is_held read =
+    let has : nat_lt r (height font) ≡ true = ap (is_below (height font)) (sym is) ∙ on in
+    ap (λ t. bit && t) is_held ∙ turn (nat_lt k g.columns) read
+    ∙ sym (ap (glyph_bit font g (pos k)) is ∙ ap (λ t. (nat_lt k g.columns && t) && image_bit font (g.first + k) r) has)
+  where
+    turn : (b : Bool) → (b ≡ true → bit ≡ image_bit font (g.first + k) r) → (bit && b) ≡ ((b && true) && image_bit font (g.first + k) r)
+    turn true f = all bit ∙ f refl
+      where
+        all : (a : Bool) → (a && true) ≡ a
+        all true = refl
+        all false = refl
+    turn false f = none bit
+      where
+        none : (a : Bool) → (a && false) ≡ false
+        none true = refl
+        none false = refl
+
+-- ---- a column that is kept near
+
+below_z : (limit : ℕ) (x : ℤ) → is_below limit x ≡ true → (pos 0 ≤ℤ x) × (x <ℤ pos limit)
+below_z limit (pos n) e = let low : n < limit = grind (arith, nat_tests) in (omega (arith, ints), omega (arith, ints, low))
+below_z limit (negsuc n) e = absurd (cc)
+
+abbrev pub near_column : ℤ → ℤ
+near_column x = int_max (negsuc 63) (int_min x (pos 65536))
+
+near_is : (x : ℤ) → negsuc 63 ≤ℤ x → x ≤ℤ pos 65536 → near_column x ≡ x
+near_is x a b = grind (arith, ints, clamps)
+
+is_near : (x : ℤ) → negsuc 63 <ℤ near_column x → near_column x <ℤ pos 65536 → near_column x ≡ x
+is_near x a b = grind (arith, ints, clamps)
+
+pub column_is : (limit : ℕ) (x : ℤ) (k : ℕ) → limit ≤ 65535 → k < 64 → is_below limit (x +ℤ pos k) ≡ true → near_column x ≡ x
+column_is limit x k l low e =
+    let both = below_z limit (x +ℤ pos k) e in
+    near_is x (omega (arith, ints, both.0, low)) (omega (arith, ints, both.1, l))
+
+pub column_below : (limit : ℕ) (x : ℤ) (k : ℕ) → limit ≤ 65535 → k < 64 → is_below limit (near_column x +ℤ pos k) ≡ is_below limit (x +ℤ pos k)
+column_below limit x k l low = by_test (is_below limit (near_column x +ℤ pos k)) (is_below limit (x +ℤ pos k)) refl refl
+  where
+    by_test : (a b : Bool) → is_below limit (near_column x +ℤ pos k) ≡ a → is_below limit (x +ℤ pos k) ≡ b → is_below limit (near_column x +ℤ pos k) ≡ is_below limit (x +ℤ pos k)
+    by_test a true e f = ap (λ y. is_below limit (y +ℤ pos k)) (column_is limit x k l low f)
+    by_test true false e f =
+        let both = below_z limit (near_column x +ℤ pos k) e in
+        ap (λ y. is_below limit (y +ℤ pos k)) (is_near x (omega (arith, ints, both.0, low)) (omega (arith, ints, both.1, l)))
+    by_test false false e f = e ∙ sym f
+
+pub column-turn : (x k o : ℤ) (j : ℕ) → ((x -ℤ (k +ℤ o)) +ℤ pos j) ≡ ((x +ℤ pos j) -ℤ (k +ℤ o))
+column-turn x k o j = omega (arith, ints)
+
+pub below_row : (limit : ℕ) (x : ℤ) → is_below limit x ≡ true → x ≡ pos (nat_abs x)
+below_row limit (pos n) e = refl
+below_row limit (negsuc n) e = absurd (cc)
+
+pub below_zero : (limit : ℕ) (x : ℤ) → is_below limit x ≡ true → pos 0 ≤ℤ x
+below_zero limit x e = (below_z limit x e).0
