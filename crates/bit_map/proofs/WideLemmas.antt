@@ -49,13 +49,13 @@ wide_moved place source count old mid one new left right w = record {
   where
     last_kept : (n : ℕ) → n < place + count → place_bit new n ≡ place_bit one n
     last_kept n low = kept_at ((place + count - 1) / 64) (get_or old ((place + count - 1) / 64) 0) right one new w.last n (λ e.
-      let inside : nat_lt (n % 64) (place + count - 64 * ((place + count - 1) / 64)) ≡ true = let under : n % 64 < place + count - 64 * ((place + count - 1) / 64) = omega (arith, e, low) in grind (arith, nat_tests) in
-      w.to (n % 64) (omega arith) ∙ inside)
+        let inside : nat_lt (n % 64) (place + count - 64 * ((place + count - 1) / 64)) ≡ true = let under : n % 64 < place + count - 64 * ((place + count - 1) / 64) = omega (arith, e, low) in grind (arith, nat_tests) in
+        w.to (n % 64) (omega arith) ∙ inside)
 
     first_kept : (n : ℕ) → place ≤ n → place_bit one n ≡ place_bit mid n
     first_kept n high = kept_at (place / 64) (get_or old (place / 64) 0) left mid one w.first n (λ e.
-      let inside : nat_le (place % 64) (n % 64) ≡ true = let past : place % 64 ≤ n % 64 = omega (arith, e, high) in grind (arith, nat_tests) in
-      w.from (n % 64) (omega arith) ∙ inside)
+        let inside : nat_le (place % 64) (n % 64) ≡ true = let past : place % 64 ≤ n % 64 = omega (arith, e, high) in grind (arith, nat_tests) in
+        w.from (n % 64) (omega arith) ∙ inside)
 
     inside : (k : ℕ) → k < count → place_bit mid (place + k) ≡ place_bit old (source + k)
     inside k low =
@@ -80,7 +80,7 @@ wide_moved place source count old mid one new left right w = record {
     by_end i high true e =
         let here : i / 64 ≡ (place + count - 1) / 64 = grind (arith, nat_tests) in
         let outside : nat_lt (i % 64) (place + count - 64 * ((place + count - 1) / 64)) ≡ false =
-          let past : place + count - 64 * ((place + count - 1) / 64) ≤ i % 64 = omega (arith, here, high, w.some) in grind (arith, nat_tests) in
+        let past : place + count - 64 * ((place + count - 1) / 64) ≤ i % 64 = omega (arith, here, high, w.some) in grind (arith, nat_tests) in
         white_at ((place + count - 1) / 64) right old one new w.last i here (w.to (i % 64) (omega arith) ∙ outside)
     by_end i high false e =
         let other : i / 64 ≢ (place + count - 1) / 64 = λ same. absurd (grind (arith, nat_tests)) in
