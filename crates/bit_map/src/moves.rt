@@ -196,6 +196,7 @@ fn move_up(words: &mut [u64], first: usize, count: usize, near: usize, bit: usiz
 }
 
 /// Moves bits to whole words, in the order in which each still has its old bits when it is read.
+#[inline(always)]
 fn move_whole(words: &mut [u64], place: usize, source: usize, count: usize)
     requires within { place + count ≤ 64 * length words.old }
     requires whole { count % 64 ≡ 0 }
@@ -240,6 +241,7 @@ fn move_wide(words: &mut [u64], place: usize, source: usize, count: usize)
 
 /// Moves bits in three parts: those of a word that has begun, those of whole words, and those that are
 /// left.
+#[inline(never)]
 fn move_parts(words: &mut [u64], place: usize, source: usize, count: usize)
     requires within { place + count ≤ 64 * length words.old }
     requires source_in { source + count ≤ 64 * length words.old }
