@@ -74,7 +74,7 @@ impl Canvas<'_> {
         };
         for span in cut.spans_within(rect) {
             if is_below(block, span) {
-                block.bottom += 1;
+                block = grown(block);
             } else {
                 self.draw(block, rule);
                 block = row_of(span);
@@ -86,15 +86,26 @@ impl Canvas<'_> {
 
 /// Whether the span is the row below the block.
 fn is_below(block: Rect, span: Span) -> bool
-    ensures { result ≡ true → (span.left ≡ block.left) × (span.right ≡ block.right) × (span.v ≡ block.bottom) }
+    ensures { result ≡ true → (span.left ≡ block.left) × ((span.right ≡ block.right) × (span.v ≡ block.bottom)) }
 {
     span.left == block.left && span.right == block.right && span.v == block.bottom
 }
 
+/// The block with one row more.
+fn grown(block: Rect) -> Rect
+    requires { (block.bottom +ℤ pos 1) ≤ℤ pos 2147483647 }
+    ensures { result ≡ record { left = block.left; top = block.top; right = block.right; bottom = block.bottom +ℤ pos 1 } }
+{
+    Rect {
+        bottom: block.bottom + 1,
+        ..block
+    }
+}
+
 /// The span as a rectangle of one row.
 fn row_of(span: Span) -> Rect
-    requires { span.v +ℤ pos 1 ≤ℤ pos 2147483647 }
-    ensures rows { result ≡ record { left = span.left; top = span.v; right = span.right; bottom = span.v +ℤ pos 1 } }
+    requires { (span.v +ℤ pos 1) ≤ℤ pos 2147483647 }
+    ensures { result ≡ record { left = span.left; top = span.v; right = span.right; bottom = span.v +ℤ pos 1 } }
 {
     Rect {
         left: span.left,
