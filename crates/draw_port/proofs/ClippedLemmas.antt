@@ -2,6 +2,7 @@
 use Rattle.std.proofs.Common.{◌≡◌, ℕ, ◌≤◌, zero, suc, ℤ, pos, negsuc, ◌+ℤ◌, ◌-ℤ◌, ◌≤ℤ◌, ◌<ℤ◌, Bool, true, false, not, ◌&&◌, ◌||◌, cond, List, [], ◌∷◌, ◌++◌, Option, Some, None, refl, sym, ap, ◌∙◌, subst, arith, SFits, w32}
 use Rattle.std.specs.Borrow.{Bor}
 use Rattle.std.specs.List.{list_any, All}
+use Rattle.std.specs.Option.{option_copied}
 use Rattle.std.specs.Ordering.{int_eq}
 use Rattle.std.proofs.lemmas.Int.{ints}
 use Rattle.std.proofs.lemmas.List.Elements.{All-head, All-tail}
@@ -247,3 +248,30 @@ block_next c value before span rest set a b next drawn = Draws-where _ _ value a
 
 pub block_next-within : (before : List Span) (span : Span) (q : Point) → rect_holds (row_rect span) q ≡ true → spans_hold (before ++ span ∷ []) q ≡ true
 block_next-within before span q e = more-holds before span q ∙ or_second (spans_hold before q) (span_holds span q) false (sym (row-holds span q) ∙ e)
+
+-- ---- filled regions
+
+part-holds : (part : Option (Bor Pixels)) (clip : Option Pixels) → option_copied part ≡ clip → (q : Point) → in_part part q ≡ clip_holds clip q
+part-holds part clip e q = by_part part ∙ ap (λ k. clip_holds k q) e
+  where
+    by_part : (part : Option (Bor Pixels)) → in_part part q ≡ clip_holds (option_copied part) q
+    by_part None = refl
+    by_part (Some r) = refl
+
+-- what a region and a clip leave is drawn where the cut of both is
+pub region_drawn : (c : Canvas) (r : Bor Pixels) (part : Option (Bor Pixels)) (clip : Option Pixels) (box : Rect) (value : Point → Bool → Bool) (a b : Bits)
+    → option_copied part ≡ clip → IsBoxOf box (holds r.now)
+    → Draws (λ p. canvas_holds c p && (cut_holds (record { inside = Some r ∷ part ∷ None ∷ []; outside = None }) (canvas_point c p) && rect_holds box (canvas_point c p))) value a b
+    → Draws (λ p. canvas_holds c p && (clip_holds clip (canvas_point c p) && holds r.now (canvas_point c p))) value a b
+unfolding cut_holds
+region_drawn c r part clip box value a b is_clip around drawn = Draws-where _ _ value a b (λ p on. ap (λ t. canvas_holds c p && t) (one (canvas_point c p))) drawn
+  where
+    table : (held part boxed : Bool) → (held ≡ true → boxed ≡ true) → (((held && (part && true)) && true) && boxed) ≡ (part && held)
+    table true true true f = refl
+    table true true false f = absurd (cc (f refl))
+    table true false boxed f = refl
+    table false true boxed f = refl
+    table false false boxed f = refl
+
+    one : (q : Point) → (cut_holds (record { inside = Some r ∷ part ∷ None ∷ []; outside = None }) q && rect_holds box q) ≡ (clip_holds clip q && holds r.now q)
+    one q = table (holds r.now q) (in_part part q) (rect_holds box q) (around.holds q) ∙ ap (λ t. t && holds r.now q) (part-holds part clip is_clip q)

@@ -153,7 +153,7 @@ impl Canvas<'_> {
     }
 
     /// Fills what the clip leaves of a region.
-    fn draw_region(&mut self, clip: &Option<Region>, region: &Region, shade: &Shade)
+    fn draw_region<'r>(&mut self, clip: &'r Option<Region>, region: &'r Region, shade: &Shade)
         ensures same_map { self.new.map.ghost_name ≡ self.old.map.ghost_name }
         ensures same_frame { SameFrame self.old self.new }
         ensures drawn { Draws (λ p. canvas_holds self.old p && (clip_holds clip.now (canvas_point self.old p) && holds region.now (canvas_point self.old p)))
