@@ -191,6 +191,9 @@ impl Canvas<'_> {
             self.old.map.now self.new.map.now }
     {
         let _bounds = self.map.bounds();
+        if area.is_empty() {
+            return;
+        }
         let seen = Seen {
             rule,
             origin: self.origin,
