@@ -7,3 +7,4 @@ pub mod FrameLemmas
 pub mod OverLemmas
 pub mod SeenLemmas
 pub mod PutLemmas
+pub mod ClippedLemmas
