@@ -1,5 +1,5 @@
 //! The spans that a cut leaves of a rectangle, row by row.
-ghost use Rattle.std.specs.Prelude.{◌≡◌, ◌&&◌, false, true};
+ghost use Rattle.std.specs.Prelude.{◌≡◌, ◌&&◌, false, true, IsTrue};
 ghost use Rattle.std.specs.Iterator.{YieldsFirst, item_count};
 ghost use Rattle.tb_geom.specs.declared.point.Point.{Point};
 ghost use Rattle.tb_geom.specs.Points.{PixelSet};
@@ -14,6 +14,7 @@ use crate::cut::Cut;
 use crate::descent::Descent;
 use crate::part::{Columns, Part};
 use crate::region::Region;
+use crate::span_rows::{FullRows, SpanRows};
 use crate::spans::Span;
 use crate::walk::Walk;
 use arrayvec::ArrayVec;
@@ -27,7 +28,7 @@ pub struct CutSpans<'a> {
     cut: Cut<'a>,
     /// Whether all is seen turned by half a turn, from the bottom up and from right to left.
     up: bool,
-    descent: Descent<'a>,
+    rows: SpanRows<'a>,
 }
 
 impl<'a> Model for CutSpans<'a> {
@@ -37,12 +38,12 @@ impl<'a> Model for CutSpans<'a> {
     ghost Value = { List Span };
 
     ghost use Rattle.scan_region.specs.Cuts.{cut_holds};
-    ghost use Rattle.scan_region.specs.Descents.{IsDescent, spans_left};
+    ghost use Rattle.scan_region.specs.SpanRows.{AreRowsOf, rows_left};
     ghost use Rattle.region_rows.specs.Seen.{seen_set};
 
-    ghost view = { λ s. spans_left s.descent (seen_set s.up (cut_holds s.cut)) };
+    ghost view = { λ s. rows_left s.rows (seen_set s.up (cut_holds s.cut)) };
 
-    ghost invariant = { λ s. IsDescent s.descent (seen_set s.up (cut_holds s.cut)) };
+    ghost invariant = { λ s. AreRowsOf s.rows (seen_set s.up (cut_holds s.cut)) };
 }
 
 /// What is left to be asked of a region in which pixels of the area must lie: nothing, where it is a rectangle.
@@ -74,7 +75,39 @@ fn hole_within<'a>(hole: Option<&'a Region>, up: bool, area: Rect) -> Option<&'a
 }
 
 impl<'a> Cut<'a> {
+    /// Whether there is no region, so that each pixel is left.
+    fn is_open(&self) -> bool
+        ensures { IsTrue result → (p : Point) → cut_holds self.now p ≡ true }
+    {
+        let parts = &self.inside[..];
+        if parts[0].is_some() || parts[1].is_some() || parts[2].is_some() {
+            return false;
+        }
+        self.outside.is_none()
+    }
+
     /// The spans of an area's pixels that the cut leaves, seen so.
+    fn rows_within(&self, up: bool, area: Rect) -> CutSpans<'a>
+        requires { IsUpright area }
+        ensures { IsScanOf result (λ p. rect_holds area p && seen_set up (cut_holds self.now) p) }
+    {
+        if self.is_open() {
+            return CutSpans {
+                cut: *self,
+                up,
+                rows: SpanRows::Full(FullRows {
+                    left: area.left,
+                    right: area.right,
+                    next: area.top,
+                    bottom: area.bottom,
+                }),
+            };
+        }
+        self.walk_within(up, area)
+    }
+
+    /// The same, by a walk along the rows.
+    #[inline(never)]
     fn walk_within(&self, up: bool, area: Rect) -> CutSpans<'a>
         requires { IsUpright area }
         ensures { IsScanOf result (λ p. rect_holds area p && seen_set up (cut_holds self.now) p) }
@@ -93,7 +126,7 @@ impl<'a> Cut<'a> {
         CutSpans {
             cut: *self,
             up,
-            descent: Descent {
+            rows: SpanRows::Walked(Descent {
                 left: area.left,
                 v: area.top,
                 kept: ArrayVec::new(),
@@ -111,7 +144,7 @@ impl<'a> Cut<'a> {
                 next: area.top,
                 until: area.top,
                 bottom: area.bottom,
-            },
+            }),
         }
     }
 
@@ -128,7 +161,7 @@ impl<'a> Cut<'a> {
             inside: [first, second, third],
             outside: hole_within(self.outside, up, area),
         };
-        narrowed.walk_within(up, area)
+        narrowed.rows_within(up, area)
     }
 
     /// The spans of the area's pixels that the cut leaves, by rising rows and columns: their maximal runs
@@ -148,6 +181,6 @@ impl<'a> Iterator for CutSpans<'a> {
     ghost remaining = { item_count (λ rest. rest) };
 
     fn next(&mut self) -> Option<Span> {
-        self.descent.next_span()
+        self.rows.next_span()
     }
 }

@@ -32,6 +32,7 @@ mod descent;
 pub mod laws;
 mod part;
 mod region;
+mod span_rows;
 mod spans;
 mod spans_up;
 mod walk;
