@@ -139,7 +139,7 @@ impl<'a> Cut<'a> {
                     second,
                     third,
                     hole,
-                    words: [0; 512],
+                    words: [0; 128],
                 },
                 next: area.top,
                 until: area.top,

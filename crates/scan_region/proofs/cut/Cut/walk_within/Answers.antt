@@ -19,7 +19,7 @@ invariant_of-result-2 c =
     let hole = simp to_z-of_z at c.new-hole.ensures in
     simp to_z-of_z (record {
       walk = cut_walk _ c.args.self.now c.args.up c.index-parts-0.result c.index-parts-1.result c.index-parts-2.result long c.index-parts-0.is c.index-parts-1.is c.index-parts-2.is
-          (first.part _ (no_bit _ 512 refl) _) (second.part _ (no_bit _ 512 refl) _) (third.part _ (no_bit _ 512 refl) _) (hole.part _ (no_bit _ 512 refl) _);
+          (first.part _ (no_bit _ 128 refl) _) (second.part _ (no_bit _ 128 refl) _) (third.part _ (no_bit _ 128 refl) _) (hole.part _ (no_bit _ 128 refl) _);
       sides = record {
         end = refl;
         begun = c.requires.0;
@@ -30,7 +30,7 @@ invariant_of-result-2 c =
         first = first.fit;
         second = second.fit;
         third = third.fit;
-        hole = fit_up _ _ _ c.new-hole.new.free 32768 _ hole.room hole.fit;
+        hole = fit_up _ _ _ c.new-hole.new.free 8192 _ hole.room hole.fit;
       };
       order = search (rules, ints);
       column = c.requires.1;
