@@ -180,6 +180,7 @@ impl<'a> Iterator for CutSpans<'a> {
 
     ghost remaining = { item_count (λ rest. rest) };
 
+    #[inline(always)]
     fn next(&mut self) -> Option<Span> {
         self.rows.next_span()
     }

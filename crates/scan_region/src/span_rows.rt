@@ -26,6 +26,7 @@ pub enum SpanRows<'a> {
 
 impl FullRows {
     /// The span of the next row.
+    #[inline(always)]
     pub fn next_span(&mut self) -> Option<Span>
         requires { IsFull self.old }
         ensures full { IsFull self.new }
@@ -47,6 +48,7 @@ impl FullRows {
 
 impl SpanRows<'_> {
     /// The next span.
+    #[inline(always)]
     pub fn next_span(&mut self) -> Option<Span>
         requires { (s : PixelSet) × AreRowsOf self.old s }
         ensures rows { (s : PixelSet) → AreRowsOf self.old s → AreRowsOf self.new s }
