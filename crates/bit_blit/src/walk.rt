@@ -35,22 +35,8 @@ pub fn cut_inside<'a>(region: &'a Region) -> Cut<'a>
 pub fn draw_region<R: Rule>(map: &mut BitMap, region: &Region, rule: &R)
     ensures { Draws (holds region.now) (R.value rule.now) map.old map.new }
 {
-    let (bounds, area) = (map.bounds(), region.bbox());
-    if bounds.top <= area.top && area.bottom <= bounds.bottom {
-        draw_all_spans(map, region, rule);
-    } else {
-        let cut = cut_inside(region);
-        draw_cut(map, &cut, area, rule);
-    }
-}
-
-/// The same, by going along every span of the region, also where the map has none of its row.
-fn draw_all_spans<R: Rule>(map: &mut BitMap, region: &Region, rule: &R)
-    ensures { Draws (holds region.now) (R.value rule.now) map.old map.new }
-{
-    for span in region.spans() {
-        draw_span(map, span.v, span.left, span.right, rule);
-    }
+    let cut = cut_inside(region);
+    draw_cut(map, &cut, region.bbox(), rule);
 }
 
 /// Gives each pixel of the area that the cut leaves and the map holds the value of the rule. The area,

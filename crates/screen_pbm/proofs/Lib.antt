@@ -3,3 +3,4 @@ mod Packed
 mod PackedLaws
 mod Ranges
 mod Rows
+mod Words

@@ -1,4 +1,4 @@
-use Rattle.std.proofs.Common.{◌&&◌, ap}
+use Rattle.std.proofs.Common.{◌&&◌, ap, rules}
 use Rattle.scan_region.specs.Cuts.{cut_holds}
 use Rattle.bit_blit.proofs.DrawsLemmas.{Draws-where}
 use Rattle.bit_blit.proofs.WalkLemmas.{shared-where}
