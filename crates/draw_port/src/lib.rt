@@ -20,6 +20,7 @@
 mod bounds;
 mod bytes;
 mod canvas;
+mod clipped;
 mod copies;
 mod frames;
 pub mod laws;
