@@ -31,7 +31,7 @@ or_none true t e f = e
 or_none false t e f = f
 
 -- a span has no pixel of those before it
-spans-apart : (before : List Span) (span : Span) (after : List Span) → AllPairs Precedes (before ++ span ∷ after) → (p : Point) → span_holds span p ≡ true → spans_hold before p ≡ false
+pub spans-apart : (before : List Span) (span : Span) (after : List Span) → AllPairs Precedes (before ++ span ∷ after) → (p : Point) → span_holds span p ≡ true → spans_hold before p ≡ false
 spans-apart [] span after order p e = refl
 spans-apart (first ∷ before) span after order p e =
     or_none (span_holds first p) (spans_hold before p) (apart first span p precedes e)

@@ -13,7 +13,7 @@ use Rattle.bit_blit.specs.Draws.{Draws}
 use Rattle.bit_blit.proofs.DrawsLemmas.{Draws-over, Draws-same, Draws-where}
 use Rattle.draw_port.proofs.PlacedLemmas.{image-around}
 use Rattle.draw_port.specs.Origins.{is_near_origin}
-use Rattle.draw_port.specs.Places.{stopped, is_far, Encloses}
+use Rattle.draw_port.specs.Places.{stopped, is_far, HasNear, Encloses}
 use Rattle.scan_region.specs.Cuts.{cut_holds}
 use Rattle.draw_port.specs.Ops.{clip_holds, run_holds, text_mode, shape_holds, shape_value, op_holds, op_value, picture_value}
 use Rattle.draw_port.specs.Canvases.{canvas_holds, canvas_point, clipped_holds, painted_by, painted_all, pictured, SameFrame}
@@ -26,7 +26,7 @@ use Rattle.draw_port.specs.declared.shapes.TextRun.{TextRun}
 use Rattle.draw_port.specs.declared.shapes.Shape.{Shape}
 use Rattle.draw_port.specs.declared.shapes.Shape.TheVariants.{Text}
 
-both : (a b : Bool) → (a && b) ≡ true → (a ≡ true) × (b ≡ true)
+pub both : (a b : Bool) → (a && b) ≡ true → (a ≡ true) × (b ≡ true)
 both true b e = (refl, e)
 both false b e = absurd (cc)
 
@@ -39,7 +39,7 @@ seen_number limit (pos n) o l a b e = grind (arith, ints)
 seen_number limit (negsuc n) o l a b e = absurd (omega (arith, ints))
 
 -- seen from a near origin, a pixel of a map is not far
-seen_near : (m : Bits) (p o : Point) → m.width ≤ 32767 → m.height ≤ 32767 → is_near_origin o ≡ true → on_map m p ≡ true → is_far (minus p o) ≡ false
+pub seen_near : (m : Bits) (p o : Point) → m.width ≤ 32767 → m.height ≤ 32767 → is_near_origin o ≡ true → on_map m p ≡ true → is_far (minus p o) ≡ false
 seen_near m p o w h near on =
     let at = on_map-sides m p on in
     let n = both (between (negsuc 999999999) o.h (pos 1000000000)) (between (negsuc 999999999) o.v (pos 1000000000)) near in
@@ -98,16 +98,6 @@ in_table : (k t : Bool) (x d : Bool) → cond (k && t) x d ≡ cond k (cond t x 
 in_table true t x d = refl
 in_table false t x d = refl
 
--- an operation that is drawn in the rectangle around it is drawn on the canvas
-pub op_drawn : (c : Canvas) (op : Op) (box : Rect) (old new : Bits) → old.width ≤ 32767 → old.height ≤ 32767 → is_near_origin c.origin ≡ true
-    → Encloses box (op_holds c.font.now op)
-    → Draws (λ p. canvas_holds c p && rect_holds box (canvas_point c p)) (painted_by c op) old new
-    → Draws (canvas_holds c) (painted_by c op) old new
-unfolding op_value
-op_drawn c op box old new w h near around drawn =
-    Draws-same _ _ _ _ old new (λ p d on. in_table (canvas_holds c p) (op_holds c.font.now op (canvas_point c p)) (shape_value op.shape (canvas_point c p) d) d)
-    (boxed_drawn c box (op_holds c.font.now op) (λ q d. shape_value op.shape q d) old new w h near around drawn)
-
 -- bits are copied where the image has the pixel
 pub bits_drawn : (c : Canvas) (box : Rect) (made image : Image) (place : Point) (mode : Mode) (old new : Bits) → old.width ≤ 32767 → old.height ≤ 32767 → is_near_origin c.origin ≡ true → made ≡ image
     → Encloses box (λ p. between place.h p.h (place.h +ℤ pos image.width) && between place.v p.v (place.v +ℤ pos image.height))
@@ -118,21 +108,53 @@ bits_drawn c box made image place mode old new w h near is_made around drawn =
     (λ p close held. around p close (image-around image place p held))
     (subst (λ (i : Image). Draws (λ p. canvas_holds c p && rect_holds box (canvas_point c p)) (λ p d. cond (image_holds i (minus (canvas_point c p) place)) (mode_bit mode (image_bit i (minus (canvas_point c p) place)) d) d) old new) is_made drawn)
 
--- ---- texts
+-- within a clip, bits are copied where the image has the pixel
+pub rows_drawn : (c : Canvas) (u : PixelSet) (box : Rect) (made image : Image) (place : Point) (mode : Mode) (old new : Bits) → old.width ≤ 32767 → old.height ≤ 32767 → is_near_origin c.origin ≡ true → made ≡ image
+    → Encloses box (λ p. image_holds image (minus p place))
+    → Draws (λ p. canvas_holds c p && (u (canvas_point c p) && rect_holds box (canvas_point c p))) (λ p d. if image_holds made (minus (canvas_point c p) place) then mode_bit mode (image_bit made (minus (canvas_point c p) place)) d else d) old new
+    → Draws (λ p. canvas_holds c p && (u (canvas_point c p) && image_holds image (minus (canvas_point c p) place))) (λ p d. mode_bit mode (image_bit image (minus (canvas_point c p) place)) d) old new
+rows_drawn c u box made image place mode old new w h near is_made around drawn = Draws-same _ _ _ _ old new one drawn
+  where
+    table : (k u inside t : Bool) (x d : Bool) → (t ≡ true → inside ≡ true) → cond (k && (u && inside)) (cond t x d) d ≡ cond (k && (u && t)) x d
+    table false u inside t x d f = refl
+    table true false inside t x d f = refl
+    table true true true t x d f = refl
+    table true true false true x d f = absurd (cc (f refl))
+    table true true false false x d f = refl
+
+    one : (p : Point) (d : Bool) → on_map old p ≡ true → cond (canvas_holds c p && (u (canvas_point c p) && rect_holds box (canvas_point c p))) (cond (image_holds made (minus (canvas_point c p) place)) (mode_bit mode (image_bit made (minus (canvas_point c p) place)) d) d) d ≡ cond (canvas_holds c p && (u (canvas_point c p) && image_holds image (minus (canvas_point c p) place))) (mode_bit mode (image_bit image (minus (canvas_point c p) place)) d) d
+    one p d on =
+        (λ i. cond (canvas_holds c p && (u (canvas_point c p) && rect_holds box (canvas_point c p))) (cond (image_holds (is_made i) (minus (canvas_point c p) place)) (mode_bit mode (image_bit (is_made i) (minus (canvas_point c p) place)) d) d) d)
+        ∙ table (canvas_holds c p) (u (canvas_point c p)) (rect_holds box (canvas_point c p)) (image_holds image (minus (canvas_point c p) place)) (mode_bit mode (image_bit image (minus (canvas_point c p) place)) d) d (around (canvas_point c p) (seen_near old p c.origin w h near on))
+
+-- ---- operations
+
+-- what a rectangle has that is a set's but for far pixels is the set's on a canvas
+pub near_drawn : (c : Canvas) (u : PixelSet) (rect : Rect) (s : PixelSet) (value : Point → Bool → Bool) (old new : Bits) → old.width ≤ 32767 → old.height ≤ 32767 → is_near_origin c.origin ≡ true
+    → HasNear rect s
+    → Draws (λ p. canvas_holds c p && (u (canvas_point c p) && rect_holds rect (canvas_point c p))) value old new
+    → Draws (λ p. canvas_holds c p && (u (canvas_point c p) && s (canvas_point c p))) value old new
+near_drawn c u rect s value old new w h near same drawn =
+    Draws-where _ _ value old new (λ p on. ap (λ t. canvas_holds c p && (u (canvas_point c p) && t)) (same (canvas_point c p) (seen_near old p c.origin w h near on))) drawn
+
+-- an operation is painted where its shape is drawn within its clip
+pub shape_painted : (c : Canvas) (op : Op) (s : Shape) (old new : Bits) → op.shape ≡ s
+    → Draws (λ p. canvas_holds c p && (clip_holds op.clip (canvas_point c p) && shape_holds c.font.now s (canvas_point c p))) (λ p d. shape_value s (canvas_point c p) d) old new
+    → Draws (canvas_holds c) (painted_by c op) old new
+unfolding op_value op_holds
+shape_painted c op s old new is_shape drawn = Draws-same _ _ _ _ old new one drawn
+  where
+    one : (p : Point) (d : Bool) → on_map old p ≡ true → cond (canvas_holds c p && (clip_holds op.clip (canvas_point c p) && shape_holds c.font.now s (canvas_point c p))) (shape_value s (canvas_point c p) d) d ≡ cond (canvas_holds c p) (cond (clip_holds op.clip (canvas_point c p) && shape_holds c.font.now op.shape (canvas_point c p)) (shape_value op.shape (canvas_point c p) d) d) d
+    one p d on = in_table (canvas_holds c p) (clip_holds op.clip (canvas_point c p) && shape_holds c.font.now s (canvas_point c p)) (shape_value s (canvas_point c p) d) d
+        ∙ (λ i. cond (canvas_holds c p) (cond (clip_holds op.clip (canvas_point c p) && shape_holds c.font.now (sym is_shape i) (canvas_point c p)) (shape_value (sym is_shape i) (canvas_point c p) d) d) d)
 
 -- an operation that is a text is painted where the text is drawn
 pub text_painted : (c : Canvas) (op : Op) (t : TextRun) (text : List ℕ) (mode : Mode) (old new : Bits) → op.shape ≡ Text t → text ≡ t.text → mode ≡ text_mode t.mode
     → Draws (clipped_holds c op.clip text t.pen) (λ p d. mode_bit mode true d) old new
     → Draws (canvas_holds c) (painted_by c op) old new
-unfolding op_value op_holds
-text_painted c op t text mode old new is_shape is_text is_mode drawn = Draws-same _ _ _ _ old new (λ p d on. one p d op.shape is_shape) drawn
-  where
-    table : (k b : Bool) (x d : Bool) → cond (k && b) x d ≡ cond k (cond b x d) d
-    table true b x d = refl
-    table false b x d = refl
-
-    one : (p : Point) (d : Bool) (s : Shape) → s ≡ Text t → cond (clipped_holds c op.clip text t.pen p) (mode_bit mode true d) d ≡ cond (canvas_holds c p) (cond (clip_holds op.clip (canvas_point c p) && shape_holds c.font.now s (canvas_point c p)) (shape_value s (canvas_point c p) d) d) d
-    one p d s e = rw (e, is_text, is_mode) (table (canvas_holds c p) (clip_holds op.clip (canvas_point c p) && run_holds c.font.now t (canvas_point c p)) (mode_bit (text_mode t.mode) true d) d)
+text_painted c op t text mode old new is_shape is_text is_mode drawn =
+    shape_painted c op (Text t) old new is_shape
+    (Draws-same _ _ _ _ old new (λ p d on. λ i. cond (clipped_holds c op.clip (is_text i) t.pen p) (mode_bit (is_mode i) true d) d) drawn)
 
 -- ---- one operation after another
 
@@ -179,18 +201,3 @@ pictured-over old mid ops a b c frame first second =
     (λ p d on. white_first (canvas_holds old p) (painted_all old ops p) d)
     first
     (Draws-same (canvas_holds mid) (canvas_holds old) (painted_all mid ops) (painted_all old ops) b c (λ p d on. frame_all old mid ops p d frame) second)
-
--- ---- rectangles
-
--- a shape without a clip makes of a bit what the shape makes of it
-pub unclipped : (op : Op) (s : Shape) → op.shape ≡ s → op.clip ≡ None → (font : List ℕ) (p : Point) (d : Bool) → op_value font op p d ≡ cond (shape_holds font s p) (shape_value s p d) d
-unfolding op_value op_holds
-unclipped op s is_shape is_none font p d = λ i. cond (clip_holds (is_none i) p && shape_holds font (is_shape i) p) (shape_value (is_shape i) p d) d
-
--- an operation that has a rectangle is painted where a rule is drawn in it
-pub rect_painted : (c : Canvas) (op : Op) (rect : Rect) (value : Point → Bool → Bool) (old new : Bits) → op.clip ≡ None
-    → (op.clip ≡ None → (font : List ℕ) (p : Point) (d : Bool) → op_value font op p d ≡ cond (rect_holds rect p) (value p d) d)
-    → Draws (λ p. canvas_holds c p && rect_holds rect (canvas_point c p)) (λ p d. value (canvas_point c p) d) old new
-    → Draws (canvas_holds c) (painted_by c op) old new
-rect_painted c op rect value old new is_none ruled drawn =
-    Draws-same _ _ _ _ old new (λ p d on. in_table (canvas_holds c p) (rect_holds rect (canvas_point c p)) (value (canvas_point c p) d) d ∙ ap (λ x. cond (canvas_holds c p) x d) (sym (ruled is_none c.font.now (canvas_point c p) d))) drawn

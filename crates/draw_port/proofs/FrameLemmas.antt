@@ -1,9 +1,8 @@
 -- Drawing a frame side by side.
-use Rattle.std.proofs.Common.{◌≡◌, ℕ, ℤ, pos, ◌+ℤ◌, ◌-ℤ◌, ◌≤ℤ◌, ◌<ℤ◌, Bool, true, false, not, ◌&&◌, ◌||◌, cond, List, refl, sym, ap, ◌∙◌, arith, w32}
+use Rattle.std.proofs.Common.{◌≡◌, ℕ, ℤ, pos, negsuc, ◌+ℤ◌, ◌-ℤ◌, ◌≤ℤ◌, ◌<ℤ◌, Bool, true, false, not, ◌&&◌, ◌||◌, cond, List, refl, sym, ap, ◌∙◌, arith, w32}
 use Rattle.std.specs.Prelude.{int_lt}
 use Rattle.std.specs.Int.{saturate_signed, int_min, int_max}
 use Rattle.std.proofs.lemmas.Int.{ints, clamps}
-use Rattle.std.proofs.lemmas.Bool.{true≢false}
 use Rattle.tb_geom.specs.declared.point.Point.{Point}
 use Rattle.tb_geom.specs.declared.rect.Rect.{Rect}
 use Rattle.tb_geom.specs.Points.{PixelSet, minus}
@@ -11,14 +10,12 @@ use Rattle.tb_geom.specs.Rects.{between, rect_holds}
 use Rattle.tb_geom.proofs.RectLemmas.{sides_of}
 use Rattle.bit_map.specs.Bits.{Bits}
 use Rattle.bit_blit.specs.Draws.{Draws}
-use Rattle.bit_blit.proofs.DrawsLemmas.{Draws-more, Draws-same}
-use Rattle.draw_port.specs.Canvases.{canvas_holds, canvas_point, painted_by, SameFrame}
+use Rattle.bit_blit.proofs.DrawsLemmas.{Draws-more, Draws-same, Draws-where}
+use Rattle.draw_port.specs.Canvases.{canvas_holds, canvas_point, SameFrame}
 use Rattle.scan_region.specs.Cuts.{cut_holds}
-use Rattle.draw_port.specs.Ops.{is_end, frame_holds, clip_holds, op_holds, op_value, shape_value}
+use Rattle.draw_port.specs.Ops.{is_end, frame_holds}
 use Rattle.draw_port.specs.declared.canvas.Canvas.{Canvas}
-use Rattle.draw_port.specs.declared.shapes.Op.{Op}
-use Rattle.draw_port.specs.declared.shapes.Shade.{Shade}
-use Rattle.draw_port.specs.declared.shapes.Shape.TheVariants.{Frame}
+use Rattle.draw_port.proofs.PlacedLemmas.{IsNear}
 
 -- ---- sides
 
@@ -71,31 +68,38 @@ right_apart true false true false d e = refl
 right_apart true false false c d e = absurd (cc)
 right_apart false a b c d e = refl
 
-not_end : (low x high : ℤ) → low ≤ℤ x → x <ℤ high → int_lt x (saturate_signed w32 (low +ℤ pos 1)) ≡ false → int_lt x (saturate_signed w32 (high -ℤ pos 1)) ≡ true → is_end low x high ≡ false
+-- a number is an end where it lies before the second or not before the last
+end_is : (low x high : ℤ) → negsuc 2147483647 ≤ℤ low → high ≤ℤ pos 2147483647 → low ≤ℤ x → x <ℤ high → is_end low x high ≡ (int_lt x (saturate_signed w32 (low +ℤ pos 1)) || not (int_lt x (saturate_signed w32 (high -ℤ pos 1))))
 unfolding is_end
-not_end low x high l m e f = grind (arith, ints, clamps)
+end_is low x high near far l m = grind (arith, ints, clamps)
 
-sides_table : (R E a b c d : Bool) → (R ≡ true → a ≡ false → b ≡ true → c ≡ false → d ≡ true → E ≡ false) → (R && E) ≡ true
-    → (((((R && not a) && b) && not c) && not d) || ((((R && not a) && b) && c) || (((R && not a) && not b) || (R && a)))) ≡ true
-sides_table false E a b c d f e = absurd (cc)
-sides_table true E true true true d f e = refl
-sides_table true E true true false d f e = refl
-sides_table true E true false c d f e = refl
-sides_table true E false true true d f e = refl
-sides_table true E false true false true f e = absurd (true≢false (sym e ∙ f refl refl refl refl refl))
-sides_table true E false true false false f e = refl
-sides_table true E false false c d f e = refl
+any_side : (a b c d : Bool) → ((((not a && b) && not c) && not d) || (((not a && b) && c) || ((not a && not b) || a))) ≡ ((c || not d) || (a || not b))
+any_side true b true d = refl
+any_side true b false true = refl
+any_side true b false false = refl
+any_side false true true d = refl
+any_side false true false true = refl
+any_side false true false false = refl
+any_side false false true d = refl
+any_side false false false true = refl
+any_side false false false false = refl
 
--- a pixel of the frame lies in one of the sides
-around : (r : Rect) (t b l m : ℤ) (p : Point) → t ≡ saturate_signed w32 (r.top +ℤ pos 1) → b ≡ saturate_signed w32 (r.bottom -ℤ pos 1) → l ≡ saturate_signed w32 (r.left +ℤ pos 1) → m ≡ saturate_signed w32 (r.right -ℤ pos 1) → frame_holds r p ≡ true
-    → (((((rect_holds r p && not (int_lt p.v t)) && int_lt p.v b) && not (int_lt p.h l)) && not (int_lt p.h m)) || ((((rect_holds r p && not (int_lt p.v t)) && int_lt p.v b) && int_lt p.h l) || (((rect_holds r p && not (int_lt p.v t)) && not (int_lt p.v b)) || (rect_holds r p && int_lt p.v t)))) ≡ true
-around r t b l m p is_t is_b is_l is_m e =
-    sides_table (rect_holds r p) (is_end r.left p.h r.right || is_end r.top p.v r.bottom) (int_lt p.v t) (int_lt p.v b) (int_lt p.h l) (int_lt p.h m) inner e
+sides_table : (R E a b c d : Bool) → (R ≡ true → E ≡ ((c || not d) || (a || not b)))
+    → (((((R && not a) && b) && not c) && not d) || ((((R && not a) && b) && c) || (((R && not a) && not b) || (R && a)))) ≡ (R && E)
+sides_table false E a b c d f = refl
+sides_table true E a b c d f = any_side a b c d ∙ sym (f refl)
+
+-- the sides together have the pixels of the frame
+together : (r : Rect) (t b l m : ℤ) (p : Point) → IsNear r → t ≡ saturate_signed w32 (r.top +ℤ pos 1) → b ≡ saturate_signed w32 (r.bottom -ℤ pos 1) → l ≡ saturate_signed w32 (r.left +ℤ pos 1) → m ≡ saturate_signed w32 (r.right -ℤ pos 1)
+    → (((((rect_holds r p && not (int_lt p.v t)) && int_lt p.v b) && not (int_lt p.h l)) && not (int_lt p.h m)) || ((((rect_holds r p && not (int_lt p.v t)) && int_lt p.v b) && int_lt p.h l) || (((rect_holds r p && not (int_lt p.v t)) && not (int_lt p.v b)) || (rect_holds r p && int_lt p.v t)))) ≡ frame_holds r p
+together r t b l m p near is_t is_b is_l is_m =
+    sides_table (rect_holds r p) (is_end r.left p.h r.right || is_end r.top p.v r.bottom) (int_lt p.v t) (int_lt p.v b) (int_lt p.h l) (int_lt p.h m) ends
   where
-    inner : rect_holds r p ≡ true → int_lt p.v t ≡ false → int_lt p.v b ≡ true → int_lt p.h l ≡ false → int_lt p.h m ≡ true → (is_end r.left p.h r.right || is_end r.top p.v r.bottom) ≡ false
-    inner held a f g h =
+    ends : rect_holds r p ≡ true → (is_end r.left p.h r.right || is_end r.top p.v r.bottom) ≡ ((int_lt p.h l || not (int_lt p.h m)) || (int_lt p.v t || not (int_lt p.v b)))
+    ends held =
         let s = sides_of r p held in
-        λ i. not_end r.left p.h r.right s.left s.right (rw is_l at g) (rw is_m at h) i || not_end r.top p.v r.bottom s.top s.bottom (rw is_t at a) (rw is_b at f) i
+        (λ i. end_is r.left p.h r.right near.left near.right s.left s.right i || end_is r.top p.v r.bottom near.top near.bottom s.top s.bottom i)
+        ∙ (λ i. (int_lt p.h (sym is_l i) || not (int_lt p.h (sym is_m i))) || (int_lt p.v (sym is_t i) || not (int_lt p.v (sym is_b i))))
 
 -- the rectangles into which r is cut at the rows t and b and at the columns l and m
 pub record AreCut (r top below between bottom left beside right : Rect) (t b l m : ℤ) : Type 0 where
@@ -129,58 +133,44 @@ module _ {r top below between bottom left beside right : Rect} {t b l m : ℤ} w
   pub right_alone : AreCut r top below between bottom left beside right t b l m → (p : Point) → rect_holds right p ≡ true → (rect_holds left p || (rect_holds bottom p || rect_holds top p)) ≡ false
   right_alone cut p e = (λ i. left_holds cut p i || (bottom_holds cut p i || cut.top_is p i)) ∙ right_apart (rect_holds r p) (int_lt p.v t) (int_lt p.v b) (int_lt p.h l) (int_lt p.h m) (sym (right_holds cut p) ∙ e)
 
-  pub frame_around : AreCut r top below between bottom left beside right t b l m → t ≡ saturate_signed w32 (r.top +ℤ pos 1) → b ≡ saturate_signed w32 (r.bottom -ℤ pos 1) → l ≡ saturate_signed w32 (r.left +ℤ pos 1) → m ≡ saturate_signed w32 (r.right -ℤ pos 1)
-      → (p : Point) → frame_holds r p ≡ true → (rect_holds right p || (rect_holds left p || (rect_holds bottom p || rect_holds top p))) ≡ true
-  frame_around cut is_t is_b is_l is_m p e = (λ i. right_holds cut p i || (left_holds cut p i || (bottom_holds cut p i || cut.top_is p i))) ∙ around r t b l m p is_t is_b is_l is_m e
+  pub frame_whole : AreCut r top below between bottom left beside right t b l m → IsNear r → t ≡ saturate_signed w32 (r.top +ℤ pos 1) → b ≡ saturate_signed w32 (r.bottom -ℤ pos 1) → l ≡ saturate_signed w32 (r.left +ℤ pos 1) → m ≡ saturate_signed w32 (r.right -ℤ pos 1)
+      → (p : Point) → (rect_holds right p || (rect_holds left p || (rect_holds bottom p || rect_holds top p))) ≡ frame_holds r p
+  frame_whole cut near is_t is_b is_l is_m p = (λ i. right_holds cut p i || (left_holds cut p i || (bottom_holds cut p i || cut.top_is p i))) ∙ together r t b l m p near is_t is_b is_l is_m
 
 -- ---- one side after another
 
-same_part : (old mid : Canvas) (op : Op) (r : Rect) (a b : Bits) → SameFrame old mid
-    → Draws (λ p. canvas_holds mid p && rect_holds r (canvas_point mid p)) (painted_by mid op) a b
-    → Draws (λ p. canvas_holds old p && rect_holds r (canvas_point old p)) (painted_by old op) a b
-same_part old mid op r a b f drawn =
-    Draws-same _ _ _ _ a b (λ p d on. λ i. cond ((rect_holds (f.clip i) p && cut_holds ((f.cut i).now) p) && rect_holds r (minus p (f.origin i))) (op_value ((f.font i).now) op (minus p (f.origin i)) d) d) drawn
+-- on a canvas of the same frame a rectangle is drawn at the same pixels, and alike
+same_part : (old mid : Canvas) (u : PixelSet) (value : Point → Bool → Bool) (r : Rect) (a b : Bits) → SameFrame old mid
+    → Draws (λ p. canvas_holds mid p && (u (canvas_point mid p) && rect_holds r (canvas_point mid p))) (λ p d. value (canvas_point mid p) d) a b
+    → Draws (λ p. canvas_holds old p && (u (canvas_point old p) && rect_holds r (canvas_point old p))) (λ p d. value (canvas_point old p) d) a b
+same_part old mid u value r a b f drawn =
+    Draws-same _ _ _ _ a b (λ p d on. λ i. cond ((rect_holds (f.clip i) p && cut_holds ((f.cut i).now) p) && (u (minus p (f.origin i)) && rect_holds r (minus p (f.origin i)))) (value (minus p (f.origin i)) d) d) drawn
 
 -- a rectangle that shares no pixel with what was drawn
-pub more_part : (old mid : Canvas) (op : Op) (s : PixelSet) (r : Rect) (a b c : Bits) → SameFrame old mid
+pub more_part : (old mid : Canvas) (u : PixelSet) (value : Point → Bool → Bool) (s : PixelSet) (r : Rect) (a b c : Bits) → SameFrame old mid
     → ((q : Point) → rect_holds r q ≡ true → s q ≡ false)
-    → Draws (λ p. canvas_holds old p && s (canvas_point old p)) (painted_by old op) a b
-    → Draws (λ p. canvas_holds mid p && rect_holds r (canvas_point mid p)) (painted_by mid op) b c
-    → Draws (λ p. canvas_holds old p && (rect_holds r (canvas_point old p) || s (canvas_point old p))) (painted_by old op) a c
-more_part old mid op s r a b c frame apart first second =
-    Draws-more _ _ _ (painted_by old op) a b c
-    (λ p e. none (canvas_holds old p) (rect_holds r (canvas_point old p)) (s (canvas_point old p)) (apart (canvas_point old p)) e)
-    (λ p. split (canvas_holds old p) (rect_holds r (canvas_point old p)) (s (canvas_point old p)))
-    first (same_part old mid op r b c frame second)
+    → Draws (λ p. canvas_holds old p && (u (canvas_point old p) && s (canvas_point old p))) (λ p d. value (canvas_point old p) d) a b
+    → Draws (λ p. canvas_holds mid p && (u (canvas_point mid p) && rect_holds r (canvas_point mid p))) (λ p d. value (canvas_point mid p) d) b c
+    → Draws (λ p. canvas_holds old p && (u (canvas_point old p) && (rect_holds r (canvas_point old p) || s (canvas_point old p)))) (λ p d. value (canvas_point old p) d) a c
+more_part old mid u value s r a b c frame apart first second =
+    Draws-more _ _ _ (λ p d. value (canvas_point old p) d) a b c
+    (λ p e. none (canvas_holds old p) (u (canvas_point old p)) (rect_holds r (canvas_point old p)) (s (canvas_point old p)) (apart (canvas_point old p)) e)
+    (λ p. split (canvas_holds old p) (u (canvas_point old p)) (rect_holds r (canvas_point old p)) (s (canvas_point old p)))
+    first (same_part old mid u value r b c frame second)
   where
-    none : (k t u : Bool) → (t ≡ true → u ≡ false) → (k && t) ≡ true → (k && u) ≡ false
-    none true t u f e = f e
-    none false t u f e = refl
+    none : (k u t s : Bool) → (t ≡ true → s ≡ false) → (k && (u && t)) ≡ true → (k && (u && s)) ≡ false
+    none true true t s f e = f e
+    none true false t s f e = refl
+    none false u t s f e = refl
 
-    split : (k t u : Bool) → (k && (t || u)) ≡ ((k && t) || (k && u))
-    split true t u = refl
-    split false t u = refl
+    split : (k u t s : Bool) → (k && (u && (t || s))) ≡ ((k && (u && t)) || (k && (u && s)))
+    split true true t s = refl
+    split true false t s = refl
+    split false u t s = refl
 
--- what has all pixels of the operation has drawn it
-pub frame_drawn : (c : Canvas) (op : Op) (s : PixelSet) (a b : Bits)
-    → ((q : Point) → op_holds c.font.now op q ≡ true → s q ≡ true)
-    → Draws (λ p. canvas_holds c p && s (canvas_point c p)) (painted_by c op) a b
-    → Draws (canvas_holds c) (painted_by c op) a b
-unfolding op_value
-frame_drawn c op s a b all drawn =
-    Draws-same _ _ _ _ a b (λ p d on. table (canvas_holds c p) (s (canvas_point c p)) (op_holds c.font.now op (canvas_point c p)) (shape_value op.shape (canvas_point c p) d) d (all (canvas_point c p))) drawn
-  where
-    table : (k t h : Bool) (x d : Bool) → (h ≡ true → t ≡ true) → cond (k && t) (cond h x d) d ≡ cond k (cond h x d) d
-    table false t h x d f = refl
-    table true true h x d f = refl
-    table true false true x d f = absurd (cc (f refl))
-    table true false false x d f = refl
-
--- the operation has only pixels of its frame
-pub frame_only : (op : Op) (r : Rect) (k : Shade) (font : List ℕ) (p : Point) → op.shape ≡ Frame r k → op_holds font op p ≡ true → frame_holds r p ≡ true
-unfolding op_holds
-frame_only op r k font p is_shape held = and_second (clip_holds op.clip p) (frame_holds r p) (rw is_shape at held)
-  where
-    and_second : (a b : Bool) → (a && b) ≡ true → b ≡ true
-    and_second true b e = e
-    and_second false b e = absurd (cc)
+-- the same pixels by another test
+pub same_clipped : (c : Canvas) (u : PixelSet) (value : Point → Bool → Bool) (s t : PixelSet) (a b : Bits)
+    → ((q : Point) → s q ≡ t q)
+    → Draws (λ p. canvas_holds c p && (u (canvas_point c p) && s (canvas_point c p))) (λ p d. value (canvas_point c p) d) a b
+    → Draws (λ p. canvas_holds c p && (u (canvas_point c p) && t (canvas_point c p))) (λ p d. value (canvas_point c p) d) a b
+same_clipped c u value s t a b same drawn = Draws-where _ _ _ a b (λ p on. ap (λ x. canvas_holds c p && (u (canvas_point c p) && x)) (same (canvas_point c p))) drawn

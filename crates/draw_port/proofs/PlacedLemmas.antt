@@ -12,7 +12,7 @@ use Rattle.tb_geom.specs.Rects.{between, rect_holds}
 use Rattle.tb_geom.proofs.RectLemmas.{sides_of, holds_in}
 use Rattle.bit_map.specs.Bits.{is_below}
 use Rattle.bit_map.specs.Images.{Image, image_holds}
-use Rattle.draw_port.specs.Places.{is_far, Encloses}
+use Rattle.draw_port.specs.Places.{is_far, HasNear, Encloses}
 
 -- a sum that stops at the ends of 32 bits lies below the numbers between those ends as the sum does
 le-saturated : (low o x : ℤ) → negsuc 2147483647 ≤ℤ x → x <ℤ pos 2147483647 → int_le (saturate_signed w32 (low +ℤ o)) x ≡ int_le low (x -ℤ o)
@@ -61,10 +61,10 @@ lt-stopped : (x y : ℤ) → negsuc 2147483647 ≤ℤ x → x <ℤ pos 214748364
 lt-stopped x y l m = grind (arith, ints, clamps)
 
 -- a rectangle whose last sides stop at the ends of 32 bits
-pub enclosed : (start : Point) (w h : ℤ) → Encloses (record { left = start.h; top = start.v; right = saturate_signed w32 (start.h +ℤ w); bottom = saturate_signed w32 (start.v +ℤ h) }) (λ p. between start.h p.h (start.h +ℤ w) && between start.v p.v (start.v +ℤ h))
-enclosed start w h p near e =
+pub enclosed : (start : Point) (w h : ℤ) → HasNear (record { left = start.h; top = start.v; right = saturate_signed w32 (start.h +ℤ w); bottom = saturate_signed w32 (start.v +ℤ h) }) (λ p. between start.h p.h (start.h +ℤ w) && between start.v p.v (start.v +ℤ h))
+enclosed start w h p near =
     let s = sides_of (record { left = negsuc 2147483647; top = negsuc 2147483647; right = pos 2147483647; bottom = pos 2147483647 }) p (not-false _ near) in
-    (λ i. (int_le start.h p.h && lt-stopped p.h (start.h +ℤ w) s.left s.right i) && (int_le start.v p.v && lt-stopped p.v (start.v +ℤ h) s.top s.bottom i)) ∙ e
+    λ i. (int_le start.h p.h && lt-stopped p.h (start.h +ℤ w) s.left s.right i) && (int_le start.v p.v && lt-stopped p.v (start.v +ℤ h) s.top s.bottom i)
 
 pub Encloses-fewer : (r : Rect) (s t : PixelSet) → ((p : Point) → s p ≡ true → t p ≡ true) → Encloses r t → Encloses r s
 Encloses-fewer r s t fewer all p near e = all p near (fewer p e)
@@ -79,8 +79,9 @@ first_true a b e = (both a b e).0
 pub both_true : (a b c d : Bool) → (a ≡ true → c ≡ true) → (b ≡ true → d ≡ true) → (a && b) ≡ true → (c && d) ≡ true
 both_true a b c d f g e = let t = both a b e in (λ i. f t.0 i && g t.1 i)
 
-pub one_row : (x v : ℤ) → int_eq x v ≡ true → between v x (v +ℤ pos 1) ≡ true
-one_row x v e = grind (arith, ints)
+-- one row, or one column
+pub one_row : (x v : ℤ) → between v x (v +ℤ pos 1) ≡ int_eq x v
+one_row x v = grind (arith, ints)
 
 below-between : (limit : ℕ) (x : ℤ) → is_below limit x ≡ between (pos 0) x (pos limit)
 below-between limit (pos n) = grind (arith, ints, nat_tests)
@@ -95,11 +96,3 @@ image-around i o p e =
     both_true (is_below i.width (p.h -ℤ o.h)) (is_below i.height (p.v -ℤ o.v)) (between o.h p.h (o.h +ℤ pos i.width)) (between o.v p.v (o.v +ℤ pos i.height))
     (λ t. moved-between p.h o.h (pos i.width) (sym (below-between i.width (p.h -ℤ o.h)) ∙ t))
     (λ t. moved-between p.v o.v (pos i.height) (sym (below-between i.height (p.v -ℤ o.v)) ∙ t)) e
-
--- what two rectangles share is around what both sets have
-pub Encloses-sect : (r a b : Rect) (s t : PixelSet) → ((p : Point) → rect_holds r p ≡ (rect_holds a p && rect_holds b p)) → Encloses a s → Encloses b t → Encloses r (λ p. s p && t p)
-Encloses-sect r a b s t shared f g p near e = shared p ∙ both_true (s p) (t p) (rect_holds a p) (rect_holds b p) (f p near) (g p near) e
-
--- every point that is not far
-pub Encloses-all : (s : PixelSet) → Encloses (record { left = negsuc 2147483647; top = negsuc 2147483647; right = pos 2147483647; bottom = pos 2147483647 }) s
-Encloses-all s p near e = not-false _ near

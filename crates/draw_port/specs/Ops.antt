@@ -94,10 +94,6 @@ op_holds font op p = clip_holds op.clip p && shape_holds font op.shape p
 unfoldable pub op_value : List ℕ → Op → Point → Bool → Bool
 op_value font op p d = cond (op_holds font op p) (shape_value op.shape p d) d
 
--- without a clip the operation has the pixels of the rectangle alone, and gives them this value
-abbrev pub IsRuledRect : Op → Rect → (Point → Bool → Bool) → Type 0
-IsRuledRect op r value = op.clip ≡ None → (font : List ℕ) (p : Point) (d : Bool) → op_value font op p d ≡ cond (rect_holds r p) (value p d) d
-
 -- what operations make of the bit d, one after another
 abbrev pub picture_value : List ℕ → List Op → Point → Bool → Bool
 picture_value font ops p d = fold (λ b op. op_value font op p b) d ops

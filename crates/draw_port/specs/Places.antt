@@ -19,6 +19,10 @@ is_far p = not (between (negsuc 2147483647) p.h (pos 2147483647) && between (neg
 abbrev pub Encloses : Rect → PixelSet → Type 0
 Encloses r s = (p : Point) → is_far p ≡ false → s p ≡ true → rect_holds r p ≡ true
 
+-- of the points that are not far, the rectangle has those of the set
+abbrev pub HasNear : Rect → PixelSet → Type 0
+HasNear r s = (p : Point) → is_far p ≡ false → rect_holds r p ≡ s p
+
 -- seen from the origin a run begins at `seen`, and numbers of 32 bits go as far as it
 pub record IsSeenRun (origin start : Point) (count : ℕ) (seen : Point) : Type 0 where
   pub columns : HasColumns seen count

@@ -1,43 +1,31 @@
 //! Drawing frames, side by side.
-ghost use Rattle.std.specs.Prelude.{◌≡◌, ◌≤◌, true, not, ◌&&◌, int_lt, List, ℕ};
+ghost use Rattle.std.specs.Prelude.{◌≡◌, not, ◌&&◌, int_lt};
 ghost use Rattle.tb_geom.specs.declared.point.Point.{Point};
 ghost use Rattle.tb_geom.specs.Rects.{rect_holds};
 ghost use Rattle.bit_blit.specs.Draws.{Draws};
-ghost use Rattle.draw_port.specs.Canvases.{canvas_holds, canvas_point, painted_by, SameFrame};
+ghost use Rattle.draw_port.specs.Canvases.{canvas_holds, canvas_point, SameFrame};
 ghost use Rattle.draw_port.specs.Frames.{AreSides};
-ghost use Rattle.draw_port.specs.Ops.{frame_holds, op_holds};
+ghost use Rattle.draw_port.specs.Ops.{frame_holds, shade_value, clip_holds};
 
 use crate::canvas::Canvas;
-use crate::rules::Painted;
-use crate::shapes::Op;
+use crate::shapes::Shade;
+use scan_region::Region;
 use tb_geom::Rect;
 
 impl Canvas<'_> {
-    /// Draws an operation that has only outermost pixels of a rectangle, by asking it at those alone.
-    pub(crate) fn paint_frame(&mut self, op: &Op, rect: Rect)
-        requires { (font : List ℕ) (p : Point) → op_holds font op.now p ≡ true → frame_holds rect p ≡ true }
+    /// Draws the outermost pixels of a rectangle that the clip leaves, each once.
+    pub(crate) fn draw_frame(&mut self, clip: &Option<Region>, rect: Rect, shade: &Shade)
         ensures same_map { self.new.map.ghost_name ≡ self.old.map.ghost_name }
         ensures same_frame { SameFrame self.old self.new }
-        ensures drawn { Draws (canvas_holds self.old) (painted_by self.old op.now) self.old.map.now self.new.map.now }
-    {
-        let sides = sides_of(rect);
-        self.paint_in(op, sides.top);
-        self.paint_in(op, sides.bottom);
-        self.paint_in(op, sides.left);
-        self.paint_in(op, sides.right);
-    }
-
-    /// Draws an operation by asking it at each pixel of a rectangle.
-    pub(crate) fn paint_in(&mut self, op: &Op, rect: Rect)
-        ensures same_map { self.new.map.ghost_name ≡ self.old.map.ghost_name }
-        ensures same_frame { SameFrame self.old self.new }
-        ensures limits { (self.old.map.now.width ≤ 32767) × (self.old.map.now.height ≤ 32767) }
-        ensures drawn { Draws (λ p. canvas_holds self.old p && rect_holds rect (canvas_point self.old p))
-            (painted_by self.old op.now)
+        ensures drawn { Draws (λ p. canvas_holds self.old p && (clip_holds clip.now (canvas_point self.old p) && frame_holds rect (canvas_point self.old p)))
+            (λ p old. shade_value shade.now (canvas_point self.old p) old)
             self.old.map.now self.new.map.now }
     {
-        let font = self.font;
-        self.draw(rect, &Painted { op, font });
+        let sides = sides_of(rect);
+        self.draw_clipped(clip, sides.top, shade);
+        self.draw_clipped(clip, sides.bottom, shade);
+        self.draw_clipped(clip, sides.left, shade);
+        self.draw_clipped(clip, sides.right, shade);
     }
 }
 

@@ -8,17 +8,19 @@ ghost use Rattle.bit_map.specs.Patterns.{pattern_bit};
 ghost use Rattle.bit_blit.specs.Draws.{Draws};
 ghost use Rattle.strike_font.specs.Text.{text_holds};
 ghost use Rattle.scan_region.specs.Cuts.{cut_holds};
-ghost use Rattle.draw_port.specs.Ops.{IsRuledRect};
+ghost use Rattle.tb_geom.specs.Pixels.{holds};
+ghost use Rattle.draw_port.specs.Ops.{image_of, shade_value, clip_holds};
 ghost use Rattle.draw_port.specs.Canvases.{canvas_holds, canvas_point, painted_by, painted_all, pictured, SameFrame};
 
-use crate::bounds::rect_from;
+use crate::bounds::{column_bounds, rect_from, row_bounds, rows_bounds};
 use crate::canvas::Canvas;
 use crate::picture::Picture;
 use crate::placed::placed_within;
 use crate::rules::{Seen, White};
-use crate::shapes::{Op, Shade, Shape};
+use crate::shapes::{Op, RowsOfBits, Shade, Shape};
 use bit_blit::{Copied, Inverse, Rule, draw_cut};
 use bit_map::{BitImage, Mode, Pattern};
+use scan_region::{Cut, Region};
 use tb_geom::{Point, Rect};
 
 impl Canvas<'_> {
@@ -89,22 +91,26 @@ impl Canvas<'_> {
         self.clipped_text(&None, text, pen, mode);
     }
 
-    /// Draws an operation: each pixel of the canvas gets what the operation makes of it. Only pixels in
-    /// the operation's own box are looked at; a text is drawn glyph by glyph.
+    /// Draws an operation: each pixel of the canvas gets what the operation makes of it. Only pixels that
+    /// its clip leaves are looked at; a text is drawn glyph by glyph, and a frame side by side.
     pub fn paint(&mut self, op: &Op)
         ensures same_map { self.new.map.ghost_name ≡ self.old.map.ghost_name }
         ensures same_frame { SameFrame self.old self.new }
         ensures drawn { Draws (canvas_holds self.old) (painted_by self.old op.now) self.old.map.now self.new.map.now }
     {
+        let clip = &op.clip;
         match &op.shape {
+            Shape::Erase(rect) => self.draw_clipped(clip, *rect, &White),
+            Shape::Invert(rect) => self.draw_clipped(clip, *rect, &Inverse),
+            Shape::Fill(rect, shade) => self.draw_clipped(clip, *rect, shade),
+            Shape::Frame(rect, shade) => self.draw_frame(clip, *rect, shade),
+            Shape::HLine(line, shade) => self.draw_clipped(clip, row_bounds(*line), shade),
+            Shape::VLine(line, shade) => self.draw_clipped(clip, column_bounds(*line), shade),
             Shape::Text(run) => {
-                self.clipped_text(&op.clip, run.text.as_slice(), run.pen, run.mode.mode());
+                self.clipped_text(clip, run.text.as_slice(), run.pen, run.mode.mode());
             }
-            Shape::Erase(rect) => self.paint_rect(op, *rect, &White),
-            Shape::Invert(rect) => self.paint_rect(op, *rect, &Inverse),
-            Shape::Fill(rect, shade) => self.paint_rect(op, *rect, shade),
-            Shape::Frame(rect, _) => self.paint_frame(op, *rect),
-            _ => self.paint_box(op),
+            Shape::Bits(rows) => self.draw_rows(clip, rows),
+            Shape::FillRgn(region, shade) => self.draw_region(clip, region, shade),
         }
     }
 
@@ -129,27 +135,36 @@ impl Canvas<'_> {
         self.paint_all(picture);
     }
 
-    /// Draws an operation that has the pixels of a rectangle which its clip leaves, and gives them the
-    /// value of the rule: by the rule alone where there is no clip.
-    fn paint_rect<R: Rule>(&mut self, op: &Op, rect: Rect, rule: &R)
-        requires { IsRuledRect op.now rect (R.value rule.now) }
+    /// Puts rows of bits down where the clip leaves them.
+    fn draw_rows(&mut self, clip: &Option<Region>, rows: &RowsOfBits)
         ensures same_map { self.new.map.ghost_name ≡ self.old.map.ghost_name }
         ensures same_frame { SameFrame self.old self.new }
-        ensures drawn { Draws (canvas_holds self.old) (painted_by self.old op.now) self.old.map.now self.new.map.now }
+        ensures drawn { Draws (λ p. canvas_holds self.old p && (clip_holds clip.now (canvas_point self.old p) && image_holds (image_of rows.now) (minus (canvas_point self.old p) rows.now.place)))
+            (λ p old. mode_bit rows.now.mode (image_bit (image_of rows.now) (minus (canvas_point self.old p) rows.now.place)) old)
+            self.old.map.now self.new.map.now }
     {
-        match &op.clip {
-            None => self.draw(rect, rule),
-            Some(_) => self.paint_box(op),
-        }
+        let image = BitImage::new(rows.width, rows.height, rows.rows.as_slice());
+        let copied = Copied {
+            source: &image,
+            origin: rows.place,
+            mode: rows.mode,
+        };
+        self.draw_clipped(clip, rows_bounds(rows), &copied);
     }
 
-    /// Draws an operation by asking it at each pixel of the box around it.
-    fn paint_box(&mut self, op: &Op)
+    /// Fills what the clip leaves of a region.
+    fn draw_region<'r>(&mut self, clip: &'r Option<Region>, region: &'r Region, shade: &Shade)
         ensures same_map { self.new.map.ghost_name ≡ self.old.map.ghost_name }
         ensures same_frame { SameFrame self.old self.new }
-        ensures drawn { Draws (canvas_holds self.old) (painted_by self.old op.now) self.old.map.now self.new.map.now }
+        ensures drawn { Draws (λ p. canvas_holds self.old p && (clip_holds clip.now (canvas_point self.old p) && holds region.now (canvas_point self.old p)))
+            (λ p old. shade_value shade.now (canvas_point self.old p) old)
+            self.old.map.now self.new.map.now }
     {
-        self.paint_in(op, op.bounds());
+        let shared = Cut {
+            inside: [Some(region), clip.as_ref(), None],
+            outside: None,
+        };
+        self.draw_in(&shared, region.bbox(), shade);
     }
 
     /// Gives each pixel of the canvas in the rectangle the value of the rule. Both are in the

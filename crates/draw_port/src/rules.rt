@@ -1,13 +1,10 @@
 //! The rules by which a canvas is drawn on.
 ghost use Rattle.std.specs.Prelude.{◌≡◌, false, IfSome};
 ghost use Rattle.bit_map.specs.Rules.{HasColumns};
-ghost use Rattle.draw_port.specs.Ops.{op_value};
 ghost use Rattle.draw_port.specs.Places.{stopped, IsSeenRun};
 
-use crate::shapes::Op;
 use bit_blit::Rule;
 use bit_map::{Effect, Effects, bit_in, one_bit, right_of};
-use strike_font::Font;
 use tb_geom::Point;
 
 /// A rule in the coordinates of an origin on a map, as a rule of the map.
@@ -71,21 +68,6 @@ fn run_from_origin(start: Point, origin: Point, count: usize) -> Option<Point>
         h,
         v: start.v.saturating_sub(origin.v),
     })
-}
-
-/// What an operation makes of a pixel.
-#[derive(Clone, Copy)]
-pub struct Painted<'a> {
-    pub op: &'a Op,
-    pub font: &'a Font,
-}
-
-impl Rule for Painted<'_> {
-    ghost value = { λ r p old. op_value r.font.now r.op.now p old };
-
-    fn value(&self, point: Point, old: bool) -> bool {
-        self.op.value(self.font, point, old)
-    }
 }
 
 /// White.

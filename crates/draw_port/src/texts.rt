@@ -1,12 +1,12 @@
 //! Drawing texts, by tiles of 512 columns and 16 rows.
-ghost use Rattle.std.specs.Prelude.{◌≡◌, ◌≤◌, ◌-ℤ◌, true, ◌&&◌, length, if◌then◌else◌};
+ghost use Rattle.std.specs.Prelude.{◌≡◌, ◌≤◌, ◌≤ℤ◌, ◌<ℤ◌, ◌-ℤ◌, ◌+ℤ◌, pos, true, ◌&&◌, length, if◌then◌else◌};
 ghost use Rattle.tb_geom.specs.Rects.{rect_holds};
 ghost use Rattle.bit_map.specs.Modes.{mode_bit};
 ghost use Rattle.bit_blit.specs.Draws.{Draws};
-ghost use Rattle.strike_font.specs.Text.{text_holds, IsSized};
+ghost use Rattle.strike_font.specs.Text.{IsSized};
 ghost use Rattle.strike_font.specs.Tiles.{tile_bit};
 ghost use Rattle.draw_port.specs.Canvases.{canvas_holds, canvas_point, clipped_holds, SameFrame};
-ghost use Rattle.draw_port.specs.Ops.{clip_holds};
+ghost use Rattle.draw_port.specs.Texts.{put_value};
 
 use crate::canvas::Canvas;
 use crate::placed::placed;
@@ -15,16 +15,6 @@ use bit_map::{Effects, Mode, blended};
 use scan_region::Region;
 use strike_font::Tile;
 use tb_geom::{Point, Rect};
-
-/// A text that is put down by a mode within a clip, all in the coordinates of a canvas.
-#[derive(Clone, Copy)]
-struct Put<'a> {
-    clip: &'a Option<Region>,
-    text: &'a [u8],
-    pen: Point,
-    mode: Mode,
-    ghost short: { length text.now ≤ 65535 },
-}
 
 impl Canvas<'_> {
     /// Puts a text down by a mode within a clip, which is in the coordinates of the canvas. A pixel that
@@ -50,44 +40,91 @@ impl Canvas<'_> {
             mode,
         };
         let around = placed(self.font.text_rect(text), pen);
-        self.put_rows(put, around.sect(self.seen()));
-    }
-
-    /// A rectangle that has all pixels of the map in the clip, seen from the origin.
-    fn seen(&self) -> Rect {
-        let Point { h, v } = self.origin;
-        placed(self.map.bounds().sect(self.clip), Point { h: -h, v: -v })
+        let reach = self.reach();
+        self.put_rows(&put, reach.sect(around));
     }
 
     /// Puts down what a text has in a rectangle, 16 rows at a time.
-    fn put_rows(&mut self, put: Put, rect: Rect) {
+    fn put_rows(&mut self, put: &Put, rect: Rect)
+        ensures same_map { self.new.map.ghost_name ≡ self.old.map.ghost_name }
+        ensures same_frame { SameFrame self.old self.new }
+        ensures drawn { Draws (λ p. canvas_holds self.old p && rect_holds rect (canvas_point self.old p))
+            (λ p old. put_value self.old.font.now put.now.clip.now put.now.text.now put.now.pen put.now.mode (canvas_point self.old p) old)
+            self.old.map.now self.new.map.now }
+    {
         let mut top = rect.top;
         while top < rect.bottom {
-            let bottom = top.saturating_add(16).min(rect.bottom);
-            self.put_columns(put, Rect { top, bottom, ..rect });
+            let bottom = after(top, 16, rect.bottom);
+            self.put_columns(
+                put,
+                Rect {
+                    top,
+                    bottom,
+                    ..rect
+                },
+            );
             top = bottom;
         }
     }
 
     /// Puts down what a text has in a rectangle of at most 16 rows, 512 columns at a time.
-    fn put_columns(&mut self, put: Put, rect: Rect) {
+    fn put_columns(&mut self, put: &Put, rect: Rect)
+        requires { rect.bottom ≤ℤ (rect.top +ℤ pos 16) }
+        ensures same_map { self.new.map.ghost_name ≡ self.old.map.ghost_name }
+        ensures same_frame { SameFrame self.old self.new }
+        ensures drawn { Draws (λ p. canvas_holds self.old p && rect_holds rect (canvas_point self.old p))
+            (λ p old. put_value self.old.font.now put.now.clip.now put.now.text.now put.now.pen put.now.mode (canvas_point self.old p) old)
+            self.old.map.now self.new.map.now }
+    {
         let mut left = rect.left;
         while left < rect.right {
-            let right = left.saturating_add(512).min(rect.right);
-            self.put_tile(put, Rect { left, right, ..rect });
+            let right = after(left, 512, rect.right);
+            self.put_tile(
+                put,
+                Rect {
+                    left,
+                    right,
+                    ..rect
+                },
+            );
             left = right;
         }
     }
 
     /// Puts down what a text has in a rectangle of at most 512 columns and 16 rows.
-    fn put_tile(&mut self, put: Put, rect: Rect) {
-        let place = Point { h: rect.left, v: rect.top };
+    fn put_tile(&mut self, put: &Put, rect: Rect)
+        requires rows { rect.bottom ≤ℤ (rect.top +ℤ pos 16) }
+        requires columns { rect.right ≤ℤ (rect.left +ℤ pos 512) }
+        ensures same_map { self.new.map.ghost_name ≡ self.old.map.ghost_name }
+        ensures same_frame { SameFrame self.old self.new }
+        ensures drawn { Draws (λ p. canvas_holds self.old p && rect_holds rect (canvas_point self.old p))
+            (λ p old. put_value self.old.font.now put.now.clip.now put.now.text.now put.now.pen put.now.mode (canvas_point self.old p) old)
+            self.old.map.now self.new.map.now }
+    {
+        let place = Point {
+            h: rect.left,
+            v: rect.top,
+        };
         let x = difference(place.h, put.pen.h);
         let y = difference(place.v, put.pen.v);
         let tile = self.font.tile(put.text, x, y);
-        let mode = put.mode;
-        self.draw_clipped(put.clip, rect, &PutTile { tile: &tile, place, mode });
+        let rule = PutTile {
+            tile: &tile,
+            place,
+            mode: put.mode,
+        };
+        self.draw_clipped(put.clip, rect, &rule);
     }
+}
+
+/// A text that is put down by a mode within a clip, all in the coordinates of a canvas.
+#[derive(Drop)]
+struct Put<'a> {
+    clip: &'a Option<Region>,
+    text: &'a [u8],
+    pen: Point,
+    mode: Mode,
+    ghost short: { length text.now ≤ 65535 },
 }
 
 /// A tile whose top left pixel lies at a place, put down by a mode.
@@ -114,9 +151,21 @@ impl Rule for PutTile<'_> {
     fn word(&self, start: Point, _count: usize, old: u64) -> u64 {
         let x = difference(start.h, self.place.h);
         let y = difference(start.v, self.place.v);
+        let bits = self.tile.word(x, y);
         let black = Effects::all(self.mode.effect(true));
-        blended(old, black.of(old), self.tile.word(x, y))
+        blended(old, black.of(old), bits)
     }
+}
+
+/// The number `step` above another, or `last` where that is less.
+fn after(x: i32, step: i32, last: i32) -> i32
+    requires some { pos 0 <ℤ step }
+    requires before { x <ℤ last }
+    ensures more { x <ℤ result }
+    ensures within { result ≤ℤ last }
+    ensures near { result ≤ℤ (x +ℤ step) }
+{
+    x.saturating_add(step).min(last)
 }
 
 /// How far `a` lies from `b`.

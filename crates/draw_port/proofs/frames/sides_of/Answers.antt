@@ -1,6 +1,7 @@
-use Rattle.std.proofs.Common.{SFits, w32, rules}
-use Rattle.std.proofs.lemmas.Int.{to_z-of_z}
-use Rattle.draw_port.proofs.FrameLemmas.{AreCut, bottom_alone, left_alone, right_alone, frame_around}
+use Rattle.std.proofs.Common.{SFits, w32, rules, arith}
+use Rattle.std.proofs.lemmas.Int.{ints, to_z-of_z}
+use Rattle.draw_port.proofs.FrameLemmas.{AreCut, bottom_alone, left_alone, right_alone, frame_whole}
+use Rattle.draw_port.proofs.PlacedLemmas.{IsNear}
 use Rattle.draw_port.proofs.frames.sides_of.Goals as goal
 
 pub returns : goal.returns
@@ -22,8 +23,13 @@ returns c =
       beside_is = columns.right;
       right_is = columns2.right;
     } in
+    let l : SFits w32 c.args.rect.left = search rules in
+    let t : SFits w32 c.args.rect.top = search rules in
+    let r : SFits w32 c.args.rect.right = search rules in
+    let b : SFits w32 c.args.rect.bottom = search rules in
+    let near : IsNear c.args.rect = record { left = omega (arith, ints); top = omega (arith, ints); right = omega (arith, ints); bottom = omega (arith, ints) } in
     record {
-      around = frame_around cut (search rules) (search rules) (search rules) (search rules);
+      all = frame_whole cut near (search rules) (search rules) (search rules) (search rules);
       bottom_apart = bottom_alone cut;
       left_apart = left_alone cut;
       right_apart = right_alone cut;

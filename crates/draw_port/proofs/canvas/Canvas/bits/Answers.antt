@@ -1,3 +1,4 @@
+use Rattle.std.proofs.Common.{◌∙◌}
 use Rattle.bit_map.specs.Images.{Image}
 use Rattle.draw_port.proofs.CanvasLemmas.{bits_drawn}
 use Rattle.draw_port.proofs.canvas.Canvas.bits.Goals as goal
@@ -7,4 +8,4 @@ returns-clause-drawn c =
     let canvas = c.args.self.now in
     let limits = c.draw.ensures.limits in
     let image : Image = record { width = c.args.width; height = c.args.height; rows = c.args.rows.now } in
-    bits_drawn canvas c.rect_from.result c.new-image.result image c.args.place c.args.mode _ _ limits.0 limits.1 canvas.near c.new-image.ensures c.rect_from.ensures c.draw.ensures.drawn
+    bits_drawn canvas c.rect_from.result c.new-image.result image c.args.place c.args.mode _ _ limits.0 limits.1 canvas.near c.new-image.ensures (λ p close held. c.rect_from.ensures p close ∙ held) c.draw.ensures.drawn
