@@ -179,3 +179,6 @@ text_drawn c clip text pen mode own moved reach box old new is_old w h near arou
     one : (p : Point) (d : Bool) → on_map old p ≡ true → cond (canvas_holds c p && rect_holds box (canvas_point c p)) (put_value c.font.now clip text pen mode (canvas_point c p) d) d ≡ cond (clipped_holds c clip text pen p) (mode_bit mode true d) d
     one p d on = table (canvas_holds c p) (clip_holds clip (canvas_point c p)) (text_holds c.font.now text pen (canvas_point c p)) (rect_holds box (canvas_point c p)) (mode_bit mode true d) d
         (λ held has. both (canvas_point c p) ∙ (λ i. reaches p (ap (λ m. on_map m p) (sym is_old) ∙ on) held i && (is_moved (canvas_point c p) (seen_near old p c.origin w h near on) ∙ around pen (canvas_point c p) has) i))
+
+pub column-turn : (h place : ℤ) (k : ℕ) → (h -ℤ place +ℤ pos k) ≡ (h +ℤ pos k -ℤ place)
+column-turn h place k = omega (arith, ints)

@@ -11,7 +11,7 @@ invariant-loop-top l = record {
   same_map : l.self.map.ghost_name ≡ l.fn.self.map.ghost_name;
   same_frame : SameFrame l.fn.self l.self;
   drawn : Draws (λ p. canvas_holds l.fn.self p && rect_holds (record { left = l.rect.left; top = l.rect.top; right = l.rect.right; bottom = l.top }) (canvas_point l.fn.self p))
-      (λ p d. put_value l.fn.self.font.now l.put.now.clip.now l.put.now.text.now l.put.now.pen l.put.now.mode (canvas_point l.fn.self p) d) l.fn.self.map.now l.self.map.now;
+      (λ p d. put_value l.fn.self.font.now l.put.clip.now l.put.text.now l.put.pen l.put.mode (canvas_point l.fn.self p) d) l.fn.self.map.now l.self.map.now;
   low : l.rect.top ≤ℤ l.top;
   within : l.top ≤ℤ int_max l.rect.top l.rect.bottom;
 }
