@@ -11,7 +11,6 @@ use Rattle.bit_map.specs.Bits.{Bits, on_map}
 use Rattle.bit_map.proofs.BitsLemmas.{on_map-sides}
 use Rattle.bit_blit.specs.Draws.{Draws}
 use Rattle.bit_blit.proofs.DrawsLemmas.{Draws-over, Draws-same, Draws-where}
-use Rattle.draw_port.proofs.PlacedLemmas.{image-around}
 use Rattle.draw_port.specs.Origins.{is_near_origin}
 use Rattle.draw_port.specs.Places.{stopped, is_far, HasNear, Encloses}
 use Rattle.scan_region.specs.Cuts.{cut_holds}
@@ -97,16 +96,6 @@ boxed_drawn c box holds value old new w h near around drawn = Draws-same _ _ _ _
 in_table : (k t : Bool) (x d : Bool) → cond (k && t) x d ≡ cond k (cond t x d) d
 in_table true t x d = refl
 in_table false t x d = refl
-
--- bits are copied where the image has the pixel
-pub bits_drawn : (c : Canvas) (box : Rect) (made image : Image) (place : Point) (mode : Mode) (old new : Bits) → old.width ≤ 32767 → old.height ≤ 32767 → is_near_origin c.origin ≡ true → made ≡ image
-    → Encloses box (λ p. between place.h p.h (place.h +ℤ pos image.width) && between place.v p.v (place.v +ℤ pos image.height))
-    → Draws (λ p. canvas_holds c p && rect_holds box (canvas_point c p)) (λ p d. if image_holds made (minus (canvas_point c p) place) then mode_bit mode (image_bit made (minus (canvas_point c p) place)) d else d) old new
-    → Draws (λ p. canvas_holds c p && image_holds image (minus (canvas_point c p) place)) (λ p d. mode_bit mode (image_bit image (minus (canvas_point c p) place)) d) old new
-bits_drawn c box made image place mode old new w h near is_made around drawn =
-    boxed_drawn c box (λ q. image_holds image (minus q place)) (λ q d. mode_bit mode (image_bit image (minus q place)) d) old new w h near
-    (λ p close held. around p close (image-around image place p held))
-    (subst (λ (i : Image). Draws (λ p. canvas_holds c p && rect_holds box (canvas_point c p)) (λ p d. cond (image_holds i (minus (canvas_point c p) place)) (mode_bit mode (image_bit i (minus (canvas_point c p) place)) d) d) old new) is_made drawn)
 
 -- within a clip, bits are copied where the image has the pixel
 pub rows_drawn : (c : Canvas) (u : PixelSet) (box : Rect) (made image : Image) (place : Point) (mode : Mode) (old new : Bits) → old.width ≤ 32767 → old.height ≤ 32767 → is_near_origin c.origin ≡ true → made ≡ image

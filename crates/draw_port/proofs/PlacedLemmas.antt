@@ -66,15 +66,9 @@ enclosed start w h p near =
     let s = sides_of (record { left = negsuc 2147483647; top = negsuc 2147483647; right = pos 2147483647; bottom = pos 2147483647 }) p (not-false _ near) in
     λ i. (int_le start.h p.h && lt-stopped p.h (start.h +ℤ w) s.left s.right i) && (int_le start.v p.v && lt-stopped p.v (start.v +ℤ h) s.top s.bottom i)
 
-pub Encloses-fewer : (r : Rect) (s t : PixelSet) → ((p : Point) → s p ≡ true → t p ≡ true) → Encloses r t → Encloses r s
-Encloses-fewer r s t fewer all p near e = all p near (fewer p e)
-
 both : (a b : Bool) → (a && b) ≡ true → (a ≡ true) × (b ≡ true)
 both true b e = (refl, e)
 both false b e = absurd (cc)
-
-pub first_true : (a b : Bool) → (a && b) ≡ true → a ≡ true
-first_true a b e = (both a b e).0
 
 pub both_true : (a b c d : Bool) → (a ≡ true → c ≡ true) → (b ≡ true → d ≡ true) → (a && b) ≡ true → (c && d) ≡ true
 both_true a b c d f g e = let t = both a b e in (λ i. f t.0 i && g t.1 i)

@@ -1,12 +1,10 @@
-//! Rectangles of lines and of rows of bits.
+//! Rectangles of so many pixels, and of lines.
 ghost use Rattle.std.specs.Prelude.{◌&&◌, ◌+ℤ◌, pos};
-ghost use Rattle.tb_geom.specs.Points.{minus};
 ghost use Rattle.tb_geom.specs.Rects.{between};
-ghost use Rattle.bit_map.specs.Images.{image_holds};
-ghost use Rattle.draw_port.specs.Places.{HasNear, Encloses};
-ghost use Rattle.draw_port.specs.Ops.{row_holds, column_holds, image_of};
+ghost use Rattle.draw_port.specs.Places.{HasNear};
+ghost use Rattle.draw_port.specs.Ops.{row_holds, column_holds};
 
-use crate::shapes::{Line, RowsOfBits};
+use crate::shapes::Line;
 use tb_geom::{Point, Rect};
 
 /// The rectangle of this many columns and rows from a point on, as far as numbers of 32 bits go.
@@ -33,11 +31,4 @@ pub fn column_bounds(line: Line) -> Rect
     ensures { HasNear result (column_holds line) }
 {
     rect_from(line.start, 1, line.count)
-}
-
-/// A rectangle around rows of bits.
-pub fn rows_bounds(rows: &RowsOfBits) -> Rect
-    ensures { Encloses result (λ p. image_holds (image_of rows.now) (minus p rows.now.place)) }
-{
-    rect_from(rows.place, rows.width, rows.height)
 }

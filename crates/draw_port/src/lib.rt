@@ -13,8 +13,9 @@
 //! place of the canvas's own 0 0 on the map. Each drawing on it says which pixels of the canvas got
 //! which value, by the one word `Draws`, and that all else stayed. All go through one function, which
 //! gives the pixels of a rectangle that the cut leaves the value of a `Rule` in the canvas's own
-//! coordinates, run by run. A rectangle without a clip is drawn by the rule of its shade; of any other
-//! operation each pixel of its box is asked, of a frame those of its sides, of a text those of its glyphs.
+//! coordinates, by words of 64 pixels. An operation's shape is drawn by the rule of its shade or of its bits:
+//! a line as a rectangle, a frame side by side, a text glyph by glyph. Of what a clip or a region bounds, its
+//! spans are drawn, those that are equal in rows that follow each other as one rectangle.
 #![tactic(auto)]
 
 mod bounds;

@@ -12,7 +12,7 @@ ghost use Rattle.tb_geom.specs.Pixels.{holds};
 ghost use Rattle.draw_port.specs.Ops.{image_of, shade_value, clip_holds};
 ghost use Rattle.draw_port.specs.Canvases.{canvas_holds, canvas_point, painted_by, painted_all, pictured, SameFrame};
 
-use crate::bounds::{column_bounds, rect_from, row_bounds, rows_bounds};
+use crate::bounds::{column_bounds, rect_from, row_bounds};
 use crate::canvas::Canvas;
 use crate::picture::Picture;
 use crate::placed::placed_within;
@@ -149,7 +149,8 @@ impl Canvas<'_> {
             origin: rows.place,
             mode: rows.mode,
         };
-        self.draw_clipped(clip, rows_bounds(rows), &copied);
+        let rect = rect_from(rows.place, rows.width, rows.height);
+        self.draw_clipped(clip, rect, &copied);
     }
 
     /// Fills what the clip leaves of a region.
@@ -191,6 +192,9 @@ impl Canvas<'_> {
             self.old.map.now self.new.map.now }
     {
         let _bounds = self.map.bounds();
+        if area.is_empty() {
+            return;
+        }
         let seen = Seen {
             rule,
             origin: self.origin,

@@ -2,7 +2,7 @@
 
 use bit_blit::{fill, shift};
 use bit_map::{BitMap, Mode, Pattern};
-use draw_port::{Canvas, Cut};
+use draw_port::{Bytes, Canvas, Cut, Op, RowsOfBits, Shade, Shape};
 use scan_region::Region;
 use std::alloc::Global;
 use strike_font::Font;
@@ -128,4 +128,61 @@ pub fn fill_cut(alloc: Global, rounds: u32) -> Result<u32, Refusal> {
         outside: Some(&hole),
     };
     draw_on(alloc, &cut, &GrayScreen, rounds)
+}
+
+#[derive(Drop)]
+struct Painted {
+    op: Op,
+}
+
+impl Drawing for Painted {
+    fn draw(&self, canvas: &mut Canvas<'_>) {
+        canvas.paint(&self.op);
+    }
+}
+
+/// Turns each pixel at which the gray pattern is black.
+const TURNED: Shade = Shade {
+    pattern: Pattern::GRAY,
+    mode: Mode::Xor,
+};
+
+/// Paints an operation on a canvas that nothing cuts.
+fn paint(alloc: Global, op: Op, rounds: u32) -> Result<u32, Refusal> {
+    draw_on(alloc, &WHOLE, &Painted { op }, rounds)
+}
+
+/// Draws the frame of a rectangle of 160 by 100 with gray.
+pub fn draw_frame(alloc: Global, rounds: u32) -> Result<u32, Refusal> {
+    let op = Op {
+        clip: None,
+        shape: Shape::Frame(rect!(43, 30, 203, 130), TURNED),
+    };
+    paint(alloc, op, rounds)
+}
+
+/// Draws an image of 160 by 100.
+pub fn draw_image(alloc: Global, rounds: u32) -> Result<u32, Refusal> {
+    let op = Op {
+        clip: None,
+        shape: Shape::Bits(RowsOfBits {
+            place: Point { h: 43, v: 30 },
+            width: 160,
+            height: 100,
+            mode: Mode::Xor,
+            rows: Bytes::new(alloc, &[0xB2; 2000])?,
+        }),
+    };
+    paint(alloc, op, rounds)
+}
+
+/// Fills what a clip of two rectangles leaves of one of 160 by 100 with gray.
+pub fn fill_clipped(alloc: Global, rounds: u32) -> Result<u32, Refusal> {
+    let first = Region::from_rect(alloc, rect!(60, 40, 150, 100))?;
+    let second = Region::from_rect(alloc, rect!(120, 80, 260, 200))?;
+    let op = Op {
+        clip: Some(first.union(alloc, &second)?),
+        shape: Shape::Fill(rect!(43, 30, 203, 130), TURNED),
+    };
+    paint(alloc, op, rounds)
 }

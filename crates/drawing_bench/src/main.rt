@@ -12,7 +12,7 @@ use std::alloc::Global;
 use std::env;
 
 const USAGE: &str =
-    "drawing_bench ROUNDS WHAT.., where WHAT is union, write, read, shift, text, fill or cut";
+    "drawing_bench ROUNDS WHAT.., where WHAT is union, write, read, shift, text, fill, cut, frame, image or clipped";
 
 /// The checksum of what comes of these rounds.
 fn measured(alloc: Global, what: &str, rounds: u32) -> Result<u32> {
@@ -24,6 +24,9 @@ fn measured(alloc: Global, what: &str, rounds: u32) -> Result<u32> {
         "text" => drawings::draw_text(alloc, rounds)?,
         "fill" => drawings::fill_all(alloc, rounds)?,
         "cut" => drawings::fill_cut(alloc, rounds)?,
+        "frame" => drawings::draw_frame(alloc, rounds)?,
+        "image" => drawings::draw_image(alloc, rounds)?,
+        "clipped" => drawings::fill_clipped(alloc, rounds)?,
         _ => bail!(USAGE),
     })
 }
