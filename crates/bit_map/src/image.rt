@@ -1,5 +1,5 @@
 //! Bit images.
-ghost use Rattle.std.specs.Prelude.{◌≡◌, true, ◌+◌, ◌/◌, ◌%◌, ◌^◌, ◌<◌, ◌≤◌, ◌≤ℤ◌, pos, ℕ, slice_index};
+ghost use Rattle.std.specs.Prelude.{◌≡◌, true, ◌+◌, ◌/◌, ◌%◌, ◌^◌, ◌<◌, ◌≤◌, ◌≤ℤ◌, pos, ℕ, length, slice_index};
 ghost use Rattle.bit_map.specs.Patterns.{bit_of};
 ghost use Rattle.bit_map.specs.Rules.{right_of};
 ghost use Rattle.bit_map.specs.Words.{bit_in};
@@ -124,11 +124,26 @@ fn byte(bytes: &[u8], place: usize) -> u8
     }
 }
 
+/// Eight bytes from a place on, all of which there are, the first one high.
+fn eight_within(bytes: &[u8], place: usize) -> u64
+    requires { place + 8 ≤ length bytes.now }
+    ensures { (k : ℕ) → k < 64 → bit_in result k ≡ bit_of (slice_index bytes.now (place + k / 8)) (k % 8) }
+{
+    let mut word: u64 = 0;
+    for j in 0..8 {
+        word = word * 256 + u64::from(bytes[place + j]);
+    }
+    word
+}
+
 /// Eight bytes from a place on, the first one high; 0 past the last.
 fn eight_bytes(bytes: &[u8], place: usize) -> u64
     requires { place < 2 ^ 60 }
     ensures { (k : ℕ) → k < 64 → bit_in result k ≡ bit_of (slice_index bytes.now (place + k / 8)) (k % 8) }
 {
+    if place + 8 <= bytes.len() {
+        return eight_within(bytes, place);
+    }
     let mut word: u64 = 0;
     for j in 0..8 {
         word = word * 256 + u64::from(byte(bytes, place + j));

@@ -32,6 +32,7 @@ pub use effect::{Effect, Effects};
 pub use image::{BitImage, bits_from};
 pub use map::BitMap;
 pub use mode::Mode;
+pub use moves::word_from;
 pub use pattern::{Pattern, bit_of};
 pub use rule::{Rule, right_of};
 pub use words::{bit_in, black_between, blended, held, one_bit};

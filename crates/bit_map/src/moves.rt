@@ -37,8 +37,8 @@ fn joined_lanes(words: &[u64], bit: u64) -> u64x4
     near | far
 }
 
-/// The 64 bits from a place on.
-pub(crate) fn word_from(words: &[u64], place: usize) -> u64
+/// The 64 bits from a place on, the places of the words' bits counted on from word to word; white past the last.
+pub fn word_from(words: &[u64], place: usize) -> u64
     ensures { (k : ℕ) → k < 64 → bit_in result k ≡ place_bit words.now (place + k) }
 {
     let near = word_at(words, place / 64);

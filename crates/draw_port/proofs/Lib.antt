@@ -2,9 +2,8 @@
 pub mod CanvasLemmas
 pub mod PlacedLemmas
 pub mod PictureLemmas
-pub mod GlyphLemmas
 pub mod FrameLemmas
 pub mod OverLemmas
 pub mod SeenLemmas
-pub mod PutLemmas
+pub mod TextLemmas
 pub mod ClippedLemmas

@@ -1,14 +1,12 @@
--- The pixels that a glyph adds to those of the text before it.
-use Rattle.std.specs.Prelude.{ℕ, pos, ◌-ℤ◌, not, ◌&&◌, List}
+-- What a text makes of pixels.
+use Rattle.std.specs.Prelude.{ℕ, Bool, true, ◌&&◌, if◌then◌else◌, List, Option}
 use Rattle.tb_geom.specs.declared.point.Point.{Point}
-use Rattle.tb_geom.specs.Points.{PixelSet}
-use Rattle.strike_font.specs.declared.glyph.Glyph.{Glyph}
-use Rattle.strike_font.specs.Text.{glyph_pixel, text_holds}
+use Rattle.tb_geom.specs.Pixels.{Pixels}
+use Rattle.bit_map.specs.declared.mode.Mode.{Mode}
+use Rattle.bit_map.specs.Modes.{mode_bit}
+use Rattle.strike_font.specs.Text.{text_holds}
+use Rattle.draw_port.specs.Ops.{clip_holds}
 
--- the pixels of a glyph, put down `across` columns right of where the pen started
-abbrev pub glyph_holds : List ℕ → Glyph → ℕ → Point → PixelSet
-glyph_holds font g across pen p = glyph_pixel font g (p.h -ℤ pen.h -ℤ pos across) (p.v -ℤ pen.v)
-
--- those that the text before it does not have
-abbrev pub new_holds : List ℕ → List ℕ → Glyph → ℕ → Point → PixelSet
-new_holds font before g across pen p = glyph_holds font g across pen p && not (text_holds font before pen p)
+-- what a text that is put down by a mode within a clip makes of the bit of a pixel
+abbrev pub put_value : List ℕ → Option Pixels → List ℕ → Point → Mode → Point → Bool → Bool
+put_value font clip text pen mode p old = if clip_holds clip p && text_holds font text pen p then mode_bit mode true old else old

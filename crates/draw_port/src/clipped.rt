@@ -46,7 +46,7 @@ impl Canvas<'_> {
     }
 
     /// A rectangle around all pixels of the canvas, in its own coordinates.
-    fn reach(&self) -> Rect
+    pub(crate) fn reach(&self) -> Rect
         ensures around { (p : Point) → on_map self.now.map.now p ≡ true → canvas_holds self.now p ≡ true → rect_holds result (canvas_point self.now p) ≡ true }
         ensures limits { (self.now.map.now.width ≤ 32767) × (self.now.map.now.height ≤ 32767) }
     {

@@ -5,3 +5,4 @@ pub mod TextLemmas
 pub mod PartLemmas
 pub mod BuiltInLemmas
 pub mod WordsLemmas
+pub mod TileLemmas

@@ -117,3 +117,17 @@ below_row limit (negsuc n) e = absurd (cc)
 
 pub below_zero : (limit : ℕ) (x : ℤ) → is_below limit x ≡ true → pos 0 ≤ℤ x
 below_zero limit x e = (below_z limit x e).0
+
+-- a glyph has no bit outside its columns
+column_off : (font : List ℕ) (g : Glyph) (column row : ℤ) → is_below g.columns column ≡ false → glyph_bit font g column row ≡ false
+column_off font g (negsuc k) row off = refl
+column_off font g (pos k) (negsuc r) off = refl
+column_off font g (pos k) (pos r) off = ap (λ t. (t && nat_lt r (height font)) && image_bit font (g.first + k) r) off
+
+-- so a column may be kept near
+pub near_bit : (font : List ℕ) (g : Glyph) (x row : ℤ) (k : ℕ) → g.columns ≤ 65535 → k < 64 → glyph_bit font g (near_column x +ℤ pos k) row ≡ glyph_bit font g (x +ℤ pos k) row
+near_bit font g x row k few low = by_test (is_below g.columns (x +ℤ pos k)) refl
+  where
+    by_test : (t : Bool) → is_below g.columns (x +ℤ pos k) ≡ t → glyph_bit font g (near_column x +ℤ pos k) row ≡ glyph_bit font g (x +ℤ pos k) row
+    by_test true e = ap (λ y. glyph_bit font g (y +ℤ pos k) row) (column_is g.columns x k few low e)
+    by_test false e = column_off font g (near_column x +ℤ pos k) row (column_below g.columns x k few low ∙ e) ∙ sym (column_off font g (x +ℤ pos k) row e)

@@ -1,14 +1,19 @@
 //! Fonts.
 ghost use Rattle.std.specs.Prelude.{◌≡◌, ℕ, ◌+ℤ◌, true, IfOk, IfErr, IsTrue, ◌↔◌, ◌≤◌, ◌<◌, ◌≤ℤ◌, ◌<ℤ◌, pos, negsuc, ◌*◌, ◌+◌, length, if◌then◌else◌};
+ghost use Rattle.tb_geom.specs.declared.point.Point.{Point};
+ghost use Rattle.tb_geom.specs.Points.{minus};
+ghost use Rattle.tb_geom.specs.Rects.{rect_holds};
 ghost use Rattle.bit_map.specs.Words.{bit_in};
 ghost use Rattle.strike_font.specs.BuiltIn.{IsBuiltIn};
 ghost use Rattle.strike_font.specs.Record.{is_font, words_of_row, height, ascent, descent, kern};
 ghost use Rattle.strike_font.specs.Text.{glyph_of, text_width, text_holds, glyph_pixel, glyphs_pixel, glyph_rect, IsSized, IsTextPixel};
+ghost use Rattle.strike_font.specs.Tiles.{IsTile};
 
 use crate::built_in::RECORD;
 use crate::glyph::{self, Glyph};
 use crate::record::{is_font, signed, word};
 use crate::text;
+use crate::tile::Tile;
 use std::alloc::{AllocError, Global};
 use std::marker::Model;
 use tb_geom::{Point, Rect, Refusal};
@@ -159,5 +164,26 @@ impl Font {
         ensures { result ≡ glyphs_pixel self.now text.now 0 x y }
     {
         text::glyphs_pixel(&self.bytes, text, x, y)
+    }
+
+    /// What a text of at most 65535 characters has of 512 columns by 16 rows of pixels, the first of
+    /// them `x` columns right of where its pen starts and `y` rows below the baseline. Either may be
+    /// negative, and is at most 2^33 either way.
+    pub fn tile(&self, text: &[u8], x: i64, y: i64) -> Tile
+        requires short { length text.now ≤ 65535 }
+        requires x_near { IsSized 33 x }
+        requires y_near { IsSized 33 y }
+        ensures { IsTile self.now text.now x y result }
+    {
+        Tile::of_text(&self.bytes, text, x, y)
+    }
+
+    /// A rectangle outside which a text of at most 65535 characters has no pixel, seen from where its
+    /// pen starts on the baseline.
+    pub fn text_rect(&self, text: &[u8]) -> Rect
+        requires { length text.now ≤ 65535 }
+        ensures { (pen p : Point) → text_holds self.now text.now pen p ≡ true → rect_holds result (minus p pen) ≡ true }
+    {
+        text::text_rect(&self.bytes, text)
     }
 }

@@ -98,7 +98,7 @@ fn glyph_bit(bytes: &[u8], glyph: Glyph, column: i64, row: i64) -> bool
 }
 
 /// The column of a glyph that lies `x` columns right of the pen.
-fn column_of(x: i64, kern: i32, offset: u8) -> i64
+pub fn column_of(x: i64, kern: i32, offset: u8) -> i64
     requires { IsSized 34 x }
     ensures { result ≡ x -ℤ (kern +ℤ pos offset) }
 {
@@ -106,7 +106,7 @@ fn column_of(x: i64, kern: i32, offset: u8) -> i64
 }
 
 /// The row of a glyph that lies `y` rows below the baseline.
-fn row_of(y: i64, ascent: u16) -> i64
+pub fn row_of(y: i64, ascent: u16) -> i64
     requires { IsSized 34 y }
     ensures { result ≡ y +ℤ pos ascent }
 {
@@ -162,6 +162,16 @@ fn is_row(bytes: &[u8], row: i64) -> bool
     0 <= row && row < i64::from(word(bytes, 7))
 }
 
+/// The bits of 64 columns of a glyph in a row that it has, from a column on; it has none outside its own.
+pub fn row_bits(bytes: &[u8], glyph: Glyph, start: i32, row: u16) -> u64
+    requires font { IsFont bytes.now }
+    requires near { start ≤ℤ pos 65536 }
+    requires row_in { row < height bytes.now }
+    ensures { (k : ℕ) → k < 64 → bit_in result k ≡ glyph_bit bytes.now glyph (start +ℤ pos k) (pos row) }
+{
+    strike_from(bytes, glyph.first, start, row) & held(glyph.columns, start)
+}
+
 /// The bits of 64 columns of a glyph in a row, from a column on; it has none outside its own.
 fn glyph_bits(bytes: &[u8], glyph: Glyph, column: i64, row: i64) -> u64
     requires { IsFont bytes.now }
@@ -171,7 +181,7 @@ fn glyph_bits(bytes: &[u8], glyph: Glyph, column: i64, row: i64) -> u64
         return 0;
     }
     let start = column.clamp(-64, 65536) as i32;
-    strike_from(bytes, glyph.first, start, row as u16) & held(glyph.columns, start)
+    row_bits(bytes, glyph, start, row as u16)
 }
 
 /// Which of 64 pixels of a row a glyph has, the first of them `x` columns right of the pen and `y` rows

@@ -25,7 +25,9 @@ mod glyph;
 pub mod laws;
 mod record;
 mod text;
+mod tile;
 
 pub use font::Font;
 pub use glyph::Glyph;
 pub use record::LONGEST_RECORD;
+pub use tile::Tile;

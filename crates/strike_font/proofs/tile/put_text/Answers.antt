@@ -1,0 +1,17 @@
+use Rattle.std.proofs.Common.{◌≡◌, ◌/◌, ◌%◌, ◌∙◌, ◌+ℤ◌, pos, SFits, w64, rules, arith}
+use Rattle.std.proofs.lemmas.Int.{to_z-of_z}
+use Rattle.strike_font.proofs.TileLemmas.{text_more}
+use Rattle.strike_font.proofs.tile.put_text.Goals as goal
+
+pub loop-character-preserved : goal.loop-character-preserved
+loop-character-preserved c =
+    let fx : SFits w64 c.args.x = search rules in
+    let fy : SFits w64 c.args.y = search rules in
+    let fr : SFits w64 c.right_of.result = search rules in
+    let i = simp to_z-of_z at c.loop-character.invariant.value in
+    let there = simp to_z-of_z at c.right_of.ensures.value in
+    let put = simp to_z-of_z at c.put_glyph.ensures in
+    simp to_z-of_z (record {
+      value = λ n low. text_more c.args.bytes.now c.args.text.now c.loop-character.character-index c.loop-character.across c.from-across.result n c.args.x (c.args.y +ℤ pos (n / 512)) c.right_of.result c.glyph_of-glyph.result c.args.words.now c.loop-character.words c.put_glyph.new.words _ (search rules) c.glyph_of-glyph.ensures.value there c.from-across.ensures (put n low) (i n low);
+      small = omega arith;
+    })
