@@ -1,5 +1,5 @@
 -- One operation after another on a canvas.
-use Rattle.std.proofs.Common.{◌≡◌, ℕ, ◌+◌, ◌<◌, ◌≤◌, ℤ, pos, negsuc, ◌-ℤ◌, ◌≤ℤ◌, ◌+ℤ◌, nat_abs, Bool, true, false, not, ◌&&◌, cond, None, List, length, take, get_or, refl, sym, ap, subst, if◌then◌else◌, ◌∙◌, arith, w32}
+use Rattle.std.proofs.Common.{◌≡◌, ℕ, ◌+◌, ◌<◌, ◌≤◌, ℤ, pos, negsuc, ◌-ℤ◌, ◌≤ℤ◌, nat_abs, Bool, true, false, not, ◌&&◌, cond, List, length, take, get_or, refl, sym, ap, if◌then◌else◌, ◌∙◌, arith, w32}
 use Rattle.std.specs.Int.{saturate_signed}
 use Rattle.std.proofs.lemmas.Int.{ints, clamps}
 use Rattle.std.proofs.lemmas.List.Sums.{fold_more}
@@ -14,7 +14,7 @@ use Rattle.bit_blit.proofs.DrawsLemmas.{Draws-over, Draws-same, Draws-where}
 use Rattle.draw_port.specs.Origins.{is_near_origin}
 use Rattle.draw_port.specs.Places.{stopped, is_far, HasNear, Encloses}
 use Rattle.scan_region.specs.Cuts.{cut_holds}
-use Rattle.draw_port.specs.Ops.{clip_holds, run_holds, text_mode, shape_holds, shape_value, op_holds, op_value, picture_value}
+use Rattle.draw_port.specs.Ops.{clip_holds, text_mode, shape_holds, shape_value, op_holds, op_value, picture_value}
 use Rattle.draw_port.specs.Canvases.{canvas_holds, canvas_point, clipped_holds, painted_by, painted_all, pictured, SameFrame}
 use Rattle.draw_port.specs.declared.canvas.Canvas.{Canvas}
 use Rattle.bit_map.specs.declared.mode.Mode.{Mode}
