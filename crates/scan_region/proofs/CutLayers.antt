@@ -1,5 +1,5 @@
 -- A cut as layers of one row.
-use Rattle.std.proofs.Common.{◌≡◌, ℕ, zero, suc, ◌≤◌, Bool, true, false, not, ◌&&◌, List, [], ◌∷◌, ◌++◌, Option, Some, None, length, get_or, drop, ℤ, refl, sym, ap, ◌∙◌, subst, arith}
+use Rattle.std.proofs.Common.{◌≡◌, ◌⊎◌, inl, inr, ℕ, zero, suc, ◌≤◌, Bool, true, false, not, ◌&&◌, List, [], ◌∷◌, ◌++◌, Option, Some, None, length, get_or, drop, ℤ, ◌<ℤ◌, refl, sym, ap, ◌∙◌, subst, arith}
 use Rattle.std.specs.List.{list_all}
 use Rattle.std.specs.Option.{is_some}
 use Rattle.std.proofs.lemmas.Bool.{true≢false}
@@ -11,7 +11,7 @@ use Rattle.tb_geom.specs.Points.{PixelSet}
 use Rattle.tb_geom.specs.Rects.{rect_holds}
 use Rattle.tb_geom.specs.Pixels.{Pixels}
 use Rattle.scan_region.specs.Cuts.{cut_holds, in_part, in_hole}
-use Rattle.scan_region.specs.Descents.{spans_of}
+use Rattle.scan_region.specs.Descents.{spans_of, IsUpright}
 use Rattle.scan_region.specs.Parts.{lets, IsPart, IsFit, IsWalk}
 use Rattle.scan_region.specs.Scan.{IsScanOf}
 use Rattle.scan_region.specs.SpanRows.{all_pixels}
@@ -22,8 +22,9 @@ use Rattle.scan_region.specs.declared.cut.Cut.{Cut}
 use Rattle.scan_region.specs.declared.descent.Run.{Run}
 use Rattle.scan_region.specs.declared.part.Part.{Part}
 use Rattle.scan_region.specs.declared.part.Part.TheVariants.{Open, Lined, Tested}
+use Rattle.scan_region.specs.declared.spans.Span.{Span}
 use Rattle.scan_region.specs.declared.walk.Walk.{Walk}
-use Rattle.scan_region.proofs.WalkRuns.{runs-end}
+use Rattle.scan_region.proofs.WalkRuns.{runs-end, rows-end}
 use Rattle.scan_region.proofs.WalkScan.{IsScanOf-rows_runs, IsScanOf-same}
 
 -- a list of three is its elements
@@ -113,6 +114,36 @@ new_scan s area v row told kept none =
     subst (λ spans. IsScanOf spans (λ p. rect_holds area p && s p))
     (sym (λ i. none_dropped told v kept none i ++ (runs-end (λ h. s (record { h = h; v = row })) row area.right area.right (omega (arith, ints)) i ++ rows_runs s area.top area.left area.right (count_to area.top area.bottom))))
     (IsScanOf-rows_runs s area.left area.top area.right area.bottom)
+
+no_more : (xs ys : List Span) → ys ≡ [] → xs ++ ys ≡ xs
+no_more [] ys e = e
+no_more (x ∷ xs) ys e = ap (λ rest. x ∷ rest) (no_more xs ys e)
+
+-- the rows up to the row `asked` are full, and those from there on are to be walked
+pub split_scan : (s : PixelSet) (area : Rect) (asked v row : ℤ) (told : ℕ) (kept : List Run) → kept ≡ [] → (asked ≡ area.top) ⊎ ((asked ≡ area.bottom) × ((p : Point) → s p ≡ true))
+    → IsScanOf (rows_runs all_pixels area.top area.left area.right (count_to area.top asked) ++ (spans_of v (drop told kept) ++ (runs_on (λ h. s (record { h = h; v = row })) row None area.right (count_to area.right area.right) ++ rows_runs s asked area.left area.right (count_to asked area.bottom))))
+    (λ p. rect_holds area p && s p)
+split_scan s area asked v row told kept none (inl e) =
+    subst (λ spans. IsScanOf spans (λ p. rect_holds area p && s p))
+    (sym (λ i. rows-end all_pixels area.top area.left area.right asked (omega (arith, ints, e)) i ++ (spans_of v (drop told kept) ++ (runs_on (λ h. s (record { h = h; v = row })) row None area.right (count_to area.right area.right) ++ rows_runs s (e i) area.left area.right (count_to (e i) area.bottom)))))
+    (new_scan s area v row told kept none)
+split_scan s area asked v row told kept none (inr m) =
+    let e = m.0 in
+    subst (λ spans. IsScanOf spans (λ p. rect_holds area p && s p))
+    (sym (no_more (rows_runs all_pixels area.top area.left area.right (count_to area.top asked)) _
+    (λ i. none_dropped told v kept none i ++ (runs-end (λ h. s (record { h = h; v = row })) row area.right area.right (omega (arith, ints)) i ++ rows-end s asked area.left area.right area.bottom (omega (arith, ints, e)) i))
+    ∙ ap (λ z. rows_runs all_pixels area.top area.left area.right (count_to area.top z)) e))
+    (full_scan s area m.1)
+
+-- a cut that leaves each pixel leaves each that is seen
+pub seen_split : (up : Bool) (cut : Cut) (area : Rect) (asked : ℤ) → (asked ≡ area.top) ⊎ ((asked ≡ area.bottom) × ((p : Point) → cut_holds cut p ≡ true)) → (asked ≡ area.top) ⊎ ((asked ≡ area.bottom) × ((p : Point) → seen_set up (cut_holds cut) p ≡ true))
+seen_split up cut area asked (inl e) = inl e
+seen_split up cut area asked (inr m) = inr (m.0, λ p. m.1 (seen_point up p))
+
+-- the full rows of an upright area have pixels
+pub are_full : (area : Rect) (asked : ℤ) (P : Type 0) → IsUpright area → (asked ≡ area.top) ⊎ ((asked ≡ area.bottom) × P) → area.top <ℤ asked → area.left <ℤ area.right
+are_full area asked P u (inl e) m = absurd (omega (arith, ints, e))
+are_full area asked P u (inr t) m = let e = t.0 in u.2 (omega (arith, ints, e))
 
 -- ---- an area that is cut to the boxes of the parts
 

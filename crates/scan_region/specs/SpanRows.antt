@@ -1,12 +1,11 @@
 -- The rows of spans that a cut leaves of a rectangle.
-use Rattle.std.specs.Prelude.{true, List, ◌<ℤ◌}
+use Rattle.std.specs.Prelude.{true, List, ◌++◌, ◌<ℤ◌}
 use Rattle.tb_geom.specs.Points.{PixelSet}
 use Rattle.region_rows.specs.Counts.{count_to}
 use Rattle.scan_region.specs.Descents.{IsDescent, spans_left}
 use Rattle.scan_region.specs.Walks.{rows_runs}
 use Rattle.scan_region.specs.declared.span_rows.FullRows.{FullRows}
 use Rattle.scan_region.specs.declared.span_rows.SpanRows.{SpanRows}
-use Rattle.scan_region.specs.declared.span_rows.SpanRows.TheVariants.{Full, Walked}
 use Rattle.scan_region.specs.declared.spans.Span.{Span}
 
 -- each pixel
@@ -21,12 +20,10 @@ IsFull r = r.next <ℤ r.bottom → r.left <ℤ r.right
 abbrev pub full_left : FullRows → List Span
 full_left r = rows_runs all_pixels r.next r.left r.right (count_to r.next r.bottom)
 
--- a walk's rows are those of the set; where all of a rectangle is left, its rows have pixels
+-- a walk's rows are those of the set, and those of a rectangle have pixels
 abbrev pub AreRowsOf : SpanRows → PixelSet → Type 0
-AreRowsOf (Full r) s = IsFull r
-AreRowsOf (Walked d) s = IsDescent d s
+AreRowsOf r s = IsFull r.full × IsDescent r.walked s
 
 -- the spans that are left
 abbrev pub rows_left : SpanRows → PixelSet → List Span
-rows_left (Full r) s = full_left r
-rows_left (Walked d) s = spans_left d s
+rows_left r s = full_left r.full ++ spans_left r.walked s

@@ -1,5 +1,5 @@
 //! The spans that a cut leaves of a rectangle, row by row.
-ghost use Rattle.std.specs.Prelude.{◌≡◌, ◌&&◌, false, true, IsTrue};
+ghost use Rattle.std.specs.Prelude.{◌≡◌, ◌&&◌, false, true, ◌⊎◌};
 ghost use Rattle.std.specs.Iterator.{YieldsFirst, item_count};
 ghost use Rattle.tb_geom.specs.declared.point.Point.{Point};
 ghost use Rattle.tb_geom.specs.Points.{PixelSet};
@@ -75,39 +75,22 @@ fn hole_within<'a>(hole: Option<&'a Region>, up: bool, area: Rect) -> Option<&'a
 }
 
 impl<'a> Cut<'a> {
-    /// Whether there is no region, so that each pixel is left.
-    fn is_open(&self) -> bool
-        ensures { IsTrue result → (p : Point) → cut_holds self.now p ≡ true }
+    /// The row of an area from which on there is something to be asked: the first one, or, where there is no
+    /// region, the one past the last.
+    fn first_asked(&self, area: Rect) -> i32
+        ensures { (result ≡ area.top) ⊎ ((result ≡ area.bottom) × ((p : Point) → cut_holds self.now p ≡ true)) }
     {
         let parts = &self.inside[..];
         if parts[0].is_some() || parts[1].is_some() || parts[2].is_some() {
-            return false;
+            return area.top;
         }
-        self.outside.is_none()
+        if self.outside.is_some() {
+            return area.top;
+        }
+        area.bottom
     }
 
     /// The spans of an area's pixels that the cut leaves, seen so.
-    fn rows_within(&self, up: bool, area: Rect) -> CutSpans<'a>
-        requires { IsUpright area }
-        ensures { IsScanOf result (λ p. rect_holds area p && seen_set up (cut_holds self.now) p) }
-    {
-        if self.is_open() {
-            return CutSpans {
-                cut: *self,
-                up,
-                rows: SpanRows::Full(FullRows {
-                    left: area.left,
-                    right: area.right,
-                    next: area.top,
-                    bottom: area.bottom,
-                }),
-            };
-        }
-        self.walk_within(up, area)
-    }
-
-    /// The same, by a walk along the rows.
-    #[inline(never)]
     fn walk_within(&self, up: bool, area: Rect) -> CutSpans<'a>
         requires { IsUpright area }
         ensures { IsScanOf result (λ p. rect_holds area p && seen_set up (cut_holds self.now) p) }
@@ -117,6 +100,7 @@ impl<'a> Cut<'a> {
             left: area.left,
             right: area.right,
         };
+        let asked = self.first_asked(area);
         let parts = &self.inside[..];
         let mut free = 0;
         let first = Part::new(parts[0], false, columns, &mut free);
@@ -126,25 +110,33 @@ impl<'a> Cut<'a> {
         CutSpans {
             cut: *self,
             up,
-            rows: SpanRows::Walked(Descent {
-                left: area.left,
-                v: area.top,
-                kept: ArrayVec::new(),
-                told: 0,
-                walk: Walk {
-                    v: i32::MIN,
-                    at: area.right,
+            rows: SpanRows {
+                full: FullRows {
+                    left: area.left,
                     right: area.right,
-                    first,
-                    second,
-                    third,
-                    hole,
-                    words: [0; 128],
+                    next: area.top,
+                    bottom: asked,
                 },
-                next: area.top,
-                until: area.top,
-                bottom: area.bottom,
-            }),
+                walked: Descent {
+                    left: area.left,
+                    v: asked,
+                    kept: ArrayVec::new(),
+                    told: 0,
+                    walk: Walk {
+                        v: i32::MIN,
+                        at: area.right,
+                        right: area.right,
+                        first,
+                        second,
+                        third,
+                        hole,
+                        words: [0; 128],
+                    },
+                    next: asked,
+                    until: asked,
+                    bottom: area.bottom,
+                },
+            },
         }
     }
 
@@ -161,7 +153,7 @@ impl<'a> Cut<'a> {
             inside: [first, second, third],
             outside: hole_within(self.outside, up, area),
         };
-        narrowed.rows_within(up, area)
+        narrowed.walk_within(up, area)
     }
 
     /// The spans of the area's pixels that the cut leaves, by rising rows and columns: their maximal runs

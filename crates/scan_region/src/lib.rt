@@ -16,7 +16,7 @@
 //! the walk's one array of bits, those that a test of single pixels finds, asked only in the columns at which
 //! a row of the region turns. A `Walk` is up to four parts, and goes from turn to turn of a row. A `Descent`
 //! goes from row to row, and keeps the runs of a row for the rows below it at which no part turns. Where no
-//! region is left to be asked, the rows are those of the area, and there is no walk (`SpanRows`). Seen turned
+//! region is left to be asked, the rows are those of the area, and no row is walked (`SpanRows`). Seen turned
 //! by half a turn, all goes from the bottom up. `spans`, `spans_up`, `meets_rect` and `Cut::spans_within` are
 //! such rows. A set's list of spans is one too (`laws::one_list_of_spans`).
 //!

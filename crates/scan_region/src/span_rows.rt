@@ -1,4 +1,4 @@
-//! The rows of spans that a cut leaves: those of a rectangle, of which it takes nothing away, or those of a walk.
+//! The rows of spans that a cut leaves: first those of which it takes nothing away, and then those of a walk.
 ghost use Rattle.std.specs.Prelude.{◌≡◌, ◌∷◌, [], pos, ◌<ℤ◌, IfSome, IfNone};
 ghost use Rattle.tb_geom.specs.Points.{PixelSet};
 ghost use Rattle.scan_region.specs.SpanRows.{AreRowsOf, IsFull, full_left, rows_left};
@@ -15,13 +15,14 @@ pub struct FullRows {
     pub bottom: i32,
 }
 
-/// The rows of spans that are left.
+/// The rows of spans that are left. Both stand beside each other, since a value of one of two kinds would be
+/// cleared and copied whole.
 #[derive(Drop)]
-pub enum SpanRows<'a> {
+pub struct SpanRows<'a> {
     /// Those of a rectangle.
-    Full(FullRows),
-    /// Those of a walk along regions.
-    Walked(Descent<'a>),
+    pub full: FullRows,
+    /// Those of a walk along regions, which come after them.
+    pub walked: Descent<'a>,
 }
 
 impl FullRows {
@@ -57,9 +58,9 @@ impl SpanRows<'_> {
         ensures none { IfNone result ((s : PixelSet) → AreRowsOf self.old s
             → (rows_left self.old s ≡ []) × (rows_left self.new s ≡ [])) }
     {
-        match self {
-            SpanRows::Full(rows) => rows.next_span(),
-            SpanRows::Walked(descent) => descent.next_span(),
+        if let Some(span) = self.full.next_span() {
+            return Some(span);
         }
+        self.walked.next_span()
     }
 }
