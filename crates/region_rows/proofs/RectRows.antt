@@ -73,3 +73,18 @@ rect_of_rows (a ∷ b ∷ []) upper lower points h v r l m eu el ep p q =
     let columns : a.1 ≡ points = ap (λ (row : EdgeRow). row.1) (sym eu) ∙ sym ep in
     of_two a b points h v columns r p q
     ∙ (λ i. between (get_or points 0 (pos 0)) h (get_or points 1 (pos 0)) && between (sym (ap (λ (row : EdgeRow). row.0) eu) i) v (sym (ap (λ (row : EdgeRow). row.0) el) i))
+
+-- and they are its rows
+pub rows_of_rect : (rows : List EdgeRow) (upper lower : EdgeRow) (points : List ℤ) → AreRows rows → 2 ≤ length rows → length rows < 3
+    → upper ≡ get_or rows 0 upper → lower ≡ get_or rows 1 lower → points ≡ upper.1 → 2 ≤ length points → length points < 3
+    → rows ≡ two_rows (record { left = get_or points 0 (pos 0); top = upper.0; right = get_or points 1 (pos 0); bottom = lower.0 })
+rows_of_rect [] upper lower points r l m eu el ep p q = absurd (omega arith)
+rows_of_rect (a ∷ []) upper lower points r l m eu el ep p q = absurd (omega arith)
+rows_of_rect (a ∷ b ∷ c ∷ rest) upper lower points r l m eu el ep p q = absurd (omega arith)
+rows_of_rect (a ∷ b ∷ []) upper lower [] r l m eu el ep p q = absurd (omega arith)
+rows_of_rect (a ∷ b ∷ []) upper lower (x ∷ []) r l m eu el ep p q = absurd (omega arith)
+rows_of_rect (a ∷ b ∷ []) upper lower (x ∷ y ∷ z ∷ zs) r l m eu el ep p q = absurd (omega arith)
+rows_of_rect (a ∷ b ∷ []) upper lower (x ∷ y ∷ []) r l m eu el ep p q =
+    let above : a.1 ≡ x ∷ y ∷ [] = ap (λ (row : EdgeRow). row.1) (sym eu) ∙ sym ep in
+    let below : b.1 ≡ x ∷ y ∷ [] = sym (same_columns a.0 b.0 a.1 b.1 r.canonical) ∙ above in
+    λ i. (ap (λ (row : EdgeRow). row.0) (sym eu) i, above i) ∷ (ap (λ (row : EdgeRow). row.0) (sym el) i, below i) ∷ []

@@ -1,8 +1,9 @@
 //! The rows of a rectangle.
-ghost use Rattle.std.specs.Prelude.{◌≡◌, ◌&&◌, ℤ, IfOk, IfSome, true};
+ghost use Rattle.std.specs.Prelude.{◌≡◌, ◌≢◌, ◌&&◌, ℤ, IfOk, IfSome, IfNone, true};
+ghost use Rattle.tb_geom.specs.declared.rect.Rect.{Rect};
 ghost use Rattle.tb_geom.specs.Rects.{between, is_in_range};
 ghost use Rattle.region_bytes.specs.Points.{in_rows};
-ghost use Rattle.region_rows.specs.Rows.{AreRows};
+ghost use Rattle.region_rows.specs.Rows.{AreRows, two_rows};
 ghost use Rattle.region_rows.specs.Hull.{IsHull};
 
 use crate::row::Row;
@@ -29,7 +30,9 @@ pub fn rect_rows(alloc: Global, rect: Rect) -> Result<Vec<Row>, AllocError>
 /// The rectangle whose rows these are, if they are those of one.
 pub fn rect_of(rows: &[Row]) -> Option<Rect>
     requires { AreRows rows.now }
-    ensures { IfSome result (λ r. (h v : ℤ) → in_rows rows.now h v ≡ (between r.left h r.right && between r.top v r.bottom)) }
+    ensures pixels { IfSome result (λ r. (h v : ℤ) → in_rows rows.now h v ≡ (between r.left h r.right && between r.top v r.bottom)) }
+    ensures rows { IfSome result (λ r. rows.now ≡ two_rows r) }
+    ensures none { IfNone result ((r : Rect) → rows.now ≢ two_rows r) }
 {
     let [upper, lower] = rows else {
         return None;

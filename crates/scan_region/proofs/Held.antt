@@ -1,5 +1,5 @@
 -- Regions whose boxes are apart, and a rectangle that holds the box of another region.
-use Rattle.std.proofs.Common.{◌≡◌, Bool, true, false, not, ◌&&◌, List, refl, sym, ap, ◌∙◌}
+use Rattle.std.proofs.Common.{◌≡◌, Bool, true, false, not, ◌&&◌, List, [], get_or, pos, refl, sym, ap, subst, ◌∙◌}
 use Rattle.std.specs.Ordering.{int_eq}
 use Rattle.std.proofs.lemmas.Bool.{true≢false, false≢true, and_parts}
 use Rattle.std.proofs.lemmas.Bool.Decides.{Decides-int_eq}
@@ -8,9 +8,10 @@ use Rattle.tb_geom.specs.declared.rect.Rect.{Rect}
 use Rattle.tb_geom.specs.Rects.{rect_holds}
 use Rattle.tb_geom.specs.Pixels.{Pixels, holds, pixels_where}
 use Rattle.region_bytes.specs.Points.{in_rows}
-use Rattle.region_rows.specs.Rows.{EdgeRow}
+use Rattle.region_rows.specs.Rows.{EdgeRow, two_rows}
 use Rattle.region_rows.specs.Hull.{IsRegion}
 use Rattle.region_rows.proofs.Hulls.{held}
+use Rattle.region_rows.proofs.Merged.{int_eq-same}
 use Rattle.region_rows.proofs.Plane.{has_viewed}
 
 -- a pixel of a region lies in its box
@@ -52,3 +53,18 @@ same_sides a b e =
     let right = (Decides-int_eq a.right b.right).0 r.0 in
     let bottom = (Decides-int_eq a.bottom b.bottom).0 r.1 in
     λ i. record { left = left i; top = top i; right = right i; bottom = bottom i }
+
+-- rectangles of the same rows are the same
+pub same_rect : (r q : Rect) → two_rows r ≡ two_rows q → r ≡ q
+same_rect r q e = λ i. record {
+  left = get_or (get_or (e i) 0 (pos 0, [])).1 0 (pos 0);
+  top = (get_or (e i) 0 (pos 0, [])).0;
+  right = get_or (get_or (e i) 0 (pos 0, [])).1 1 (pos 0);
+  bottom = (get_or (e i) 1 (pos 0, [])).0;
+}
+
+-- and pass the test for equal ones
+pub equal_sides : (a b : Rect) → a ≡ b → (int_eq a.left b.left && (int_eq a.top b.top && (int_eq a.right b.right && int_eq a.bottom b.bottom))) ≡ true
+equal_sides a b e =
+    subst (λ r. (int_eq a.left r.left && (int_eq a.top r.top && (int_eq a.right r.right && int_eq a.bottom r.bottom))) ≡ true) e
+    (λ i. int_eq-same a.left i && (int_eq-same a.top i && (int_eq-same a.right i && int_eq-same a.bottom i)))

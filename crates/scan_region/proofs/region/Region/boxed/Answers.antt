@@ -22,7 +22,7 @@ returns-clause-full c = λ t p.
     let seen = rw c.rect-bounds.ensures at c.seen_rect.ensures in
     let rows = c.as_slice.ensures.value in
     has_viewed s.rows.items c.args.self.now c.self.view_is (opened _ _ c.self.invariant).are_rows q.h q.v ∙ ap (λ all. in_rows all q.h q.v) (sym rows)
-    ∙ (rw c.rect-bounds.ensures at c.is_rect.ensures) t q.h q.v
+    ∙ (rw c.rect-bounds.ensures at c.is_rect.ensures.pixels) t q.h q.v
     ∙ sym (seen_box c.args.up s.bounds p) ∙ ap (λ r. rect_holds r p) (sym seen)
 
 pub seen_rect-requires : goal.seen_rect-requires

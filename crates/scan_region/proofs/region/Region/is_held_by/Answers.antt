@@ -10,7 +10,7 @@ returns-in-Some c = λ t p.
     let b = c.other.inside in
     let same : c.sect.result ≡ c.self.inside.bounds = same_sides _ _ (sym c.eq.ensures ∙ search rules) ∙ c.rect-own.ensures in
     let shared = rw c.rect-own.ensures at c.sect.ensures.pixels in
-    let rect = rw c.as_slice.ensures.value at c.in-Some.ensures in
+    let rect = rw c.as_slice.ensures.value at c.in-Some.ensures.pixels in
     none_left _ _ (λ m. has_viewed b.rows.items _ c.other.view_is (opened _ _ c.other.invariant).are_rows p.h p.v ∙ rect p.h p.v
     ∙ in_second a.bounds c.in-Some.rect c.sect.result p (shared p) same (in_box a.rows.items a.bounds _ (opened _ _ c.self.invariant) c.self.view_is p m))
 

@@ -43,7 +43,7 @@ returns-then-is_rect c =
       λ t. (
         p,
         has_viewed s.rows.items c.args.self.now c.self.view_is (opened _ _ c.self.invariant).are_rows p.h p.v ∙ ap (λ all. in_rows all p.h p.v) (sym rows)
-            ∙ (rw c.rect-bounds.ensures at c.is_rect.ensures) c.if-is_rect.true p.h p.v ∙ parts.0,
+            ∙ (rw c.rect-bounds.ensures at c.is_rect.ensures.pixels) c.if-is_rect.true p.h p.v ∙ parts.0,
         parts.1,
       ),
       λ m. refl,
