@@ -1,5 +1,5 @@
 -- One operation after another on a canvas.
-use Rattle.std.proofs.Common.{◌≡◌, ℕ, ◌+◌, ◌<◌, ◌≤◌, ℤ, pos, negsuc, ◌-ℤ◌, ◌≤ℤ◌, ◌+ℤ◌, nat_abs, Bool, true, false, not, ◌&&◌, cond, None, List, length, take, get_or, refl, sym, ap, subst, if◌then◌else◌, ◌∙◌, arith, w32}
+use Rattle.std.proofs.Common.{◌≡◌, ℕ, ◌+◌, ◌<◌, ◌≤◌, ℤ, pos, negsuc, ◌-ℤ◌, ◌≤ℤ◌, nat_abs, Bool, true, false, not, ◌&&◌, cond, List, length, take, get_or, refl, sym, ap, if◌then◌else◌, ◌∙◌, arith, w32}
 use Rattle.std.specs.Int.{saturate_signed}
 use Rattle.std.proofs.lemmas.Int.{ints, clamps}
 use Rattle.std.proofs.lemmas.List.Sums.{fold_more}
@@ -14,7 +14,7 @@ use Rattle.bit_blit.proofs.DrawsLemmas.{Draws-over, Draws-same, Draws-where}
 use Rattle.draw_port.specs.Origins.{is_near_origin}
 use Rattle.draw_port.specs.Places.{stopped, is_far, HasNear, Encloses}
 use Rattle.scan_region.specs.Cuts.{cut_holds}
-use Rattle.draw_port.specs.Ops.{clip_holds, run_holds, text_mode, shape_holds, shape_value, op_holds, op_value, picture_value}
+use Rattle.draw_port.specs.Ops.{clip_holds, text_mode, shape_holds, shape_value, op_holds, op_value, picture_value}
 use Rattle.draw_port.specs.Canvases.{canvas_holds, canvas_point, clipped_holds, painted_by, painted_all, pictured, SameFrame}
 use Rattle.draw_port.specs.declared.canvas.Canvas.{Canvas}
 use Rattle.bit_map.specs.declared.mode.Mode.{Mode}
@@ -76,22 +76,6 @@ placed_drawn c rect area value old new shared drawn = Draws-where _ _ value old 
 
     one : (p : Point) → on_map old p ≡ true → (rect_holds area p && cut_holds c.cut.now p) ≡ (canvas_holds c p && rect_holds rect (canvas_point c p))
     one p on = ap (λ b. b && cut_holds c.cut.now p) (shared p) ∙ turned (rect_holds c.clip p) (rect_holds rect (canvas_point c p)) (cut_holds c.cut.now p)
-
--- a set of pixels that is drawn in a rectangle around it is drawn on the canvas
-pub boxed_drawn : (c : Canvas) (box : Rect) (holds : PixelSet) (value : Point → Bool → Bool) (old new : Bits) → old.width ≤ 32767 → old.height ≤ 32767 → is_near_origin c.origin ≡ true
-    → Encloses box holds
-    → Draws (λ p. canvas_holds c p && rect_holds box (canvas_point c p)) (λ p d. cond (holds (canvas_point c p)) (value (canvas_point c p) d) d) old new
-    → Draws (λ p. canvas_holds c p && holds (canvas_point c p)) (λ p d. value (canvas_point c p) d) old new
-boxed_drawn c box holds value old new w h near around drawn = Draws-same _ _ _ _ old new one drawn
-  where
-    table : (k inside t : Bool) (x d : Bool) → (t ≡ true → inside ≡ true) → cond (k && inside) (cond t x d) d ≡ cond (k && t) x d
-    table false inside t x d f = refl
-    table true true t x d f = refl
-    table true false true x d f = absurd (cc (f refl))
-    table true false false x d f = refl
-
-    one : (p : Point) (d : Bool) → on_map old p ≡ true → cond (canvas_holds c p && rect_holds box (canvas_point c p)) (cond (holds (canvas_point c p)) (value (canvas_point c p) d) d) d ≡ cond (canvas_holds c p && holds (canvas_point c p)) (value (canvas_point c p) d) d
-    one p d on = table (canvas_holds c p) (rect_holds box (canvas_point c p)) (holds (canvas_point c p)) (value (canvas_point c p) d) d (around (canvas_point c p) (seen_near old p c.origin w h near on))
 
 in_table : (k t : Bool) (x d : Bool) → cond (k && t) x d ≡ cond k (cond t x d) d
 in_table true t x d = refl

@@ -1,5 +1,5 @@
 -- Drawing a frame side by side.
-use Rattle.std.proofs.Common.{◌≡◌, ℕ, ℤ, pos, negsuc, ◌+ℤ◌, ◌-ℤ◌, ◌≤ℤ◌, ◌<ℤ◌, Bool, true, false, not, ◌&&◌, ◌||◌, cond, List, refl, sym, ap, ◌∙◌, arith, w32}
+use Rattle.std.proofs.Common.{◌≡◌, ℤ, pos, negsuc, ◌+ℤ◌, ◌-ℤ◌, ◌≤ℤ◌, ◌<ℤ◌, Bool, true, false, not, ◌&&◌, ◌||◌, cond, refl, sym, ap, ◌∙◌, arith, w32}
 use Rattle.std.specs.Prelude.{int_lt}
 use Rattle.std.specs.Int.{saturate_signed, int_min, int_max}
 use Rattle.std.proofs.lemmas.Int.{ints, clamps}

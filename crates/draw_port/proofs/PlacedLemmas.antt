@@ -7,12 +7,12 @@ use Rattle.std.proofs.lemmas.Int.{ints, clamps}
 use Rattle.std.proofs.lemmas.Bool.Decides.{nat_tests}
 use Rattle.tb_geom.specs.declared.point.Point.{Point}
 use Rattle.tb_geom.specs.declared.rect.Rect.{Rect}
-use Rattle.tb_geom.specs.Points.{PixelSet, minus}
+use Rattle.tb_geom.specs.Points.{minus}
 use Rattle.tb_geom.specs.Rects.{between, rect_holds}
 use Rattle.tb_geom.proofs.RectLemmas.{sides_of, holds_in}
 use Rattle.bit_map.specs.Bits.{is_below}
 use Rattle.bit_map.specs.Images.{Image, image_holds}
-use Rattle.draw_port.specs.Places.{is_far, HasNear, Encloses}
+use Rattle.draw_port.specs.Places.{is_far, HasNear}
 
 -- a sum that stops at the ends of 32 bits lies below the numbers between those ends as the sum does
 le-saturated : (low o x : ℤ) → negsuc 2147483647 ≤ℤ x → x <ℤ pos 2147483647 → int_le (saturate_signed w32 (low +ℤ o)) x ≡ int_le low (x -ℤ o)

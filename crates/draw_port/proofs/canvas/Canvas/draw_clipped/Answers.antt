@@ -1,7 +1,6 @@
-use Rattle.std.proofs.Common.{◌&&◌, sym, ap, ◌∙◌}
+use Rattle.std.proofs.Common.{◌&&◌, sym, ◌∙◌}
 use Rattle.tb_geom.specs.Rects.{rect_holds}
 use Rattle.bit_blit.proofs.DrawsLemmas.{Draws-where}
-use Rattle.scan_region.specs.Cuts.{cut_holds}
 use Rattle.draw_port.specs.Canvases.{canvas_holds, canvas_point}
 use Rattle.draw_port.specs.Ops.{clip_holds}
 use Rattle.draw_port.proofs.ClippedLemmas.{one_region}

@@ -1,8 +1,7 @@
-use Rattle.std.proofs.Common.{◌≡◌, ◌≤ℤ◌, true, pos, ◌+ℤ◌, rules, arith, [], refl, sym, ap, subst, ◌∙◌, ◌++◌, ◌&&◌, SFits, w32}
+use Rattle.std.proofs.Common.{◌≡◌, rules, arith, refl, sym, ap, subst, ◌∙◌, ◌++◌, ◌&&◌, SFits, w32}
 use Rattle.std.specs.List.{list_any}
 use Rattle.std.proofs.lemmas.List.{append-nil}
-use Rattle.std.proofs.lemmas.Int.{ints, to_z-of_z}
-use Rattle.tb_geom.specs.declared.point.Point.{Point}
+use Rattle.std.proofs.lemmas.Int.{ints}
 use Rattle.tb_geom.specs.Rects.{rect_holds, empty_rect}
 use Rattle.scan_region.specs.Cuts.{cut_holds}
 use Rattle.scan_region.specs.Scan.{IsScanOf, span_holds}

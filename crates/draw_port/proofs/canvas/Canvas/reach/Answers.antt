@@ -1,4 +1,4 @@
-use Rattle.std.proofs.Common.{◌≡◌, pos, negsuc, ◌-ℤ◌, arith, rules, SFits, w32}
+use Rattle.std.proofs.Common.{pos, negsuc, ◌-ℤ◌, arith, rules, SFits, w32}
 use Rattle.std.proofs.lemmas.Int.{ints}
 use Rattle.tb_geom.specs.Rects.{between}
 use Rattle.draw_port.proofs.CanvasLemmas.{both}
