@@ -3,6 +3,8 @@ pub mod BitsLemmas
 pub mod WordLemmas
 pub mod PartLemmas
 pub mod MoveLemmas
+pub mod WideLemmas
+pub mod LayLemmas
 pub mod ImageLemmas
 pub mod PatternLemmas
 pub mod StripeLemmas

@@ -1,5 +1,5 @@
 -- What a rule makes of a run of pixels, and of old bits.
-use Rattle.std.specs.Prelude.{◌≡◌, ℕ, ◌+◌, ◌*◌, ◌<◌, ◌≤◌, ◌≤ℤ◌, pos, ◌+ℤ◌, Bool, ◌&&◌, List, length}
+use Rattle.std.specs.Prelude.{◌≡◌, ℕ, ◌+◌, ◌*◌, ◌%◌, ◌<◌, ◌≤◌, ◌≤ℤ◌, pos, ◌+ℤ◌, Bool, ◌&&◌, List, length}
 use Rattle.tb_geom.specs.declared.point.Point.{Point}
 use Rattle.bit_map.specs.Modes.{xor_bit}
 use Rattle.bit_map.specs.Words.{bit_in, place_bit}
@@ -38,3 +38,10 @@ effect_bit e old = xor_bit e.turns (old && e.keeps)
 -- what the effects of a word make of the old bit at a place
 abbrev pub effects_bit : Effects → ℕ → Bool → Bool
 effects_bit e place old = xor_bit (bit_in e.turns place) (old && bit_in e.keeps place)
+
+-- the bits from one place up to another got what effects make of them, and no other changed
+pub record IsLaid (effects : Effects) (from to : ℕ) (old new : List ℕ) : Type 0 where
+  pub all : length new ≡ length old
+  pub run : (n : ℕ) → from ≤ n → n < to → place_bit new n ≡ effects_bit effects (n % 64) (place_bit old n)
+  pub before : (n : ℕ) → n < from → place_bit new n ≡ place_bit old n
+  pub after : (n : ℕ) → to ≤ n → place_bit new n ≡ place_bit old n

@@ -1,5 +1,5 @@
 -- Rows of bits in words of 64 bits, the high bit left.
-use Rattle.std.specs.Prelude.{◌≡◌, ℕ, ◌+◌, ◌-◌, ◌*◌, ◌/◌, ◌%◌, ◌^◌, ◌<◌, ◌≤◌, Bool, List, length, map, nat_eq, slice_index}
+use Rattle.std.specs.Prelude.{◌≡◌, ◌≢◌, ℕ, ◌+◌, ◌-◌, ◌*◌, ◌/◌, ◌%◌, ◌^◌, ◌<◌, ◌≤◌, Bool, List, length, map, nat_eq, slice_index, if◌then◌else◌}
 use Rattle.std.specs.List.{range_with_len}
 
 -- the bit of a word at a place, place 0 being the high bit
@@ -30,3 +30,9 @@ pub record IsMoved (place source count : ℕ) (old new : List ℕ) : Type 0 wher
   pub run : (k : ℕ) → k < count → place_bit new (place + k) ≡ place_bit old (source + k)
   pub before : (i : ℕ) → i < place → place_bit new i ≡ place_bit old i
   pub after : (i : ℕ) → place + count ≤ i → place_bit new i ≡ place_bit old i
+
+-- a word got the bits `word` where the mask is white, and no other bit changed
+pub record IsRestored (at word mask : ℕ) (old new : List ℕ) : Type 0 where
+  pub all : length new ≡ length old
+  pub here : (n : ℕ) → n / 64 ≡ at → place_bit new n ≡ (if bit_in mask (n % 64) then place_bit old n else bit_in word (n % 64))
+  pub other : (n : ℕ) → n / 64 ≢ at → place_bit new n ≡ place_bit old n

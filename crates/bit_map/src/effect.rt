@@ -1,11 +1,12 @@
 //! What a mode makes of old bits, once the source bit is known.
-ghost use Rattle.std.specs.Prelude.{◌≡◌, ◌<◌, ◌*◌, ◌%◌, Bool, ℕ, length};
+ghost use Rattle.std.specs.Prelude.{◌≡◌, ◌<◌, ◌≤◌, ◌+◌, ◌*◌, ◌%◌, Bool, ℕ, length, slice_index};
 ghost use Rattle.bit_map.specs.Modes.{mode_bit};
-ghost use Rattle.bit_map.specs.Rules.{effect_bit, effects_bit};
+ghost use Rattle.bit_map.specs.Rules.{effect_bit, effects_bit, IsLaid};
 ghost use Rattle.bit_map.specs.Words.{bit_in, place_bit};
 
 use crate::mode::Mode;
 use crate::words::full;
+use std::simd::prelude::*;
 
 /// What is done to each old bit alike: it is kept or cleared, and then turned or not. So one test for
 /// each of two flags does for a whole run of bits.
@@ -74,13 +75,51 @@ impl Effects {
         self.turns ^ (old & self.keeps)
     }
 
-    /// Gives each word of a run its new bits.
+    /// Gives each word of a run its new bits: eight at a time, and then one by one.
     pub fn lay(self, run: &mut [u64])
         ensures all { length run.new ≡ length run.old }
         ensures each { (n : ℕ) → n < 64 * length run.old → place_bit run.new n ≡ effects_bit self (n % 64) (place_bit run.old n) }
     {
-        for word in run.iter_mut() {
-            *word = self.of(*word);
+        let eights = run.len() / 8;
+        self.lay_eights(run, eights);
+        self.lay_rest(run, 8 * eights);
+    }
+
+    /// Gives each of the first words of a run, eight times as many as there are eights, its new bits.
+    fn lay_eights(self, run: &mut [u64], eights: usize)
+        requires { 8 * eights ≤ length run.old }
+        ensures { IsLaid self 0 (512 * eights) run.old run.new }
+    {
+        for k in 0..eights {
+            self.lay_eight(run, 8 * k);
+        }
+    }
+
+    /// Gives eight words their new bits.
+    fn lay_eight(self, run: &mut [u64], at: usize)
+        requires { at + 8 ≤ length run.old }
+        ensures { IsLaid self (64 * at) (64 * at + 512) run.old run.new }
+    {
+        let lanes = self.of_eight(&run[at..at + 8]);
+        lanes.copy_to_slice(&mut run[at..at + 8]);
+    }
+
+    /// The new bits of eight words.
+    fn of_eight(self, words: &[u64]) -> u64x8
+        requires { length words.now ≡ 8 }
+        ensures all { length result ≡ 8 }
+        ensures each { (j k : ℕ) → j < 8 → k < 64 → bit_in (slice_index result j) k ≡ effects_bit self k (bit_in (slice_index words.now j) k) }
+    {
+        u64x8::splat(self.turns) ^ (u64x8::from_slice(words) & u64x8::splat(self.keeps))
+    }
+
+    /// Gives each word of a run from one on its new bits.
+    fn lay_rest(self, run: &mut [u64], first: usize)
+        requires { first ≤ length run.old }
+        ensures { IsLaid self (64 * first) (64 * length run.old) run.old run.new }
+    {
+        for k in first..run.len() {
+            run[k] = self.of(run[k]);
         }
     }
 }

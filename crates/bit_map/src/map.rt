@@ -5,7 +5,7 @@ ghost use Rattle.tb_geom.specs.Points.{minus};
 ghost use Rattle.tb_geom.specs.Rects.{rect_holds};
 ghost use Rattle.bit_map.specs.Bits.{on_map, bit, is_point, in_row, bounds_of, is_side};
 ghost use Rattle.bit_map.specs.Rules.{right_of};
-ghost use Rattle.bit_map.specs.Words.{words_across, bit_in};
+ghost use Rattle.bit_map.specs.Words.{words_across, bit_in, place_bit};
 
 use crate::image::is_below;
 use crate::moves::{move_run, word_from};
@@ -138,6 +138,18 @@ impl BitMap {
         } else {
             0
         }
+    }
+
+    /// The words of the row `v`, each with 64 pixels, the leftmost of them at the high bit. The bits past
+    /// the last column may be any.
+    pub fn row(&self, v: u16) -> &[u64]
+        requires { v < self.now.height }
+        ensures words { length result.now ≡ words_across self.now.width }
+        ensures bits { (h : ℕ) → h < self.now.width → place_bit result.now h ≡ bit self.now (record { h = pos h; v = pos v }) }
+    {
+        let across = words_across(self.width);
+        let first = usize::from(v) * across;
+        &self.words[first..first + across]
     }
 
     /// Gives the point of the map the bit `value`. Every other bit stays.

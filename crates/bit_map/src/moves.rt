@@ -1,9 +1,9 @@
 //! Runs of bits, moved within words.
 ghost use Rattle.std.specs.Prelude.{◌≡◌, ◌+◌, ◌-◌, ◌*◌, ◌%◌, ◌^◌, ◌<◌, ◌≤◌, ℕ, length, slice_index, nat_lt, if◌then◌else◌};
-ghost use Rattle.bit_map.specs.Words.{bit_in, place_bit, IsMoved};
+ghost use Rattle.bit_map.specs.Words.{bit_in, place_bit, IsMoved, IsRestored};
 
 use crate::run::head_of;
-use crate::words::{black_run, blended};
+use crate::words::{black_from, black_run, blended};
 use std::simd::prelude::*;
 
 /// The word at a place, 0 past the last.
@@ -196,6 +196,7 @@ fn move_up(words: &mut [u64], first: usize, count: usize, near: usize, bit: usiz
 }
 
 /// Moves bits to whole words, in the order in which each still has its old bits when it is read.
+#[inline(always)]
 fn move_whole(words: &mut [u64], place: usize, source: usize, count: usize)
     requires within { place + count ≤ 64 * length words.old }
     requires whole { count % 64 ≡ 0 }
@@ -213,12 +214,38 @@ fn move_whole(words: &mut [u64], place: usize, source: usize, count: usize)
     }
 }
 
-/// Moves `count` bits from a place on to another, in the order in which each is still an old one when
-/// it is read.
-pub(crate) fn move_run(words: &mut [u64], place: usize, source: usize, count: usize)
+/// Gives a word the bits `old` where the mask is white.
+fn restore(words: &mut [u64], at: usize, old: u64, mask: u64)
+    requires { at < length words.old }
+    ensures { IsRestored at old mask words.old words.new }
+{
+    words[at] = blended(old, words[at], mask);
+}
+
+/// Moves all bits of the words that have one of them, and gives the others of these their old bits again.
+fn move_wide(words: &mut [u64], place: usize, source: usize, count: usize)
+    requires some { 0 < count }
+    requires within { place + count ≤ 64 * length words.old }
+    requires left { place % 64 ≤ source }
+    requires right { source + count + 63 ≤ 64 * length words.old }
+    requires near { 64 * length words.old < 2 ^ 64 }
+    ensures { IsMoved place source count words.old words.new }
+{
+    let (first, last) = (place / 64, (place + count - 1) / 64);
+    let (left, right) = (words[first], words[last]);
+    let gap = place % 64;
+    move_whole(words, 64 * first, source - gap, 64 * (last - first + 1));
+    restore(words, first, left, black_from(gap));
+    restore(words, last, right, black_run(0, place + count - 64 * last));
+}
+
+/// Moves bits in three parts: those of a word that has begun, those of whole words, and those that are
+/// left.
+#[inline(never)]
+fn move_parts(words: &mut [u64], place: usize, source: usize, count: usize)
     requires within { place + count ≤ 64 * length words.old }
     requires source_in { source + count ≤ 64 * length words.old }
-    requires near { (place + count < 2 ^ 64) × (source + count < 2 ^ 64) }
+    requires near { 64 * length words.old < 2 ^ 64 }
     ensures { IsMoved place source count words.old words.new }
 {
     let head = head_of(place, count);
@@ -232,5 +259,21 @@ pub(crate) fn move_run(words: &mut [u64], place: usize, source: usize, count: us
         move_part(words, place, source, head);
         move_whole(words, place + head, source + head, last - head);
         move_part(words, place + last, source + last, tail);
+    }
+}
+
+/// Moves `count` bits from a place on to another, in the order in which each is still an old one when
+/// it is read.
+pub(crate) fn move_run(words: &mut [u64], place: usize, source: usize, count: usize)
+    requires some { 0 < count }
+    requires within { place + count ≤ 64 * length words.old }
+    requires source_in { source + count ≤ 64 * length words.old }
+    requires near { 64 * length words.old + 63 < 2 ^ 64 }
+    ensures { IsMoved place source count words.old words.new }
+{
+    if place % 64 <= source && source + count + 63 <= 64 * words.len() {
+        move_wide(words, place, source, count);
+    } else {
+        move_parts(words, place, source, count);
     }
 }

@@ -29,7 +29,7 @@ pub(crate) fn full(bit: bool) -> u64
 }
 
 /// The word that is black from a place on.
-fn black_from(place: usize) -> u64
+pub(crate) fn black_from(place: usize) -> u64
     requires { place ≤ 64 }
     ensures { (k : ℕ) → k < 64 → bit_in result k ≡ nat_le place k }
 {

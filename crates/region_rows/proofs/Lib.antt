@@ -19,3 +19,4 @@ pub mod BitPlaces
 pub mod LineTurns
 pub mod LayerSteps
 pub mod SeenRows
+pub mod SeenColumns

@@ -157,7 +157,7 @@ line_new words l none = record { first = refl; turns = λ x a b. none (place_in 
 
 -- ---- columns as numbers of 32 bits
 
-pub cast_small : (n : ℕ) → n ≤ 32768 → to_z w32 n ≡ pos n
+pub cast_small : (n : ℕ) → n ≤ 8192 → to_z w32 n ≡ pos n
 cast_small n l = to_z_pos w32 n (omega arith)
 
 pub column_fits : (left limit : ℤ) (n : ℕ) → SFits w32 left → SFits w32 limit → (left +ℤ pos n) ≤ℤ limit → SFits w32 (left +ℤ pos n)

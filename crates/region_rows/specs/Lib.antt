@@ -9,6 +9,7 @@ pub mod Counts
 pub mod Bits
 pub mod Lines
 pub mod Seen
+pub mod Columns
 pub mod Layers
 pub mod Moves
 pub mod Merges

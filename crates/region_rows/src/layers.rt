@@ -32,7 +32,7 @@ struct NextRow<'a> {
 }
 
 /// A column or a row, as it is seen.
-fn signed(up: bool, x: i32) -> i32
+pub fn signed(up: bool, x: i32) -> i32
     requires { IsCoordinate x }
     ensures { result ≡ sign up x }
 {
@@ -69,7 +69,7 @@ fn next_row(rows: &[Row], up: bool) -> Option<NextRow<'_>>
 
 /// Turns a line at the points of a row.
 fn toggle_points(line: &mut Line, words: &mut [u64], points: &[i32], up: bool)
-    requires size { length words.old ≡ 512 }
+    requires size { length words.old ≡ 128 }
     requires in_range { All IsCoordinate points.now }
     ensures line { (f : ℤ → Bool) → IsLine words.old line.old f
         → IsLine words.new line.new (λ h. differ (inside (map (sign up) points.now) h) (f h)) }
@@ -91,7 +91,7 @@ impl Layer<'_> {
     /// Reads the rows up to the row `v`.
     fn read_to(&mut self, words: &mut [u64], v: i32)
         requires rows { HasRows self.old }
-        requires size { length words.old ≡ 512 }
+        requires size { length words.old ≡ 128 }
         ensures layer { (s : PixelSet) (f : ℤ → Bool) (w : ℤ) → w ≤ℤ v → IsLayerTo words.old self.old s f w
             → IsLayerTo words.new self.new s (λ h. s (record { h = h; v = v })) v }
         ensures rows { HasRows self.new }
@@ -115,7 +115,7 @@ impl Layer<'_> {
     /// Goes on to the first pixel of the row `v`.
     pub fn down(&mut self, words: &mut [u64], v: i32)
         requires rows { HasRows self.old }
-        requires size { length words.old ≡ 512 }
+        requires size { length words.old ≡ 128 }
         ensures layer { (s : PixelSet) (f : ℤ → Bool) (w : ℤ) → w ≤ℤ v → IsLayerTo words.old self.old s f w
             → IsLayer words.new self.new s v self.new.line.left }
         ensures rows { HasRows self.new }
@@ -145,7 +145,7 @@ impl Layer<'_> {
 
     /// Goes on to the pixel in the column `to`, before which the layer does not turn.
     pub fn pass(&mut self, words: &[u64], to: i32)
-        requires size { length words.now ≡ 512 }
+        requires size { length words.now ≡ 128 }
         requires left { self.old.line.left <ℤ to }
         requires right { to <ℤ self.old.line.right }
         ensures layer { (s : PixelSet) (v at : ℤ) → at <ℤ to

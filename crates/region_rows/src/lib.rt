@@ -18,7 +18,8 @@
 //! (`apart`).
 //!
 //! `rect_rows` and `copy_rows` make rows, and `move_rows` moves their numbers in place. `is_in_rows` answers
-//! from parity, and `rect_of` knows the rows of a rectangle again.
+//! from parity, `next_column` tells how far a row can be the same, and `rect_of` knows the rows of a rectangle
+//! again.
 //!
 //! A row of pixels is gone along without memory: a `Line` has one bit for each of some columns, set where
 //! the row turns, and finds the next turn by words. A `Layer` is what one region lets through of a row, with
@@ -31,6 +32,7 @@
 
 mod apart;
 mod bits;
+mod columns;
 mod contains;
 mod copy;
 mod hull;
@@ -47,6 +49,7 @@ mod same;
 mod written;
 
 pub use apart::combined_rows;
+pub use columns::next_column;
 pub use contains::is_in_rows;
 pub use copy::copy_rows;
 pub use hull::{NOTHING, rows_hull};

@@ -16,7 +16,7 @@ pub struct Line {
     pub base: usize,
     pub first: bool,
     ghost order: { left ≤ℤ right },
-    ghost room: { base + count_to left right ≤ 32768 },
+    ghost room: { base + count_to left right ≤ 8192 },
 }
 
 impl Line {
@@ -34,7 +34,7 @@ impl Line {
 
     /// Turns the row from the column `x` on.
     pub fn toggle(&mut self, words: &mut [u64], x: i32)
-        requires { length words.old ≡ 512 }
+        requires { length words.old ≡ 128 }
         ensures line { (f : ℤ → Bool) → IsLine words.old self.old f
             → IsLine words.new self.new (λ h. differ (int_le x h) (f h)) }
         ensures apart { (k : ℕ) → (k < self.old.base) ⊎ (self.old.base + count_to self.old.left self.old.right ≤ k)
@@ -55,7 +55,7 @@ impl Line {
 
     /// The column of the next turn right of `at`, or the limit if that comes first.
     pub fn turn(&self, words: &[u64], at: i32, limit: i32) -> i32
-        requires size { length words.now ≡ 512 }
+        requires size { length words.now ≡ 128 }
         requires left { self.now.left ≤ℤ at }
         requires order { at <ℤ limit }
         requires right { limit ≤ℤ self.now.right }
@@ -69,7 +69,7 @@ impl Line {
 
     /// Whether the row turns at the column `x`.
     pub fn is_turn(&self, words: &[u64], x: i32) -> bool
-        requires size { length words.now ≡ 512 }
+        requires size { length words.now ≡ 128 }
         requires left { self.now.left <ℤ x }
         requires right { x <ℤ self.now.right }
         ensures { (f : ℤ → Bool) → IsLine words.now self.now f → result ≡ differ (f x) (f (x -ℤ pos 1)) }

@@ -69,7 +69,7 @@ apart_hole false b d e f = refl
 
 -- what two areas share lies upright
 pub upright : (r : Rect) → r.right ≤ℤ pos 2147483647 → (is_empty_rect r ≡ true → r ≡ empty_rect) → IsUpright r
-upright r small none = by_lt_z r.left r.right (λ l. (omega (arith, ints), omega (arith, ints))) (λ l. subst IsUpright (sym (none (empty l))) (omega (arith, ints), omega (arith, ints)))
+upright r small none = by_lt_z r.left r.right (λ l. (omega (arith, ints), omega (arith, ints), λ m. l)) (λ l. subst IsUpright (sym (none (empty l))) (omega (arith, ints), omega (arith, ints), λ m. m))
   where
     empty : r.right ≤ℤ r.left → is_empty_rect r ≡ true
     empty l =

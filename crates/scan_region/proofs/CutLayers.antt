@@ -1,6 +1,8 @@
 -- A cut as layers of one row.
-use Rattle.std.proofs.Common.{◌≡◌, ℕ, zero, suc, ◌≤◌, Bool, true, false, not, ◌&&◌, List, [], ◌∷◌, ◌++◌, Option, Some, None, length, get_or, drop, ℤ, refl, sym, ap, ◌∙◌, subst, arith}
+use Rattle.std.proofs.Common.{◌≡◌, ◌⊎◌, inl, inr, ℕ, zero, suc, ◌≤◌, Bool, true, false, not, ◌&&◌, List, [], ◌∷◌, ◌++◌, Option, Some, None, length, get_or, drop, ℤ, ◌<ℤ◌, refl, sym, ap, ◌∙◌, subst, arith}
 use Rattle.std.specs.List.{list_all}
+use Rattle.std.specs.Option.{is_some}
+use Rattle.std.proofs.lemmas.Bool.{true≢false}
 use Rattle.std.proofs.lemmas.Int.{ints}
 use Rattle.std.specs.Borrow.{Bor}
 use Rattle.tb_geom.specs.declared.point.Point.{Point}
@@ -9,9 +11,10 @@ use Rattle.tb_geom.specs.Points.{PixelSet}
 use Rattle.tb_geom.specs.Rects.{rect_holds}
 use Rattle.tb_geom.specs.Pixels.{Pixels}
 use Rattle.scan_region.specs.Cuts.{cut_holds, in_part, in_hole}
-use Rattle.scan_region.specs.Descents.{spans_of}
+use Rattle.scan_region.specs.Descents.{spans_of, IsUpright}
 use Rattle.scan_region.specs.Parts.{lets, IsPart, IsFit, IsWalk}
 use Rattle.scan_region.specs.Scan.{IsScanOf}
+use Rattle.scan_region.specs.SpanRows.{all_pixels}
 use Rattle.region_rows.specs.Seen.{seen_point, seen_set}
 use Rattle.region_rows.specs.Counts.{count_to}
 use Rattle.scan_region.specs.Walks.{runs_on, rows_runs}
@@ -19,9 +22,10 @@ use Rattle.scan_region.specs.declared.cut.Cut.{Cut}
 use Rattle.scan_region.specs.declared.descent.Run.{Run}
 use Rattle.scan_region.specs.declared.part.Part.{Part}
 use Rattle.scan_region.specs.declared.part.Part.TheVariants.{Open, Lined, Tested}
+use Rattle.scan_region.specs.declared.spans.Span.{Span}
 use Rattle.scan_region.specs.declared.walk.Walk.{Walk}
-use Rattle.scan_region.proofs.WalkRuns.{runs-end}
-use Rattle.scan_region.proofs.WalkScan.{IsScanOf-rows_runs}
+use Rattle.scan_region.proofs.WalkRuns.{runs-end, rows-end}
+use Rattle.scan_region.proofs.WalkScan.{IsScanOf-rows_runs, IsScanOf-same}
 
 -- a list of three is its elements
 three : (parts : List (Option (Bor Pixels))) (a b c : Option (Bor Pixels)) → length parts ≡ 3 → a ≡ get_or parts 0 a → b ≡ get_or parts 1 b → c ≡ get_or parts 2 c → parts ≡ a ∷ b ∷ c ∷ []
@@ -56,6 +60,21 @@ as_hole (Some r) p = refl
 pub cut_parts : (cut : Cut) (a b c : Option (Bor Pixels)) (p : Point) → length cut.inside ≡ 3 → a ≡ get_or cut.inside 0 a → b ≡ get_or cut.inside 1 b → c ≡ get_or cut.inside 2 c
     → cut_holds cut p ≡ (lets false a p && (lets false b p && (lets false c p && lets true cut.outside p)))
 cut_parts cut a b c p l d e f = parted cut a b c p l d e f ∙ (λ i. as_part a p i && (as_part b p i && (as_part c p i && as_hole cut.outside p i)))
+
+none_open : (lacks : Bool) (r : Option (Bor Pixels)) (p : Point) → is_some r ≡ false → lets lacks r p ≡ true
+none_open lacks None p e = refl
+none_open lacks (Some r) p e = absurd (true≢false e)
+
+-- a cut of no region leaves each pixel
+pub open_cut : (cut : Cut) (a b c : Option (Bor Pixels)) (p : Point) → length cut.inside ≡ 3 → a ≡ get_or cut.inside 0 a → b ≡ get_or cut.inside 1 b → c ≡ get_or cut.inside 2 c
+    → is_some a ≡ false → is_some b ≡ false → is_some c ≡ false → is_some cut.outside ≡ false → cut_holds cut p ≡ true
+open_cut cut a b c p l d e f g h i j =
+    cut_parts cut a b c p l d e f ∙ (λ k. none_open false a p g k && (none_open false b p h k && (none_open false c p i k && none_open true cut.outside p j k)))
+
+-- where each pixel is left, the rows of an area are its spans
+pub full_scan : (s : PixelSet) (area : Rect) → ((p : Point) → s p ≡ true) → IsScanOf (rows_runs all_pixels area.top area.left area.right (count_to area.top area.bottom)) (λ p. rect_holds area p && s p)
+full_scan s area all =
+    IsScanOf-same _ (λ p. rect_holds area p && all_pixels p) (λ p. rect_holds area p && s p) (λ p. ap (λ b. rect_holds area p && b) (all p)) (IsScanOf-rows_runs all_pixels area.left area.top area.right area.bottom)
 
 -- a walk of parts that let through what those of a cut have, and not what its hole has
 pub cut_walk : (w : Walk) (cut : Cut) (up : Bool) (a b c : Option (Bor Pixels)) → length cut.inside ≡ 3 → a ≡ get_or cut.inside 0 a → b ≡ get_or cut.inside 1 b → c ≡ get_or cut.inside 2 c
@@ -95,6 +114,36 @@ new_scan s area v row told kept none =
     subst (λ spans. IsScanOf spans (λ p. rect_holds area p && s p))
     (sym (λ i. none_dropped told v kept none i ++ (runs-end (λ h. s (record { h = h; v = row })) row area.right area.right (omega (arith, ints)) i ++ rows_runs s area.top area.left area.right (count_to area.top area.bottom))))
     (IsScanOf-rows_runs s area.left area.top area.right area.bottom)
+
+no_more : (xs ys : List Span) → ys ≡ [] → xs ++ ys ≡ xs
+no_more [] ys e = e
+no_more (x ∷ xs) ys e = ap (λ rest. x ∷ rest) (no_more xs ys e)
+
+-- the rows up to the row `asked` are full, and those from there on are to be walked
+pub split_scan : (s : PixelSet) (area : Rect) (asked v row : ℤ) (told : ℕ) (kept : List Run) → kept ≡ [] → (asked ≡ area.top) ⊎ ((asked ≡ area.bottom) × ((p : Point) → s p ≡ true))
+    → IsScanOf (rows_runs all_pixels area.top area.left area.right (count_to area.top asked) ++ (spans_of v (drop told kept) ++ (runs_on (λ h. s (record { h = h; v = row })) row None area.right (count_to area.right area.right) ++ rows_runs s asked area.left area.right (count_to asked area.bottom))))
+    (λ p. rect_holds area p && s p)
+split_scan s area asked v row told kept none (inl e) =
+    subst (λ spans. IsScanOf spans (λ p. rect_holds area p && s p))
+    (sym (λ i. rows-end all_pixels area.top area.left area.right asked (omega (arith, ints, e)) i ++ (spans_of v (drop told kept) ++ (runs_on (λ h. s (record { h = h; v = row })) row None area.right (count_to area.right area.right) ++ rows_runs s (e i) area.left area.right (count_to (e i) area.bottom)))))
+    (new_scan s area v row told kept none)
+split_scan s area asked v row told kept none (inr m) =
+    let e = m.0 in
+    subst (λ spans. IsScanOf spans (λ p. rect_holds area p && s p))
+    (sym (no_more (rows_runs all_pixels area.top area.left area.right (count_to area.top asked)) _
+    (λ i. none_dropped told v kept none i ++ (runs-end (λ h. s (record { h = h; v = row })) row area.right area.right (omega (arith, ints)) i ++ rows-end s asked area.left area.right area.bottom (omega (arith, ints, e)) i))
+    ∙ ap (λ z. rows_runs all_pixels area.top area.left area.right (count_to area.top z)) e))
+    (full_scan s area m.1)
+
+-- a cut that leaves each pixel leaves each that is seen
+pub seen_split : (up : Bool) (cut : Cut) (area : Rect) (asked : ℤ) → (asked ≡ area.top) ⊎ ((asked ≡ area.bottom) × ((p : Point) → cut_holds cut p ≡ true)) → (asked ≡ area.top) ⊎ ((asked ≡ area.bottom) × ((p : Point) → seen_set up (cut_holds cut) p ≡ true))
+seen_split up cut area asked (inl e) = inl e
+seen_split up cut area asked (inr m) = inr (m.0, λ p. m.1 (seen_point up p))
+
+-- the full rows of an upright area have pixels
+pub are_full : (area : Rect) (asked : ℤ) (P : Type 0) → IsUpright area → (asked ≡ area.top) ⊎ ((asked ≡ area.bottom) × P) → area.top <ℤ asked → area.left <ℤ area.right
+are_full area asked P u (inl e) m = absurd (omega (arith, ints, e))
+are_full area asked P u (inr t) m = let e = t.0 in u.2 (omega (arith, ints, e))
 
 -- ---- an area that is cut to the boxes of the parts
 

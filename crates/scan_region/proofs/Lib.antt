@@ -5,6 +5,8 @@ pub mod Held
 pub mod OneScan
 pub mod WalkRuns
 pub mod WalkScan
+pub mod FullSpans
+pub mod SeenSteady
 pub mod PartSteps
 pub mod WalkSteps
 pub mod KeptRuns

@@ -80,7 +80,7 @@ at_hand w left s sides room r =
     ∙ (λ i. counted w.words w.first left w.right 0 sides.after_first r.first_set w.v w.at sides.first room r.first i
     && (counted w.words w.second left w.right sides.after_first sides.after_second r.second_set w.v w.at sides.second room r.second i
     && (counted w.words w.third left w.right sides.after_second sides.after_third r.third_set w.v w.at sides.third room r.third i
-    && counted w.words w.hole left w.right sides.after_third 32768 r.hole_set w.v w.at sides.hole room r.hole i)))
+    && counted w.words w.hole left w.right sides.after_third 8192 r.hole_set w.v w.at sides.hole room r.hole i)))
 
 -- and so up to the next turn
 pub steady_walk : (w : Walk) (left : ℤ) (s : PixelSet) (to : ℤ) → HasSides w left w.right → w.at <ℤ w.right → IsWalkTurn w to → IsWalk w s → (x : ℤ) → w.at ≤ℤ x → x <ℤ to → s (record { h = x; v = w.v }) ≡ all_count w
@@ -126,7 +126,7 @@ pub record Goes (words after : List ℕ) (part next : Part) (left right v : ℤ)
 -- the parts of a walk, one after another
 module _ (w : Walk) (words1 words2 words3 words4 : List ℕ) (p1 p2 p3 p4 : Part) (left v : ℤ) (sides : HasSides w left w.right)
     (g1 : Goes w.words words1 w.first p1 left w.right v 0 sides.after_first) (g2 : Goes words1 words2 w.second p2 left w.right v sides.after_first sides.after_second)
-    (g3 : Goes words2 words3 w.third p3 left w.right v sides.after_second sides.after_third) (g4 : Goes words3 words4 w.hole p4 left w.right v sides.after_third 32768) (order : w.v ≤ℤ v) where
+    (g3 : Goes words2 words3 w.third p3 left w.right v sides.after_second sides.after_third) (g4 : Goes words3 words4 w.hole p4 left w.right v sides.after_third 8192) (order : w.v ≤ℤ v) where
   low_of : (part : Part) (low high : ℕ) → IsFit left w.right low high part → low ≤ high
   low_of Open low high fit = fit
   low_of (Lined l) low high fit = let a = fit.2 in let b = fit.3 in omega arith
@@ -154,7 +154,7 @@ module _ (w : Walk) (words1 words2 words3 words4 : List ℕ) (p1 p2 p3 p4 : Part
   gone_hole s r =
       let b2 = low_of p2 sides.after_first sides.after_second g2.fit in
       let b3 = low_of p3 sides.after_second sides.after_third g3.fit in
-      g4.part_is s w.v w.at order (part_apart w.words words3 w.hole left w.right sides.after_third 32768 s w.v w.at sides.hole (λ k a b. g3.apart k (inr a) ∙ g2.apart k (inr (omega arith)) ∙ g1.apart k (inr (omega arith))) r)
+      g4.part_is s w.v w.at order (part_apart w.words words3 w.hole left w.right sides.after_third 8192 s w.v w.at sides.hole (λ k a b. g3.apart k (inr a) ∙ g2.apart k (inr (omega arith)) ∙ g1.apart k (inr (omega arith))) r)
 
 -- the runs that are left after a step
 pub after_pass : (n w : Walk) (s : PixelSet) (to : ℤ) → n.v ≡ w.v → n.at ≡ to → n.right ≡ w.right → runs_left n s ≡ runs_on (λ h. s (record { h = h; v = w.v })) w.v None to (count_to to w.right)
@@ -174,7 +174,7 @@ less_left n w to t ea er = subst (λ k. k < count_to w.at w.right) (sym (λ i. c
 
 -- the sides of a walk whose parts keep theirs
 pub sides_of : (w n : Walk) (left right : ℤ) → (s : HasSides w left right) → n.right ≡ right → left ≤ℤ n.at → n.v <ℤ pos 2147483647 → IsFit left right 0 s.after_first n.first → IsFit left right s.after_first s.after_second n.second
-    → IsFit left right s.after_second s.after_third n.third → IsFit left right s.after_third 32768 n.hole → HasSides n left right
+    → IsFit left right s.after_second s.after_third n.third → IsFit left right s.after_third 8192 n.hole → HasSides n left right
 sides_of w n left right s end begun row a b c d = record { end = end; begun = begun; row = row; after_first = s.after_first; after_second = s.after_second; after_third = s.after_third; first = a; second = b; third = c; hole = d }
 
 -- the sides of a walk whose end is told in another way

@@ -9,9 +9,9 @@ use Rattle.scan_region.specs.declared.descent.Descent.{Descent}
 use Rattle.scan_region.specs.declared.descent.Run.{Run}
 use Rattle.scan_region.specs.declared.spans.Span.{Span}
 
--- the sides of the rectangle do not lie crosswise, and its first column is not the last number
+-- the sides of the rectangle do not lie crosswise, its first column is not the last number, and its rows have pixels
 abbrev pub IsUpright : Rect → Type 0
-IsUpright r = (r.left ≤ℤ r.right) × (r.left <ℤ pos 2147483647)
+IsUpright r = (r.left ≤ℤ r.right) × (r.left <ℤ pos 2147483647) × (r.top <ℤ r.bottom → r.left <ℤ r.right)
 
 -- a run in the row v
 abbrev pub span_of : ℤ → Run → Span

@@ -3,6 +3,7 @@ pub mod Kept
 pub mod Walks
 pub mod Parts
 pub mod Descents
+pub mod SpanRows
 pub mod Scan
 pub mod Cuts
 pub mod Turned

@@ -80,7 +80,7 @@ pub record HasSides (w : Walk) (left right : ℤ) : Type 0 where
   pub first : IsFit left right 0 after_first w.first
   pub second : IsFit left right after_first after_second w.second
   pub third : IsFit left right after_second after_third w.third
-  pub hole : IsFit left right after_third 32768 w.hole
+  pub hole : IsFit left right after_third 8192 w.hole
 
 -- the runs that are left of the row at hand
 abbrev pub runs_left : Walk → PixelSet → List Span

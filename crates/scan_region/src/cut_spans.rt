@@ -1,5 +1,5 @@
 //! The spans that a cut leaves of a rectangle, row by row.
-ghost use Rattle.std.specs.Prelude.{◌≡◌, ◌&&◌, false, true};
+ghost use Rattle.std.specs.Prelude.{◌≡◌, ◌&&◌, false, true, ◌⊎◌};
 ghost use Rattle.std.specs.Iterator.{YieldsFirst, item_count};
 ghost use Rattle.tb_geom.specs.declared.point.Point.{Point};
 ghost use Rattle.tb_geom.specs.Points.{PixelSet};
@@ -14,6 +14,7 @@ use crate::cut::Cut;
 use crate::descent::Descent;
 use crate::part::{Columns, Part};
 use crate::region::Region;
+use crate::span_rows::{FullRows, SpanRows};
 use crate::spans::Span;
 use crate::walk::Walk;
 use arrayvec::ArrayVec;
@@ -27,7 +28,7 @@ pub struct CutSpans<'a> {
     cut: Cut<'a>,
     /// Whether all is seen turned by half a turn, from the bottom up and from right to left.
     up: bool,
-    descent: Descent<'a>,
+    rows: SpanRows<'a>,
 }
 
 impl<'a> Model for CutSpans<'a> {
@@ -37,12 +38,12 @@ impl<'a> Model for CutSpans<'a> {
     ghost Value = { List Span };
 
     ghost use Rattle.scan_region.specs.Cuts.{cut_holds};
-    ghost use Rattle.scan_region.specs.Descents.{IsDescent, spans_left};
+    ghost use Rattle.scan_region.specs.SpanRows.{AreRowsOf, rows_left};
     ghost use Rattle.region_rows.specs.Seen.{seen_set};
 
-    ghost view = { λ s. spans_left s.descent (seen_set s.up (cut_holds s.cut)) };
+    ghost view = { λ s. rows_left s.rows (seen_set s.up (cut_holds s.cut)) };
 
-    ghost invariant = { λ s. IsDescent s.descent (seen_set s.up (cut_holds s.cut)) };
+    ghost invariant = { λ s. AreRowsOf s.rows (seen_set s.up (cut_holds s.cut)) };
 }
 
 /// What is left to be asked of a region in which pixels of the area must lie: nothing, where it is a rectangle.
@@ -74,6 +75,21 @@ fn hole_within<'a>(hole: Option<&'a Region>, up: bool, area: Rect) -> Option<&'a
 }
 
 impl<'a> Cut<'a> {
+    /// The row of an area from which on there is something to be asked: the first one, or, where there is no
+    /// region, the one past the last.
+    fn first_asked(&self, area: Rect) -> i32
+        ensures { (result ≡ area.top) ⊎ ((result ≡ area.bottom) × ((p : Point) → cut_holds self.now p ≡ true)) }
+    {
+        let parts = &self.inside[..];
+        if parts[0].is_some() || parts[1].is_some() || parts[2].is_some() {
+            return area.top;
+        }
+        if self.outside.is_some() {
+            return area.top;
+        }
+        area.bottom
+    }
+
     /// The spans of an area's pixels that the cut leaves, seen so.
     fn walk_within(&self, up: bool, area: Rect) -> CutSpans<'a>
         requires { IsUpright area }
@@ -84,6 +100,7 @@ impl<'a> Cut<'a> {
             left: area.left,
             right: area.right,
         };
+        let asked = self.first_asked(area);
         let parts = &self.inside[..];
         let mut free = 0;
         let first = Part::new(parts[0], false, columns, &mut free);
@@ -93,24 +110,32 @@ impl<'a> Cut<'a> {
         CutSpans {
             cut: *self,
             up,
-            descent: Descent {
-                left: area.left,
-                v: area.top,
-                kept: ArrayVec::new(),
-                told: 0,
-                walk: Walk {
-                    v: i32::MIN,
-                    at: area.right,
+            rows: SpanRows {
+                full: FullRows {
+                    left: area.left,
                     right: area.right,
-                    first,
-                    second,
-                    third,
-                    hole,
-                    words: [0; 512],
+                    next: area.top,
+                    bottom: asked,
                 },
-                next: area.top,
-                until: area.top,
-                bottom: area.bottom,
+                walked: Descent {
+                    left: area.left,
+                    v: asked,
+                    kept: ArrayVec::new(),
+                    told: 0,
+                    walk: Walk {
+                        v: i32::MIN,
+                        at: area.right,
+                        right: area.right,
+                        first,
+                        second,
+                        third,
+                        hole,
+                        words: [0; 128],
+                    },
+                    next: asked,
+                    until: asked,
+                    bottom: area.bottom,
+                },
             },
         }
     }
@@ -147,7 +172,8 @@ impl<'a> Iterator for CutSpans<'a> {
 
     ghost remaining = { item_count (λ rest. rest) };
 
+    #[inline(always)]
     fn next(&mut self) -> Option<Span> {
-        self.descent.next_span()
+        self.rows.next_span()
     }
 }

@@ -106,6 +106,7 @@ impl Descent<'_> {
     }
 
     /// The next run.
+    #[inline(never)]
     pub fn next_span(&mut self) -> Option<Span>
         requires { (s : PixelSet) × IsDescent self.old s }
         ensures descent { (s : PixelSet) → IsDescent self.old s → IsDescent self.new s }

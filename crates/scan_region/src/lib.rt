@@ -12,12 +12,13 @@
 //!
 //! A walk goes along rows of pixels without memory. A `Part` is what one region of a cut lets through of a
 //! row: all pixels, where there is no such region, or where it is a rectangle, to whose box the area is cut
-//! first; those of a `Layer` of `region_rows`; or, where the lines of several wide regions do not fit side by
-//! side in the walk's one array of bits, those that a test of single pixels finds. A `Walk` is up to four
-//! parts, and goes from turn to turn of a row. A `Descent` goes from row to row, and keeps the runs of a row
-//! for the rows below it at which no part turns. Seen turned by half a turn, the same walk goes from the
-//! bottom up. `spans`, `spans_up`, `meets_rect` and `Cut::spans_within` are such walks. A set's list of spans
-//! is one too (`laws::one_list_of_spans`).
+//! first; those of a `Layer` of `region_rows`; or, where the lines of wide regions do not fit side by side in
+//! the walk's one array of bits, those that a test of single pixels finds, asked only in the columns at which
+//! a row of the region turns. A `Walk` is up to four parts, and goes from turn to turn of a row. A `Descent`
+//! goes from row to row, and keeps the runs of a row for the rows below it at which no part turns. Where no
+//! region is left to be asked, the rows are those of the area, and no row is walked (`SpanRows`). Seen turned
+//! by half a turn, all goes from the bottom up. `spans`, `spans_up`, `meets_rect` and `Cut::spans_within` are
+//! such rows. A set's list of spans is one too (`laws::one_list_of_spans`).
 //!
 //! `to_bytes` writes the rows as they are. `from_bytes` has the bytes judged in place first, and then copies
 //! the rows. A region that is written and read is the same, and so are bytes that are read and written
@@ -32,6 +33,7 @@ mod descent;
 pub mod laws;
 mod part;
 mod region;
+mod span_rows;
 mod spans;
 mod spans_up;
 mod walk;

@@ -17,7 +17,7 @@ pub struct Columns {
     pub right: i32,
 }
 
-/// A region whose pixels are asked one by one.
+/// A region whose pixels are asked one by one, in the columns at which its rows turn.
 #[derive(Clone, Copy)]
 pub struct PixelTest<'a> {
     pub region: &'a Region,
@@ -78,12 +78,12 @@ impl PixelTest<'_> {
             ≡ not (test_set self.now (record { h = at; v = v })) }
     {
         let here = self.has(at, v);
-        let mut x = at + 1;
+        let mut x = self.region.next_column(self.up, at, limit);
         while x < limit {
             if self.has(x, v) != here {
                 return x;
             }
-            x += 1;
+            x = self.region.next_column(self.up, x, limit);
         }
         limit
     }
@@ -99,17 +99,17 @@ impl<'a> Part<'a> {
         free: &mut usize,
     ) -> Part<'a>
         requires order { columns.left ≤ℤ columns.right }
-        requires room { free.old ≤ 32768 }
+        requires room { free.old ≤ 8192 }
         ensures part { (words : List ℕ) → ((k : ℕ) → has_bit words k ≡ false) → (v : ℤ)
             → IsPart words result (seen_set columns.up (lets lacks region.entry)) v columns.right }
         ensures fit { IsFit columns.left columns.right free.old free.new result }
-        ensures room { free.new ≤ 32768 }
+        ensures room { free.new ≤ 8192 }
     {
         let Some(region) = region else {
             return Part::Open;
         };
         let width = columns.right.abs_diff(columns.left) as usize;
-        if 32768 - *free < width {
+        if 8192 - *free < width {
             return Part::Tested(PixelTest {
                 region,
                 lacks,
@@ -141,7 +141,7 @@ impl<'a> Part<'a> {
 
     /// The column of the next turn right of `at` in the row `v`, or the limit if that comes first.
     pub fn turn(&self, words: &[u64], v: i32, at: i32, limit: i32) -> i32
-        requires size { length words.now ≡ 512 }
+        requires size { length words.now ≡ 128 }
         requires row { v <ℤ pos 2147483647 }
         requires order { at <ℤ limit }
         requires across { IsAcross self.now at limit }
@@ -160,7 +160,7 @@ impl<'a> Part<'a> {
 
     /// Goes on to the pixel in the column `to` of the row `v`, before which the part does not turn.
     pub fn pass(&mut self, words: &[u64], v: i32, to: i32)
-        requires size { length words.now ≡ 512 }
+        requires size { length words.now ≡ 128 }
         requires row { v <ℤ pos 2147483647 }
         requires column { to <ℤ pos 2147483647 }
         requires across { IsAcross self.old (to -ℤ pos 1) (to +ℤ pos 1) }
@@ -177,7 +177,7 @@ impl<'a> Part<'a> {
 
     /// Goes on to the first pixel of the row `v`.
     pub fn down(&mut self, words: &mut [u64], left: i32, v: i32)
-        requires size { length words.old ≡ 512 }
+        requires size { length words.old ≡ 128 }
         requires row { v <ℤ pos 2147483647 }
         requires column { left <ℤ pos 2147483647 }
         requires fit { (right : ℤ) × (low : ℕ) × (high : ℕ) × IsFit left right low high self.old }

@@ -1,5 +1,5 @@
 //! The public calls: each wraps a function of the rows.
-ghost use Rattle.std.specs.Prelude.{◌≡◌, true, false, ◌&&◌, ◌||◌, not, ◌↔◌, ℕ, List, ℤ, IsTrue, IfOk, IfErr, OnOk, OnErr, MatchResult, reverse};
+ghost use Rattle.std.specs.Prelude.{◌≡◌, true, false, ◌&&◌, ◌||◌, not, ◌↔◌, ℕ, List, ℤ, ◌≤ℤ◌, ◌<ℤ◌, IsTrue, IfOk, IfErr, OnOk, OnErr, MatchResult, reverse};
 ghost use Rattle.tb_geom.specs.declared.point.Point.{Point};
 ghost use Rattle.tb_geom.specs.Points.{minus};
 ghost use Rattle.tb_geom.specs.Rects.{rect_holds, is_in_range, IsBoxOf, empty_rect};
@@ -16,7 +16,7 @@ use crate::spans_up::SpansUp;
 use region_bytes::RegionBytes;
 use region_rows::{
     Layer, Line, NOTHING, Operator, Row, combined_rows, copy_rows, form_rows, is_in_rows,
-    move_rows, rect_of, rect_rows, rows_hull, same_rows, write_rows,
+    move_rows, next_column, rect_of, rect_rows, rows_hull, same_rows, write_rows,
 };
 use std::alloc::{AllocError, Global};
 use std::marker::Model;
@@ -311,6 +311,18 @@ impl Region {
             line,
             counts: line.first,
         }
+    }
+
+    /// The first column right of `h`, as it is seen, at which a row of the region turns, or the limit if that
+    /// comes first.
+    pub(crate) fn next_column(&self, up: bool, h: i32, limit: i32) -> i32
+        requires { h <ℤ limit }
+        ensures on { h <ℤ result }
+        ensures within { result ≤ℤ limit }
+        ensures steady { (x v : ℤ) → h ≤ℤ x → x <ℤ result → holds self.now (seen_point up (record { h = x; v = v }))
+            ≡ holds self.now (seen_point up (record { h = h; v = v })) }
+    {
+        next_column(self.rows.as_slice(), up, h, limit)
     }
 
     /// The box of the region, as it is seen, and whether it is full.

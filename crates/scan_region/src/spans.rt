@@ -45,6 +45,7 @@ impl<'a> Iterator for Spans<'a> {
 
     ghost remaining = { item_count (λ rest. rest) };
 
+    #[inline(always)]
     fn next(&mut self) -> Option<Span> {
         self.spans.next()
     }

@@ -15,9 +15,9 @@ pub struct Walk<'a> {
     pub second: Part<'a>,
     pub third: Part<'a>,
     pub hole: Part<'a>,
-    /// The bits of the parts' lines, one for each column of the range of coordinates.
-    pub words: [u64; 512],
-    ghost size: { length words ≡ 512 },
+    /// The bits of the parts' lines, one for each column: enough for four lines of 2,048 columns.
+    pub words: [u64; 128],
+    ghost size: { length words ≡ 128 },
 }
 
 impl Walk<'_> {

@@ -15,11 +15,11 @@ use Rattle.screen_pbm.specs.Pbm.{column_value, row_byte, row_bytes, head_text, p
 use Rattle.screen_pbm.proofs.Ranges.{flat_map-range_around}
 
 -- whether the pixel of a column is black, white past the width
-abbrev is_black : ℕ → PixelSet → ℕ → ℕ → Bool
+abbrev pub is_black : ℕ → PixelSet → ℕ → ℕ → Bool
 is_black width black v h = nat_lt h width && black (record { h = pos h; v = pos v })
 
 -- a bit as a number
-abbrev digit : Bool → ℕ
+abbrev pub digit : Bool → ℕ
 digit b = if b then 1 else 0
 
 digit-le : (b : Bool) → digit b ≤ 1
@@ -67,14 +67,12 @@ sum_of_eight f a =
     let e7 : a + 6 + 1 ≡ a + 7 = omega arith in
     rw (e0, e2, e3, e4, e5, e6, e7) (omega arith)
 
-byte_bit : (width : ℕ) (black : PixelSet) (v k i : ℕ) → i < 8
-    → bit_of (row_byte width black v k) i ≡ is_black width black v (8 * k + i)
+-- a byte as a number of eight digits
+pub row_byte-is : (width : ℕ) (black : PixelSet) (v k : ℕ) → let w = λ (j : ℕ). digit (is_black width black v (8 * k + j)) in
+    row_byte width black v k ≡ 128 * w 0 + 64 * w 1 + 32 * w 2 + 16 * w 3 + 8 * w 4 + 4 * w 5 + 2 * w 6 + w 7
 unfolding row_byte
-byte_bit width black v k i low =
-    let w = λ (j : ℕ). digit (is_black width black v (8 * k + j)) in
-    let value = λ (j : ℕ). column_value width black v (8 * k + j) in
+row_byte-is width black v k =
     let is = λ (j : ℕ) (l : j < 8). column_is width black v k j l in
-    let all : row_byte width black v k ≡ 128 * w 0 + 64 * w 1 + 32 * w 2 + 16 * w 3 + 8 * w 4 + 4 * w 5 + 2 * w 6 + w 7 =
     sum_of_eight (column_value width black v) (8 * k)
     ∙ omega (
       arith,
@@ -86,8 +84,13 @@ byte_bit width black v k i low =
       is 5 (omega arith),
       is 6 (omega arith),
       is 7 (omega arith),
-    ) in
-    ap (λ (n : ℕ). nat_eq (n / 2 ^ (7 - i) % 2) 1) all
+    )
+
+byte_bit : (width : ℕ) (black : PixelSet) (v k i : ℕ) → i < 8
+    → bit_of (row_byte width black v k) i ≡ is_black width black v (8 * k + i)
+byte_bit width black v k i low =
+    let w = λ (j : ℕ). digit (is_black width black v (8 * k + j)) in
+    ap (λ (n : ℕ). nat_eq (n / 2 ^ (7 - i) % 2) 1) (row_byte-is width black v k)
     ∙ ap (λ (n : ℕ). nat_eq n 1) (digit_at w (λ j. digit-le (is_black width black v (8 * k + j))) i low)
     ∙ digit_is_one (is_black width black v (8 * k + i))
 

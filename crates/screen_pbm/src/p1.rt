@@ -2,28 +2,29 @@
 //!
 //! An image takes no memory: its head, and then each of its rows, is collected in a buffer of a fixed
 //! size and goes out with one `send`.
-ghost use Rattle.std.specs.Prelude.{◌≡◌, ◌<◌, ◌≤◌, pos, false};
+ghost use Rattle.std.specs.Prelude.{◌≡◌, ◌*◌, ◌<◌, ◌≤◌, false, length};
 ghost use Rattle.bit_map.specs.Bits.{bit};
+ghost use Rattle.bit_map.specs.Words.{place_bit};
 ghost use Rattle.watched_io.specs.Writes.{Sends};
 ghost use Rattle.screen_pbm.specs.Pbm.{digit_of, row_digits, line_count, line_text, row_text, p1};
 
 use crate::head::{height_of, width_of, write_head};
 use arrayvec::ArrayVec;
-use bit_map::BitMap;
-use tb_geom::{Point, Refusal};
+use bit_map::{BitMap, bit_in};
+use tb_geom::Refusal;
 use watched_io::{Sink, send};
 
-/// The character of the pixel in a column of a row.
-fn digit(map: &BitMap, row: u16, column: u16) -> u8
-    requires row { row < map.now.height }
-    requires column { column < map.now.width }
-    ensures { result ≡ digit_of (bit map.now (record { h = pos column; v = pos row })) }
+/// The character of the pixel in a column, of the words of a row.
+fn digit(words: &[u64], column: u16) -> u8
+    requires { column < 64 * length words.now }
+    ensures { result ≡ digit_of (place_bit words.now column) }
 {
-    let point = Point {
-        h: i32::from(column),
-        v: i32::from(row),
-    };
-    if map.get(point) { b'1' } else { b'0' }
+    let column = usize::from(column);
+    if bit_in(words[column / 64], column % 64) {
+        b'1'
+    } else {
+        b'0'
+    }
 }
 
 /// The characters of a line of a row, and the line's end.
@@ -36,9 +37,10 @@ fn line_of(map: &BitMap, row: u16, line: u16) -> ArrayVec<u8, 71>
     let width = width_of(map);
     let from = line * 70;
     let count = (width - from).min(70);
+    let words = map.row(row);
     let mut text = ArrayVec::new();
     for k in 0..count {
-        text.push(digit(map, row, from + k));
+        text.push(digit(words, from + k));
     }
     text.push(b'\n');
     text

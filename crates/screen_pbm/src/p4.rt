@@ -2,55 +2,47 @@
 //!
 //! An image takes no memory: its head, and then each of its rows, is collected in a buffer of a fixed
 //! size and goes out with one `send`.
-ghost use Rattle.std.specs.Prelude.{◌≡◌, ◌<◌, ◌≤◌, false};
+ghost use Rattle.std.specs.Prelude.{◌≡◌, ◌+◌, ◌/◌, ◌<◌, ◌≤◌, false, length, take};
 ghost use Rattle.bit_map.specs.Bits.{bit};
 ghost use Rattle.watched_io.specs.Writes.{Sends};
-ghost use Rattle.screen_pbm.specs.Pbm.{column_value, row_byte, row_bytes, p4};
+ghost use Rattle.screen_pbm.specs.Pbm.{row_bytes, p4};
+ghost use Rattle.screen_pbm.specs.Packed.{HasBits, IsPut};
 
 use crate::head::{height_of, width_of, write_head};
-use arrayvec::ArrayVec;
 use bit_map::BitMap;
-use tb_geom::{Point, Refusal};
+use tb_geom::Refusal;
 use watched_io::{Sink, send};
 
-/// The value of a column in the byte that it lies in; past the width it is white.
-fn column_value(map: &BitMap, row: u16, column: u16) -> u8
-    requires { row < map.now.height }
-    ensures { result ≡ column_value map.now.width (bit map.now) row column }
+/// Puts the bytes of a word, the high one first, to their place among those of a row.
+fn put_word(bytes: &mut [u8; 128], place: usize, word: u64)
+    requires { place < 16 }
+    ensures { IsPut place word bytes.old bytes.new }
 {
-    let point = Point {
-        h: i32::from(column),
-        v: i32::from(row),
-    };
-    if column < width_of(map) && map.get(point) {
-        1 << (7 - column % 8)
-    } else {
-        0
-    }
+    bytes[8 * place..8 * place + 8].copy_from_slice(&word.to_be_bytes());
 }
 
-/// The byte at a place of a row.
-fn byte_of(map: &BitMap, row: u16, place: u16) -> u8
-    requires row { row < map.now.height }
-    requires place { place < 128 }
-    ensures { result ≡ row_byte map.now.width (bit map.now) row place }
+/// The bytes of a row's words. 1024 columns take 128.
+fn bytes_of(words: &[u64]) -> [u8; 128]
+    requires { length words.now ≤ 16 }
+    ensures { HasBits result words.now (length words.now) }
 {
-    let mut byte = 0;
-    for k in 0..8 {
-        byte += column_value(map, row, 8 * place + k);
+    let mut bytes = [0; 128];
+    for (place, word) in words.iter().enumerate() {
+        put_word(&mut bytes, place, *word);
     }
-    byte
+    bytes
 }
 
-/// The bytes of a row. 1024 columns take 128.
-fn row_of(map: &BitMap, row: u16) -> ArrayVec<u8, 128>
+/// The bytes of a row, and others behind them. The bits past the last column become white.
+fn row_of(map: &BitMap, row: u16) -> [u8; 128]
     requires row { row < map.now.height }
     requires width { map.now.width ≤ 1024 }
-    ensures { result.items ≡ row_bytes map.now.width (bit map.now) row }
+    ensures { take ((map.now.width + 7) / 8) result ≡ row_bytes map.now.width (bit map.now) row }
 {
-    let mut bytes = ArrayVec::new();
-    for place in 0..width_of(map).div_ceil(8) {
-        bytes.push(byte_of(map, row, place));
+    let width = usize::from(width_of(map));
+    let mut bytes = bytes_of(map.row(row));
+    if width % 8 > 0 {
+        bytes[width / 8] &= 255 << (8 - width % 8);
     }
     bytes
 }
@@ -62,11 +54,11 @@ pub fn write_p4<S: Sink>(sink: &mut S, map: &BitMap) -> Result<(), Refusal>
     requires width { map.now.width ≤ 1024 }
     ensures { Sends (S.output sink.old) (S.output sink.new) result (p4 map.now.width map.now.height (bit map.now)) }
 {
-    let height = height_of(map);
-    write_head(sink, b"P4", width_of(map), height)?;
+    let (width, height) = (width_of(map), height_of(map));
+    write_head(sink, b"P4", width, height)?;
     for row in 0..height {
         let bytes = row_of(map, row);
-        send(sink, bytes.as_slice())?;
+        send(sink, &bytes[..usize::from(width.div_ceil(8))])?;
     }
     Ok(())
 }

@@ -2,7 +2,7 @@
 
 use bit_blit::{copy, fill, invert, shift};
 use bit_map::{BitImage, BitMap, Mode, Pattern};
-use geometry_tests::pixels::{Pixels, are_alike, mark};
+use pixel_pictures::pixels::{Pixels, are_alike, mark};
 use scan_region::Region;
 use std::alloc::Global;
 use std::test::Fail;

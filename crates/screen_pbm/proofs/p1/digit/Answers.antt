@@ -1,12 +1,16 @@
-use Rattle.std.proofs.Common.{arith, rules, SFits, w32}
-use Rattle.std.proofs.lemmas.Bool.Decides.{nat_tests}
-use Rattle.std.proofs.lemmas.Int.{to_z-of_z}
-use Rattle.bit_map.specs.Bits.{on_map}
+use Rattle.std.proofs.Common.{◌≡◌, true, false, ap, sym, ◌∙◌}
+use Rattle.bit_map.specs.Words.{place_bit}
+use Rattle.screen_pbm.specs.Pbm.{digit_of}
 use Rattle.screen_pbm.proofs.p1.digit.Goals as goal
 
-pub get-requires : goal.get-requires
-unfolding on_map
-get-requires c =
-    let fits_h : SFits w32 c.from.result = search rules in
-    let fits_v : SFits w32 c.from-2.result = search rules in
-    simp to_z-of_z (rw (c.from.ensures, c.from-2.ensures) (grind (arith, nat_tests)))
+pub returns-then-bit_in : goal.returns-then-bit_in
+unfolding place_bit
+returns-then-bit_in c =
+    let black : c.bit_in.result ≡ true = c.if-bit_in.true in
+    ap digit_of (sym black ∙ rw c.from-column.ensures at c.bit_in.ensures)
+
+pub returns-else-bit_in : goal.returns-else-bit_in
+unfolding place_bit
+returns-else-bit_in c =
+    let white : c.bit_in.result ≡ false = c.if-bit_in.false in
+    ap digit_of (sym white ∙ rw c.from-column.ensures at c.bit_in.ensures)

@@ -12,7 +12,7 @@ loop-k-preserved c =
     let shown = λ (h : ℕ). digit_of (bit c.args.map.now (record { h = pos h; v = pos c.args.row })) in
     record {
       digits = c.push.ensures.items ∙ ap (λ (l : List ℕ). l ++ c.digit.result ∷ []) c.loop-k.invariant.digits
-          ∙ ap (λ (d : ℕ). map shown (range_with_len from c.loop-k.k) ++ d ∷ []) c.digit.ensures
+          ∙ ap (λ (d : ℕ). map shown (range_with_len from c.loop-k.k) ++ d ∷ []) (c.digit.ensures ∙ ap digit_of (c.row-words.ensures.bits (from + c.loop-k.k) (omega arith)))
           ∙ sym (map-range_with_len_more shown from c.loop-k.k (from + c.loop-k.k) refl);
       len = omega arith;
     }

@@ -1,4 +1,4 @@
-use Rattle.std.proofs.Common.{codes, arith}
+use Rattle.std.proofs.Common.{◌≡◌, ◌+◌, ◌/◌, codes, arith, rules}
 use Rattle.std.specs.List.{flat_map, range_with_len}
 use Rattle.bit_map.specs.Bits.{bit}
 use Rattle.screen_pbm.specs.Pbm.{head_text, row_bytes, p4}
@@ -13,30 +13,32 @@ returns-in_err-write_head g c =
     let head = head_text (codes "P4") map.width map.height in
     Sends-exit_first _ _ c.from_residual.result c.in_err-write_head.field-0.0 head
     (flat_map (row_bytes map.width (bit map)) (range_with_len 0 map.height))
-    c.from_residual.ensures.1 (rw (c.width_of.ensures, c.height_of-height.ensures) at c.in_err-write_head.ensures)
+    c.from_residual.ensures.1 (rw (c.width_of-width.ensures, c.height_of-height.ensures) at c.in_err-write_head.ensures)
 
 pub returns-in_err-send : goal.returns-in_err-send
 unfolding p4
 returns-in_err-send g c =
     let map = c.args.map.now in
+    let count : c.from.result ≡ (map.width + 7) / 8 = search rules in
     let head = head_text (codes "P4") map.width map.height in
     Sends-after _ _ _ c.from_residual-in_err-send.result head _
-    (rw (c.width_of.ensures, c.height_of-height.ensures) at c.in_ok-write_head.ensures)
+    (rw (c.width_of-width.ensures, c.height_of-height.ensures) at c.in_ok-write_head.ensures)
     (Sends-range_exit _ _ _ c.from_residual-in_err-send.result c.in_err-send.field-0.0
     (row_bytes map.width (bit map)) map.height c.loop-row.row (omega arith)
     c.from_residual-in_err-send.ensures.1 c.loop-row.invariant
-    (rw (← c.row_of-bytes.ensures, ← c.as_slice.ensures.value) c.in_err-send.ensures))
+    (rw (← c.row_of-bytes.ensures) (rw count at c.in_err-send.ensures)))
 
 pub loop-row-preserved : goal.loop-row-preserved
 loop-row-preserved g c =
     let map = c.args.map.now in
+    let count : c.from.result ≡ (map.width + 7) / 8 = search rules in
     Sent-range_more _ _ _ (row_bytes map.width (bit map)) c.loop-row.row c.loop-row.invariant
-    (rw (← c.row_of-bytes.ensures, ← c.as_slice.ensures.value) c.in_ok-send.ensures)
+    (rw (← c.row_of-bytes.ensures) (rw count at c.in_ok-send.ensures))
 
 pub returns : goal.returns
 unfolding p4
 returns g c =
     let map = c.args.map.now in
     Sent-trans _ _ _ (head_text (codes "P4") map.width map.height) _
-    (rw (c.width_of.ensures, c.height_of-height.ensures) at c.in_ok-write_head.ensures)
+    (rw (c.width_of-width.ensures, c.height_of-height.ensures) at c.in_ok-write_head.ensures)
     (Sent-range_end _ _ (row_bytes map.width (bit map)) map.height c.loop-row.row (omega arith) c.loop-row.invariant)

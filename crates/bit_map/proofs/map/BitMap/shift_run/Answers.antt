@@ -87,10 +87,8 @@ move_run-requires-clause-source_in c =
 
 pub move_run-requires-clause-near : goal.move_run-requires-clause-near
 move_run-requires-clause-near c =
-    let fits = fits_in c.args.self.now c.self.inside.words.items c.args.v c.args.left c.args.right c.place-place.result c.columns_between-count.result (run_on c) in
-    let from = source_fits c.args.self.now c.self.inside.words.items c.args.v c.args.left c.args.right c.args.distance c.place-place.result c.place-source.result c.columns_between-count.result (run_on c) c.requires (source_is c) in
     let few = few_words c.self.inside.width c.self.inside.height c.self.inside.words.items c.self.invariant in
-    (omega (arith, fits, few), omega (arith, from, few))
+    rw c.as_mut_slice.ensures.value (omega (arith, few))
 
 pub returns-then-left-right-clause-bits : goal.returns-then-left-right-clause-bits
 returns-then-left-right-clause-bits c =

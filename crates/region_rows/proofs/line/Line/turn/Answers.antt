@@ -27,7 +27,7 @@ returns-clause-turn c = λ f s.
     let from = first.value in
     let to = last.value in
     let low : l.base ≤ n = omega (arith, ints) in
-    let small : n - l.base ≤ 32768 = omega (arith, ints) in
+    let small : n - l.base ≤ 8192 = omega (arith, ints) in
     let cast = cast_small (n - l.base) small in
     let fits : SFits w32 (l.left +ℤ pos (n - l.base)) = column_fits l.left c.args.limit (n - l.base) fits_l fits_limit (omega (arith, ints)) in
     rw cast (simp to_z-of_z (turn_from _ l f c.args.at c.args.limit (l.left +ℤ pos (n - l.base)) n left order right (omega (arith, ints)) (omega (arith, ints)) (omega (arith, ints)) (rw from at c.next_bit-found.ensures.none) (rw to at c.next_bit-found.ensures.here) s))

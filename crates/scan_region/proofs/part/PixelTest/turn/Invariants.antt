@@ -1,5 +1,5 @@
 use Rattle.std.proofs.Common.{◌≡◌, ℤ, ◌≤ℤ◌, ◌<ℤ◌}
-use borrow.Author.Gap.{gap}
+use Rattle.region_rows.specs.Counts.{count_to}
 use Rattle.scan_region.specs.Parts.{test_set}
 use Rattle.scan_region.proofs.part.PixelTest.turn.Given as goal
 
@@ -10,6 +10,5 @@ invariant-loop-x l = record {
   steady : (z : ℤ) → l.at ≤ℤ z → z <ℤ l.x → test_set l.self (record { h = z; v = l.v }) ≡ test_set l.self (record { h = l.at; v = l.v });
 }
 
--- proposed from the loop's first test
 abbrev pub decreases-loop-x : goal.decreases-loop-x
-decreases-loop-x l = gap l.x l.limit
+decreases-loop-x l = count_to l.x l.limit

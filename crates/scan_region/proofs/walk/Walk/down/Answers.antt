@@ -16,7 +16,7 @@ returns-clause-walk c =
     let g1 : Goes w.words c.down.new.words w.first c.down.new.self c.args.left w.right c.args.v 0 s.after_first = record { part_is = d1.part; apart = λ k o. d1.apart w.right 0 s.after_first k s.first o; before = s.first; fit = d1.fit w.right 0 s.after_first s.first } in
     let g2 : Goes c.down.new.words c.down-2.new.words w.second c.down-2.new.self c.args.left w.right c.args.v s.after_first s.after_second = record { part_is = d2.part; apart = λ k o. d2.apart w.right s.after_first s.after_second k s.second o; before = s.second; fit = d2.fit w.right s.after_first s.after_second s.second } in
     let g3 : Goes c.down-2.new.words c.down-3.new.words w.third c.down-3.new.self c.args.left w.right c.args.v s.after_second s.after_third = record { part_is = d3.part; apart = λ k o. d3.apart w.right s.after_second s.after_third k s.third o; before = s.third; fit = d3.fit w.right s.after_second s.after_third s.third } in
-    let g4 : Goes c.down-3.new.words c.down-4.new.words w.hole c.down-4.new.self c.args.left w.right c.args.v s.after_third 32768 = record { part_is = d4.part; apart = λ k o. d4.apart w.right s.after_third 32768 k s.hole o; before = s.hole; fit = d4.fit w.right s.after_third 32768 s.hole } in
+    let g4 : Goes c.down-3.new.words c.down-4.new.words w.hole c.down-4.new.self c.args.left w.right c.args.v s.after_third 8192 = record { part_is = d4.part; apart = λ k o. d4.apart w.right s.after_third 8192 k s.hole o; before = s.hole; fit = d4.fit w.right s.after_third 8192 s.hole } in
     let o = c.requires.order in
     simp to_z-of_z (λ t r. walk_of w _ t r
     (gone_first w _ _ _ _ _ _ _ _ c.args.left c.args.v s g1 g2 g3 g4 o r.first_set r.first)
@@ -28,7 +28,7 @@ pub down-requires-4-clause-fit : goal.down-requires-4-clause-fit
 down-requires-4-clause-fit c =
     let s = c.requires.sides in
     let fits_left = c.ranges.left in
-    simp to_z-of_z (_, s.after_third, 32768, s.hole)
+    simp to_z-of_z (_, s.after_third, 8192, s.hole)
 
 pub returns-clause-sides : goal.returns-clause-sides
 returns-clause-sides c =

@@ -16,7 +16,7 @@ returns-then-self-to-clause-walk c =
     (ended w.words w.first left w.right 0 s.after_first r.first_set w.v w.at c.args.to s.first over r.first)
     (ended w.words w.second left w.right s.after_first s.after_second r.second_set w.v w.at c.args.to s.second over r.second)
     (ended w.words w.third left w.right s.after_second s.after_third r.third_set w.v w.at c.args.to s.third over r.third)
-    (ended w.words w.hole left w.right s.after_third 32768 r.hole_set w.v w.at c.args.to s.hole over r.hole))
+    (ended w.words w.hole left w.right s.after_third 8192 r.hole_set w.v w.at c.args.to s.hole over r.hole))
 
 pub returns-clause-walk : goal.returns-clause-walk
 returns-clause-walk c =

@@ -1,6 +1,6 @@
 use Rattle.std.proofs.Common.{◌≡◌, ◌≤◌, ◌+◌, ◌-◌, ◌%◌, ℕ, refl, arith}
 use Rattle.bit_map.proofs.MoveLemmas.{moved_down, moved_up}
-use Rattle.bit_map.proofs.moves.move_run.Goals as goal
+use Rattle.bit_map.proofs.moves.move_parts.Goals as goal
 
 -- head, middle and tail are the whole
 whole : (place head count : ℕ) → head ≤ count → place + (count - (count - head) % 64) ≡ place + head + (count - (count - head) % 64 - head)
