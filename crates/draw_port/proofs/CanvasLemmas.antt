@@ -77,22 +77,6 @@ placed_drawn c rect area value old new shared drawn = Draws-where _ _ value old 
     one : (p : Point) → on_map old p ≡ true → (rect_holds area p && cut_holds c.cut.now p) ≡ (canvas_holds c p && rect_holds rect (canvas_point c p))
     one p on = ap (λ b. b && cut_holds c.cut.now p) (shared p) ∙ turned (rect_holds c.clip p) (rect_holds rect (canvas_point c p)) (cut_holds c.cut.now p)
 
--- a set of pixels that is drawn in a rectangle around it is drawn on the canvas
-pub boxed_drawn : (c : Canvas) (box : Rect) (holds : PixelSet) (value : Point → Bool → Bool) (old new : Bits) → old.width ≤ 32767 → old.height ≤ 32767 → is_near_origin c.origin ≡ true
-    → Encloses box holds
-    → Draws (λ p. canvas_holds c p && rect_holds box (canvas_point c p)) (λ p d. cond (holds (canvas_point c p)) (value (canvas_point c p) d) d) old new
-    → Draws (λ p. canvas_holds c p && holds (canvas_point c p)) (λ p d. value (canvas_point c p) d) old new
-boxed_drawn c box holds value old new w h near around drawn = Draws-same _ _ _ _ old new one drawn
-  where
-    table : (k inside t : Bool) (x d : Bool) → (t ≡ true → inside ≡ true) → cond (k && inside) (cond t x d) d ≡ cond (k && t) x d
-    table false inside t x d f = refl
-    table true true t x d f = refl
-    table true false true x d f = absurd (cc (f refl))
-    table true false false x d f = refl
-
-    one : (p : Point) (d : Bool) → on_map old p ≡ true → cond (canvas_holds c p && rect_holds box (canvas_point c p)) (cond (holds (canvas_point c p)) (value (canvas_point c p) d) d) d ≡ cond (canvas_holds c p && holds (canvas_point c p)) (value (canvas_point c p) d) d
-    one p d on = table (canvas_holds c p) (rect_holds box (canvas_point c p)) (holds (canvas_point c p)) (value (canvas_point c p) d) d (around (canvas_point c p) (seen_near old p c.origin w h near on))
-
 in_table : (k t : Bool) (x d : Bool) → cond (k && t) x d ≡ cond k (cond t x d) d
 in_table true t x d = refl
 in_table false t x d = refl

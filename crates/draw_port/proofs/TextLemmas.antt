@@ -1,10 +1,10 @@
 -- Drawing a text tile by tile.
-use Rattle.std.proofs.Common.{◌≡◌, ℕ, ◌<◌, ◌≤◌, Option, ℤ, pos, negsuc, ◌-ℤ◌, ◌+ℤ◌, ◌≤ℤ◌, ◌<ℤ◌, Bool, true, false, ◌&&◌, ◌||◌, cond, List, refl, ap, sym, ◌∙◌, arith}
+use Rattle.std.proofs.Common.{◌≡◌, ℕ, ◌≤◌, Option, ℤ, pos, negsuc, ◌-ℤ◌, ◌+ℤ◌, ◌≤ℤ◌, ◌<ℤ◌, Bool, true, false, ◌&&◌, ◌||◌, cond, List, refl, ap, sym, ◌∙◌, arith}
 use Rattle.std.specs.Int.{int_max}
 use Rattle.std.proofs.lemmas.Int.{ints, clamps}
 use Rattle.tb_geom.specs.declared.point.Point.{Point}
 use Rattle.tb_geom.specs.declared.rect.Rect.{Rect}
-use Rattle.tb_geom.specs.Points.{PixelSet, minus}
+use Rattle.tb_geom.specs.Points.{minus}
 use Rattle.tb_geom.specs.Rects.{between, rect_holds}
 use Rattle.tb_geom.specs.Pixels.{Pixels}
 use Rattle.tb_geom.proofs.RectLemmas.{sides_of}

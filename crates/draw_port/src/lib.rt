@@ -14,7 +14,8 @@
 //! which value, by the one word `Draws`, and that all else stayed. All go through one function, which
 //! gives the pixels of a rectangle that the cut leaves the value of a `Rule` in the canvas's own
 //! coordinates, by words of 64 pixels. An operation's shape is drawn by the rule of its shade or of its bits:
-//! a line as a rectangle, a frame side by side, a text glyph by glyph. Of what a clip or a region bounds, its
+//! a line as a rectangle, a frame side by side, a text by tiles of 512 columns and 16 rows, each of them made
+//! by one pass over its characters. Of what a clip or a region bounds, its
 //! spans are drawn, those that are equal in rows that follow each other as one rectangle.
 #![tactic(auto)]
 

@@ -92,7 +92,7 @@ impl Canvas<'_> {
     }
 
     /// Draws an operation: each pixel of the canvas gets what the operation makes of it. Only pixels that
-    /// its clip leaves are looked at; a text is drawn glyph by glyph, and a frame side by side.
+    /// its clip leaves are looked at; a text is drawn tile by tile, and a frame side by side.
     pub fn paint(&mut self, op: &Op)
         ensures same_map { self.new.map.ghost_name ≡ self.old.map.ghost_name }
         ensures same_frame { SameFrame self.old self.new }

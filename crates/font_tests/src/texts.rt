@@ -167,3 +167,16 @@ fn the_box_of_a_glyph(rt: HostRuntime) -> Result<(), Fail> {
     );
     Ok(())
 }
+
+#[test]
+fn a_tile_of_a_text(rt: HostRuntime) -> Result<(), Fail> {
+    let record = with_word(with_word(SMALL, 4, 0xFFFE), 18, 0x0103);
+    let font = Font::from_bytes(rt.alloc(), &record)?;
+    let tile = font.tile(b"AA", -2, -2);
+    assert!(rt; !tile.bit(0, 0) && tile.bit(1, 0) && tile.bit(5, 1) && !tile.bit(1, -1));
+    assert!(rt; tile.word(1, 0) / 2_u64.pow(63) == 1 && tile.word(-62, 0) % 2 == 1);
+    assert!(rt; tile.word(0, 16) == 0 && tile.word(512, 0) == 0);
+    let around = font.text_rect(b"AA");
+    assert!(rt; around.contains(Point { h: -1, v: -2 }) && around.contains(Point { h: 3, v: -1 }));
+    Ok(())
+}

@@ -13,7 +13,8 @@
 //! What a text has is a set of pixels (`text_holds`): the pen starts at a point on the baseline and
 //! moves by the width of each character, and a pixel is in the text where some glyph has it. So where
 //! glyphs overlap, a pixel is still in the text once. Nothing here draws: whoever does asks
-//! `Font::text_pixel`, or goes from glyph to glyph by `Font::glyph` and `Font::glyph_pixel`.
+//! `Font::text_pixel`, or takes a `Tile`, which is the pixels that a text has of 512 columns by 16 rows. A
+//! tile is made by one pass over the characters: each row of a glyph goes over the words of the tile's row.
 //!
 //! The built-in font is a record in the source (`built_in`), and its contract is the table of its
 //! glyphs (`IsBuiltIn`): the two are compared bit by bit, in the proof.

@@ -1,4 +1,4 @@
-use Rattle.std.proofs.Common.{◌<◌, ◌∙◌, rules, arith}
+use Rattle.std.proofs.Common.{◌<◌, rules, arith}
 use Rattle.bit_map.proofs.ImageLemmas.{few_bytes, byte_more, bytes_all}
 use Rattle.bit_map.proofs.image.eight_within.Goals as goal
 

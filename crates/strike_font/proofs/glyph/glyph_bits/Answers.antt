@@ -1,8 +1,7 @@
-use Rattle.std.proofs.Common.{◌≡◌, ◌∙◌, ap, sym, true, false, ◌≤◌, ◌+◌, ◌≤ℤ◌, ◌+ℤ◌, subst, pos, nat_abs, SFits, w64, w32, rules, arith}
+use Rattle.std.proofs.Common.{◌≡◌, ◌∙◌, sym, true, false, ◌≤◌, ◌+ℤ◌, pos, SFits, w64, w32, rules, arith}
 use Rattle.std.proofs.lemmas.Int.{ints, to_z-of_z}
 use Rattle.bit_map.specs.Bits.{is_below}
-use Rattle.bit_map.specs.Words.{bit_in}
-use Rattle.bit_map.proofs.WordLemmas.{bit_in-and, bit_in-none}
+use Rattle.bit_map.proofs.WordLemmas.{bit_in-none}
 use Rattle.strike_font.specs.Record.{height}
 use Rattle.strike_font.specs.Text.{glyph_bit}
 use Rattle.strike_font.proofs.WordsLemmas.{row_none, near_column, near_bit, below_row}

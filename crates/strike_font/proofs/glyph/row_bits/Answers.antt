@@ -1,5 +1,5 @@
 use Rattle.std.proofs.Common.{◌≡◌, ◌∙◌, true, ◌+ℤ◌, pos, refl, SFits, w32, rules}
-use Rattle.std.proofs.lemmas.Int.{ints, to_z-of_z}
+use Rattle.std.proofs.lemmas.Int.{to_z-of_z}
 use Rattle.bit_map.specs.Bits.{is_below}
 use Rattle.bit_map.specs.Words.{bit_in}
 use Rattle.bit_map.proofs.WordLemmas.{bit_in-and}

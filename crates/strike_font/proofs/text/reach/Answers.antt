@@ -1,7 +1,6 @@
-use Rattle.std.proofs.Common.{◌≡◌, ◌≤ℤ◌, SFits, w32, ap, rules, arith}
-use Rattle.std.proofs.lemmas.Int.{ints, to_z-of_z}
+use Rattle.std.proofs.Common.{SFits, w32, ap, rules, arith}
+use Rattle.std.proofs.lemmas.Int.{to_z-of_z}
 use Rattle.tb_geom.specs.declared.rect.Rect.{Rect}
-use Rattle.strike_font.specs.Text.{glyph_rect}
 use Rattle.strike_font.proofs.TileLemmas.{reach_more}
 use Rattle.strike_font.proofs.text.reach.Goals as goal
 

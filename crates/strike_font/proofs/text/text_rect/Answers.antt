@@ -1,4 +1,4 @@
-use Rattle.std.proofs.Common.{◌<◌, ◌∙◌, ◌-ℤ◌, ◌+ℤ◌, ℤ, pos, ap, refl, SFits, w32, rules}
+use Rattle.std.proofs.Common.{◌<◌, ◌∙◌, ◌-ℤ◌, ◌+ℤ◌, pos, ap, SFits, w32, rules}
 use Rattle.std.proofs.lemmas.Int.{ints, to_z-of_z}
 use Rattle.strike_font.specs.Record.{signed}
 use Rattle.strike_font.proofs.TileLemmas.{in_text_rect}

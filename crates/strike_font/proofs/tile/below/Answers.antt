@@ -1,5 +1,5 @@
 use Rattle.std.proofs.Common.{◌≡◌, ◌∙◌, ◌≤ℤ◌, ◌-ℤ◌, ℤ, pos, negsuc, nat_abs, refl, SFits, w64, rules, arith}
-use Rattle.std.proofs.lemmas.Int.{ints, clamps, to_z-of_z}
+use Rattle.std.proofs.lemmas.Int.{ints, to_z-of_z}
 use Rattle.strike_font.proofs.tile.below.Goals as goal
 
 abs_is : (x : ℤ) → pos 0 ≤ℤ x → pos (nat_abs x) ≡ x

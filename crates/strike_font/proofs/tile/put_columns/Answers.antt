@@ -1,4 +1,4 @@
-use Rattle.std.proofs.Common.{◌≡◌, ◌<◌, ◌≤◌, ◌*◌, ◌+◌, ◌∙◌, ◌≤ℤ◌, ◌<ℤ◌, ◌+ℤ◌, pos, SFits, w64, rules, arith}
+use Rattle.std.proofs.Common.{SFits, w64, rules}
 use Rattle.std.proofs.lemmas.Int.{to_z-of_z}
 use Rattle.strike_font.proofs.TileLemmas.{columns_none, columns_more, columns_all}
 use Rattle.strike_font.proofs.tile.put_columns.Goals as goal

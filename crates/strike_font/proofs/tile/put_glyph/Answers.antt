@@ -1,4 +1,4 @@
-use Rattle.std.proofs.Common.{◌≡◌, ◌/◌, ◌%◌, ◌∙◌, ◌||◌, ◌+ℤ◌, pos, ap, refl, SFits, w64, w32, rules}
+use Rattle.std.proofs.Common.{◌/◌, ◌%◌, ◌∙◌, ◌||◌, ◌+ℤ◌, pos, ap, refl, SFits, w64, w32, rules}
 use Rattle.std.proofs.lemmas.Int.{to_z-of_z}
 use Rattle.bit_map.specs.Words.{place_bit}
 use Rattle.strike_font.specs.Record.{signed}

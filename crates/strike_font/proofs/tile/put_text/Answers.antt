@@ -1,4 +1,4 @@
-use Rattle.std.proofs.Common.{◌≡◌, ◌/◌, ◌%◌, ◌∙◌, ◌+ℤ◌, pos, SFits, w64, rules, arith}
+use Rattle.std.proofs.Common.{◌/◌, ◌+ℤ◌, pos, SFits, w64, rules, arith}
 use Rattle.std.proofs.lemmas.Int.{to_z-of_z}
 use Rattle.strike_font.proofs.TileLemmas.{text_more}
 use Rattle.strike_font.proofs.tile.put_text.Goals as goal

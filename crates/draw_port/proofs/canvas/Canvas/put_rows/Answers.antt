@@ -1,4 +1,4 @@
-use Rattle.std.proofs.Common.{◌∙◌, ◌≤ℤ◌, ◌<ℤ◌, pos, refl, SFits, w32, rules, arith}
+use Rattle.std.proofs.Common.{◌∙◌, ◌≤ℤ◌, refl, SFits, w32, rules, arith}
 use Rattle.std.proofs.lemmas.Int.{ints, clamps, to_z-of_z}
 use Rattle.draw_port.proofs.CanvasLemmas.{SameFrame-none, SameFrame-then}
 use Rattle.draw_port.proofs.TextLemmas.{no_rows, rows_next, next_drawn, all_rows}

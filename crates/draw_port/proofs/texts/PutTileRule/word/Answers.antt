@@ -1,4 +1,4 @@
-use Rattle.std.proofs.Common.{◌<◌, ◌∙◌, ◌+ℤ◌, ◌-ℤ◌, pos, ap, cond, SFits, w32, w64, rules, arith}
+use Rattle.std.proofs.Common.{◌<◌, ◌∙◌, ◌+ℤ◌, pos, ap, cond, SFits, w32, w64, rules, arith}
 use Rattle.std.proofs.lemmas.Int.{to_z-of_z}
 use Rattle.bit_map.specs.Words.{bit_in}
 use Rattle.strike_font.specs.Tiles.{tile_bit}

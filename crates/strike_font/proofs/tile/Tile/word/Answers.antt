@@ -1,6 +1,5 @@
-use Rattle.std.proofs.Common.{◌≡◌, ◌<◌, ◌*◌, ◌^◌, get_or, ◌∙◌, ◌≤ℤ◌, ◌<ℤ◌, ◌+ℤ◌, ℕ, pos, negsuc, nat_abs, ap, sym, SFits, w64, w32, rules, arith}
+use Rattle.std.proofs.Common.{◌<◌, ◌*◌, ◌^◌, get_or, ◌∙◌, ◌≤ℤ◌, ◌<ℤ◌, ◌+ℤ◌, pos, negsuc, nat_abs, ap, sym, SFits, w64, w32, rules, arith}
 use Rattle.std.proofs.lemmas.Int.{ints, to_z-of_z}
-use Rattle.bit_map.specs.Words.{bit_in}
 use Rattle.bit_map.proofs.WordLemmas.{bit_in-and, bit_in-none}
 use Rattle.strike_font.specs.Tiles.{tile_bit}
 use Rattle.strike_font.proofs.TileLemmas.{tile_above, tile_under, tile_before, tile_after, tile_left, tile_right}
