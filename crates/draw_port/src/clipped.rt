@@ -45,7 +45,7 @@ impl Canvas<'_> {
         self.draw_spans(cut, reach.sect(rect), rule);
     }
 
-    /// A rectangle around all pixels of the canvas, in its own coordinates.
+    /// A rectangle around all pixels that the canvas has on its map, in its own coordinates.
     pub(crate) fn reach(&self) -> Rect
         ensures around { (p : Point) → on_map self.now.map.now p ≡ true → canvas_holds self.now p ≡ true → rect_holds result (canvas_point self.now p) ≡ true }
         ensures limits { (self.now.map.now.width ≤ 32767) × (self.now.map.now.height ≤ 32767) }
@@ -57,8 +57,8 @@ impl Canvas<'_> {
         placed(self.clip.sect(self.map.bounds()), back)
     }
 
-    /// The same, by going along all rows of the rectangle. Equal spans in rows that follow each other are
-    /// drawn as one block.
+    /// Does what `draw_in` does, by going along all rows of the rectangle. Spans that are equal in rows that
+    /// follow each other are drawn as one block.
     fn draw_spans<R: Rule>(&mut self, cut: &Cut, rect: Rect, rule: &R)
         ensures same_map { self.new.map.ghost_name ≡ self.old.map.ghost_name }
         ensures same_frame { SameFrame self.old self.new }
