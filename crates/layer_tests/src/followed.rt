@@ -1,9 +1,9 @@
 //! The tests: steps in a row, after each of which the library and the model agree.
 
-use crate::plain_desk::Painting;
-use crate::plain_steps::Step;
 use crate::steps::Desk;
 use def_iface::{Part, Size};
+use plain_layers::desk::Painting;
+use plain_layers::steps::Step;
 use std::alloc::Global;
 use std::test::Fail;
 use tb_geom::{Rect, Refusal};

@@ -3,14 +3,14 @@ ghost use Rattle.std.specs.Prelude.{◌<◌, IfOk, length};
 ghost use Rattle.window_mgr.specs.Whole.{IsWholeManager};
 ghost use Rattle.window_update.specs.WholeUpdates.{IsWholeUpdates};
 
-use crate::plain_desk::{Owner, Painting, PlainDesk, PlainLayer, PlainWindow, seen_from};
-use crate::plain_pixels::Plain;
-use crate::plain_steps::{Effect, Step};
 use bit_map::{BitMap, Mode, Pattern};
 use def_iface::{Defined, Part, Size, Stocked, Taken, WindowDef, WindowStock};
 use desk_call::{Activity, PictureRef};
 use draw_port::{Op, Picture, Shade, Shape as Form};
 use op_ref::{BytesRef, OpRef, ShapeRef};
+use plain_layers::desk::{Owner, Painting, PlainDesk, PlainLayer, PlainWindow, seen_from};
+use plain_layers::pixels::Plain;
+use plain_layers::steps::{Effect, Step};
 use std::alloc::Global;
 use std_wdef::{StdWindow, Variation};
 use strike_font::Font;

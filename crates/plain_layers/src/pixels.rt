@@ -1,7 +1,7 @@
 //! The pixels of the model: what each shows, and whether it is to be redrawn.
 
-use crate::plain_desk::{COLUMNS, Owner, PlainDesk, SCREEN, seen_from};
-use crate::plain_steps::Effect;
+use crate::desk::{COLUMNS, Owner, PlainDesk, SCREEN, seen_from};
+use crate::steps::Effect;
 use def_iface::Part;
 use desk_call::Layers as Kind;
 use std::alloc::{AllocError, Global};
@@ -56,7 +56,7 @@ impl Plain {
         let mut stale = Vec::new(alloc);
         for v in 0..16 {
             for h in 0..COLUMNS {
-                black.push(desk.bit(Owner::Desktop, point!(h, v)))?;
+                black.push(desk.bit(Owner::Desktop, Point { h, v }))?;
                 stale.push(false)?;
             }
         }
@@ -131,7 +131,7 @@ impl Plain {
         let mut stale = Vec::new(alloc);
         for v in 0..16 {
             for h in 0..COLUMNS {
-                let (is_black, is_stale) = self.pixel(&desk, effect, point!(h, v));
+                let (is_black, is_stale) = self.pixel(&desk, effect, Point { h, v });
                 black.push(is_black)?;
                 stale.push(is_stale)?;
             }

@@ -1,8 +1,8 @@
 //! What calls change of the model's desk.
 ghost use Rattle.std.specs.Prelude.{◌<◌};
 
-use crate::plain_desk::{
-    Owner, Painting, PlainDesk, PlainLayer, PlainWindow, moved, moved_box, seen_from,
+use crate::desk::{
+    NOTHING, Owner, Painting, PlainDesk, PlainLayer, PlainWindow, moved, moved_box, seen_from,
 };
 use def_iface::{Part, Size};
 use desk_call::Layers as Kind;
@@ -61,7 +61,7 @@ impl PlainWindow {
             Step::Replace(_, painting, origin) => {
                 self.painting = painting;
                 self.origin = origin;
-                self.inverted = rect!(0, 0, 0, 0);
+                self.inverted = NOTHING;
             }
             Step::Scroll(_, by) => self.origin = moved(self.origin, by),
             Step::Invert(_, rect) => self.inverted = rect,
@@ -75,7 +75,7 @@ impl PlainWindow {
                 part,
                 there: false,
                 shown: false,
-                rect: rect!(0, 0, 0, 0),
+                rect: NOTHING,
             }),
             _ => {}
         }

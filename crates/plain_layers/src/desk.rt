@@ -4,7 +4,28 @@ use def_iface::{Part, Size};
 use tb_geom::{Point, Rect};
 
 /// The pixels of the screen, which has no menu bar.
-pub const SCREEN: Rect = rect!(0, 0, 24, 16);
+pub const SCREEN: Rect = Rect {
+    left: 0,
+    top: 0,
+    right: 24,
+    bottom: 16,
+};
+
+/// No pixel.
+pub const NOTHING: Rect = Rect {
+    left: 0,
+    top: 0,
+    right: 0,
+    bottom: 0,
+};
+
+/// The pixels in which a picture paints, in its own coordinates.
+const PAINTED: Rect = Rect {
+    left: 0,
+    top: 0,
+    right: 10,
+    bottom: 10,
+};
 
 /// As many columns as the screen has.
 pub const COLUMNS: i32 = 24;
@@ -81,28 +102,28 @@ fn is_even(coordinate: i32) -> bool {
 
 /// A window's content with the frame around it, in the window's own coordinates.
 fn box_of(window: &PlainWindow) -> Rect {
-    rect!(
-        -1,
-        -1,
-        window.size.width.saturating_add(1),
-        window.size.height.saturating_add(1)
-    )
+    Rect {
+        left: -1,
+        top: -1,
+        right: window.size.width.saturating_add(1),
+        bottom: window.size.height.saturating_add(1),
+    }
 }
 
 /// A rectangle of a window's picture, on the screen.
 pub fn moved_box(rect: Rect, window: &PlainWindow) -> Rect {
     let by = moved(window.place, window.origin);
-    rect!(
-        rect.left.saturating_add(by.h),
-        rect.top.saturating_add(by.v),
-        rect.right.saturating_add(by.h),
-        rect.bottom.saturating_add(by.v)
-    )
+    Rect {
+        left: rect.left.saturating_add(by.h),
+        top: rect.top.saturating_add(by.v),
+        right: rect.right.saturating_add(by.h),
+        bottom: rect.bottom.saturating_add(by.v),
+    }
 }
 
 impl Painting {
     fn bit(self, point: Point) -> bool {
-        if !rect!(0, 0, 10, 10).contains(point) {
+        if !PAINTED.contains(point) {
             return false;
         }
         match self {
