@@ -6,7 +6,7 @@ use Rattle.std.proofs.lemmas.Int.{ints, clamps}
 use Rattle.bit_map.specs.Bits.{is_below}
 use Rattle.bit_map.specs.Patterns.{bit_of}
 use Rattle.bit_map.specs.Words.{bit_in}
-use Rattle.bit_map.proofs.WordLemmas.{bit_in-right}
+use Rattle.bit_map.proofs.WordLemmas.{bit_in-left, bit_in-right}
 use Rattle.strike_font.specs.declared.glyph.Glyph.{Glyph}
 use Rattle.strike_font.specs.Record.{words_of_row, height}
 use Rattle.strike_font.specs.Text.{image_bit, glyph_bit}
@@ -21,27 +21,35 @@ strike_bit font column row w k e =
     let at : 26 + row * (2 * w) + column / 8 + (column % 8 + k) / 8 ≡ 26 + row * (2 * words_of_row font) + (column + k) / 8 = ap (λ n. 26 + row * (2 * n) + column / 8 + (column % 8 + k) / 8) e ∙ (let there : 26 + row * (2 * words_of_row font) + column / 8 + (column % 8 + k) / 8 ≡ 26 + row * (2 * words_of_row font) + (column + k) / 8 = omega (arith, q) in there) in
     λ i. bit_of (get_or font (at i) 0) (r i)
 
-pub left_bits : (font : List ℕ) (first row far word k : ℕ) (start : ℤ) → start <ℤ pos 0 → far ≡ nat_abs start
-    → ((j : ℕ) → j < 64 → bit_in word j ≡ image_bit font (first + j) row)
-    → k < 64 → pos 0 ≤ℤ (start +ℤ pos k) → bit_in (word / 2 ^ (min far 63)) k ≡ image_bit font (first + nat_abs (start +ℤ pos k)) row
-left_bits font first row far word k (pos n) less is read low inside = absurd (omega (arith, ints))
-left_bits font first row far word k (negsuc n) less is read low inside =
+-- the same where eight bytes have it
+pub short_bit : (font : List ℕ) (column row w word k : ℕ) → w ≡ words_of_row font → column % 8 + k < 64
+    → ((j : ℕ) → j < 64 → bit_in word j ≡ bit_of (get_or font (26 + row * (2 * w) + column / 8 + j / 8) 0) (j % 8))
+    → bit_in (word * 2 ^ (column % 8) % 2 ^ 64) k ≡ image_bit font (column + k) row
+short_bit font column row w word k e low read =
+    let turned : k + column % 8 ≡ column % 8 + k = omega arith in
+    bit_in-left word (column % 8) k (omega (arith, low)) ∙ ap (bit_in word) turned ∙ read (column % 8 + k) low ∙ strike_bit font column row w k e
+
+pub left_bits : (font : List ℕ) (first columns row far word k : ℕ) (start : ℤ) → start <ℤ pos 0 → far ≡ nat_abs start
+    → ((j : ℕ) → j < 64 → j < columns → bit_in word j ≡ image_bit font (first + j) row)
+    → k < 64 → pos 0 ≤ℤ (start +ℤ pos k) → (start +ℤ pos k) <ℤ pos columns → bit_in (word / 2 ^ (min far 63)) k ≡ image_bit font (first + nat_abs (start +ℤ pos k)) row
+left_bits font first columns row far word k (pos n) less is read low inside before = absurd (omega (arith, ints))
+left_bits font first columns row far word k (negsuc n) less is read low inside before =
     let past : n < k = omega (arith, ints, inside) in
     let f : far ≡ n + 1 = omega (arith, is) in
     let m : min far 63 ≡ n + 1 = omega (arith, f, past, low) in
     let there : nat_abs (negsuc n +ℤ pos k) ≡ k - (n + 1) = ap nat_abs (back n k past) in
-    ap (λ j. bit_in (word / 2 ^ j) k) m ∙ bit_in-right word (n + 1) k (omega (arith, past)) low ∙ read (k - (n + 1)) (omega (arith, low)) ∙ ap (λ j. image_bit font (first + j) row) (sym there)
+    ap (λ j. bit_in (word / 2 ^ j) k) m ∙ bit_in-right word (n + 1) k (omega (arith, past)) low ∙ read (k - (n + 1)) (omega (arith, low)) (omega (arith, ints, past, before)) ∙ ap (λ j. image_bit font (first + j) row) (sym there)
   where
     back : (n k : ℕ) → n < k → (negsuc n +ℤ pos k) ≡ pos (k - (n + 1))
     back n k past = omega (arith, ints, past)
 
-pub right_bits : (font : List ℕ) (first row far word k : ℕ) (start : ℤ) → pos 0 ≤ℤ start → far ≡ nat_abs start
-    → ((j : ℕ) → j < 64 → bit_in word j ≡ image_bit font (first + far + j) row)
-    → k < 64 → bit_in word k ≡ image_bit font (first + nat_abs (start +ℤ pos k)) row
-right_bits font first row far word k (pos n) low is read l =
+pub right_bits : (font : List ℕ) (first columns row far word k : ℕ) (start : ℤ) → pos 0 ≤ℤ start → far ≡ nat_abs start
+    → ((j : ℕ) → j < 64 → j < columns → bit_in word j ≡ image_bit font (first + far + j) row)
+    → k < 64 → (start +ℤ pos k) <ℤ pos columns → bit_in word k ≡ image_bit font (first + nat_abs (start +ℤ pos k)) row
+right_bits font first columns row far word k (pos n) low is read l before =
     let at : first + far + k ≡ first + (n + k) = omega (arith, is) in
-    read k l ∙ ap (λ j. image_bit font j row) at
-right_bits font first row far word k (negsuc n) low is read l = absurd (omega (arith, ints))
+    read k l (omega (arith, ints, before)) ∙ ap (λ j. image_bit font j row) at
+right_bits font first columns row far word k (negsuc n) low is read l before = absurd (omega (arith, ints))
 
 -- a glyph has no bit in a row that there is not
 pub row_none : (font : List ℕ) (g : Glyph) (column row : ℤ) → is_below (height font) row ≡ false → glyph_bit font g column row ≡ false
@@ -80,7 +88,7 @@ row_bits font g (pos k) row r bit held on is is_held read =
 
 -- ---- a column that is kept near
 
-below_z : (limit : ℕ) (x : ℤ) → is_below limit x ≡ true → (pos 0 ≤ℤ x) × (x <ℤ pos limit)
+pub below_z : (limit : ℕ) (x : ℤ) → is_below limit x ≡ true → (pos 0 ≤ℤ x) × (x <ℤ pos limit)
 below_z limit (pos n) e = let low : n < limit = grind (arith, nat_tests) in (omega (arith, ints), omega (arith, ints, low))
 below_z limit (negsuc n) e = absurd (cc)
 

@@ -126,31 +126,34 @@ pub fn glyph_pixel(bytes: &[u8], glyph: Glyph, x: i64, y: i64) -> bool
     glyph_bit(bytes, glyph, column, row)
 }
 
-/// 64 bits of a row of the strike, from a column on, the first at the high bit.
-#[tactic(auto, unfolding(crate::specs::Text::image_bit))]
-fn strike_word(bytes: &[u8], column: usize, row: u16) -> u64
+/// The first `columns` of 64 bits of a row of the strike, from a column on, the first at the high bit. The
+/// others may be any: so eight bytes do where there are few.
+fn strike_word(bytes: &[u8], column: usize, columns: u16, row: u16) -> u64
     requires font { IsFont bytes.now }
     requires near { column < 2 ^ 18 }
-    ensures { (k : ℕ) → k < 64 → bit_in result k ≡ image_bit bytes.now (column + k) row }
+    ensures { (k : ℕ) → k < 64 → k < columns → bit_in result k ≡ image_bit bytes.now (column + k) row }
 {
     let row_words = usize::from(word(bytes, 12));
     let place = 26 + usize::from(row) * (2 * row_words) + column / 8;
+    if columns <= 57 {
+        return bits_from(bytes, place, 0) << (column % 8);
+    }
     bits_from(bytes, place, column % 8)
 }
 
-/// 64 bits of a row of the strike, from so many columns right of a first one on. Those left of that one
-/// may be any.
-fn strike_from(bytes: &[u8], first: u16, start: i32, row: u16) -> u64
+/// 64 bits of a row of the strike, from so many columns right of a first one on. Those left of that one,
+/// and those past the first `columns` from there on, may be any.
+fn strike_from(bytes: &[u8], first: u16, columns: u16, start: i32, row: u16) -> u64
     requires font { IsFont bytes.now }
     requires near { start ≤ℤ pos 65536 }
-    ensures { (k : ℕ) → k < 64 → pos 0 ≤ℤ (start +ℤ pos k) → bit_in result k ≡ image_bit bytes.now (first + nat_abs (start +ℤ pos k)) row }
+    ensures { (k : ℕ) → k < 64 → pos 0 ≤ℤ (start +ℤ pos k) → (start +ℤ pos k) <ℤ pos columns → bit_in result k ≡ image_bit bytes.now (first + nat_abs (start +ℤ pos k)) row }
 {
     let first = usize::from(first);
     let far = start.unsigned_abs();
     if start < 0 {
-        strike_word(bytes, first, row) >> far.min(63)
+        strike_word(bytes, first, columns, row) >> far.min(63)
     } else {
-        strike_word(bytes, first + far as usize, row)
+        strike_word(bytes, first + far as usize, columns, row)
     }
 }
 
@@ -169,7 +172,7 @@ pub fn row_bits(bytes: &[u8], glyph: Glyph, start: i32, row: u16) -> u64
     requires row_in { row < height bytes.now }
     ensures { (k : ℕ) → k < 64 → bit_in result k ≡ glyph_bit bytes.now glyph (start +ℤ pos k) (pos row) }
 {
-    strike_from(bytes, glyph.first, start, row) & held(glyph.columns, start)
+    strike_from(bytes, glyph.first, glyph.columns, start, row) & held(glyph.columns, start)
 }
 
 /// The bits of 64 columns of a glyph in a row, from a column on; it has none outside its own.

@@ -4,7 +4,7 @@ use Rattle.bit_map.specs.Bits.{is_below}
 use Rattle.bit_map.specs.Words.{bit_in}
 use Rattle.bit_map.proofs.WordLemmas.{bit_in-and}
 use Rattle.strike_font.specs.Record.{height}
-use Rattle.strike_font.proofs.WordsLemmas.{row_bits, below_zero}
+use Rattle.strike_font.proofs.WordsLemmas.{row_bits, below_z}
 use Rattle.strike_font.proofs.glyph.row_bits.Goals as goal
 
 pub returns : goal.returns
@@ -16,4 +16,4 @@ returns c =
     let bits = simp to_z-of_z at c.strike_from.ensures in
     λ k low. bit_in-and c.strike_from.result c.held.result k
     ∙ row_bits c.args.bytes.now glyph (c.args.start +ℤ pos k) (pos c.args.row) c.args.row (bit_in c.strike_from.result k) (bit_in c.held.result k) on refl
-    (held k low) (λ e. bits k low (below_zero glyph.columns (c.args.start +ℤ pos k) e))
+    (held k low) (λ e. let both = below_z glyph.columns (c.args.start +ℤ pos k) e in bits k low both.0 both.1)

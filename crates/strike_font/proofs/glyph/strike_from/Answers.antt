@@ -9,5 +9,5 @@ returns-then-start-lt0 c =
     let fits : SFits w32 c.args.start = search rules in
     let less : c.args.start <ℤ pos 0 = search (rules, ints) in
     let far = simp to_z-of_z at c.unsigned_abs-far.ensures.value in
-    λ k low inside. ap (λ n. bit_in (c.strike_word.result / 2 ^ n) k) c.min.ensures
-    ∙ left_bits c.args.bytes.now c.args.first c.args.row c.unsigned_abs-far.result c.strike_word.result k c.args.start less far (rw c.from-first.ensures at c.strike_word.ensures) low inside
+    λ k low inside before. ap (λ n. bit_in (c.strike_word.result / 2 ^ n) k) c.min.ensures
+    ∙ left_bits c.args.bytes.now c.args.first c.args.columns c.args.row c.unsigned_abs-far.result c.strike_word.result k c.args.start less far (rw c.from-first.ensures at c.strike_word.ensures) low inside before
