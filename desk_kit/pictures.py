@@ -3,7 +3,7 @@
 import struct
 import zlib
 
-from kit.answers import PIXELS_OF_A_LINE, Fault, is_image, lines_of_a_row, split
+from desk_kit.answers import PIXELS_OF_A_LINE, Fault, is_image, lines_of_a_row, split
 
 SIGNATURE = b"\x89PNG\r\n\x1a\n"
 # Each byte with the other color in each of its bits.
