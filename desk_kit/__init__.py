@@ -1,6 +1,18 @@
-"""What the Python programs of the tree share. Nothing beyond Python's own library is needed, except Tk for a window.
+"""Desks for programs in Python: Desk drives the program desk, line by line. docs/PYTHON.md shows how. Nothing beyond Python's
+own library is needed, except Tk for a window.
 
-To run scripts and compare their answers:
+From this package itself come
+
+  Desk, Refused   a desk, and a line that it refuses, as an exception
+  Fault           what is wrong with a program, an answer, or a file of a test
+
+The modules are what the tools at the top of the tree stand on. To drive a desk:
+
+  desk            what this package gives: lines and answers as texts
+  driven          a desk that is asked line by line over two pipes, in bytes
+  which           which program ./desk runs
+
+To compare answers, for desk-test and desk-png:
 
   answers         the commands of a script, and the answers that a text is made of
   pictures        images, as rows and as files
@@ -9,33 +21,30 @@ To run scripts and compare their answers:
   screen_tests    what is wrong with a run of a row, and pictures of it
   side_by_side    calls in several processes at a time, and a line on a terminal about them
   reports         JUnit's XML and a page of HTML on what came of rows
-  forms           the form that a line ought to have
   lint            lines that are refused, and the forms that they ought to have
-  which           which program ./desk runs
-
-To read the manual, and to serve somebody at a terminal:
-
   called          the words, programs and statuses of the tools
-  markdown        the blocks of a document
+
+To read the manual, and to serve somebody at a terminal, for desk-talk:
+
   manual          the commands, kinds and refusals that the manual has
+  markdown        the blocks of a document
+  forms           the form that a line ought to have, by the manual
   half_blocks     images as characters
   talk            what desk-talk says, and how words are completed
-  man_page        the manual page
-  script_syntax   how editors color scripts
 
-To drive a desk over two pipes and use it with a mouse and keys, for desk-view:
+To use a desk with a mouse and keys, for desk-view:
 
-  driven          a desk that is asked line by line
-  event_loop      the loop of events of a Macintosh program over it
+  event_loop      the loop of events of a Macintosh program over a driven desk
   mouse_tracking  what follows the mouse as long as its button is down
   known           what a script has made on its desk, as far as the loop has to know it
   screen_window   the screen in a window of Tk
   with_tk         which Python has Tk
   view.desk       the script that desk-view runs where none is named
 
-Beside these lie commands over the Rattle kit, which are no modules:
-
-  rt              rt of the kit, in as little time as it needs
-  unproved        compiles a program without proof, and keeps it
-  prove           proves the crates that a program stands on, some at a time, and builds it
+manual, forms and lint read docs/SCRIPT.md, which lies in the tree and not in an installed package.
 """
+
+from desk_kit.answers import Fault
+from desk_kit.desk import Desk, Refused
+
+__all__ = ["Desk", "Fault", "Refused"]
