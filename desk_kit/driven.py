@@ -118,7 +118,9 @@ class Driven:
         """The next line of standard output, without its newline."""
         while (length := self.found.find(b"\n")) < 0:
             self.read(end)
-        return self.take(length + 1, end)[:-1]
+        part = bytes(self.found[:length])
+        del self.found[: length + 1]
+        return part
 
     def take(self, count, end):
         """The next so many bytes of standard output."""
