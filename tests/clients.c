@@ -1,11 +1,13 @@
 /* Tests of clients/c, for the program clients beside this file: the first word of the command line names the program desk, the
  * second a folder of other programs, which end or answer strangely. What is due is worked out by hand, from docs/SCRIPT.md.
  * There is a line for each test that fails, and the last line is 'N passed, M failed'. */
+#define _GNU_SOURCE /* waitid */
 #include "desk.h"
 
 #include <dirent.h>
 #include <errno.h>
 #include <pthread.h>
+#include <signal.h>
 #include <stdio.h>
 #include <stdlib.h>
 #include <string.h>
@@ -134,8 +136,11 @@ static void a_program_that_ends_is_told(void)
 {
     int width, height;
     uint8_t pixels[4];
+    siginfo_t ended;
     desk_session *desk = other("ends");
     answered(desk, "desk 8 8 0", DESK_OK, "ok");
+    /* once it has, a write to it would raise a signal */
+    WANT("its end", waitid(P_ALL, 0, &ended, WEXITED | WNOWAIT) == 0);
     for (int i = 0; i < 3; i++)
         answered(desk, "find 1 1", DESK_ENDED, "");
     answered(desk, "#", DESK_BAD_LINE, "");
