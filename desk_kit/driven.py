@@ -14,6 +14,8 @@ from desk_kit.answers import Fault, is_command, lines_of_a_row
 # How long an answer may take, and how long a program that is told to end may go on.
 SECONDS = 10.0
 LAST_SECONDS = 2.0
+# How each line begins that has no answer: an empty one, a comment, and an ending.
+UNANSWERED = (b"", b"#", b"\r")
 
 def is_answered(line):
     """Whether a line, without its newline, has an answer: an empty one and a comment have none."""
@@ -92,7 +94,7 @@ class Driven:
             raise ValueError("more than one line")
         end = time.monotonic() + self.seconds
         self.write(line + b"\n", end)
-        if not is_answered(line):
+        if line[:1] in UNANSWERED and not is_answered(line):
             return b""
         answer = self.line(end)
         return self.image(answer, end) if answer == b"P1" else answer
@@ -116,27 +118,31 @@ class Driven:
 
     def line(self, end):
         """The next line of standard output, without its newline."""
+        if not self.found:
+            more = self.more(end)
+            # Mostly it is the whole answer.
+            if more.find(b"\n") == len(more) - 1:
+                return more[:-1]
+            self.found += more
         while (length := self.found.find(b"\n")) < 0:
-            self.read(end)
-        part = bytes(self.found[:length])
-        del self.found[: length + 1]
-        return part
+            self.found += self.more(end)
+        return self.take(length + 1, end)[:-1]
 
     def take(self, count, end):
         """The next so many bytes of standard output."""
         while len(self.found) < count:
-            self.read(end)
+            self.found += self.more(end)
         part = bytes(self.found[:count])
         del self.found[:count]
         return part
 
-    def read(self, end):
-        """Waits for more bytes of standard output, and keeps them."""
+    def more(self, end):
+        """Waits for more bytes of standard output, and gives them."""
         self.wait(self.readable, end)
         more = os.read(self.output, 65536)
         if not more:
             raise self.ended()
-        self.found += more
+        return more
 
     def wait(self, poller, end):
         """Waits until a pipe is ready, but not past the end, however often it was."""
