@@ -222,6 +222,25 @@ static void each_session_ends_by_itself(void)
     WANT("open descriptors", descriptors() == before);
 }
 
+/* How many descriptors a program is started with. */
+static int started_with(void)
+{
+    const char *answer = "";
+    desk_session *desk = other("descriptors");
+    WANT("a number", desk_call(desk, "how many", &answer, NULL) == DESK_OK);
+    int count = atoi(answer);
+    desk_close(desk);
+    return count;
+}
+
+static void a_program_has_no_descriptor_of_another_session(void)
+{
+    int alone = started_with();
+    desk_session *desk = desk_of(8, 8);
+    WANT("the descriptors", alone >= 3 && started_with() == alone);
+    desk_close(desk);
+}
+
 static void *works(void *given)
 {
     static uint8_t pixels[4][12 * 12];
@@ -286,6 +305,7 @@ static const struct {
     TEST(an_answer_may_come_in_parts),
     TEST(what_is_not_there_is_told),
     TEST(each_session_ends_by_itself),
+    TEST(a_program_has_no_descriptor_of_another_session),
     TEST(threads_have_sessions_of_their_own),
     TEST(standard_descriptors_may_be_closed),
 };

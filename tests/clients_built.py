@@ -26,6 +26,7 @@ OTHERS = {
     "other-sign": "read line; printf 'P1\\n2 1\\n12\\n'; read line",
     "few-pixels": "read line; printf 'P1\\n2 2\\n1\\n\\n0\\n\\n'; read line",
     "no-image": "read line; printf 'ok\\n'; read line",
+    "descriptors": "read line; set -- /proc/self/fd/*; echo $#",
     "slow": "read line; for it in P 1 '\\n' 2 ' 2' '\\n10' '\\n' 0 '1\\n'; do printf \"$it\"; sleep 0.02; done\n"
     "read line; printf 'refused 2 NoSuch'; sleep 0.02; printf 'Window\\n'",
 }
