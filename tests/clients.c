@@ -66,13 +66,15 @@ static void lines_are_answered(void)
 
 static void refusals_are_numbers(void)
 {
-    char line[1100];
+    static char line[1000001];
     desk_session *desk = desk_of(9, 9);
     answered(desk, "close 7", 2, "refused 2 NoSuchWindow");
     answered(desk, "windw", 15, "refused 15 BadSyntax");
     answered(desk, "desk 8 8 0", 11, "refused 11 Busy");
     memset(line, 'x', 1025);
-    line[1025] = 0;
+    answered(desk, line, 10, "refused 10 TooLong");
+    /* more than a socket takes at once */
+    memset(line, 'x', 1000000);
     answered(desk, line, 10, "refused 10 TooLong");
     answered(desk, "frontwin", DESK_OK, "ok 0");
     WANT("a status", desk_close(desk) == 0);

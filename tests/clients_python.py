@@ -36,6 +36,7 @@ def lines_are_answered(place):
         "# é": "",
         "close é": "refused 15 BadSyntax",
         "#" * 1025: "refused 10 TooLong",
+        "x" * 200_000: "refused 10 TooLong",
         "close 7": "refused 2 NoSuchWindow",
         "frontwin": "ok 1",
     }
