@@ -6,6 +6,7 @@
 
 #include <dirent.h>
 #include <errno.h>
+#include <fcntl.h>
 #include <pthread.h>
 #include <signal.h>
 #include <stdio.h>
@@ -276,7 +277,8 @@ static void threads_have_sessions_of_their_own(void)
     }
 }
 
-/* In a process of its own, which has no standard input, output and error left. */
+/* In a process of its own, which has no standard input, output and error left. None of a session's descriptors takes the place
+ * of one of them, where whatever else the process writes would go to the program. */
 static void standard_descriptors_may_be_closed(void)
 {
     int status = 0;
@@ -285,7 +287,10 @@ static void standard_descriptors_may_be_closed(void)
         for (int i = 0; i < 3; i++)
             close(i);
         desk_session *desk = desk_open(program, NULL);
-        int is_well = desk && desk_call(desk, "desk 8 8 0", NULL, NULL) == DESK_OK && desk_close(desk) == 0;
+        int is_well = desk && desk_call(desk, "desk 8 8 0", NULL, NULL) == DESK_OK;
+        for (int i = 0; i < 3; i++)
+            is_well = is_well && fcntl(i, F_GETFD) < 0;
+        is_well = is_well && desk_close(desk) == 0;
         _exit(is_well ? 0 : 1);
     }
     WANT("the status", waitpid(child, &status, 0) == child && status == 0);
