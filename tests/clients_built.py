@@ -92,7 +92,8 @@ def the_client_in_C_passes_its_tests(place):
 
 def the_example_in_C_prints_what_it_has_to(place):
     compiler()
-    place.succeeds("cc", "-std=c11", "-O2", *WARNINGS, "-o", "example", os.path.join(C, "example.c"), os.path.join(C, "desk.c"))
+    sources = (os.path.join(C, "example.c"), os.path.join(C, "desk.c"))
+    place.succeeds("cc", "-std=c11", "-O2", *WARNINGS, "-o", "example", *sources)
     same("what it prints", place.succeeds(place.path("example"), place.program), EXAMPLE)
 
 

@@ -146,7 +146,8 @@ def the_program_is_named_or_found(place):
         same("by its name", program_to_drive("desk", tree), (desk, None))
     finally:
         os.environ["PATH"] = usual
-    faults("a tree without one", f"{desk} has no program to run, and standard error has the reason", program_to_drive, None, desk)
+    none = f"{desk} has no program to run, and standard error has the reason"
+    faults("a tree without one", none, program_to_drive, None, desk)
     for how, is_proved in (("proved", True), ("unproved", False)):
         place.shell("desk", f"[ \"$*\" = --which ] && echo {how} '{place.program}'")
         same(f"one that is {how}", program_to_drive(None, desk), (place.program, is_proved))
