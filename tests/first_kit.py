@@ -18,7 +18,7 @@ import signal
 import subprocess
 import threading
 
-from kit.answers import Fault
+from desk_kit.answers import Fault
 
 TOP = os.path.dirname(os.path.dirname(os.path.realpath(__file__)))
 CRATES = "low:\nleft: low # beside right\nright: low\ndesk: low left right\nother: low\n"
@@ -141,7 +141,7 @@ class Tree:
     def __init__(self, folder):
         self.folder = os.path.join(os.path.realpath(folder), "a tree's copy")
         self.kit = os.path.join(os.path.realpath(folder), "a kit")
-        for name in ("desk", "kit/rt", "kit/prove", "kit/unproved"):
+        for name in ("desk", "tools/rt", "tools/prove", "tools/unproved"):
             os.makedirs(os.path.dirname(self.path(name)), exist_ok=True)
             shutil.copy(os.path.join(TOP, name), self.path(name))
         for crate in ("low", "left", "right", "desk", "other"):

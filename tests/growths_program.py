@@ -8,7 +8,7 @@ import tempfile
 sys.dont_write_bytecode = True
 from preloaded import unlike
 
-from kit.answers import LONGEST_SHOWN, Fault
+from desk_kit.answers import LONGEST_SHOWN, Fault
 
 # How long a run may take, with all its copies.
 SECONDS = 300

@@ -10,8 +10,8 @@ sys.dont_write_bytecode = True
 from growths_program import ALL, MOST_COPIES, each, questions, refusal
 from preloaded import ROWS, TOP, read
 
-from kit.answers import LONGEST_SHOWN, Fault, answers_to, commands_of
-from kit.rows import folders_in
+from desk_kit.answers import LONGEST_SHOWN, Fault, answers_to, commands_of
+from desk_kit.rows import folders_in
 
 FOLDERS = (*folders_in(ROWS), os.path.join(TOP, "examples"))
 # In a row with more commands than this a copy of the program is given so many after the refused one, and not all.

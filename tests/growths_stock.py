@@ -8,7 +8,7 @@ sys.dont_write_bytecode = True
 from growths_program import ALL, questions, refusal
 from growths_rows import NO_MEMORY
 
-from kit.answers import Fault
+from desk_kit.answers import Fault
 
 DESK = b"desk 8 8 0"
 WINDOW = b'window plain 1 1 4 4 1 0 ""'

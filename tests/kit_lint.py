@@ -3,11 +3,11 @@
 import os
 import shutil
 
-from kit.answers import commands_of
-from kit.forms import Forms, Reading, forms
-from kit.lint import misformed, strange
-from kit.manual import Manual
-from kit.rows import folders_in, rows_of
+from desk_kit.answers import commands_of
+from desk_kit.forms import Forms, Reading, forms
+from desk_kit.lint import misformed, strange
+from desk_kit.manual import Manual
+from desk_kit.rows import folders_in, rows_of
 from kit_parts import same
 from kit_place import TOP, blocks
 
@@ -87,7 +87,7 @@ def a_program_that_does_not_answer_is_told_by_lint(place):
 
 
 def lint_needs_the_manual(place):
-    shutil.copytree(os.path.join(TOP, "kit"), place.path("kit"))
+    shutil.copytree(os.path.join(TOP, "desk_kit"), place.path("desk_kit"))
     shutil.copy(os.path.join(TOP, "desk-test"), place.folder)
     place.write("screens/one.desk", DESK)
     place.write("docs/SCRIPT.md", "# The script\n\nThere are no tables.\n")

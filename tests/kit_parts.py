@@ -1,4 +1,4 @@
-"""Tests of the parts of kit, one by one, for kit-tests."""
+"""Tests of the parts of desk_kit and of tools/rt, one by one, for kit-tests."""
 
 import fcntl
 import importlib.machinery
@@ -8,16 +8,16 @@ import subprocess
 import types
 import zlib
 
-from kit import rows
-from kit.answers import Command, Fault, answers_of, commands_of, split
-from kit.differences import first_difference
-from kit.pictures import image_of, images, p4_of, pixels_of, png_of
+from desk_kit import rows
+from desk_kit.answers import Command, Fault, answers_of, commands_of, split
+from desk_kit.differences import first_difference
+from desk_kit.pictures import image_of, images, p4_of, pixels_of, png_of
 
 # A row of 71 columns takes two lines, one of 140 two full ones.
 WIDE = b"P1\n71 2\n" + (b"01" * 35 + b"\n1\n") * 2
 FULL = b"P1\n140 1\n" + b"0" * 70 + b"\n" + b"1" * 70 + b"\n"
 SMALL = b"P1\n3 2\n101\n010\n"
-RT = os.path.join(os.path.dirname(os.path.realpath(rows.__file__)), "rt")
+RT = os.path.join(os.path.dirname(os.path.dirname(os.path.realpath(__file__))), "tools", "rt")
 
 
 def same(what, found, wanted):
@@ -146,7 +146,7 @@ def a_run_that_does_not_end_is_broken_off(place):
 
 
 def kit_rt():
-    """The command kit/rt as a module."""
+    """The command tools/rt as a module."""
     loader = importlib.machinery.SourceFileLoader("kit_rt", RT)
     made = importlib.util.module_from_spec(importlib.util.spec_from_loader("kit_rt", loader))
     loader.exec_module(made)

@@ -4,7 +4,7 @@ import os
 import re
 import subprocess
 
-from kit.pictures import pixels_of
+from desk_kit.pictures import pixels_of
 from kit_parts import same
 
 TOP = os.path.dirname(os.path.dirname(os.path.realpath(__file__)))

@@ -8,8 +8,8 @@ import subprocess
 from html.parser import HTMLParser
 from xml.etree import ElementTree
 
-from kit.answers import Fault
-from kit.pictures import pixels_of
+from desk_kit.answers import Fault
+from desk_kit.pictures import pixels_of
 from kit_parts import same
 from kit_place import OTHER_DIFFERS, OTHER_IMAGE, POINTS, POINTS_OUT, SQUARE, SQUARE_IMAGE, TOP, Skipped, scaled, square_out
 
@@ -188,7 +188,7 @@ def large_pictures_stand_beside_each_other_in_less_room(place):
 def a_report_of_scripts_that_pass_says_so(place):
     place.write("screens/points.desk", POINTS)
     place.write("screens/points.out", POINTS_OUT)
-    for folder in ("kit", "docs"):
+    for folder in ("desk_kit", "docs"):
         shutil.copytree(os.path.join(TOP, folder), place.path(folder))
     shutil.copy(os.path.join(TOP, "desk-test"), place.folder)
     unproved = "The program that ran is not proved: './desk --prove' proves and builds it."

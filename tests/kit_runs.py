@@ -9,8 +9,8 @@ import signal
 import subprocess
 import time
 
-from kit import screen_tests
-from kit.answers import Fault
+from desk_kit import screen_tests
+from desk_kit.answers import Fault
 from kit_parts import same
 from kit_place import DESK_TEST, POINTS_OUT, SQUARE, SQUARE_IMAGE, Skipped, blocks, square_out
 

@@ -9,7 +9,7 @@ TOP = os.path.dirname(TESTS)
 ROWS = os.path.join(TESTS, "rows")
 sys.dont_write_bytecode = True
 sys.path.insert(0, TOP)
-from kit.answers import LONGEST_SHOWN  # noqa: E402
+from desk_kit.answers import LONGEST_SHOWN  # noqa: E402
 
 
 def read(path):

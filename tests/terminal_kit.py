@@ -12,8 +12,8 @@ import subprocess
 import termios
 import time
 
-from kit.answers import Fault
-from kit.pictures import pixels_of
+from desk_kit.answers import Fault
+from desk_kit.pictures import pixels_of
 
 TOP = os.path.dirname(os.path.dirname(os.path.realpath(__file__)))
 SECONDS = 60

@@ -47,7 +47,7 @@ def need(program):
 def the_files_made_of_the_manual_are_of_now(place):
     check = os.path.join(TOP, "docs", "make-manual")
     same("those of the tree", place.call(check, "--check", over=False), (0, "3 passed, 0 failed\n", ""))
-    place.copy("kit", "docs/SCRIPT.md", "docs/make-manual", *MADE)
+    place.copy("desk_kit", "tools", "docs/SCRIPT.md", "docs/make-manual", *MADE)
     made = place.path("tree/docs/make-manual")
     text = place.read("tree/docs/SCRIPT.md")
     heading = text.replace("### `image`\n", "### `image`, `beep COUNT`\n")

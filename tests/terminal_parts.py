@@ -3,11 +3,11 @@
 import os
 import re
 
-from kit.driven import is_answered
-from kit.half_blocks import half_blocks, shrunk, side_for
-from kit.manual import Manual, read_manual
-from kit.markdown import Block, blocks_of, codes_in, plain
-from kit.talk import OWN, Look, Talk, completions
+from desk_kit.driven import is_answered
+from desk_kit.half_blocks import half_blocks, shrunk, side_for
+from desk_kit.manual import Manual, read_manual
+from desk_kit.markdown import Block, blocks_of, codes_in, plain
+from desk_kit.talk import OWN, Look, Talk, completions
 from terminal_kit import SQUARE_BLOCKS, SQUARE_IMAGE, TOP, same
 
 # A manual of two commands and a refusal.

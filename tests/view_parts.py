@@ -1,7 +1,7 @@
 """The tests of the loop of events without a display: controls, menus and lists. Each answer was worked out by hand, from the
 sizes and places of the script. A point is a column and a row of the screen."""
 
-from kit.event_loop import COMMAND, SHIFT
+from desk_kit.event_loop import COMMAND, SHIFT
 from view_tried import NO_EVENT, NOTHING_DUE
 
 # The first window has the columns 9 to 100 and the rows 25 to 104 of the screen with its frame, and the second one, in front

@@ -1,7 +1,7 @@
 """A loop of events that is tried: the mouse is told to it, and the desk is asked what came of it."""
 
-from kit.driven import Driven, Fault
-from kit.event_loop import EventLoop
+from desk_kit.driven import Driven, Fault
+from desk_kit.event_loop import EventLoop
 
 NOTHING_DUE = "ok 000A0000000000000000"
 NO_EVENT = "ok 0 0 0 0 0 0"

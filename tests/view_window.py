@@ -16,8 +16,8 @@ import sys
 import tempfile
 import time
 
-from kit.driven import Fault, rows_of
-from kit.with_tk import has_tk, other_python_with_tk
+from desk_kit.driven import Fault, rows_of
+from desk_kit.with_tk import has_tk, other_python_with_tk
 from view_tried import Differs
 
 TOP = os.path.dirname(os.path.dirname(os.path.realpath(__file__)))

@@ -6,7 +6,7 @@ import os
 import shutil
 import sys
 
-from kit.which import program_of
+from desk_kit.which import program_of
 
 AT_FAULT, WRONG_WORDS, NO_PROGRAM = 1, 2, 3
 TOP = os.path.dirname(os.path.dirname(os.path.realpath(__file__)))

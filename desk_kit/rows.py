@@ -16,9 +16,9 @@ import os
 import subprocess
 from typing import NamedTuple
 
-from kit.answers import LONGEST_SHOWN, Fault
-from kit.differences import DifferenceOfBytes, first_difference
-from kit.pictures import images, p4_of
+from desk_kit.answers import LONGEST_SHOWN, Fault
+from desk_kit.differences import DifferenceOfBytes, first_difference
+from desk_kit.pictures import images, p4_of
 
 SCRIPT = ".desk"
 PARTS = (".out", ".hex", ".args", ".font", ".name", ".status", ".err")

@@ -3,7 +3,7 @@
 import struct
 import zlib
 
-from kit.answers import PIXELS_OF_A_LINE, Fault, is_image, lines_of_a_row, split
+from desk_kit.answers import PIXELS_OF_A_LINE, Fault, is_image, lines_of_a_row, split
 
 SIGNATURE = b"\x89PNG\r\n\x1a\n"
 # Each byte with the other color in each of its bits.
@@ -24,9 +24,10 @@ def image_of(answer):
     width, height = map(int, sides.split())
     count = lines_of_a_row(width)
     lengths = [PIXELS_OF_A_LINE] * (count - 1) + [width - PIXELS_OF_A_LINE * (count - 1)]
-    bits = b"".join(lines).decode("latin-1")
-    if [len(line) for line in lines] != lengths * height or bits.strip("01"):
+    digits = b"".join(lines)
+    if [len(line) for line in lines] != lengths * height or digits.translate(None, b"01"):
         raise Fault("the lines of the image are not its rows")
+    bits = digits.decode("ascii")
     return [bits[v * width : (v + 1) * width] for v in range(height)]
 
 

@@ -4,8 +4,8 @@ import difflib
 import re
 from typing import NamedTuple
 
-from kit.answers import Fault
-from kit.manual import PATH, read_manual
+from desk_kit.answers import Fault
+from desk_kit.manual import PATH, read_manual
 
 DRAW, CLIP, ANY = "draw", "clip", "OPERATION"
 WORD = re.compile(r'"[^"]*"|[^ ]+')

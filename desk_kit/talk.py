@@ -4,10 +4,10 @@ import difflib
 import re
 import textwrap
 
-from kit.driven import rows_of
-from kit.half_blocks import half_blocks, shrunk, side_for
-from kit.markdown import blocks_of, plain
-from kit.pictures import png_of
+from desk_kit.driven import rows_of
+from desk_kit.half_blocks import half_blocks, shrunk, side_for
+from desk_kit.markdown import blocks_of, plain
+from desk_kit.pictures import png_of
 
 # The words of the talk itself, each with its form and what it does. All others are the desk's.
 OWN = {

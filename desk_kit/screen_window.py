@@ -4,8 +4,8 @@ What the mouse and the keys do goes to a loop of events, and the screen is shown
 import sys
 import tkinter
 
-from kit.driven import Fault
-from kit.event_loop import CAPS_LOCK, COMMAND, OPTION, SHIFT
+from desk_kit.driven import Fault
+from desk_kit.event_loop import CAPS_LOCK, COMMAND, OPTION, SHIFT
 
 # The flags of Tk's modifiers on X11, with those of an event: Control and Super are the Command key, and Alt is Option.
 MODIFIERS = {0x1: SHIFT, 0x2: CAPS_LOCK, 0x4: COMMAND, 0x8: OPTION, 0x40: COMMAND}

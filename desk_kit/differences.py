@@ -4,8 +4,8 @@ import os
 from itertools import zip_longest
 from typing import NamedTuple
 
-from kit.answers import LONGEST_SHOWN, Command, Fault, commands_of, is_image, shown, split
-from kit.pictures import image_of
+from desk_kit.answers import LONGEST_SHOWN, Command, Fault, commands_of, is_image, shown, split
+from desk_kit.pictures import image_of
 
 COLORS = {"0": "white", "1": "black", None: "no pixel"}
 # How many bytes of a long line are shown before the place where it differs.

@@ -8,9 +8,9 @@ Nothing of a display is needed: whoever has a mouse tells of it, and asks for th
 import time
 from typing import NamedTuple
 
-from kit.driven import rows_of, sides_of
-from kit.known import Known, numbers_of
-from kit.mouse_tracking import (
+from desk_kit.driven import rows_of, sides_of
+from desk_kit.known import Known, numbers_of
+from desk_kit.mouse_tracking import (
     BoxTracking,
     ControlTracking,
     Dragging,

@@ -1,7 +1,7 @@
 """The manual page of desk, in the macros of man(7), made of the manual of scripts."""
 
-from kit.markdown import NUMBERED, blocks_of, plain
-from kit.manual import sections_of
+from desk_kit.markdown import NUMBERED, blocks_of, plain
+from desk_kit.manual import sections_of
 
 # Which sections of the manual are in the page, and what they are called there.
 DESCRIPTION = "The program"

@@ -5,7 +5,7 @@ import os
 import re
 from typing import NamedTuple
 
-from kit.markdown import blocks_of, codes_in, plain
+from desk_kit.markdown import blocks_of, codes_in, plain
 
 PATH = os.path.join(os.path.dirname(os.path.dirname(os.path.realpath(__file__))), "docs", "SCRIPT.md")
 HEADING = re.compile(r"(?m)^(#{2,3}) +(.*)$")

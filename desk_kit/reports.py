@@ -1,4 +1,4 @@
-"""Reports on outcomes of kit.screen_tests: JUnit's XML for programs, and a page for people."""
+"""Reports on outcomes of desk_kit.screen_tests: JUnit's XML for programs, and a page for people."""
 
 import base64
 import html
@@ -6,7 +6,7 @@ import os
 import re
 from xml.etree import ElementTree
 
-from kit.rows import SCRIPT
+from desk_kit.rows import SCRIPT
 
 # What XML has no sign for.
 NO_TEXT = re.compile("[^\t\n\r\x20-\ud7ff\ue000-\ufffd\U00010000-\U0010ffff]")

@@ -3,10 +3,10 @@
 import re
 from typing import NamedTuple
 
-from kit.answers import LONGEST_LINE, answers_to, commands_of, shown
-from kit.forms import Forms, words_of
-from kit.rows import said_of_status
-from kit.screen_tests import Found, empty_folder
+from desk_kit.answers import LONGEST_LINE, answers_to, commands_of, shown
+from desk_kit.forms import Forms, words_of
+from desk_kit.rows import said_of_status
+from desk_kit.screen_tests import Found, empty_folder
 
 REFUSED = re.compile(rb"refused [0-9]+ (BadSyntax|NoSuchName|TooLong)\n")
 # A byte that stands in no line but a comment.

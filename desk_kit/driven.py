@@ -9,23 +9,17 @@ import subprocess
 import tempfile
 import time
 
+from desk_kit.answers import Fault, is_command, lines_of_a_row
+
 # How long an answer may take, and how long a program that is told to end may go on.
 SECONDS = 10.0
 LAST_SECONDS = 2.0
-
-# The longest line that is a comment or a command, and how many bytes of an image stand in a line at most.
-LONGEST_LINE = 1024
-IMAGE_LINE = 70
-
-
-class Fault(Exception):
-    """The program cannot be started, has ended, is silent, or gives what is no answer."""
-
+# How each line begins that has no answer: an empty one, a comment, and an ending.
+UNANSWERED = (b"", b"#", b"\r")
 
 def is_answered(line):
     """Whether a line, without its newline, has an answer: an empty one and a comment have none."""
-    line = line.removesuffix(b"\r")
-    return len(line) > LONGEST_LINE or not (line == b"" or line.startswith(b"#"))
+    return is_command(line.removesuffix(b"\r"))
 
 
 def sides_of(line):
@@ -48,8 +42,16 @@ def rows_of(answer):
     return [pixels[start : start + width] for start in range(0, width * height, width)]
 
 
+def poller_of(pipe, event):
+    """What waits for this event of a pipe."""
+    poller = select.poll()
+    poller.register(pipe, event)
+    return poller
+
+
 class Driven:
-    """A program, with a pipe to its standard input and one from its standard output, for as long as a block goes on."""
+    """A program, with a pipe to its standard input and one from its standard output, for as long as a block goes on. A Fault
+    says that it cannot be started, has ended, is silent, or gives what is no answer."""
 
     def __init__(self, words, seconds=SECONDS):
         self.words, self.seconds = words, seconds
@@ -62,6 +64,11 @@ class Driven:
         except OSError as error:
             self.errors.close()
             raise Fault(f"{words[0]} cannot be started: {error.strerror}") from None
+        self.input, self.output = self.ran.stdin.fileno(), self.ran.stdout.fileno()
+        # A write takes what fits into the pipe at once. The program's own end of it blocks as ever.
+        os.set_blocking(self.input, False)
+        self.writable = poller_of(self.input, select.POLLOUT)
+        self.readable = poller_of(self.output, select.POLLIN)
 
     def __enter__(self):
         return self
@@ -87,7 +94,7 @@ class Driven:
             raise ValueError("more than one line")
         end = time.monotonic() + self.seconds
         self.write(line + b"\n", end)
-        if not is_answered(line):
+        if line[:1] in UNANSWERED and not is_answered(line):
             return b""
         answer = self.line(end)
         return self.image(answer, end) if answer == b"P1" else answer
@@ -96,44 +103,51 @@ class Driven:
         """The whole image whose first line is this."""
         sides = self.line(end)
         width, height = sides_of(sides)
-        lines = height * ((width + IMAGE_LINE - 1) // IMAGE_LINE)
+        lines = height * lines_of_a_row(width)
         return b"\n".join([head, sides, self.take(width * height + lines, end)[:-1]])
 
     def write(self, text, end):
-        """Writes a text, in parts that a pipe takes at once, once it is ready for them."""
-        for start in range(0, len(text), select.PIPE_BUF):
-            self.wait([], [self.ran.stdin], end)
+        """Writes a text, in as many parts as the pipe takes."""
+        while text:
             try:
-                self.ran.stdin.write(text[start : start + select.PIPE_BUF])
+                text = text[os.write(self.input, text) :]
+            except BlockingIOError:
+                self.wait(self.writable, end)
             except BrokenPipeError:
                 raise self.ended() from None
 
     def line(self, end):
         """The next line of standard output, without its newline."""
+        if not self.found:
+            more = self.more(end)
+            # Mostly it is the whole answer.
+            if more.find(b"\n") == len(more) - 1:
+                return more[:-1]
+            self.found += more
         while (length := self.found.find(b"\n")) < 0:
-            self.read(end)
+            self.found += self.more(end)
         return self.take(length + 1, end)[:-1]
 
     def take(self, count, end):
         """The next so many bytes of standard output."""
         while len(self.found) < count:
-            self.read(end)
+            self.found += self.more(end)
         part = bytes(self.found[:count])
         del self.found[:count]
         return part
 
-    def read(self, end):
-        """Waits for more bytes of standard output, and keeps them."""
-        self.wait([self.ran.stdout], [], end)
-        more = os.read(self.ran.stdout.fileno(), 65536)
+    def more(self, end):
+        """Waits for more bytes of standard output, and gives them."""
+        self.wait(self.readable, end)
+        more = os.read(self.output, 65536)
         if not more:
             raise self.ended()
-        self.found += more
+        return more
 
-    def wait(self, readers, writers, end):
-        """Waits until one of these is ready, but not past the end, however often one was."""
+    def wait(self, poller, end):
+        """Waits until a pipe is ready, but not past the end, however often it was."""
         left = end - time.monotonic()
-        if left <= 0 or not any(select.select(readers, writers, [], left)):
+        if left <= 0 or not poller.poll(1000 * left):
             raise Fault(f"{self.words[0]} does not answer within {self.seconds:g} seconds")
 
     def ended(self):

@@ -11,9 +11,9 @@ import time
 from contextlib import suppress
 from typing import NamedTuple
 
-from kit.answers import Fault, answers_to, commands_of
-from kit.pictures import png_of
-from kit.rows import SCRIPT
+from desk_kit.answers import Fault, answers_to, commands_of
+from desk_kit.pictures import png_of
+from desk_kit.rows import SCRIPT
 
 DIFFERENCES = "differences"
 SCALE = 3

@@ -1,0 +1,50 @@
+"""Desks for programs in Python: Desk drives the program desk, line by line. docs/PYTHON.md shows how. Nothing beyond Python's
+own library is needed, except Tk for a window.
+
+From this package itself come
+
+  Desk, Refused   a desk, and a line that it refuses, as an exception
+  Fault           what is wrong with a program, an answer, or a file of a test
+
+The modules are what the tools at the top of the tree stand on. To drive a desk:
+
+  desk            what this package gives: lines and answers as texts
+  driven          a desk that is asked line by line over two pipes, in bytes
+  which           which program ./desk runs
+
+To compare answers, for desk-test and desk-png:
+
+  answers         the commands of a script, and the answers that a text is made of
+  pictures        images, as rows and as files
+  rows            scripts with what has to come of them, in files beside them
+  differences     where a script is answered otherwise than is due
+  screen_tests    what is wrong with a run of a row, and pictures of it
+  side_by_side    calls in several processes at a time, and a line on a terminal about them
+  reports         JUnit's XML and a page of HTML on what came of rows
+  lint            lines that are refused, and the forms that they ought to have
+  called          the words, programs and statuses of the tools
+
+To read the manual, and to serve somebody at a terminal, for desk-talk:
+
+  manual          the commands, kinds and refusals that the manual has
+  markdown        the blocks of a document
+  forms           the form that a line ought to have, by the manual
+  half_blocks     images as characters
+  talk            what desk-talk says, and how words are completed
+
+To use a desk with a mouse and keys, for desk-view:
+
+  event_loop      the loop of events of a Macintosh program over a driven desk
+  mouse_tracking  what follows the mouse as long as its button is down
+  known           what a script has made on its desk, as far as the loop has to know it
+  screen_window   the screen in a window of Tk
+  with_tk         which Python has Tk
+  view.desk       the script that desk-view runs where none is named
+
+manual, forms and lint read docs/SCRIPT.md, which lies in the tree and not in an installed package.
+"""
+
+from desk_kit.answers import Fault
+from desk_kit.desk import Desk, Refused
+
+__all__ = ["Desk", "Fault", "Refused"]
