@@ -1,0 +1,5 @@
+BROWSERS = ("chromium", "chromium-browser")
+
+
+def browser():
+    return None
