@@ -23,15 +23,21 @@ To read the manual, and to serve somebody at a terminal:
   man_page        the manual page
   script_syntax   how editors color scripts
 
-To drive a desk over two pipes and use it with a mouse and keys, for desk-view:
+To drive a desk over two pipes and use it with a mouse and keys, for desk-view and desk-web:
 
   driven          a desk that is asked line by line
+  shown_desk      such a desk with its screen, where that has changed
   event_loop      the loop of events of a Macintosh program over it
   mouse_tracking  what follows the mouse as long as its button is down
+  list_tracking   how a list does
   known           what a script has made on its desk, as far as the loop has to know it
+  recording       the script that is made of what the loop does
+  replay          a script that is shown line by line
   screen_window   the screen in a window of Tk
   with_tk         which Python has Tk
-  view.desk       the script that desk-view runs where none is named
+  web_session     what a page tells and is told
+  web_server      the page over HTTP; its files are web_page.html, web_page.css and web_page.js
+  view.desk       the script that desk-view and desk-web run where none is named
 
 Beside these lie commands over the Rattle kit, which are no modules:
 

@@ -63,7 +63,8 @@ def code_of(event):
 
 
 class ScreenWindow:
-    """The window, over a Tk root and a loop of events or a replay. Where no scale is named it is found from the size of the screens."""
+    """The window, over a Tk root and a loop of events or a replay. Where no scale is named it is found from the size of the
+    screens."""
 
     def __init__(self, root, loop, scale, title):
         self.root, self.loop = root, loop

@@ -117,18 +117,20 @@ canvas.addEventListener("pointerdown", event => {
     tell("down", ...at(event), modifiers(event));
   }
 });
-canvas.addEventListener("pointermove", event => {
-  const point = at(event);
+// Where the button is down the mouse may be beside the screen.
+window.addEventListener("pointermove", event => {
   if (isDown) {
-    tell("move", ...point);
+    tell("move", ...at(event));
+  } else if (event.target === canvas) {
+    at(event);
   }
 });
-canvas.addEventListener("pointerup", event => {
+window.addEventListener("pointerup", event => {
   if (event.button === 0) {
     release(event);
   }
 });
-canvas.addEventListener("pointercancel", release);
+window.addEventListener("pointercancel", release);
 canvas.addEventListener("contextmenu", event => event.preventDefault());
 document.addEventListener("keydown", event => key("keydown", event));
 document.addEventListener("keyup", event => key("keyup", event));

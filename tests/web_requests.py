@@ -9,6 +9,7 @@ import tempfile
 
 from kit.driven import rows_of
 from kit.pictures import packed
+from kit.web_server import FOLDER
 from web_served import HINT, Served, called, eventually, same
 
 # The windows of view_loop.py, the second one in front; and a menu. A scroll bar in the second one has its lower box in the
@@ -38,7 +39,7 @@ def the_page_has_its_files(served):
         ("page.css", "web_page.css", "text/css"),
     ):
         status, headers, body = served.get(name)
-        with open(os.path.join("kit", file_name), "rb") as file:
+        with open(os.path.join(FOLDER, file_name), "rb") as file:
             same(name, (status, headers["Content-Type"], body), (200, f"{kind}; charset=utf-8", file.read()))
         for header, value in (
             ("Cache-Control", "no-store"),
