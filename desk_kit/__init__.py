@@ -32,14 +32,20 @@ To read the manual, and to serve somebody at a terminal, for desk-talk:
   half_blocks     images as characters
   talk            what desk-talk says, and how words are completed
 
-To use a desk with a mouse and keys, for desk-view:
+To drive a desk with a mouse and keys, for desk-view and desk-web:
 
-  event_loop      the loop of events of a Macintosh program over a driven desk
+  shown_desk      a driven desk with its screen, where that has changed
+  event_loop      the loop of events of a Macintosh program over it
   mouse_tracking  what follows the mouse as long as its button is down
+  list_tracking   how a list does
   known           what a script has made on its desk, as far as the loop has to know it
+  recording       the script that is made of what the loop does
+  replay          a script that is shown line by line
   screen_window   the screen in a window of Tk
   with_tk         which Python has Tk
-  view.desk       the script that desk-view runs where none is named
+  web_session     what a page tells and is told
+  web_server      the page over HTTP; its files are web_page.html, web_page.css and web_page.js
+  view.desk       the script that desk-view and desk-web run where none is named
 
 manual, forms and lint read docs/SCRIPT.md, which lies in the tree and not in an installed package.
 """

@@ -8,8 +8,8 @@ Nothing of a display is needed: whoever has a mouse tells of it, and asks for th
 import time
 from typing import NamedTuple
 
-from desk_kit.driven import rows_of, sides_of
 from desk_kit.known import Known, numbers_of
+from desk_kit.list_tracking import ListTracking
 from desk_kit.mouse_tracking import (
     BoxTracking,
     ControlTracking,
@@ -20,11 +20,13 @@ from desk_kit.mouse_tracking import (
     clamped,
     named,
 )
+from desk_kit.shown_desk import QUESTIONS, ShownDesk, command_of, lines_of
 
 # The kinds of events, and what a mask of all of them is.
 MOUSE_DOWN, MOUSE_UP, KEY_DOWN, KEY_UP, UPDATE = 1, 2, 3, 4, 6
 EVERY_EVENT = 65535
 MOUSE_UP_MASK = 1 << MOUSE_UP
+NO_EVENT = "ok 0 0 0 0 0 0"
 
 # The modifiers of an event.
 BUTTON_UP, COMMAND, SHIFT, CAPS_LOCK, OPTION = 128, 256, 512, 1024, 2048
@@ -35,10 +37,8 @@ MENU_BAR, CONTENT, DRAG, GROW, GO_AWAY, ZOOM_IN, ZOOM_OUT = 1, 3, 4, 5, 6, 7, 8
 # How many events are served at a time, at most.
 MOST_EVENTS = 1000
 
-# The commands that leave the screen as it is.
-LEAVE_THE_SCREEN = (
-    "find frontwin info updatergn visrgn cget findc ctest lget lgetsel lnext lsearch image post next avail flush setmask"
-).split()
+# The seconds for which the button has to be down until what it holds goes on, and those from one step to the next.
+HELD_AFTER, HELD_EVERY = 0.4, 0.1
 
 
 class Refused(Exception):
@@ -56,23 +56,23 @@ class Event(NamedTuple):
     modifiers: int
 
 
-class EventLoop:
-    """The loop over a driven desk, with what it knows of the windows there, what follows the mouse as long as its button is
-    down, and a sentence on what happened last. The clock gives the seconds that have passed."""
+class EventLoop(ShownDesk):
+    """The loop over a driven desk, with what it knows of the windows there, and what follows the mouse as long as its button
+    is down. A recording keeps the lines of the script, and those of the loop that changed something."""
 
-    def __init__(self, desk, clock=time.monotonic):
-        self.desk, self.known = desk, Known()
-        self.status, self.tracked = "", None
-        self.button_is_up, self.screen_is_shown = True, False
-        self.shown, self.point = b"", None
-        self.clock, self.began = clock, clock()
+    def __init__(self, desk, clock=time.monotonic, recording=None):
+        super().__init__(desk, clock)
+        self.known, self.recording = Known(), recording
+        self.tracked, self.point, self.button_is_up = None, None, True
+        self.began = self.goes_on_at = clock()
 
     def run_script(self, script):
         """Runs the lines of a script, and then serves the events that they gave rise to, but for those that they posted.
         Gives the lines that were refused, each as its number, itself and the answer."""
         refused = []
-        for number, line in enumerate(script.removesuffix(b"\n").split(b"\n"), 1):
+        for number, line in enumerate(lines_of(script), 1):
             answer = self.answer_to(line)
+            self.record(line)
             if answer.startswith(b"refused"):
                 refused.append((number, line.decode("latin-1").removesuffix("\r"), answer.decode("latin-1")))
         self.guarded(self.begin)
@@ -83,17 +83,17 @@ class EventLoop:
         self.tell(f"flush {EVERY_EVENT} 0")
         self.serve()
 
-    def image(self):
-        """The rows of the screen, where it is another than the one that was given last, and else None."""
-        if self.screen_is_shown:
-            return None
-        answer, before = self.desk.ask(b"image"), self.shown
-        self.shown, self.screen_is_shown = answer, True
-        return None if answer == before else rows_of(answer)
+    def record(self, line):
+        """Keeps a line, where something is recorded."""
+        if self.recording:
+            self.recording.keep(line)
 
-    def sides(self):
-        """The columns and rows of the screen."""
-        return sides_of((self.shown or self.desk.ask(b"image")).split(b"\n", 2)[1])
+    def record_image(self):
+        """The script that is recorded makes an image of the screen as it is now."""
+        self.status = "Nothing is recorded"
+        if self.recording:
+            self.record(b"image")
+            self.status = f"Image {self.recording.images} is recorded"
 
     def mouse_down(self, h, v, modifiers=0):
         """The button went down. One that is down already goes down no further."""
@@ -118,6 +118,13 @@ class EventLoop:
 
     def key_up(self, code, h, v, modifiers=0):
         self.happened(KEY_UP, code, h, v, modifiers)
+
+    def time_passed(self):
+        """What the button holds goes on, where that is due."""
+        now = self.clock()
+        if self.tracked and now >= self.goes_on_at:
+            self.goes_on_at = now + HELD_EVERY
+            self.guarded(self.tracked.held)
 
     def happened(self, kind, message, h, v, modifiers):
         """Posts an event, and serves what there is to be served."""
@@ -164,17 +171,18 @@ class EventLoop:
 
     def answer_to(self, line):
         """The answer to a line, both as bytes, from which is learned what there is."""
-        answer = self.desk.ask(line)
+        answer = super().answer_to(line)
         self.known.learn(line, answer)
-        command = line.split(b" ", 1)[0].decode("latin-1")
-        self.screen_is_shown = self.screen_is_shown and command in LEAVE_THE_SCREEN
         return answer
 
     def tell(self, line):
-        """The answer to a line that has to be done."""
-        answer = self.answer_to(line.encode("latin-1")).decode("latin-1")
+        """The answer to a line that has to be done, which is recorded where it changed something."""
+        text = line.encode("latin-1")
+        answer = self.answer_to(text).decode("latin-1")
         if answer.startswith("refused"):
             raise Refused(f"{line} is {answer}")
+        if command_of(text) not in QUESTIONS and not (command_of(text) == "next" and answer == NO_EVENT):
+            self.record(text)
         return answer
 
     def numbers(self, line):
@@ -210,7 +218,7 @@ class EventLoop:
     def follow(self, tracking, event):
         """Lets this follow the mouse, where it has begun."""
         if tracking.begun(event):
-            self.tracked = tracking
+            self.tracked, self.goes_on_at = tracking, self.clock() + HELD_AFTER
 
     def in_content(self, event, _part, window):
         """A window that is not in front comes there, and nothing else. In the front one, what lies at the point is meant."""
@@ -225,7 +233,7 @@ class EventLoop:
         if part:
             self.follow(ControlTracking(self, self.known.controls[number], left, top), event)
         elif its:
-            self.click_in(its, h, v, event.modifiers)
+            self.follow(ListTracking(self, its, left, top), event)
         else:
             self.status = f"{self.window_name(window)}, at {h} {v} in it"
 
@@ -237,19 +245,6 @@ class EventLoop:
                 return None
         found = [its for its in self.known.lists_of(window) if its.covers(h, v)]
         return found[0] if found else None
-
-    def click_in(self, its, h, v, modifiers):
-        """A list is told of a click, and asked what is selected then."""
-        call = f"{its.window} {its.number}"
-        if self.numbers(f"lclick {call} {h} {v} {modifiers}") == [0]:
-            self.status = f"List {its.number}, on no cell"
-            return
-        found, *cell = self.numbers(f"lgetsel {call} 1 0 0")
-        self.status = f"List {its.number}, no selected cell"
-        if found:
-            at = " ".join(map(str, cell))
-            data = self.tell(f"lget {call} {at}").removeprefix("ok ")
-            self.status = f"List {its.number}, first selected cell: {at}, {data}"
 
     def key_went_down(self, event):
         """A key with the Command key may stand for an item of a menu."""

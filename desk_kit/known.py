@@ -52,6 +52,15 @@ class List:
         """Whether its view has a point of the content."""
         return self.left <= h < self.left + self.width and self.top <= v < self.top + self.height
 
+    def nearest(self, h, v):
+        """The point of its view that is nearest to a point of the content."""
+        right, bottom = self.left + self.width - 1, self.top + self.height - 1
+        return max(self.left, min(right, h)), max(self.top, min(bottom, v))
+
+    def place_of(self, h, v):
+        """How many columns and rows of cells lie in its view before the one that a point of the view belongs to."""
+        return (h - self.left) // self.cell_width, (v - self.top) // self.cell_height
+
     def whole(self, vertical):
         """How many rows, or columns, its view shows whole, and at least one."""
         count = self.height // self.cell_height if vertical else self.width // self.cell_width

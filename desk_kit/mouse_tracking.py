@@ -28,7 +28,14 @@ def named(what, number, title):
     return f'{what} {number} "{title}"' if title else f"{what} {number}"
 
 
-class MenuTracking:
+class Tracking:
+    """What follows the mouse. While the mouse holds it, most of it does nothing."""
+
+    def held(self):
+        """The button has been down for some time since it went down, or since this was told last."""
+
+
+class MenuTracking(Tracking):
     """A menu is pulled down as soon as the mouse is on its title, and then follows the mouse."""
 
     def __init__(self, loop):
@@ -50,7 +57,7 @@ class MenuTracking:
             self.loop.item_chosen(*self.loop.numbers(f"mup {event.h} {event.v}"))
 
 
-class Dragging:
+class Dragging(Tracking):
     """A window that is dragged by its title bar moves where the button goes up, by as much as the mouse did. It is selected
     too, unless the Command key was down. Where the button goes up off the screen or in the menu bar, nothing was meant."""
 
@@ -86,7 +93,7 @@ class Dragging:
             self.loop.status = f"{self.name} is selected"
 
 
-class Growing:
+class Growing(Tracking):
     """A window gets another size where the button goes up, by as much as the mouse moved."""
 
     def __init__(self, loop, window):
@@ -111,7 +118,7 @@ class Growing:
             self.loop.status = f"{self.name} has the size {width} by {height}"
 
 
-class BoxTracking:
+class BoxTracking(Tracking):
     """A zoom box, which does not show that it is tracked: the window is zoomed where the button goes up in it."""
 
     def __init__(self, loop, window, part):
@@ -130,7 +137,7 @@ class BoxTracking:
             self.loop.status = f"{self.name} was zoomed"
 
 
-class GoAwayTracking:
+class GoAwayTracking(Tracking):
     """A go-away box: its window is closed where the button goes up in it."""
 
     def __init__(self, loop, window):
@@ -149,14 +156,17 @@ class GoAwayTracking:
             self.loop.status = f"{self.name} was closed"
 
 
-class ControlTracking:
+class ControlTracking(Tracking):
     """A control of a window whose content begins at this point of the screen. Where the button goes up in the part that it
-    went down in, that part does what controls of this kind are for."""
+    went down in, that part does what controls of this kind are for. A box or a page of a scroll bar that is held does it
+    again and again meanwhile: its tracking ends before each step, since no value is set while a control is tracked, and
+    begins again where the mouse is still in that part."""
 
     def __init__(self, loop, control, left, top):
         self.loop, self.control, self.left, self.top = loop, control, left, top
         self.call = f"{control.window} {control.number}"
         self.name = named(KIND_NAMES[control.kind], control.number, control.title)
+        self.is_open = self.is_inside = self.has_gone_on = self.has_come_to_end = False
 
     def local(self, h, v):
         return f"{clamped(h - self.left)} {clamped(v - self.top)}"
@@ -165,16 +175,46 @@ class ControlTracking:
         return self.loop.numbers(f"cget {self.call}")[0]
 
     def begun(self, event):
-        self.before = self.value()
+        self.before, self.place = self.value(), self.local(event.h, event.v)
         self.loop.status = f"{self.name} is tracked"
-        return self.loop.numbers(f"ctrack {self.call} {self.local(event.h, event.v)}") != [0]
+        self.part = self.loop.numbers(f"ctrack {self.call} {self.place}")[0]
+        self.is_open = self.is_inside = self.part != 0
+        return self.is_open
 
     def moved(self, h, v):
-        self.loop.tell(f"ctstep {self.local(h, v)}")
+        self.place = self.local(h, v)
+        if self.is_open:
+            self.is_inside = self.loop.numbers(f"ctstep {self.place}") != [0]
+        else:
+            self.track_again()
+
+    def track_again(self):
+        """Tracks the part again, where the mouse is in it."""
+        self.is_inside = self.loop.numbers(f"ctest {self.call} {self.place}") == [self.part]
+        if self.is_inside:
+            self.loop.tell(f"ctrack {self.call} {self.place}")
+        self.is_open = self.is_inside
+
+    def held(self):
+        goes_on = self.part in SCROLL_PARTS and self.is_inside and not self.has_come_to_end
+        if goes_on and self.can_go_on():
+            self.loop.tell(f"ctend {self.place}")
+            self.is_open, self.has_gone_on = False, True
+            self.scrolled(self.part)
+            self.before = self.value()
+            self.track_again()
+
+    def can_go_on(self):
+        """Whether the scroll bar is not at its end yet. Once it is, that is asked no more."""
+        value, least, most = self.loop.numbers(f"cget {self.call}")[:3]
+        self.has_come_to_end = value <= least if SCROLL_PARTS[self.part][0] < 0 else value >= most
+        return not self.has_come_to_end
 
     def released(self, event):
-        part = self.loop.numbers(f"ctend {self.local(event.h, event.v)}")[0]
-        if part:
+        part = self.loop.numbers(f"ctend {self.local(event.h, event.v)}")[0] if self.is_open else 0
+        if self.has_gone_on:
+            self.tell_value()
+        elif part:
             USES[self.control.kind](self, part)
         else:
             self.loop.status = f"{self.name}: nothing was meant"

@@ -1,5 +1,6 @@
 """The screen of a driven desk in a window of Tk, with a line below it that says what happened last and where the mouse is.
-What the mouse and the keys do goes to a loop of events, and the screen is shown again where it has changed."""
+What the mouse and the keys do, and that time passes, goes to a loop of events or to a replay, and the screen is shown again
+where it has changed."""
 
 import sys
 import tkinter
@@ -34,6 +35,9 @@ CODES = {
 SCALES = (2, 1)
 ROOM = 120
 
+# The milliseconds between two times at which is told that time has passed.
+PERIOD = 50
+
 # How many characters the line below has room for at least, also where the screen is not so wide.
 LEAST_LINE = 40
 
@@ -59,7 +63,8 @@ def code_of(event):
 
 
 class ScreenWindow:
-    """The window, over a Tk root and a loop of events. Where no scale is named it is found from the size of the screens."""
+    """The window, over a Tk root and a loop of events or a replay. Where no scale is named it is found from the size of the
+    screens."""
 
     def __init__(self, root, loop, scale, title):
         self.root, self.loop = root, loop
@@ -83,6 +88,7 @@ class ScreenWindow:
         self.status, self.place = self.line_below()
         self.bind()
         self.refresh()
+        self.pass_time()
 
     def fitting_scale(self):
         """The first scale at which the whole screen is seen, or the last one."""
@@ -106,6 +112,7 @@ class ScreenWindow:
         self.canvas.bind("<ButtonRelease-1>", self.button_up)
         self.canvas.bind("<Motion>", self.moved)
         self.root.bind("<KeyPress>", self.key_down)
+        self.root.bind("<KeyPress-F5>", lambda _: self.tell(self.loop.record_image))
         self.root.bind("<KeyRelease>", self.key_up)
         self.canvas.focus_set()
 
@@ -132,6 +139,12 @@ class ScreenWindow:
         code = code_of(event)
         if code is not None:
             self.tell(self.loop.key_up, code, *self.mouse, modifiers_of(event.state))
+
+    def pass_time(self):
+        """Tells again and again that time has passed."""
+        if not self.is_at_fault:
+            self.tell(self.loop.time_passed)
+            self.root.after(PERIOD, self.pass_time)
 
     def tell(self, action, *words):
         """Tells the loop of something, and shows what came of it. Once the program is at fault nothing is told any more."""

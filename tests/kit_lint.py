@@ -1,4 +1,4 @@
-"""Tests of desk-test --lint, for kit-tests, and of the forms that kit.forms makes of the manual."""
+"""Tests of desk-test --lint, for kit-tests, and of the forms that desk_kit.forms makes of the manual."""
 
 import os
 import shutil

@@ -183,13 +183,17 @@ def bash_completes_options_and_files(place):
         ([talk, "--p"], ["--program"]),
         ([os.path.join(TOP, "desk-test"), "--acc"], ["--accept"]),
         ([os.path.join(TOP, "desk-view"), "--sc"], ["--scale"]),
+        ([os.path.join(TOP, "desk-view"), "--re"], ["--record", "--replay"]),
+        ([os.path.join(TOP, "desk-view"), "--replay", "o"], ["one.desk"]),
+        ([os.path.join(TOP, "desk-web"), "--"], ["--port", "--program", "--record"]),
+        ([os.path.join(TOP, "desk-web"), "--record", "o"], ["one.desk", "other.txt"]),
         (["./no-such-command", "--"], []),
     ]:
         same(f"{[os.path.basename(words[0]), *words[1:]]}", completed(place, *words), wanted)
     asks = f'. "{os.path.join(TOP, "editors", "bash", "desk.bash")}"; complete -p'
     ran = subprocess.run(["bash", "--norc", "-c", asks], capture_output=True, check=True)
     named = sorted(line.split()[-1] for line in ran.stdout.decode().splitlines())
-    same("the commands", named, ["desk", "desk-png", "desk-talk", "desk-test", "desk-view"])
+    same("the commands", named, ["desk", "desk-png", "desk-talk", "desk-test", "desk-view", "desk-web"])
 
 
 TESTS = [

@@ -1,7 +1,13 @@
-"""A loop of events that is tried: the mouse is told to it, and the desk is asked what came of it."""
+"""A loop of events that is tried: the mouse is told to it, and the desk is asked what came of it. All of it is recorded, and
+what is recorded has to run again to the same screen."""
+
+import os
+import subprocess
+import tempfile
 
 from desk_kit.driven import Driven, Fault
 from desk_kit.event_loop import EventLoop
+from desk_kit.recording import Recording
 
 NOTHING_DUE = "ok 000A0000000000000000"
 NO_EVENT = "ok 0 0 0 0 0 0"
@@ -27,9 +33,9 @@ class Tried:
     """A loop of events over a driven program that has run a script, with its first image. Its clock stands still until it is
     set."""
 
-    def __init__(self, desk, script):
+    def __init__(self, desk, script, recording=None):
         self.desk, self.seconds = desk, 0.0
-        self.loop = EventLoop(desk, lambda: self.seconds)
+        self.loop = EventLoop(desk, lambda: self.seconds, recording)
         self.refused = self.loop.run_script(script.encode("latin-1"))
         self.first = self.loop.image()
         desk.asked.clear()
@@ -52,6 +58,7 @@ class Tried:
 
     def wants(self, line, answer):
         found = self.loop.answer_to(line.encode("latin-1")).decode("latin-1")
+        self.loop.record(line.encode("latin-1"))
         if found != answer:
             raise Differs(f"{line} is answered by {found!r} in place of {answer!r}")
 
@@ -66,13 +73,24 @@ class Tried:
         if not found[wanted]:
             raise Differs(f"the screen is not {wanted}: {what}")
 
+    def runs_again(self, program, recorded):
+        """Wants what is recorded to end with the screen that is here."""
+        self.loop.record_image()
+        ran = subprocess.run([program, "--check", recorded], capture_output=True, timeout=60)
+        *_, image = ran.stdout.split(b"P1\n")
+        if image != self.desk.ask(b"image").removeprefix(b"P1\n") + b"\ncheck 0\n":
+            raise Differs("what is recorded runs to another screen")
+
 
 def faults(program, tests):
     """What is wrong, test by test, and nothing for one that passes. Each test has its script."""
     for test, script in tests.items():
         try:
-            with Kept([program]) as desk:
-                test(Tried(desk, script))
+            with tempfile.TemporaryDirectory(prefix="desk-tried-") as folder, Kept([program]) as desk:
+                recorded = os.path.join(folder, "recorded.desk")
+                tried = Tried(desk, script, Recording(recorded))
+                test(tried)
+                tried.runs_again(program, recorded)
             yield None
         except (Differs, Fault) as fault:
             yield f"{test.__name__.replace('_', ' ')}: {fault}"

@@ -23,6 +23,7 @@ from view_tried import Differs
 TOP = os.path.dirname(os.path.dirname(os.path.realpath(__file__)))
 VIEWER = os.path.join(TOP, "desk-view")
 TITLE = "tried.desk - desk-view"
+REPLAY_TITLE = "replayed.desk - desk-view: Space pauses, and Return runs one line"
 
 # How long anything may take; how long the lines have to stay as they are to be the last ones; and between two looks.
 SECONDS = 30.0
@@ -43,7 +44,10 @@ draw 1 fill 8 8 60 40 patCopy ltGray
 window nogrow 60 70 140 70 1 1 "Two"
 control 2 check 8 6 60 14 1 0 1 0 "Grid"
 control 2 button 8 40 60 18 1 0 1 0 "OK"
+control 2 scroll 76 6 16 60 1 0 3 0 ""
 """
+# A script that is replayed takes 15 seconds at least, in which there is time to pause it.
+REPLAYED = SCRIPT + "frontwin\n" * 60
 
 
 def missing():
@@ -60,6 +64,11 @@ def eventually(look, what):
             raise Differs(f"after {SECONDS:g} seconds there is not {what}")
         time.sleep(PAUSE)
     return found
+
+
+def read(path):
+    with open(path, "rb") as file:
+        return file.read()
 
 
 class Started:
@@ -131,25 +140,29 @@ def bits(row):
 
 
 class Viewer(Started):
-    """desk-view in a server, over a program that is reached through a file: what is written to it is kept there."""
+    """desk-view in a server, over a program that is reached through a file: what is written to it is kept there. The script
+    of this name is used and recorded, or replayed."""
 
-    def __init__(self, server, program, folder):
-        self.server, self.program = server, program
+    def __init__(self, server, program, folder, name="tried.desk", text=SCRIPT, title=TITLE):
+        self.server, self.program, self.title = server, program, title
+        os.mkdir(os.path.join(folder, title))
+        folder = os.path.join(folder, title)
         self.lines, self.number, self.errors = (os.path.join(folder, name) for name in ("lines", "number", "errors"))
-        script, way = os.path.join(folder, "tried.desk"), os.path.join(folder, "program")
+        script, way, self.recorded = (os.path.join(folder, it) for it in (name, "program", "recorded.desk"))
         with open(script, "w") as file:
-            file.write(SCRIPT)
+            file.write(text)
         with open(way, "w") as file:
             begins = f"echo $$ > {shlex.quote(self.number)}; exec {shlex.quote(program)}"
             file.write(f"#!/bin/sh\ntee -a {shlex.quote(self.lines)} | sh -c {shlex.quote(begins)}\n")
         os.chmod(way, 0o755)
-        words = [sys.executable, VIEWER, "--program", way, "--scale", str(SCALE), script]
+        last = ["--record", self.recorded, script] if text == SCRIPT else ["--replay", script]
+        words = [sys.executable, VIEWER, "--program", way, "--scale", str(SCALE), *last]
         with open(self.errors, "wb") as file:
             self.ran = subprocess.Popen(words, env=server.environment, stderr=file)
 
     def find(self):
         """Waits for the window, and keeps where the screen is in it: at its top, in the middle."""
-        number = eventually(lambda: self.server.tool("search", "--onlyvisible", "--name", TITLE), "a window of this title")
+        number = eventually(lambda: self.server.tool("search", "--onlyvisible", "--name", self.title), "a window of this title")
         said = self.server.tool("getwindowgeometry", "--shell", number.split()[0])
         sides = dict(line.split("=") for line in said.split())
         self.left = int(sides["X"]) + (int(sides["WIDTH"]) - SCALE * WIDTH) // 2
@@ -243,6 +256,13 @@ def a_check_box_is_clicked(viewer):
     viewer.wants(("cget 2 1", "ok 1 0 1 0 1"))
 
 
+def a_box_that_is_held_goes_on_to_the_end(viewer):
+    viewer.mouse(154, 134, "mousedown", 1)
+    viewer.wants(("cget 2 3", "ok 3 0 3 21 1"))
+    viewer.mouse(154, 134, "mouseup", 1)
+    viewer.wants(("cget 2 3", "ok 3 0 3 0 1"))
+
+
 def a_menu_is_pulled_down_and_an_item_chosen(viewer):
     said = viewer.says()
     viewer.mouse(20, 8, "mousedown", 1)
@@ -272,6 +292,16 @@ def a_window_is_closed_by_its_box(viewer):
     viewer.wants(("info 2", "refused 2 NoSuchWindow"), ("frontwin", "ok 1"))
 
 
+def a_key_records_an_image_of_what_is_shown(viewer):
+    viewer.server.tool("key", "F5")
+    eventually(lambda: read(viewer.recorded).endswith(b"\nimage\n"), "an image in what is recorded")
+    ran = subprocess.run([viewer.program, "--check", viewer.recorded], capture_output=True, timeout=SECONDS)
+    _, image = ran.stdout.split(b"P1\n")
+    rows, _ = viewer.answers()
+    if not image.endswith(b"\ncheck 0\n") or rows_of(b"P1\n" + image.removesuffix(b"\ncheck 0\n")) != rows:
+        raise Differs("what is recorded runs to another image")
+
+
 def a_program_that_ends_is_told_and_nothing_more_is_done(viewer):
     with open(viewer.number) as file:
         os.kill(int(file.read()), signal.SIGKILL)
@@ -289,23 +319,49 @@ def a_program_that_ends_is_told_and_nothing_more_is_done(viewer):
         raise Differs(f"standard error is {errors!r}")
 
 
+def commands_run(viewer):
+    """How many lines of the script that is replayed were written until now; the looks at the screen are none of them."""
+    return len([line for line in viewer.settled().split(b"\n") if line not in (b"", b"image")])
+
+
+def a_script_is_replayed_with_pauses_and_steps(viewer):
+    """The desk is made before there is a window, so that the window has its size."""
+    viewer.find()
+    eventually(lambda: viewer.written().count(b"frontwin") > 1, "the screen that the script makes")
+    viewer.mouse(100, 100)
+    viewer.server.tool("key", "space")
+    done, said = commands_run(viewer), viewer.says()
+    time.sleep(4 * SETTLED)
+    if commands_run(viewer) != done or viewer.says() != said:
+        raise Differs("the script goes on in a pause")
+    viewer.mouse(20, 60, "click", 1)
+    viewer.server.tool("key", "Return")
+    eventually(lambda: viewer.says() != said, "another line below the screen")
+    if commands_run(viewer) != done + 1:
+        raise Differs(f"a step runs {commands_run(viewer) - done} lines")
+    viewer.wants(("frontwin", "ok 2"))
+
+
 TESTS = [
     the_window_shows_the_screen,
     a_click_in_a_rear_window_brings_it_to_front,
     a_window_is_dragged_by_its_title,
     a_button_is_tracked,
     a_check_box_is_clicked,
+    a_box_that_is_held_goes_on_to_the_end,
     a_menu_is_pulled_down_and_an_item_chosen,
     keys_are_posted_and_stand_for_items,
     a_window_is_closed_by_its_box,
+    a_key_records_an_image_of_what_is_shown,
     a_program_that_ends_is_told_and_nothing_more_is_done,
 ]
+REPLAY_TESTS = [a_script_is_replayed_with_pauses_and_steps]
 
 
-def tried(viewer):
+def tried(viewer, tests):
     """What is wrong, test by test, and nothing for one that passes. Each goes on where the one before it ended, so that after
     one that fails no other is tried."""
-    for test in TESTS:
+    for test in tests:
         try:
             test(viewer)
             yield None
@@ -320,7 +376,10 @@ def faults(program):
     """What is wrong, and nothing for each test that passes."""
     with tempfile.TemporaryDirectory(prefix="desk-view-") as folder:
         try:
-            with Server(folder) as server, Viewer(server, program, folder) as viewer:
-                yield from tried(viewer)
+            with Server(folder) as server:
+                with Viewer(server, program, folder) as viewer:
+                    yield from tried(viewer, TESTS)
+                with Viewer(server, program, folder, "replayed.desk", REPLAYED, REPLAY_TITLE) as viewer:
+                    yield from tried(viewer, REPLAY_TESTS)
         except Differs as differs:
             yield f"the window: the server does not begin: {differs}"

@@ -11,7 +11,7 @@ _desk() {
     local command=$1 word=$2 before=$3
     compopt -o filenames 2> /dev/null
     case $before in
-        --program | --font | --differences) mapfile -t COMPREPLY < <(compgen -f -- "$word") ;;
+        --program | --font | --differences | --record) mapfile -t COMPREPLY < <(compgen -f -- "$word") ;;
         *)
             if [[ $word == -* ]]; then
                 mapfile -t COMPREPLY < <(compgen -W "$(_desk_options "$command")" -- "$word")
@@ -22,4 +22,4 @@ _desk() {
     esac
 }
 
-complete -F _desk desk desk-png desk-talk desk-test desk-view
+complete -F _desk desk desk-png desk-talk desk-test desk-view desk-web

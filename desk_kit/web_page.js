@@ -1,0 +1,143 @@
+// The page of desk-web: it tells the server what the mouse, the keys and the time do, and shows the screen that comes back.
+"use strict";
+
+const COMMAND = 256, SHIFT = 512, CAPS_LOCK = 1024, OPTION = 2048;
+// The milliseconds between two times at which is told that time has passed, while the button is down.
+const PERIOD = 50;
+// A pixel is a square of this many pixels of the display at most, and the line below has this much room.
+const LARGEST = 4, LINE = 40;
+// The keys that stay those of the browser.
+const BROWSERS_OWN = /^F([1-46-9]|1[0-2])$/;
+
+const canvas = document.getElementById("screen"), pen = canvas.getContext("2d");
+const said = document.getElementById("status"), place = document.getElementById("place");
+const queue = [];
+let seen = 0, isWaiting = false, isOver = false, isDown = false, mouse = [0, 0];
+
+// Each pixel is a square of whole pixels of the display, the largest for which there is room.
+function fit() {
+  const ratio = window.devicePixelRatio;
+  const across = Math.floor(window.innerWidth * ratio / canvas.width);
+  const down = Math.floor((window.innerHeight - LINE) * ratio / canvas.height);
+  const scale = Math.max(1, Math.min(LARGEST, across, down));
+  canvas.style.width = `${canvas.width * scale / ratio}px`;
+  canvas.style.height = `${canvas.height * scale / ratio}px`;
+}
+
+// The screen comes as its rows, eight pixels in a byte, the leftmost in the high bit, 1 for black.
+function draw(width, height, text) {
+  const bytes = Uint8Array.from(atob(text), it => it.charCodeAt(0)), stride = (width + 7) >> 3;
+  [canvas.width, canvas.height] = [width, height];
+  fit();
+  const image = pen.createImageData(width, height), colors = new Uint32Array(image.data.buffer);
+  const black = new Uint32Array(new Uint8Array([0, 0, 0, 255]).buffer)[0];
+  for (let at = 0; at < colors.length; at++) {
+    const h = at % width, v = (at - h) / width;
+    colors[at] = bytes[v * stride + (h >> 3)] >> (7 - (h & 7)) & 1 ? black : 0xffffffff;
+  }
+  pen.putImageData(image, 0, 0);
+}
+
+function show(answer) {
+  if (answer.screen !== undefined) {
+    draw(answer.width, answer.height, answer.screen);
+  }
+  seen = answer.version;
+  said.textContent = answer.status;
+}
+
+// Sends what waits, in one message at a time, so that everything is told in its order.
+async function send() {
+  if (isWaiting || isOver || queue.length === 0) {
+    return;
+  }
+  isWaiting = true;
+  try {
+    const body = JSON.stringify({ seen, events: queue.splice(0, 200) });
+    const answer = await fetch("events", { method: "POST", headers: { "Content-Type": "application/json" }, body });
+    if (!answer.ok) {
+      throw new Error(await answer.text());
+    }
+    show(await answer.json());
+  } catch (error) {
+    isOver = true;
+    said.textContent = `desk-web does not answer: ${error.message}`;
+  }
+  isWaiting = false;
+  send();
+}
+
+// A move takes the place of one that waits.
+function tell(...event) {
+  if (event[0] === "move" && queue.length && queue[queue.length - 1][0] === "move") {
+    queue.pop();
+  }
+  queue.push(event);
+  send();
+}
+
+// The point of the desk's screen at which the mouse is.
+function at(event) {
+  const box = canvas.getBoundingClientRect();
+  const h = Math.floor((event.clientX - box.left) * canvas.width / box.width);
+  const v = Math.floor((event.clientY - box.top) * canvas.height / box.height);
+  mouse = [h, v];
+  place.textContent = `${h} ${v}`;
+  return mouse;
+}
+
+function modifiers(event) {
+  const command = event.ctrlKey || event.metaKey ? COMMAND : 0, shift = event.shiftKey ? SHIFT : 0;
+  return command + shift + (event.altKey ? OPTION : 0) + (event.getModifierState("CapsLock") ? CAPS_LOCK : 0);
+}
+
+function key(what, event) {
+  if (event.isComposing || BROWSERS_OWN.test(event.key)) {
+    return;
+  }
+  event.preventDefault();
+  if (event.key !== "F5") {
+    tell(what, event.key, event.location === KeyboardEvent.DOM_KEY_LOCATION_NUMPAD, ...mouse, modifiers(event));
+  } else if (what === "keydown") {
+    tell("image");
+  }
+}
+
+function release(event) {
+  if (isDown) {
+    isDown = false;
+    tell("up", ...at(event), modifiers(event));
+  }
+}
+
+canvas.addEventListener("pointerdown", event => {
+  if (event.button === 0 && !isDown) {
+    isDown = true;
+    canvas.setPointerCapture(event.pointerId);
+    tell("down", ...at(event), modifiers(event));
+  }
+});
+// Where the button is down the mouse may be beside the screen.
+window.addEventListener("pointermove", event => {
+  if (isDown) {
+    tell("move", ...at(event));
+  } else if (event.target === canvas) {
+    at(event);
+  }
+});
+window.addEventListener("pointerup", event => {
+  if (event.button === 0) {
+    release(event);
+  }
+});
+window.addEventListener("pointercancel", release);
+canvas.addEventListener("contextmenu", event => event.preventDefault());
+document.addEventListener("keydown", event => key("keydown", event));
+document.addEventListener("keyup", event => key("keyup", event));
+window.addEventListener("resize", fit);
+window.setInterval(() => {
+  if (isDown && !isWaiting) {
+    tell("time");
+  }
+}, PERIOD);
+tell("time");
