@@ -51,7 +51,8 @@ class ListTracking(Tracking):
 
     def select_to(self, point):
         """Selects from the first cell to the one at a point. Where none is there, the cell before stays the last one."""
-        self.click(self.first, self.modifiers)
+        if not self.is_first(self.last):
+            self.click(self.first, self.modifiers)
         if self.is_first(point) or self.click(point, self.modifiers | SHIFT):
             self.last = point
         elif not self.is_first(self.last):

@@ -12,7 +12,7 @@ const BROWSERS_OWN = /^F([1-46-9]|1[0-2])$/;
 const canvas = document.getElementById("screen"), pen = canvas.getContext("2d");
 const said = document.getElementById("status"), place = document.getElementById("place");
 const queue = [];
-let seen = 0, isWaiting = false, isOver = false, isDown = false, mouse = [0, 0];
+let seen = 0, isWaiting = false, isDown = false, mouse = [0, 0];
 
 // Each pixel is a square of whole pixels of the display, the largest for which there is room.
 function fit() {
@@ -48,7 +48,7 @@ function show(answer) {
 
 // Sends what waits, in one message at a time, so that everything is told in its order.
 async function send() {
-  if (isWaiting || isOver || queue.length === 0) {
+  if (isWaiting || queue.length === 0) {
     return;
   }
   isWaiting = true;
@@ -60,7 +60,6 @@ async function send() {
     }
     show(await answer.json());
   } catch (error) {
-    isOver = true;
     said.textContent = `desk-web does not answer: ${error.message}`;
   }
   isWaiting = false;

@@ -156,7 +156,10 @@ def a_drag_asks_only_where_the_mouse_comes_to_another_cell(tried):
     tried.desk.asked.clear()
     for h in (41, 42, 100):
         tried.loop.mouse_moved(h, 76)
-    tried.asked("lclick 1 1 24 32 0", "lclick 1 1 84 32 512", "lgetsel 1 1 1 0 0", "lget 1 1 0 1")
+    tells = "lgetsel 1 1 1 0 0", "lget 1 1 0 1"
+    tried.asked("lclick 1 1 84 32 512", *tells)
+    tried.loop.mouse_moved(100, 92)
+    tried.asked("lclick 1 1 24 32 0", "lclick 1 1 84 48 512", *tells)
 
 
 def with_the_command_key_each_cell_is_clicked_once(tried):

@@ -162,7 +162,8 @@ class Viewer(Started):
 
     def find(self):
         """Waits for the window, and keeps where the screen is in it: at its top, in the middle."""
-        number = eventually(lambda: self.server.tool("search", "--onlyvisible", "--name", self.title), "a window of this title")
+        words = "search", "--onlyvisible", "--name", self.title
+        number = eventually(lambda: self.server.tool(*words), "a window of this title")
         said = self.server.tool("getwindowgeometry", "--shell", number.split()[0])
         sides = dict(line.split("=") for line in said.split())
         self.left = int(sides["X"]) + (int(sides["WIDTH"]) - SCALE * WIDTH) // 2

@@ -60,6 +60,22 @@ def browser():
     return next(filter(None, map(shutil.which, BROWSERS)), None)
 
 
+class NotNow(Differs):
+    """The browser refuses a call, as it may while one page takes the place of another."""
+
+
+def at_last(look, what):
+    """Looks until that gives something, also where the browser refuses it meanwhile."""
+
+    def tried():
+        try:
+            return look()
+        except NotNow:
+            return None
+
+    return eventually(tried, what)
+
+
 class Browser:
     """A browser that shows one page, for as long as a block goes on."""
 
@@ -74,11 +90,18 @@ class Browser:
         self.found, self.number, self.session, self.scale = b"", 0, None, 1
 
     def __enter__(self):
-        target = self.call("Target.createTarget", url="about:blank")["targetId"]
-        self.session = self.call("Target.attachToTarget", targetId=target, flatten=True)["sessionId"]
+        try:
+            target = self.call("Target.createTarget", url="about:blank")["targetId"]
+            self.session = self.call("Target.attachToTarget", targetId=target, flatten=True)["sessionId"]
+        except (Differs, OSError):
+            self.end()
+            raise
         return self
 
     def __exit__(self, *_):
+        self.end()
+
+    def end(self):
         os.close(self.writer)
         os.close(self.reader)
         self.ran.terminate()
@@ -97,7 +120,7 @@ class Browser:
         while (answer := self.message()).get("id") != self.number:
             pass
         if "result" not in answer:
-            raise Differs(f"{method}: {answer}")
+            raise NotNow(f"{method}: {answer}")
         return answer["result"]
 
     def message(self):
@@ -142,7 +165,7 @@ class Browser:
     def says(self, wanted):
         """Waits until the page says this below its screen."""
         try:
-            eventually(lambda: self.value("document.getElementById('status').textContent") == wanted, "what has to be")
+            at_last(lambda: self.value("document.getElementById('status').textContent") == wanted, "what has to be")
         except Differs:
             raise Differs(f"the page says {self.value('document.body.innerText')!r} in place of {wanted!r}") from None
 
@@ -172,7 +195,7 @@ class Page:
             wide = [row.replace("0", "0" * scale).replace("1", "1" * scale) for row in rows]
             return self.browser.picture(self.ratio) == [row for row in wide for _ in range(scale)]
 
-        eventually(look, "the image of the program in the page")
+        at_last(look, "the image of the program in the page")
 
 
 def the_page_shows_the_screen(page):
@@ -237,11 +260,20 @@ def a_key_records_an_image_and_the_page_stays(page):
 def another_page_tells_nothing(page):
     """It is of another origin, though it knows the address."""
     page.browser.call("Page.navigate", url="data:text/html,other")
-    eventually(lambda: page.browser.value("document.body.textContent") == "other", "another page")
+    at_last(lambda: page.browser.value("document.body.textContent") == "other", "another page")
     body = '{"seen":0,"events":[["keydown","x",false,0,0,0]]}'
     sent = f"fetch('{page.served.address}events', {{method: 'POST', mode: 'no-cors', body: '{body}'}})"
     page.browser.value(f"{sent}.then(() => 'sent', () => 'refused')")
     same("what came of it", page.served.says(["time"]), "Image 1 is recorded")
+
+
+def a_server_that_has_ended_is_told(page):
+    """The page is shown on a display of other pixels, and stays there when the server ends."""
+    page.browser.says("Image 1 is recorded")
+    page.shows_the_screen()
+    page.served.end()
+    page.browser.drag((20, 60))
+    page.browser.says("desk-web does not answer: Failed to fetch")
 
 
 TESTS = [
@@ -258,17 +290,25 @@ TESTS = [
 ]
 
 
-def faults(program):
+def tried(browser, served):
     """What is wrong, test by test, and nothing for one that passes. Each goes on where the one before it ended, so that after
-    one that fails no other is tried. At the end the page is shown on another display."""
+    one that fails no other is tried. The last one has a page of its own."""
+    for test in [*TESTS, a_server_that_has_ended_is_told]:
+        try:
+            if test in (TESTS[0], a_server_that_has_ended_is_told):
+                page = Page(browser, served, 1 if test == TESTS[0] else 1.5)
+            test(page)
+            yield None
+        except (Differs, OSError, subprocess.TimeoutExpired) as fault:
+            yield f"the browser: {test.__name__.replace('_', ' ')}: {fault}"
+            return
+
+
+def faults(program):
+    """What is wrong, and nothing for each test that passes."""
     with tempfile.TemporaryDirectory(prefix="desk-browser-") as folder:
-        with Served(program, folder, SCRIPT) as served, Browser(os.path.join(folder, "profile")) as browser:
-            for test, ratio in [*((it, 1) for it in TESTS), (Page.shows_the_screen, 1.5)]:
-                try:
-                    if test in (TESTS[0], Page.shows_the_screen):
-                        page = Page(browser, served, ratio)
-                    test(page)
-                    yield None
-                except (Differs, OSError, subprocess.TimeoutExpired) as fault:
-                    yield f"the browser: {test.__name__.replace('_', ' ')}: {fault}"
-                    return
+        try:
+            with Served(program, folder, SCRIPT) as served, Browser(os.path.join(folder, "profile")) as browser:
+                yield from tried(browser, served)
+        except (Differs, OSError) as fault:
+            yield f"the browser: it does not begin: {fault}"

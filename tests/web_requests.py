@@ -134,7 +134,8 @@ def without_the_token_there_is_nothing(served):
 def other_names_of_the_host_are_refused(served):
     port = served.port
     path, refused = f"/{served.token}/", (403, b"This is no name of this host.\n")
-    for names in ([], ["127.0.0.1"], [f"127.0.0.1:{port + 1}"], [f"desk.example:{port}"], [f"127.0.0.1:{port}", f"localhost:{port}"]):
+    two = [f"127.0.0.1:{port}", f"localhost:{port}"]
+    for names in ([], ["127.0.0.1"], [f"127.0.0.1:{port + 1}"], [f"desk.example:{port}"], two):
         status, _, body = served.request("GET", path, [("Host", name) for name in names])
         same(f"{names}", (status, body), refused)
     same("localhost", served.request("GET", path, [("Host", f"localhost:{port}")])[0], 200)
@@ -146,7 +147,8 @@ def other_names_of_the_host_are_refused(served):
 def pages_of_other_origins_are_refused(served):
     body = json.dumps({"seen": 0, "events": CLICK}).encode()
     host, other = served.host, f"127.0.0.1:{served.port + 1}"
-    for origin in (None, "null", "http://desk.example", f"http://{other}", f"https://{host}", f"http://localhost:{served.port}"):
+    near = f"http://{other}", f"https://{host}", f"http://localhost:{served.port}"
+    for origin in (None, "null", "http://desk.example", *near):
         status, _, why = served.post(body, origin=origin)
         same(f"{origin}", (status, why), (403, b"This comes from no page of this host.\n"))
     same("the page itself", served.get("", Origin="http://desk.example")[0], 403)

@@ -73,13 +73,17 @@ class Served:
         return self
 
     def __exit__(self, *_):
+        self.end()
+        self.ran.stdout.close()
+
+    def end(self):
+        """Ends it by an interrupt, as Ctrl+C does."""
         self.ran.send_signal(signal.SIGINT)
         try:
             self.ran.wait(SECONDS)
         except subprocess.TimeoutExpired:
             self.ran.kill()
             self.ran.wait()
-        self.ran.stdout.close()
 
     def said(self):
         with open(self.errors) as file:
