@@ -44,7 +44,10 @@ To drive a desk with a mouse and keys, for desk-view and desk-web:
   screen_window   the screen in a window of Tk
   with_tk         which Python has Tk
   web_session     what a page tells and is told
-  web_server      the page over HTTP; its files are web_page.html, web_page.css and web_page.js
+  web_server      the page over HTTP
+  web_page.html   the page, which shows the screen on a canvas
+  web_page.css    how it looks
+  web_page.js     what it does
   view.desk       the script that desk-view and desk-web run where none is named
 
 manual, forms and lint read docs/SCRIPT.md, which lies in the tree and not in an installed package.

@@ -62,7 +62,8 @@ def it_is_described_as_it_is(_):
     same("its name and what it wants", (project["name"], project["dependencies"]), ("desk_kit", []))
     same("its version", project["version"], re.search(r"(?m)^## ([0-9.]+)", read("CHANGELOG.md"))[1])
     others = [it for it in os.listdir(os.path.join(TOP, "desk_kit")) if not it.endswith(".py") and it != "__pycache__"]
-    same("what it has", (parts["packages"], parts["package-data"]), (["desk_kit"], {"desk_kit": others}))
+    data = {name: sorted(files) for name, files in parts["package-data"].items()}
+    same("what it has", (parts["packages"], data), (["desk_kit"], {"desk_kit": sorted(others)}))
 
 
 def it_is_installed_by_pip(place):
