@@ -27,6 +27,7 @@ mod rule;
 mod run;
 mod stripe;
 mod words;
+mod writes;
 
 pub use effect::{Effect, Effects};
 pub use image::{BitImage, bits_from};
