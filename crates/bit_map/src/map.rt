@@ -197,8 +197,8 @@ impl BitMap {
             self.writes.add(Written {
                 width: self.width,
                 height: self.height,
-                v,
-                left,
+                v: start.v,
+                left: start.h,
                 count,
             });
         }
