@@ -125,7 +125,7 @@ fn byte(bytes: &[u8], place: usize) -> u8
 }
 
 /// Eight bytes from a place on, all of which there are, the first one high.
-fn eight_within(bytes: &[u8], place: usize) -> u64
+pub fn eight_within(bytes: &[u8], place: usize) -> u64
     requires { place + 8 ≤ length bytes.now }
     ensures { (k : ℕ) → k < 64 → bit_in result k ≡ bit_of (slice_index bytes.now (place + k / 8)) (k % 8) }
 {

@@ -33,7 +33,7 @@ mod words;
 mod writes;
 
 pub use effect::{Effect, Effects};
-pub use image::{BitImage, bits_from};
+pub use image::{BitImage, bits_from, eight_within};
 pub use map::BitMap;
 pub use mode::Mode;
 pub use moves::word_from;

@@ -1,7 +1,7 @@
 //! Drawing by words, beside what single pixels give.
 
 use bit_blit::{copy, fill, invert, shift};
-use bit_map::{BitImage, BitMap, Mode, Pattern};
+use bit_map::{BitImage, BitMap, Mode, Pattern, eight_within};
 use pixel_pictures::pixels::{Pixels, are_alike, mark};
 use scan_region::Region;
 use std::alloc::Global;
@@ -230,6 +230,12 @@ impl Pixels for Thirds {
     fn byte(&self, point: Point) -> u8 {
         mark(point.h == 0 || point.h.rem_euclid(3) == 1)
     }
+}
+
+#[test]
+fn eight_bytes_are_a_word(rt: HostRuntime) {
+    let bytes = [1, 2, 3, 4, 5, 6, 7, 8, 9];
+    assert!(rt; eight_within(&bytes, 1) == 0x0203_0405_0607_0809);
 }
 
 #[test]
