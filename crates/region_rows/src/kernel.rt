@@ -1,5 +1,5 @@
 //! The row kernel: what is kept of a row beside another one, and a row that turns at columns.
-ghost use Rattle.std.specs.Prelude.{◌≡◌, [], false, ◌≤◌, ◌&&◌, ◌++◌, length, OnOk, ℤ, ◌<ℤ◌, ◌≤ℤ◌};
+ghost use Rattle.std.specs.Prelude.{◌≡◌, [], ◌∷◌, false, ℕ, ◌<◌, ◌≤◌, ◌&&◌, ◌++◌, length, slice_index_or, IsTrue, OnOk, ℤ, pos, ◌<ℤ◌, ◌≤ℤ◌};
 ghost use Rattle.tb_geom.specs.Rects.{between};
 ghost use Rattle.region_rows.specs.Cursor.{IsCountTo, IsCount};
 ghost use Rattle.region_rows.specs.Edges.{alike, differ, inside, is_odd, kept, only, IsClimb, IsCoordinate, IsEdges, IsRow};
@@ -173,6 +173,43 @@ fn keep_turned(out: &mut Vec<i32>, edges: &[i32], columns: &[i32]) -> Result<(),
     Ok(())
 }
 
+/// How many edges lie left of the column `x`, and whether there is one in it.
+fn place_of(edges: &[i32], x: i32) -> (usize, bool)
+    ensures within { result.0 ≤ length edges.now }
+    ensures left { (k : ℕ) → k < result.0 → slice_index_or edges.now k (pos 0) <ℤ x }
+    ensures there { IsTrue result.1
+        → (result.0 < length edges.now) × (slice_index_or edges.now result.0 (pos 0) ≡ x) }
+    ensures apart { result.1 ≡ false → result.0 < length edges.now
+        → x <ℤ slice_index_or edges.now result.0 (pos 0) }
+{
+    let mut place = 0;
+    while place < edges.len() {
+        let edge = edges[place];
+        if x <= edge {
+            return (place, x == edge);
+        }
+        place += 1;
+    }
+    (place, false)
+}
+
+/// Turns a row from the column `x` on: takes its edge there away, or puts one there.
+fn turn_at(edges: &mut Vec<i32>, x: i32) -> Result<(), AllocError>
+    requires edges { IsEdges edges.old.items }
+    requires column { IsCoordinate x }
+    ensures pixels { OnOk result ((h : ℤ)
+        → inside edges.new.items h ≡ differ (inside edges.old.items h) (inside (x ∷ []) h)) }
+    ensures edges { OnOk result (IsEdges edges.new.items) }
+{
+    let (place, is_edge) = place_of(edges.as_slice(), x);
+    if is_edge {
+        edges.remove(place);
+        return Ok(());
+    }
+    edges.insert(place, x)?;
+    Ok(())
+}
+
 /// A row of pixels that turns: its edges, and room for those after the next turn.
 #[derive(Drop)]
 pub struct Turning {
@@ -205,6 +242,11 @@ impl Turning {
         }
         if self.edges.as_slice() == columns {
             self.edges.clear();
+            return Ok(());
+        }
+        if let [left, right] = columns {
+            turn_at(&mut self.edges, *left)?;
+            turn_at(&mut self.edges, *right)?;
             return Ok(());
         }
         keep_turned(&mut self.room, self.edges.as_slice(), columns)?;
