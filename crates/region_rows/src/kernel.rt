@@ -144,6 +144,7 @@ pub fn keep_part(
 }
 
 /// Makes `out` the edges of a row that is turned from each of these columns on.
+#[inline(never)]
 fn keep_turned(out: &mut Vec<i32>, edges: &[i32], columns: &[i32]) -> Result<(), AllocError>
     requires edges { IsEdges edges.now }
     requires columns { IsEdges columns.now }
@@ -194,6 +195,7 @@ fn place_of(edges: &[i32], x: i32) -> (usize, bool)
 }
 
 /// Turns a row from the column `x` on: takes its edge there away, or puts one there.
+#[inline(always)]
 fn turn_at(edges: &mut Vec<i32>, x: i32) -> Result<(), AllocError>
     requires edges { IsEdges edges.old.items }
     requires column { IsCoordinate x }
@@ -229,6 +231,7 @@ impl Turning {
     }
 
     /// Turns the row from each of these columns on. Most rows begin as the first columns say, and end there.
+    #[inline(always)]
     pub fn turn(&mut self, columns: &[i32]) -> Result<(), AllocError>
         requires edges { IsEdges self.old.edges.items }
         requires columns { IsEdges columns.now }
