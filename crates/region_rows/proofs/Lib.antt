@@ -5,6 +5,7 @@ pub mod Pushes
 pub mod RunEdges
 pub mod Turnings
 pub mod TurnedAt
+pub mod Shifted
 pub mod InPlace
 pub mod Merged
 pub mod Plane

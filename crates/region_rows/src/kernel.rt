@@ -1,5 +1,5 @@
 //! The row kernel: what is kept of a row beside another one, and a row that turns at columns.
-ghost use Rattle.std.specs.Prelude.{◌≡◌, [], ◌∷◌, false, ℕ, ◌<◌, ◌≤◌, ◌&&◌, ◌++◌, length, slice_index_or, IsTrue, OnOk, ℤ, pos, ◌<ℤ◌, ◌≤ℤ◌};
+ghost use Rattle.std.specs.Prelude.{◌≡◌, [], ◌∷◌, false, ℕ, ◌<◌, ◌≤◌, ◌&&◌, ◌-◌, ◌++◌, length, take, insert, remove, slice_index_or, IsTrue, OnOk, ℤ, pos, ◌<ℤ◌, ◌≤ℤ◌};
 ghost use Rattle.tb_geom.specs.Rects.{between};
 ghost use Rattle.region_rows.specs.Cursor.{IsCountTo, IsCount};
 ghost use Rattle.region_rows.specs.Edges.{alike, differ, inside, is_odd, kept, only, IsClimb, IsCoordinate, IsEdges, IsRow};
@@ -194,6 +194,34 @@ fn place_of(edges: &[i32], x: i32) -> (usize, bool)
     (place, false)
 }
 
+/// Puts a number at a place, and those from there on one place up, and gives the last one, which has no place.
+fn open_place(edges: &mut [i32], place: usize, x: i32) -> i32
+    requires { place ≤ length edges.old }
+    ensures { edges.new ++ result ∷ [] ≡ insert edges.old place x }
+{
+    let mut carried = x;
+    let mut at = place;
+    while at < edges.len() {
+        let edge = edges[at];
+        edges[at] = carried;
+        carried = edge;
+        at += 1;
+    }
+    carried
+}
+
+/// Puts the numbers after a place one place down. The last place is not needed any more.
+fn close_place(edges: &mut [i32], place: usize)
+    requires { place < length edges.old }
+    ensures { take (length edges.new - 1) edges.new ≡ remove edges.old place }
+{
+    let mut at = place;
+    while at + 1 < edges.len() {
+        edges[at] = edges[at + 1];
+        at += 1;
+    }
+}
+
 /// Turns a row from the column `x` on: takes its edge there away, or puts one there.
 #[inline(always)]
 fn turn_at(edges: &mut Vec<i32>, x: i32) -> Result<(), AllocError>
@@ -205,10 +233,12 @@ fn turn_at(edges: &mut Vec<i32>, x: i32) -> Result<(), AllocError>
 {
     let (place, is_edge) = place_of(edges.as_slice(), x);
     if is_edge {
-        edges.remove(place);
+        close_place(edges.as_mut_slice(), place);
+        edges.pop();
         return Ok(());
     }
-    edges.insert(place, x)?;
+    let last = open_place(edges.as_mut_slice(), place, x);
+    edges.push(last)?;
     Ok(())
 }
 
