@@ -103,6 +103,7 @@ fn add_run(
 }
 
 /// Makes `out` the edges of the pixels of a row at which another one is in, where `within`, and else out.
+#[inline(always)]
 fn keep_runs(out: &mut Vec<i32>, row: &[i32], edges: &[i32], within: bool) -> Result<(), AllocError>
     requires row { IsRow row.now }
     requires edges { IsEdges edges.now }
