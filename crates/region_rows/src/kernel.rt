@@ -34,6 +34,7 @@ impl Cursor {
 }
 
 /// Goes on past the edges up to the column `x`.
+#[inline(always)]
 fn count_to(edges: &[i32], from: Cursor, x: i32) -> Cursor
     requires within { from.next ≤ length edges.now }
     requires odd { is_odd from.next ≡ from.inside }
@@ -56,6 +57,7 @@ fn count_to(edges: &[i32], from: Cursor, x: i32) -> Cursor
 }
 
 /// Adds an edge, if it is one.
+#[inline(always)]
 fn push_if(edges: &mut Vec<i32>, is_edge: bool, x: i32) -> Result<(), AllocError>
     ensures { OnOk result (edges.new.items ≡ edges.old.items ++ only is_edge x) }
 {
@@ -67,6 +69,7 @@ fn push_if(edges: &mut Vec<i32>, is_edge: bool, x: i32) -> Result<(), AllocError
 }
 
 /// Adds edges, of which there are few.
+#[inline(always)]
 fn push_all(out: &mut Vec<i32>, edges: &[i32]) -> Result<(), AllocError>
     ensures { OnOk result (out.new.items ≡ out.old.items ++ edges.now) }
 {
@@ -78,6 +81,7 @@ fn push_all(out: &mut Vec<i32>, edges: &[i32]) -> Result<(), AllocError>
 
 /// Adds the edges of the pixels from the column `left` up to `right` at which another row is in, where
 /// `within`, and else out.
+#[inline(always)]
 fn add_run(
     out: &mut Vec<i32>,
     left: i32,
@@ -121,6 +125,7 @@ fn keep_runs(out: &mut Vec<i32>, row: &[i32], edges: &[i32], within: bool) -> Re
 }
 
 /// Makes `out` the edges of the pixels of a row that are kept beside another one.
+#[inline(always)]
 pub fn keep_part(
     out: &mut Vec<i32>,
     row: &[i32],
