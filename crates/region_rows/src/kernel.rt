@@ -266,7 +266,8 @@ impl Turning {
         }
     }
 
-    /// Turns the row from each of these columns on. Most rows begin as the first columns say, and end there.
+    /// Turns the row from each of these columns on, of which there are two most often. Most rows begin as the first
+    /// columns say, and end there.
     #[inline(always)]
     pub fn turn(&mut self, columns: &[i32]) -> Result<(), AllocError>
         requires edges { IsEdges self.old.edges.items }
