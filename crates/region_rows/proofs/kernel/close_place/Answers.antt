@@ -1,4 +1,4 @@
-use Rattle.std.proofs.Common.{◌<◌, ◌+◌, arith, rules, length, get_or, pos, SFits, w32, ◌∙◌}
+use Rattle.std.proofs.Common.{◌<◌, ◌+◌, rules, length, get_or, pos, SFits, w32, ◌∙◌}
 use Rattle.std.proofs.lemmas.Int.{to_z-of_z}
 use Rattle.region_rows.proofs.Shifted.{closed_on}
 use Rattle.region_rows.proofs.kernel.close_place.Goals as goal

@@ -1,4 +1,4 @@
-use Rattle.std.proofs.Common.{◌≡◌, ◌<◌, arith, rules, length, get_or, pos, ◌<ℤ◌, ◌≤ℤ◌, SFits, w32}
+use Rattle.std.proofs.Common.{arith, rules, get_or, pos, ◌<ℤ◌, SFits, w32}
 use Rattle.std.proofs.lemmas.Int.{ints, to_z-of_z}
 use Rattle.region_rows.proofs.TurnedAt.{one_more_left}
 use Rattle.region_rows.proofs.kernel.place_of.Goals as goal
