@@ -5,6 +5,7 @@ use crate::row::Row;
 use std::alloc::{AllocError, Global};
 
 /// Adds a copy of each row.
+#[inline(always)]
 fn push_copies(alloc: Global, copies: &mut Vec<Row>, rows: &[Row]) -> Result<(), AllocError>
     ensures { OnOk result (copies.new.items ≡ copies.old.items ++ rows.now) }
 {

@@ -1,5 +1,5 @@
 //! The row kernel: what is kept of a row beside another one, and a row that turns at columns.
-ghost use Rattle.std.specs.Prelude.{◌≡◌, [], false, ◌≤◌, ◌&&◌, ◌++◌, length, OnOk, ℤ, ◌<ℤ◌, ◌≤ℤ◌};
+ghost use Rattle.std.specs.Prelude.{◌≡◌, [], ◌∷◌, false, ℕ, ◌<◌, ◌≤◌, ◌&&◌, ◌-◌, ◌++◌, length, take, insert, remove, slice_index_or, IsTrue, OnOk, ℤ, pos, ◌<ℤ◌, ◌≤ℤ◌};
 ghost use Rattle.tb_geom.specs.Rects.{between};
 ghost use Rattle.region_rows.specs.Cursor.{IsCountTo, IsCount};
 ghost use Rattle.region_rows.specs.Edges.{alike, differ, inside, is_odd, kept, only, IsClimb, IsCoordinate, IsEdges, IsRow};
@@ -34,6 +34,7 @@ impl Cursor {
 }
 
 /// Goes on past the edges up to the column `x`.
+#[inline(always)]
 fn count_to(edges: &[i32], from: Cursor, x: i32) -> Cursor
     requires within { from.next ≤ length edges.now }
     requires odd { is_odd from.next ≡ from.inside }
@@ -56,6 +57,7 @@ fn count_to(edges: &[i32], from: Cursor, x: i32) -> Cursor
 }
 
 /// Adds an edge, if it is one.
+#[inline(always)]
 fn push_if(edges: &mut Vec<i32>, is_edge: bool, x: i32) -> Result<(), AllocError>
     ensures { OnOk result (edges.new.items ≡ edges.old.items ++ only is_edge x) }
 {
@@ -67,6 +69,7 @@ fn push_if(edges: &mut Vec<i32>, is_edge: bool, x: i32) -> Result<(), AllocError
 }
 
 /// Adds edges, of which there are few.
+#[inline(always)]
 fn push_all(out: &mut Vec<i32>, edges: &[i32]) -> Result<(), AllocError>
     ensures { OnOk result (out.new.items ≡ out.old.items ++ edges.now) }
 {
@@ -78,6 +81,7 @@ fn push_all(out: &mut Vec<i32>, edges: &[i32]) -> Result<(), AllocError>
 
 /// Adds the edges of the pixels from the column `left` up to `right` at which another row is in, where
 /// `within`, and else out.
+#[inline(always)]
 fn add_run(
     out: &mut Vec<i32>,
     left: i32,
@@ -103,6 +107,7 @@ fn add_run(
 }
 
 /// Makes `out` the edges of the pixels of a row at which another one is in, where `within`, and else out.
+#[inline(always)]
 fn keep_runs(out: &mut Vec<i32>, row: &[i32], edges: &[i32], within: bool) -> Result<(), AllocError>
     requires row { IsRow row.now }
     requires edges { IsEdges edges.now }
@@ -120,6 +125,7 @@ fn keep_runs(out: &mut Vec<i32>, row: &[i32], edges: &[i32], within: bool) -> Re
 }
 
 /// Makes `out` the edges of the pixels of a row that are kept beside another one.
+#[inline(always)]
 pub fn keep_part(
     out: &mut Vec<i32>,
     row: &[i32],
@@ -144,6 +150,7 @@ pub fn keep_part(
 }
 
 /// Makes `out` the edges of a row that is turned from each of these columns on.
+#[inline(never)]
 fn keep_turned(out: &mut Vec<i32>, edges: &[i32], columns: &[i32]) -> Result<(), AllocError>
     requires edges { IsEdges edges.now }
     requires columns { IsEdges columns.now }
@@ -173,6 +180,74 @@ fn keep_turned(out: &mut Vec<i32>, edges: &[i32], columns: &[i32]) -> Result<(),
     Ok(())
 }
 
+/// How many edges lie left of the column `x`, and whether there is one in it.
+fn place_of(edges: &[i32], x: i32) -> (usize, bool)
+    ensures within { result.0 ≤ length edges.now }
+    ensures left { (k : ℕ) → k < result.0 → slice_index_or edges.now k (pos 0) <ℤ x }
+    ensures there { IsTrue result.1
+        → (result.0 < length edges.now) × (slice_index_or edges.now result.0 (pos 0) ≡ x) }
+    ensures apart { result.1 ≡ false → result.0 < length edges.now
+        → x <ℤ slice_index_or edges.now result.0 (pos 0) }
+{
+    let mut place = 0;
+    while place < edges.len() {
+        let edge = edges[place];
+        if x <= edge {
+            return (place, x == edge);
+        }
+        place += 1;
+    }
+    (place, false)
+}
+
+/// Puts a number at a place, and those from there on one place up, and gives the last one, which has no place.
+fn open_place(edges: &mut [i32], place: usize, x: i32) -> i32
+    requires { place ≤ length edges.old }
+    ensures { edges.new ++ result ∷ [] ≡ insert edges.old place x }
+{
+    let mut carried = x;
+    let mut at = place;
+    while at < edges.len() {
+        let edge = edges[at];
+        edges[at] = carried;
+        carried = edge;
+        at += 1;
+    }
+    carried
+}
+
+/// Puts the numbers after a place one place down. The last place is not needed any more.
+fn close_place(edges: &mut [i32], place: usize)
+    requires { place < length edges.old }
+    ensures { take (length edges.new - 1) edges.new ≡ remove edges.old place }
+{
+    let mut at = place;
+    while at + 1 < edges.len() {
+        edges[at] = edges[at + 1];
+        at += 1;
+    }
+}
+
+/// Turns a row from the column `x` on: takes its edge there away, or puts one there.
+#[inline(always)]
+fn turn_at(edges: &mut Vec<i32>, x: i32) -> Result<(), AllocError>
+    requires edges { IsEdges edges.old.items }
+    requires column { IsCoordinate x }
+    ensures pixels { OnOk result ((h : ℤ)
+        → inside edges.new.items h ≡ differ (inside edges.old.items h) (inside (x ∷ []) h)) }
+    ensures edges { OnOk result (IsEdges edges.new.items) }
+{
+    let (place, is_edge) = place_of(edges.as_slice(), x);
+    if is_edge {
+        close_place(edges.as_mut_slice(), place);
+        edges.pop();
+        return Ok(());
+    }
+    let last = open_place(edges.as_mut_slice(), place, x);
+    edges.push(last)?;
+    Ok(())
+}
+
 /// A row of pixels that turns: its edges, and room for those after the next turn.
 #[derive(Drop)]
 pub struct Turning {
@@ -191,7 +266,9 @@ impl Turning {
         }
     }
 
-    /// Turns the row from each of these columns on. Most rows begin as the first columns say, and end there.
+    /// Turns the row from each of these columns on, of which there are two most often. Most rows begin as the first
+    /// columns say, and end there.
+    #[inline(always)]
     pub fn turn(&mut self, columns: &[i32]) -> Result<(), AllocError>
         requires edges { IsEdges self.old.edges.items }
         requires columns { IsEdges columns.now }
@@ -205,6 +282,11 @@ impl Turning {
         }
         if self.edges.as_slice() == columns {
             self.edges.clear();
+            return Ok(());
+        }
+        if let [left, right] = columns {
+            turn_at(&mut self.edges, *left)?;
+            turn_at(&mut self.edges, *right)?;
             return Ok(());
         }
         keep_turned(&mut self.room, self.edges.as_slice(), columns)?;

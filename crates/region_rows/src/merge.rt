@@ -62,7 +62,7 @@ fn next_row(a: &[Row], i: usize, b: &[Row], j: usize) -> Option<i32>
 }
 
 /// Adds a row of these points, if it has any.
-#[inline]
+#[inline(always)]
 fn push_row(alloc: Global, rows: &mut Vec<Row>, v: i32, points: &[i32]) -> Result<(), AllocError>
     ensures { OnOk result (rows.new.items ≡ with_row rows.old.items v points.now) }
 {
@@ -73,7 +73,7 @@ fn push_row(alloc: Global, rows: &mut Vec<Row>, v: i32, points: &[i32]) -> Resul
 }
 
 /// Adds a row of those of these points that are kept beside another row, if there are any.
-#[inline]
+#[inline(always)]
 fn push_part(
     alloc: Global,
     rows: &mut Vec<Row>,
@@ -127,6 +127,7 @@ impl Sides {
     /// Turns both sides at their points `p` and `q` of a row, and adds the row of the points at which the
     /// combination turns: what turns of the first side, seen beside the second one as it was, and what
     /// turns of the second one, seen beside the first one as it is then.
+    #[inline(never)]
     fn turn_both(
         &mut self,
         alloc: Global,
@@ -161,6 +162,7 @@ impl Sides {
 
     /// Turns the sides at their points `p` and `q` of a row, where either may have none, and adds the row
     /// of the points at which the combination turns.
+    #[inline(always)]
     fn turn(
         &mut self,
         alloc: Global,

@@ -1,7 +1,8 @@
-use Rattle.std.proofs.Common.{◌≡◌, [], arith, rules, sym, ◌∙◌}
-use Rattle.std.proofs.lemmas.Int.{ints}
+use Rattle.std.proofs.Common.{◌≡◌, ◌<◌, [], length, get_or, pos, SFits, w32, arith, rules, sym, ◌∙◌}
+use Rattle.std.proofs.lemmas.Int.{ints, to_z-of_z}
 use Rattle.std.proofs.lemmas.List.{nil_from_length}
 use Rattle.region_rows.proofs.Edges.{nothing_turned, same_turned, same_from_test}
+use Rattle.region_rows.proofs.TurnedAt.{is_coordinate, turned_by_two}
 use Rattle.region_rows.proofs.kernel.Turning.turn.Goals as goal
 
 pub returns-then-is_empty : goal.returns-then-is_empty
@@ -13,3 +14,25 @@ pub returns-then-eq : goal.returns-then-eq
 returns-then-eq c =
     let same : c.args.self.now.edges.items ≡ c.args.columns.now = same_from_test _ _ (sym (rw c.as_slice.ensures.value at c.eq.ensures) ∙ c.if-eq.true) in
     rw c.clear.ensures.items (record { pixels = λ h. same_turned _ _ h same; edges = omega (arith, ints) })
+
+pub turn_at-requires-clause-column : goal.turn_at-requires-clause-column
+turn_at-requires-clause-column c =
+    let fits : SFits w32 (get_or c.args.columns.now 0 (pos 0)) = search rules in
+    let there : 0 < length c.args.columns.now = search rules in
+    simp to_z-of_z (is_coordinate c.args.columns.now 0 c.requires.columns there)
+
+pub turn_at-requires-in-len2-clause-column : goal.turn_at-requires-in-len2-clause-column
+turn_at-requires-in-len2-clause-column c =
+    let fits : SFits w32 (get_or c.args.columns.now 1 (pos 0)) = search rules in
+    let there : 1 < length c.args.columns.now = search rules in
+    simp to_z-of_z (is_coordinate c.args.columns.now 1 c.requires.columns there)
+
+pub returns-in-len2-clause-pixels : goal.returns-in-len2-clause-pixels
+returns-in-len2-clause-pixels c =
+    let columns = c.args.columns.now in
+    let fits_l : SFits w32 (get_or columns 0 (pos 0)) = search rules in
+    let fits_r : SFits w32 (get_or columns 1 (pos 0)) = search rules in
+    let two : length columns ≡ 2 = search rules in
+    let first = simp to_z-of_z at c.in_ok-turn_at.ensures.pixels in
+    let second = simp to_z-of_z at c.in_ok-turn_at-2.ensures.pixels in
+    λ h. turned_by_two c.args.self.now.edges.items _ _ columns h two (first h) (second h)
