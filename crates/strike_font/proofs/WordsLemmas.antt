@@ -29,27 +29,28 @@ short_bit font column row w word k e low read =
     let turned : k + column % 8 ≡ column % 8 + k = omega arith in
     bit_in-left word (column % 8) k (omega (arith, low)) ∙ ap (bit_in word) turned ∙ read (column % 8 + k) low ∙ strike_bit font column row w k e
 
-pub left_bits : (font : List ℕ) (first columns row far word k : ℕ) (start : ℤ) → start <ℤ pos 0 → far ≡ nat_abs start
-    → ((j : ℕ) → j < 64 → j < columns → bit_in word j ≡ image_bit font (first + j) row)
-    → k < 64 → pos 0 ≤ℤ (start +ℤ pos k) → (start +ℤ pos k) <ℤ pos columns → bit_in (word / 2 ^ (min far 63)) k ≡ image_bit font (first + nat_abs (start +ℤ pos k)) row
-left_bits font first columns row far word k (pos n) less is read low inside before = absurd (omega (arith, ints))
-left_bits font first columns row far word k (negsuc n) less is read low inside before =
+pub either_bits : (font : List ℕ) (first columns row ahead back word k : ℕ) (start : ℤ) → pos ahead ≡ int_max (pos 0) start → back ≡ min (nat_abs (int_min (pos 0) start)) 63
+    → ((j : ℕ) → j < 64 → j < columns → bit_in word j ≡ image_bit font (first + ahead + j) row)
+    → k < 64 → pos 0 ≤ℤ (start +ℤ pos k) → (start +ℤ pos k) <ℤ pos columns → bit_in (word / 2 ^ back) k ≡ image_bit font (first + nat_abs (start +ℤ pos k)) row
+either_bits font first columns row ahead back word k (pos n) is_ahead is_back read low inside before =
+    let right : int_max (pos 0) (pos n) ≡ pos n = grind (arith, ints, clamps) in
+    let left : int_min (pos 0) (pos n) ≡ pos 0 = grind (arith, ints, clamps) in
+    let a : ahead ≡ n = omega (arith, ints, is_ahead ∙ right) in
+    let b : back ≡ 0 = is_back ∙ ap (λ z. min (nat_abs z) 63) left in
+    let at : first + ahead + (k - back) ≡ first + (n + k) = omega (arith, a, b) in
+    bit_in-right word back k (omega (arith, b)) low ∙ read (k - back) (omega (arith, low)) (omega (arith, ints, b, before)) ∙ ap (λ j. image_bit font j row) at
+either_bits font first columns row ahead back word k (negsuc n) is_ahead is_back read low inside before =
+    let right : int_max (pos 0) (negsuc n) ≡ pos 0 = grind (arith, ints, clamps) in
+    let left : int_min (pos 0) (negsuc n) ≡ negsuc n = grind (arith, ints, clamps) in
     let past : n < k = omega (arith, ints, inside) in
-    let f : far ≡ n + 1 = omega (arith, is) in
-    let m : min far 63 ≡ n + 1 = omega (arith, f, past, low) in
-    let there : nat_abs (negsuc n +ℤ pos k) ≡ k - (n + 1) = ap nat_abs (back n k past) in
-    ap (λ j. bit_in (word / 2 ^ j) k) m ∙ bit_in-right word (n + 1) k (omega (arith, past)) low ∙ read (k - (n + 1)) (omega (arith, low)) (omega (arith, ints, past, before)) ∙ ap (λ j. image_bit font (first + j) row) (sym there)
+    let a : ahead ≡ 0 = omega (arith, ints, is_ahead ∙ right) in
+    let b : back ≡ n + 1 = omega (arith, is_back ∙ ap (λ z. min (nat_abs z) 63) left, past, low) in
+    let there : nat_abs (negsuc n +ℤ pos k) ≡ k - (n + 1) = ap nat_abs (further n k past) in
+    let at : first + ahead + (k - back) ≡ first + (k - (n + 1)) = omega (arith, a, b) in
+    bit_in-right word back k (omega (arith, b, past)) low ∙ read (k - back) (omega (arith, low)) (omega (arith, ints, b, past, before)) ∙ ap (λ j. image_bit font j row) at ∙ ap (λ j. image_bit font (first + j) row) (sym there)
   where
-    back : (n k : ℕ) → n < k → (negsuc n +ℤ pos k) ≡ pos (k - (n + 1))
-    back n k past = omega (arith, ints, past)
-
-pub right_bits : (font : List ℕ) (first columns row far word k : ℕ) (start : ℤ) → pos 0 ≤ℤ start → far ≡ nat_abs start
-    → ((j : ℕ) → j < 64 → j < columns → bit_in word j ≡ image_bit font (first + far + j) row)
-    → k < 64 → (start +ℤ pos k) <ℤ pos columns → bit_in word k ≡ image_bit font (first + nat_abs (start +ℤ pos k)) row
-right_bits font first columns row far word k (pos n) low is read l before =
-    let at : first + far + k ≡ first + (n + k) = omega (arith, is) in
-    read k l (omega (arith, ints, before)) ∙ ap (λ j. image_bit font j row) at
-right_bits font first columns row far word k (negsuc n) low is read l before = absurd (omega (arith, ints))
+    further : (n k : ℕ) → n < k → (negsuc n +ℤ pos k) ≡ pos (k - (n + 1))
+    further n k past = omega (arith, ints, past)
 
 -- a glyph has no bit in a row that there is not
 pub row_none : (font : List ℕ) (g : Glyph) (column row : ℤ) → is_below (height font) row ≡ false → glyph_bit font g column row ≡ false

@@ -1,5 +1,6 @@
 //! Glyphs.
-ghost use Rattle.std.specs.Prelude.{◌≡◌, ℕ, nat_abs, ◌+◌, ◌*◌, ◌^◌, ◌<◌, ◌≤◌, pos, negsuc, ◌-ℤ◌, ◌+ℤ◌, ◌≤ℤ◌, ◌<ℤ◌};
+ghost use Rattle.std.specs.Prelude.{◌≡◌, ℕ, nat_abs, ◌+◌, ◌*◌, ◌^◌, ◌<◌, ◌≤◌, pos, negsuc, ◌-ℤ◌, ◌+ℤ◌, ◌≤ℤ◌, ◌<ℤ◌, min};
+ghost use Rattle.std.specs.Int.{int_min, int_max};
 ghost use Rattle.bit_map.specs.Bits.{is_below};
 ghost use Rattle.bit_map.specs.Words.{bit_in};
 ghost use Rattle.strike_font.specs.Record.{IsFont, last_symbol, words_of_row, height};
@@ -128,12 +129,12 @@ pub fn glyph_pixel(bytes: &[u8], glyph: Glyph, x: i64, y: i64) -> bool
 
 /// The first `columns` of 64 bits of a row of the strike, from a column on, the first at the high bit. The
 /// others may be any: so eight bytes do where there are few.
-fn strike_word(bytes: &[u8], column: usize, columns: u16, row: u16) -> u64
+fn strike_word(bytes: &[u8], row_words: usize, column: usize, columns: u16, row: u16) -> u64
     requires font { IsFont bytes.now }
+    requires words { row_words ≡ words_of_row bytes.now }
     requires near { column < 2 ^ 18 }
     ensures { (k : ℕ) → k < 64 → k < columns → bit_in result k ≡ image_bit bytes.now (column + k) row }
 {
-    let row_words = usize::from(word(bytes, 12));
     let place = 26 + usize::from(row) * (2 * row_words) + column / 8;
     if columns <= 57 {
         return bits_from(bytes, place, 0) << (column % 8);
@@ -141,20 +142,37 @@ fn strike_word(bytes: &[u8], column: usize, columns: u16, row: u16) -> u64
     bits_from(bytes, place, column % 8)
 }
 
+/// How many columns right of a glyph's first one reading begins, where it is to begin at `start`.
+fn ahead_of(start: i32) -> usize
+    ensures { pos result ≡ int_max (pos 0) start }
+{
+    start.max(0).unsigned_abs() as usize
+}
+
+/// How many columns left of a glyph's first one reading is to begin, at most 63.
+fn back_of(start: i32) -> u32
+    ensures { result ≡ min (nat_abs (int_min (pos 0) start)) 63 }
+{
+    start.min(0).unsigned_abs().min(63)
+}
+
 /// 64 bits of a row of the strike, from so many columns right of a first one on. Those left of that one,
 /// and those past the first `columns` from there on, may be any.
-fn strike_from(bytes: &[u8], first: u16, columns: u16, start: i32, row: u16) -> u64
+fn strike_from(
+    bytes: &[u8],
+    row_words: usize,
+    first: u16,
+    columns: u16,
+    start: i32,
+    row: u16,
+) -> u64
     requires font { IsFont bytes.now }
+    requires words { row_words ≡ words_of_row bytes.now }
     requires near { start ≤ℤ pos 65536 }
     ensures { (k : ℕ) → k < 64 → pos 0 ≤ℤ (start +ℤ pos k) → (start +ℤ pos k) <ℤ pos columns → bit_in result k ≡ image_bit bytes.now (first + nat_abs (start +ℤ pos k)) row }
 {
-    let first = usize::from(first);
-    let far = start.unsigned_abs();
-    if start < 0 {
-        strike_word(bytes, first, columns, row) >> far.min(63)
-    } else {
-        strike_word(bytes, first + far as usize, columns, row)
-    }
+    let column = usize::from(first) + ahead_of(start);
+    strike_word(bytes, row_words, column, columns, row) >> back_of(start)
 }
 
 /// Whether glyphs have a row.
@@ -166,13 +184,31 @@ fn is_row(bytes: &[u8], row: i64) -> bool
 }
 
 /// The bits of 64 columns of a glyph in a row that it has, from a column on; it has none outside its own.
-pub fn row_bits(bytes: &[u8], glyph: Glyph, start: i32, row: u16) -> u64
+/// The words of the strike's rows and which columns are the glyph's own are the same in each row.
+pub fn row_bits(
+    bytes: &[u8],
+    row_words: usize,
+    own: u64,
+    glyph: Glyph,
+    start: i32,
+    row: u16,
+) -> u64
     requires font { IsFont bytes.now }
+    requires words { row_words ≡ words_of_row bytes.now }
+    requires own { (k : ℕ) → k < 64 → bit_in own k ≡ is_below glyph.columns (start +ℤ pos k) }
     requires near { start ≤ℤ pos 65536 }
     requires row_in { row < height bytes.now }
     ensures { (k : ℕ) → k < 64 → bit_in result k ≡ glyph_bit bytes.now glyph (start +ℤ pos k) (pos row) }
 {
-    strike_from(bytes, glyph.first, glyph.columns, start, row) & held(glyph.columns, start)
+    strike_from(bytes, row_words, glyph.first, glyph.columns, start, row) & own
+}
+
+/// How many words each row of the strike takes.
+pub fn row_words_of(bytes: &[u8]) -> usize
+    requires { IsFont bytes.now }
+    ensures { result ≡ words_of_row bytes.now }
+{
+    usize::from(word(bytes, 12))
 }
 
 /// The bits of 64 columns of a glyph in a row, from a column on; it has none outside its own.
@@ -184,7 +220,8 @@ fn glyph_bits(bytes: &[u8], glyph: Glyph, column: i64, row: i64) -> u64
         return 0;
     }
     let start = column.clamp(-64, 65536) as i32;
-    row_bits(bytes, glyph, start, row as u16)
+    let own = held(glyph.columns, start);
+    row_bits(bytes, row_words_of(bytes), own, glyph, start, row as u16)
 }
 
 /// Which of 64 pixels of a row a glyph has, the first of them `x` columns right of the pen and `y` rows

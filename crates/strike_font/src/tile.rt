@@ -6,7 +6,7 @@ ghost use Rattle.strike_font.specs.Record.{IsFont};
 ghost use Rattle.strike_font.specs.Text.{glyph_bit, glyph_pixel, glyphs_pixel, IsSized};
 ghost use Rattle.strike_font.specs.Tiles.{tile_bit, IsTile};
 
-use crate::glyph::{Glyph, column_of, glyph_of, row_bits, row_of};
+use crate::glyph::{Glyph, column_of, glyph_of, row_bits, row_of, row_words_of};
 use crate::record::{signed, word};
 use crate::text::right_of;
 use bit_map::{bit_in, held, word_from};
@@ -170,9 +170,12 @@ fn put_column(words: &mut [u64; 128], at: usize, bytes: &[u8], glyph: Glyph, col
     ensures elsewhere { (n : ℕ) → n / 64 % 8 ≢ at → place_bit words.new n ≡ place_bit words.old n }
 {
     let start = column_at(column, at);
+    let own = held(glyph.columns, start);
+    let row_words = row_words_of(bytes);
     let height = word(bytes, 7);
     for down in first_row(row)..end_row(row, height) {
-        words[8 * down + at] |= row_bits(bytes, glyph, start, row_at(row, down));
+        let there = row_at(row, down);
+        words[8 * down + at] |= row_bits(bytes, row_words, own, glyph, start, there);
     }
 }
 

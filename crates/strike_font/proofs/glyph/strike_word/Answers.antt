@@ -12,13 +12,13 @@ returns-then-columns-le57 c =
     let bytes = c.args.bytes.now in
     let column = c.args.column in
     let row = c.from.result in
-    let w = c.from-row_words.result in
-    λ k low less. short_bit bytes column row w c.bits_from.result k (c.from-row_words.ensures ∙ c.word.ensures) (omega (arith, less, c.if-columns-le57.true))
+    let w = c.args.row_words in
+    λ k low less. short_bit bytes column row w c.bits_from.result k c.requires.words (omega (arith, less, c.if-columns-le57.true))
     (λ j l. c.bits_from.ensures j l ∙ (λ i. bit_of (get_or bytes (26 + row * (2 * w) + column / 8 + from_first j i / 8) 0) (from_first j i % 8)))
     ∙ ap (image_bit bytes (column + k)) c.from.ensures
 
 pub returns : goal.returns
 returns c =
     λ k low less. c.bits_from-2.ensures k low
-    ∙ strike_bit c.args.bytes.now c.args.column c.from.result c.from-row_words.result k (c.from-row_words.ensures ∙ c.word.ensures)
+    ∙ strike_bit c.args.bytes.now c.args.column c.from.result c.args.row_words k c.requires.words
     ∙ ap (image_bit c.args.bytes.now (c.args.column + k)) c.from.ensures
