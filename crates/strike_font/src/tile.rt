@@ -2,12 +2,14 @@
 ghost use Rattle.std.specs.Prelude.{◌≡◌, ◌≢◌, ◌||◌, ℕ, ◌+◌, ◌*◌, ◌/◌, ◌%◌, ◌<◌, ◌≤◌, ◌≤ℤ◌, ◌<ℤ◌, ◌+ℤ◌, pos, negsuc, ◌-ℤ◌, length};
 ghost use Rattle.std.specs.Int.{int_min, int_max};
 ghost use Rattle.bit_map.specs.Words.{bit_in, place_bit};
-ghost use Rattle.strike_font.specs.Record.{IsFont};
+ghost use Rattle.strike_font.specs.Record.{IsFont, strike_words};
 ghost use Rattle.strike_font.specs.Text.{glyph_bit, glyph_pixel, glyphs_pixel, IsSized};
 ghost use Rattle.strike_font.specs.Tiles.{tile_bit, IsTile};
 
-use crate::glyph::{Glyph, column_of, glyph_of, row_bits, row_of, row_words_of};
-use crate::record::{signed, word};
+use crate::glyph::{
+    Glyph, column_of, column_read, glyph_of, narrow_bits, row_bits, row_of, row_words_of,
+};
+use crate::record::{signed, strike_words, word};
 use crate::text::right_of;
 use bit_map::{bit_in, held, word_from};
 use std::marker::Model;
@@ -169,6 +171,58 @@ fn put_column(words: &mut [u64; 128], at: usize, bytes: &[u8], glyph: Glyph, col
     ensures here { (n : ℕ) → n < 8192 → n / 64 % 8 ≡ at → place_bit words.new n ≡ (place_bit words.old n || glyph_bit bytes.now glyph (column +ℤ pos (n % 512)) (row +ℤ pos (n / 512))) }
     ensures elsewhere { (n : ℕ) → n / 64 % 8 ≢ at → place_bit words.new n ≡ place_bit words.old n }
 {
+    let read = column_read(glyph.first, column_at(column, at));
+    if glyph.columns <= 57 && 2 * strike_words(bytes) + read / 8 + 8 <= bytes.len() {
+        put_narrow(words, at, bytes, glyph, column, row, read);
+    } else {
+        put_wide(words, at, bytes, glyph, column, row);
+    }
+}
+
+/// Does what `put_column` does for a glyph of at most 57 columns, where eight bytes of each row have those that are
+/// put down, from the column of the strike `read` on.
+fn put_narrow(
+    words: &mut [u64; 128],
+    at: usize,
+    bytes: &[u8],
+    glyph: Glyph,
+    column: i64,
+    row: i64,
+    read: usize,
+)
+    requires font { IsFont bytes.now }
+    requires at_in { at < 8 }
+    requires column_near { IsSized 35 column }
+    requires row_near { IsSized 34 row }
+    requires start_low { negsuc 63 <ℤ (column +ℤ pos (64 * at)) }
+    requires start_high { (column +ℤ pos (64 * at)) <ℤ pos 65536 }
+    requires narrow { glyph.columns ≤ 57 }
+    requires read { pos read ≡ pos glyph.first +ℤ int_max (pos 0) (column +ℤ pos (64 * at)) }
+    requires within { 2 * strike_words bytes.now + read / 8 + 8 ≤ length bytes.now }
+    ensures here { (n : ℕ) → n < 8192 → n / 64 % 8 ≡ at → place_bit words.new n ≡ (place_bit words.old n || glyph_bit bytes.now glyph (column +ℤ pos (n % 512)) (row +ℤ pos (n / 512))) }
+    ensures elsewhere { (n : ℕ) → n / 64 % 8 ≢ at → place_bit words.new n ≡ place_bit words.old n }
+{
+    let start = column_at(column, at);
+    let own = held(glyph.columns, start);
+    let row_words = row_words_of(bytes);
+    let height = word(bytes, 7);
+    for down in first_row(row)..end_row(row, height) {
+        let there = row_at(row, down);
+        words[8 * down + at] |= narrow_bits(bytes, row_words, own, glyph, start, read, there);
+    }
+}
+
+/// Does what `put_column` does for any glyph.
+fn put_wide(words: &mut [u64; 128], at: usize, bytes: &[u8], glyph: Glyph, column: i64, row: i64)
+    requires font { IsFont bytes.now }
+    requires at_in { at < 8 }
+    requires column_near { IsSized 35 column }
+    requires row_near { IsSized 34 row }
+    requires start_low { negsuc 63 <ℤ (column +ℤ pos (64 * at)) }
+    requires start_high { (column +ℤ pos (64 * at)) <ℤ pos 65536 }
+    ensures here { (n : ℕ) → n < 8192 → n / 64 % 8 ≡ at → place_bit words.new n ≡ (place_bit words.old n || glyph_bit bytes.now glyph (column +ℤ pos (n % 512)) (row +ℤ pos (n / 512))) }
+    ensures elsewhere { (n : ℕ) → n / 64 % 8 ≢ at → place_bit words.new n ≡ place_bit words.old n }
+{
     let start = column_at(column, at);
     let own = held(glyph.columns, start);
     let row_words = row_words_of(bytes);
@@ -190,11 +244,11 @@ fn column_at(column: i64, at: usize) -> i32
 }
 
 /// The row of a glyph in a row of a tile.
-fn row_at(row: i64, down: usize) -> u16
+fn row_at(row: i64, down: usize) -> usize
     requires down_in { down < 16 }
     requires low { pos 0 ≤ℤ (row +ℤ pos down) }
     requires high { (row +ℤ pos down) <ℤ pos 65536 }
     ensures { pos result ≡ row +ℤ pos down }
 {
-    (row + down as i64) as u16
+    (row + down as i64) as usize
 }

@@ -6,6 +6,6 @@ use Rattle.strike_font.proofs.glyph.strike_from.Goals as goal
 pub returns : goal.returns
 returns c =
     let fits : SFits w32 c.args.start = search rules in
-    let ahead = simp to_z-of_z at c.ahead_of.ensures in
+    let read = simp to_z-of_z at c.column_read-column.ensures in
     let back = simp to_z-of_z at c.back_of.ensures in
-    λ k low inside before. either_bits c.args.bytes.now c.args.first c.args.columns c.args.row c.ahead_of.result c.back_of.result c.strike_word.result k c.args.start ahead back (rw c.from.ensures at c.strike_word.ensures) low inside before
+    λ k low inside before. either_bits c.args.bytes.now c.args.first c.args.columns c.args.row c.column_read-column.result c.back_of.result c.strike_word.result k c.args.start read back c.strike_word.ensures low inside before
