@@ -1,5 +1,5 @@
 //! Drawing texts, by tiles of 512 columns and 16 rows.
-ghost use Rattle.std.specs.Prelude.{◌≡◌, ◌≤◌, ◌≤ℤ◌, ◌<ℤ◌, ◌-ℤ◌, ◌+ℤ◌, pos, true, ◌&&◌, length, if◌then◌else◌};
+ghost use Rattle.std.specs.Prelude.{◌≡◌, ◌≤◌, ◌≤ℤ◌, ◌<ℤ◌, ◌-ℤ◌, ◌+ℤ◌, pos, true, ◌&&◌, ◌*◌, length, if◌then◌else◌};
 ghost use Rattle.tb_geom.specs.Rects.{rect_holds};
 ghost use Rattle.bit_map.specs.Modes.{mode_bit};
 ghost use Rattle.bit_blit.specs.Draws.{Draws};
@@ -155,6 +155,25 @@ impl Rule for PutTile<'_> {
         let black = Effects::all(self.mode.effect(true));
         blended(old, black.of(old), bits)
     }
+
+    fn words(&self, start: Point, run: &mut [u64]) {
+        let x = difference(start.h, self.place.h);
+        let y = difference(start.v, self.place.v);
+        let black = Effects::all(self.mode.effect(true));
+        for (k, word) in run.iter_mut().enumerate() {
+            let bits = self.tile.word(column_at(x, k), y);
+            *word = blended(*word, black.of(*word), bits);
+        }
+    }
+}
+
+/// The column at which a word begins in a run of them that begins in the column `x`.
+fn column_at(x: i64, k: usize) -> i64
+    requires x_near { IsSized 33 x }
+    requires k_near { 64 * k ≤ 2147483647 }
+    ensures { result ≡ x +ℤ pos (64 * k) }
+{
+    x + (64 * k) as i64
 }
 
 /// The number `step` above another, or `last` where that is less.
