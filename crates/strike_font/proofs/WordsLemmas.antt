@@ -1,12 +1,12 @@
 -- Glyphs by words.
-use Rattle.std.proofs.Common.{◌≡◌, ℕ, ◌+◌, ◌-◌, ◌*◌, ◌/◌, ◌%◌, ◌^◌, ◌<◌, ◌≤◌, ◌≤ℤ◌, ◌<ℤ◌, ◌+ℤ◌, ◌-ℤ◌, ℤ, pos, negsuc, nat_abs, min, Bool, true, false, ◌&&◌, List, length, get_or, nat_lt, refl, sym, ap, ◌∙◌, arith}
+use Rattle.std.proofs.Common.{◌≡◌, ℕ, ◌+◌, ◌-◌, ◌*◌, ◌/◌, ◌%◌, ◌^◌, ◌<◌, ◌≤◌, ◌≤ℤ◌, ◌<ℤ◌, ◌+ℤ◌, ◌-ℤ◌, ℤ, pos, negsuc, nat_abs, min, Bool, true, false, ◌&&◌, List, length, get_or, nat_le, nat_lt, refl, sym, ap, ◌∙◌, arith}
 use Rattle.std.specs.Int.{int_min, int_max}
 use Rattle.std.proofs.lemmas.Bool.Decides.{nat_tests}
 use Rattle.std.proofs.lemmas.Int.{ints, clamps}
 use Rattle.bit_map.specs.Bits.{is_below}
 use Rattle.bit_map.specs.Patterns.{bit_of}
 use Rattle.bit_map.specs.Words.{bit_in}
-use Rattle.bit_map.proofs.WordLemmas.{bit_in-left, bit_in-right}
+use Rattle.bit_map.proofs.WordLemmas.{bit_in-left, bit_in-right, bit_in-right_out}
 use Rattle.strike_font.specs.declared.glyph.Glyph.{Glyph}
 use Rattle.std.proofs.Math.Nat.{mul-le-mul_right}
 use Rattle.strike_font.specs.Record.{words_of_row, height, strike_words}
@@ -52,6 +52,36 @@ either_bits font first columns row read back word k (negsuc n) is_read is_back b
   where
     further : (n k : ℕ) → n < k → (negsuc n +ℤ pos k) ≡ pos (k - (n + 1))
     further n k past = omega (arith, ints, past)
+
+-- ---- which columns a narrow glyph has
+
+from_first : (j : ℕ) (t : Bool) → (nat_le 0 j && t) ≡ t
+from_first j t = let e : nat_le 0 j ≡ true = grind (arith, nat_tests) in ap (λ b. b && t) e
+
+pub own_left : (columns word far k : ℕ) (start : ℤ) → word < 2 ^ 64 → start <ℤ pos 0 → far ≡ nat_abs start
+    → ((j : ℕ) → j < 64 → bit_in word j ≡ (nat_le 0 j && nat_lt j columns)) → k < 64 → bit_in (word / 2 ^ far) k ≡ is_below columns (start +ℤ pos k)
+own_left columns word far k (pos n) small less is bits low = absurd (omega (arith, ints))
+own_left columns word far k (negsuc n) small less is bits low = by_test (nat_lt k far) refl
+  where
+    near : far ≡ n + 1
+    near = omega (arith, is)
+
+    by_test : (t : Bool) → nat_lt k far ≡ t → bit_in (word / 2 ^ far) k ≡ is_below columns (negsuc n +ℤ pos k)
+    by_test true e =
+        let before : k < far = grind (arith, nat_tests) in
+        let at : (negsuc n +ℤ pos k) ≡ negsuc (n - k) = omega (arith, ints, before, near) in
+        bit_in-right_out word far k small before low ∙ sym (ap (is_below columns) at)
+    by_test false e =
+        let after : far ≤ k = grind (arith, nat_tests) in
+        let at : (negsuc n +ℤ pos k) ≡ pos (k - far) = omega (arith, ints, after, near) in
+        bit_in-right word far k after low ∙ bits (k - far) (omega (arith, low)) ∙ from_first (k - far) (nat_lt (k - far) columns) ∙ sym (ap (is_below columns) at)
+
+pub own_right : (columns word far rest k : ℕ) (start : ℤ) → pos 0 ≤ℤ start → far ≡ nat_abs start → rest ≡ columns - far
+    → ((j : ℕ) → j < 64 → bit_in word j ≡ (nat_le 0 j && nat_lt j rest)) → k < 64 → bit_in word k ≡ is_below columns (start +ℤ pos k)
+own_right columns word far rest k (pos n) more is is_rest bits low =
+    let same : nat_lt k rest ≡ nat_lt (n + k) columns = grind (arith, nat_tests) in
+    bits k low ∙ from_first k (nat_lt k rest) ∙ same
+own_right columns word far rest k (negsuc n) more is is_rest bits low = absurd (omega (arith, ints))
 
 -- a row of the strike has so many bytes where the record has them behind the strike
 pub row_within : (font : List ℕ) (w row more last : ℕ) → w ≡ words_of_row font → row < height font → 2 * strike_words font + more + last ≤ length font → 26 + row * (2 * w) + more + last ≤ length font

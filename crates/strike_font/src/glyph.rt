@@ -8,7 +8,7 @@ ghost use Rattle.strike_font.specs.Record.{IsFont, last_symbol, words_of_row, he
 ghost use Rattle.strike_font.specs.Text.{symbol_of, glyph_at, glyph_of, image_bit, glyph_bit, glyph_pixel, glyph_rect, IsSized};
 
 use crate::record::{entry, first_char, gap, last_char, last_symbol, location, signed, word};
-use bit_map::{bit_of, bits_from, held};
+use bit_map::{bit_of, bits_from, black_between, held};
 use tb_geom::Rect;
 
 /// Where a glyph stands in the strike of its font, and how it is put down. All four are in pixels.
@@ -204,6 +204,21 @@ pub fn row_bits(
     ensures { (k : ℕ) → k < 64 → bit_in result k ≡ glyph_bit bytes.now glyph (start +ℤ pos k) (pos row) }
 {
     strike_from(bytes, row_words, glyph.first, glyph.columns, start, row) & own
+}
+
+/// Which of 64 columns from `start` on a glyph of at most 57 columns has, the first at the high bit.
+pub fn narrow_own(columns: u16, start: i32) -> u64
+    requires narrow { columns ≤ 57 }
+    requires near { negsuc 63 <ℤ start }
+    ensures { (k : ℕ) → k < 64 → bit_in result k ≡ is_below columns (start +ℤ pos k) }
+{
+    let columns = usize::from(columns);
+    let far = start.unsigned_abs();
+    if start < 0 {
+        black_between(0, columns) >> far
+    } else {
+        black_between(0, columns.saturating_sub(far as usize))
+    }
 }
 
 /// Eight bytes from a place on, all of which there are, the first one high.

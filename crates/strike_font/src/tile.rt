@@ -7,7 +7,8 @@ ghost use Rattle.strike_font.specs.Text.{glyph_bit, glyph_pixel, glyphs_pixel, I
 ghost use Rattle.strike_font.specs.Tiles.{tile_bit, IsTile};
 
 use crate::glyph::{
-    Glyph, column_of, column_read, glyph_of, narrow_bits, row_bits, row_of, row_words_of,
+    Glyph, column_of, column_read, glyph_of, narrow_bits, narrow_own, row_bits, row_of,
+    row_words_of,
 };
 use crate::record::{signed, strike_words, word};
 use crate::text::right_of;
@@ -203,7 +204,7 @@ fn put_narrow(
     ensures elsewhere { (n : ℕ) → n / 64 % 8 ≢ at → place_bit words.new n ≡ place_bit words.old n }
 {
     let start = column_at(column, at);
-    let own = held(glyph.columns, start);
+    let own = narrow_own(glyph.columns, start);
     let row_words = row_words_of(bytes);
     let height = word(bytes, 7);
     for down in first_row(row)..end_row(row, height) {
