@@ -1,5 +1,5 @@
 //! Tiles: what a text has of 512 columns by 16 rows of pixels, as words of 64 bits.
-ghost use Rattle.std.specs.Prelude.{◌≡◌, ◌≢◌, ◌||◌, ℕ, ◌+◌, ◌*◌, ◌/◌, ◌%◌, ◌<◌, ◌≤◌, ◌≤ℤ◌, ◌<ℤ◌, ◌+ℤ◌, pos, negsuc, ◌-ℤ◌, length};
+ghost use Rattle.std.specs.Prelude.{◌≡◌, ◌≢◌, ◌||◌, false, ℕ, ℤ, ◌+◌, ◌*◌, ◌/◌, ◌%◌, ◌<◌, ◌≤◌, ◌≤ℤ◌, ◌<ℤ◌, ◌+ℤ◌, pos, negsuc, ◌-ℤ◌, length};
 ghost use Rattle.std.specs.Int.{int_min, int_max};
 ghost use Rattle.bit_map.specs.Words.{bit_in, place_bit};
 ghost use Rattle.strike_font.specs.Record.{IsFont, strike_words};
@@ -7,11 +7,11 @@ ghost use Rattle.strike_font.specs.Text.{glyph_bit, glyph_pixel, glyphs_pixel, I
 ghost use Rattle.strike_font.specs.Tiles.{tile_bit, IsTile};
 
 use crate::glyph::{
-    Glyph, column_of, column_read, glyph_of, narrow_bits, narrow_own, row_bits, row_of,
+    Glyph, column_of, column_read, glyph_of, glyph_rect, narrow_bits, narrow_own, row_bits, row_of,
     row_words_of,
 };
 use crate::record::{signed, strike_words, word};
-use crate::text::right_of;
+use crate::text::{further, right_of};
 use bit_map::{bit_in, held, word_from};
 use std::marker::Model;
 
@@ -31,17 +31,19 @@ impl Model for Tile {
 }
 
 impl Tile {
-    /// What a text has from `x` columns right of where its pen starts and `y` rows below the baseline on.
-    pub(crate) fn of_text(bytes: &[u8], text: &[u8], x: i64, y: i64) -> Tile
+    /// What a text has from `x` columns right of where its pen starts and `y` rows below the baseline on, and how far
+    /// right of there it may reach: it has no pixel in that column and right of it.
+    pub(crate) fn of_text(bytes: &[u8], text: &[u8], x: i64, y: i64) -> (Tile, i32)
         requires font { IsFont bytes.now }
         requires short { length text.now ≤ 65535 }
         requires x_near { IsSized 33 x }
         requires y_near { IsSized 33 y }
-        ensures { IsTile bytes.now text.now x y result }
+        ensures tile { IsTile bytes.now text.now x y result.0 }
+        ensures reach { (h v : ℤ) → result.1 ≤ℤ h → glyphs_pixel bytes.now text.now 0 h v ≡ false }
     {
         let mut words = [0; 128];
-        put_text(&mut words, bytes, text, x, y);
-        Tile { words }
+        let reach = put_text(&mut words, bytes, text, x, y);
+        (Tile { words }, reach)
     }
 
     /// Whether the tile has the pixel in a column and a row; it has none outside its own.
@@ -69,20 +71,24 @@ impl Tile {
 }
 
 /// Puts a text over the pixels of a tile, which begins `x` columns right of where the pen starts and `y`
-/// rows below the baseline.
-fn put_text(words: &mut [u64; 128], bytes: &[u8], text: &[u8], x: i64, y: i64)
+/// rows below the baseline. It tells how far right of there the text may reach.
+fn put_text(words: &mut [u64; 128], bytes: &[u8], text: &[u8], x: i64, y: i64) -> i32
     requires font { IsFont bytes.now }
     requires short { length text.now ≤ 65535 }
     requires x_near { IsSized 33 x }
     requires y_near { IsSized 33 y }
-    ensures { (n : ℕ) → n < 8192 → place_bit words.new n ≡ (place_bit words.old n || glyphs_pixel bytes.now text.now 0 (x +ℤ pos (n % 512)) (y +ℤ pos (n / 512))) }
+    ensures reach { (h v : ℤ) → result ≤ℤ h → glyphs_pixel bytes.now text.now 0 h v ≡ false }
+    ensures put { (n : ℕ) → n < 8192 → place_bit words.new n ≡ (place_bit words.old n || glyphs_pixel bytes.now text.now 0 (x +ℤ pos (n % 512)) (y +ℤ pos (n / 512))) }
 {
     let mut across = 0;
+    let mut right = 0;
     for character in text {
         let glyph = glyph_of(bytes, *character);
         put_glyph(words, bytes, glyph, right_of(x, across), y);
+        right = further(right, glyph_rect(bytes, glyph, across).right);
         across += u32::from(glyph.width);
     }
+    right
 }
 
 /// Puts a glyph over the pixels of a tile, which begins `x` columns right of the pen and `y` rows below

@@ -24,5 +24,5 @@ returns c =
     ∙ row_bits c.args.bytes.now glyph (c.args.start +ℤ pos k) (pos c.args.row) c.args.row _ (bit_in c.args.own k) on refl
     (c.requires.own k low)
     (λ e. let both = below_z glyph.columns (c.args.start +ℤ pos k) e in
-      either_bits c.args.bytes.now glyph.first glyph.columns c.args.row c.args.read c.back_of.result c.narrow_word.result k c.args.start c.requires.read back
-      (λ j l less. c.narrow_word.ensures j (omega (arith, less, c.requires.narrow))) low both.0 both.1)
+    either_bits c.args.bytes.now glyph.first glyph.columns c.args.row c.args.read c.back_of.result c.narrow_word.result k c.args.start c.requires.read back
+    (λ j l less. c.narrow_word.ensures j (omega (arith, less, c.requires.narrow))) low both.0 both.1)

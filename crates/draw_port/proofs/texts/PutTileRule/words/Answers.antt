@@ -26,9 +26,9 @@ loop-k-preserved c =
     record {
       done = words_step (λ n b. cond (tile_bit put.tile.now (start.h +ℤ pos n -ℤ put.place.h) (start.v -ℤ put.place.v)) (mode_bit put.mode true b) b) c.args.run.now c.loop-k.run k _ (omega arith) was.done
           (λ r low.
-              let place : (c.column_at.result +ℤ pos r) ≡ (start.h +ℤ pos (64 * k + r) -ℤ put.place.h) = omega (arith, ints, x, column) in
-              let has = bits r low ∙ (λ i. tile_bit put.tile.now (place i) (y i)) in
-              let new = c.of.ensures r low ∙ c.all-black.ensures r _ low ∙ c.effect.ensures _ in
-              c.blended.ensures r low ∙ (λ i. cond (has i) (new i) (bit_in (get_or c.loop-k.run k 0) r)) ∙ ap (λ w. cond (tile_bit put.tile.now (start.h +ℤ pos (64 * k + r) -ℤ put.place.h) (start.v -ℤ put.place.v)) (mode_bit put.mode true (bit_in w r)) (bit_in w r)) (was.left k (omega arith)));
+          let place : (c.column_at.result +ℤ pos r) ≡ (start.h +ℤ pos (64 * k + r) -ℤ put.place.h) = omega (arith, ints, x, column) in
+          let has = bits r low ∙ (λ i. tile_bit put.tile.now (place i) (y i)) in
+          let new = c.of.ensures r low ∙ c.all-black.ensures r _ low ∙ c.effect.ensures _ in
+          c.blended.ensures r low ∙ (λ i. cond (has i) (new i) (bit_in (get_or c.loop-k.run k 0) r)) ∙ ap (λ w. cond (tile_bit put.tile.now (start.h +ℤ pos (64 * k + r) -ℤ put.place.h) (start.v -ℤ put.place.v)) (mode_bit put.mode true (bit_in w r)) (bit_in w r)) (was.left k (omega arith)));
       left = λ j high. let other : j ≢ k = omega (arith, high) in rw get_or-set_other (was.left j (omega (arith, high)));
     }
