@@ -1,11 +1,13 @@
 //! Drawing texts, by tiles of 512 columns and 16 rows.
-ghost use Rattle.std.specs.Prelude.{◌≡◌, ◌≤◌, ◌≤ℤ◌, ◌<ℤ◌, ◌-ℤ◌, ◌+ℤ◌, pos, true, ◌&&◌, length, if◌then◌else◌};
+ghost use Rattle.std.specs.Prelude.{◌≡◌, false, ℕ, ℤ, List, ◌≤◌, ◌≤ℤ◌, ◌<ℤ◌, ◌-ℤ◌, ◌+ℤ◌, pos, true, ◌&&◌, ◌*◌, length, if◌then◌else◌};
+ghost use Rattle.tb_geom.specs.declared.point.Point.{Point};
 ghost use Rattle.tb_geom.specs.Rects.{rect_holds};
 ghost use Rattle.bit_map.specs.Modes.{mode_bit};
 ghost use Rattle.bit_blit.specs.Draws.{Draws};
-ghost use Rattle.strike_font.specs.Text.{IsSized};
+ghost use Rattle.strike_font.specs.Text.{IsSized, text_holds};
 ghost use Rattle.strike_font.specs.Tiles.{tile_bit};
 ghost use Rattle.draw_port.specs.Canvases.{canvas_holds, canvas_point, clipped_holds, SameFrame};
+ghost use Rattle.draw_port.specs.Places.{is_far};
 ghost use Rattle.draw_port.specs.Texts.{put_value};
 
 use crate::canvas::Canvas;
@@ -13,7 +15,7 @@ use crate::placed::placed;
 use bit_blit::Rule;
 use bit_map::{Effects, Mode, blended};
 use scan_region::Region;
-use strike_font::Tile;
+use strike_font::{Font, Tile};
 use tb_geom::{Point, Rect};
 
 impl Canvas<'_> {
@@ -39,8 +41,8 @@ impl Canvas<'_> {
             pen,
             mode,
         };
-        let around = placed(self.font.text_rect(text), pen);
         let reach = self.reach();
+        let around = around(self.font, text, pen, reach.right);
         self.put_rows(&put, reach.sect(around));
     }
 
@@ -107,14 +109,50 @@ impl Canvas<'_> {
         };
         let x = difference(place.h, put.pen.h);
         let y = difference(place.v, put.pen.v);
-        let tile = self.font.tile(put.text, x, y);
+        let (tile, reach) = self.font.tile_and_reach(put.text, x, y);
         let rule = PutTile {
             tile: &tile,
             place,
             mode: put.mode,
         };
-        self.draw_clipped(put.clip, rect, &rule);
+        let right = narrowed(rect.right, put.pen.h, reach);
+        self.draw_clipped(put.clip, Rect { right, ..rect }, &rule);
     }
+}
+
+/// A rectangle around a text whose pen starts at `pen`, of which no pixel in the column `end` and right of it is drawn.
+/// Where one tile goes so far, it is not asked how far the text goes: the tile tells it.
+fn around(font: &Font, text: &[u8], pen: Point, end: i32) -> Rect
+    requires { length text.now ≤ 65535 }
+    ensures { (p : Point) → is_far p ≡ false → text_holds font.now text.now pen p ≡ true → rect_holds result p ≡ true }
+{
+    let band = band(font, pen);
+    if difference(end, band.left) <= 512 {
+        band
+    } else {
+        placed(font.text_rect(text), pen)
+    }
+}
+
+/// The rows of any text whose pen starts at `pen`, from the first column on in which it may have a pixel.
+fn band(font: &Font, pen: Point) -> Rect
+    ensures { (text : List ℕ) (p : Point) → is_far p ≡ false → text_holds font.now text pen p ≡ true → rect_holds result p ≡ true }
+{
+    let top = pen.v.saturating_sub(i32::from(font.ascent()));
+    Rect {
+        left: pen.h.saturating_add(font.kern()),
+        top,
+        right: i32::MAX,
+        bottom: top.saturating_add(i32::from(font.height())),
+    }
+}
+
+/// The side of a rectangle, or where a text ends that reaches so far right of its pen, if that lies further left.
+fn narrowed(right: i32, pen: i32, reach: i32) -> i32
+    ensures within { result ≤ℤ right }
+    ensures past { (x : ℤ) → result ≤ℤ x → x <ℤ right → (pen +ℤ reach) ≤ℤ x }
+{
+    right.min(pen.saturating_add(reach))
 }
 
 /// A text that is put down by a mode within a clip, all in the coordinates of a canvas.
@@ -155,6 +193,25 @@ impl Rule for PutTile<'_> {
         let black = Effects::all(self.mode.effect(true));
         blended(old, black.of(old), bits)
     }
+
+    fn words(&self, start: Point, run: &mut [u64]) {
+        let x = difference(start.h, self.place.h);
+        let y = difference(start.v, self.place.v);
+        let black = Effects::all(self.mode.effect(true));
+        for (k, word) in run.iter_mut().enumerate() {
+            let bits = self.tile.word(column_at(x, k), y);
+            *word = blended(*word, black.of(*word), bits);
+        }
+    }
+}
+
+/// The column at which a word begins in a run of them that begins in the column `x`.
+fn column_at(x: i64, k: usize) -> i64
+    requires x_near { IsSized 33 x }
+    requires k_near { 64 * k ≤ 2147483647 }
+    ensures { result ≡ x +ℤ pos (64 * k) }
+{
+    x + (64 * k) as i64
 }
 
 /// The number `step` above another, or `last` where that is less.

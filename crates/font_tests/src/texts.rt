@@ -176,6 +176,8 @@ fn a_tile_of_a_text(rt: HostRuntime) -> Result<(), Fail> {
     assert!(rt; !tile.bit(0, 0) && tile.bit(1, 0) && tile.bit(5, 1) && !tile.bit(1, -1));
     assert!(rt; tile.word(1, 0) / 2_u64.pow(63) == 1 && tile.word(-62, 0) % 2 == 1);
     assert!(rt; tile.word(0, 16) == 0 && tile.word(512, 0) == 0);
+    let (same, reach) = font.tile_and_reach(b"AA", -2, -2);
+    assert!(rt; same.word(0, 0) == tile.word(0, 0) && !font.text_bit(b"AA", i64::from(reach), -1));
     let around = font.text_rect(b"AA");
     assert!(rt; around.contains(Point { h: -1, v: -2 }) && around.contains(Point { h: 3, v: -1 }));
     Ok(())

@@ -1,14 +1,15 @@
 -- Glyphs by words.
-use Rattle.std.proofs.Common.{◌≡◌, ℕ, ◌+◌, ◌-◌, ◌*◌, ◌/◌, ◌%◌, ◌^◌, ◌<◌, ◌≤◌, ◌≤ℤ◌, ◌<ℤ◌, ◌+ℤ◌, ◌-ℤ◌, ℤ, pos, negsuc, nat_abs, min, Bool, true, false, ◌&&◌, List, get_or, nat_lt, refl, sym, ap, ◌∙◌, arith}
+use Rattle.std.proofs.Common.{◌≡◌, ℕ, ◌+◌, ◌-◌, ◌*◌, ◌/◌, ◌%◌, ◌^◌, ◌<◌, ◌≤◌, ◌≤ℤ◌, ◌<ℤ◌, ◌+ℤ◌, ◌-ℤ◌, ℤ, pos, negsuc, nat_abs, min, Bool, true, false, ◌&&◌, List, length, get_or, nat_le, nat_lt, refl, sym, ap, ◌∙◌, arith}
 use Rattle.std.specs.Int.{int_min, int_max}
 use Rattle.std.proofs.lemmas.Bool.Decides.{nat_tests}
 use Rattle.std.proofs.lemmas.Int.{ints, clamps}
 use Rattle.bit_map.specs.Bits.{is_below}
 use Rattle.bit_map.specs.Patterns.{bit_of}
 use Rattle.bit_map.specs.Words.{bit_in}
-use Rattle.bit_map.proofs.WordLemmas.{bit_in-left, bit_in-right}
+use Rattle.bit_map.proofs.WordLemmas.{bit_in-left, bit_in-right, bit_in-right_out}
 use Rattle.strike_font.specs.declared.glyph.Glyph.{Glyph}
-use Rattle.strike_font.specs.Record.{words_of_row, height}
+use Rattle.std.proofs.Math.Nat.{mul-le-mul_right}
+use Rattle.strike_font.specs.Record.{words_of_row, height, strike_words}
 use Rattle.strike_font.specs.Text.{image_bit, glyph_bit}
 
 -- a bit of the strike by the byte from which it is read
@@ -29,27 +30,67 @@ short_bit font column row w word k e low read =
     let turned : k + column % 8 ≡ column % 8 + k = omega arith in
     bit_in-left word (column % 8) k (omega (arith, low)) ∙ ap (bit_in word) turned ∙ read (column % 8 + k) low ∙ strike_bit font column row w k e
 
-pub left_bits : (font : List ℕ) (first columns row far word k : ℕ) (start : ℤ) → start <ℤ pos 0 → far ≡ nat_abs start
-    → ((j : ℕ) → j < 64 → j < columns → bit_in word j ≡ image_bit font (first + j) row)
-    → k < 64 → pos 0 ≤ℤ (start +ℤ pos k) → (start +ℤ pos k) <ℤ pos columns → bit_in (word / 2 ^ (min far 63)) k ≡ image_bit font (first + nat_abs (start +ℤ pos k)) row
-left_bits font first columns row far word k (pos n) less is read low inside before = absurd (omega (arith, ints))
-left_bits font first columns row far word k (negsuc n) less is read low inside before =
+pub either_bits : (font : List ℕ) (first columns row read back word k : ℕ) (start : ℤ) → pos read ≡ pos first +ℤ int_max (pos 0) start → back ≡ min (nat_abs (int_min (pos 0) start)) 63
+    → ((j : ℕ) → j < 64 → j < columns → bit_in word j ≡ image_bit font (read + j) row)
+    → k < 64 → pos 0 ≤ℤ (start +ℤ pos k) → (start +ℤ pos k) <ℤ pos columns → bit_in (word / 2 ^ back) k ≡ image_bit font (first + nat_abs (start +ℤ pos k)) row
+either_bits font first columns row read back word k (pos n) is_read is_back bits low inside before =
+    let right : int_max (pos 0) (pos n) ≡ pos n = grind (arith, ints, clamps) in
+    let left : int_min (pos 0) (pos n) ≡ pos 0 = grind (arith, ints, clamps) in
+    let a : read ≡ first + n = omega (arith, ints, is_read ∙ ap (λ z. pos first +ℤ z) right) in
+    let b : back ≡ 0 = is_back ∙ ap (λ z. min (nat_abs z) 63) left in
+    let at : read + (k - back) ≡ first + (n + k) = omega (arith, a, b) in
+    bit_in-right word back k (omega (arith, b)) low ∙ bits (k - back) (omega (arith, low)) (omega (arith, ints, b, before)) ∙ ap (λ j. image_bit font j row) at
+either_bits font first columns row read back word k (negsuc n) is_read is_back bits low inside before =
+    let right : int_max (pos 0) (negsuc n) ≡ pos 0 = grind (arith, ints, clamps) in
+    let left : int_min (pos 0) (negsuc n) ≡ negsuc n = grind (arith, ints, clamps) in
     let past : n < k = omega (arith, ints, inside) in
-    let f : far ≡ n + 1 = omega (arith, is) in
-    let m : min far 63 ≡ n + 1 = omega (arith, f, past, low) in
-    let there : nat_abs (negsuc n +ℤ pos k) ≡ k - (n + 1) = ap nat_abs (back n k past) in
-    ap (λ j. bit_in (word / 2 ^ j) k) m ∙ bit_in-right word (n + 1) k (omega (arith, past)) low ∙ read (k - (n + 1)) (omega (arith, low)) (omega (arith, ints, past, before)) ∙ ap (λ j. image_bit font (first + j) row) (sym there)
+    let a : read ≡ first = omega (arith, ints, is_read ∙ ap (λ z. pos first +ℤ z) right) in
+    let b : back ≡ n + 1 = omega (arith, is_back ∙ ap (λ z. min (nat_abs z) 63) left, past, low) in
+    let there : nat_abs (negsuc n +ℤ pos k) ≡ k - (n + 1) = ap nat_abs (further n k past) in
+    let at : read + (k - back) ≡ first + (k - (n + 1)) = omega (arith, a, b) in
+    bit_in-right word back k (omega (arith, b, past)) low ∙ bits (k - back) (omega (arith, low)) (omega (arith, ints, b, past, before)) ∙ ap (λ j. image_bit font j row) at ∙ ap (λ j. image_bit font (first + j) row) (sym there)
   where
-    back : (n k : ℕ) → n < k → (negsuc n +ℤ pos k) ≡ pos (k - (n + 1))
-    back n k past = omega (arith, ints, past)
+    further : (n k : ℕ) → n < k → (negsuc n +ℤ pos k) ≡ pos (k - (n + 1))
+    further n k past = omega (arith, ints, past)
 
-pub right_bits : (font : List ℕ) (first columns row far word k : ℕ) (start : ℤ) → pos 0 ≤ℤ start → far ≡ nat_abs start
-    → ((j : ℕ) → j < 64 → j < columns → bit_in word j ≡ image_bit font (first + far + j) row)
-    → k < 64 → (start +ℤ pos k) <ℤ pos columns → bit_in word k ≡ image_bit font (first + nat_abs (start +ℤ pos k)) row
-right_bits font first columns row far word k (pos n) low is read l before =
-    let at : first + far + k ≡ first + (n + k) = omega (arith, is) in
-    read k l (omega (arith, ints, before)) ∙ ap (λ j. image_bit font j row) at
-right_bits font first columns row far word k (negsuc n) low is read l before = absurd (omega (arith, ints))
+-- ---- which columns a narrow glyph has
+
+from_first : (j : ℕ) (t : Bool) → (nat_le 0 j && t) ≡ t
+from_first j t = let e : nat_le 0 j ≡ true = grind (arith, nat_tests) in ap (λ b. b && t) e
+
+pub own_left : (columns word far k : ℕ) (start : ℤ) → word < 2 ^ 64 → start <ℤ pos 0 → far ≡ nat_abs start
+    → ((j : ℕ) → j < 64 → bit_in word j ≡ (nat_le 0 j && nat_lt j columns)) → k < 64 → bit_in (word / 2 ^ far) k ≡ is_below columns (start +ℤ pos k)
+own_left columns word far k (pos n) small less is bits low = absurd (omega (arith, ints))
+own_left columns word far k (negsuc n) small less is bits low = by_test (nat_lt k far) refl
+  where
+    near : far ≡ n + 1
+    near = omega (arith, is)
+
+    by_test : (t : Bool) → nat_lt k far ≡ t → bit_in (word / 2 ^ far) k ≡ is_below columns (negsuc n +ℤ pos k)
+    by_test true e =
+        let before : k < far = grind (arith, nat_tests) in
+        let at : (negsuc n +ℤ pos k) ≡ negsuc (n - k) = omega (arith, ints, before, near) in
+        bit_in-right_out word far k small before low ∙ sym (ap (is_below columns) at)
+    by_test false e =
+        let after : far ≤ k = grind (arith, nat_tests) in
+        let at : (negsuc n +ℤ pos k) ≡ pos (k - far) = omega (arith, ints, after, near) in
+        bit_in-right word far k after low ∙ bits (k - far) (omega (arith, low)) ∙ from_first (k - far) (nat_lt (k - far) columns) ∙ sym (ap (is_below columns) at)
+
+pub own_right : (columns word far rest k : ℕ) (start : ℤ) → pos 0 ≤ℤ start → far ≡ nat_abs start → rest ≡ columns - far
+    → ((j : ℕ) → j < 64 → bit_in word j ≡ (nat_le 0 j && nat_lt j rest)) → k < 64 → bit_in word k ≡ is_below columns (start +ℤ pos k)
+own_right columns word far rest k (pos n) more is is_rest bits low =
+    let same : nat_lt k rest ≡ nat_lt (n + k) columns = grind (arith, nat_tests) in
+    bits k low ∙ from_first k (nat_lt k rest) ∙ same
+own_right columns word far rest k (negsuc n) more is is_rest bits low = absurd (omega (arith, ints))
+
+-- a row of the strike has so many bytes where the record has them behind the strike
+pub row_within : (font : List ℕ) (w row more last : ℕ) → w ≡ words_of_row font → row < height font → 2 * strike_words font + more + last ≤ length font → 26 + row * (2 * w) + more + last ≤ length font
+unfolding strike_words
+row_within font w row more last is_w low within =
+    let rows : row * (2 * w) ≤ height font * (2 * w) = mul-le-mul_right (2 * w) (omega (arith, low)) in
+    let swap : height font * (2 * w) ≡ 2 * (w * height font) = grind arith in
+    let w_is : w * height font ≡ words_of_row font * height font = ap (λ n. n * height font) is_w in
+    omega (arith, rows, swap, w_is, within)
 
 -- a glyph has no bit in a row that there is not
 pub row_none : (font : List ℕ) (g : Glyph) (column row : ℤ) → is_below (height font) row ≡ false → glyph_bit font g column row ≡ false

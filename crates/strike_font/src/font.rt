@@ -1,5 +1,5 @@
 //! Fonts.
-ghost use Rattle.std.specs.Prelude.{◌≡◌, ℕ, ◌+ℤ◌, true, IfOk, IfErr, IsTrue, ◌↔◌, ◌≤◌, ◌<◌, ◌≤ℤ◌, ◌<ℤ◌, pos, negsuc, ◌*◌, ◌+◌, length, if◌then◌else◌};
+ghost use Rattle.std.specs.Prelude.{◌≡◌, ℕ, ℤ, ◌+ℤ◌, true, false, IfOk, IfErr, IsTrue, ◌↔◌, ◌≤◌, ◌<◌, ◌≤ℤ◌, ◌<ℤ◌, pos, negsuc, ◌*◌, ◌+◌, length, if◌then◌else◌};
 ghost use Rattle.tb_geom.specs.declared.point.Point.{Point};
 ghost use Rattle.tb_geom.specs.Points.{minus};
 ghost use Rattle.tb_geom.specs.Rects.{rect_holds};
@@ -174,6 +174,18 @@ impl Font {
         requires x_near { IsSized 33 x }
         requires y_near { IsSized 33 y }
         ensures { IsTile self.now text.now x y result }
+    {
+        Tile::of_text(&self.bytes, text, x, y).0
+    }
+
+    /// The same, and how far right of where its pen starts the text may reach: it has no pixel in that column
+    /// and right of it.
+    pub fn tile_and_reach(&self, text: &[u8], x: i64, y: i64) -> (Tile, i32)
+        requires short { length text.now ≤ 65535 }
+        requires x_near { IsSized 33 x }
+        requires y_near { IsSized 33 y }
+        ensures tile { IsTile self.now text.now x y result.0 }
+        ensures reach { (h v : ℤ) → result.1 ≤ℤ h → glyphs_pixel self.now text.now 0 h v ≡ false }
     {
         Tile::of_text(&self.bytes, text, x, y)
     }

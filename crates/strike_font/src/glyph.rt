@@ -1,12 +1,14 @@
 //! Glyphs.
-ghost use Rattle.std.specs.Prelude.{◌≡◌, ℕ, nat_abs, ◌+◌, ◌*◌, ◌^◌, ◌<◌, ◌≤◌, pos, negsuc, ◌-ℤ◌, ◌+ℤ◌, ◌≤ℤ◌, ◌<ℤ◌};
+ghost use Rattle.std.specs.Prelude.{◌≡◌, ℕ, nat_abs, ◌+◌, ◌*◌, ◌^◌, ◌<◌, ◌≤◌, pos, negsuc, ◌-ℤ◌, ◌+ℤ◌, ◌≤ℤ◌, ◌<ℤ◌, ◌/◌, ◌%◌, min, length, slice_index};
+ghost use Rattle.std.specs.Int.{int_min, int_max};
 ghost use Rattle.bit_map.specs.Bits.{is_below};
 ghost use Rattle.bit_map.specs.Words.{bit_in};
-ghost use Rattle.strike_font.specs.Record.{IsFont, last_symbol, words_of_row, height};
+ghost use Rattle.bit_map.specs.Patterns.{bit_of};
+ghost use Rattle.strike_font.specs.Record.{IsFont, last_symbol, words_of_row, height, strike_words};
 ghost use Rattle.strike_font.specs.Text.{symbol_of, glyph_at, glyph_of, image_bit, glyph_bit, glyph_pixel, glyph_rect, IsSized};
 
 use crate::record::{entry, first_char, gap, last_char, last_symbol, location, signed, word};
-use bit_map::{bit_of, bits_from, held};
+use bit_map::{bit_of, bits_from, black_between, held};
 use tb_geom::Rect;
 
 /// Where a glyph stands in the strike of its font, and how it is put down. All four are in pixels.
@@ -128,33 +130,52 @@ pub fn glyph_pixel(bytes: &[u8], glyph: Glyph, x: i64, y: i64) -> bool
 
 /// The first `columns` of 64 bits of a row of the strike, from a column on, the first at the high bit. The
 /// others may be any: so eight bytes do where there are few.
-fn strike_word(bytes: &[u8], column: usize, columns: u16, row: u16) -> u64
+fn strike_word(bytes: &[u8], row_words: usize, column: usize, columns: u16, row: usize) -> u64
     requires font { IsFont bytes.now }
+    requires words { row_words ≡ words_of_row bytes.now }
     requires near { column < 2 ^ 18 }
+    requires row_in { row < height bytes.now }
     ensures { (k : ℕ) → k < 64 → k < columns → bit_in result k ≡ image_bit bytes.now (column + k) row }
 {
-    let row_words = usize::from(word(bytes, 12));
-    let place = 26 + usize::from(row) * (2 * row_words) + column / 8;
+    let place = 26 + row * (2 * row_words) + column / 8;
     if columns <= 57 {
         return bits_from(bytes, place, 0) << (column % 8);
     }
     bits_from(bytes, place, column % 8)
 }
 
+/// The column of the strike from which columns of a glyph are read that begin at `start`.
+pub fn column_read(first: u16, start: i32) -> usize
+    ensures { pos result ≡ pos first +ℤ int_max (pos 0) start }
+{
+    usize::from(first) + start.max(0).unsigned_abs() as usize
+}
+
+/// How many columns left of a glyph's first one they begin, at most 63.
+fn back_of(start: i32) -> u32
+    ensures { result ≡ min (nat_abs (int_min (pos 0) start)) 63 }
+{
+    start.min(0).unsigned_abs().min(63)
+}
+
 /// 64 bits of a row of the strike, from so many columns right of a first one on. Those left of that one,
 /// and those past the first `columns` from there on, may be any.
-fn strike_from(bytes: &[u8], first: u16, columns: u16, start: i32, row: u16) -> u64
+fn strike_from(
+    bytes: &[u8],
+    row_words: usize,
+    first: u16,
+    columns: u16,
+    start: i32,
+    row: usize,
+) -> u64
     requires font { IsFont bytes.now }
+    requires words { row_words ≡ words_of_row bytes.now }
     requires near { start ≤ℤ pos 65536 }
+    requires row_in { row < height bytes.now }
     ensures { (k : ℕ) → k < 64 → pos 0 ≤ℤ (start +ℤ pos k) → (start +ℤ pos k) <ℤ pos columns → bit_in result k ≡ image_bit bytes.now (first + nat_abs (start +ℤ pos k)) row }
 {
-    let first = usize::from(first);
-    let far = start.unsigned_abs();
-    if start < 0 {
-        strike_word(bytes, first, columns, row) >> far.min(63)
-    } else {
-        strike_word(bytes, first + far as usize, columns, row)
-    }
+    let column = column_read(first, start);
+    strike_word(bytes, row_words, column, columns, row) >> back_of(start)
 }
 
 /// Whether glyphs have a row.
@@ -166,13 +187,92 @@ fn is_row(bytes: &[u8], row: i64) -> bool
 }
 
 /// The bits of 64 columns of a glyph in a row that it has, from a column on; it has none outside its own.
-pub fn row_bits(bytes: &[u8], glyph: Glyph, start: i32, row: u16) -> u64
+/// The words of the strike's rows and which columns are the glyph's own are the same in each row.
+pub fn row_bits(
+    bytes: &[u8],
+    row_words: usize,
+    own: u64,
+    glyph: Glyph,
+    start: i32,
+    row: usize,
+) -> u64
     requires font { IsFont bytes.now }
+    requires words { row_words ≡ words_of_row bytes.now }
+    requires own { (k : ℕ) → k < 64 → bit_in own k ≡ is_below glyph.columns (start +ℤ pos k) }
     requires near { start ≤ℤ pos 65536 }
     requires row_in { row < height bytes.now }
     ensures { (k : ℕ) → k < 64 → bit_in result k ≡ glyph_bit bytes.now glyph (start +ℤ pos k) (pos row) }
 {
-    strike_from(bytes, glyph.first, glyph.columns, start, row) & held(glyph.columns, start)
+    strike_from(bytes, row_words, glyph.first, glyph.columns, start, row) & own
+}
+
+/// Which of 64 columns from `start` on a glyph of at most 57 columns has, the first at the high bit.
+pub fn narrow_own(columns: u16, start: i32) -> u64
+    requires narrow { columns ≤ 57 }
+    requires near { negsuc 63 <ℤ start }
+    ensures { (k : ℕ) → k < 64 → bit_in result k ≡ is_below columns (start +ℤ pos k) }
+{
+    let columns = usize::from(columns);
+    let far = start.unsigned_abs();
+    if start < 0 {
+        black_between(0, columns) >> far
+    } else {
+        black_between(0, columns.saturating_sub(far as usize))
+    }
+}
+
+/// Eight bytes from a place on, all of which there are, the first one high.
+fn eight_within(bytes: &[u8], place: usize) -> u64
+    requires { place + 8 ≤ length bytes.now }
+    ensures { (k : ℕ) → k < 64 → bit_in result k ≡ bit_of (slice_index bytes.now (place + k / 8)) (k % 8) }
+{
+    let mut word: u64 = 0;
+    for j in 0..8 {
+        word = word * 256 + u64::from(bytes[place + j]);
+    }
+    word
+}
+
+/// The first 57 of 64 bits of a row of the strike, from a column on, the first at the high bit. The
+/// others may be any.
+fn narrow_word(bytes: &[u8], row_words: usize, column: usize, row: usize) -> u64
+    requires font { IsFont bytes.now }
+    requires words { row_words ≡ words_of_row bytes.now }
+    requires within { 26 + row * (2 * row_words) + column / 8 + 8 ≤ length bytes.now }
+    ensures { (k : ℕ) → column % 8 + k < 64 → bit_in result k ≡ image_bit bytes.now (column + k) row }
+{
+    eight_within(bytes, 26 + row * (2 * row_words) + column / 8) << (column % 8)
+}
+
+/// The same as `row_bits` for a glyph of at most 57 columns, where the record goes on so far behind the strike that
+/// each row has eight bytes from the column on at which it is read.
+pub fn narrow_bits(
+    bytes: &[u8],
+    row_words: usize,
+    own: u64,
+    glyph: Glyph,
+    start: i32,
+    read: usize,
+    row: usize,
+) -> u64
+    requires font { IsFont bytes.now }
+    requires words { row_words ≡ words_of_row bytes.now }
+    requires own { (k : ℕ) → k < 64 → bit_in own k ≡ is_below glyph.columns (start +ℤ pos k) }
+    requires narrow { glyph.columns ≤ 57 }
+    requires read { pos read ≡ pos glyph.first +ℤ int_max (pos 0) start }
+    requires within { 2 * strike_words bytes.now + read / 8 + 8 ≤ length bytes.now }
+    requires row_in { row < height bytes.now }
+    ensures { (k : ℕ) → k < 64 → bit_in result k ≡ glyph_bit bytes.now glyph (start +ℤ pos k) (pos row) }
+{
+    (narrow_word(bytes, row_words, read, row) >> back_of(start)) & own
+}
+
+/// How many words each row of the strike takes.
+pub fn row_words_of(bytes: &[u8]) -> usize
+    requires { IsFont bytes.now }
+    ensures { result ≡ words_of_row bytes.now }
+{
+    usize::from(word(bytes, 12))
 }
 
 /// The bits of 64 columns of a glyph in a row, from a column on; it has none outside its own.
@@ -184,7 +284,8 @@ fn glyph_bits(bytes: &[u8], glyph: Glyph, column: i64, row: i64) -> u64
         return 0;
     }
     let start = column.clamp(-64, 65536) as i32;
-    row_bits(bytes, glyph, start, row as u16)
+    let own = held(glyph.columns, start);
+    row_bits(bytes, row_words_of(bytes), own, glyph, start, row as usize)
 }
 
 /// Which of 64 pixels of a row a glyph has, the first of them `x` columns right of the pen and `y` rows

@@ -62,7 +62,7 @@ pub fn glyphs_pixel(bytes: &[u8], text: &[u8], x: i64, y: i64) -> bool
 }
 
 /// The one of two columns that lies further right.
-fn further(one: i32, other: i32) -> i32
+pub fn further(one: i32, other: i32) -> i32
     ensures { (one ≤ℤ result) × (other ≤ℤ result) }
 {
     if one < other { other } else { one }

@@ -12,8 +12,7 @@ returns c =
     let glyph = c.args.glyph in
     let fits : SFits w32 c.args.start = search rules in
     let on : is_below (height c.args.bytes.now) (pos c.args.row) ≡ true = search rules in
-    let held = simp to_z-of_z at c.held.ensures in
     let bits = simp to_z-of_z at c.strike_from.ensures in
-    λ k low. bit_in-and c.strike_from.result c.held.result k
-    ∙ row_bits c.args.bytes.now glyph (c.args.start +ℤ pos k) (pos c.args.row) c.args.row (bit_in c.strike_from.result k) (bit_in c.held.result k) on refl
-    (held k low) (λ e. let both = below_z glyph.columns (c.args.start +ℤ pos k) e in bits k low both.0 both.1)
+    λ k low. bit_in-and c.strike_from.result c.args.own k
+    ∙ row_bits c.args.bytes.now glyph (c.args.start +ℤ pos k) (pos c.args.row) c.args.row (bit_in c.strike_from.result k) (bit_in c.args.own k) on refl
+    (c.requires.own k low) (λ e. let both = below_z glyph.columns (c.args.start +ℤ pos k) e in bits k low both.0 both.1)

@@ -2,10 +2,10 @@ use Rattle.std.proofs.Common.{◌≡◌, ◌<◌, ◌*◌, ◌+◌, ◌≤ℤ◌
 use Rattle.std.proofs.lemmas.Int.{ints, to_z-of_z}
 use Rattle.strike_font.specs.Record.{height}
 use Rattle.strike_font.proofs.TileLemmas.{rows_more, rows_all}
-use Rattle.strike_font.proofs.tile.put_column.Goals as goal
+use Rattle.strike_font.proofs.tile.put_narrow.Goals as goal
 
-pub row_at-requires : goal.row_at-requires
-row_at-requires c =
+pub row_at-there-requires : goal.row_at-there-requires
+row_at-there-requires c =
     let row = c.args.row in
     let down = c.loop-down.down in
     let fits : SFits w64 row = search rules in
@@ -25,10 +25,10 @@ loop-down-preserved c =
     let fits_c : SFits w64 column = search rules in
     let fits_s : SFits w32 start = search rules in
     let start_is = simp to_z-of_z at c.column_at-start.ensures in
-    let row_is = simp to_z-of_z at c.row_at.ensures in
-    let bits = simp to_z-of_z at c.row_bits.ensures in
+    let row_is = simp to_z-of_z at c.row_at-there.ensures in
+    let bits = simp to_z-of_z at c.narrow_bits.ensures in
     let was = simp to_z-of_z at c.loop-down.invariant in
-    simp to_z-of_z (rows_more c.args.bytes.now c.args.glyph column row start c.args.at down c.row_at.result (8 * down + c.args.at) c.row_bits.result c.args.words.now c.loop-down.words c.requires.at_in refl (search rules) start_is row_is bits was)
+    simp to_z-of_z (rows_more c.args.bytes.now c.args.glyph column row start c.args.at down c.row_at-there.result (8 * down + c.args.at) c.narrow_bits.result c.args.words.now c.loop-down.words c.requires.at_in refl (search rules) start_is row_is bits was)
 
 pub returns-clause-here : goal.returns-clause-here
 returns-clause-here c =
