@@ -1,14 +1,13 @@
 //! Glyphs.
-ghost use Rattle.std.specs.Prelude.{◌≡◌, ℕ, nat_abs, ◌+◌, ◌*◌, ◌^◌, ◌<◌, ◌≤◌, pos, negsuc, ◌-ℤ◌, ◌+ℤ◌, ◌≤ℤ◌, ◌<ℤ◌, ◌/◌, ◌%◌, min, length, slice_index};
+ghost use Rattle.std.specs.Prelude.{◌≡◌, ℕ, nat_abs, ◌+◌, ◌*◌, ◌^◌, ◌<◌, ◌≤◌, pos, negsuc, ◌-ℤ◌, ◌+ℤ◌, ◌≤ℤ◌, ◌<ℤ◌, ◌/◌, ◌%◌, min, length};
 ghost use Rattle.std.specs.Int.{int_min, int_max};
 ghost use Rattle.bit_map.specs.Bits.{is_below};
 ghost use Rattle.bit_map.specs.Words.{bit_in};
-ghost use Rattle.bit_map.specs.Patterns.{bit_of};
 ghost use Rattle.strike_font.specs.Record.{IsFont, last_symbol, words_of_row, height, strike_words};
 ghost use Rattle.strike_font.specs.Text.{symbol_of, glyph_at, glyph_of, image_bit, glyph_bit, glyph_pixel, glyph_rect, IsSized};
 
 use crate::record::{entry, first_char, gap, last_char, last_symbol, location, signed, word};
-use bit_map::{bit_of, bits_from, black_between, held};
+use bit_map::{bit_of, bits_from, black_between, eight_within, held};
 use tb_geom::Rect;
 
 /// Where a glyph stands in the strike of its font, and how it is put down. All four are in pixels.
@@ -219,18 +218,6 @@ pub fn narrow_own(columns: u16, start: i32) -> u64
     } else {
         black_between(0, columns.saturating_sub(far as usize))
     }
-}
-
-/// Eight bytes from a place on, all of which there are, the first one high.
-fn eight_within(bytes: &[u8], place: usize) -> u64
-    requires { place + 8 ≤ length bytes.now }
-    ensures { (k : ℕ) → k < 64 → bit_in result k ≡ bit_of (slice_index bytes.now (place + k / 8)) (k % 8) }
-{
-    let mut word: u64 = 0;
-    for j in 0..8 {
-        word = word * 256 + u64::from(bytes[place + j]);
-    }
-    word
 }
 
 /// The first 57 of 64 bits of a row of the strike, from a column on, the first at the high bit. The
