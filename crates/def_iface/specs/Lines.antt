@@ -23,16 +23,19 @@ inside r =
     let top = int_min r.bottom (r.top +ℤ pos 1) in
     record { left = left; top = top; right = int_max left (r.right -ℤ pos 1); bottom = int_max top (r.bottom -ℤ pos 1) }
 
--- the outermost pixels, as four sides: the first row, the last one, and the columns between these
-abbrev pub four_sides : Rect → List Rect
-four_sides r =
-    let i = inside r in
+-- what a rectangle has beside one inside it, as four sides: above, below, left and right of that
+abbrev pub sides_around : Rect → Rect → List Rect
+sides_around r i =
     record r { bottom = i.top }
     ∷ record r { top = i.bottom }
     ∷ record i { left = r.left; right = i.left }
     ∷ record i { left = i.right; right = r.right }
     ∷ []
 
--- those sides, and four empty rectangles
+-- the outermost pixels
+abbrev pub four_sides : Rect → List Rect
+four_sides r = sides_around r (inside r)
+
+-- those, and four empty rectangles
 abbrev pub frame_lines : Rect → List Rect
 frame_lines r = four_sides r ++ replicate 4 empty_rect

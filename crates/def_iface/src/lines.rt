@@ -1,8 +1,10 @@
 //! The lines of outlines: eight rectangles, of which no two share a pixel.
-ghost use Rattle.std.specs.Prelude.{◌≡◌, true};
+ghost use Rattle.std.specs.Prelude.{◌≡◌, pos, ◌+ℤ◌, ◌-ℤ◌, ◌++◌, replicate};
+ghost use Rattle.std.specs.Int.{int_min, int_max};
 ghost use Rattle.tb_geom.specs.declared.point.Point.{Point};
+ghost use Rattle.tb_geom.specs.Rects.{empty_rect};
 ghost use Rattle.draw_port.specs.Ops.{frame_holds};
-ghost use Rattle.def_iface.specs.Lines.{AreApart, line_holds, inside, frame_lines};
+ghost use Rattle.def_iface.specs.Lines.{AreApart, line_holds, inside, sides_around, frame_lines};
 
 use tb_geom::Rect;
 
@@ -21,7 +23,13 @@ pub fn frame_lines(bounds: Rect) -> [Rect; 8]
     ensures apart { AreApart result }
     ensures pixels { (p : Point) → line_holds result p ≡ frame_holds bounds p }
 {
-    let inside = inside(bounds);
+    lines_around(bounds, inside(bounds))
+}
+
+/// What a rectangle has beside one inside it, as lines: above, below, left and right of that, and four lines of no pixel.
+fn lines_around(bounds: Rect, inside: Rect) -> [Rect; 8]
+    ensures { result ≡ sides_around bounds inside ++ replicate 4 empty_rect }
+{
     [
         Rect {
             bottom: inside.top,
@@ -52,12 +60,26 @@ pub fn frame_lines(bounds: Rect) -> [Rect; 8]
 fn inside(bounds: Rect) -> Rect
     ensures { result ≡ inside bounds }
 {
-    let left = bounds.right.min(bounds.left.saturating_add(1));
-    let top = bounds.bottom.min(bounds.top.saturating_add(1));
+    let left = after_first(bounds.left, bounds.right);
+    let top = after_first(bounds.top, bounds.bottom);
     Rect {
         left,
         top,
-        right: left.max(bounds.right.saturating_sub(1)),
-        bottom: top.max(bounds.bottom.saturating_sub(1)),
+        right: before_last(left, bounds.right),
+        bottom: before_last(top, bounds.bottom),
     }
+}
+
+/// The number after `first`, or `end` where that is less.
+fn after_first(first: i32, end: i32) -> i32
+    ensures { result ≡ int_min end (first +ℤ pos 1) }
+{
+    end.min(first.saturating_add(1))
+}
+
+/// The number before `end`, or `first` where that is greater.
+fn before_last(first: i32, end: i32) -> i32
+    ensures { result ≡ int_max first (end -ℤ pos 1) }
+{
+    first.max(end.saturating_sub(1))
 }
