@@ -2,17 +2,17 @@
 use Rattle.std.proofs.Common.{◌≡◌, Bool, true, false, cond, ◌||◌, refl, sym, ap, ◌∙◌}
 use Rattle.tb_geom.specs.declared.point.Point.{Point}
 use Rattle.tb_geom.specs.Points.{PixelSet}
-use Rattle.bit_map.specs.Bits.{Bits, on_map, bit, is_point}
-use Rattle.bit_map.proofs.BitsLemmas.{on_map-same, is_point-is}
-use Rattle.bit_blit.specs.Draws.{Draws}
+use Rattle.bit_map.specs.Bits.{Bits, on_map, bit}
+use Rattle.bit_map.proofs.BitsLemmas.{on_map-same}
+use Rattle.bit_blit.specs.Draws.{Draws, DrawsOnce}
 
 -- a pixel of the map after a drawing and before it are on the map alike
 pub Draws-on_map : (holds : PixelSet) (f : Point → Bool → Bool) (a b : Bits) → Draws holds f a b → (p : Point) → on_map b p ≡ on_map a p
 Draws-on_map holds f a b drawn p = on_map-same a b p drawn.width drawn.height
 
--- a drawing that says each bit, also off the map
-pub Draws-of : (holds : PixelSet) (f : Point → Bool → Bool) (a b : Bits) → ((x : Point) → bit b x ≡ cond (holds x) (f x (bit a x)) (bit a x)) → b.width ≡ a.width → b.height ≡ a.height → Draws holds f a b
-Draws-of holds f a b bits width height = record { pixels = λ x on. bits x; width = width; height = height }
+-- a drawing that writes each of its pixels once
+pub Draws-once : (holds : PixelSet) (f : Point → Bool → Bool) (a b : Bits) → DrawsOnce holds f a b → Draws holds f a b
+Draws-once holds f a b drawn = record { pixels = drawn.pixels; width = drawn.width; height = drawn.height }
 
 -- a second drawing over a first is one drawing
 pub Draws-over : (p q r : PixelSet) (f g e : Point → Bool → Bool) (a b c : Bits)
@@ -61,13 +61,3 @@ pub Draws-more : (p q r : PixelSet) (f : Point → Bool → Bool) (a b c : Bits)
     → Draws p f a b → Draws q f b c → Draws r f a c
 Draws-more p q r f a b c apart e first second =
     Draws-over p q r f f f a b c (λ x d on. both (p x) (q x) (r x) (f x) d (apart x) (e x)) first second
-
--- a pixel that got the value that the rule gives
-pub Draws-changed : (f : Point → Bool → Bool) (a b : Bits) (q : Point) (value : Bool)
-    → value ≡ f q (bit a q) → ((p : Point) → bit b p ≡ cond (is_point q p) value (bit a p))
-    → b.width ≡ a.width → b.height ≡ a.height → Draws (is_point q) f a b
-Draws-changed f a b q value e written width height = record { pixels = λ p on. written p ∙ each p (is_point q p) refl; width = width; height = height }
-  where
-    each : (p : Point) (t : Bool) → is_point q p ≡ t → cond t value (bit a p) ≡ cond t (f p (bit a p)) (bit a p)
-    each p true same = e ∙ ap (λ r. f r (bit a r)) (sym (is_point-is q p same))
-    each p false other = refl

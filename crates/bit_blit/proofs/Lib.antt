@@ -1,5 +1,7 @@
 -- Lemmas on drawings.
 pub mod DrawsLemmas
+pub mod OnceLemmas
+pub mod WrittenLemmas
 pub mod SpansLemmas
 pub mod WalkLemmas
 pub mod SourceLemmas

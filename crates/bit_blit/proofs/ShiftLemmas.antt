@@ -15,93 +15,44 @@ use Rattle.tb_geom.specs.declared.rect.Rect.{Rect}
 use Rattle.tb_geom.specs.Points.{PixelSet, minus}
 use Rattle.tb_geom.specs.Rects.{between, rect_holds}
 use Rattle.tb_geom.specs.Pixels.{Pixels, holds}
-use Rattle.bit_map.specs.Bits.{Bits, on_map, bit, is_point}
-use Rattle.bit_map.proofs.BitsLemmas.{on_map-same, on_map-sides, bit-off, rect_holds-bounds_of, is_point-is}
+use Rattle.bit_map.specs.Bits.{Bits, on_map, bit, count}
+use Rattle.bit_map.proofs.BitsLemmas.{on_map-same, on_map-sides, bit-off, rect_holds-bounds_of}
 use Rattle.scan_region.specs.declared.spans.Span.{Span}
 use Rattle.scan_region.specs.Scan.{IsScan, Precedes, span_holds}
-use Rattle.bit_blit.specs.Draws.{Draws, in_row}
+use Rattle.bit_blit.specs.Draws.{DrawsOnce, in_row}
 use Rattle.bit_blit.specs.Shifts.{shift_holds, shifted, is_onward}
-use Rattle.bit_blit.proofs.DrawsLemmas.{Draws-on_map, Draws-where}
-use Rattle.bit_blit.proofs.SpansLemmas.{spans_hold}
-use Rattle.bit_blit.proofs.WalkLemmas.{in_row-more, IsCut, cut_row-in_rect, cut_row-where}
+use Rattle.bit_blit.proofs.OnceLemmas.{Once-on_map, Once-where, once_more}
+use Rattle.bit_blit.proofs.SpansLemmas.{spans_hold, spans-apart}
+use Rattle.bit_blit.proofs.WalkLemmas.{IsCut, cut_row-in_rect, cut_row-where}
 
 both : (a b : Bool) → (a && b) ≡ true → (a ≡ true) × (b ≡ true)
 both true b e = (refl, e)
 both false b e = absurd (cc)
 
 -- a pixel that was not drawn has its old bit, and so has a point off the map
-kept : (p : PixelSet) (f : Point → Bool → Bool) (old mid : Bits) → Draws p f old mid → (x : Point) → (on_map old x ≡ true → p x ≡ false) → bit mid x ≡ bit old x
+kept : (p : PixelSet) (f : Point → Bool → Bool) (old mid : Bits) → DrawsOnce p f old mid → (x : Point) → (on_map old x ≡ true → p x ≡ false) → bit mid x ≡ bit old x
 kept p f old mid drawn x none = by_place (on_map old x) refl
   where
     by_place : (t : Bool) → on_map old x ≡ t → bit mid x ≡ bit old x
     by_place true on = drawn.pixels x on ∙ ap (λ t. cond t (f x (bit old x)) (bit old x)) (none on)
-    by_place false off = bit-off mid x (Draws-on_map p f old mid drawn x ∙ off) ∙ sym (bit-off old x off)
+    by_place false off = bit-off mid x (Once-on_map p f old mid drawn x ∙ off) ∙ sym (bit-off old x off)
 
 -- further pixels, whose sources are none of those before
 pub shift-more : (old mid new : Bits) (d : Point) (p q r : PixelSet)
     → ((x : Point) → q x ≡ true → on_map old (minus x d) ≡ true → p (minus x d) ≡ false)
+    → ((x : Point) → q x ≡ true → p x ≡ false)
     → ((x : Point) → r x ≡ (q x || p x))
-    → Draws p (shifted old d) old mid → Draws q (shifted mid d) mid new → Draws r (shifted old d) old new
-shift-more old mid new d p q r clean e first second = record {
-  pixels = λ x on. second.pixels x (Draws-on_map p (shifted old d) old mid first x ∙ on) ∙ one (q x) (p x) (r x) _ _ _ _ (λ t. kept p (shifted old d) old mid first (minus x d) (clean x t)) (first.pixels x on) (e x);
+    → DrawsOnce p (shifted old d) old mid → DrawsOnce q (shifted mid d) mid new → DrawsOnce r (shifted old d) old new
+shift-more old mid new d p q r clean apart e first second = record {
+  pixels = λ x on. second.pixels x (Once-on_map p (shifted old d) old mid first x ∙ on) ∙ one (q x) (p x) (r x) _ _ _ _ (λ t. kept p (shifted old d) old mid first (minus x d) (clean x t)) (first.pixels x on) (e x);
   width = second.width ∙ first.width;
   height = second.height ∙ first.height;
+  once = λ x on. once_more (p x) (q x) (r x) (count old x) (count mid x) (count new x) (apart x) (e x) (first.once x on) (second.once x (Once-on_map p (shifted old d) old mid first x ∙ on));
 }
   where
     one : (q p r : Bool) (a b m o : Bool) → (q ≡ true → a ≡ b) → m ≡ cond p b o → r ≡ (q || p) → cond q a m ≡ cond r b o
     one true p r a b m o f g h = rw h (f refl)
     one false p r a b m o f g h = rw h g
-
--- ---- along a row
-
-right_of : (v left right : ℤ) (x : Point) → int_lt x.h right ≡ false → in_row v left right x ≡ false
-right_of v left right x e = ap (λ t. int_eq v x.v && (int_le left x.h && t)) e ∙ none (int_eq v x.v) (int_le left x.h)
-  where
-    none : (a b : Bool) → (a && (b && false)) ≡ false
-    none true true = refl
-    none true false = refl
-    none false b = refl
-
-left_of : (v left right : ℤ) (x : Point) → int_le left x.h ≡ false → in_row v left right x ≡ false
-left_of v left right x e = ap (λ t. int_eq v x.v && (t && int_lt x.h right)) e ∙ and-false (int_eq v x.v)
-
-not_below : (h d : ℤ) → d ≤ℤ pos 0 → int_lt (h -ℤ d) h ≡ false
-not_below h d l = grind (arith, ints)
-
-below_next : (h d : ℤ) → pos 0 <ℤ d → int_le (h +ℤ pos 1) (h -ℤ d) ≡ false
-below_next h d l = grind (arith, ints)
-
-in_row-before : (v h right : ℤ) (x : Point) → h <ℤ right → in_row v h right x ≡ (is_point (record { h = h; v = v }) x || in_row v (h +ℤ pos 1) right x)
-in_row-before v h right x l = grind (arith, ints)
-
--- one more pixel, on the right
-pub left_step : (old mid new : Bits) (d : Point) (v left h : ℤ) → d.h ≤ℤ pos 0 → left ≤ℤ h
-    → Draws (in_row v left h) (shifted old d) old mid → Draws (is_point (record { h = h; v = v })) (shifted mid d) mid new → Draws (in_row v left (h +ℤ pos 1)) (shifted old d) old new
-left_step old mid new d v left h l low first second =
-    shift-more old mid new d (in_row v left h) (is_point (record { h = h; v = v })) (in_row v left (h +ℤ pos 1))
-    (λ x e on. let is = is_point-is (record { h = h; v = v }) x e in
-    right_of v left h (minus x d) (ap (λ (y : Point). int_lt (y.h -ℤ d.h) h) is ∙ not_below h d.h l))
-    (λ x. in_row-more v left h x low) first second
-
--- one more pixel, on the left
-pub right_step : (old mid new : Bits) (d : Point) (v h right : ℤ) → pos 0 <ℤ d.h → h <ℤ right
-    → Draws (in_row v (h +ℤ pos 1) right) (shifted old d) old mid → Draws (is_point (record { h = h; v = v })) (shifted mid d) mid new → Draws (in_row v h right) (shifted old d) old new
-right_step old mid new d v h right l low first second =
-    shift-more old mid new d (in_row v (h +ℤ pos 1) right) (is_point (record { h = h; v = v })) (in_row v h right)
-    (λ x e on. let is = is_point-is (record { h = h; v = v }) x e in
-    left_of v (h +ℤ pos 1) right (minus x d) (ap (λ (y : Point). int_le (h +ℤ pos 1) (y.h -ℤ d.h)) is ∙ below_next h d.h l))
-    (λ x. in_row-before v h right x low) first second
-
--- where a loop from the right ended
-pub right_end : (v left h right : ℤ) (x : Point) → h ≤ℤ left → (left ≤ℤ right → left ≤ℤ h) → (right ≤ℤ left → h ≡ right) → in_row v h right x ≡ in_row v left right x
-right_end v left h right x a b c = grind (arith, ints)
-
--- a number above one that fits has one before it
-pub fits_before : (x limit : ℤ) → SFits w32 x → SFits w32 limit → limit <ℤ x → SFits w32 (x -ℤ pos 1)
-fits_before x limit p q l = search (arith, ints)
-
-pub before_next : (x : ℤ) → (x -ℤ pos 1) +ℤ pos 1 ≡ x
-before_next x = omega (arith, ints)
 
 -- both points lie on a map with the same sides
 pub both-on : (a b : Bits) (p q : Point) → b.width ≡ a.width → b.height ≡ a.height → (on_map b p && on_map b q) ≡ (on_map a p && on_map a q)
@@ -285,14 +236,33 @@ clean_up set before span rest after d way e scan x on =
     sym (any-reverse (λ s. span_holds s (minus x d)) before)
     ∙ list_any_none (λ s. span_holds s (minus x d)) (reverse before) (λ k s l. source_before (get_or (reverse before) k s) span x d way (order k s l) on)
 
+-- the spans before one that comes, from the top down, have none of its pixels
+pub apart_down : (set : Pixels) (before : List Span) (span : Span) (rest after : List Span) → rest ≡ span ∷ after → IsScan (before ++ rest) set → (x : Point) → span_holds span x ≡ true → spans_hold before x ≡ false
+apart_down set before span rest after e scan = spans-apart before span after (subst (λ l. AllPairs Precedes (before ++ l)) e scan.order)
+
+apart_next : (a b : Span) (p : Point) → Precedes a b → span_holds a p ≡ true → span_holds b p ≡ false
+apart_next a b p (inl above) e = grind (arith, ints)
+apart_next a b p (inr left) e = let row = left.0 in let gap = left.1 in grind (arith, ints)
+
+-- and from the bottom up
+pub apart_up : (set : Pixels) (before : List Span) (span : Span) (rest after : List Span) → rest ≡ span ∷ after → IsScan (reverse (before ++ rest)) set → (x : Point) → span_holds span x ≡ true → spans_hold before x ≡ false
+apart_up set before span rest after e scan x on =
+    let turned : reverse (before ++ rest) ≡ reverse after ++ span ∷ reverse before =
+    ap (λ l. reverse (before ++ l)) e ∙ reverse-append before (span ∷ after) ∙ ap (λ l. l ++ reverse before) (reverse-append (span ∷ []) after) ∙ append_assoc (reverse after) (span ∷ []) (reverse before) in
+    let order = after-pairs Precedes (reverse after) span (reverse before) (subst (λ l. AllPairs Precedes l) turned scan.order) in
+    sym (any-reverse (λ s. span_holds s x) before)
+    ∙ list_any_none (λ s. span_holds s x) (reverse before) (λ k s l. apart_next span (get_or (reverse before) k s) x (order k s l) on)
+
 -- one more span
 pub shift_step : (old mid new : Bits) (d : Point) (before : List Span) (span : Span)
     → ((x : Point) → span_holds span x ≡ true → spans_hold before (minus x d) ≡ false)
-    → Draws (shift_holds old (spans_hold before) d) (shifted old d) old mid → Draws (shift_holds mid (span_holds span) d) (shifted mid d) mid new
-    → Draws (shift_holds old (spans_hold (before ++ span ∷ [])) d) (shifted old d) old new
-shift_step old mid new d before span clean first second =
+    → ((x : Point) → span_holds span x ≡ true → spans_hold before x ≡ false)
+    → DrawsOnce (shift_holds old (spans_hold before) d) (shifted old d) old mid → DrawsOnce (shift_holds mid (span_holds span) d) (shifted mid d) mid new
+    → DrawsOnce (shift_holds old (spans_hold (before ++ span ∷ [])) d) (shifted old d) old new
+shift_step old mid new d before span clean alone first second =
     shift-more old mid new d (shift_holds old (spans_hold before) d) (shift_holds mid (span_holds span) d) (shift_holds old (spans_hold (before ++ span ∷ [])) d)
     (λ x e on. ap (λ t. t && on_map old (minus (minus x d) d)) (clean x (both (span_holds span x) (on_map mid (minus x d)) e).0))
+    (λ x e. ap (λ t. t && on_map old (minus x d)) (alone x (both (span_holds span x) (on_map mid (minus x d)) e).0))
     (λ x. ap (λ t. t && on_map old (minus x d)) (list_any-append (λ s. span_holds s x) before (span ∷ []) ∙ or_swap (span_holds span x) (spans_hold before x))
     ∙ or_and (span_holds span x) (spans_hold before x) (on_map old (minus x d))
     ∙ ap (λ t. (span_holds span x && t) || (spans_hold before x && on_map old (minus x d))) (sym (on_map-same old mid (minus x d) first.width first.height)))
@@ -307,9 +277,9 @@ shift_step old mid new d before span clean first second =
 
 -- all spans, which have the pixels of the region
 pub shift_all : (set : Pixels) (spans all : List Span) (old new : Bits) (d : Point) → IsScan all set → ((x : Point) → spans_hold all x ≡ spans_hold spans x)
-    → Draws (shift_holds old (spans_hold spans) d) (shifted old d) old new → Draws (shift_holds old (holds set) d) (shifted old d) old new
+    → DrawsOnce (shift_holds old (spans_hold spans) d) (shifted old d) old new → DrawsOnce (shift_holds old (holds set) d) (shifted old d) old new
 shift_all set spans all old new d scan same drawn =
-    Draws-where _ _ _ _ _ (λ x on. ap (λ t. t && on_map old (minus x d)) (sym (scan.pixels x ∙ same x))) drawn
+    Once-where _ _ _ _ _ (λ x on. ap (λ t. t && on_map old (minus x d)) (sym (scan.pixels x ∙ same x))) drawn
 
 pub same_down : (spans rest : List Span) (x : Point) → rest ≡ [] → spans_hold (spans ++ rest) x ≡ spans_hold spans x
 same_down spans rest x e = ap (λ l. spans_hold (spans ++ l) x) e ∙ ap (λ l. spans_hold l x) (append-nil spans)

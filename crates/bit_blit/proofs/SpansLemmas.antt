@@ -14,8 +14,8 @@ use Rattle.bit_map.specs.Bits.{Bits}
 use Rattle.scan_region.specs.declared.spans.Span.{Span}
 use Rattle.scan_region.specs.Cuts.{cut_inside, cut_holds}
 use Rattle.scan_region.specs.Scan.{IsScanOf, Precedes, span_holds}
-use Rattle.bit_blit.specs.Draws.{Draws}
-use Rattle.bit_blit.proofs.DrawsLemmas.{Draws-more}
+use Rattle.bit_blit.specs.Draws.{DrawsOnce}
+use Rattle.bit_blit.proofs.OnceLemmas.{Once-more}
 
 -- whether one of the spans has a pixel
 abbrev pub spans_hold : List Span → PixelSet
@@ -48,9 +48,9 @@ or_swap false false = refl
 
 -- one more span of a set
 pub spans_step : (f : Point → Bool → Bool) (a b c : Bits) (set : PixelSet) (before : List Span) (span : Span) (rest after : List Span) → rest ≡ span ∷ after → IsScanOf (before ++ rest) set
-    → Draws (spans_hold before) f a b → Draws (span_holds span) f b c → Draws (spans_hold (before ++ span ∷ [])) f a c
+    → DrawsOnce (spans_hold before) f a b → DrawsOnce (span_holds span) f b c → DrawsOnce (spans_hold (before ++ span ∷ [])) f a c
 spans_step f a b c set before span rest after e scan first second =
-    Draws-more (spans_hold before) (span_holds span) (spans_hold (before ++ span ∷ [])) f a b c
+    Once-more (spans_hold before) (span_holds span) (spans_hold (before ++ span ∷ [])) f a b c
     (spans-apart before span after (subst (λ l. AllPairs Precedes (before ++ l)) e scan.order))
     (λ p. list_any-append (λ s. span_holds s p) before (span ∷ []) ∙ or_swap (span_holds span p) (spans_hold before p))
     first second

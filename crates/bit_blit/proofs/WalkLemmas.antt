@@ -6,13 +6,9 @@ use Rattle.tb_geom.specs.declared.point.Point.{Point}
 use Rattle.tb_geom.specs.declared.rect.Rect.{Rect}
 use Rattle.tb_geom.specs.Points.{PixelSet}
 use Rattle.tb_geom.specs.Rects.{between, rect_holds}
-use Rattle.bit_map.specs.Bits.{Bits, on_map, is_point}
-use Rattle.bit_blit.specs.Draws.{Draws, in_row}
-use Rattle.bit_blit.proofs.DrawsLemmas.{Draws-more}
-
--- one more pixel of a row
-pub in_row-more : (v left h : ℤ) (x : Point) → left ≤ℤ h → in_row v left (h +ℤ pos 1) x ≡ (is_point (record { h = h; v = v }) x || in_row v left h x)
-in_row-more v left h x l = grind (arith, ints)
+use Rattle.bit_map.specs.Bits.{Bits, on_map}
+use Rattle.bit_blit.specs.Draws.{DrawsOnce, in_row}
+use Rattle.bit_blit.proofs.OnceLemmas.{Once-more}
 
 -- where a loop over a row ended
 pub in_row-end : (v left h right : ℤ) (x : Point) → right ≤ℤ h → (left ≤ℤ right → h ≤ℤ right) → (right ≤ℤ left → h ≡ left) → in_row v left h x ≡ in_row v left right x
@@ -43,9 +39,9 @@ pub in_rows-end : (left right top v bottom : ℤ) (x : Point) → bottom ≤ℤ 
 in_rows-end left right top v bottom x a b c = grind (arith, ints)
 
 -- rows and one more row
-pub rows_step : (f : Point → Bool → Bool) (a b c : Bits) (left right top v : ℤ) → top ≤ℤ v → Draws (in_rows left right top v) f a b → Draws (in_row v left right) f b c → Draws (in_rows left right top (v +ℤ pos 1)) f a c
+pub rows_step : (f : Point → Bool → Bool) (a b c : Bits) (left right top v : ℤ) → top ≤ℤ v → DrawsOnce (in_rows left right top v) f a b → DrawsOnce (in_row v left right) f b c → DrawsOnce (in_rows left right top (v +ℤ pos 1)) f a c
 rows_step f a b c left right top v low drawn row =
-    Draws-more (in_rows left right top v) (in_row v left right) (in_rows left right top (v +ℤ pos 1)) f a b c (in_rows-apart left right top v) (λ x. in_rows-more left right top v x low) drawn row
+    Once-more (in_rows left right top v) (in_row v left right) (in_rows left right top (v +ℤ pos 1)) f a b c (in_rows-apart left right top v) (λ x. in_rows-more left right top v x low) drawn row
 
 -- a pixel of a row lies in the rectangle whose row it is
 pub row-in_rect : (r : Rect) (v : ℤ) (x : Point) → r.top ≤ℤ v → v <ℤ r.bottom → in_row v r.left r.right x ≡ true → rect_holds r x ≡ true

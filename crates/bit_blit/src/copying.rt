@@ -10,7 +10,7 @@ ghost use Rattle.bit_map.specs.Images.{image_holds, image_bit};
 ghost use Rattle.bit_map.specs.Modes.{mode_bit};
 ghost use Rattle.bit_map.specs.Rules.{right_of};
 ghost use Rattle.bit_map.specs.Words.{bit_in};
-ghost use Rattle.bit_blit.specs.Draws.{Draws};
+ghost use Rattle.bit_blit.specs.Draws.{DrawsOnce};
 ghost use Rattle.bit_blit.specs.Sources.{IsNearSource};
 
 use crate::walk::draw_region;
@@ -95,8 +95,9 @@ impl Source for BitImage<'_> {
 /// sizes). Every other pixel stays. Region and origin are in map coordinates, and may be any. It takes
 /// no memory.
 pub fn copy<S: Source>(map: &mut BitMap, region: &Region, source: &S, origin: Point, mode: Mode)
-    ensures { Draws (λ p. holds region.now p && S.has source.now (minus p origin))
-        (λ p old. mode_bit mode (S.bit_at source.now (minus p origin)) old) map.old map.new }
+    ensures { DrawsOnce (holds region.now)
+        (λ p old. if S.has source.now (minus p origin) then mode_bit mode (S.bit_at source.now (minus p origin)) old else old)
+        map.old map.new }
 {
     let copied = Copied {
         source,

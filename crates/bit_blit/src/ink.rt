@@ -2,7 +2,7 @@
 ghost use Rattle.std.specs.Prelude.{◌≡◌, ◌-ℤ◌, ◌%◌, ℕ, Bool};
 ghost use Rattle.tb_geom.specs.Points.{minus};
 ghost use Rattle.tb_geom.specs.Pixels.{holds};
-ghost use Rattle.bit_blit.specs.Draws.{Draws};
+ghost use Rattle.bit_blit.specs.Draws.{DrawsOnce};
 ghost use Rattle.bit_map.specs.Modes.{mode_bit};
 ghost use Rattle.bit_map.specs.Patterns.{pattern_bit, eighth_of};
 ghost use Rattle.bit_map.specs.Rules.{right_of, effects_bit};
@@ -15,7 +15,7 @@ use tb_geom::Point;
 /// Puts the pattern down by the mode on each pixel of the region, in map coordinates, that the map
 /// holds. `offset` is the pattern's origin in map coordinates and may be any. It takes no memory.
 pub fn fill(map: &mut BitMap, region: &Region, offset: Point, pattern: Pattern, mode: Mode)
-    ensures { Draws (holds region.now)
+    ensures { DrawsOnce (holds region.now)
         (λ p old. mode_bit mode (pattern_bit pattern (minus p offset)) old) map.old map.new }
 {
     let ink = Ink {

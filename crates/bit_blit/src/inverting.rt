@@ -1,7 +1,7 @@
 //! Inverting.
 ghost use Rattle.std.specs.Prelude.{not};
 ghost use Rattle.tb_geom.specs.Pixels.{holds};
-ghost use Rattle.bit_blit.specs.Draws.{Draws};
+ghost use Rattle.bit_blit.specs.Draws.{DrawsOnce};
 
 use crate::walk::draw_region;
 use bit_map::{BitMap, Effect, Effects, Rule};
@@ -11,7 +11,7 @@ use tb_geom::Point;
 /// Inverts each pixel of the region, in map coordinates, that the map holds (*Inside Macintosh* I,
 /// "QuickDraw": `InvertRgn`). It takes no memory.
 pub fn invert(map: &mut BitMap, region: &Region)
-    ensures { Draws (holds region.now) (λ _ old. not old) map.old map.new }
+    ensures { DrawsOnce (holds region.now) (λ _ old. not old) map.old map.new }
 {
     draw_region(map, region, &Inverse);
 }

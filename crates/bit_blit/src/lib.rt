@@ -3,6 +3,7 @@
 //! A drawing is said by two things: the pixels that it has, and the value that it gives to each, made
 //! of the point and of the bit that stood there. The word `Draws` says that each pixel of the map
 //! that the drawing has got its value and that every other bit of the map, and the map's size, stayed.
+//! `DrawsOnce` says the same, and that each of these pixels was written once, and no other.
 //! Drawing goes from run to run, and a `Rule` makes the values of a run in one go: `draw_rect` takes the
 //! rows of a rectangle, and `draw_cut` the spans that a cut leaves of one, of which `draw_region` is the
 //! case of one region (`cut_inside`). `fill` puts a pattern down so, `copy` the bits of a `Source`, which is another map

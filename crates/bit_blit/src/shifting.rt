@@ -6,7 +6,7 @@ ghost use Rattle.tb_geom.specs.Rects.{rect_holds};
 ghost use Rattle.tb_geom.specs.Pixels.{holds};
 ghost use Rattle.scan_region.specs.Scan.{span_holds};
 ghost use Rattle.bit_map.specs.Bits.{on_map};
-ghost use Rattle.bit_blit.specs.Draws.{Draws};
+ghost use Rattle.bit_blit.specs.Draws.{DrawsOnce};
 ghost use Rattle.bit_blit.specs.Shifts.{shift_holds, shifted, is_onward};
 
 use bit_map::BitMap;
@@ -22,7 +22,7 @@ use tb_geom::{Point, Rect};
 /// leads onward in it, and so are the words of a part (`shift_run`). So the source of a pixel is always
 /// one that still has its old bit.
 pub fn shift(map: &mut BitMap, region: &Region, distance: Point)
-    ensures { Draws (shift_holds map.old (holds region.now) distance) (shifted map.old distance)
+    ensures { DrawsOnce (shift_holds map.old (holds region.now) distance) (shifted map.old distance)
         map.old map.new }
 {
     let area = area_with_source(map, distance);
@@ -60,7 +60,7 @@ fn area_with_source(map: &BitMap, distance: Point) -> Rect
 /// Shifts to the pixels of a span, of which `area` has those whose source is on the map.
 fn shift_span(map: &mut BitMap, span: Span, area: Rect, distance: Point)
     requires { (p : Point) → rect_holds area p ≡ (on_map map.old p && on_map map.old (minus p distance)) }
-    ensures { Draws (shift_holds map.old (span_holds span) distance) (shifted map.old distance)
+    ensures { DrawsOnce (shift_holds map.old (span_holds span) distance) (shifted map.old distance)
         map.old map.new }
 {
     if area.top <= span.v && span.v < area.bottom {

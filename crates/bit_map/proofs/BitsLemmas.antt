@@ -59,8 +59,8 @@ pub record IsOfWords (m : Bits) (words : List ℕ) : Type 0 where
   pub whole : IsWholeMap m.width m.height words
   pub black : m.black ≡ black_of m.width m.height words
 
-pub of_words : (m : Bits) (width height : ℕ) (words : List ℕ) → record { width = width; height = height; black = black_of width height words } ≡ m → IsWholeMap width height words → IsOfWords m words
-of_words m width height words e whole = subst (λ (n : Bits). IsOfWords n words) e (record { whole = whole; black = refl })
+pub of_words : (m : Bits) (width height : ℕ) (words : List ℕ) {counts : List ℕ} → record { width = width; height = height; black = black_of width height words; counts = counts } ≡ m → IsWholeMap width height words → IsOfWords m words
+of_words m width height words {counts} e whole = subst (λ (n : Bits). IsOfWords n words) e (record { whole = whole; black = refl })
 
 -- where the bit of a point stands
 abbrev pub place_of : ℕ → Point → ℕ

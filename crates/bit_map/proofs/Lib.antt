@@ -1,5 +1,6 @@
 -- Lemmas on the bits of a map.
 pub mod BitsLemmas
+pub mod CountLemmas
 pub mod WordLemmas
 pub mod PartLemmas
 pub mod MoveLemmas

@@ -1,16 +1,17 @@
 -- A map of bits, point by point.
-use Rattle.std.specs.Prelude.{ℕ, ◌+◌, ◌*◌, ℤ, pos, negsuc, Bool, false, ◌&&◌, List, nat_lt, nat_abs, int_le, slice_index_or}
+use Rattle.std.specs.Prelude.{ℕ, ◌+◌, ◌*◌, ℤ, pos, negsuc, Bool, false, ◌&&◌, if◌then◌else◌, List, nat_lt, nat_abs, int_le, slice_index_or}
 use Rattle.std.specs.Ordering.{int_eq}
 use Rattle.tb_geom.specs.declared.point.Point.{Point}
 use Rattle.tb_geom.specs.declared.rect.Rect.{Rect}
 use Rattle.tb_geom.specs.Points.{PixelSet}
 use Rattle.tb_geom.specs.Rects.{between}
 
--- the bits of a map row by row, the top row first; black is true
+-- the bits of a map row by row, the top row first, where black is true; and how often each of these pixels was written
 pub record Bits : Type 0 where
   pub width : ℕ
   pub height : ℕ
   pub black : List Bool
+  pub counts : List ℕ
 
 -- whether a number is one of 0 .. limit - 1
 abbrev pub is_below : ℕ → ℤ → Bool
@@ -24,6 +25,10 @@ on_map m p = is_below m.width p.h && is_below m.height p.v
 -- the bit at a point of the map; off the map it is white
 unfoldable pub bit : Bits → PixelSet
 bit m p = on_map m p && slice_index_or m.black (nat_abs p.v * m.width + nat_abs p.h) false
+
+-- how often the pixel at a point of the map was written; off the map it never was
+unfoldable pub count : Bits → Point → ℕ
+count m p = if on_map m p then slice_index_or m.counts (nat_abs p.v * m.width + nat_abs p.h) 0 else 0
 
 -- whether p is the point q
 abbrev pub is_point : Point → PixelSet

@@ -8,6 +8,9 @@
 //! `draw_run` gives the pixels of a part of a row what it says, in one go. What a map means
 //! is its bit at each point: every contract here and in the crates above says which bits a call leaves.
 //!
+//! A map's meaning also has a number for each pixel: how often it was written (`count`). It takes no bytes,
+//! and is there to say what a call does not write.
+//!
 //! A map keeps its bits in words of 64, the high bit left, and each row begins with a word of its own.
 //! Drawing goes by words: a rule is asked for a word of pixels at a time (`word`), or for a run of words (`words`),
 //! and what it answers is put down under a mask where a run begins or ends within a word. What a mode
@@ -27,6 +30,7 @@ mod rule;
 mod run;
 mod stripe;
 mod words;
+mod writes;
 
 pub use effect::{Effect, Effects};
 pub use image::{BitImage, bits_from};

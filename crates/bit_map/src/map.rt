@@ -3,7 +3,7 @@ ghost use Rattle.std.specs.Prelude.{◌≡◌, ◌<◌, ◌≤◌, ◌≤ℤ◌,
 ghost use Rattle.tb_geom.specs.declared.point.Point.{Point};
 ghost use Rattle.tb_geom.specs.Points.{minus};
 ghost use Rattle.tb_geom.specs.Rects.{rect_holds};
-ghost use Rattle.bit_map.specs.Bits.{on_map, bit, is_point, in_row, bounds_of, is_side};
+ghost use Rattle.bit_map.specs.Bits.{on_map, bit, count, is_point, in_row, bounds_of, is_side};
 ghost use Rattle.bit_map.specs.Rules.{right_of};
 ghost use Rattle.bit_map.specs.Words.{words_across, bit_in, place_bit};
 
@@ -12,26 +12,32 @@ use crate::moves::{move_run, word_from};
 use crate::rule::Rule;
 use crate::run::rule_run;
 use crate::words::{bit_in, held, with_bit};
+use crate::writes::{Writes, Written};
 use std::alloc::Global;
 use std::marker::Model;
 use tb_geom::{Point, Rect, Refusal};
 
 /// A rectangle of bits, its top left pixel at 0 0. Each side is 0..=32767 pixels long. Each row begins
-/// with a word of its own; what the bits past its last column are does not matter.
+/// with a word of its own; what the bits past its last column are does not matter. How often each pixel
+/// was written is a part of what a map means, and takes no bytes.
 #[derive(Debug, Drop)]
 pub struct BitMap {
     width: u16,
     height: u16,
     words: Vec<u64>,
+    writes: Writes,
 }
+
+const _: () = prove!(size_of::<BitMap>() == 32);
 
 impl Model for BitMap {
     ghost use Rattle.bit_map.specs.Bits.{Bits};
     ghost use Rattle.bit_map.specs.Words.{black_of, IsWholeMap};
+    ghost use Rattle.bit_map.specs.Counts.{counts_of};
 
     ghost Value = { Bits };
 
-    ghost view = { λ m. record { width = m.width; height = m.height; black = black_of m.width m.height m.words.items } };
+    ghost view = { λ m. record { width = m.width; height = m.height; black = black_of m.width m.height m.words.items; counts = counts_of m.width m.height m.writes.tag.numbers } };
 
     ghost invariant = { λ m. IsWholeMap m.width m.height m.words.items };
 }
@@ -73,6 +79,7 @@ impl BitMap {
     pub fn new(alloc: Global, width: i32, height: i32) -> Result<BitMap, Refusal>
         ensures sides { IfOk result (λ map. (pos map.width ≡ width) × (pos map.height ≡ height)) }
         ensures white { IfOk result (λ map. (p : Point) → bit map p ≡ false) }
+        ensures unwritten { IfOk result (λ map. (p : Point) → count map p ≡ 0) }
         ensures in_range { IfOk result (λ map. (is_side width && is_side height) ≡ true) }
         ensures refused { IfErr result (λ e.
             e ≡ (if is_side width && is_side height then Refusal.NoMemory else Refusal.OutOfRange)) }
@@ -84,6 +91,7 @@ impl BitMap {
                 width,
                 height,
                 words,
+                writes: Writes::new(),
             })
         } else {
             Err(Refusal::OutOfRange)
@@ -156,11 +164,19 @@ impl BitMap {
     pub fn set(&mut self, point: Point, value: bool)
         requires { on_map self.old point ≡ true }
         ensures bits { (p : Point) → bit self.new p ≡ (if is_point point p then value else bit self.old p) }
+        ensures counts { (p : Point) → count self.new p ≡ (if is_point point p then count self.old p + 1 else count self.old p) }
         ensures width { self.new.width ≡ self.old.width }
         ensures height { self.new.height ≡ self.old.height }
     {
         let place = self.place(point);
         self.words[place / 64] = with_bit(self.words[place / 64], place % 64, value);
+        self.writes.add(Written {
+            width: self.width,
+            height: self.height,
+            v: point.v,
+            left: point.h,
+            count: 1,
+        });
     }
 
     /// Gives each pixel of the row `v` from the column `left` up to the column `right`, all in map
@@ -169,6 +185,7 @@ impl BitMap {
         requires { (p : Point) → in_row v left right p ≡ true → on_map self.old p ≡ true }
         ensures bits { (p : Point) → bit self.new p
             ≡ (if in_row v left right p then R.value rule.now p (bit self.old p) else bit self.old p) }
+        ensures counts { (p : Point) → count self.new p ≡ (if in_row v left right p then count self.old p + 1 else count self.old p) }
         ensures width { self.new.width ≡ self.old.width }
         ensures height { self.new.height ≡ self.old.height }
     {
@@ -177,6 +194,13 @@ impl BitMap {
             let place = self.place(start);
             let count = columns_between(left, right);
             rule_run(self.words.as_mut_slice(), place, count, start, rule);
+            self.writes.add(Written {
+                width: self.width,
+                height: self.height,
+                v: start.v,
+                left: start.h,
+                count,
+            });
         }
     }
 
@@ -186,6 +210,7 @@ impl BitMap {
         requires { (p : Point) → in_row v left right p ≡ true → (on_map self.old p && on_map self.old (minus p distance)) ≡ true }
         ensures bits { (p : Point) → bit self.new p
             ≡ (if in_row v left right p then bit self.old (minus p distance) else bit self.old p) }
+        ensures counts { (p : Point) → count self.new p ≡ (if in_row v left right p then count self.old p + 1 else count self.old p) }
         ensures width { self.new.width ≡ self.old.width }
         ensures height { self.new.height ≡ self.old.height }
     {
@@ -197,6 +222,13 @@ impl BitMap {
             });
             let count = columns_between(left, right);
             move_run(self.words.as_mut_slice(), place, source, count);
+            self.writes.add(Written {
+                width: self.width,
+                height: self.height,
+                v,
+                left,
+                count,
+            });
         }
     }
 

@@ -8,8 +8,9 @@ use Rattle.tb_geom.specs.declared.point.Point.{Point}
 use Rattle.tb_geom.specs.Points.{PixelSet, minus}
 use Rattle.tb_geom.specs.Rects.{between, rect_holds}
 use Rattle.bit_map.specs.Bits.{Bits, on_map}
-use Rattle.bit_map.proofs.BitsLemmas.{on_map-sides}
-use Rattle.bit_blit.specs.Draws.{Draws}
+use Rattle.bit_map.proofs.BitsLemmas.{on_map-sides, on_map-same}
+use Rattle.bit_blit.specs.Draws.{Draws, DrawsOnce}
+use Rattle.bit_blit.proofs.WrittenLemmas.{written_none, written_over, written_in, written_once}
 use Rattle.bit_blit.proofs.DrawsLemmas.{Draws-over, Draws-same, Draws-where}
 use Rattle.draw_port.specs.Origins.{is_near_origin}
 use Rattle.draw_port.specs.Places.{stopped, is_far, HasNear, Encloses}
@@ -132,10 +133,63 @@ text_painted c op t text mode old new is_shape is_text is_mode drawn =
 -- ---- one operation after another
 
 pub SameFrame-none : (a : Canvas) → SameFrame a a
-SameFrame-none a = record { clip = refl; origin = refl; cut = refl; font = refl }
+SameFrame-none a = record { clip = refl; origin = refl; cut = refl; font = refl; written = written_none (canvas_holds a) a.map.now; width = refl; height = refl }
 
 pub SameFrame-then : (a b c : Canvas) → SameFrame a b → SameFrame b c → SameFrame a c
-SameFrame-then a b c f g = record { clip = g.clip ∙ f.clip; origin = g.origin ∙ f.origin; cut = g.cut ∙ f.cut; font = g.font ∙ f.font }
+SameFrame-then a b c f g = record {
+  clip = g.clip ∙ f.clip;
+  origin = g.origin ∙ f.origin;
+  cut = g.cut ∙ f.cut;
+  font = g.font ∙ f.font;
+  written =
+      written_over (canvas_holds a) (canvas_holds b) (canvas_holds a) a.map.now b.map.now c.map.now (λ p. on_map-same a.map.now b.map.now p f.width f.height)
+      (λ p on out. (out, (λ i. rect_holds (f.clip i) p && cut_holds ((f.cut i).now) p) ∙ out)) f.written g.written;
+  width = g.width ∙ f.width;
+  height = g.height ∙ f.height;
+}
+
+-- a drawing of pixels of the canvas, each once
+pub SameFrame-drawn : (a b : Canvas) (holds : PixelSet) (f : Point → Bool → Bool) → b.clip ≡ a.clip → b.origin ≡ a.origin → b.cut ≡ a.cut → b.font ≡ a.font
+    → ((p : Point) → canvas_holds a p ≡ false → holds p ≡ false)
+    → DrawsOnce holds f a.map.now b.map.now → SameFrame a b
+SameFrame-drawn a b holds f clip origin cut font within drawn = record {
+  clip = clip;
+  origin = origin;
+  cut = cut;
+  font = font;
+  written = written_in holds (canvas_holds a) a.map.now b.map.now (λ p on out. within p out) (written_once holds f a.map.now b.map.now drawn);
+  width = drawn.width;
+  height = drawn.height;
+}
+
+and_out : (r k c : Bool) → (r ≡ true → k ≡ true) → (k && c) ≡ false → (r && c) ≡ false
+and_out true k c inside e = ap (λ t. t && c) (sym (inside refl)) ∙ e
+and_out false k c inside e = refl
+
+-- a part of the clip, where the cut leaves it, is of the canvas
+pub in_clip : (c : Canvas) (area : Rect) → ((p : Point) → rect_holds area p ≡ true → rect_holds c.clip p ≡ true) → (p : Point) → canvas_holds c p ≡ false → (rect_holds area p && cut_holds c.cut.now p) ≡ false
+in_clip c area inside p out = and_out (rect_holds area p) (rect_holds c.clip p) (cut_holds c.cut.now p) (inside p) out
+
+first_of : (t a b : Bool) → t ≡ (a && b) → t ≡ true → a ≡ true
+first_of t true b e on = refl
+first_of t false b e on = sym e ∙ on
+
+-- a drawing on a canvas of the same map, whose clip is what a rectangle has of this one's
+pub SameFrame-inner : (a b c d : Canvas) (rect : Rect) → ((p : Point) → rect_holds b.clip p ≡ (rect_holds a.clip p && rect_holds rect (minus p a.origin)))
+    → b.map.now ≡ a.map.now → b.cut ≡ a.cut → SameFrame b c
+    → d.map.now ≡ c.map.now → d.clip ≡ a.clip → d.origin ≡ a.origin → d.cut ≡ a.cut → d.font ≡ a.font → SameFrame a d
+SameFrame-inner a b c d rect shared same_map same_cut drawn after clip origin cut font = record {
+  clip = clip;
+  origin = origin;
+  cut = cut;
+  font = font;
+  written =
+      written_in (canvas_holds b) (canvas_holds a) a.map.now d.map.now
+      (λ p on out. ap (λ k. rect_holds b.clip p && cut_holds k.now p) same_cut ∙ in_clip a b.clip (λ q e. first_of (rect_holds b.clip q) (rect_holds a.clip q) (rect_holds rect (minus q a.origin)) (shared q) e) p out)
+      (rw (← same_map, after) drawn.written);
+  width = ap (λ (m : Bits). m.width) after ∙ drawn.width ∙ ap (λ (m : Bits). m.width) same_map;
+  height = ap (λ (m : Bits). m.height) after ∙ drawn.height ∙ ap (λ (m : Bits). m.height) same_map;
+}
 
 -- on a canvas of the same frame an operation is painted at the same pixels, and alike
 frame_value : (old mid : Canvas) (op : Op) (p : Point) (d : Bool) → SameFrame old mid → cond (canvas_holds mid p) (painted_by mid op p d) d ≡ cond (canvas_holds old p) (painted_by old op p d) d

@@ -4,6 +4,7 @@ use Rattle.tb_geom.specs.declared.point.Point.{Point}
 use Rattle.tb_geom.specs.Points.{PixelSet, minus}
 use Rattle.tb_geom.specs.Rects.{rect_holds}
 use Rattle.tb_geom.specs.Pixels.{Pixels}
+use Rattle.bit_blit.specs.Draws.{IsWritten}
 use Rattle.strike_font.specs.Text.{text_holds}
 use Rattle.scan_region.specs.Cuts.{cut_holds}
 use Rattle.draw_port.specs.Ops.{clip_holds, op_value, picture_bit, picture_value}
@@ -34,9 +35,12 @@ painted_all c ops p d = picture_value c.font.now ops (canvas_point c p) d
 abbrev pub pictured : Canvas → List Op → Point → Bool → Bool
 pictured c ops p d = picture_bit c.font.now ops (canvas_point c p)
 
--- all but the map is as before
+-- all but the map is as before, and of the map at most the canvas's pixels were written
 pub record SameFrame (old new : Canvas) : Type 0 where
   pub clip : new.clip ≡ old.clip
   pub origin : new.origin ≡ old.origin
   pub cut : new.cut ≡ old.cut
   pub font : new.font ≡ old.font
+  pub written : IsWritten (canvas_holds old) old.map.now new.map.now
+  pub width : new.map.now.width ≡ old.map.now.width
+  pub height : new.map.now.height ≡ old.map.now.height

@@ -1,5 +1,6 @@
 //! Drawing on a canvas.
 ghost use Rattle.std.specs.Prelude.{◌≡◌, ◌≤◌, true, false, not, ◌&&◌, length, if◌then◌else◌};
+ghost use Rattle.tb_geom.specs.declared.point.Point.{Point};
 ghost use Rattle.tb_geom.specs.Points.{minus};
 ghost use Rattle.tb_geom.specs.Rects.{rect_holds};
 ghost use Rattle.bit_map.specs.Images.{Image, image_holds, image_bit};
@@ -181,9 +182,10 @@ impl Canvas<'_> {
         self.draw_within(placed_within(self.clip, rect, self.origin), rule);
     }
 
-    /// Gives each pixel of a rectangle that the cut leaves the value of the rule. The rectangle is in
-    /// the coordinates of the map, and the rule in those of the canvas.
+    /// Gives each pixel of a rectangle that the cut leaves the value of the rule. The rectangle is a part of
+    /// the clip, in the coordinates of the map, and the rule is in those of the canvas.
     fn draw_within<R: Rule>(&mut self, area: Rect, rule: &R)
+        requires { (p : Point) → rect_holds area p ≡ true → rect_holds self.old.clip p ≡ true }
         ensures same_map { self.new.map.ghost_name ≡ self.old.map.ghost_name }
         ensures same_frame { SameFrame self.old self.new }
         ensures limits { (self.old.map.now.width ≤ 32767) × (self.old.map.now.height ≤ 32767) }

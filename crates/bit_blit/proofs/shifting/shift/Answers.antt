@@ -1,6 +1,6 @@
 use Rattle.std.proofs.Common.{◌∙◌, sym}
 use Rattle.bit_blit.proofs.SpansLemmas.{scan_step}
-use Rattle.bit_blit.proofs.ShiftLemmas.{both-on, shift_step, clean_up, clean_down, scan_up_step, shift_all, same_up}
+use Rattle.bit_blit.proofs.ShiftLemmas.{both-on, shift_step, clean_up, clean_down, apart_up, apart_down, scan_up_step, shift_all, same_up}
 use Rattle.bit_blit.proofs.shifting.shift.Goals as goal
 
 pub shift_span-requires : goal.shift_span-requires
@@ -15,7 +15,7 @@ up-preserved c =
     let way = sym c.is_onward.ensures ∙ c.if-is_onward.true in
     record {
       scan = scan_up_step c.args.region.now c.up.yielded span c.up.span-iterator c.next.new.self c.in-Some.ensures.steps c.up.invariant.scan;
-      drawn = shift_step _ _ _ c.args.distance c.up.yielded span (clean_up c.args.region.now c.up.yielded span _ _ c.args.distance way c.in-Some.ensures.steps c.up.invariant.scan) c.up.invariant.drawn c.shift_span.ensures;
+      drawn = shift_step _ _ _ c.args.distance c.up.yielded span (clean_up c.args.region.now c.up.yielded span _ _ c.args.distance way c.in-Some.ensures.steps c.up.invariant.scan) (apart_up c.args.region.now c.up.yielded span _ _ c.in-Some.ensures.steps c.up.invariant.scan) c.up.invariant.drawn c.shift_span.ensures;
     }
 
 pub down-preserved : goal.down-preserved
@@ -24,7 +24,7 @@ down-preserved c =
     let way = sym c.is_onward.ensures ∙ c.if-is_onward.false in
     record {
       scan = scan_step _ _ _ _ _ c.in-Some-span.ensures.steps c.down.invariant.scan;
-      drawn = shift_step _ _ _ c.args.distance c.down.yielded span (clean_down c.args.region.now c.down.yielded span _ _ c.args.distance way c.in-Some-span.ensures.steps c.down.invariant.scan) c.down.invariant.drawn c.shift_span-in-down.ensures;
+      drawn = shift_step _ _ _ c.args.distance c.down.yielded span (clean_down c.args.region.now c.down.yielded span _ _ c.args.distance way c.in-Some-span.ensures.steps c.down.invariant.scan) (apart_down c.args.region.now c.down.yielded span _ _ c.in-Some-span.ensures.steps c.down.invariant.scan) c.down.invariant.drawn c.shift_span-in-down.ensures;
     }
 
 pub returns-in-None : goal.returns-in-None

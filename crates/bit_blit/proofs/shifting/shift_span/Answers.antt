@@ -1,7 +1,7 @@
 use Rattle.std.proofs.Common.{◌∙◌, sym, rules, SFits, w32}
 use Rattle.std.proofs.lemmas.Int.{ints, to_z-of_z}
-use Rattle.bit_blit.proofs.DrawsLemmas.{Draws-of, Draws-where, Draws-none}
-use Rattle.bit_blit.specs.Draws.{Draws, in_row}
+use Rattle.bit_blit.specs.Draws.{DrawsOnce, in_row}
+use Rattle.bit_blit.proofs.OnceLemmas.{Once-of, Once-where, Once-none}
 use Rattle.bit_blit.specs.Shifts.{shifted}
 use Rattle.bit_blit.proofs.WalkLemmas.{IsCut, cut_row-in_rect}
 use Rattle.bit_blit.proofs.ShiftLemmas.{span-cut, span-off, above_rows, below_rows}
@@ -50,8 +50,8 @@ returns-then-span-area c =
       first_is = simp to_z-of_z at c.max-left.ensures.value;
       last_is = simp to_z-of_z at c.min-right.ensures.value;
     } in
-    let drawn : Draws (in_row span.v c.max-left.result c.min-right.result) (shifted c.args.map.now c.args.distance) c.args.map.now c.shift_run.new.self = Draws-of _ _ _ _ (simp to_z-of_z at c.shift_run.ensures.bits) c.shift_run.ensures.width c.shift_run.ensures.height in
-    Draws-where _ _ _ _ _ (λ x on. span-cut c.args.map.now span c.args.distance area _ _ c.requires cut x on) drawn
+    let drawn : DrawsOnce (in_row span.v c.max-left.result c.min-right.result) (shifted c.args.map.now c.args.distance) c.args.map.now c.shift_run.new.self = Once-of _ _ _ _ (simp to_z-of_z at c.shift_run.ensures.bits) (simp to_z-of_z at c.shift_run.ensures.counts) c.shift_run.ensures.width c.shift_run.ensures.height in
+    Once-where _ _ _ _ _ (λ x on. span-cut c.args.map.now span c.args.distance area _ _ c.requires cut x on) drawn
 
 pub returns-else-area-span : goal.returns-else-area-span
 returns-else-area-span c =
@@ -60,7 +60,7 @@ returns-else-area-span c =
     let fits_v : SFits w32 span.v = search rules in
     let fits_at : SFits w32 area.top = search rules in
     let fits_ab : SFits w32 area.bottom = search rules in
-    Draws-none _ _ _ (span-off c.args.map.now span c.args.distance area c.requires (elim c.else-area-span.branch [
+    Once-none _ _ _ (span-off c.args.map.now span c.args.distance area c.requires (elim c.else-area-span.branch [
       | else-area-span-via-then-area-span+else-span-area w ↦ below_rows area.top span.v area.bottom (search (rules, ints))
       | else-area-span-via-else-area-span w ↦ above_rows area.top span.v area.bottom (search (rules, ints))
     ]))

@@ -1,6 +1,6 @@
 use Rattle.std.proofs.Common.{◌∙◌, sym, rules, SFits, w32}
 use Rattle.std.proofs.lemmas.Int.{ints, to_z-of_z}
-use Rattle.bit_blit.proofs.DrawsLemmas.{Draws-of, Draws-where}
+use Rattle.bit_blit.proofs.OnceLemmas.{Once-of, Once-where}
 use Rattle.bit_blit.proofs.WalkLemmas.{IsCut, cut_row-in_rect, cut_row-where}
 use Rattle.bit_blit.proofs.walk.draw_span.Goals as goal
 
@@ -42,5 +42,5 @@ returns-then-v-bounds g c =
       first_is = simp to_z-of_z at c.max.ensures.value;
       last_is = simp to_z-of_z at c.min.ensures.value;
     } in
-    let drawn = Draws-of _ _ _ _ (simp to_z-of_z at c.draw_run.ensures.bits) c.draw_run.ensures.width c.draw_run.ensures.height in
-    Draws-where _ _ _ _ _ (λ x on. cut_row-where _ _ _ _ _ _ cut x (c.bounds-bounds.ensures.pixels x ∙ on)) drawn
+    let drawn = Once-of _ _ _ _ (simp to_z-of_z at c.draw_run.ensures.bits) (simp to_z-of_z at c.draw_run.ensures.counts) c.draw_run.ensures.width c.draw_run.ensures.height in
+    Once-where _ _ _ _ _ (λ x on. cut_row-where _ _ _ _ _ _ cut x (c.bounds-bounds.ensures.pixels x ∙ on)) drawn

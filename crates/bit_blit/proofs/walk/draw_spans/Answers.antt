@@ -6,7 +6,7 @@ use Rattle.std.proofs.lemmas.Int.{to_z-of_z}
 use Rattle.tb_geom.specs.Rects.{rect_holds}
 use Rattle.scan_region.specs.Cuts.{cut_holds}
 use Rattle.bit_blit.proofs.SpansLemmas.{spans_hold, spans_step, scan_step}
-use Rattle.bit_blit.proofs.DrawsLemmas.{Draws-none, Draws-where}
+use Rattle.bit_blit.proofs.OnceLemmas.{Once-none, Once-where}
 use Rattle.bit_blit.proofs.walk.draw_spans.Goals as goal
 
 pub loop-span-preserved : goal.loop-span-preserved
@@ -24,10 +24,10 @@ loop-span-preserved g c =
 pub loop-span-init : goal.loop-span-init
 loop-span-init g c = record {
   scan = rw c.into_iter-span-iterator.ensures.into_iter_gives c.spans_within-span-items.ensures;
-  drawn = Draws-none (spans_hold []) _ _ (λ x on. refl);
+  drawn = Once-none (spans_hold []) _ _ (λ x on. refl);
 }
 
 pub returns : goal.returns
 returns g c =
     let scan = subst (λ l. IsScanOf (c.loop-span.yielded ++ l) (λ p. rect_holds c.args.area p && cut_holds c.args.cut.now p)) c.in-None.ensures.steps.0 c.loop-span.invariant.scan in
-    Draws-where (spans_hold c.loop-span.yielded) (λ p. rect_holds c.args.area p && cut_holds c.args.cut.now p) _ _ _ (λ x on. sym (scan.pixels x ∙ ap (λ l. list_any (λ s. span_holds s x) l) (append-nil c.loop-span.yielded))) c.loop-span.invariant.drawn
+    Once-where (spans_hold c.loop-span.yielded) (λ p. rect_holds c.args.area p && cut_holds c.args.cut.now p) _ _ _ (λ x on. sym (scan.pixels x ∙ ap (λ l. list_any (λ s. span_holds s x) l) (append-nil c.loop-span.yielded))) c.loop-span.invariant.drawn

@@ -1,10 +1,12 @@
-use Rattle.std.proofs.Common.{◌≡◌, ◌*◌, ◌+◌, ◌<ℤ◌, ◌-ℤ◌, ◌∙◌, sym, ap, refl, ℕ, List, length, nat_abs, SFits, w32, rules, arith}
+use Rattle.std.proofs.Common.{◌≡◌, ◌*◌, ◌+◌, ◌<ℤ◌, ◌≤ℤ◌, ◌-ℤ◌, ◌+ℤ◌, pos, ◌∙◌, sym, ap, refl, ℕ, List, length, nat_abs, SFits, w32, rules, arith}
 use Rattle.std.proofs.lemmas.Int.{ints, to_z-of_z}
 use Rattle.std.proofs.lemmas.List.{with_items_is}
-use Rattle.bit_map.specs.Bits.{Bits}
+use Rattle.bit_map.specs.Bits.{Bits, in_row}
+use Rattle.bit_map.specs.Counts.{raised}
 use Rattle.bit_map.specs.Words.{words_across}
 use Rattle.bit_map.proofs.BitsLemmas.{of_words}
 use Rattle.bit_map.proofs.RunLemmas.{IsRunOn, first_of, first_in, starts, fits_in, few_words, near_number, shift-on, shift-source, source_at, source_fits, whole_after, IsMoved-over, bit-moved}
+use Rattle.bit_map.proofs.CountLemmas.{counts-of, count-run, count-no_run}
 use Rattle.bit_map.proofs.map.BitMap.shift_run.Goals as goal
 
 pub place-place-requires : goal.place-place-requires
@@ -115,3 +117,23 @@ returns-then-left-right-clause-bits c =
     bit-moved c.args.self.now _ words _ c.args.v c.args.left c.args.right c.args.distance c.place-place.result c.place-source.result c.columns_between-count.result run c.requires source
     (record { whole = whole_after c.self.inside.width c.self.inside.height words _ (ap (λ (l : List ℕ). length l) new ∙ moved.all ∙ ap (λ (l : List ℕ). length l) c.as_mut_slice.ensures.value) c.self.invariant; black = refl })
     (IsMoved-over c.as_mut_slice.ensures.value (sym new) moved) (ap (λ (m : Bits). m.width) c.self.view_is) (ap (λ (m : Bits). m.height) c.self.view_is)
+
+pub returns-then-left-right-clause-counts : goal.returns-then-left-right-clause-counts
+returns-then-left-right-clause-counts c =
+    let width = ap (λ (m : Bits). m.width) c.self.view_is in
+    let height = ap (λ (m : Bits). m.height) c.self.view_is in
+    let left : SFits w32 c.args.left = search rules in
+    let right : SFits w32 c.args.right = search rules in
+    let v : SFits w32 c.args.v = search rules in
+    count-run c.args.self.now _ c.self.inside.writes.tag.numbers c.add.new.self.tag.numbers c.args.v c.args.left c.args.right c.columns_between-count.result
+    (counts-of c.args.self.now c.self.inside.width c.self.inside.height c.self.inside.writes.tag.numbers c.self.view_is) refl
+    (simp to_z-of_z at c.add.ensures ∙ (λ i. raised (width i) (height i) (in_row c.args.v c.args.left (c.args.left +ℤ pos c.columns_between-count.result)) c.self.inside.writes.tag.numbers))
+    (simp to_z-of_z at c.columns_between-count.ensures) width height
+    (shift-on c.args.self.now c.args.v c.args.left c.args.right c.args.distance c.requires)
+
+pub returns-else-left-right-clause-counts : goal.returns-else-left-right-clause-counts
+returns-else-left-right-clause-counts c p =
+    let left : SFits w32 c.args.left = search rules in
+    let right : SFits w32 c.args.right = search rules in
+    let low : c.args.right ≤ℤ c.args.left = search (rules, ints) in
+    count-no_run c.args.self.now c.args.v c.args.left c.args.right p low

@@ -82,3 +82,6 @@ returns-clause-drawn g c =
     Draws-where _ _ _ _ _
     (λ p on. ap (λ t. canvas_holds canvas p && t) (sym (scan.pixels (canvas_point canvas p) ∙ ap (λ l. list_any (λ s. span_holds s (canvas_point canvas p)) l) (append-nil c.loop-span.yielded))))
     all
+
+pub returns-clause-same_frame : goal.returns-clause-same_frame
+returns-clause-same_frame g c = SameFrame-then _ _ _ c.loop-span.invariant.same_frame c.draw-2.ensures.same_frame
