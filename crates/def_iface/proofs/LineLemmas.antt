@@ -5,7 +5,6 @@ use Rattle.std.proofs.lemmas.Int.{ints, clamps}
 use Rattle.std.specs.Int.{int_min, int_max, saturate_signed}
 use Rattle.tb_geom.specs.declared.point.Point.{Point}
 use Rattle.tb_geom.specs.declared.rect.Rect.{Rect}
-use Rattle.std.specs.Prelude.{int_le, int_lt}
 use Rattle.std.specs.Ordering.{int_eq}
 use Rattle.tb_geom.specs.Rects.{between, rect_holds, empty_rect}
 use Rattle.tb_geom.proofs.RectLemmas.{IsInside, sides_of, holds_in, holds_none}
@@ -45,18 +44,25 @@ module _ (r : Rect) (more : List Rect) (within : (p : Point) → line_holds more
 
   -- the sides of a rectangle share no pixel, with one another and with lines inside
   pub sides_apart : AreApart more → AreApart (four_sides r ++ more)
-  sides_apart apart =
-      (λ p e. let k = sides_of _ p e in
+  sides_apart apart = (
+    λ p e. let k = sides_of _ p e in
         in_neither _ _ (not_held _ p (λ m. absurd (omega (arith, ints, clamps))))
         (in_neither _ _ (not_held _ p (λ m. absurd (omega (arith, ints, clamps))))
         (in_neither _ _ (not_held _ p (λ m. absurd (omega (arith, ints, clamps)))) (beyond p (λ m. absurd (omega (arith, ints, clamps)))))),
-      (λ p e. let k = sides_of _ p e in
-        in_neither _ _ (not_held _ p (λ m. absurd (omega (arith, ints, clamps))))
-        (in_neither _ _ (not_held _ p (λ m. absurd (omega (arith, ints, clamps)))) (beyond p (λ m. absurd (omega (arith, ints, clamps))))),
-      (λ p e. let k = sides_of _ p e in
-        in_neither _ _ (not_held _ p (λ m. absurd (omega (arith, ints, clamps)))) (beyond p (λ m. absurd (omega (arith, ints, clamps)))),
-      (λ p e. let k = sides_of _ p e in beyond p (λ m. absurd (omega (arith, ints, clamps))),
-      apart))))
+    (
+      λ p e. let k = sides_of _ p e in
+          in_neither _ _ (not_held _ p (λ m. absurd (omega (arith, ints, clamps))))
+          (in_neither _ _ (not_held _ p (λ m. absurd (omega (arith, ints, clamps)))) (beyond p (λ m. absurd (omega (arith, ints, clamps))))),
+      (
+        λ p e. let k = sides_of _ p e in
+            in_neither _ _ (not_held _ p (λ m. absurd (omega (arith, ints, clamps)))) (beyond p (λ m. absurd (omega (arith, ints, clamps)))),
+        (
+          λ p e. let k = sides_of _ p e in beyond p (λ m. absurd (omega (arith, ints, clamps))),
+          apart,
+        ),
+      ),
+    ),
+  )
 
 -- those of a frame and four of no pixel
 pub frame_apart : (r : Rect) → AreApart (frame_lines r)
@@ -100,9 +106,9 @@ module _ (r : Rect) (p : Point) where
   sides_hold : IsInside r p → line_holds (four_sides r) p ≡ ((int_eq p.h r.left || int_eq (p.h +ℤ pos 1) r.right) || (int_eq p.v r.top || int_eq (p.v +ℤ pos 1) r.bottom))
   sides_hold k =
       (λ i. (is_there r.left p.h r.right k.left k.right i && is_first r.top p.v r.bottom k.top k.bottom i)
-        || ((is_there r.left p.h r.right k.left k.right i && is_last r.top p.v r.bottom k.top k.bottom i)
-        || ((is_first r.left p.h r.right k.left k.right i && is_between r.top p.v r.bottom k.top k.bottom i)
-        || ((is_last r.left p.h r.right k.left k.right i && is_between r.top p.v r.bottom k.top k.bottom i) || false))))
+      || ((is_there r.left p.h r.right k.left k.right i && is_last r.top p.v r.bottom k.top k.bottom i)
+      || ((is_first r.left p.h r.right k.left k.right i && is_between r.top p.v r.bottom k.top k.bottom i)
+      || ((is_last r.left p.h r.right k.left k.right i && is_between r.top p.v r.bottom k.top k.bottom i) || false))))
       ∙ any_side (int_eq p.v r.top) (int_eq (p.v +ℤ pos 1) r.bottom) (int_eq p.h r.left) (int_eq (p.h +ℤ pos 1) r.right)
 
   none_beside : (IsInside r p → true ≡ false) → line_holds (four_sides r) p ≡ false

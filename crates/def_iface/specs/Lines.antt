@@ -1,5 +1,5 @@
 -- The lines of outlines: rectangles of which no two share a pixel.
-use Rattle.std.specs.Prelude.{◌≡◌, ℤ, pos, ◌+ℤ◌, ◌-ℤ◌, Bool, true, false, ◌||◌, List, [], ◌∷◌, ◌++◌, replicate}
+use Rattle.std.specs.Prelude.{◌≡◌, pos, ◌+ℤ◌, ◌-ℤ◌, true, false, ◌||◌, List, [], ◌∷◌, ◌++◌, replicate}
 use Rattle.std.specs.Int.{int_min, int_max}
 use Rattle.tb_geom.specs.declared.point.Point.{Point}
 use Rattle.tb_geom.specs.declared.rect.Rect.{Rect}

@@ -60,26 +60,21 @@ fn lines_around(bounds: Rect, inside: Rect) -> [Rect; 8]
 fn inside(bounds: Rect) -> Rect
     ensures { result ≡ inside bounds }
 {
-    let left = after_first(bounds.left, bounds.right);
-    let top = after_first(bounds.top, bounds.bottom);
+    let (left, right) = without_ends(bounds.left, bounds.right);
+    let (top, bottom) = without_ends(bounds.top, bounds.bottom);
     Rect {
         left,
         top,
-        right: before_last(left, bounds.right),
-        bottom: before_last(top, bounds.bottom),
+        right,
+        bottom,
     }
 }
 
-/// The number after `first`, or `end` where that is less.
-fn after_first(first: i32, end: i32) -> i32
-    ensures { result ≡ int_min end (first +ℤ pos 1) }
+/// Where the numbers from `first` on and below `end` begin and end without the first and the last of them.
+fn without_ends(first: i32, end: i32) -> (i32, i32)
+    ensures begin { result.0 ≡ int_min end (first +ℤ pos 1) }
+    ensures end { result.1 ≡ int_max result.0 (end -ℤ pos 1) }
 {
-    end.min(first.saturating_add(1))
-}
-
-/// The number before `end`, or `first` where that is greater.
-fn before_last(first: i32, end: i32) -> i32
-    ensures { result ≡ int_max first (end -ℤ pos 1) }
-{
-    first.max(end.saturating_sub(1))
+    let begin = end.min(first.saturating_add(1));
+    (begin, begin.max(end.saturating_sub(1)))
 }

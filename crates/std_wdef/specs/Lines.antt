@@ -14,18 +14,19 @@ use Rattle.std_wdef.specs.Areas.{structure_box}
 abbrev pub back : ℤ → ℤ → ℤ
 back end far = int_max (pos 0) (end -ℤ far)
 
--- column w-15 and row h-15 of 0 0 w h, where it has them: the row in two pieces, left and right of the column
+-- column w-15 of 0 0 w h, where it has that
+abbrev pub size_box_column : Size → Rect
+size_box_column s = box (back s.width (pos 15)) (pos 0) (back s.width (pos 14)) s.height
+
+-- row h-15, left of that column and right of it
+abbrev pub left_of_column : Size → Rect
+left_of_column s = box (pos 0) (back s.height (pos 15)) (back s.width (pos 15)) (back s.height (pos 14))
+
+abbrev pub right_of_column : Size → Rect
+right_of_column s = box (back s.width (pos 14)) (back s.height (pos 15)) s.width (back s.height (pos 14))
+
 abbrev pub size_box_lines : Size → List Rect
-size_box_lines s =
-    let left = back s.width (pos 15) in
-    let right = back s.width (pos 14) in
-    let top = back s.height (pos 15) in
-    let bottom = back s.height (pos 14) in
-    box left (pos 0) right s.height
-    ∷ box (pos 0) top left bottom
-    ∷ box right top s.width bottom
-    ∷ empty_rect
-    ∷ []
+size_box_lines s = size_box_column s ∷ left_of_column s ∷ right_of_column s ∷ empty_rect ∷ []
 
 -- the outermost pixels of the structure's box, and the lines of the size box where the kind has one
 abbrev pub grow_lines : Variation → Size → List Rect

@@ -3,7 +3,7 @@ ghost use Rattle.std.specs.Prelude.{◌≡◌, true, pos};
 ghost use Rattle.tb_geom.specs.Rects.{is_coordinate};
 ghost use Rattle.def_iface.specs.Sizes.{is_size};
 ghost use Rattle.def_iface.specs.Lines.{AreApart};
-ghost use Rattle.std_wdef.specs.Lines.{back, size_box_lines, grow_lines};
+ghost use Rattle.std_wdef.specs.Lines.{back, size_box_column, left_of_column, right_of_column, size_box_lines, grow_lines};
 
 use crate::areas::structure_box;
 use crate::kind::Variation;
@@ -34,16 +34,46 @@ fn size_box_lines(size: Size) -> [Rect; 4]
     requires { is_size size ≡ true }
     ensures { result ≡ size_box_lines size }
 {
-    let left = back(size.width, 15);
-    let right = back(size.width, 14);
-    let top = back(size.height, 15);
-    let bottom = back(size.height, 14);
     [
-        sides(left, 0, right, size.height),
-        sides(0, top, left, bottom),
-        sides(right, top, size.width, bottom),
+        size_box_column(size),
+        left_of_column(size),
+        right_of_column(size),
         NO_LINE,
     ]
+}
+
+/// The column.
+fn size_box_column(size: Size) -> Rect
+    requires { is_size size ≡ true }
+    ensures { result ≡ size_box_column size }
+{
+    sides(back(size.width, 15), 0, back(size.width, 14), size.height)
+}
+
+/// The row left of it.
+fn left_of_column(size: Size) -> Rect
+    requires { is_size size ≡ true }
+    ensures { result ≡ left_of_column size }
+{
+    sides(
+        0,
+        back(size.height, 15),
+        back(size.width, 15),
+        back(size.height, 14),
+    )
+}
+
+/// The row right of it.
+fn right_of_column(size: Size) -> Rect
+    requires { is_size size ≡ true }
+    ensures { result ≡ right_of_column size }
+{
+    sides(
+        back(size.width, 14),
+        back(size.height, 15),
+        size.width,
+        back(size.height, 14),
+    )
 }
 
 /// The number `far` before `end`, and not below 0.

@@ -6,8 +6,8 @@ ghost use Rattle.std_wdef.specs.Told.{window_meaning, fresh_window, told_window,
 
 use crate::areas::{content_of, structure_box, structure_of};
 use crate::hits::std_hit;
-use crate::lines::grow_lines;
 use crate::kind::{Shown, Variation, is_titled};
+use crate::lines::grow_lines;
 use crate::shown::{draw_window, told_damage};
 use def_iface::{Flags, Hit, Size, Stage, WindowChange, WindowDef, WindowRegions};
 use draw_port::{Canvas, ShortText};

@@ -56,17 +56,36 @@ fn a_document_too_narrow_for_its_size_box_shows_no_column(rt: HostRuntime) {
 #[test]
 fn other_kinds_show_the_box_of_their_pixels(rt: HostRuntime) {
     let dialog = StdWindow::new(Variation::Dialog).grow_lines(SMALL);
-    let corners = [
-        point!(-8, -8),
-        point!(10, -8),
-        point!(-8, 9),
-        point!(10, 9),
-    ];
-    assert!(rt; have(&dialog, &corners, &[point!(-7, -7), point!(9, 8), point!(-9, 0)]));
+    let corners = [point!(-8, -8), point!(10, -8), point!(-8, 9), point!(10, 9)];
+    assert!(rt;
+        have(
+            &dialog,
+            &corners,
+            &[point!(-7, -7), point!(9, 8), point!(-9, 0)]
+        )
+    );
     let shadow = StdWindow::new(Variation::Shadow).grow_lines(SMALL);
-    assert!(rt; have(&shadow, &[point!(-1, 4), point!(5, -1)], &[point!(4, 3), point!(6, 0)]));
+    assert!(rt;
+        have(
+            &shadow,
+            &[point!(-1, 4), point!(5, -1)],
+            &[point!(4, 3), point!(6, 0)]
+        )
+    );
     let plain = StdWindow::new(Variation::Plain).grow_lines(SMALL);
-    assert!(rt; have(&plain, &[point!(3, 0), point!(3, 2)], &[point!(2, 1), point!(4, 0)]));
+    assert!(rt;
+        have(
+            &plain,
+            &[point!(3, 0), point!(3, 2)],
+            &[point!(2, 1), point!(4, 0)]
+        )
+    );
     let notched = NotchedWindow::new().grow_lines(SMALL);
-    assert!(rt; have(&notched, &[point!(3, -1), point!(3, 2)], &[point!(2, 0), point!(4, 0)]));
+    assert!(rt;
+        have(
+            &notched,
+            &[point!(3, -1), point!(3, 2)],
+            &[point!(2, 0), point!(4, 0)]
+        )
+    );
 }
