@@ -48,4 +48,5 @@ regions_then first second = record {
   structure = second.structure ∙ first.structure;
   content = second.content ∙ first.content;
   bounds = second.bounds ∙ first.bounds;
+  lines = second.lines ∙ first.lines;
 }

@@ -8,3 +8,4 @@ pub mod Hearing
 pub mod KeptLemmas
 pub mod FurtherHearing
 pub mod KeptControlLemmas
+pub mod LineLemmas

@@ -1,6 +1,7 @@
 -- What the contracts speak of: what definitions of windows, controls, menus and lists mean, what one keeps of what it is
--- told, and what a stock of them holds, the desk and its layers, the owner of a pixel, and what a change does to pixels.
+-- told, what a stock of them holds, the lines of outlines, the desk and its layers, the owner of a pixel, and what a change does to pixels.
 pub mod Sizes
+pub mod Lines
 pub mod Slots
 pub mod News
 pub mod Meaning

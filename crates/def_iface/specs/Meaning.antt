@@ -14,15 +14,16 @@ use Rattle.def_iface.specs.Sizes.{is_size}
 use Rattle.def_iface.specs.News.{News, AllNews, no_news, told_all}
 use Rattle.def_iface.specs.Slots.{LoanOf}
 
--- A definition as a value: its stage, the size that it was told, its regions and their box as functions of the size
--- alone, its picture in a font, which is the list of its bytes, and which part of the window a point of the structure lies
--- in; points are local to the window.
+-- A definition as a value: its stage, the size that it was told, its regions, their box and the lines of its outline as
+-- functions of the size alone, its picture in a font, which is the list of its bytes, and which part of the window a point
+-- of the structure lies in; points are local to the window.
 pub record Definition : Type 0 where
   pub stage : Stage
   pub size : Size
   pub structure : Size → PixelSet
   pub content : Size → PixelSet
   pub bounds : Size → Rect
+  pub grow_lines : Size → List Rect
   pub picture : News → List ℕ → PixelSet
   pub hit : News → Point → Hit
 
@@ -30,11 +31,12 @@ pub record Definition : Type 0 where
 abbrev pub Loan : Type 0
 Loan = LoanOf Definition
 
--- the regions and their box answer each size as before
+-- the regions, their box and the lines answer each size as before
 pub record SameRegions (old new : Definition) : Type 0 where
   pub structure : new.structure ≡ old.structure
   pub content : new.content ≡ old.content
   pub bounds : new.bounds ≡ old.bounds
+  pub lines : new.grow_lines ≡ old.grow_lines
 
 -- a window may have this size: it lies in 1..16383, and the structure's sides in the range of coordinates
 abbrev pub is_fitting : Definition → Size → Bool

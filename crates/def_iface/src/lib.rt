@@ -37,9 +37,10 @@
 //! pixel belongs. The second: a call that moves, uncovers or draws pixels, and does so soundly, keeps a right screen right,
 //! where right means that each pixel which waits for no update has the very value that painting from nothing would give it.
 //!
-//! Modules: `size` has the sizes of windows, `part` the layers of a window's content; `window_def`, `control_def`, `menu_def`
-//! and `list_def` the traits; `keeping` and `control_keeping` what most definitions keep of what they are told; `stock`, and
-//! for each trait a module `.._stock`, the slots; `taken`, and `taken_..`, the definition out of its slot; `laws` the laws.
+//! Modules: `size` has the sizes of windows, `lines` the lines of their outlines, `part` the layers of a window's content;
+//! `window_def`, `control_def`, `menu_def` and `list_def` the traits; `keeping` and `control_keeping` what most definitions keep
+//! of what they are told; `stock`, and for each trait a module `.._stock`, the slots; `taken`, and `taken_..`, the definition
+//! out of its slot; `laws` the laws.
 #![tactic(auto)]
 
 mod control_def;
@@ -47,6 +48,7 @@ mod control_keeping;
 mod control_stock;
 mod keeping;
 pub mod laws;
+mod lines;
 mod list_def;
 mod list_stock;
 mod menu_def;
@@ -66,6 +68,7 @@ pub use control_def::{ControlChange, ControlDef};
 pub use control_keeping::KeptControl;
 pub use control_stock::{ControlStock, ReturnedControl, StockedControls};
 pub use keeping::Flags;
+pub use lines::{NO_LINE, frame_lines};
 pub use list_def::{ListChange, ListDef};
 pub use list_stock::{ListStock, ReturnedList, StockedLists};
 pub use menu_def::{MenuChange, MenuDef};

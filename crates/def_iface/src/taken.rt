@@ -6,6 +6,7 @@ ghost use Rattle.tb_geom.specs.Pixels.{holds};
 ghost use Rattle.bit_blit.specs.Draws.{Draws};
 ghost use Rattle.draw_port.specs.Canvases.{canvas_holds, canvas_point, SameFrame};
 ghost use Rattle.def_iface.specs.Sizes.{is_size};
+ghost use Rattle.def_iface.specs.Lines.{AreApart};
 ghost use Rattle.def_iface.specs.Meaning.{Loan, SameLook, SameRegions, IsWithin, IsBegun, Hears, IsDamage, is_fitting, size_after};
 ghost use Rattle.def_iface.specs.News.{no_news, told_change, new_window_news};
 
@@ -60,6 +61,16 @@ impl Taken {
             (rect_holds ((⟦<Taken as Defined>⟧.loan self.now).definition.bounds size))) }
     {
         self.definition.regions_for(alloc, size)
+    }
+
+    /// The lines of the grey outline that stands for a window of this size, local to the window: at most eight with pixels,
+    /// of which no two share one.
+    pub fn grow_lines(&self, size: Size) -> [Rect; 8]
+        requires { is_size size ≡ true }
+        ensures value { result ≡ (⟦<Taken as Defined>⟧.loan self.now).definition.grow_lines size }
+        ensures apart { AreApart result }
+    {
+        self.definition.grow_lines(size)
     }
 
     /// Makes a Fresh definition Live, and tells it all there is to tell of a new window: its size, the bytes of its title,

@@ -7,6 +7,7 @@ ghost use Rattle.tb_geom.specs.Pixels.{holds};
 ghost use Rattle.bit_blit.specs.Draws.{Draws};
 ghost use Rattle.draw_port.specs.Canvases.{canvas_holds, canvas_point, SameFrame};
 ghost use Rattle.def_iface.specs.Sizes.{is_size};
+ghost use Rattle.def_iface.specs.Lines.{AreApart};
 ghost use Rattle.def_iface.specs.Meaning.{Definition, SameLook, SameRegions, Hears, IsDamage, IsWithin, is_fitting, size_after};
 ghost use Rattle.def_iface.specs.News.{no_news, told_change};
 
@@ -118,6 +119,13 @@ pub trait WindowDef: Drop {
         ensures exact { IsBoxOf result ((meaning self.now).structure size) }
         ensures none { is_empty_rect result ≡ true → result ≡ empty_rect }
         ensures content { IsWithin ((meaning self.now).content size) ((meaning self.now).structure size) };
+
+    /// The lines of the grey outline that stands for a window of this size while it is chosen (the message wGrow): their
+    /// pixels are the outline's, and no two of them share one. Lines that are not needed are empty. It takes no memory.
+    fn grow_lines(&self, size: Size) -> [Rect; 8]
+        requires { is_size size ≡ true }
+        ensures value { result ≡ (meaning self.now).grow_lines size }
+        ensures apart { AreApart result };
 
     /// The part of the window that the point lies in. It is asked of points of the structure.
     fn hit(&self, point: Point) -> Hit

@@ -1,5 +1,5 @@
 //! The answers to calls, each by its manager.
-ghost use Rattle.std.specs.Prelude.{◌≡◌, None};
+ghost use Rattle.std.specs.Prelude.{◌≡◌, None, IfOk};
 ghost use Rattle.def_iface.specs.Stocks.{AllSlots};
 ghost use Rattle.desk_call.specs.Gates.{control_standing, gate, list_standing, standing_of, update_standing, window_standing};
 ghost use Rattle.control_mgr.specs.InUse.{AreStocked};
@@ -7,8 +7,12 @@ ghost use Rattle.control_mgr.specs.WholeControls.{AreLiveControls, controls_stat
 ghost use Rattle.list_mgr.specs.WholeLists.{AreLiveLists, lists_state};
 ghost use Rattle.list_mgr.specs.WholeLists as whole_lists;
 ghost use Rattle.menu_mgr.specs.WholeMenus.{IsWholeMenus};
+ghost use Rattle.window_mgr.specs.Sparing.{IsSparingCall};
 ghost use Rattle.window_mgr.specs.Whole.{IsWholeManager};
+ghost use Rattle.window_frame.specs.Economy.{IsEconomical, LeavesOthers, windows_of};
+ghost use Rattle.window_frame.specs.Followers.{AreInformed};
 ghost use Rattle.window_update.specs.WholeUpdates.{IsWholeUpdates};
+ghost use Rattle.desk_toolbox.specs.Economy.{IsCallEconomical};
 ghost use Rattle.desk_toolbox.specs.Run.{AreControlsLeft, AreListsLeft, IsAdmitted, IsControlTold, IsEventAnswer, IsFormFault, IsListAnswer, IsUpdateTold, IsWindowAnswered, IsWindowMade, IsWindowTold, is_covered, is_hidden_by_menu, is_under_menu};
 ghost use Rattle.desk_toolbox.specs.ToolboxStates.{ToolboxState};
 ghost use Rattle.desk_toolbox.specs.WholeToolbox.{IsKeptToolbox, IsWholeToolbox, toolbox_state};
@@ -38,6 +42,8 @@ impl Toolbox {
         ensures step { IsAdmitted call.now result
             (toolbox_state ⟦<Taken as Defined>⟧.loan ⟦<TakenMenu as DefinedMenu>⟧.menu_loan ⟦<TakenControl as DefinedControl>⟧.control_loan ⟦<TakenList as DefinedList>⟧.list_loan self.old (⟦<Stock as StockedAll>⟧.all_slots stock.old))
             (toolbox_state ⟦<Taken as Defined>⟧.loan ⟦<TakenMenu as DefinedMenu>⟧.menu_loan ⟦<TakenControl as DefinedControl>⟧.control_loan ⟦<TakenList as DefinedList>⟧.list_loan self.new (⟦<Stock as StockedAll>⟧.all_slots stock.new)) }
+        ensures economy { AreInformed (windows_of ⟦<Taken as Defined>⟧.loan self.old.windows)
+            → IsCallEconomical ⟦<Taken as Defined>⟧.loan call.now self.old.windows self.new.windows }
     {
         match call {
             Call::Window(call) => match self.tell_window(call, stock) {
@@ -92,6 +98,8 @@ impl Toolbox {
         ensures step { let before = toolbox_state ⟦<Taken as Defined>⟧.loan ⟦<TakenMenu as DefinedMenu>⟧.menu_loan ⟦<TakenControl as DefinedControl>⟧.control_loan ⟦<TakenList as DefinedList>⟧.list_loan self.old (⟦<Stock as StockedAll>⟧.all_slots stock.old) in
             IsWindowTold (is_covered call.now before) call.now result before
             (toolbox_state ⟦<Taken as Defined>⟧.loan ⟦<TakenMenu as DefinedMenu>⟧.menu_loan ⟦<TakenControl as DefinedControl>⟧.control_loan ⟦<TakenList as DefinedList>⟧.list_loan self.new (⟦<Stock as StockedAll>⟧.all_slots stock.new)) }
+        ensures economy { AreInformed (windows_of ⟦<Taken as Defined>⟧.loan self.old.windows)
+            → IsEconomical ⟦<Taken as Defined>⟧.loan call.now self.old.windows self.new.windows }
     {
         if self.is_covered(call) {
             return Ok(WindowReply::Found(Found {
@@ -127,6 +135,8 @@ impl Toolbox {
         ensures step { IsWindowMade call.now result
             (toolbox_state ⟦<Taken as Defined>⟧.loan ⟦<TakenMenu as DefinedMenu>⟧.menu_loan ⟦<TakenControl as DefinedControl>⟧.control_loan ⟦<TakenList as DefinedList>⟧.list_loan self.old (⟦<Stock as StockedAll>⟧.all_slots stock.old))
             (toolbox_state ⟦<Taken as Defined>⟧.loan ⟦<TakenMenu as DefinedMenu>⟧.menu_loan ⟦<TakenControl as DefinedControl>⟧.control_loan ⟦<TakenList as DefinedList>⟧.list_loan self.new (⟦<Stock as StockedAll>⟧.all_slots stock.new)) }
+        ensures economy { AreInformed (windows_of ⟦<Taken as Defined>⟧.loan self.old.windows)
+            → IsEconomical ⟦<Taken as Defined>⟧.loan call.now self.old.windows self.new.windows }
     {
         match self.answer_window(call, stock) {
             Ok(reply) => {
@@ -239,6 +249,9 @@ impl Toolbox {
         ensures lists { self.new.lists ≡ self.old.lists }
         ensures list_stock { (⟦<Stock as StockedAll>⟧.all_slots stock.new).lists ≡ (⟦<Stock as StockedAll>⟧.all_slots stock.old).lists }
         ensures menu_stock { (⟦<Stock as StockedAll>⟧.all_slots stock.new).menus ≡ (⟦<Stock as StockedAll>⟧.all_slots stock.old).menus }
+        ensures sparing { IsSparingCall ⟦<Taken as Defined>⟧.loan call.now self.old.windows self.new.windows }
+        ensures others { IfOk result (λ _. LeavesOthers call.now
+            (windows_of ⟦<Taken as Defined>⟧.loan self.old.windows) (windows_of ⟦<Taken as Defined>⟧.loan self.new.windows)) }
     {
         match self.updates.tell(self.activity, call) {
             Some(answer) => answer,

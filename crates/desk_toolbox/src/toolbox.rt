@@ -22,8 +22,9 @@ ghost use Rattle.menu_mgr.specs.WholeMenus.{AreNoMenus, menus_of};
 ghost use Rattle.tb_geom.specs.declared.point.Point.{Point};
 ghost use Rattle.desk_toolbox.specs.Fronts.{screen_of};
 ghost use Rattle.window_update.specs.Rightness.{IsJudgement};
+ghost use Rattle.desk_toolbox.specs.Economy.{IsCallEconomical};
 ghost use Rattle.desk_toolbox.specs.EventSteps.{first_events};
-ghost use Rattle.desk_toolbox.specs.Reached.{IsJustBegun};
+ghost use Rattle.desk_toolbox.specs.Reached.{IsConsistent, IsJustBegun};
 ghost use Rattle.desk_toolbox.specs.Run.{IsRunOfCalls, IsStep};
 ghost use Rattle.desk_toolbox.specs.ToolboxStates.{IsToolboxUnchanged};
 ghost use Rattle.desk_toolbox.specs.WholeToolbox.{IsKeptToolbox, IsWholeToolbox, toolbox_state};
@@ -243,6 +244,8 @@ impl Toolbox {
             (toolbox_state ⟦<Taken as Defined>⟧.loan ⟦<TakenMenu as DefinedMenu>⟧.menu_loan ⟦<TakenControl as DefinedControl>⟧.control_loan ⟦<TakenList as DefinedList>⟧.list_loan self.new (⟦<Stock as StockedAll>⟧.all_slots stock.new)) }
         ensures right { IsRightState (toolbox_state ⟦<Taken as Defined>⟧.loan ⟦<TakenMenu as DefinedMenu>⟧.menu_loan ⟦<TakenControl as DefinedControl>⟧.control_loan ⟦<TakenList as DefinedList>⟧.list_loan self.old (⟦<Stock as StockedAll>⟧.all_slots stock.old)).desk.windows
             → IsRightState (toolbox_state ⟦<Taken as Defined>⟧.loan ⟦<TakenMenu as DefinedMenu>⟧.menu_loan ⟦<TakenControl as DefinedControl>⟧.control_loan ⟦<TakenList as DefinedList>⟧.list_loan self.new (⟦<Stock as StockedAll>⟧.all_slots stock.new)).desk.windows }
+        ensures economy { IsConsistent (toolbox_state ⟦<Taken as Defined>⟧.loan ⟦<TakenMenu as DefinedMenu>⟧.menu_loan ⟦<TakenControl as DefinedControl>⟧.control_loan ⟦<TakenList as DefinedList>⟧.list_loan self.old (⟦<Stock as StockedAll>⟧.all_slots stock.old))
+            → IsCallEconomical ⟦<Taken as Defined>⟧.loan call.now self.old.windows self.new.windows }
     {
         match self.activity.admit(call.standing()) {
             Ok(()) => self.perform(call, stock),

@@ -11,6 +11,7 @@ use Rattle.def_iface.specs.declared.window_def.Hit.{Hit}
 use Rattle.def_iface.specs.declared.window_def.Hit.TheVariants.{InContent, InDrag, InGrow, InGoAway, InZoomIn, InZoomOut}
 use Rattle.def_iface.specs.declared.window_def.WindowChange.{WindowChange}
 use Rattle.def_iface.specs.Sizes.{rect_of}
+use Rattle.def_iface.specs.Lines.{frame_lines}
 use Rattle.def_iface.specs.Meaning.{Definition, size_after}
 use Rattle.def_iface.specs.Keeping.{flags_after, title_after, flags_in, title_in, size_in}
 use Rattle.looks.specs.declared.area.Piece.{Piece}
@@ -106,6 +107,7 @@ hollow_window stage f title size = record {
   structure = λ s. area_holds (hollow_structure s);
   content = λ s. area_holds (hollow_content s);
   bounds = outline;
+  grow_lines = λ s. frame_lines (outline s);
   picture = λ n font. look_bit (lettering font (title_in n title)) (hollow_look (flags_in n f) (size_in n size));
   hit = λ n. hollow_hit (flags_in n f) (size_in n size);
 }

@@ -11,7 +11,7 @@ ghost use Rattle.looks.specs.Marks.{look_bit};
 ghost use Rattle.own_kind.specs.HollowWindows.{hollow_look, window_meaning, told_window, window_at};
 
 use crate::tables::{content_of, hollow_hit, hollow_look, outline, structure_of};
-use def_iface::{Flags, Hit, Size, Stage, WindowChange, WindowDef, WindowRegions};
+use def_iface::{Flags, Hit, Size, Stage, WindowChange, WindowDef, WindowRegions, frame_lines};
 use draw_port::{Canvas, ShortText};
 use looks::{area_region, damage_between, draw_look};
 use std::alloc::{AllocError, Global};
@@ -121,6 +121,10 @@ impl WindowDef for HollowWindow {
 
     fn bounds(&self, size: Size) -> Rect {
         outline(size)
+    }
+
+    fn grow_lines(&self, size: Size) -> [Rect; 8] {
+        frame_lines(outline(size))
     }
 
     fn hit(&self, point: Point) -> Hit {

@@ -8,6 +8,7 @@ use Rattle.def_iface.specs.declared.window_def.Hit.{Hit}
 use Rattle.def_iface.specs.declared.window_def.Hit.TheVariants.{NoHit, InContent, InDrag}
 use Rattle.def_iface.specs.declared.window_def.Stage.{Stage}
 use Rattle.def_iface.specs.Sizes.{rect_of}
+use Rattle.def_iface.specs.Lines.{frame_lines}
 use Rattle.def_iface.specs.Meaning.{Definition}
 use Rattle.def_iface.specs.Keeping.{size_in}
 use Rattle.looks.specs.declared.pen.Baseline.TheVariants.{At}
@@ -49,6 +50,7 @@ banner_window stage size = record {
   structure = λ s. rect_holds (box_of s);
   content = λ s. rect_holds (rect_of s);
   bounds = box_of;
+  grow_lines = λ s. frame_lines (box_of s);
   picture = λ n font. look_bit (lettering font word) (banner_look (size_in n size));
   hit = λ n. banner_hit (size_in n size);
 }

@@ -7,7 +7,7 @@ ghost use Rattle.looks.specs.Letters.{lettering};
 ghost use Rattle.looks.specs.Marks.{look_bit};
 ghost use Rattle.own_window.specs.Banners.{banner_of, box_of, banner_look, banner_hit, banner_window, word};
 
-use def_iface::{Hit, Size, Stage, WindowChange, WindowDef, WindowRegions};
+use def_iface::{Hit, Size, Stage, WindowChange, WindowDef, WindowRegions, frame_lines};
 use draw_port::Canvas;
 use looks::{Baseline, Spot, Step, damage_between, draw_look, first_part, more, sides};
 use scan_region::Region;
@@ -123,6 +123,10 @@ impl WindowDef for Banner {
 
     fn bounds(&self, size: Size) -> Rect {
         box_of(size)
+    }
+
+    fn grow_lines(&self, size: Size) -> [Rect; 8] {
+        frame_lines(box_of(size))
     }
 
     fn hit(&self, point: Point) -> Hit {

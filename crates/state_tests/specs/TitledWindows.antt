@@ -9,6 +9,7 @@ use Rattle.def_iface.specs.declared.window_def.Hit.{Hit}
 use Rattle.def_iface.specs.declared.window_def.Hit.TheVariants.{InContent, InDrag}
 use Rattle.def_iface.specs.declared.window_def.Stage.{Stage}
 use Rattle.def_iface.specs.Sizes.{rect_of}
+use Rattle.def_iface.specs.Lines.{frame_lines}
 use Rattle.def_iface.specs.Meaning.{Definition}
 
 -- the sides of the structure
@@ -27,6 +28,7 @@ titled_window stage size = record {
   structure = λ s. rect_holds (titled_box s);
   content = λ s. rect_holds (rect_of s);
   bounds = titled_box;
+  grow_lines = λ s. frame_lines (titled_box s);
   picture = λ n font p. not (rect_holds (rect_of (unwrap_or n.size size)) p);
   hit = λ n. titled_hit (unwrap_or n.size size);
 }

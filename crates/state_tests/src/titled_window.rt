@@ -4,7 +4,7 @@ ghost use Rattle.def_iface.specs.Sizes.{is_size};
 ghost use Rattle.state_tests.specs.TitledWindows.{titled_box, titled_window};
 
 use bit_map::{Mode, Pattern};
-use def_iface::{Hit, Size, Stage, WindowChange, WindowDef, WindowRegions};
+use def_iface::{Hit, Size, Stage, WindowChange, WindowDef, WindowRegions, frame_lines};
 use draw_port::Canvas;
 use scan_region::Region;
 use std::alloc::{AllocError, Global};
@@ -74,6 +74,10 @@ impl WindowDef for Titled {
 
     fn bounds(&self, size: Size) -> Rect {
         titled_box(size)
+    }
+
+    fn grow_lines(&self, size: Size) -> [Rect; 8] {
+        frame_lines(titled_box(size))
     }
 
     fn hit(&self, point: Point) -> Hit {

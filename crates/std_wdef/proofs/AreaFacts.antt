@@ -1,8 +1,6 @@
 -- Structure, content and box of the standard windows.
-use Rattle.std.proofs.Common.{◌≡◌, Bool, true, false, ◌&&◌, ◌||◌, cond, if◌then◌else◌, ℤ, pos, negsuc, ◌+ℤ◌, ◌-ℤ◌, ◌≤ℤ◌, ◌<ℤ◌, refl, sym, ap, ◌∙◌, arith}
+use Rattle.std.proofs.Common.{◌≡◌, Bool, true, false, ◌&&◌, if◌then◌else◌, ℤ, pos, negsuc, ◌+ℤ◌, ◌-ℤ◌, ◌<ℤ◌, refl, sym, ap, ◌∙◌, arith}
 use Rattle.std.proofs.lemmas.Int.{ints}
-use Rattle.std.specs.Prelude.{int_le, int_lt}
-use Rattle.tb_geom.specs.declared.point.Point.{Point}
 use Rattle.tb_geom.specs.declared.rect.Rect.{Rect}
 use Rattle.tb_geom.specs.Rects.{rect_holds, IsBoxOf}
 use Rattle.tb_geom.proofs.RectLemmas.{IsInside, sides_of, holds_in}
@@ -16,7 +14,7 @@ use Rattle.std_wdef.specs.declared.kind.Variation.{Variation}
 use Rattle.std_wdef.specs.declared.kind.Variation.TheVariants.{Document, Dialog, Plain, Shadow, NoGrow, Zoom}
 use Rattle.std_wdef.specs.Kinds.{has_size_box}
 use Rattle.std_wdef.specs.Looks.{ring, document_box, shadow_box, size_box}
-use Rattle.std_wdef.specs.Areas.{first_box, structure_of, content_of, structure_box}
+use Rattle.std_wdef.specs.Areas.{structure_of, content_of, structure_box}
 
 pub and_true : (a b : Bool) → (a && b) ≡ true → (a ≡ true) × (b ≡ true)
 and_true true b e = (refl, e)

@@ -2,3 +2,4 @@
 pub mod AreaFacts
 pub mod NotchFacts
 pub mod Hearing
+pub mod LineFacts

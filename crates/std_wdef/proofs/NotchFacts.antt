@@ -1,22 +1,20 @@
 -- Structure, content and box of the notched window.
-use Rattle.std.proofs.Common.{◌≡◌, ℕ, zero, suc, [], ◌∷◌, ◌/◌, Bool, true, false, ◌&&◌, if◌then◌else◌, ℤ, pos, negsuc, ◌+ℤ◌, ◌-ℤ◌, ◌≤ℤ◌, ◌<ℤ◌, refl, sym, ap, ◌∙◌, arith, All}
+use Rattle.std.proofs.Common.{◌≡◌, Bool, true, false, ◌&&◌, ℤ, pos, negsuc, ◌+ℤ◌, ◌-ℤ◌, ◌≤ℤ◌, ◌<ℤ◌, refl, arith, All}
 use Rattle.std.proofs.lemmas.Int.{ints, clamps}
-use Rattle.std.specs.Prelude.{int_le, int_lt}
 use Rattle.std.specs.Int.{int_min, int_div_euclid}
 use Rattle.tb_geom.specs.declared.point.Point.{Point}
 use Rattle.tb_geom.specs.declared.rect.Rect.{Rect}
-use Rattle.tb_geom.specs.Rects.{rect_holds, between, is_in_range, is_coordinate, IsBoxOf}
+use Rattle.tb_geom.specs.Rects.{rect_holds, is_in_range, is_coordinate, IsBoxOf}
 use Rattle.tb_geom.proofs.RectLemmas.{IsInside, sides_of, holds_in}
 use Rattle.def_iface.specs.declared.size.Size.{Size}
 use Rattle.def_iface.specs.Sizes.{is_size, rect_of}
 use Rattle.def_iface.specs.Meaning.{IsWithin}
-use Rattle.looks.specs.declared.area.Piece.{Piece}
 use Rattle.looks.specs.Areas.{area_holds, piece_fits, added_rect, removed_rect}
 use Rattle.looks.specs.Marks.{box, neg}
 use Rattle.looks.proofs.AreaLemmas.{box-by-corners, coordinate, coordinate_high, two_fit, without, with_all}
 use Rattle.std_wdef.specs.Looks.{ring}
 use Rattle.std_wdef.specs.Notched.{notch, notched_structure, notched_content}
-use Rattle.std_wdef.proofs.AreaFacts.{IsSome, size_some, one-is, first_of, last_of, and_true}
+use Rattle.std_wdef.proofs.AreaFacts.{size_some, first_of, last_of, and_true}
 
 -- half of a number
 record IsHalf (n m : ℤ) : Type 0 where

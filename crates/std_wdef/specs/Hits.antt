@@ -1,5 +1,5 @@
 -- The parts of the standard windows.
-use Rattle.std.specs.Prelude.{List, [], ◌∷◌, pos, ◌-ℤ◌, ◌&&◌, if◌then◌else◌}
+use Rattle.std.specs.Prelude.{List, [], ◌∷◌, pos, ◌-ℤ◌, if◌then◌else◌}
 use Rattle.tb_geom.specs.declared.point.Point.{Point}
 use Rattle.def_iface.specs.declared.size.Size.{Size}
 use Rattle.def_iface.specs.declared.window_def.Hit.{Hit}

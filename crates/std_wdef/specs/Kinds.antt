@@ -2,7 +2,7 @@
 use Rattle.std.specs.Prelude.{ℕ, Bool, true, false, ◌&&◌, nat_lt, List, length}
 use Rattle.def_iface.specs.declared.keeping.Flags.{Flags}
 use Rattle.std_wdef.specs.declared.kind.Variation.{Variation}
-use Rattle.std_wdef.specs.declared.kind.Variation.TheVariants.{Document, Dialog, Plain, Shadow, NoGrow, Zoom}
+use Rattle.std_wdef.specs.declared.kind.Variation.TheVariants.{Document, Shadow, NoGrow, Zoom}
 
 abbrev pub is_document : Variation → Bool
 is_document Document = true

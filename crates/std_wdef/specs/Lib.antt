@@ -2,6 +2,7 @@
 pub mod Kinds
 pub mod Looks
 pub mod Areas
+pub mod Lines
 pub mod Hits
 pub mod Windows
 pub mod Notched

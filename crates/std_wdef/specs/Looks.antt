@@ -1,6 +1,6 @@
 -- What the standard windows look like: each line is a step, and later ones replace earlier ones. Rectangles are
 -- box left top right bottom, local to the window, whose content is w by h.
-use Rattle.std.specs.Prelude.{ℕ, nat_abs, Bool, List, [], ◌∷◌, ◌++◌, ℤ, pos, ◌+ℤ◌, ◌-ℤ◌, ◌&&◌}
+use Rattle.std.specs.Prelude.{ℕ, nat_abs, Bool, List, [], ◌∷◌, ◌++◌, ℤ, pos, ◌+ℤ◌, ◌-ℤ◌}
 use Rattle.tb_geom.specs.declared.rect.Rect.{Rect}
 use Rattle.def_iface.specs.declared.size.Size.{Size}
 use Rattle.def_iface.specs.Sizes.{rect_of}

@@ -9,6 +9,7 @@ use Rattle.def_iface.specs.declared.window_def.WindowChange.{WindowChange}
 use Rattle.def_iface.specs.declared.window_def.Hit.{Hit}
 use Rattle.def_iface.specs.declared.window_def.Hit.TheVariants.{NoHit, InContent}
 use Rattle.def_iface.specs.Sizes.{rect_of}
+use Rattle.def_iface.specs.Lines.{frame_lines}
 use Rattle.def_iface.specs.Meaning.{Definition, size_after}
 use Rattle.looks.specs.declared.area.Piece.{Piece}
 use Rattle.looks.specs.Areas.{added_rect, removed_rect, area_holds}
@@ -52,6 +53,7 @@ notched_window stage size = record {
   structure = λ s. area_holds (notched_structure s);
   content = λ s. area_holds (notched_content s);
   bounds = λ s. ring 1 s;
+  grow_lines = λ s. frame_lines (ring 1 s);
   picture = λ n font. look_bit (lettering font []) (notched_look (size_in n size));
   hit = λ n. notched_hit (size_in n size);
 }

@@ -15,6 +15,7 @@
 mod areas;
 mod hits;
 mod kind;
+mod lines;
 mod notched_window;
 mod rects;
 mod shown;

@@ -11,7 +11,7 @@ ghost use Rattle.std_wdef.specs.Notched.{notch, notched_structure, notched_conte
 ghost use Rattle.std_wdef.specs.Notched.{fresh_notched, told_notched, notched_at};
 
 use crate::rects::ring;
-use def_iface::{Hit, Size, Stage, WindowChange, WindowDef, WindowRegions};
+use def_iface::{Hit, Size, Stage, WindowChange, WindowDef, WindowRegions, frame_lines};
 use draw_port::Canvas;
 use looks::{Piece, Step, area_has, area_region, damage_between, draw_look, less, more, sides};
 use std::alloc::{AllocError, Global};
@@ -164,6 +164,10 @@ impl WindowDef for NotchedWindow {
 
     fn bounds(&self, size: Size) -> Rect {
         ring(1, size)
+    }
+
+    fn grow_lines(&self, size: Size) -> [Rect; 8] {
+        frame_lines(ring(1, size))
     }
 
     fn hit(&self, point: Point) -> Hit {

@@ -7,6 +7,7 @@ ghost use Rattle.std_wdef.specs.Told.{window_meaning, fresh_window, told_window,
 use crate::areas::{content_of, structure_box, structure_of};
 use crate::hits::std_hit;
 use crate::kind::{Shown, Variation, is_titled};
+use crate::lines::grow_lines;
 use crate::shown::{draw_window, told_damage};
 use def_iface::{Flags, Hit, Size, Stage, WindowChange, WindowDef, WindowRegions};
 use draw_port::{Canvas, ShortText};
@@ -98,6 +99,10 @@ impl WindowDef for StdWindow {
 
     fn bounds(&self, size: Size) -> Rect {
         structure_box(self.variation, size)
+    }
+
+    fn grow_lines(&self, size: Size) -> [Rect; 8] {
+        grow_lines(self.variation, size)
     }
 
     fn hit(&self, point: Point) -> Hit {

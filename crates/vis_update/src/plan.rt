@@ -37,8 +37,6 @@ impl Part {
 pub struct Touch {
     /// The window that the call is about. Its frame is drawn whole.
     pub window: u64,
-    /// Another window whose frame is drawn whole.
-    pub also: Option<u64>,
     /// How far the content of the first moves, if it does.
     pub by: Option<Point>,
 }
@@ -55,10 +53,7 @@ impl Touch {
     pub(crate) fn draws_whole(self, serial: u64) -> bool
         ensures { result ≡ draws_whole self serial }
     {
-        match self.also {
-            Some(other) => serial == self.window || serial == other,
-            None => serial == self.window,
-        }
+        serial == self.window
     }
 }
 

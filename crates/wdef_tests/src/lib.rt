@@ -1,8 +1,8 @@
 //! What no clause says of the standard windows, by tests: that they come out where memory is not refused, and that
 //! their tables are those that were asked for. Expected values are pixels worked out by hand.
 //!
-//! `told` tests what a window is told and where a point lies in it, `drawn` what windows look like. `place` is where
-//! those lie on a map.
+//! `told` tests what a window is told and where a point lies in it, `drawn` what windows look like, `lines` the lines of
+//! their outlines. `place` is where windows lie on a map.
 #![tactic(auto)]
 
 pub mod place;
@@ -30,5 +30,7 @@ macro_rules! rect {
 
 #[cfg(test)]
 mod drawn;
+#[cfg(test)]
+mod lines;
 #[cfg(test)]
 mod told;

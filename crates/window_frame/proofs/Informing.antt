@@ -23,7 +23,9 @@ use Rattle.window_mgr.specs.Records.{look_on, state_of}
 use Rattle.window_mgr.specs.Updating.{LeavesState}
 use Rattle.window_mgr.proofs.EditSeats.{there_is}
 use Rattle.window_mgr.proofs.FindLemmas.{not_among, record_at}
-use Rattle.window_frame.specs.Followers.{Flag, Telling, Knows, AreNotified, IsCaughtUp, IsCaughtUpBy, IsInformed, IsNotified, with_heard}
+use Rattle.window_mgr.specs.Sparing.{Repaints}
+use Rattle.window_frame.proofs.Repainting.{informed_knows, knows_draws_none, not_behind, repainted_none, repainted_then}
+use Rattle.window_frame.specs.Followers.{Flag, draws_told, is_behind, Telling, Knows, AreNotified, IsCaughtUp, IsCaughtUpBy, IsInformed, IsNotified, with_heard}
 use Rattle.window_frame.specs.Followers.Flag.{Highlighting, Zooming}
 use Rattle.window_frame.proofs.FrameSteps.{still_kept}
 
@@ -137,6 +139,19 @@ module _ {V : Type 0} {H : V → Type 0} (loan : Taken V H → Loan) where
         by_telling (inr one) = subst (λ ws. Knows g (get_or ws j d)) (sym (ap (λ d. d.windows) one.told.desk))
             (changed_each (Knows g) x.serial (λ w. record (with_heard flag w) { definition = one.told.definition }) (λ w knows. knows_still flag g w one.told.definition knows) (records t) j d knew)
 
+    -- each has its serial still
+    pub same_serials : (j : ℕ) (d : WindowRecord) → (get_or (records new) j d).serial ≡ (get_or (records t) j d).serial
+    same_serials j d = by_telling informed
+      where
+        kept_serial : (g : Flag) (w : WindowRecord) → (with_heard g w).serial ≡ w.serial
+        kept_serial Highlighting w = refl
+        kept_serial Zooming w = refl
+
+        by_telling : IsInformed flag x.serial (state_of loan t kept.slots) (state_of loan new kept.slots) → (get_or (records new) j d).serial ≡ (get_or (records t) j d).serial
+        by_telling (inl (known, same)) = ap (λ (s : FullState). (get_or s.desk.windows j d).serial) same
+        by_telling (inr one) = subst (λ ws. (get_or ws j d).serial ≡ (get_or (records t) j d).serial) (sym (ap (λ d. d.windows) one.told.desk))
+            (changed_each (λ w. w.serial ≡ (get_or (records t) j d).serial) x.serial (λ w. record (with_heard flag w) { definition = one.told.definition }) (λ w e. kept_serial flag w ∙ e) (records t) j d refl)
+
     found_so : record_with x.serial (records t) ≡ Some (record_of loan x)
     found_so = record_at (look_on t) (records t) at (record_of loan x) kept.whole.sound.distinct in_place
 
@@ -161,6 +176,9 @@ module _ {V : Type 0} {H : V → Type 0} (loan : Taken V H → Loan) where
     pub many : length new.windows.records.items ≡ length t.windows.records.items
     pub leaves : LeavesState loan AreSomeTold t new
     pub informed : (j : ℕ) (d : WindowRecord) → j < at → Knows Highlighting (get_or (records new) j d) × Knows Zooming (get_or (records new) j d)
+    pub serials : (j : ℕ) (d : WindowRecord) → (get_or (records new) j d).serial ≡ (get_or (records t) j d).serial
+    pub knew : (g : Flag) (j : ℕ) (d : WindowRecord) → Knows g (get_or (records t) j d) → Knows g (get_or (records new) j d)
+    pub repainted : Repaints loan (is_behind (records t)) t new
 
   pub begins : (t : WindowManager V H) → IsKept loan t → IsUnderWay 0 t t
   begins t kept = record {
@@ -168,6 +186,9 @@ module _ {V : Type 0} {H : V → Type 0} (loan : Taken V H → Loan) where
     many = refl;
     leaves = λ slots whole. (whole, ([], refl));
     informed = λ j d low. absurd (omega arith);
+    serials = λ j d. refl;
+    knew = λ g j d its. its;
+    repainted = repainted_none _ _ t.screen;
   }
 
   then_one : (flag : Flag) (s : ℕ) (t middle new : WindowManager V H) → LeavesState loan AreSomeTold t middle → LeavesState loan (IsInformed flag s) middle new → LeavesState loan AreSomeTold t new
@@ -177,8 +198,8 @@ module _ {V : Type 0} {H : V → Type 0} (loan : Taken V H → Loan) where
       (last.0, and_one flag s (state_of loan t slots) (state_of loan middle slots) (state_of loan new slots) first.1 last.1)
 
   module _ (at : ℕ) (t old middle new : WindowManager V H) (x y : Window V H) (so_far : IsUnderWay at t old) (low : at < length t.windows.records.items)
-      (x_is : IsWindowAt old.windows.records.items at x) (first : LeavesState loan (IsInformed Highlighting x.serial) old middle)
-      (y_is : IsWindowAt middle.windows.records.items at y) (second : LeavesState loan (IsInformed Zooming y.serial) middle new) where
+      (x_is : IsWindowAt old.windows.records.items at x) (first : LeavesState loan (IsInformed Highlighting x.serial) old middle) (drawn : Repaints loan (draws_told Highlighting (record_of loan x)) old middle)
+      (y_is : IsWindowAt middle.windows.records.items at y) (second : LeavesState loan (IsInformed Zooming y.serial) middle new) (drawn_too : Repaints loan (draws_told Zooming (record_of loan y)) middle new) where
     low_before : at < length old.windows.records.items
     low_before = let many = so_far.many in omega arith
 
@@ -208,8 +229,40 @@ module _ {V : Type 0} {H : V → Type 0} (loan : Taken V H → Loan) where
     by_place j d below true e = subst (λ k. Knows Highlighting (get_or (records new) k d) × Knows Zooming (get_or (records new) k d)) (sym (eqb-true j at e)) (both_here d)
     by_place j d below false e = both_before j d (grind (arith, nat_tests))
 
+    serials_then : (j : ℕ) (d : WindowRecord) → (get_or (records middle) j d).serial ≡ (get_or (records t) j d).serial
+    serials_then j d = same_serials Highlighting old middle so_far.kept at low_before x x_is first j d ∙ so_far.serials j d
+
+    knew_then : (g : Flag) (j : ℕ) (d : WindowRecord) → Knows g (get_or (records t) j d) → Knows g (get_or (records middle) j d)
+    knew_then g j d its = still_known Highlighting old middle so_far.kept at low_before x x_is first g j d (so_far.knew g j d its)
+
+    -- nothing is drawn of a window that was not behind
+    draws_none : (flag : Flag) (here : WindowManager V H) (z : Window V H) → at < length here.windows.records.items → IsWindowAt here.windows.records.items at z
+        → ((j : ℕ) (d : WindowRecord) → (get_or (records here) j d).serial ≡ (get_or (records t) j d).serial)
+        → ((g : Flag) (j : ℕ) (d : WindowRecord) → Knows g (get_or (records t) j d) → Knows g (get_or (records here) j d))
+        → (n : ℕ) → is_behind (records t) n ≡ false → draws_told flag (record_of loan z) n ≡ false
+    draws_none flag here z within z_is serials knew n quiet =
+        let v = record_of loan z in
+        let read : get_or (records here) at v ≡ v = record_at_place here.windows.records.items at z within z_is in
+        let long : length (records t) ≡ length t.windows.records.items = length-map t.windows.records.items (record_of loan) in
+        knows_draws_none flag v n (λ same.
+        let its : (get_or (records t) at v).serial ≡ n = sym (serials at v) ∙ ap (λ (w : WindowRecord). w.serial) read ∙ sym same in
+        subst (Knows flag) read (knew flag at v (informed_knows flag (get_or (records t) at v) (not_behind (records t) at v (omega (arith, long, low)) (ap (is_behind (records t)) its ∙ quiet)))))
+      where
+        record_at_place : (ws : List (Window V H)) (i : ℕ) (w : Window V H) → i < length ws → IsWindowAt ws i w → get_or (map (record_of loan) ws) i (record_of loan w) ≡ record_of loan w
+        record_at_place [] i w l e = refl
+        record_at_place (y ∷ ys) zero w l e = ap (record_of loan) (sym e)
+        record_at_place (y ∷ ys) (suc i) w l e = record_at_place ys i w (omega (arith, l)) e
+
+    all_repainted : Repaints loan (is_behind (records t)) t new
+    all_repainted =
+        repainted_then _ _ _ _ _ _ _ _ _ (λ n quiet. (quiet, draws_none Zooming middle y low_then y_is serials_then knew_then n quiet))
+        (repainted_then _ _ _ _ _ _ _ _ _ (λ n quiet. (quiet, draws_none Highlighting old x low_before x_is so_far.serials so_far.knew n quiet)) so_far.repainted drawn) drawn_too
+
     pub goes_on : IsUnderWay (at + 1) t new
     goes_on = record {
+      serials = λ j d. same_serials Zooming middle new kept_then at low_then y y_is second j d ∙ serials_then j d;
+      knew = λ g j d its. still_known Zooming middle new kept_then at low_then y y_is second g j d (knew_then g j d its);
+      repainted = all_repainted;
       kept = still_kept loan middle new (IsInformed Zooming y.serial) kept_then second;
       many = as_many Zooming middle new kept_then at low_then y y_is second ∙ many_then ∙ so_far.many;
       leaves = then_one Zooming y.serial t middle new (then_one Highlighting x.serial t old middle so_far.leaves first) second;
@@ -234,10 +287,12 @@ module _ {V : Type 0} {H : V → Type 0} (loan : Taken V H → Loan) where
     middle_low = let many = as_many Highlighting old middle so_far.kept at low_now here.0 here.1 (first here.0 here.1) in let was = low_now in omega arith
 
     -- and then whether it is zoomed
-    pub both_told : (new : WindowManager V H) → ((w : Window V H) → IsWindowAt middle.windows.records.items at w → LeavesState loan (IsInformed Zooming w.serial) middle new) → IsUnderWay (at + 1) t new
-    both_told new second =
+    pub both_told : ((w : Window V H) → IsWindowAt old.windows.records.items at w → Repaints loan (draws_told Highlighting (record_of loan w)) old middle)
+        → (new : WindowManager V H) → ((w : Window V H) → IsWindowAt middle.windows.records.items at w → LeavesState loan (IsInformed Zooming w.serial) middle new)
+        → ((w : Window V H) → IsWindowAt middle.windows.records.items at w → Repaints loan (draws_told Zooming (record_of loan w)) middle new) → IsUnderWay (at + 1) t new
+    both_told drawn new second drawn_too =
         let there = there_is middle.windows.records.items at middle_low in
-        goes_on at t old middle new here.0 there.0 so_far low here.1 (first here.0 here.1) there.1 (second there.0 there.1)
+        goes_on at t old middle new here.0 there.0 so_far low here.1 (first here.0 here.1) (drawn here.0 here.1) there.1 (second there.0 there.1) (drawn_too there.0 there.1)
 
   pub ends : (t new : WindowManager V H) (at : ℕ) → at ≡ length t.windows.records.items → IsUnderWay at t new → LeavesState loan IsCaughtUp t new
   ends t new at all so_far slots whole =

@@ -5,3 +5,7 @@ pub mod FrameLaws
 pub mod FrameSteps
 pub mod Informing
 pub mod FramesShowing
+pub mod Repainting
+pub mod Relighting
+pub mod Economical
+pub mod SparedPixels

@@ -1,5 +1,6 @@
 -- Whose definitions are told how their windows stand, once a call on windows was done.
-use Rattle.std.specs.Prelude.{◌≡◌, ◌⊎◌, ℕ, Bool, List, [], ◌∷◌, Some, All}
+use Rattle.std.specs.Prelude.{◌≡◌, ◌⊎◌, ℕ, ◌==◌, ◌&&◌, ◌||◌, not, Bool, false, List, [], ◌∷◌, Some, All}
+use Rattle.std.proofs.Math.Bool.{beq}
 use Rattle.std.specs.Option.{is_some}
 use Rattle.def_iface.specs.News.{News, told_highlighted, told_zoomed}
 use Rattle.desk_call.specs.declared.activity.Standing.{Standing}
@@ -71,3 +72,20 @@ IsCaughtUp before after = (tellings : List Telling) × AreNotified tellings befo
 abbrev pub IsCaughtUpBy : Standing → FullState → FullState → Type 0
 IsCaughtUpBy Asks before after = after ≡ before
 IsCaughtUpBy _ before after = IsCaughtUp before after
+
+-- whether its definition heard how the window stands
+abbrev pub is_informed : WindowRecord → Bool
+is_informed w = beq w.heard.highlighted w.highlighted && beq w.heard.zoomed (is_some w.user_state)
+
+-- whether there is a window of this serial whose definition heard otherwise
+abbrev pub is_behind : List WindowRecord → ℕ → Bool
+is_behind [] s = false
+is_behind (w ∷ ws) s = (w.serial == s && not (is_informed w)) || is_behind ws s
+
+-- whether this flag is what its definition heard
+abbrev pub knows : Flag → WindowRecord → Bool
+knows flag w = beq (heard_of flag w) (flag_of flag w)
+
+-- no frame is drawn anew but that of this window, and that only where its definition heard otherwise
+abbrev pub draws_told : Flag → WindowRecord → ℕ → Bool
+draws_told flag w n = n == w.serial && not (knows flag w)

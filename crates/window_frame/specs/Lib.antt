@@ -2,3 +2,4 @@
 pub mod FrameRefusals
 pub mod Followers
 pub mod FrameSteps
+pub mod Economy

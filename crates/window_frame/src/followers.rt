@@ -1,10 +1,12 @@
 //! Definitions that are told how their windows stand.
-ghost use Rattle.std.specs.Prelude.{◌≡◌, ◌<◌, length};
+ghost use Rattle.std.specs.Prelude.{◌≡◌, ◌<◌, length, map};
 ghost use Rattle.window_mgr.specs.Edits.{IsWindowAt};
 ghost use Rattle.window_mgr.specs.Kept.{IsKept};
 ghost use Rattle.window_mgr.specs.Updating.{LeavesState};
 ghost use Rattle.desk_call.specs.Gates.{window_standing};
-ghost use Rattle.window_frame.specs.Followers.{IsCaughtUp, IsCaughtUpBy, IsInformed};
+ghost use Rattle.window_frame.specs.Followers.{IsCaughtUp, IsCaughtUpBy, IsInformed, draws_told, is_behind};
+ghost use Rattle.window_mgr.specs.Sparing.{Repaints};
+ghost use Rattle.vis_update.specs.Records.{record_of};
 ghost use Rattle.window_frame.specs.Followers.Flag.{Highlighting, Zooming};
 
 use def_iface::{Defined, Taken, WindowChange};
@@ -16,7 +18,9 @@ use window_mgr::WindowManager;
 /// that asks none is told anything. Takes no memory.
 pub fn follow(windows: &mut WindowManager, call: &WindowCall<'_>)
     requires { IsKept ⟦<Taken as Defined>⟧.loan windows.old }
-    ensures { LeavesState ⟦<Taken as Defined>⟧.loan (IsCaughtUpBy (window_standing call.now)) windows.old windows.new }
+    ensures told { LeavesState ⟦<Taken as Defined>⟧.loan (IsCaughtUpBy (window_standing call.now)) windows.old windows.new }
+    ensures repainted { Repaints ⟦<Taken as Defined>⟧.loan
+        (is_behind (map (record_of ⟦<Taken as Defined>⟧.loan) windows.old.windows.records.items)) windows.old windows.new }
 {
     match call.standing() {
         Standing::Asks => {}
@@ -27,7 +31,9 @@ pub fn follow(windows: &mut WindowManager, call: &WindowCall<'_>)
 /// Notifies the definition of each window, from front to back.
 fn inform_all(windows: &mut WindowManager)
     requires { IsKept ⟦<Taken as Defined>⟧.loan windows.old }
-    ensures { LeavesState ⟦<Taken as Defined>⟧.loan IsCaughtUp windows.old windows.new }
+    ensures told { LeavesState ⟦<Taken as Defined>⟧.loan IsCaughtUp windows.old windows.new }
+    ensures repainted { Repaints ⟦<Taken as Defined>⟧.loan
+        (is_behind (map (record_of ⟦<Taken as Defined>⟧.loan) windows.old.windows.records.items)) windows.old windows.new }
 {
     let count = windows.list().len();
     for at in 0..count {
@@ -40,8 +46,10 @@ fn inform_all(windows: &mut WindowManager)
 fn notify_highlighting(windows: &mut WindowManager, at: usize)
     requires kept { IsKept ⟦<Taken as Defined>⟧.loan windows.old }
     requires at { at < length windows.old.windows.records.items }
-    ensures { (w : _) → IsWindowAt windows.old.windows.records.items at w
+    ensures told { (w : _) → IsWindowAt windows.old.windows.records.items at w
         → LeavesState ⟦<Taken as Defined>⟧.loan (IsInformed Highlighting w.serial) windows.old windows.new }
+    ensures repainted { (w : _) → IsWindowAt windows.old.windows.records.items at w
+        → Repaints ⟦<Taken as Defined>⟧.loan (draws_told Highlighting (record_of ⟦<Taken as Defined>⟧.loan w)) windows.old windows.new }
 {
     let window = windows.list().at(at);
     let highlighted = window.highlighted;
@@ -54,8 +62,10 @@ fn notify_highlighting(windows: &mut WindowManager, at: usize)
 fn notify_zooming(windows: &mut WindowManager, at: usize)
     requires kept { IsKept ⟦<Taken as Defined>⟧.loan windows.old }
     requires at { at < length windows.old.windows.records.items }
-    ensures { (w : _) → IsWindowAt windows.old.windows.records.items at w
+    ensures told { (w : _) → IsWindowAt windows.old.windows.records.items at w
         → LeavesState ⟦<Taken as Defined>⟧.loan (IsInformed Zooming w.serial) windows.old windows.new }
+    ensures repainted { (w : _) → IsWindowAt windows.old.windows.records.items at w
+        → Repaints ⟦<Taken as Defined>⟧.loan (draws_told Zooming (record_of ⟦<Taken as Defined>⟧.loan w)) windows.old windows.new }
 {
     let window = windows.list().at(at);
     let is_zoomed = window.user_state.is_some();

@@ -1,5 +1,5 @@
 -- A call that arranges windows: what its plan, drawn, leaves.
-use Rattle.std.proofs.Common.{◌≡◌, ℕ, true, false, List, ℤ, pos, negsuc, refl, sym, ap, ◌∙◌, subst, arith, ◌&&◌}
+use Rattle.std.proofs.Common.{◌≡◌, ◌==◌, ℕ, true, false, List, ℤ, pos, negsuc, refl, sym, ap, ◌∙◌, subst, arith, ◌&&◌}
 use Rattle.std.specs.Prelude.{All}
 use Rattle.std.proofs.lemmas.Bool.Decides.{nat_tests}
 use Rattle.std.proofs.lemmas.Int.{ints}
@@ -28,6 +28,8 @@ use Rattle.vis_update.specs.Plans.{IsPlan}
 use Rattle.window_mgr.specs.Whole.{IsWholeManager, IsSoundDesk, LieThere}
 use Rattle.vis_update.specs.Areas.{IsGray, IsDesktop, AreAreas}
 use Rattle.window_mgr.proofs.Committing.{IsReady, plain_is, image_is, on_same}
+use Rattle.window_mgr.specs.Sparing.{IsSparing, Spares, moving_content}
+use Rattle.window_mgr.proofs.Sparing.{is_sparing, sparing_by}
 use Rattle.vis_update.proofs.UpdateLemmas.{areas_are, updated_is_stale}
 
 -- two words for a column or a row of the screen
@@ -92,3 +94,8 @@ module _ {V : Type 0} {H : V → Type 0} (loan : Taken V H → Loan) where
           (λ p on. plain_is touch (state_of loan t slots) after t.desktop plan t.screen new.screen ready p (on_too p on));
       layers = N.lie;
     }
+
+    -- it writes no more than that on the screen
+    pub spares : Spares loan touch.window touch.by t new
+    spares = subst (λ (d : LayeredDesk). IsSparing (moving_content touch.window touch.by) (λ n. n == touch.window) (layered_desk (desk_of loan t slots)) d t.screen new.screen) (sym (ap layered_desk N.desk_is))
+        (sparing_by touch (layered_desk (desk_of loan t slots)) (layered_desk after) t.screen new.screen (is_sparing touch (state_of loan t slots) after t.desktop plan t.screen new.screen ready))

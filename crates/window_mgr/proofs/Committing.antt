@@ -59,7 +59,7 @@ module _ (look : Look) (t : Touch) (before : plain.State) (after : LayeredDesk) 
   parts_elsewhere (w ∷ ws) [] value its apart = absurd its
 
   -- the windows of another serial than this one have not the pixel that is its
-  apart_from : (s : ℕ) (ws : List WindowRecord) → ((n : ℕ) → (n == s) ≡ false → is_other n (owner after p) ≡ true) → layers.window_of s (map (layered_window look) ws) ≡ None → AreApart ws
+  pub apart_from : (s : ℕ) (ws : List WindowRecord) → ((n : ℕ) → (n == s) ≡ false → is_other n (owner after p) ≡ true) → layers.window_of s (map (layered_window look) ws) ≡ None → AreApart ws
   apart_from s [] of none = tt
   apart_from s (w ∷ ws) of none =
       let first = not_first (w.serial == s) (layered_window look w) (layers.window_of s (map (layered_window look) ws)) none in
@@ -125,10 +125,10 @@ turned a b f = by_test (b == a) refl
     by_test true g = absurd (false≢true (sym f ∙ ap (λ x. a == x) (eqb-true b a g) ∙ same_number a))
     by_test false g = refl
 
-of_content : (s n : ℕ) (part : Layer) → (n == s) ≡ false → is_other n (Content s part) ≡ true
+pub of_content : (s n : ℕ) (part : Layer) → (n == s) ≡ false → is_other n (Content s part) ≡ true
 of_content s n part e = ap not e
 
-of_frame : (s n : ℕ) → (n == s) ≡ false → is_other n (Frame s) ≡ true
+pub of_frame : (s n : ℕ) → (n == s) ≡ false → is_other n (Frame s) ≡ true
 of_frame s n e = ap not e
 
 -- ---- what a plan that is drawn leaves
@@ -170,10 +170,10 @@ module _ (t : Touch) (before : FullState) (after : FullDesk) (desktop : Pixels) 
     plain_was : (o : Owner) → owner was p ≡ o → is_content o ≡ false → bit old p ≡ own_bit was o p
     plain_was o e c = sym (R.image p) ∙ R.shown p on (ap is_content e ∙ c) ∙ ap (λ x. own_bit was x p) e
 
-    copied_by : (o : Owner) → owner is p ≡ o → holds plan.copied p ≡ ((true && moves t o) && plain.had (change_of t) was o p)
+    pub copied_by : (o : Owner) → owner is p ≡ o → holds plan.copied p ≡ ((true && moves t o) && plain.had (change_of t) was o p)
     copied_by o e = R.planned.copied p ∙ (λ i. (on_now i && moves t (e i)) && plain.had (change_of t) was (e i) p)
 
-    uncovered_by : (o : Owner) → owner is p ≡ o → holds plan.uncovered p ≡ ((true && same_owner o Desktop) && not (true && same_owner (owner was p) Desktop))
+    pub uncovered_by : (o : Owner) → owner is p ≡ o → holds plan.uncovered p ≡ ((true && same_owner o Desktop) && not (true && same_owner (owner was p) Desktop))
     uncovered_by o e = R.planned.uncovered p ∙ (λ i. (R.planned.desktop_is p ∙ (λ j. on_now j && same_owner (e j) Desktop)) i && not ((R.desktop_was p ∙ ap (λ b. b && same_owner (owner was p) Desktop) on) i))
 
     -- where nothing is copied, pixels stay
@@ -224,7 +224,7 @@ module _ (t : Touch) (before : FullState) (after : FullDesk) (desktop : Pixels) 
         by_bar false f = absurd (false≢true (sym (not_bar_among is.windows p) ∙ ap (λ o. same_owner o Bar) (ap (λ b. if b then Bar else owner_among is.windows p) (sym f) ∙ e)))
 
     -- the window of an owner that has a serial
-    found : (s : ℕ) → is_other s (owner is p) ≡ false → (v : layers.LayeredWindow) × (layers.window_of s is.windows ≡ Some v)
+    pub found : (s : ℕ) → is_other s (owner is p) ≡ false → (v : layers.LayeredWindow) × (layers.window_of s is.windows ≡ Some v)
     found s its = by_window (layers.window_of s is.windows) refl
       where
         by_bar : (b : Bool) (o : Owner) → is_other s o ≡ true → is_other s (if b then Bar else o) ≡ true

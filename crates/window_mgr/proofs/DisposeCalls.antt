@@ -1,5 +1,5 @@
 -- What a call that ends a window leaves.
-use Rattle.std.proofs.Common.{◌≡◌, inr, ℕ, ◌<◌, ◌==◌, ◌||◌, Bool, true, false, List, [], length, map, None, pos, refl, sym, ap, ◌∙◌, subst}
+use Rattle.std.proofs.Common.{◌≡◌, inr, ℕ, ◌<◌, ◌||◌, Bool, true, false, List, [], length, map, None, pos, refl, sym, ap, ◌∙◌, subst}
 use Rattle.std.specs.Prelude.{All, Ok, Err}
 use Rattle.std.specs.List.{remove}
 use Rattle.std.proofs.lemmas.List.Elements.{All-head}
@@ -14,14 +14,13 @@ use Rattle.window_list.specs.declared.window.Window.{Window}
 use Rattle.vis_update.specs.declared.plan.Plan.{Plan}
 use Rattle.vis_update.specs.declared.plan.Touch.{Touch}
 use Rattle.vis_update.specs.Records.{WindowRecord, record_of}
-use Rattle.vis_update.specs.Touches.{is_this}
 use Rattle.desk_call.specs.declared.window.WindowCall.TheVariants.{Dispose}
 use Rattle.desk_call.specs.declared.window.WindowReply.TheVariants.{Done}
 use Rattle.window_mgr.specs.declared.arrange.Activates.TheVariants.{FrontInItsPlace}
 use Rattle.window_mgr.specs.declared.arrange.Activation.{Activation}
 use Rattle.window_mgr.specs.declared.manager.WindowManager.{WindowManager}
 use Rattle.window_mgr.specs.FullDesk.{FullDesk, layered_state}
-use Rattle.window_mgr.specs.Arrange.{also_of, desk_activated, desk_arranged, without}
+use Rattle.window_mgr.specs.Arrange.{desk_activated, desk_arranged, without}
 use Rattle.window_mgr.specs.Closing.{IsShut}
 use Rattle.window_mgr.specs.Commits.{IsPlanDrawn}
 use Rattle.window_mgr.specs.Edits.{IsWindowAt, relit_all}
@@ -40,7 +39,8 @@ use Rattle.window_mgr.proofs.Committing.{turned}
 use Rattle.window_mgr.proofs.EditCalls.{relit_records}
 use Rattle.window_mgr.proofs.EditSeats.{there_is}
 use Rattle.window_mgr.proofs.Steps.{found, not_missing}
-use Rattle.window_mgr.proofs.Arranged.{IsArrangedCall, is_left as arranged_is_left, is_whole as arranged_is_whole}
+use Rattle.window_mgr.proofs.Arranged.{IsArrangedCall, is_left as arranged_is_left, is_whole as arranged_is_whole, spares as arranged_spares}
+use Rattle.window_mgr.specs.Sparing.{Spares}
 
 module _ {V : Type 0} {H : V → Type 0} (loan : Taken V H → Loan) where
   -- ---- a window of the list, and the rest
@@ -84,7 +84,7 @@ module _ {V : Type 0} {H : V → Type 0} (loan : Taken V H → Loan) where
     pub low : at < length t.windows.records.items
     pub serial : (w : Window V H) → IsWindowAt t.windows.records.items at w → w.serial ≡ s
     pub becomes : IsActivationWithout loan at s t activation
-    pub planned : IsPlanWithout loan at s activation t plan
+    pub planned : IsPlanWithout loan at s t plan
     pub off : IsTakenOff loan at activation plan taken t new
     pub shut : IsShut (loan taken) slots now
 
@@ -105,7 +105,7 @@ module _ {V : Type 0} {H : V → Type 0} (loan : Taken V H → Loan) where
     after = left (desk_of loan t slots) s at (record_of loan w) rest one activation now
 
     abbrev touch : Touch
-    touch = record { window = s; also = also_of activation s t.windows.active; by = None }
+    touch = record { window = s; by = None }
 
     shut : IsShut (loan w.taken) slots now
     shut = subst (λ (x : Taken V H). IsShut (loan x) slots now) N.off.its N.shut
@@ -129,7 +129,7 @@ module _ {V : Type 0} {H : V → Type 0} (loan : Taken V H → Loan) where
       whole = N.whole;
       screen = refl;
       sound = sound_left (desk_of loan t slots) s at (record_of loan w) rest one activation now N.whole.sound shut;
-      frames = λ n p quiet. ap (λ o. frame_bit o p) (others_found (desk_of loan t slots) s at (record_of loan w) rest one activation now N.whole.sound.distinct n (turned n s (first_is (n == s) (is_this touch.also n) quiet)));
+      frames = λ n p quiet. ap (λ o. frame_bit o p) (others_found (desk_of loan t slots) s at (record_of loan w) rest one activation now N.whole.sound.distinct n (turned n s quiet));
       planned = N.planned after desk_without;
       drawn = drawn;
       desk_is = λ i. record {
@@ -175,6 +175,10 @@ module _ {V : Type 0} {H : V → Type 0} (loan : Taken V H → Loan) where
         after_is =
             ap (λ a. record (desk_activated rest a (desk_of loan t slots)) { stock = now }) N.becomes
             ∙ ap (λ ws. record (desk_arranged ws FrontInItsPlace s (desk_of loan t slots)) { stock = now }) (sym rest_is)
+
+    -- and it writes no more on the screen
+    pub dispose_spares : Spares loan s None t new
+    dispose_spares = arranged_spares loan touch t new slots now after plan dispose_arranged
 
     -- it is whole after the call, which made its step
     pub dispose_done : IsWholeManager loan new now × IsWindowStep (Dispose s) (Ok Done) (state_of loan t slots) (state_of loan new now)

@@ -17,7 +17,7 @@ use Rattle.vis_update.specs.declared.plan.Touch.{Touch}
 use Rattle.vis_update.specs.Records.{WindowRecord, news_of, record_of}
 use Rattle.vis_update.specs.Places.{is_placed}
 use Rattle.vis_update.specs.Seats.{stand_of}
-use Rattle.vis_update.specs.Touches.{is_this, moving}
+use Rattle.vis_update.specs.Touches.{moving}
 use Rattle.def_iface.specs.Change.{IsChanged}
 use Rattle.vis_update.proofs.PlaceLemmas.{placed_parts}
 use Rattle.desk_call.specs.declared.window.WindowReply.TheVariants.{Done}
@@ -27,7 +27,7 @@ use Rattle.window_mgr.specs.declared.arrange.Activation.TheVariants.{Stays, Beco
 use Rattle.window_mgr.specs.declared.arrange.Edit.{Edit}
 use Rattle.window_mgr.specs.declared.manager.WindowManager.{WindowManager}
 use Rattle.window_mgr.specs.FullDesk.{FullDesk, layered_state}
-use Rattle.window_mgr.specs.Arrange.{activated, also_of, desk_activated, with_highlighting}
+use Rattle.window_mgr.specs.Arrange.{activated, desk_activated, with_highlighting}
 use Rattle.window_mgr.specs.Commits.{IsPlanDrawn}
 use Rattle.window_mgr.specs.Edits.{put_record, put_window, records_put, relit_all, IsWindowAt, IsPlanOfEdit, IsDeskOfEdit, IsPlaceable, SameSize, IsActivation, AreSettledAfter, IsCommitted, IsRearranged}
 use Rattle.window_mgr.specs.Effects.{IsArrangement}
@@ -41,7 +41,8 @@ use Rattle.window_mgr.proofs.DimLemmas.{dimmed_record}
 use Rattle.window_mgr.proofs.Rearranged.{IsEdit, edited, sound_now, distinct_now, others_found, stands_lit, settled_all, relit_record}
 use Rattle.window_mgr.proofs.EditSeats.{map-insert, same_at}
 use Rattle.window_mgr.proofs.Committing.{turned}
-use Rattle.window_mgr.proofs.Arranged.{IsArrangedCall, is_left as arranged_is_left, is_whole as arranged_is_whole}
+use Rattle.window_mgr.proofs.Arranged.{IsArrangedCall, is_left as arranged_is_left, is_whole as arranged_is_whole, spares as arranged_spares}
+use Rattle.window_mgr.specs.Sparing.{Spares}
 
 module _ {V : Type 0} {H : V → Type 0} (loan : Taken V H → Loan) where
   -- ---- the records of the code, after an activation
@@ -122,7 +123,7 @@ module _ {V : Type 0} {H : V → Type 0} (loan : Taken V H → Loan) where
     pub may : IsPlaceable loan e t.windows.records.items
     pub same : SameSize e t.windows.records.items
     pub becomes : IsActivation loan e activates t activation
-    pub planned : IsPlanOfEdit loan e activation by t plan
+    pub planned : IsPlanOfEdit loan e by t plan
     pub committed : IsCommitted loan e activation plan by t new
 
   module _ (e : Edit) (activates : Activates) (activation : Activation) (by : Option Point) (plan : Plan) (t new : WindowManager V H) (slots : List SlotView) (N : IsEditCall e activates activation by plan t new slots) where
@@ -139,7 +140,7 @@ module _ {V : Type 0} {H : V → Type 0} (loan : Taken V H → Loan) where
     edit = edit_is t slots e activation w w_is N.low
 
     abbrev touch : Touch
-    touch = record { window = w.serial; also = also_of activation w.serial t.windows.active; by = by }
+    touch = record { window = w.serial; by = by }
 
     windows_are : map (record_of loan) new.windows.records.items ≡ left.windows
     windows_are = ap (map (record_of loan)) N.committed.windows ∙ records_are t slots e activation w w_is N.low (N.same w w_is)
@@ -160,7 +161,7 @@ module _ {V : Type 0} {H : V → Type 0} (loan : Taken V H → Loan) where
       whole = N.whole;
       screen = refl;
       sound = sound_now (desk_of loan t slots) w.serial e.at e.to (record_of loan w) _ _ edit activation N.whole.sound refl (put_settled t slots e activation w w_is N.low N.may (N.same w w_is) N.whole.sound.settled);
-      frames = λ n p quiet. ap (λ o. frame_bit o p) (others_found (desk_of loan t slots) w.serial e.at e.to (record_of loan w) _ _ edit activation N.whole.sound.distinct n (turned n w.serial (first_is (n == w.serial) (is_this touch.also n) quiet)));
+      frames = λ n p quiet. ap (λ o. frame_bit o p) (others_found (desk_of loan t slots) w.serial e.at e.to (record_of loan w) _ _ edit activation N.whole.sound.distinct n (turned n w.serial quiet));
       planned = N.planned w w_is left deskof;
       drawn = drawn;
       desk_is = λ i. record {
@@ -198,6 +199,10 @@ module _ {V : Type 0} {H : V → Type 0} (loan : Taken V H → Loan) where
     -- it is whole after the call, and this is what the call answers and leaves
     pub edit_done : IsWholeManager loan new slots × IsRearranged loan e activates by (Ok Done) t new slots
     edit_done = (arranged_is_whole loan touch t new slots slots left plan edit_arranged, (refl, edit_is_left))
+
+    -- and it writes no more on the screen
+    pub edit_spares : (v : Window V H) → IsWindowAt t.windows.records.items e.at v → Spares loan v.serial by t new
+    edit_spares v v_is = subst (λ (x : Window V H). Spares loan x.serial by t new) (same_at t.windows.records.items e.at w v N.low w_is v_is) (arranged_spares loan touch t new slots slots left plan edit_arranged)
 
   -- every window is settled, whichever stands at the place
   pub all_settled : (t : WindowManager V H) (slots : List SlotView) (e : Edit) (a : Activation) → IsWholeManager loan t slots → e.at < length t.windows.records.items → IsPlaceable loan e t.windows.records.items → SameSize e t.windows.records.items

@@ -10,7 +10,8 @@ use Rattle.tb_geom.specs.Points.{PixelSet, minus}
 use Rattle.tb_geom.specs.Pixels.{holds}
 use Rattle.tb_geom.specs.Rects.{in_plane, is_in_range, moved_rect, rect_holds}
 use Rattle.bit_map.specs.Bits.{Bits, on_map, bit}
-use Rattle.bit_blit.specs.Draws.{Draws}
+use Rattle.bit_blit.specs.Draws.{Draws, IsWritten}
+use Rattle.window_mgr.specs.Sparing.{IsRepainted, Repaints}
 use Rattle.def_iface.specs.News.{no_news, told_change}
 use Rattle.def_iface.specs.declared.size.Size.{Size}
 use Rattle.def_iface.specs.declared.taken.Taken.{Taken}
@@ -354,6 +355,25 @@ module _ {V : Type 0} {H : V → Type 0} (loan : Taken V H → Loan) where
             ∙ (is_put (look_on t) x.serial at w rest refl (free before x.serial at at w v rest (noted_edit before whole.sound.distinct at w rest windows_were (notified_record change w) d T.regions) Stays whole.sound.distinct)).changed_is (λ y. record (notified_record change y) { definition = d })
             ∙ ap (λ y. put_in at y rest) told_is
 
+        -- no pixel was written but those of the frame
+        pub repainted : IsWritten (holds a.frame) t.screen screen → Repaints loan (λ n. n == x.serial) t (with_frame screen)
+        repainted written =
+            subst (λ (k : LayeredDesk). IsRepainted (λ n. n == x.serial) was k t.screen screen) (sym (ap layered_desk desk_is))
+            (record {
+              owners = same_owners;
+              screens = λ p. refl;
+              others = λ p on none. written.outside p (on_there p on) (area_is.frame p ∙ ap (λ b. b && same_owner (owner was p) (Frame x.serial)) on ∙ by_test p none (same_owner (owner was p) (Frame x.serial)) refl);
+              rises = λ p on. written.rises p (on_there p on);
+              changed = λ p on ne. written.changed p (on_there p on) ne;
+            })
+          where
+            on_there : (p : Point) → layers.on_screen was p ≡ true → on_map t.screen p ≡ true
+            on_there p on = sym (on_map_is screen drawn near p on) ∙ on
+
+            by_test : (p : Point) → ((s : ℕ) → same_owner (owner was p) (Frame s) ≡ true → (s == x.serial) ≡ false) → (b : Bool) → same_owner (owner was p) (Frame x.serial) ≡ b → b ≡ false
+            by_test p none true e = sym (same_number x.serial) ∙ none x.serial e
+            by_test p none false e = refl
+
         -- it is whole again, the definition was told, and the frame drawn
         pub frame_told : IsWholeManager loan (with_frame screen) slots × IsFrameNotified x.serial (λ _. told_change change) (notified_record change) (state_of loan t slots) (state_of loan (with_frame screen) slots)
         frame_told = (
@@ -394,3 +414,12 @@ module _ {V : Type 0} {H : V → Type 0} (loan : Taken V H → Loan) where
           (subst (λ (y : WindowRecord). Draws (λ p. holds a.frame p && rect_holds damage (minus p y.place)) (λ p _. y.definition.picture no_news t.font (minus p y.place)) t.screen screen) as_drawn drawn)
           (subst (λ (y : WindowRecord). (p : Point) → holds a.frame p ≡ true → in_plane (minus p y.place) ≡ true) as_drawn near)
           others
+
+      pub frame_repainted_by : (screen : Bits) → Draws (λ p. holds a.frame p && rect_holds damage (minus p z.place)) (λ p _. (loan z.taken).definition.picture no_news t.font (minus p z.place)) t.screen screen
+          → ((p : Point) → holds a.frame p ≡ true → in_plane (minus p z.place) ≡ true) → list ≡ record t.windows { records = list.records } → IsWritten (holds a.frame) t.screen screen
+          → Repaints loan (λ n. n == x.serial) t (record t { screen = screen; windows = list })
+      frame_repainted_by screen drawn near others written =
+          repainted a read screen
+          (subst (λ (y : WindowRecord). Draws (λ p. holds a.frame p && rect_holds damage (minus p y.place)) (λ p _. y.definition.picture no_news t.font (minus p y.place)) t.screen screen) as_drawn drawn)
+          (subst (λ (y : WindowRecord). (p : Point) → holds a.frame p ≡ true → in_plane (minus p y.place) ≡ true) as_drawn near)
+          others written

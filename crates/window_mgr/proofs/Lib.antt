@@ -63,3 +63,5 @@ pub mod StepsShowing
 pub mod LayerThere
 pub mod LayerRedrawn
 pub mod LayerToggled
+pub mod WriteLemmas
+pub mod Sparing

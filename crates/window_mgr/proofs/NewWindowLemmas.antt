@@ -44,7 +44,7 @@ use Rattle.window_mgr.specs.Arrange.{with_highlighting}
 use Rattle.window_mgr.specs.Planned.{IsPlanWith, IsAdded, IsUnplanned, SameDesk, new_touch}
 use Rattle.window_list.specs.Lists.{dimmed}
 use Rattle.vis_update.specs.Plans.{IsPlan}
-use Rattle.vis_update.specs.Touches.{change_of, draws_whole, is_this}
+use Rattle.vis_update.specs.Touches.{change_of, draws_whole}
 use Rattle.window_mgr.specs.Whole.{IsWholeManager, IsSoundDesk, IsSettled, LieThere}
 use Rattle.window_mgr.specs.Commits.{IsPlanDrawn}
 use Rattle.window_mgr.proofs.LyingThere.{dimmed_lie}
@@ -138,7 +138,7 @@ module _ {V : Type 0} {H : V → Type 0} (loan : Taken V H → Loan) where
     pub whole : IsWholeManager loan t slots
     pub same : SameDesk t planned
     pub unrefused_is : first_refusal (judged_refusals w (is_placed (Some taken.definition) w.place w.size) (length t.windows.records.items) t.windows.next) ≡ None
-    pub touch_is : touch ≡ new_touch w n planned.windows.active
+    pub touch_is : touch ≡ new_touch n
     pub plan_with : IsPlanWith loan w n taken.definition touch planned plan
     pub number : planned.windows.next ≡ Some n
     pub added : IsAdded loan w n taken touch plan planned new
@@ -197,7 +197,7 @@ module _ {V : Type 0} {H : V → Type 0} (loan : Taken V H → Loan) where
     -- the frames of other windows stay
     frames : (s : ℕ) (p : Point) → draws_whole touch s ≡ false → own_bit (layered_desk before) (Frame s) p ≡ own_bit (layered_desk after) (Frame s) p
     frames s p e =
-        sym (own_bit-behind (layered_desk before) (layered_window (look_on t) (new_record w n taken.slot N.added.begun)) (layered_desk before).windows p (Frame s) (ap not (turned s n (first_is (s == n) (is_this touch.also s) (ap (λ (x : Touch). s == x.window || is_this touch.also s) (sym N.touch_is) ∙ e)))))
+        sym (own_bit-behind (layered_desk before) (layered_window (look_on t) (new_record w n taken.slot N.added.begun)) (layered_desk before).windows p (Frame s) (ap not (turned s n (ap (λ (x : Touch). s == x.window) (sym N.touch_is) ∙ e))))
         ∙ sym (ap (λ d. own_bit d (Frame s) p) layers_are)
       where
         first_is : (a b : Bool) → (a || b) ≡ false → a ≡ false

@@ -11,8 +11,8 @@ use Rattle.bit_map.specs.declared.mode.Mode.TheVariants.{Copy}
 use Rattle.bit_map.specs.Bits.{Bits, bit}
 use Rattle.bit_map.specs.Modes.{mode_bit}
 use Rattle.bit_map.specs.Patterns.{pattern_bit}
-use Rattle.bit_blit.specs.Draws.{Draws}
-use Rattle.bit_blit.proofs.DrawsLemmas.{Draws-on_map}
+use Rattle.bit_blit.specs.Draws.{DrawsOnce}
+use Rattle.bit_blit.proofs.OnceLemmas.{Once-on_map}
 use Rattle.def_iface.specs.declared.taken.Taken.{Taken}
 use Rattle.def_iface.specs.Meaning.{Loan}
 use Rattle.vis_update.specs.declared.plan.Part.{Part}
@@ -21,7 +21,9 @@ use Rattle.window_list.specs.declared.window.Window.{Window}
 use Rattle.vis_update.specs.Records.{WindowRecord}
 use Rattle.desk_ground.specs.Screens.{gray}
 use Rattle.vis_update.specs.Records.{record_of}
-use Rattle.window_mgr.specs.Commits.{ArePainted, IsPlanDrawn, painted_part, painted_parts}
+use Rattle.window_mgr.specs.Commits.{ArePainted, IsPlanDrawn, erased, painted_part, painted_parts, redrawn}
+use Rattle.window_mgr.proofs.WriteLemmas.{plan_written}
+use Rattle.window_paint.specs.Writes.{IsWrittenBy, arrives, nowhere}
 use Rattle.window_mgr.specs.Whole.{IsSettled}
 use Rattle.window_paint.specs.Frames.{IsPlaced, IsPainted}
 use Rattle.window_paint.specs.Moves.{IsMoved}
@@ -73,15 +75,18 @@ module _ {V : Type 0} {H : V → Type 0} (loan : Taken V H → Loan) where
 -- a plan is drawn by moving what is copied, filling what is uncovered, and painting the windows' parts
 pub drawn_by : (plan : Plan) (by : Option Point) (font : List ℕ) (ws : List WindowRecord) (old moved filled new : Bits)
     → IsMoved plan.copied by old moved
-    → Draws (holds plan.uncovered) (λ p d. mode_bit Copy (pattern_bit gray (minus p origin)) d) moved filled
+    → IsWrittenBy (arrives plan.copied by) nowhere old moved
+    → DrawsOnce (holds plan.uncovered) (λ p d. mode_bit Copy (pattern_bit gray (minus p origin)) d) moved filled
     → ArePainted font ws plan.parts.items filled new
+    → IsWrittenBy (erased plan.parts.items) (redrawn plan.parts.items) filled new
     → IsPlanDrawn plan by font ws old new
-drawn_by plan by font ws old moved filled new first second third = record {
+drawn_by plan by font ws old moved filled new first first_written second third third_written = record {
   pixels = λ p on.
       let there = on_map-same old moved p first.width first.height ∙ on in
-      let further = Draws-on_map _ _ moved filled second p ∙ there in
+      let further = Once-on_map _ _ moved filled second p ∙ there in
       third.pixels p further
       ∙ ap (painted_parts font ws plan.parts.items p) (second.pixels p there ∙ (λ i. if holds plan.uncovered p then pattern_bit gray (minus-origin p i) else first.pixels p on i));
   width = third.width ∙ second.width ∙ first.width;
   height = third.height ∙ second.height ∙ first.height;
+  written = plan_written plan by _ old moved filled new (λ p. on_map-same old moved p first.width first.height) (Once-on_map _ _ moved filled second) first_written second third_written;
 }

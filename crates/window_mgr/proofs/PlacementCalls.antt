@@ -1,5 +1,5 @@
 -- What the calls that put a window elsewhere or give it another size leave, and their steps.
-use Rattle.std.proofs.Common.{◌≡◌, inr, ℕ, zero, suc, ◌<◌, ◌==◌, ◌||◌, ◌&&◌, not, Bool, true, false, if◌then◌else◌, List, [], ◌∷◌, length, get_or, map, Option, None, Some, Result, Ok, Err, pos, refl, sym, ap, ◌∙◌, subst, arith}
+use Rattle.std.proofs.Common.{◌≡◌, inr, ℕ, zero, suc, ◌<◌, ◌||◌, ◌&&◌, not, Bool, true, false, if◌then◌else◌, List, [], ◌∷◌, length, get_or, map, Option, None, Some, Result, Ok, Err, pos, refl, sym, ap, ◌∙◌, subst, arith}
 use Rattle.std.specs.Prelude.{All, slice_set, slice_get, is_none}
 use Rattle.std.specs.Option.{is_some}
 use Rattle.std.specs.List.{remove}
@@ -31,7 +31,7 @@ use Rattle.vis_update.specs.declared.plan.Touch.{Touch}
 use Rattle.vis_update.specs.Records.{WindowRecord, news_of, record_of}
 use Rattle.vis_update.specs.Places.{is_placed}
 use Rattle.vis_update.specs.Seats.{stand_of}
-use Rattle.vis_update.specs.Touches.{is_this, moving}
+use Rattle.vis_update.specs.Touches.{moving}
 use Rattle.vis_update.proofs.PlaceLemmas.{placed_parts}
 use Rattle.desk_call.specs.declared.window.SizeWindow.{SizeWindow}
 use Rattle.desk_call.specs.declared.window.WindowCall.{WindowCall}
@@ -42,12 +42,11 @@ use Rattle.desk_call.specs.declared.window.Zoom.{Zoom}
 use Rattle.desk_call.specs.declared.window.Zoom.TheVariants.{Out, In}
 use Rattle.desk_call.specs.declared.window.ZoomWindow.{ZoomWindow}
 use Rattle.desk_call.specs.Parts.{zoom_of}
-use Rattle.window_mgr.specs.declared.arrange.Activation.{Activation}
 use Rattle.window_mgr.specs.declared.arrange.Activation.TheVariants.{Stays}
 use Rattle.window_mgr.specs.declared.arrange.Edit.{Edit}
 use Rattle.window_mgr.specs.declared.manager.WindowManager.{WindowManager}
 use Rattle.window_mgr.specs.FullDesk.{FullDesk, layered_state}
-use Rattle.window_mgr.specs.Arrange.{also_of, changed, with_placement, desk_activated}
+use Rattle.window_mgr.specs.Arrange.{changed, with_placement, desk_activated}
 use Rattle.window_mgr.specs.Commits.{IsPlanDrawn}
 use Rattle.window_mgr.specs.Effects.{Effect, IsEffect, IsWindowPlaced, effect_of, places}
 use Rattle.window_mgr.specs.Effects.Effect.{Places}
@@ -68,7 +67,8 @@ use Rattle.window_mgr.proofs.PutIn.{put_in, put_is_insert, taken_out, map-put, A
 use Rattle.window_mgr.proofs.Rearranged.{IsEdit, edited, sound_now, distinct_now, others_found}
 use Rattle.window_mgr.proofs.EditSeats.{same_at}
 use Rattle.window_mgr.proofs.Committing.{turned}
-use Rattle.window_mgr.proofs.Arranged.{IsArrangedCall, is_left as arranged_is_left, is_whole as arranged_is_whole}
+use Rattle.window_mgr.proofs.Arranged.{IsArrangedCall, is_left as arranged_is_left, is_whole as arranged_is_whole, spares as arranged_spares}
+use Rattle.window_mgr.specs.Sparing.{Spares}
 use Rattle.window_mgr.proofs.Steps as steps
 
 -- the element at a place is read there
@@ -144,14 +144,14 @@ module _ {V : Type 0} {H : V → Type 0} (loan : Taken V H → Loan) where
   -- ---- the call
 
   -- all that is known where a call put the window at this place there
-  pub record IsPlacementCall (i : ℕ) (to : Placement) (by : Option Point) (activation : Activation) (plan : Plan) (t new : WindowManager V H) (slots : List SlotView) : Type 0 where
+  pub record IsPlacementCall (i : ℕ) (to : Placement) (by : Option Point) (plan : Plan) (t new : WindowManager V H) (slots : List SlotView) : Type 0 where
     pub whole : IsWholeManager loan t slots
     pub low : i < length t.windows.records.items
     pub may : IsPlaceableAt loan i to t.windows.records.items
-    pub planned : (w : Window V H) → IsWindowAt t.windows.records.items i w → IsPlanOfEdit loan (record (stays_put i w) { place = to.place; size = to.size }) activation by t plan
+    pub planned : (w : Window V H) → IsWindowAt t.windows.records.items i w → IsPlanOfEdit loan (record (stays_put i w) { place = to.place; size = to.size }) by t plan
     pub committed : IsPlacementCommitted loan i to plan by t new
 
-  module _ (i : ℕ) (to : Placement) (by : Option Point) (activation : Activation) (plan : Plan) (t new : WindowManager V H) (slots : List SlotView) (N : IsPlacementCall i to by activation plan t new slots) where
+  module _ (i : ℕ) (to : Placement) (by : Option Point) (plan : Plan) (t new : WindowManager V H) (slots : List SlotView) (N : IsPlacementCall i to by plan t new slots) where
     abbrev w : Window V H
     w = N.committed.window
 
@@ -179,11 +179,11 @@ module _ {V : Type 0} {H : V → Type 0} (loan : Taken V H → Loan) where
     abbrev planned_edit : Edit
     planned_edit = record (stays_put i w) { place = to.place; size = to.size }
 
-    plan_is : IsPlanOfEdit loan planned_edit activation by t plan
+    plan_is : IsPlanOfEdit loan planned_edit by t plan
     plan_is = N.planned w w_is
 
     abbrev touch : Touch
-    touch = record { window = w.serial; also = also_of activation w.serial t.windows.active; by = by }
+    touch = record { window = w.serial; by = by }
 
     deskof : IsDeskOfEdit loan planned_edit t w left
     deskof = record {
@@ -206,7 +206,7 @@ module _ {V : Type 0} {H : V → Type 0} (loan : Taken V H → Loan) where
       screen = refl;
       sound = sound_now (desk_of loan t slots) w.serial i i (record_of loan w) v others edit Stays N.whole.sound refl
           (laid_settled N.low w_is R (N.may w w_is) N.whole.sound.settled);
-      frames = λ n p quiet. ap (λ o. frame_bit o p) (others_found (desk_of loan t slots) w.serial i i (record_of loan w) v others edit Stays N.whole.sound.distinct n (turned n w.serial (first_is (n == w.serial) (is_this touch.also n) quiet)));
+      frames = λ n p quiet. ap (λ o. frame_bit o p) (others_found (desk_of loan t slots) w.serial i i (record_of loan w) v others edit Stays N.whole.sound.distinct n (turned n w.serial quiet));
       planned = plan_is w w_is left deskof;
       drawn = subst (λ ws. IsPlanDrawn plan by t.font ws t.screen new.screen) windows_are N.committed.drawn;
       desk_is = λ k. record {
@@ -249,6 +249,10 @@ module _ {V : Type 0} {H : V → Type 0} (loan : Taken V H → Loan) where
         placed_so : put_in i v others ≡ changed w.serial (with_placement to (loan R.taken).definition) (desk_of loan t slots).windows
         placed_so = put_is_insert i v others ∙ sym (steps.changed_so loan t new slots N.whole i w.serial w N.low w_is refl (with_placement to (loan R.taken).definition))
 
+    -- and it writes no more on the screen
+    pub placement_spares : (v : Window V H) → IsWindowAt t.windows.records.items i v → Spares loan v.serial by t new
+    placement_spares v v_is = subst (λ (x : Window V H). Spares loan x.serial by t new) (same_at t.windows.records.items i w v N.low w_is v_is) (arranged_spares loan touch t new slots slots left plan placement_arranged)
+
     -- it is whole after the call, and this is what the call answers and leaves
     pub placement_done : IsWholeManager loan new slots × IsLaid loan i to by (Ok Done) t new slots
     placement_done = (
@@ -281,14 +285,14 @@ module _ {V : Type 0} {H : V → Type 0} (loan : Taken V H → Loan) where
     pub is_on_its_way : (by : Option Point) → IsOnItsWay i to.place by t.windows.records.items → (e : Edit) → e ≡ stays_put i x → IsOnItsWay e.at to.place by t.windows.records.items
     is_on_its_way by way e e_is = subst (λ (y : Edit). IsOnItsWay y.at to.place by t.windows.records.items) (sym e_is) way
 
-    pub placement_call : (by : Option Point) (activation : Activation) (plan : Plan) (new : WindowManager V H) (slots : List SlotView) (e : Edit) → IsWholeManager loan t slots → IsPlaceableAt loan i to t.windows.records.items → e ≡ stays_put i x → IsPlanOfEdit loan (record e { place = to.place; size = to.size }) activation by t plan → IsPlacementCommitted loan i to plan by t new → IsPlacementCall i to by activation plan t new slots
-    placement_call by activation plan new slots e whole may e_is planned committed = record {
+    pub placement_call : (by : Option Point) (plan : Plan) (new : WindowManager V H) (slots : List SlotView) (e : Edit) → IsWholeManager loan t slots → IsPlaceableAt loan i to t.windows.records.items → e ≡ stays_put i x → IsPlanOfEdit loan (record e { place = to.place; size = to.size }) by t plan → IsPlacementCommitted loan i to plan by t new → IsPlacementCall i to by plan t new slots
+    placement_call by plan new slots e whole may e_is planned committed = record {
       whole = whole;
       low = low;
       may = may;
       planned = λ w w_is.
-          subst (λ (y : Window V H). IsPlanOfEdit loan (record (stays_put i y) { place = to.place; size = to.size }) activation by t plan) (same_at t.windows.records.items i x w low x_is w_is)
-          (subst (λ (y : Edit). IsPlanOfEdit loan (record y { place = to.place; size = to.size }) activation by t plan) e_is planned);
+          subst (λ (y : Window V H). IsPlanOfEdit loan (record (stays_put i y) { place = to.place; size = to.size }) by t plan) (same_at t.windows.records.items i x w low x_is w_is)
+          (subst (λ (y : Edit). IsPlanOfEdit loan (record y { place = to.place; size = to.size }) by t plan) e_is planned);
       committed = committed;
     }
 

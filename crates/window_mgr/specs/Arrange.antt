@@ -53,11 +53,6 @@ activation_of ItselfIfFront s active front = if_active (is_this front s) (Some s
 activation_of FrontInItsPlace s active front = if_active (is_this active s) front
 activation_of NextInItsPlace s active front = if is_this active s then next_active s front else Stays
 
--- another window than this whose highlighting may change by an activation, where that was the active one
-abbrev pub also_of : Activation → ℕ → Option ℕ → Option ℕ
-also_of Stays s former = None
-also_of (Becomes t) s former = if is_this former s then t else former
-
 -- the desk with these windows, after an activation
 abbrev pub desk_activated : List WindowRecord → Activation → FullDesk → FullDesk
 desk_activated ws activation desk = record desk {

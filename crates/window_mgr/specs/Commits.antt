@@ -1,9 +1,9 @@
 -- A plan, drawn on the screen.
-use Rattle.std.specs.Prelude.{ℕ, Bool, if◌then◌else◌, List, [], ◌∷◌, Option}
+use Rattle.std.specs.Prelude.{◌≡◌, ℕ, ◌+◌, Bool, true, false, ◌||◌, if◌then◌else◌, List, [], ◌∷◌, Option}
 use Rattle.tb_geom.specs.declared.point.Point.{Point}
 use Rattle.tb_geom.specs.Points.{PixelSet}
 use Rattle.tb_geom.specs.Pixels.{Pixels, holds}
-use Rattle.bit_map.specs.Bits.{Bits}
+use Rattle.bit_map.specs.Bits.{Bits, on_map, bit}
 use Rattle.bit_map.specs.Patterns.{pattern_bit}
 use Rattle.bit_blit.specs.Draws.{Draws}
 use Rattle.def_iface.specs.Meaning.{Definition}
@@ -13,6 +13,7 @@ use Rattle.vis_update.specs.Records.{WindowRecord}
 use Rattle.desk_ground.specs.Screens.{gray}
 use Rattle.window_paint.specs.Frames.{painted_bit}
 use Rattle.window_paint.specs.Moves.{everywhere, moved_bit}
+use Rattle.window_paint.specs.Writes.{IsWrittenBy, arrives, one}
 
 -- what the part of a window makes of a bit
 abbrev pub painted_part : List ℕ → Definition → Point → Part → Point → Bool → Bool
@@ -33,8 +34,25 @@ uncovered_bit uncovered others p = if holds uncovered p then pattern_bit gray p 
 abbrev pub ArePainted : List ℕ → List WindowRecord → List Part → Bits → Bits → Type 0
 ArePainted font ws parts = Draws everywhere (painted_parts font ws parts)
 
--- a plan was drawn: pixels moved, the desktop that is new became gray, and the windows' parts were painted
-abbrev pub IsPlanDrawn : Plan → Option Point → List ℕ → List WindowRecord → Bits → Bits → Type 0
-IsPlanDrawn plan by font ws old = Draws everywhere
-    (λ p value. painted_parts font ws plan.parts.items p (uncovered_bit plan.uncovered (moved_bit plan.copied by old) p))
-    old
+-- how often the content that is new of windows' parts is made white at a pixel, all in all
+abbrev pub erased : List Part → Point → ℕ
+erased [] p = 0
+erased (part ∷ parts) p = one (holds part.erase p) + erased parts p
+
+-- the pixels of the parts of frames that are drawn
+abbrev pub redrawn : List Part → PixelSet
+redrawn [] p = false
+redrawn (part ∷ parts) p = holds part.redraw p || redrawn parts p
+
+-- how often a plan writes a pixel where it draws no frame
+abbrev pub planned_times : Plan → Option Point → Point → ℕ
+planned_times plan by p = arrives plan.copied by p + (one (holds plan.uncovered p) + erased plan.parts.items p)
+
+-- a plan was drawn: pixels moved, the desktop that is new became gray, and the windows' parts were painted; each pixel was
+-- written as often as the plan says, but for those of frames
+pub record IsPlanDrawn (plan : Plan) (by : Option Point) (font : List ℕ) (ws : List WindowRecord) (old new : Bits) : Type 0 where
+  pub pixels : (p : Point) → on_map old p ≡ true
+      → bit new p ≡ painted_parts font ws plan.parts.items p (uncovered_bit plan.uncovered (moved_bit plan.copied by old) p)
+  pub width : new.width ≡ old.width
+  pub height : new.height ≡ old.height
+  pub written : IsWrittenBy (planned_times plan by) (redrawn plan.parts.items) old new

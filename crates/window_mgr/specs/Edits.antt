@@ -27,7 +27,7 @@ use Rattle.desk_call.specs.declared.window.WindowReply.TheVariants.{Done}
 use Rattle.window_mgr.specs.declared.manager.WindowManager.{WindowManager}
 use Rattle.window_mgr.specs.FullDesk.{FullDesk, layered_desk, layered_state}
 use Rattle.window_mgr.specs.Records.{desk_of, state_of}
-use Rattle.window_mgr.specs.Arrange.{Arrangement, activation_of, active_after, also_of, put_behind}
+use Rattle.window_mgr.specs.Arrange.{Arrangement, activation_of, active_after, put_behind}
 use Rattle.tb_geom.specs.Refusals.{first_refusal}
 use Rattle.window_mgr.specs.Refused.{behind_refusals, may_stand}
 use Rattle.desk_call.specs.declared.window.SendBehind.{SendBehind}
@@ -109,12 +109,11 @@ module _ {V : Type 0} {H : V → Type 0} (loan : Taken V H → Loan) where
     pub stands : map stand_of after.windows ≡ map stand_of (records_put e w t)
     pub layers : map (λ v. v.layers) after.windows ≡ map (λ v. v.layers) (records_put e w t)
 
-  -- the plan is right for each such desk, where pixels move so far; the frame of a window whose highlighting may change
-  -- by this activation is drawn whole
-  abbrev pub IsPlanOfEdit : Edit → Activation → Option Point → WindowManager V H → Plan → Type 0
-  IsPlanOfEdit e activation by t plan = (w : Window V H) → IsWindowAt t.windows.records.items e.at w
+  -- the plan is right for each such desk, where pixels move so far
+  abbrev pub IsPlanOfEdit : Edit → Option Point → WindowManager V H → Plan → Type 0
+  IsPlanOfEdit e by t plan = (w : Window V H) → IsWindowAt t.windows.records.items e.at w
       → (after : FullDesk) → IsDeskOfEdit e t w after
-      → let touch : Touch = record { window = w.serial; also = also_of activation w.serial t.windows.active; by = by } in
+      → let touch : Touch = record { window = w.serial; by = by } in
       IsPlan touch (layered_state (state_of loan t [])) (layered_desk after) t.desktop after.windows plan
 
   -- nothing refuses that the window at this place goes behind another or behind all, and that is this place of the others

@@ -26,3 +26,4 @@ pub mod Without
 pub mod Begin
 pub mod Closing
 pub mod Relayered
+pub mod Sparing

@@ -24,7 +24,6 @@ use Rattle.desk_call.specs.declared.window.NewWindow.{NewWindow}
 use Rattle.window_mgr.specs.declared.manager.WindowManager.{WindowManager}
 use Rattle.window_mgr.specs.declared.new_window.Addition.{Addition}
 use Rattle.window_mgr.specs.declared.new_window.Ticket.{Ticket}
-use Rattle.window_mgr.specs.Arrange.{also_of, if_active}
 use Rattle.window_mgr.specs.FullDesk.{layered_desk, layered_state}
 use Rattle.window_mgr.specs.Records.{desk_of, state_of}
 use Rattle.tb_geom.specs.Refusals.{first_refusal}
@@ -41,11 +40,10 @@ IsUnplanned w placed count next e =
     (first_refusal (judged_refusals w placed count next) ≡ Some e)
     ⊎ ((first_refusal (judged_refusals w placed count next) ≡ None) × (e ≡ NoMemory))
 
--- what a new window does with the windows: it is drawn whole, and becomes active where it is visible
-abbrev pub new_touch : NewWindow → ℕ → Option ℕ → Touch
-new_touch w serial active = record {
+-- what a new window does with the windows: it is drawn whole
+abbrev pub new_touch : ℕ → Touch
+new_touch serial = record {
   window = serial;
-  also = also_of (if_active w.shown (Some serial)) serial active;
   by = None;
 }
 
@@ -121,7 +119,7 @@ module _ {V : Type 0} {H : V → Type 0} (loan : Taken V H → Loan) where
   -- nothing refuses the window with this definition any more, whose content then lies in the box of its structure
   pub record IsPlanned (w : NewWindow) (d : Definition) (t : WindowManager V H) (addition : Addition) : Type 0 where
     pub ticket : IsTicket w t addition.ticket
-    pub touch : addition.touch ≡ new_touch w addition.ticket.serial t.windows.active
+    pub touch : addition.touch ≡ new_touch addition.ticket.serial
     pub plan : IsPlanWith w addition.ticket.serial d addition.touch t addition.plan
     pub some : vec_len addition.plan.parts ≡ length t.windows.records.items + 1
     pub room : length t.windows.records.items < t.windows.records.capacity

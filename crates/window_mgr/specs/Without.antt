@@ -17,7 +17,7 @@ use Rattle.window_mgr.specs.declared.arrange.Activation.{Activation}
 use Rattle.window_mgr.specs.declared.manager.WindowManager.{WindowManager}
 use Rattle.window_mgr.specs.FullDesk.{FullDesk, layered_desk, layered_state}
 use Rattle.window_mgr.specs.Records.{desk_of, state_of}
-use Rattle.window_mgr.specs.Arrange.{activation_of, active_after, also_of}
+use Rattle.window_mgr.specs.Arrange.{activation_of, active_after}
 use Rattle.window_mgr.specs.Edits.{IsWindowAt, relit_all}
 use Rattle.window_mgr.specs.Finding.{front_of}
 use Rattle.window_mgr.specs.Commits.{IsPlanDrawn}
@@ -43,11 +43,10 @@ module _ {V : Type 0} {H : V → Type 0} (loan : Taken V H → Loan) where
     pub stands : map stand_of after.windows ≡ map stand_of (records_without at t)
     pub layers : map (λ v. v.layers) after.windows ≡ map (λ v. v.layers) (records_without at t)
 
-  -- the plan is right for each such desk, where this window is the one that is gone; the frame of one whose highlighting
-  -- may change by this activation is drawn whole
-  abbrev pub IsPlanWithout : ℕ → ℕ → Activation → WindowManager V H → Plan → Type 0
-  IsPlanWithout at s activation t plan = (after : FullDesk) → IsDeskWithout at t after
-      → let touch : Touch = record { window = s; also = also_of activation s t.windows.active; by = None } in
+  -- the plan is right for each such desk, where this window is the one that is gone
+  abbrev pub IsPlanWithout : ℕ → ℕ → WindowManager V H → Plan → Type 0
+  IsPlanWithout at s t plan = (after : FullDesk) → IsDeskWithout at t after
+      → let touch : Touch = record { window = s; by = None } in
       IsPlan touch (layered_state (state_of loan t [])) (layered_desk after) t.desktop after.windows plan
 
   -- where the window was active, the first visible one of the others becomes so

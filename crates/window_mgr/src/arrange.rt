@@ -2,11 +2,12 @@
 ghost use Rattle.std.specs.Prelude.{◌≡◌, ◌<◌, Some, None, All, MatchOption, IfOk, length, map, vec_len, vec_capacity};
 ghost use Rattle.vis_update.specs.Records.{record_of};
 ghost use Rattle.window_mgr.specs.AnySlots.{IsRearrangedOverAnySlots};
-ghost use Rattle.window_mgr.specs.Arrange.{activation_of, active_after, also_of, if_active};
-ghost use Rattle.window_mgr.specs.Edits.{relit_all, IsPutAnew, StandsAt, IsPlaceable, SameSize, IsOnItsWay, AreSeatsAfter, AreSettledAfter, IsActivation, IsPlanOfEdit, IsCommitted, stays_put};
+ghost use Rattle.window_mgr.specs.Arrange.{activation_of, active_after, if_active};
+ghost use Rattle.window_mgr.specs.Edits.{IsWindowAt, relit_all, IsPutAnew, StandsAt, IsPlaceable, SameSize, IsOnItsWay, AreSeatsAfter, AreSettledAfter, IsActivation, IsPlanOfEdit, IsCommitted, stays_put};
 ghost use Rattle.window_mgr.specs.Finding.{record_with};
 ghost use Rattle.window_mgr.specs.Kept.{IsKept};
 ghost use Rattle.window_mgr.specs.Seats.{AreSeatsOf, first_seated};
+ghost use Rattle.window_mgr.specs.Sparing.{Spares};
 
 use crate::{WindowManager, WindowReply};
 use def_iface::{Defined, Size, Taken};
@@ -80,24 +81,6 @@ impl Activates {
     }
 }
 
-impl Activation {
-    /// Another window than this whose highlighting may change, where the active one is given.
-    pub(crate) fn also(self, window: u64, active: Option<u64>) -> Option<u64>
-        ensures { result ≡ also_of self window active }
-    {
-        match self {
-            Activation::Stays => None,
-            Activation::Becomes(becomes) => {
-                if active == Some(window) {
-                    becomes
-                } else {
-                    active
-                }
-            }
-        }
-    }
-}
-
 /// This window becomes active where that is so.
 pub(crate) fn if_active(becomes: bool, window: Option<u64>) -> Activation
     ensures { result ≡ if_active becomes window }
@@ -137,6 +120,7 @@ impl WindowManager {
 
     /// Puts one window anew, its size as it was; its pixels come from so far away, if they move. NoMemory is the only
     /// refusal.
+    #[tactic(auto, using(crate::proofs::Sparing::spares_same))]
     pub(crate) fn rearrange(
         &mut self,
         edit: Edit,
@@ -149,7 +133,9 @@ impl WindowManager {
         requires placed { IsPlaceable ⟦<Taken as Defined>⟧.loan edit self.old.windows.records.items }
         requires size { SameSize edit self.old.windows.records.items }
         requires way { IsOnItsWay edit.at edit.place by self.old.windows.records.items }
-        ensures { IsRearrangedOverAnySlots ⟦<Taken as Defined>⟧.loan edit activates by result self.old self.new }
+        ensures step { IsRearrangedOverAnySlots ⟦<Taken as Defined>⟧.loan edit activates by result self.old self.new }
+        ensures sparing { (w : _) → IsWindowAt self.old.windows.records.items edit.at w
+            → Spares ⟦<Taken as Defined>⟧.loan w.serial by self.old self.new }
     {
         let Ok(Rearrangement { plan, activation }) = self.plan_edit(edit, activates, by) else {
             return Err(Refusal::NoMemory);
@@ -170,7 +156,7 @@ impl WindowManager {
         requires to { edit.to < length self.now.windows.records.items }
         requires placed { IsPlaceable ⟦<Taken as Defined>⟧.loan edit self.now.windows.records.items }
         requires way { IsOnItsWay edit.at edit.place by self.now.windows.records.items }
-        ensures plan { IfOk result (λ r. IsPlanOfEdit ⟦<Taken as Defined>⟧.loan edit r.activation by self.now r.plan) }
+        ensures plan { IfOk result (λ r. IsPlanOfEdit ⟦<Taken as Defined>⟧.loan edit by self.now r.plan) }
         ensures activation { IfOk result (λ r. IsActivation ⟦<Taken as Defined>⟧.loan edit activates self.now r.activation) }
         ensures length { IfOk result (λ r. vec_len r.plan.parts ≡ length self.now.windows.records.items) }
     {
@@ -178,11 +164,7 @@ impl WindowManager {
         let window = self.windows.at(edit.at).serial;
         let active = self.windows.active();
         let activation = activates.activation(window, active, front_of(&seats));
-        let touch = Touch {
-            window,
-            also: activation.also(window, active),
-            by,
-        };
+        let touch = Touch { window, by };
         let plan = plan_of(self.alloc, &self.gray, &self.desktop, &seats, touch)?;
         Ok(Rearrangement { plan, activation })
     }

@@ -1,5 +1,5 @@
 //! The calls that arrange windows: each says how one window is put anew, and what becomes active.
-ghost use Rattle.std.specs.Prelude.{◌≡◌, [], Some, MatchResult, if◌then◌else◌};
+ghost use Rattle.std.specs.Prelude.{◌≡◌, [], None, Some, MatchResult, if◌then◌else◌};
 ghost use Rattle.desk_call.specs.declared.window.WindowCall.TheVariants as asks;
 ghost use Rattle.window_mgr.specs.declared.arrange.Activates.TheVariants.{Nothing, ItselfIfFront, FrontInItsPlace};
 ghost use Rattle.window_mgr.specs.AnySlots.{IsStepOverAnySlots};
@@ -8,6 +8,7 @@ ghost use Rattle.window_mgr.specs.Kept.{IsKept};
 ghost use Rattle.window_mgr.specs.Records.{desk_of};
 ghost use Rattle.tb_geom.specs.Refusals.{first_refusal};
 ghost use Rattle.window_mgr.specs.Refused.{behind_refusals};
+ghost use Rattle.window_mgr.specs.Sparing.{Spares};
 
 use crate::arrange::{Activates, Edit};
 use crate::standing::may_stand;
@@ -18,14 +19,16 @@ use tb_geom::Refusal;
 
 impl WindowManager {
     /// Brings a window to the front; a visible one becomes active where it is selected.
+    #[tactic(auto, using(crate::proofs::Sparing::spares_same))]
     pub(crate) fn bring_to_front(
         &mut self,
         window: u64,
         select: bool,
     ) -> Result<WindowReply, Refusal>
         requires { IsKept ⟦<Taken as Defined>⟧.loan self.old }
-        ensures { IsStepOverAnySlots ⟦<Taken as Defined>⟧.loan
+        ensures step { IsStepOverAnySlots ⟦<Taken as Defined>⟧.loan
             (if select then asks.Select window else asks.BringToFront window) result self.old self.new }
+        ensures sparing { Spares ⟦<Taken as Defined>⟧.loan window None self.old self.new }
     {
         let Some(at) = self.find(window) else {
             return Err(Refusal::NoSuchWindow);
@@ -38,9 +41,11 @@ impl WindowManager {
     }
 
     /// Puts a window behind another or behind all.
+    #[tactic(auto, using(crate::proofs::Sparing::spares_same))]
     pub(crate) fn send_behind(&mut self, sent: SendBehind) -> Result<WindowReply, Refusal>
         requires { IsKept ⟦<Taken as Defined>⟧.loan self.old }
-        ensures { IsStepOverAnySlots ⟦<Taken as Defined>⟧.loan (asks.SendBehind sent) result self.old self.new }
+        ensures step { IsStepOverAnySlots ⟦<Taken as Defined>⟧.loan (asks.SendBehind sent) result self.old self.new }
+        ensures sparing { Spares ⟦<Taken as Defined>⟧.loan sent.window None self.old self.new }
     {
         let Some(at) = self.find(sent.window) else {
             return Err(Refusal::NoSuchWindow);
@@ -75,9 +80,11 @@ impl WindowManager {
     }
 
     /// Moves a window, and selects it where that is asked.
+    #[tactic(auto, using(crate::proofs::Sparing::spares_same))]
     pub(crate) fn move_window(&mut self, moved: MoveWindow) -> Result<WindowReply, Refusal>
         requires { IsKept ⟦<Taken as Defined>⟧.loan self.old }
-        ensures { IsStepOverAnySlots ⟦<Taken as Defined>⟧.loan (asks.Move moved) result self.old self.new }
+        ensures step { IsStepOverAnySlots ⟦<Taken as Defined>⟧.loan (asks.Move moved) result self.old self.new }
+        ensures sparing { Spares ⟦<Taken as Defined>⟧.loan moved.window (Some moved.place) self.old self.new }
     {
         let Some(at) = self.find(moved.window) else {
             return Err(Refusal::NoSuchWindow);
@@ -97,15 +104,17 @@ impl WindowManager {
 
     /// Makes a window visible or hidden. One that becomes visible becomes active where it is the first visible one
     /// then, and in the place of an active one that becomes hidden the first visible one, or none, where that is asked.
+    #[tactic(auto, using(crate::proofs::Sparing::spares_same))]
     pub(crate) fn show_hide(
         &mut self,
         change: ShowHide,
         activates: bool,
     ) -> Result<WindowReply, Refusal>
         requires { IsKept ⟦<Taken as Defined>⟧.loan self.old }
-        ensures { IsStepOverAnySlots ⟦<Taken as Defined>⟧.loan
+        ensures step { IsStepOverAnySlots ⟦<Taken as Defined>⟧.loan
             (if activates then (if change.shown then asks.Show change.window else asks.Hide change.window)
             else asks.ShowHide change) result self.old self.new }
+        ensures sparing { Spares ⟦<Taken as Defined>⟧.loan change.window None self.old self.new }
     {
         let Some(at) = self.find(change.window) else {
             return Err(Refusal::NoSuchWindow);

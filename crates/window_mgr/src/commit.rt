@@ -1,8 +1,9 @@
 //! What a plan says, drawn on the screen.
 ghost use Rattle.std.specs.Prelude.{◌≡◌, map, All, length};
 ghost use Rattle.vis_update.specs.Records.{record_of};
-ghost use Rattle.window_mgr.specs.Commits.{ArePainted, IsPlanDrawn};
+ghost use Rattle.window_mgr.specs.Commits.{ArePainted, IsPlanDrawn, erased, redrawn};
 ghost use Rattle.window_mgr.specs.Whole.{IsSettled};
+ghost use Rattle.window_paint.specs.Writes.{IsWrittenBy};
 
 use crate::WindowManager;
 use bit_blit::fill;
@@ -48,8 +49,9 @@ impl WindowManager {
 fn paint_parts(screen: &mut BitMap, windows: &WindowList, parts: &[Part], font: &Font)
     requires settled { All IsSettled (map (record_of ⟦<Taken as Defined>⟧.loan) windows.now.records.items) }
     requires parts { length parts.now ≡ length windows.now.records.items }
-    ensures { ArePainted font.now (map (record_of ⟦<Taken as Defined>⟧.loan) windows.now.records.items) parts.now
+    ensures painted { ArePainted font.now (map (record_of ⟦<Taken as Defined>⟧.loan) windows.now.records.items) parts.now
         screen.old screen.new }
+    ensures written { IsWrittenBy (erased parts.now) (redrawn parts.now) screen.old screen.new }
 {
     for at in 0..windows.len() {
         let part = &parts[at];

@@ -1,5 +1,5 @@
 //! The call that ends a window.
-ghost use Rattle.std.specs.Prelude.{◌≡◌, ◌+◌, ◌<◌, All, IfOk, length, map, vec_len};
+ghost use Rattle.std.specs.Prelude.{◌≡◌, ◌+◌, ◌<◌, None, All, IfOk, length, map, vec_len};
 ghost use Rattle.std.specs.List.{remove};
 ghost use Rattle.desk_call.specs.declared.window.WindowCall.TheVariants.{Dispose};
 ghost use Rattle.vis_update.specs.Records.{record_of};
@@ -9,6 +9,7 @@ ghost use Rattle.window_mgr.specs.Records.{state_of};
 ghost use Rattle.window_mgr.specs.Step.{IsWindowStep};
 ghost use Rattle.window_mgr.specs.Whole.{IsWholeManager, IsSettled};
 ghost use Rattle.window_mgr.specs.Without.{AreSeatsWithout, IsPlanWithout, IsActivationWithout, IsTakenOff};
+ghost use Rattle.window_mgr.specs.Sparing.{Spares};
 
 use crate::arrange::{Activates, Activation, Rearrangement, front_of};
 use crate::close::put_away;
@@ -22,6 +23,7 @@ use window_list::Window;
 impl WindowManager {
     /// Ends a window: its definition is disposed of, and put back Closed into its slot. Where it was
     /// active, the first visible window becomes so, or none.
+    #[tactic(auto, using(crate::proofs::Sparing::spares_same))]
     pub(crate) fn dispose_window(
         &mut self,
         window: u64,
@@ -32,6 +34,7 @@ impl WindowManager {
         ensures step { IsWindowStep (Dispose window) result
             (state_of ⟦<Taken as Defined>⟧.loan self.old (⟦<WindowStock as Stocked>⟧.slots stock.old))
             (state_of ⟦<Taken as Defined>⟧.loan self.new (⟦<WindowStock as Stocked>⟧.slots stock.new)) }
+        ensures sparing { Spares ⟦<Taken as Defined>⟧.loan window None self.old self.new }
     {
         let Some(at) = self.find(window) else {
             return Err(Refusal::NoSuchWindow);
@@ -48,7 +51,7 @@ impl WindowManager {
     fn plan_without(&self, window: u64, at: usize) -> Result<Rearrangement, AllocError>
         requires kept { IsKept ⟦<Taken as Defined>⟧.loan self.now }
         requires at { at < length self.now.windows.records.items }
-        ensures plan { IfOk result (λ r. IsPlanWithout ⟦<Taken as Defined>⟧.loan at window r.activation self.now r.plan) }
+        ensures plan { IfOk result (λ r. IsPlanWithout ⟦<Taken as Defined>⟧.loan at window self.now r.plan) }
         ensures activation { IfOk result (λ r.
             IsActivationWithout ⟦<Taken as Defined>⟧.loan at window self.now r.activation) }
         ensures length { IfOk result (λ r. vec_len r.plan.parts + 1 ≡ length self.now.windows.records.items) }
@@ -56,11 +59,7 @@ impl WindowManager {
         let seats = self.seats_without(at)?;
         let active = self.windows.active();
         let activation = Activates::FrontInItsPlace.activation(window, active, front_of(&seats));
-        let touch = Touch {
-            window,
-            also: activation.also(window, active),
-            by: None,
-        };
+        let touch = Touch { window, by: None };
         let plan = plan_of(self.alloc, &self.gray, &self.desktop, &seats, touch)?;
         Ok(Rearrangement { plan, activation })
     }

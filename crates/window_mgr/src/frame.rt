@@ -1,10 +1,11 @@
 //! What a window's definition is told of its window, and the window's frame, drawn anew where it shows.
-ghost use Rattle.std.specs.Prelude.{◌≡◌, ◌<◌, length, true};
+ghost use Rattle.std.specs.Prelude.{◌≡◌, ◌<◌, ◌==◌, length, true};
 ghost use Rattle.def_iface.specs.News.{told_change};
 ghost use Rattle.window_list.specs.Changes.{keeps_size, has_short_title};
 ghost use Rattle.window_mgr.specs.Edits.{IsWindowAt};
 ghost use Rattle.window_mgr.specs.FrameNotices.{IsFrameNotified, notified_record};
 ghost use Rattle.window_mgr.specs.Kept.{IsKept};
+ghost use Rattle.window_mgr.specs.Sparing.{Repaints};
 ghost use Rattle.window_mgr.specs.Updating.{LeavesState};
 
 use crate::WindowManager;
@@ -20,8 +21,10 @@ impl WindowManager {
         requires at { at < length self.old.windows.records.items }
         requires size { keeps_size change ≡ true }
         requires title { has_short_title change ≡ true }
-        ensures { (w : _) → IsWindowAt self.old.windows.records.items at w
+        ensures told { (w : _) → IsWindowAt self.old.windows.records.items at w
             → LeavesState ⟦<Taken as Defined>⟧.loan (IsFrameNotified w.serial (λ _. told_change change.entry) (notified_record change.entry)) self.old self.new }
+        ensures repainted { (w : _) → IsWindowAt self.old.windows.records.items at w
+            → Repaints ⟦<Taken as Defined>⟧.loan (λ n. n == w.serial) self.old self.new }
     {
         let damage = self.windows.notify(at, change);
         paint_frame(

@@ -5,7 +5,6 @@ ghost use Rattle.def_iface.specs.Meaning.{is_fitting};
 ghost use Rattle.desk_call.specs.declared.window.WindowCall.TheVariants.{New};
 ghost use Rattle.vis_update.specs.Records.{record_of};
 ghost use Rattle.vis_update.specs.Places.{is_placed};
-ghost use Rattle.window_mgr.specs.Arrange.{also_of, if_active};
 ghost use Rattle.window_mgr.specs.Records.{desk_of, state_of};
 ghost use Rattle.tb_geom.specs.Refusals.{first_refusal};
 ghost use Rattle.window_mgr.specs.Refused.{judged_refusals};
@@ -16,7 +15,6 @@ ghost use Rattle.window_mgr.specs.Effects.{new_record};
 ghost use Rattle.window_mgr.specs.Step.{IsWindowStep};
 ghost use Rattle.window_mgr.specs.Whole.{IsWholeManager, IsSettled, LieThere};
 
-use crate::arrange::if_active;
 use crate::{NewWindow, WindowManager, WindowReply};
 use def_iface::{Defined, Stage, Stocked, Taken, WindowStock};
 use draw_port::Picture;
@@ -87,7 +85,7 @@ impl WindowManager {
             (length self.old.windows.records.items) self.old.windows.next) }
     {
         let ticket = self.judge(window, is_placed_with(window.place, window.size, taken))?;
-        let touch = new_touch(window.shown, ticket.serial, self.windows.active());
+        let touch = new_touch(ticket.serial);
         let plan = self.plan_with(window, taken, touch)?;
         self.windows.reserve()?;
         Ok(Addition {
@@ -204,16 +202,14 @@ impl WindowManager {
 }
 
 /// What a new window does with the windows.
-fn new_touch(shown: bool, serial: u64, active: Option<u64>) -> Touch
+fn new_touch(serial: u64) -> Touch
     ensures { result ≡ record {
       window = serial;
-      also = also_of (if_active shown (Some serial)) serial active;
       by = None;
     } }
 {
     Touch {
         window: serial,
-        also: if_active(shown, Some(serial)).also(serial, active),
         by: None,
     }
 }

@@ -6,6 +6,7 @@ ghost use Rattle.window_mgr.specs.Kept.{IsKept};
 ghost use Rattle.window_mgr.specs.Records.{state_of};
 ghost use Rattle.window_mgr.specs.Step.{IsWindowStep};
 ghost use Rattle.window_mgr.specs.Whole.{IsWholeManager};
+ghost use Rattle.window_mgr.specs.Sparing.{IsSparingCall};
 
 use crate::tell::AskedRegion;
 use crate::{Drawing, ShowHide, WindowCall, WindowInfo, WindowManager, WindowReply};
@@ -27,6 +28,7 @@ impl WindowManager {
         ensures step { IsWindowStep call.now result
             (state_of ⟦<Taken as Defined>⟧.loan self.old (⟦<WindowStock as Stocked>⟧.slots stock.old))
             (state_of ⟦<Taken as Defined>⟧.loan self.new (⟦<WindowStock as Stocked>⟧.slots stock.new)) }
+        ensures sparing { IsSparingCall ⟦<Taken as Defined>⟧.loan call.now self.old self.new }
     {
         match call {
             WindowCall::New(window) => self.new_window(window, stock),

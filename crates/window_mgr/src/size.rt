@@ -1,12 +1,13 @@
 //! One window put elsewhere or given another size, and the call that does the second.
-ghost use Rattle.std.specs.Prelude.{◌≡◌, ◌<◌, length, map, All, vec_len};
+ghost use Rattle.std.specs.Prelude.{◌≡◌, ◌<◌, None, length, map, All, vec_len};
 ghost use Rattle.desk_call.specs.declared.window.WindowCall.TheVariants as asks;
 ghost use Rattle.vis_update.specs.Records.{record_of};
 ghost use Rattle.window_mgr.specs.AnySlots.{IsStepOverAnySlots};
-ghost use Rattle.window_mgr.specs.Edits.{IsOnItsWay};
+ghost use Rattle.window_mgr.specs.Edits.{IsOnItsWay, IsWindowAt};
 ghost use Rattle.window_mgr.specs.Kept.{IsKept};
 ghost use Rattle.window_mgr.specs.Laying.{IsPlaceableAt, IsPlacementCommitted, IsLaidOverAnySlots};
 ghost use Rattle.window_mgr.specs.Whole.{IsSettled};
+ghost use Rattle.window_mgr.specs.Sparing.{Spares};
 
 use crate::arrange::{Activates, Edit, Rearrangement};
 use crate::standing::may_stand;
@@ -18,9 +19,11 @@ use window_list::Placement;
 
 impl WindowManager {
     /// Gives a window another size, and tells its definition.
+    #[tactic(auto, using(crate::proofs::Sparing::spares_same))]
     pub(crate) fn size_window(&mut self, sized: SizeWindow) -> Result<WindowReply, Refusal>
         requires { IsKept ⟦<Taken as Defined>⟧.loan self.old }
-        ensures { IsStepOverAnySlots ⟦<Taken as Defined>⟧.loan (asks.Size sized) result self.old self.new }
+        ensures step { IsStepOverAnySlots ⟦<Taken as Defined>⟧.loan (asks.Size sized) result self.old self.new }
+        ensures sparing { Spares ⟦<Taken as Defined>⟧.loan sized.window None self.old self.new }
     {
         let Some(at) = self.find(sized.window) else {
             return Err(Refusal::NoSuchWindow);
@@ -39,6 +42,7 @@ impl WindowManager {
 
     /// Gives the window at this index another place and size, its pixels coming from so far away, if they
     /// move. NoMemory is the only refusal.
+    #[tactic(auto, using(crate::proofs::Sparing::spares_same))]
     pub(crate) fn place_window(
         &mut self,
         at: usize,
@@ -49,7 +53,9 @@ impl WindowManager {
         requires at { at < length self.old.windows.records.items }
         requires placeable { IsPlaceableAt ⟦<Taken as Defined>⟧.loan at placement self.old.windows.records.items }
         requires way { IsOnItsWay at placement.place by self.old.windows.records.items }
-        ensures { IsLaidOverAnySlots ⟦<Taken as Defined>⟧.loan at placement by result self.old self.new }
+        ensures step { IsLaidOverAnySlots ⟦<Taken as Defined>⟧.loan at placement by result self.old self.new }
+        ensures sparing { (w : _) → IsWindowAt self.old.windows.records.items at w
+            → Spares ⟦<Taken as Defined>⟧.loan w.serial by self.old self.new }
     {
         let mut edit = Edit::of(at, self.windows.at(at));
         edit.place = placement.place;

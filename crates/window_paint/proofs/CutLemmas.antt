@@ -7,7 +7,8 @@ use Rattle.tb_geom.specs.Points.{PixelSet}
 use Rattle.tb_geom.specs.Rects.{rect_holds}
 use Rattle.tb_geom.specs.Pixels.{Pixels, holds}
 use Rattle.bit_map.specs.Bits.{Bits}
-use Rattle.bit_blit.specs.Draws.{Draws}
+use Rattle.bit_blit.specs.Draws.{Draws, IsWritten}
+use Rattle.bit_blit.proofs.WrittenLemmas.{written_in}
 use Rattle.bit_blit.proofs.DrawsLemmas.{Draws-same, Draws-where, Draws-value}
 use Rattle.scan_region.specs.Cuts.{cut_inside, cut_meeting, cut_holds}
 use Rattle.scan_region.specs.declared.cut.Cut.{Cut}
@@ -95,3 +96,16 @@ pub all_drawn : (region : Pixels) (clip : Rect) (f : Point → Bool → Bool) (o
     → Draws (holds region) f old new
 all_drawn region clip f old new within drawn =
     Draws-where _ (holds region) f old new (λ p on. clipped (holds region p) (rect_holds clip p) (within p)) drawn
+
+-- what was written within a cut that leaves a region was written of the region
+pub inside_written : (cut : Cut) (r : Bor Pixels) (clip : Rect) (old new end : Bits)
+    → cut ≡ cut_inside r
+    → end ≡ new
+    → IsWritten (λ p. rect_holds clip p && cut_holds cut p) old new
+    → IsWritten (holds r.now) old end
+inside_written cut r clip old new end is_cut is_end written = rw is_end (written_in (λ p. rect_holds clip p && cut_holds cut p) (holds r.now) old new
+    (λ p on out. ap (λ b. rect_holds clip p && b) (ap (λ k. cut_holds k p) is_cut ∙ cut_holds-one r p ∙ out) ∙ none (rect_holds clip p)) written)
+  where
+    none : (b : Bool) → (b && false) ≡ false
+    none true = refl
+    none false = refl

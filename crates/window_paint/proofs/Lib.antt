@@ -6,3 +6,4 @@ pub mod ContentLemmas
 pub mod KindLayers
 pub mod FrameLemmas
 pub mod MoveLemmas
+pub mod WritesLemmas

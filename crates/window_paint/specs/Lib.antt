@@ -6,3 +6,4 @@ pub mod Shown
 pub mod White
 pub mod Moves
 pub mod Frames
+pub mod Writes

@@ -4,10 +4,11 @@ ghost use Rattle.tb_geom.specs.declared.point.Point.{Point};
 ghost use Rattle.tb_geom.specs.Points.{minus};
 ghost use Rattle.tb_geom.specs.Pixels.{holds};
 ghost use Rattle.tb_geom.specs.Rects.{in_plane, is_in_range, moved_rect, rect_holds};
-ghost use Rattle.bit_blit.specs.Draws.{Draws};
+ghost use Rattle.bit_blit.specs.Draws.{Draws, IsWritten};
 ghost use Rattle.def_iface.specs.Meaning.{is_fitting};
 ghost use Rattle.def_iface.specs.News.{no_news};
 ghost use Rattle.window_paint.specs.Frames.{IsPlaced, IsPainted};
+ghost use Rattle.window_paint.specs.Writes.{IsWrittenBy, one};
 
 use bit_blit::{cut_inside, fill};
 use bit_map::{BitMap, Mode, Pattern};
@@ -27,6 +28,7 @@ pub fn paint_frame(map: &mut BitMap, region: &Region, window: &Window, within: R
     ensures drawn { Draws (λ p. holds region.now p && rect_holds within (minus p window.now.place))
         (λ p _. (⟦<Taken as Defined>⟧.loan window.now.taken).definition.picture no_news font.now (minus p window.now.place))
         map.old map.new }
+    ensures written { IsWritten (holds region.now) map.old map.new }
     ensures near { (p : Point) → holds region.now p ≡ true → in_plane (minus p window.now.place) ≡ true }
 {
     let clip = on_screen(window, within);
@@ -40,8 +42,9 @@ pub fn paint_anew(map: &mut BitMap, new: &Region, frame: &Region, window: &Windo
     requires live { (⟦<Taken as Defined>⟧.loan window.now.taken).definition.stage ≡ Stage.Live }
     requires told { is_fitting (⟦<Taken as Defined>⟧.loan window.now.taken).definition
         (⟦<Taken as Defined>⟧.loan window.now.taken).definition.size ≡ true }
-    ensures { IsPainted font.now (⟦<Taken as Defined>⟧.loan window.now.taken).definition window.now.place new.now frame.now
+    ensures painted { IsPainted font.now (⟦<Taken as Defined>⟧.loan window.now.taken).definition window.now.place new.now frame.now
         map.old map.new }
+    ensures written { IsWrittenBy (λ p. one (holds new.now p)) (holds frame.now) map.old map.new }
 {
     let origin = Point { h: 0, v: 0 };
     fill(map, new, origin, Pattern::WHITE, Mode::Copy);
@@ -55,9 +58,10 @@ fn draw_clipped(map: &mut BitMap, region: &Region, clip: Rect, window: &Window, 
     requires live { (⟦<Taken as Defined>⟧.loan window.now.taken).definition.stage ≡ Stage.Live }
     requires told { is_fitting (⟦<Taken as Defined>⟧.loan window.now.taken).definition
         (⟦<Taken as Defined>⟧.loan window.now.taken).definition.size ≡ true }
-    ensures { Draws (λ p. rect_holds clip p && holds region.now p)
+    ensures drawn { Draws (λ p. rect_holds clip p && holds region.now p)
         (λ p _. (⟦<Taken as Defined>⟧.loan window.now.taken).definition.picture no_news font.now (minus p window.now.place))
         map.old map.new }
+    ensures written { IsWritten (holds region.now) map.old map.new }
 {
     let cut = cut_inside(region);
     let mut canvas = Canvas {

@@ -1,5 +1,6 @@
 //! Pixels of windows, moved on the screen.
 ghost use Rattle.window_paint.specs.Moves.{IsMoved, IsScrollPainted};
+ghost use Rattle.window_paint.specs.Writes.{IsWrittenBy, arrives, nowhere};
 
 use bit_blit::{fill, shift};
 use bit_map::{BitMap, Mode, Pattern};
@@ -8,7 +9,8 @@ use tb_geom::Point;
 
 /// Moves the pixels that arrive in a region from so far away, if any do.
 pub fn move_content(map: &mut BitMap, arriving: &Region, by: Option<Point>)
-    ensures { IsMoved arriving.now by map.old map.new }
+    ensures moved { IsMoved arriving.now by map.old map.new }
+    ensures written { IsWrittenBy (arrives arriving.now by) nowhere map.old map.new }
 {
     match by {
         Some(by) => shift(map, arriving, by),

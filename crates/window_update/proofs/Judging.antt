@@ -62,11 +62,11 @@ module _ {V : Type 0} {H : V → Type 0} (loan : Taken V H → Loan) (shows : Li
 
     pub on_buffer : (p : Point) → on_map t.screen p ≡ true → on_map buffer p ≡ true
     unfolding on_map
-    on_buffer p e = (λ i. on_map (record { width = width i; height = height i; black = buffer.black }) p) ∙ e
+    on_buffer p e = (λ i. on_map (record { width = width i; height = height i; black = buffer.black; counts = buffer.counts }) p) ∙ e
 
     pub on_image : (p : Point) → holds a.visible p ≡ true → on_map image p ≡ true
     unfolding on_map
-    on_image p e = (λ i. on_map (record { width = (drawn.width ∙ width) i; height = (drawn.height ∙ height) i; black = image.black }) p) ∙ shows_on p e
+    on_image p e = (λ i. on_map (record { width = (drawn.width ∙ width) i; height = (drawn.height ∙ height) i; black = image.black; counts = image.counts }) p) ∙ shows_on p e
 
     -- there the map shows what painting from nothing gives
     image_is : (p : Point) → holds a.visible p ≡ true → is_content_of x.serial (owner (layered_desk desk) p) ≡ true → bit image p ≡ scratch (layered_desk desk) p

@@ -1,7 +1,8 @@
-use Rattle.std.proofs.Common.{◌&&◌, ap, ◌∙◌}
+use Rattle.std.proofs.Common.{◌&&◌, ap, refl, ◌∙◌}
 use Rattle.tb_geom.specs.declared.rect.Rect.{Rect}
 use Rattle.tb_geom.specs.Points.{plus, minus}
 use Rattle.tb_geom.specs.Rects.{rect_holds}
+use Rattle.draw_port.proofs.CanvasLemmas.{SameFrame-inner}
 use Rattle.list_view.specs.Views.{cell_corner, cell_rect}
 use Rattle.list_paint.proofs.WalkLemmas.{plus_is_near, cell_placed}
 use Rattle.list_paint.proofs.walk.draw_cell.Goals as goal
@@ -18,3 +19,7 @@ returns-clause-drawn g c =
     (λ p. c.placed_within.ensures p ∙ ap (λ (r : Rect). rect_holds canvas.clip p && rect_holds r (minus p canvas.origin)) c.cell_rect.ensures.sides)
     (c.corner_place.ensures ∙ ap (plus canvas.origin) c.cell_corner-corner.ensures.place)
     c.draw.ensures.drawn
+
+pub returns-clause-same_frame : goal.returns-clause-same_frame
+returns-clause-same_frame g c =
+    SameFrame-inner c.args.canvas.now _ c.draw.new.canvas _ c.cell_rect.result c.placed_within.ensures refl refl c.draw.ensures.same_frame refl refl refl refl refl

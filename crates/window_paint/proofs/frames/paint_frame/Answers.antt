@@ -3,4 +3,4 @@ use Rattle.window_paint.proofs.frames.paint_frame.Goals as goal
 
 pub returns-clause-drawn : goal.returns-clause-drawn
 returns-clause-drawn g c =
-    framed_within c.args.region.now c.on_screen-clip.result _ _ c.args.map.now c.draw_clipped.new.map (λ p e. c.on_screen-clip.ensures.pixels p (c.requires.inside p e)) c.draw_clipped.ensures
+    framed_within c.args.region.now c.on_screen-clip.result _ _ c.args.map.now c.draw_clipped.new.map (λ p e. c.on_screen-clip.ensures.pixels p (c.requires.inside p e)) c.draw_clipped.ensures.drawn

@@ -10,6 +10,7 @@ use Rattle.list_mgr.specs.ListDesks.{lists_show}
 use Rattle.list_mgr.specs.WholeLists as lists
 use Rattle.desk_toolbox.proofs.MenusBeside.{window_whole}
 use Rattle.desk_toolbox.proofs.UpdatesBeside.{updates_after_window}
+use Rattle.window_frame.proofs.Economical.{call_spares_same, others_if_done, others_untouched}
 use Rattle.desk_toolbox.proofs.toolbox.Toolbox.answer_window.Goals as goal
 
 pub returns-in-None-clause-updates : goal.returns-in-None-clause-updates
@@ -28,3 +29,12 @@ returns-in-None-clause-step g c =
       step_showing shows c.args.call.now c.perform.result (state_of (taken.loan-value g.dyn-1).it c.args.self.now.windows _) (state_of (taken.loan-value g.dyn-1).it c.perform.new.self _)
           c.perform.ensures.whole.sound.distinct c.perform.ensures.step,
     )
+
+pub returns-in-None-clause-others : goal.returns-in-None-clause-others
+returns-in-None-clause-others g c = others_if_done c.args.call.now c.perform.result _ _ c.perform.ensures.step
+
+pub returns-in-Some-clause-sparing : goal.returns-in-Some-clause-sparing
+returns-in-Some-clause-sparing g c = call_spares_same _ c.args.call.now c.args.self.now.windows
+
+pub returns-in-Some-clause-others : goal.returns-in-Some-clause-others
+returns-in-Some-clause-others g c = others_untouched c.args.call.now c.in-Some.answer _

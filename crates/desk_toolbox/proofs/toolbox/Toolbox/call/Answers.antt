@@ -1,6 +1,10 @@
 use Rattle.std.proofs.Common.{rules, refl}
 use Rattle.desk_toolbox.proofs.Runs.{admitted_stays_right}
+use Rattle.desk_toolbox.proofs.Untouched.{call_untouched}
 use Rattle.desk_toolbox.proofs.toolbox.Toolbox.call.Goals as goal
 
 pub returns-in-Ok-clause-right : goal.returns-in-Ok-clause-right
 returns-in-Ok-clause-right g c right = (admitted_stays_right c.args.call.now c.perform.result _ _ (search rules) (record { right = right; contents = record { controls = c.requires.controls; lists = c.requires.lists; shown = refl } }) c.perform.ensures.step).right
+
+pub returns-in-Ok-clause-economy : goal.returns-in-Ok-clause-economy
+returns-in-Ok-clause-economy g c consistent = c.perform.ensures.economy consistent.informed

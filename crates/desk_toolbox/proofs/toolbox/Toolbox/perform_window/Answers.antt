@@ -29,6 +29,8 @@ use Rattle.desk_toolbox.proofs.ContentsLeft.{made_keeps_contents}
 use Rattle.desk_toolbox.proofs.MenusBeside.{followed_whole}
 use Rattle.desk_toolbox.proofs.Stands.{left_trackable}
 use Rattle.desk_toolbox.proofs.UpdatesBeside.{updates_after_following}
+use Rattle.window_frame.proofs.Economical.{all_economical, refused_economical}
+use Rattle.window_mgr.proofs.KeptLemmas.{kept}
 use Rattle.desk_toolbox.proofs.toolbox.Toolbox.perform_window.Goals as goal
 
 pub returns-in-Ok-clause-step : goal.returns-in-Ok-clause-step
@@ -40,7 +42,7 @@ returns-in-Ok-clause-step g c =
     let list_loan = (taken_list.list_loan-value g.dyn-4).it in
     let list_slots = (list_stock.list_slots-value g.dyn-4).it in
     let shows = controls_show (lists_show (lists.records_of list_loan mid.lists)) (records_of control_loan mid.controls) in
-    let caught = (c.follow.ensures _ c.in-Ok.ensures.windows).1 in
+    let caught = (c.follow.ensures.told _ c.in-Ok.ensures.windows).1 in
     record {
       middle = _;
       answered = c.in-Ok.ensures.step;
@@ -80,7 +82,7 @@ returns-in-Ok-clause-whole g c =
     let list_loan = (taken_list.list_loan-value g.dyn-4).it in
     let list_slots = (list_stock.list_slots-value g.dyn-4).it in
     let step = returns-in-Ok-clause-step g c in
-    let told = c.follow.ensures _ c.in-Ok.ensures.windows in
+    let told = c.follow.ensures.told _ c.in-Ok.ensures.windows in
     let may : gate mid.activity (window_standing c.args.call.now) ≡ None = ap (λ a. gate a (window_standing c.args.call.now)) c.in-Ok.ensures.activity ∙ c.requires.admitted in
     let before : ToolboxState = toolbox_state loan menu_loan control_loan list_loan old ((stock.all_slots-value g.dyn-1 g.dyn-2 g.dyn-4 g.dyn-3).it c.args.stock.now) in
     let after : ToolboxState = record {
@@ -100,3 +102,11 @@ returns-in-Ok-clause-whole g c =
       trackable = left_trackable c.args.call.now before after c.requires.admitted c.in-Ok.ensures.activity step.controls c.requires.whole.trackable;
       menus = followed_whole loan menu_loan mid.windows c.follow.new.windows mid.menus _ _ _ mid.activity c.args.call.now may told.1 c.in-Ok.ensures.menus_whole;
     }
+
+pub returns-in-Ok-clause-economy : goal.returns-in-Ok-clause-economy
+returns-in-Ok-clause-economy g c informed =
+    all_economical _ c.args.call.now c.args.self.now.windows c.answer_window.new.self.windows c.follow.new.windows c.in-Ok.ensures.others c.in-Ok.ensures.sparing
+    (kept _ c.answer_window.new.self.windows _ c.in-Ok.ensures.windows) c.follow.ensures.told c.follow.ensures.repainted informed
+
+pub returns-in-Err-clause-economy : goal.returns-in-Err-clause-economy
+returns-in-Err-clause-economy g c informed = refused_economical _ c.args.call.now c.args.self.now.windows c.answer_window.new.self.windows c.in-Err.ensures.sparing

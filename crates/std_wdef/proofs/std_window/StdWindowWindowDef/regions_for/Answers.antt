@@ -1,5 +1,4 @@
-use Rattle.std.proofs.Common.{◌≡◌, sym, ◌∙◌, ap, true, ◌&&◌, Bool, refl}
-use Rattle.tb_geom.specs.declared.point.Point.{Point}
+use Rattle.std.proofs.Common.{sym, ◌∙◌, ap}
 use Rattle.tb_geom.specs.Rects.{is_in_range}
 use Rattle.def_iface.specs.Sizes.{is_size}
 use Rattle.looks.specs.Areas.{area_holds}

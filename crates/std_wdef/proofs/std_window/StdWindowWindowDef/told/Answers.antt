@@ -1,4 +1,4 @@
-use Rattle.std.proofs.Common.{◌≡◌, true, sym, ap, ◌∙◌}
+use Rattle.std.proofs.Common.{sym, ap, ◌∙◌}
 use Rattle.looks.specs.Letters.{lettering}
 use Rattle.def_iface.proofs.KeptLemmas.{kept_title}
 use Rattle.std_wdef.proofs.Hearing.{std_hears}

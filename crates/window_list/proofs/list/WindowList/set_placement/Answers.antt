@@ -23,6 +23,7 @@ returns-clause-placed g c =
         structure = c.told-damage-2.ensures.regions.structure ∙ c.told-damage.ensures.regions.structure;
         content = c.told-damage-2.ensures.regions.content ∙ c.told-damage.ensures.regions.content;
         bounds = c.told-damage-2.ensures.regions.bounds ∙ c.told-damage.ensures.regions.bounds;
+        lines = c.told-damage-2.ensures.regions.lines ∙ c.told-damage.ensures.regions.lines;
       };
       heard = heard_placed c.args.placement.size _ _ c.is_some-is_zoomed.ensures c.told-damage.ensures.heard c.told-damage-2.ensures.heard;
       slot = c.told-damage-2.ensures.slot ∙ c.told-damage.ensures.slot;

@@ -1,6 +1,7 @@
 use Rattle.std.proofs.Common.{◌<◌, length, pos, sym, refl, subst}
 use Rattle.std.specs.Prelude.{IfSome}
 use Rattle.layer_list.specs.Holders.{ArePartsApart}
+use Rattle.bit_blit.proofs.DrawsLemmas.{Draws-once}
 use Rattle.window_mgr.proofs.LayersSet.{whitened, some_afresh, none_afresh, still_there, read_there, placed_there, committed, layers_put}
 use Rattle.window_mgr.proofs.Remarked.{area_there}
 use Rattle.window_mgr.proofs.manager.WindowManager.commit_layers.Goals.{in-Some, in_default}
@@ -38,7 +39,7 @@ returns-clause-put g c =
 
 pub returns-clause-set : goal.returns-clause-set
 returns-clause-set g c w there part part_is was slots whole =
-    let white = whitened c.args.relaying.erase c.args.self.now.screen c.fill.new.map (record { h = pos 0; v = pos 0 }) c.fill.ensures in
+    let white = whitened c.args.relaying.erase c.args.self.now.screen c.fill.new.map (record { h = pos 0; v = pos 0 }) (Draws-once _ _ _ _ c.fill.ensures) in
     elim c.match-afresh.branch [
       | in-Some b ↦
           committed _ c.args.self.now slots whole c.args.at c.requires.at w there c.args.layers c.requires.may part c.args.relaying (c.requires.planned part part_is) (g.S.Showing.shows c.args.showing.now) was c.fill.new.map b.paint_layer.new.map white

@@ -22,8 +22,7 @@ returns-in_default-plan_without-clause-step g c =
 
 pub returns : goal.returns
 returns g c =
-    let done =
-    closing.dispose_done _ c.args.window c.in-Some.at _ _ c.take_off-taken.result c.args.self.now c.take_off-taken.new.self _ _ (record {
+    let call : closing.IsDisposeCall _ c.args.window c.in-Some.at _ _ c.take_off-taken.result c.args.self.now c.take_off-taken.new.self _ _ = record {
       whole = c.requires;
       low = c.in-Some.ensures.0;
       serial = c.in-Some.ensures.1;
@@ -31,5 +30,6 @@ returns g c =
       planned = c.in-Ok.ensures.plan;
       off = c.take_off-taken.ensures;
       shut = c.put_away.ensures;
-    }) in
-    record { whole = done.0; step = done.1 }
+    } in
+    let done = closing.dispose_done _ c.args.window c.in-Some.at _ _ c.take_off-taken.result c.args.self.now c.take_off-taken.new.self _ _ call in
+    record { whole = done.0; step = done.1; sparing = closing.dispose_spares _ c.args.window c.in-Some.at _ _ c.take_off-taken.result c.args.self.now c.take_off-taken.new.self _ _ call }

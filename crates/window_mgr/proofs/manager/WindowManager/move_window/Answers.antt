@@ -1,16 +1,18 @@
-use Rattle.std.proofs.Common.{◌≡◌, refl, sym, ap, rules, ◌∙◌, inl, false, true, None, if◌then◌else◌}
+use Rattle.std.proofs.Common.{◌≡◌, refl, sym, ap, rules, ◌∙◌, inl, false, true, None, if◌then◌else◌, subst, Some}
 use Rattle.desk_call.specs.declared.window.WindowCall.TheVariants.{Move}
 use Rattle.window_mgr.specs.declared.arrange.Activates.TheVariants.{Nothing}
 use Rattle.window_mgr.specs.declared.arrange.Edit.{Edit}
 use Rattle.window_mgr.proofs.PaintLemmas.{settled_in}
 use Rattle.window_mgr.proofs.SameDeskLemmas.{is_refused}
+use Rattle.window_mgr.specs.Edits.{IsWindowAt}
+use Rattle.window_mgr.specs.Sparing.{Spares}
 use Rattle.window_mgr.proofs.EditSeats as seating
 use Rattle.window_mgr.proofs.Steps as steps
 use Rattle.window_mgr.proofs.manager.WindowManager.move_window.Goals as goal
 use Rattle.window_mgr.proofs.manager.WindowManager.move_window.Goals.{then-moved, else-moved}
 
-pub returns-then-not-may_stand : goal.returns-then-not-may_stand
-returns-then-not-may_stand g c =
+pub returns-then-not-may_stand-clause-step : goal.returns-then-not-may_stand-clause-step
+returns-then-not-may_stand-clause-step g c =
     is_refused _ c.args.self.now (Move c.args.moved) _ (λ slots whole.
     inl (steps.may_move _ c.args.self.now c.args.self.now slots whole c.in-Some.at c.args.moved.window c.at-found.result.now c.in-Some.ensures.0 (search rules) (c.in-Some.ensures.1 c.at-found.result.now (search rules)) c.args.moved false refl (search rules)))
 
@@ -30,8 +32,8 @@ pub rearrange-requires-clause-way : goal.rearrange-requires-clause-way
 rearrange-requires-clause-way g c =
     seating.goes_as_far (record c.of-edit.result { place = c.args.moved.place; user_state = None; to = c.if-moved.edit }) c.in-Some.at c.local-by.result c.args.self.now.windows.records.items c.at-found.result.now (ap (λ (e : Edit). e.at) c.of-edit.ensures) c.in-Some.ensures.0 (search rules) c.local-by.ensures
 
-pub returns : goal.returns
-returns g c slots whole =
+pub returns-clause-step : goal.returns-clause-step
+returns-clause-step g c slots whole =
     steps.move_step _ c.args.self.now c.rearrange.new.self slots whole c.in-Some.at c.args.moved.window c.at-found.result.now c.in-Some.ensures.0 (search rules) (c.in-Some.ensures.1 c.at-found.result.now (search rules)) c.args.moved
     _ _ _ _ refl
     (steps.may_move _ c.args.self.now c.args.self.now slots whole c.in-Some.at c.args.moved.window c.at-found.result.now c.in-Some.ensures.0 (search rules) (c.in-Some.ensures.1 c.at-found.result.now (search rules)) c.args.moved true refl (search rules))
@@ -41,4 +43,10 @@ returns g c slots whole =
     ] in
     λ k. record { at = (ap (λ (e : Edit). e.at) c.of-edit.ensures) k; to = goes k; place = c.args.moved.place; size = (ap (λ (e : Edit). e.size) c.of-edit.ensures) k; user_state = None; shown = (ap (λ (e : Edit). e.shown) c.of-edit.ensures) k })
     (c.if_so-activates.ensures ∙ ap (λ a. if c.args.moved.select then a else Nothing) c.if_so.ensures)
-    c.local-by.ensures c.rearrange.ensures
+    c.local-by.ensures c.rearrange.ensures.step
+
+pub returns-clause-sparing : goal.returns-clause-sparing
+returns-clause-sparing g c =
+    let found = c.at-found.result.now in
+    subst (λ s. Spares _ s (Some c.args.moved.place) c.args.self.now c.rearrange.new.self) (c.in-Some.ensures.1 found (search rules))
+    (c.rearrange.ensures.sparing found (subst (λ i. IsWindowAt c.args.self.now.windows.records.items i found) (sym (ap (λ (e : Edit). e.at) c.of-edit.ensures)) (search rules)))

@@ -38,8 +38,14 @@ paint_frame-requires-clause-inside g c =
     let told = rw (read_at c.args.self.now.windows.records.items c.args.at found.0 c.requires.at found.1) at c.notify-damage.ensures.told in
     telling.drawn_within _ c.args.self.now c.requires.kept.slots c.requires.kept.whole c.args.at c.requires.at found.0 found.1 c.args.change c.requires.size c.notify-damage.result c.notify-damage.new.self told c.at.result.now c.at.ensures c.index.result.now c.index.ensures
 
-pub returns : goal.returns
-returns g c w there slots whole =
+pub returns-clause-told : goal.returns-clause-told
+returns-clause-told g c w there slots whole =
     let told = rw (read_at c.args.self.now.windows.records.items c.args.at w c.requires.at there) at c.notify-damage.ensures.told in
     telling.frame_told_by _ c.args.self.now slots whole c.args.at c.requires.at w there c.args.change c.requires.size c.notify-damage.result c.notify-damage.new.self told c.at.result.now c.at.ensures c.index.result.now c.index.ensures
     c.paint_frame.new.map c.paint_frame.ensures.drawn c.paint_frame.ensures.near c.notify-damage.ensures.others
+
+pub returns-clause-repainted : goal.returns-clause-repainted
+returns-clause-repainted g c w there =
+    let told = rw (read_at c.args.self.now.windows.records.items c.args.at w c.requires.at there) at c.notify-damage.ensures.told in
+    telling.frame_repainted_by _ c.args.self.now c.requires.kept.slots c.requires.kept.whole c.args.at c.requires.at w there c.args.change c.requires.size c.notify-damage.result c.notify-damage.new.self told c.at.result.now c.at.ensures c.index.result.now c.index.ensures
+    c.paint_frame.new.map c.paint_frame.ensures.drawn c.paint_frame.ensures.near c.notify-damage.ensures.others c.paint_frame.ensures.written

@@ -26,9 +26,9 @@ returns-clause-plan g c w w_is after deskof =
     let low : c.args.edit.at < length c.args.self.now.windows.records.items = search rules in
     let plan = rw c.deref-2.ensures.value at c.in_ok-plan.ensures.plan in
     let same = editing.same_at c.args.self.now.windows.records.items c.args.edit.at c.at.result.now w low (search rules) w_is in
-    rw (c.also.ensures, c.active-active.ensures, ap (λ z. z.serial) same) at
+    rw (ap (λ z. z.serial) same) at
     (plan _ _ _ _ (editing.arranged_edit _ c.args.self.now c.requires.kept c.args.edit c.in_ok-seats.seats.items c.in_ok-seats.ensures low w w_is after deskof)
-    (edit_keeps _ c.args.self.now c.requires.kept.whole.sound.distinct c.args.edit w w_is low c.also.result c.at.result.now.serial (ap (λ z. z.serial) same) c.args.by c.requires.way after deskof))
+    (edit_keeps _ c.args.self.now c.requires.kept.whole.sound.distinct c.args.edit w w_is low c.at.result.now.serial (ap (λ z. z.serial) same) c.args.by c.requires.way after deskof))
 
 pub returns-clause-activation : goal.returns-clause-activation
 returns-clause-activation g c w w_is =

@@ -25,9 +25,8 @@ pub returns-clause-plan : goal.returns-clause-plan
 returns-clause-plan g c after desk =
     let plan = rw c.deref-2.ensures.value at c.in_ok-plan.ensures.plan in
     let w = there_is c.args.self.now.windows.records.items c.args.at c.requires.at in
-    rw (c.also.ensures, c.active-active.ensures) at
     (plan _ _ _ _ (resting.arranged_rest _ c.args.self.now c.requires.kept c.args.at c.in_ok-seats.seats.items c.in_ok-seats.ensures c.requires.at after desk)
-    (rest_keeps _ c.args.self.now c.requires.kept.whole.sound.distinct c.args.at w.0 w.1 c.requires.at (record { window = c.args.window; also = c.also.result; by = None }) refl after desk))
+    (rest_keeps _ c.args.self.now c.requires.kept.whole.sound.distinct c.args.at w.0 w.1 c.requires.at (record { window = c.args.window; by = None }) refl after desk))
 
 pub returns-clause-activation : goal.returns-clause-activation
 returns-clause-activation g c =

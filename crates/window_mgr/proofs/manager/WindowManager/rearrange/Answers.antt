@@ -5,10 +5,22 @@ pub commit_edit-requires-clause-settled : goal.commit_edit-requires-clause-settl
 commit_edit-requires-clause-settled g c =
     editing.all_settled _ c.args.self.now _ c.args.edit _ c.requires.kept.whole c.requires.at c.requires.placed c.requires.size
 
-pub returns : goal.returns
-returns g c slots whole =
+pub returns-clause-step : goal.returns-clause-step
+returns-clause-step g c slots whole =
     editing.edit_done _ c.args.edit c.args.activates _ c.args.by _ c.args.self.now c.commit_edit.new.self slots (record {
       whole = whole;
+      low = c.requires.at;
+      may = c.requires.placed;
+      same = c.requires.size;
+      becomes = c.in-Ok.ensures.activation;
+      planned = c.in-Ok.ensures.plan;
+      committed = c.commit_edit.ensures;
+    })
+
+pub returns-clause-sparing : goal.returns-clause-sparing
+returns-clause-sparing g c =
+    editing.edit_spares _ c.args.edit c.args.activates _ c.args.by _ c.args.self.now c.commit_edit.new.self _ (record {
+      whole = c.requires.kept.whole;
       low = c.requires.at;
       may = c.requires.placed;
       same = c.requires.size;

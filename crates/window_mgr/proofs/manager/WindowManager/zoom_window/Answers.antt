@@ -39,4 +39,4 @@ place_window-requires-clause-way g c =
 pub returns : goal.returns
 returns g c slots whole =
     placing.zoom_step _ c.args.self.now c.place_window.new.self slots whole c.in-Some.at c.args.zoom.window c.at-found.result.now c.in-Some.ensures.0 (search rules) (c.in-Some.ensures.1 c.at-found.result.now (search rules)) c.args.zoom refl c.in-Some-direction.direction (search rules) c.in-Some-zoom_target.placement (search rules)
-    _ _ c.local-by.ensures (search rules) c.place_window.ensures
+    _ _ c.local-by.ensures (search rules) c.place_window.ensures.step
