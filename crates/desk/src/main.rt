@@ -1,18 +1,15 @@
 //! The program `desk`: a script of Toolbox calls goes in, and what each of its lines answers comes out.
 //!
-//! `run_words` is the whole of it as a function of what it is given: the words of the command line, files, standard input
-//! and a writer. Its contract says which of them is read, in which font, and that the bytes which go out are the answers
-//! to the lines that came in (`ProgramEnds`). Here is only what hands it those of the system, and the exit status.
+//! `run_words` of `standard_run` is the whole of it as a function of what it is given: the words of the command line, files,
+//! standard input and a writer. Here is only what hands it those of the system, and the exit status.
 #![tactic(auto)]
-
-mod program;
 
 ghost use Rattle.std.specs.Prelude.{◌≡◌};
 ghost use Rattle.std.specs.Process.{exit_status};
-ghost use Rattle.desk.specs.Program.{status_of};
+ghost use Rattle.standard_run.specs.Program.{status_of};
 
-use program::{Stopped, run_words};
 use script_runner::{OptionsError, SystemFiles};
+use standard_run::{Stopped, run_words};
 use std::alloc::AllocError;
 use std::process::ExitCode;
 use std::{env, io};
