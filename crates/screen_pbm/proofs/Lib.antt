@@ -3,4 +3,5 @@ mod Packed
 mod PackedLaws
 mod Ranges
 mod Rows
+mod Together
 mod Words

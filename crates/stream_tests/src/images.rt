@@ -24,13 +24,13 @@ fn an_image_is_its_head_and_its_rows(rt: HostRuntime) -> Result<(), Fail> {
             map.set(black, true);
         }
         assert!(rt; map.bounds().right <= 1024);
-        // A write for each row that has pixels, and one for the head.
+        // A write for the head, and where there are pixels one for each plain row, and one for all raw ones.
         let rows = if width == 0 { 0 } else { height as usize };
         for (image, is_raw) in [(plain, false), (raw, true)] {
             let mut paper = Paper {
                 text: Vec::new(rt.alloc()),
                 piece: 100,
-                writes_left: 1 + rows,
+                writes_left: 1 + if is_raw { rows.min(1) } else { rows },
             };
             let mut sink = WatchedWriter::new(&mut paper);
             let outcome = if is_raw {
@@ -43,5 +43,24 @@ fn an_image_is_its_head_and_its_rows(rt: HostRuntime) -> Result<(), Fail> {
             assert!(rt; paper.writes_left == 0);
         }
     }
+    Ok(())
+}
+
+#[test]
+fn raw_rows_go_out_4096_bytes_at_a_time(rt: HostRuntime) -> Result<(), Fail> {
+    let mut map = BitMap::new(rt.alloc(), 1024, 33)?;
+    map.set(Point { h: 1, v: 31 }, true);
+    map.set(Point { h: 2, v: 32 }, true);
+    // A write for the head, one for 32 rows of 128 bytes, and one for the last row.
+    let mut paper = Paper {
+        text: Vec::new(rt.alloc()),
+        piece: 4096,
+        writes_left: 3,
+    };
+    let outcome = write_p4(&mut WatchedWriter::new(&mut paper), &map);
+    assert!(rt; outcome == Ok(()) && paper.writes_left == 0);
+    let (head, rows) = paper.text.as_slice().split_at(11);
+    assert!(rt; head == b"P4\n1024 33\n".as_slice() && rows.len() == 33 * 128);
+    assert!(rt; rows[31 * 128] == 0x40 && rows[32 * 128] == 0x20);
     Ok(())
 }
