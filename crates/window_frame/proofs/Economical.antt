@@ -5,7 +5,6 @@ use Rattle.tb_geom.specs.declared.point.Point.{Point}
 use Rattle.tb_geom.specs.declared.refusal.Refusal.{Refusal}
 use Rattle.def_iface.specs.declared.taken.Taken.{Taken}
 use Rattle.def_iface.specs.Meaning.{Loan}
-use Rattle.def_iface.specs.Stocked.{SlotView}
 use Rattle.desk_call.specs.declared.activity.Standing.{Standing}
 use Rattle.desk_call.specs.declared.activity.Standing.TheVariants as standings
 use Rattle.desk_call.specs.declared.window.WindowCall.{WindowCall}
@@ -21,7 +20,7 @@ use Rattle.window_mgr.specs.Placings.{sized}
 use Rattle.window_mgr.specs.Finding.{front_of, record_with}
 use Rattle.window_mgr.specs.FullDesk.{FullState}
 use Rattle.window_mgr.specs.Kept.{IsKept}
-use Rattle.window_mgr.specs.Records.{desk_of, look_on, state_of}
+use Rattle.window_mgr.specs.Records.{look_on}
 use Rattle.window_mgr.specs.Sparing.{IsSparingCall, Repaints, Spares, moving_content}
 use Rattle.window_mgr.specs.Step.{IsWindowStep}
 use Rattle.window_mgr.specs.Updating.{LeavesState}

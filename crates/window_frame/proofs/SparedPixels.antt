@@ -1,5 +1,5 @@
 -- A pixel that an economical call does not write keeps its bit.
-use Rattle.std.proofs.Common.{◌≡◌, ◌≢◌, ℕ, ◌<◌, Bool, true, false, refl, sym, arith}
+use Rattle.std.proofs.Common.{◌≡◌, ◌≢◌, ℕ, Bool, true, false, refl, arith}
 use Rattle.tb_geom.specs.declared.point.Point.{Point}
 use Rattle.bit_map.specs.Bits.{Bits, bit, count}
 use Rattle.def_iface.specs.Desk.{LayeredDesk, on_screen}
@@ -8,10 +8,10 @@ use Rattle.window_mgr.specs.Sparing.{IsSparing, is_frame}
 
 -- a bit that cannot have changed
 same_bit : (a b : Bool) → (a ≢ b → ⊥) → a ≡ b
-same_bit true true no = refl
-same_bit false false no = refl
-same_bit true false no = absurd (no (λ e. absurd (cc e)))
-same_bit false true no = absurd (no (λ e. absurd (cc e)))
+same_bit true true alike = refl
+same_bit false false alike = refl
+same_bit true false alike = absurd (alike (λ e. absurd (cc e)))
+same_bit false true alike = absurd (alike (λ e. absurd (cc e)))
 
 pub spared_pixels_stay : (moves : Owner → Bool) (draws : ℕ → Bool) (before after : LayeredDesk) (old new : Bits) (p : Point)
     → IsSparing moves draws before after old new → on_screen after p ≡ true → is_frame (owner after p) ≡ false
