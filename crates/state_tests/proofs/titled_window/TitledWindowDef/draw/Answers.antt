@@ -1,5 +1,9 @@
+use Rattle.draw_port.proofs.CanvasLemmas.{SameFrame-then}
 use Rattle.draw_port.proofs.OverLemmas.{Draws-black-around}
 use Rattle.state_tests.proofs.titled_window.TitledWindowDef.draw.Goals as goal
 
 pub returns-clause-drawn : goal.returns-clause-drawn
 returns-clause-drawn c = Draws-black-around c.args.canvas.now c.fill_all.new.self _ _ _ _ _ c.fill_all.ensures.same_frame c.rect.ensures c.fill_all.ensures.drawn c.fill.ensures.drawn
+
+pub returns-clause-same_frame : goal.returns-clause-same_frame
+returns-clause-same_frame c = SameFrame-then _ _ _ c.fill_all.ensures.same_frame c.fill.ensures.same_frame
