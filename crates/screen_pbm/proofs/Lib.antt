@@ -5,3 +5,4 @@ mod Ranges
 mod Rows
 mod Together
 mod Words
+mod Digits

@@ -2,47 +2,60 @@
 //!
 //! An image takes no memory: its head, and then each of its rows, is collected in a buffer of a fixed
 //! size and goes out with one `send`.
-ghost use Rattle.std.specs.Prelude.{◌≡◌, ◌*◌, ◌<◌, ◌≤◌, false, length};
+ghost use Rattle.std.specs.Prelude.{◌≡◌, ◌<◌, ◌≤◌, ℕ, false, length, slice_index};
 ghost use Rattle.bit_map.specs.Bits.{bit};
-ghost use Rattle.bit_map.specs.Words.{place_bit};
+ghost use Rattle.bit_map.specs.Patterns.{bit_of};
+ghost use Rattle.bit_map.specs.Words.{bit_in};
 ghost use Rattle.watched_io.specs.Writes.{Sends};
-ghost use Rattle.screen_pbm.specs.Pbm.{digit_of, row_digits, line_count, line_text, row_text, p1};
+ghost use Rattle.screen_pbm.specs.Packed.{AreDigitsPut, HasDigits};
+ghost use Rattle.screen_pbm.specs.Pbm.{digit_of, row_text, p1};
 
 use crate::head::{height_of, width_of, write_head};
 use arrayvec::ArrayVec;
-use bit_map::{BitMap, bit_in};
+use bit_map::BitMap;
 use tb_geom::Refusal;
 use watched_io::{Sink, send};
 
-/// The character of the pixel in a column, of the words of a row.
-fn digit(words: &[u64], column: u16) -> u8
-    requires { column < 64 * length words.now }
-    ensures { result ≡ digit_of (place_bit words.now column) }
+/// The characters of eight pixels, the one at the high bit first. Each bit goes to a byte of its own, where what is not 0
+/// becomes 1.
+fn digits_of(byte: u8) -> [u8; 8]
+    ensures { (j : ℕ) → j < 8 → slice_index result j ≡ digit_of (bit_of byte j) }
 {
-    let column = usize::from(column);
-    if bit_in(words[column / 64], column % 64) {
-        b'1'
-    } else {
-        b'0'
+    let spread = (u64::from(byte) * 0x0101_0101_0101_0101) & 0x0102_0408_1020_4080;
+    let ones = ((spread + 0x7F7F_7F7F_7F7F_7F7F) >> 7) & 0x0101_0101_0101_0101;
+    (ones + 0x3030_3030_3030_3030).to_le_bytes()
+}
+
+/// Puts the characters of eight pixels to their place.
+fn put_digits(text: &mut [u8], place: usize, byte: u8)
+    requires all { length text.old ≡ 1024 }
+    requires place { place < 128 }
+    ensures { AreDigitsPut 8 place (bit_of byte) text.old text.new }
+{
+    text[8 * place..8 * place + 8].copy_from_slice(&digits_of(byte));
+}
+
+/// Puts the characters of the 64 pixels of a word to their place.
+fn put_word(text: &mut [u8], place: usize, word: u64)
+    requires all { length text.old ≡ 1024 }
+    requires place { place < 16 }
+    ensures { AreDigitsPut 64 place (bit_in word) text.old text.new }
+{
+    let bytes = word.to_be_bytes();
+    for j in 0..8 {
+        put_digits(text, 8 * place + j, bytes[j]);
     }
 }
 
-/// The characters of a line of a row, and the line's end.
-fn line_of(map: &BitMap, row: u16, line: u16) -> ArrayVec<u8, 71>
-    requires row { row < map.now.height }
-    requires width { map.now.width ≤ 1024 }
-    requires line { line < line_count map.now.width }
-    ensures { result.items ≡ line_text (row_digits map.now.width (bit map.now) row) line }
+/// The characters of the words of a row, one after the other.
+fn digits_from(words: &[u64]) -> [u8; 1024]
+    requires { length words.now ≤ 16 }
+    ensures { HasDigits result words.now (length words.now) }
 {
-    let width = width_of(map);
-    let from = line * 70;
-    let count = (width - from).min(70);
-    let words = map.row(row);
-    let mut text = ArrayVec::new();
-    for k in 0..count {
-        text.push(digit(words, from + k));
+    let mut text = [0; 1024];
+    for (place, word) in words.iter().enumerate() {
+        put_word(&mut text, place, *word);
     }
-    text.push(b'\n');
     text
 }
 
@@ -52,10 +65,14 @@ fn row_of(map: &BitMap, row: u16) -> ArrayVec<u8, 1039>
     requires width { map.now.width ≤ 1024 }
     ensures { result.items ≡ row_text map.now.width (bit map.now) row }
 {
+    let width = usize::from(width_of(map));
+    let digits = digits_from(map.row(row));
     let mut text = ArrayVec::new();
-    for line in 0..width_of(map).div_ceil(70) {
-        let characters = line_of(map, row, line);
-        text.try_extend_from_slice(characters.as_slice()).unwrap();
+    for line in 0..width.div_ceil(70) {
+        let from = 70 * line;
+        let end = width.min(from + 70);
+        text.try_extend_from_slice(&digits[from..end]).unwrap();
+        text.push(b'\n');
     }
     text
 }
