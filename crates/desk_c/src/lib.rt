@@ -60,13 +60,7 @@ fn run<R: Source, W: Sink>(
     ensures excluded { result ≡ negsuc 0 → (raw && check) ≡ true }
     ensures refused { (raw && check) ≡ true → (W.output sink.new ≡ W.output sink.old) × IsRefusal result }
 {
-    status_of(run_words(
-        alloc,
-        words_of(raw, check),
-        &NoFiles,
-        source,
-        sink,
-    ))
+    status_of(run_words(alloc, words_of(raw, check), &NoFiles, source, sink))
 }
 
 /// Answers a script, with its answers at the front of `out`: `written` is how many bytes they are. What there is no room for is a
@@ -107,13 +101,7 @@ pub extern "C" fn desk_run(
 /// Answers the script that comes in at one descriptor, at another one: each line before the next is read. The status is that of
 /// `desk_run`.
 #[unsafe(no_mangle)]
-pub extern "C" fn desk_serve(
-    alloc: Global,
-    input: i32,
-    output: i32,
-    raw: bool,
-    check: bool,
-) -> i32
+pub extern "C" fn desk_serve(alloc: Global, input: i32, output: i32, raw: bool, check: bool) -> i32
     ensures served { HasServed raw check result }
     ensures excluded { result ≡ negsuc 0 → (raw && check) ≡ true }
     ensures refused { (raw && check) ≡ true → IsRefusal result }
