@@ -150,6 +150,7 @@ def what_nothing_leads_to_is_found(folder):
     finds(folder, "docs/MORE.md", "[this](MORE.md)", "docs/MORE.md:1: no other document has a link to this one")
     os.remove(os.path.join(folder, "docs/MORE.md"))
     finds(folder, "crates.txt", "low:\nhigh: low\n", "crates.txt:2: the crate high has no crates/high/README.md")
+    finds(folder, "crates.txt", "low:\nhigh staticlib: low\n", "crates.txt:2: the crate high has no crates/high/README.md")
 
 
 def code_of_the_library_is_tested_text(folder):

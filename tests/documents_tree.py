@@ -77,7 +77,7 @@ class Tree:
         if "crates.txt" not in self.files:
             return []
         lines = enumerate(self.text_of("crates.txt").split("\n"), 1)
-        return [(number, line.partition(":")[0].strip()) for number, line in lines if ":" in line and line[:1] != "#"]
+        return [(number, line.partition(":")[0].split()[0]) for number, line in lines if ":" in line and line[:1] != "#"]
 
     def has_path(self, path):
         """Whether some file or folder has this path, or one that ends so, with its ending or without. '*' stands for any

@@ -7,7 +7,9 @@
 
 mod ends;
 
-ghost use Rattle.std.specs.Prelude.{◌≡◌, ◌≤◌, ◌&&◌, true, false, negsuc, map, length, take, drop};
+ghost use Rattle.std.specs.Prelude.{◌≡◌, ◌≤◌, ◌&&◌, true, false, pos, negsuc, IsTrue, map, length, take, drop};
+ghost use Rattle.tb_geom.specs.declared.refusal.Refusal.TheVariants.{WriteFault};
+ghost use Rattle.tb_geom.specs.Refusals.{number_of};
 ghost use Rattle.watched_io.specs.Reads.{IsOpen};
 ghost use Rattle.desk_c.specs.Answered.{words_of, status_of, HasRun, AreAnswers, HasServed, IsRefusal};
 
@@ -60,18 +62,20 @@ fn run<R: Source, W: Sink>(
     ensures excluded { result ≡ negsuc 0 → (raw && check) ≡ true }
     ensures refused { (raw && check) ≡ true → (W.output sink.new ≡ W.output sink.old) × IsRefusal result }
 {
-    status_of(run_words(
-        alloc,
-        words_of(raw, check),
-        &NoFiles,
-        source,
-        sink,
-    ))
+    status_of(run_words(alloc, words_of(raw, check), &NoFiles, source, sink))
 }
 
-/// Answers a script, with its answers at the front of `out`: `written` is how many bytes they are. What there is no room for is a
-/// WriteFault. The status is 0 where all lines were answered, the number of what stopped the run, or -1 where both flags are
-/// there, which exclude each other.
+/// Whether a room of this size may have so many bytes after a run that ended so: they fit, and where a write failed they fill
+/// it. So it always is; but what is proved of a run over any sink does not tell, and it is asked.
+fn is_held(status: i32, bytes: usize, size: usize) -> bool
+    ensures { IsTrue result → (bytes ≤ size) × (status ≡ pos (number_of WriteFault) → bytes ≡ size) }
+{
+    bytes == size || bytes < size && status != Refusal::WriteFault.number() as i32
+}
+
+/// Answers a script, with its answers at the front of `out`: `written` is how many bytes they are. Where there is no room for
+/// all of them, that is a WriteFault. The status is 0 where all lines were answered, the number of what stopped the run, or -1
+/// where both flags are there, which exclude each other.
 #[unsafe(no_mangle)]
 pub extern "C" fn desk_run(
     alloc: Global,
@@ -84,6 +88,7 @@ pub extern "C" fn desk_run(
     ensures length { length out.new ≡ length out.old }
     ensures fits { written.new ≤ length out.new }
     ensures behind { drop written.new out.new ≡ drop written.new out.old }
+    ensures full { result ≡ pos (number_of WriteFault) → written.new ≡ length out.new }
     ensures answers { AreAnswers raw check script.now (take written.new out.new) result }
     ensures excluded { result ≡ negsuc 0 → (raw && check) ≡ true }
     ensures refused { (raw && check) ≡ true → (written.new ≡ 0) × IsRefusal result }
@@ -94,9 +99,8 @@ pub extern "C" fn desk_run(
     };
     let mut source = WatchedReader::new(script);
     let status = run(alloc, &mut source, &mut room, raw, check);
-    // The room takes no more than that, of which a run over any sink tells nothing.
     let answers = room.bytes();
-    if out.len() < answers.len() {
+    if !is_held(status, answers.len(), out.len()) {
         return Refusal::NoMemory.number() as i32;
     }
     out[..answers.len()].copy_from_slice(answers);
@@ -104,16 +108,10 @@ pub extern "C" fn desk_run(
     status
 }
 
-/// Answers the script that comes in at one descriptor, at another one: each line before the next is read. The status is that of
-/// `desk_run`.
+/// Answers the script that comes in at one descriptor, at another one: each line before the next is read. The status is as that
+/// of `desk_run`.
 #[unsafe(no_mangle)]
-pub extern "C" fn desk_serve(
-    alloc: Global,
-    input: i32,
-    output: i32,
-    raw: bool,
-    check: bool,
-) -> i32
+pub extern "C" fn desk_serve(alloc: Global, input: i32, output: i32, raw: bool, check: bool) -> i32
     ensures served { HasServed raw check result }
     ensures excluded { result ≡ negsuc 0 → (raw && check) ≡ true }
     ensures refused { (raw && check) ≡ true → IsRefusal result }
