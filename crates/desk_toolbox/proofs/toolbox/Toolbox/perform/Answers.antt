@@ -187,8 +187,8 @@ returns-in-Err-tell_list-clause-whole g c = c.in-Err-tell_list.ensures.whole
 pub returns-in-Err-tell_list-clause-step : goal.returns-in-Err-tell_list-clause-step
 returns-in-Err-tell_list-clause-step g c = rw c.in-List.is (Err c.in-Err-tell_list.refusal, refl, c.in-Err-tell_list.ensures.step)
 
-pub returns-in-Ok-tell_window-clause-economy : goal.returns-in-Ok-tell_window-clause-economy
-returns-in-Ok-tell_window-clause-economy g c = rw c.in-Window.is c.in-Ok-tell_window.ensures.economy
+pub returns-in-Ok-clause-economy : goal.returns-in-Ok-clause-economy
+returns-in-Ok-clause-economy g c = rw c.in-Window.is c.in-Ok.ensures.economy
 
-pub returns-in-Err-tell_window-clause-economy : goal.returns-in-Err-tell_window-clause-economy
-returns-in-Err-tell_window-clause-economy g c = rw c.in-Window.is c.in-Err-tell_window.ensures.economy
+pub returns-in-Err-clause-economy : goal.returns-in-Err-clause-economy
+returns-in-Err-clause-economy g c = rw c.in-Window.is c.in-Err.ensures.economy
