@@ -1,7 +1,7 @@
 //! The tests: steps in a row, after each of which the library and the model agree.
 
+use crate::steps::Desk;
 use def_iface::{Part, Size};
-use layer_steps::steps::Desk;
 use plain_layers::desk::Painting;
 use plain_layers::steps::Step;
 use std::alloc::Global;
