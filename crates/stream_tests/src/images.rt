@@ -49,8 +49,11 @@ fn an_image_is_its_head_and_its_rows(rt: HostRuntime) -> Result<(), Fail> {
 #[test]
 fn raw_rows_go_out_4096_bytes_at_a_time(rt: HostRuntime) -> Result<(), Fail> {
     let mut map = BitMap::new(rt.alloc(), 1024, 33)?;
-    map.set(Point { h: 1, v: 31 }, true);
-    map.set(Point { h: 2, v: 32 }, true);
+    for black in [Point { h: 1, v: 31 }, Point { h: 2, v: 32 }] {
+        assert!(rt; map.bounds().contains(black));
+        map.set(black, true);
+    }
+    assert!(rt; map.bounds().right <= 1024);
     // A write for the head, one for 32 rows of 128 bytes, and one for the last row.
     let mut paper = Paper {
         text: Vec::new(rt.alloc()),
@@ -59,8 +62,9 @@ fn raw_rows_go_out_4096_bytes_at_a_time(rt: HostRuntime) -> Result<(), Fail> {
     };
     let outcome = write_p4(&mut WatchedWriter::new(&mut paper), &map);
     assert!(rt; outcome == Ok(()) && paper.writes_left == 0);
-    let (head, rows) = paper.text.as_slice().split_at(11);
-    assert!(rt; head == b"P4\n1024 33\n".as_slice() && rows.len() == 33 * 128);
-    assert!(rt; rows[31 * 128] == 0x40 && rows[32 * 128] == 0x20);
+    let text = paper.text.as_slice();
+    assert!(rt; text.len() == 11 + 33 * 128);
+    assert!(rt; &text[..11] == b"P4\n1024 33\n".as_slice());
+    assert!(rt; text[11 + 31 * 128] == 0x40 && text[11 + 32 * 128] == 0x20);
     Ok(())
 }
