@@ -15,7 +15,7 @@ use Rattle.script_runner.specs.Choices.{faults_in, flag_in, AreWordsRefused, Are
 use Rattle.standard_run.specs.declared.program.Stopped.{Stopped}
 use Rattle.standard_run.specs.declared.program.Stopped.TheVariants.{Words, Run}
 use Rattle.standard_run.specs.Program.{ProgramEnds, HasRunWords}
-use Rattle.desk_c.specs.Answered.{HasRun, IsRefusal, nothing_left, opens_none, status_of, words_of}
+use Rattle.desk_c.specs.Answered.{HasRun, IsRefusal, file_input, opens_none, status_of, words_of}
 
 -- ---- what the words say
 
@@ -67,7 +67,7 @@ only_both raw check (wrong.Memory e) any is = absurd cc
 
 module _ (standard rest : Input) (old new : Output) where
   -- no run has both flags
-  not_both : (raw check : Bool) (r : Result ⊤ Refusal) → HasRunWords opens_none (λ _. nothing_left) standard rest old new (words_of raw check) r → (raw && check) ≡ true → ⊥
+  not_both : (raw check : Bool) (r : Result ⊤ Refusal) → HasRunWords opens_none file_input standard rest old new (words_of raw check) r → (raw && check) ≡ true → ⊥
   not_both true true r ran is =
       let raw : ran.chosen.raw ≡ true = ran.is_chosen.raw.0 (raw_there true) in
       let check : ran.chosen.check ≡ true = ran.is_chosen.check.0 (check_there true) in
@@ -76,14 +76,14 @@ module _ (standard rest : Input) (old new : Output) where
   not_both false check r ran is = false≢true is
 
   -- -1 tells that both flags are there
-  excluded_by : (raw check : Bool) (status : ℤ) (outcome : Result ⊤ Stopped) → ProgramEnds opens_none (λ _. nothing_left) standard rest old new (words_of raw check) outcome
+  excluded_by : (raw check : Bool) (status : ℤ) (outcome : Result ⊤ Stopped) → ProgramEnds opens_none file_input standard rest old new (words_of raw check) outcome
       → status ≡ status_of outcome → status ≡ negsuc 0 → (raw && check) ≡ true
   excluded_by raw check status (Ok x) ends tells is = absurd cc
   excluded_by raw check status (Err (Run e)) ends tells is = absurd cc
   excluded_by raw check status (Err (Words e)) ends tells is = only_both raw check e ends.0 (sym tells ∙ is)
 
   -- with both flags nothing is written, and the status is -1, or that of want of memory
-  refused_by : (raw check : Bool) (status : ℤ) (outcome : Result ⊤ Stopped) → ProgramEnds opens_none (λ _. nothing_left) standard rest old new (words_of raw check) outcome
+  refused_by : (raw check : Bool) (status : ℤ) (outcome : Result ⊤ Stopped) → ProgramEnds opens_none file_input standard rest old new (words_of raw check) outcome
       → status ≡ status_of outcome → (raw && check) ≡ true → (new ≡ old) × IsRefusal status
   refused_by raw check status (Ok x) ends tells is = absurd (not_both raw check (Ok x) ends is)
   refused_by raw check status (Err (Run e)) ends tells is = absurd (not_both raw check (Err e) ends is)

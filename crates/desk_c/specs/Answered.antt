@@ -30,9 +30,9 @@ IsRefusal status = (status ≡ negsuc 0) ⊎ (status ≡ pos (number_of NoMemory
 abbrev pub opens_none : List ℕ → Result NoFile Refusal → Type 0
 opens_none path r = r ≡ Err ReadFault
 
--- and none of it could be read
-abbrev pub nothing_left : Input
-nothing_left = record { remaining = None; has_failed = false; has_ended = true; reads = 0 }
+-- what would be seen of one
+abbrev pub file_input : NoFile → Input
+file_input file = record { remaining = None; has_failed = file.has_failed; has_ended = false; reads = file.reads }
 
 -- an input with these bytes, where they are known, of which nothing was read yet
 abbrev pub unread : Option (List ℕ) → Input
@@ -43,7 +43,7 @@ unread bytes = record { remaining = bytes; has_failed = false; has_ended = false
 pub record HasRun (raw check : Bool) (standard : Input) (old new : Output) (status : ℤ) : Type 0 where
   pub rest : Input
   pub outcome : Result ⊤ Stopped
-  pub ends : ProgramEnds opens_none (λ _. nothing_left) standard rest old new (words_of raw check) outcome
+  pub ends : ProgramEnds opens_none file_input standard rest old new (words_of raw check) outcome
   pub tells : status ≡ status_of outcome
 
 -- so it ran over this script, and wrote these answers and nothing else

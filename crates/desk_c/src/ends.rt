@@ -1,6 +1,6 @@
 //! Where a run for a program in C reads and writes.
 ghost use Rattle.std.specs.Prelude.{◌≡◌, IfOk, None, Some, [], false};
-ghost use Rattle.desk_c.specs.Answered.{nothing_left, opens_none};
+ghost use Rattle.desk_c.specs.Answered.{file_input, opens_none};
 
 use io::{read_full, write_all};
 use script_runner::Opener;
@@ -101,14 +101,17 @@ impl Write for Descriptor {
 #[derive(Drop)]
 pub struct NoFiles;
 
-/// A file that is never opened.
+/// A file that is never opened. A read of it would fail.
 #[derive(Drop)]
-pub struct NoFile;
+pub struct NoFile {
+    has_failed: bool,
+    reads: u32,
+}
 
 impl Opener for NoFiles {
     type Opened = NoFile;
 
-    ghost opens = { λ _ path r. opens_none path r };
+    ghost opens = { λ _. opens_none };
 
     fn open(&self, path: &str) -> Result<NoFile, Refusal> {
         Err(Refusal::ReadFault)
@@ -116,9 +119,11 @@ impl Opener for NoFiles {
 }
 
 impl Source for NoFile {
-    ghost input = { λ _. nothing_left };
+    ghost input = { file_input };
 
     fn read_some(&mut self, buffer: &mut [u8]) -> Result<usize, Refusal> {
+        self.reads += 1;
+        self.has_failed = true;
         Err(Refusal::ReadFault)
     }
 }

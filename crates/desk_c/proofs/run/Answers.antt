@@ -1,6 +1,6 @@
 use Rattle.std.proofs.Common.{rules, subst}
 use Rattle.standard_run.specs.Program.{ProgramEnds}
-use Rattle.desk_c.specs.Answered.{HasRun, nothing_left, opens_none, words_of}
+use Rattle.desk_c.specs.Answered.{HasRun, file_input, opens_none, words_of}
 use Rattle.desk_c.proofs.Flags.{excluded, refused}
 use Rattle.desk_c.proofs.run.Goals as goal
 
@@ -14,7 +14,7 @@ returns g c =
     record {
       rest = rest;
       outcome = c.run_words.result;
-      ends = subst (λ words. ProgramEnds opens_none (λ _. nothing_left) from rest old new words c.run_words.result) c.words_of.ensures c.run_words.ensures;
+      ends = subst (λ words. ProgramEnds opens_none file_input from rest old new words c.run_words.result) c.words_of.ensures c.run_words.ensures;
       tells = search rules;
     } in
     record {
