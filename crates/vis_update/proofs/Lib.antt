@@ -3,6 +3,7 @@
 pub mod PlaceLemmas
 pub mod Others
 pub mod LayerOwners
+pub mod Hands
 pub mod KeptLayers
 pub mod UpdateLemmas
 pub mod Sweeping
@@ -10,6 +11,7 @@ pub mod Takings
 pub mod Sources
 pub mod Planning
 pub mod SeatLemmas
+pub mod Settling
 pub mod ScrollLemmas
 pub mod Relayed
 pub mod RelaidAreas

@@ -1,5 +1,5 @@
 -- Regions of a window at its place.
-use Rattle.std.proofs.Common.{◌≡◌, Bool, true, false, ◌&&◌, Some, ℤ, pos, negsuc, ◌+ℤ◌, ◌-ℤ◌, ◌≤ℤ◌, ◌<ℤ◌, refl, ap, ◌∙◌, sym, arith}
+use Rattle.std.proofs.Common.{◌≡◌, Bool, true, false, not, ◌&&◌, ◌||◌, Some, ℤ, pos, negsuc, ◌+ℤ◌, ◌-ℤ◌, ◌≤ℤ◌, ◌<ℤ◌, refl, ap, ◌∙◌, sym, arith}
 use Rattle.std.proofs.lemmas.Bool.{and_parts}
 use Rattle.std.proofs.lemmas.Int.{ints}
 use Rattle.tb_geom.specs.declared.point.Point.{Point}
@@ -87,3 +87,17 @@ carried within region copy moved cut by p same arrived kept =
     turned_round true false = refl
     turned_round false true = refl
     turned_round false false = refl
+
+-- what a region near keeps, and what is taken of one, is near
+pub kept_near : (region changed taken both : Pixels) (rest its : Point → Bool) (shown : Bool) → IsNear region → ((p : Point) → rest p ≡ true → is_near p ≡ true)
+    → ((p : Point) → holds taken p ≡ (its p && (shown && rest p))) → ((p : Point) → holds both p ≡ ((holds region p && not (holds changed p)) || holds taken p)) → IsNear both
+kept_near region changed taken both rest its shown near near_rest taken_is both_is p e = by_test (holds region p) refl
+  where
+    of_rest : (a b c : Bool) → (a && (b && c)) ≡ true → c ≡ true
+    of_rest true true c f = f
+    of_rest true false c f = absurd (true-false false f refl)
+    of_rest false b c f = absurd (true-false false f refl)
+
+    by_test : (b : Bool) → holds region p ≡ b → is_near p ≡ true
+    by_test true f = near p f
+    by_test false f = near_rest p (of_rest (its p) shown (rest p) (sym (taken_is p) ∙ (λ i. (sym f i && not (holds changed p)) || holds taken p) ∙ sym (both_is p) ∙ e))

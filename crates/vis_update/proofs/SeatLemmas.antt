@@ -1,7 +1,8 @@
 -- Areas on a screen, and the seats of windows that stay as they are.
-use Rattle.std.proofs.Common.{◌≡◌, ℕ, suc, Bool, true, false, not, ◌&&◌, ℤ, pos, ◌≤ℤ◌, List, [], ◌∷◌, length, Some, None, if◌then◌else◌, refl, sym, ap, ◌∙◌, subst, arith}
+use Rattle.std.proofs.Common.{◌≡◌, ℕ, suc, ◌==◌, Bool, true, false, not, ◌&&◌, ◌||◌, ℤ, pos, ◌≤ℤ◌, List, [], ◌∷◌, length, Some, None, if◌then◌else◌, refl, sym, ap, ◌∙◌, subst, arith}
 use Rattle.std.specs.Prelude.{All}
 use Rattle.std.proofs.lemmas.Bool.{and_parts}
+use Rattle.std.proofs.lemmas.Bool.Decides.{nat_tests}
 use Rattle.std.proofs.lemmas.Int.{ints}
 use Rattle.std.proofs.lemmas.List.Elements.{All-weaker}
 use Rattle.tb_geom.specs.declared.point.Point.{Point}
@@ -12,16 +13,19 @@ use Rattle.def_iface.specs.declared.taken.Taken.{Taken}
 use Rattle.def_iface.specs.Meaning.{Loan}
 use Rattle.def_iface.specs.Desk as layers
 use Rattle.def_iface.specs.Desk.{LayeredDesk}
-use Rattle.def_iface.specs.Owner.{Owner, owner, owner_among}
-use Rattle.def_iface.specs.Owner.Owner.{Bar}
+use Rattle.def_iface.specs.Owner.{Owner, owner, owner_among, same_owner}
+use Rattle.def_iface.specs.Owner.Owner.{Desktop, Bar, Frame, Content}
 use Rattle.def_iface.proofs.Owning.{is_other, owner_is_other}
 use Rattle.window_list.specs.declared.window.Window.{Window}
 use Rattle.vis_update.specs.declared.area.Area.{Area}
 use Rattle.vis_update.specs.declared.plan.Seat.{Seat}
+use Rattle.vis_update.specs.declared.plan.Touch.{Touch}
 use Rattle.vis_update.specs.Records.{WindowRecord, record_of}
 use Rattle.vis_update.specs.Places.{is_placed}
 use Rattle.vis_update.specs.Areas.{IsArea, AreAreas, IsNowhere, IsGray, IsNear, is_content_of}
 use Rattle.vis_update.specs.Seats.{stand_of, seat_stand, IsPlacedSeat, IsNearSeat, IsSeatOf}
+use Rattle.vis_update.specs.Plans.{IsLosing}
+use Rattle.vis_update.specs.Hands.{IsLostOf}
 use Rattle.vis_update.proofs.Others.{not_content, not_same_frame}
 
 -- ---- areas on a screen
@@ -92,3 +96,36 @@ module _ {V : Type 0} {H : V → Type 0} (loan : Taken V H → Loan) where
 
   pub seat_placed : (w : Window V H) (a : Area) (s : Seat V H) → IsSeatOf w a s → is_placed (Some (loan w.taken).definition) w.place w.size ≡ true → IsPlacedSeat loan s
   seat_placed w a s its placed = (λ i. is_placed (Some (loan (its.taken i)).definition) (its.place i) (its.size i)) ∙ placed
+
+-- ---- what windows lose
+
+-- an owner that is one window's is no other's
+apart_owner : (s n : ℕ) (o : Owner) → (s == n) ≡ false → (is_content_of s o || same_owner o (Frame s)) ≡ true → (is_content_of n o ≡ false) × (same_owner o (Frame n) ≡ false)
+apart_owner s n Desktop away e = absurd (cc)
+apart_owner s n Bar away e = absurd (cc)
+apart_owner s n (Frame t) away e = (refl, grind (arith, nat_tests))
+apart_owner s n (Content t part) away e = (content_away (t == s) (t == n) refl refl e, refl)
+  where
+    content_away : (a b : Bool) → (t == s) ≡ a → (t == n) ≡ b → (a || false) ≡ true → b ≡ false
+    content_away a false f g h = refl
+    content_away true true f g h = grind (arith, nat_tests)
+    content_away false true f g h = absurd (cc)
+
+-- what another window had of the changed area, that one had not
+pub losing_seats : {V : Type 0} {H : V → Type 0} (t : Touch) (desk : LayeredDesk) (stale : PixelSet) (old : Area) (changed lost : Pixels) (seats : List (Seat V H)) → IsArea desk stale t.window old → IsLostOf old changed lost
+    → All (λ s. IsArea desk stale s.serial s.area.now) seats → All (IsLosing t (holds changed) (holds lost)) seats
+losing_seats {V} {H} t desk stale old changed lost seats had lost_is all = All-weaker (λ s. IsArea desk stale s.serial s.area.now) (IsLosing t (holds changed) (holds lost)) (λ s its. one s its) seats all
+  where
+    one : (s : Seat V H) → IsArea desk stale s.serial s.area.now → IsLosing t (holds changed) (holds lost) s
+    one s its apart p has here =
+        let both = shared (layers.on_screen desk p) (is_content_of s.serial (owner desk p)) (same_owner (owner desk p) (Frame s.serial)) ((λ i. sym (its.visible p) i || sym (its.frame p) i) ∙ has) in
+        let away = apart_owner s.serial t.window (owner desk p) apart both in
+        lost_is p ∙ (λ i. (here i && not ((had.visible p ∙ ap (λ b. layers.on_screen desk p && b) away.0 ∙ and_false (layers.on_screen desk p)) i)) && not ((had.frame p ∙ ap (λ b. layers.on_screen desk p && b) away.1 ∙ and_false (layers.on_screen desk p)) i))
+      where
+        shared : (on x y : Bool) → ((on && x) || (on && y)) ≡ true → (x || y) ≡ true
+        shared true x y e = e
+        shared false x y e = absurd (cc)
+
+        and_false : (b : Bool) → (b && false) ≡ false
+        and_false true = refl
+        and_false false = refl

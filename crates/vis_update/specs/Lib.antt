@@ -5,6 +5,7 @@ pub mod Places
 pub mod Areas
 pub mod Touches
 pub mod Seats
+pub mod Hands
 pub mod Plans
 pub mod Contents
 pub mod Relayings

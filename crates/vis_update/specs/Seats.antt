@@ -1,18 +1,19 @@
 -- Windows as they are to be.
-use Rattle.std.specs.Prelude.{◌≡◌, ℕ, Bool, true, List, map, Some, All}
+use Rattle.std.specs.Prelude.{◌≡◌, ℕ, Bool, true, false, not, ◌&&◌, List, map, Some, All}
 use Rattle.tb_geom.specs.declared.point.Point.{Point}
 use Rattle.tb_geom.specs.Points.{PixelSet}
-use Rattle.tb_geom.specs.Pixels.{Pixels}
+use Rattle.tb_geom.specs.Pixels.{Pixels, holds}
 use Rattle.def_iface.specs.declared.taken.Taken.{Taken}
 use Rattle.def_iface.specs.Meaning.{Loan}
-use Rattle.def_iface.specs.Desk.{LayeredDesk, IsDesk}
+use Rattle.def_iface.specs.Desk.{LayeredDesk, IsDesk, on_screen, in_bar}
+use Rattle.def_iface.specs.Owner.{owner}
 use Rattle.def_iface.specs.Change.{State}
 use Rattle.window_list.specs.declared.window.Window.{Window}
 use Rattle.vis_update.specs.declared.area.Area.{Area}
 use Rattle.vis_update.specs.declared.plan.Seat.{Seat}
 use Rattle.vis_update.specs.Records.{WindowRecord, Look, layered_window}
 use Rattle.vis_update.specs.Places.{is_placed}
-use Rattle.vis_update.specs.Areas.{IsArea, IsGray, IsNear}
+use Rattle.vis_update.specs.Areas.{IsArea, IsNear}
 
 -- where a window stands; structure and content are in its own coordinates
 pub record Stand : Type 0 where
@@ -31,7 +32,17 @@ stand_of w = record {
   content = w.definition.content w.size;
 }
 
+-- a call changes whose pixels are in this area alone, which has no pixel of the menu bar
+pub record IsChangedArea (before after : LayeredDesk) (changed : Pixels) : Type 0 where
+  pub screen : (p : Point) → on_screen before p ≡ on_screen after p
+  pub within : (p : Point) → holds changed p ≡ true → (on_screen after p && not (in_bar after p)) ≡ true
+  pub outside : (p : Point) → holds changed p ≡ false → on_screen after p ≡ true → owner after p ≡ owner before p
+
 module _ {V : Type 0} {H : V → Type 0} where
+  -- the area that the window had
+  abbrev pub area_had : Seat V H → Area
+  area_had s = s.area.now
+
   -- the pixels that the window had are those of a screen
   abbrev pub IsNearSeat : Seat V H → Type 0
   IsNearSeat s = IsNear s.area.now.visible × IsNear s.area.now.update
@@ -60,10 +71,11 @@ module _ {V : Type 0} {H : V → Type 0} (loan : Taken V H → Loan) where
   abbrev pub IsPlacedSeat : Seat V H → Type 0
   IsPlacedSeat s = is_placed (Some (loan s.taken.now).definition) s.place s.size ≡ true
 
-  -- the seats of the windows of a desk of this look, as a call leaves it, each with the area that its window had before
-  pub record IsArranged (look : Look) (before : State) (after : LayeredDesk) (windows : List WindowRecord) (gray : Pixels) (seats : List (Seat V H)) : Type 0 where
+  -- the seats of the windows of a desk of this look, as a call leaves it, each with the area that its window had before, and
+  -- where the call changes whose pixels are
+  pub record IsArranged (look : Look) (before : State) (after : LayeredDesk) (windows : List WindowRecord) (changed : Pixels) (seats : List (Seat V H)) : Type 0 where
     pub desk : after.windows ≡ map (layered_window look) windows
     pub distinct : IsDesk after
-    pub gray_is : IsGray after gray
+    pub changes : IsChangedArea before.desk after changed
     pub stands : map seat_stand seats ≡ map stand_of windows
     pub areas : All (λ s. IsArea before.desk before.stale s.serial s.area.now) seats

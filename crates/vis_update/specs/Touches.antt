@@ -41,7 +41,7 @@ is_this (Some t) s = s == t
 
 -- the frame of this window is drawn whole
 abbrev pub draws_whole : Touch → ℕ → Bool
-draws_whole t s = s == t.window
+draws_whole t s = s == t.window && t.whole
 
 -- the pixels of this owner move
 abbrev pub moves : Touch → Owner → Bool

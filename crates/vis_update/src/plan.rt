@@ -2,7 +2,7 @@
 ghost use Rattle.std.specs.Prelude.{◌≡◌};
 ghost use Rattle.vis_update.specs.Touches.{way_of, draws_whole};
 ghost use Rattle.vis_update.specs.Seats.{IsSeatOf};
-ghost use Rattle.vis_update.specs.Plans.{IsEmptyPart};
+ghost use Rattle.vis_update.specs.Plans.{IsEmptyPart, areas_then};
 
 use crate::Area;
 use def_iface::{Size, Taken};
@@ -35,10 +35,12 @@ impl Part {
 /// What a call does with the windows that it arranges.
 #[derive(Clone, Copy)]
 pub struct Touch {
-    /// The window that the call is about. Its frame is drawn whole.
+    /// The window that the call is about.
     pub window: u64,
-    /// How far the content of the first moves, if it does.
+    /// How far its content moves, if it does.
     pub by: Option<Point>,
+    /// Whether its frame is drawn whole, as that of a window which moves or gets another size has to be; else what it gains.
+    pub whole: bool,
 }
 
 impl Touch {
@@ -53,15 +55,15 @@ impl Touch {
     pub(crate) fn draws_whole(self, serial: u64) -> bool
         ensures { result ≡ draws_whole self serial }
     {
-        serial == self.window
+        serial == self.window && self.whole
     }
 }
 
 /// What a call changes on the screen, with all the memory that it needs.
 #[derive(Drop)]
 pub struct Plan {
-    /// The areas of all windows after the call, from front to back.
-    pub areas: Vec<Area>,
+    /// The areas of all windows after the call, from front to back; None where one is as it was.
+    pub areas: Vec<Option<Area>>,
     /// What is to be drawn of each, in the same order.
     pub parts: Vec<Part>,
     /// The desktop after the call.
@@ -70,6 +72,21 @@ pub struct Plan {
     pub uncovered: Region,
     /// Where content arrives that moves.
     pub copied: Region,
+}
+
+/// Gives windows the areas that a plan has for them; the others keep theirs.
+pub fn settle(areas: &mut Vec<Area>, planned: Vec<Option<Area>>)
+    ensures { areas.new.items ≡ areas_then areas.old.items planned.items }
+{
+    let mut planned = planned;
+    while let Some(area) = planned.pop() {
+        let at = planned.len();
+        if let Some(area) = area {
+            if at < areas.len() {
+                areas[at] = area;
+            }
+        }
+    }
 }
 
 /// A window as it is to be, with the area that it had.

@@ -1,70 +1,87 @@
 //! One sweep over all windows, from front to back.
 //!
-//! It begins with the gray region. Each window in its turn takes what is left of its content and of its frame, and
-//! leaves what its structure does not cover. A pixel that its content had before, moved as far as the window's content
-//! moves, and that was drawn then, stays drawn; all else that it takes is to be drawn.
-ghost use Rattle.std.specs.Prelude.{◌≡◌, ◌&&◌, ◌||◌, not, is_some, All, List, length, vec_len, IfOk};
+//! It begins with the changed area, outside which no pixel gets another owner. Each window in its turn keeps what it had
+//! outside that area, takes what is left of it for its content and its frame, and leaves what its structure does not cover. A
+//! pixel that its content had before, moved as far as the window's content moves, and that was drawn then, stays drawn; all
+//! else that it takes is to be drawn. A window that had nothing of the changed area and takes nothing of what is left of it
+//! stays as it is, and is asked for no region.
+ghost use Rattle.std.specs.Prelude.{◌≡◌, ◌&&◌, ◌||◌, not, true, false, None, All, List, length, map, vec_len, IfOk};
 ghost use Rattle.tb_geom.specs.declared.point.Point.{Point};
 ghost use Rattle.tb_geom.specs.Points.{minus};
+ghost use Rattle.tb_geom.specs.Rects.{rect_holds};
 ghost use Rattle.tb_geom.specs.Pixels.{holds};
 ghost use Rattle.def_iface.specs.Desk.{LayeredDesk};
+ghost use Rattle.def_iface.specs.Meaning.{IsWithin};
 ghost use Rattle.def_iface.specs.Change.{State};
 ghost use Rattle.vis_update.specs.Records.{WindowRecord, Look};
-ghost use Rattle.vis_update.specs.Areas.{IsNear};
-ghost use Rattle.vis_update.specs.Touches.{came_from, KeepsLayers};
-ghost use Rattle.vis_update.specs.Seats.{IsPlacedSeat, IsNearSeat, IsArranged};
-ghost use Rattle.vis_update.specs.Plans.{IsSwept, IsPlan};
+ghost use Rattle.vis_update.specs.Areas.{IsNear, IsDesktop};
+ghost use Rattle.vis_update.specs.Touches.{came_from, way_of, KeepsLayers};
+ghost use Rattle.vis_update.specs.Seats.{IsPlacedSeat, IsNearSeat, IsArranged, area_had, seat_stand};
+ghost use Rattle.vis_update.specs.Plans.{IsSwept, IsPlan, IsShare, IsBeside, IsLosing, IsLeftAlone, area_then, arrives};
 
 use crate::place::regions_of;
 use crate::{Area, Part, Plan, Seat, Touch};
 use def_iface::{Defined, Taken, WindowRegions};
 use scan_region::Region;
 use std::alloc::{AllocError, Global};
-use tb_geom::Point;
+use tb_geom::{Point, Rect};
 
-/// What a window takes of the screen, what of that is to be drawn, and what it leaves for those
+/// What a window has of the screen, what of that is to be drawn, and what it leaves of the changed area for those
 /// behind it.
 #[derive(Drop)]
 struct Swept {
-    area: Area,
+    /// None where it has what it had.
+    area: Option<Area>,
     part: Part,
     left: Region,
 }
 
-/// The plan for windows from front to back, on the screen whose gray region is given, and of which
-/// no window owned the desktop.
+/// What a window takes of the rest of the changed area, for its content and around that, and what it leaves.
+#[derive(Drop)]
+struct Share {
+    taken: Region,
+    around: Region,
+    left: Region,
+}
+
+/// The plan for windows from front to back, on a screen of which no window owned the desktop, where pixels get another owner
+/// in the changed area alone; what windows had of that is lost to them.
 pub fn plan_of(
     alloc: Global,
-    gray: &Region,
+    changed: &Region,
+    lost: &Region,
     desktop: &Region,
     seats: &[Seat<'_>],
     touch: Touch,
 ) -> Result<Plan, AllocError>
     requires placed { All (IsPlacedSeat ⟦<Taken as Defined>⟧.loan) seats.now }
     requires near { All IsNearSeat seats.now }
-    requires near_gray { IsNear gray.now }
+    requires near_changed { IsNear changed.now }
+    requires losing { All (IsLosing touch (holds changed.now) (holds lost.now)) seats.now }
     ensures plan { IfOk result (λ plan. (look : Look) (before : State) (after : LayeredDesk) (windows : List WindowRecord)
-        → IsArranged ⟦<Taken as Defined>⟧.loan look before after windows gray.now seats.now
+        → IsArranged ⟦<Taken as Defined>⟧.loan look before after windows changed.now seats.now
+        → IsDesktop before.desk desktop.now
         → KeepsLayers touch before.desk after
-        → IsPlan touch before after desktop.now windows plan) }
+        → IsPlan touch before after desktop.now (map area_had seats.now) windows plan) }
     ensures length { IfOk result (λ plan. vec_len plan.parts ≡ length seats.now) }
 {
     let mut areas = Vec::with_capacity(alloc, seats.len())?;
     let mut parts = Vec::with_capacity(alloc, seats.len())?;
-    let mut rest = gray.copy(alloc)?;
+    let mut rest = changed.copy(alloc)?;
     let mut copied = Region::empty(alloc);
     for seat in seats {
-        let Swept { area, part, left } = seat.sweep(alloc, rest, touch)?;
+        let Swept { area, part, left } = seat.sweep(alloc, changed, lost, rest, touch)?;
         copied = with_copied(alloc, copied, &area, &part, touch.way_of(seat.serial))?;
         areas.push(area).unwrap();
         parts.push(part).unwrap();
         rest = left;
     }
     let uncovered = rest.diff(alloc, desktop)?;
+    let desktop = desktop.diff(alloc, changed)?.joined(alloc, rest)?;
     Ok(Plan {
         areas,
         parts,
-        desktop: rest,
+        desktop,
         uncovered,
         copied,
     })
@@ -74,16 +91,15 @@ pub fn plan_of(
 fn with_copied(
     alloc: Global,
     copied: Region,
-    area: &Area,
+    area: &Option<Area>,
     part: &Part,
     by: Option<Point>,
 ) -> Result<Region, AllocError>
-    ensures { IfOk result (λ region. (p : Point) → holds region p
-        ≡ (holds copied p || (is_some by && (holds area.now.visible p && not (holds part.now.erase p))))) }
+    ensures { IfOk result (λ region. (p : Point) → holds region p ≡ (holds copied p || arrives by area.now part.now p)) }
 {
-    match by {
-        Some(_) => copied.joined(alloc, area.visible.diff(alloc, &part.erase)?),
-        None => Ok(copied),
+    match (by, area) {
+        (Some(_), Some(area)) => copied.joined(alloc, area.visible.diff(alloc, &part.erase)?),
+        _ => Ok(copied),
     }
 }
 
@@ -141,27 +157,111 @@ fn redraw_of(
     }
 }
 
+/// What a region has outside the changed area, and what was taken of that.
+fn kept_and(
+    alloc: Global,
+    region: &Region,
+    changed: &Region,
+    taken: Region,
+) -> Result<Region, AllocError>
+    ensures { IfOk result (λ kept. (p : Point) → holds kept p
+        ≡ ((holds region.now p && not (holds changed.now p)) || holds taken p)) }
+{
+    region.diff(alloc, changed)?.joined(alloc, taken)
+}
+
 impl Seat<'_> {
-    /// What the window takes of the rest of the screen, and what it leaves.
-    fn sweep(&self, alloc: Global, rest: Region, touch: Touch) -> Result<Swept, AllocError>
+    /// The box of the window's structure on the screen.
+    fn boxed(&self) -> Rect
         requires placed { IsPlacedSeat ⟦<Taken as Defined>⟧.loan self.now }
-        requires near { IsNearSeat self.now }
-        requires near_rest { IsNear rest }
-        ensures { IfOk result (λ s. IsSwept ⟦<Taken as Defined>⟧.loan touch (holds rest) self.now
-            s.area s.part (holds s.left)) }
+        ensures holds { (p : Point) → (seat_stand ⟦<Taken as Defined>⟧.loan self.now).structure (minus p self.now.place) ≡ true
+            → rect_holds result p ≡ true }
+        ensures within { IsWithin (seat_stand ⟦<Taken as Defined>⟧.loan self.now).content
+            (seat_stand ⟦<Taken as Defined>⟧.loan self.now).structure }
     {
-        if !self.shown {
-            return Ok(Swept {
-                area: Area::empty(alloc),
-                part: Part::empty(alloc),
+        let judged = self.taken.bounds(self.size);
+        judged.offset(self.place.h, self.place.v).unwrap()
+    }
+
+    /// Whether the window is hidden, or beside the rest of the changed area.
+    fn is_beside(&self, rest: &Region) -> bool
+        requires placed { IsPlacedSeat ⟦<Taken as Defined>⟧.loan self.now }
+        ensures beside { result ≡ true → IsBeside ⟦<Taken as Defined>⟧.loan (holds rest.now) self.now }
+        ensures shown { result ≡ false → self.now.shown ≡ true }
+    {
+        !self.shown || !rest.meets_rect(self.boxed())
+    }
+
+    /// Whether nothing changes of the window.
+    fn stays(&self, lost: &Region, rest: &Region, touch: Touch) -> bool
+        requires placed { IsPlacedSeat ⟦<Taken as Defined>⟧.loan self.now }
+        ensures { result ≡ true → IsLeftAlone ⟦<Taken as Defined>⟧.loan touch (holds lost.now) (holds rest.now) self.now }
+    {
+        if self.serial == touch.window {
+            return false;
+        }
+        if lost.meets_rect(self.area.visible.bbox()) || lost.meets_rect(self.area.frame.bbox()) {
+            return false;
+        }
+        self.is_beside(rest)
+    }
+
+    /// What the window takes of the rest of the changed area, and what it leaves.
+    fn take(&self, alloc: Global, rest: Region) -> Result<Share, AllocError>
+        requires placed { IsPlacedSeat ⟦<Taken as Defined>⟧.loan self.now }
+        ensures { IfOk result (λ s. IsShare ⟦<Taken as Defined>⟧.loan (holds rest) self.now s.taken s.around (holds s.left)) }
+    {
+        if self.is_beside(&rest) {
+            return Ok(Share {
+                taken: Region::empty(alloc),
+                around: Region::empty(alloc),
                 left: rest,
             });
         }
         let WindowRegions { structure, content } = regions_of(
             alloc, self.place, self.size, self.taken,
         )?;
-        let frame = structure.sect(alloc, &rest)?.less(alloc, &content)?;
-        let visible = content.cut_to(alloc, &rest)?;
+        let around = structure.sect(alloc, &rest)?.less(alloc, &content)?;
+        let taken = content.cut_to(alloc, &rest)?;
+        let left = rest.less(alloc, &structure)?;
+        Ok(Share {
+            taken,
+            around,
+            left,
+        })
+    }
+
+    /// What the window has after the call, and what it leaves of the rest of the changed area.
+    fn sweep(
+        &self,
+        alloc: Global,
+        changed: &Region,
+        lost: &Region,
+        rest: Region,
+        touch: Touch,
+    ) -> Result<Swept, AllocError>
+        requires placed { IsPlacedSeat ⟦<Taken as Defined>⟧.loan self.now }
+        requires near { IsNearSeat self.now }
+        requires near_rest { IsNear rest }
+        requires losing { IsLosing touch (holds changed.now) (holds lost.now) self.now }
+        ensures swept { IfOk result (λ s. IsSwept ⟦<Taken as Defined>⟧.loan touch (holds changed.now) (holds rest) self.now
+            (area_then self.now.area.now s.area) s.part (holds s.left)) }
+        ensures still { IfOk result (λ s. s.area ≡ None → way_of touch self.now.serial ≡ None) }
+    {
+        if self.stays(lost, &rest, touch) {
+            return Ok(Swept {
+                area: None,
+                part: Part::empty(alloc),
+                left: rest,
+            });
+        }
+        let Share {
+            taken,
+            around,
+            left,
+        } = self.take(alloc, rest)?;
+        let visible = kept_and(alloc, &self.area.visible, changed, taken)?;
+        let frame = kept_and(alloc, &self.area.frame, changed, around)?;
         let by = touch.way_of(self.serial);
         let had = carried(alloc, &self.area.visible, by, &visible)?;
         let old = carried(alloc, &self.area.update, by, &visible)?;
@@ -173,13 +273,12 @@ impl Seat<'_> {
             &self.area.frame,
             touch.draws_whole(self.serial),
         )?;
-        let left = rest.less(alloc, &structure)?;
         Ok(Swept {
-            area: Area {
+            area: Some(Area {
                 visible,
                 update,
                 frame,
-            },
+            }),
             part: Part { erase, redraw },
             left,
         })

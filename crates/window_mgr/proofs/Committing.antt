@@ -29,6 +29,7 @@ use Rattle.vis_update.specs.Touches.{change_of, draws_whole, moves}
 use Rattle.vis_update.specs.Plans.{IsPart, ArePlanParts, IsPlan}
 use Rattle.vis_update.specs.Touches.{moved_from}
 use Rattle.window_mgr.specs.Whole.{AreFramesShown}
+use Rattle.vis_update.specs.declared.area.Area.{Area}
 use Rattle.vis_update.specs.Areas.{IsDesktop, is_content_of}
 use Rattle.vis_update.proofs.Others.{not_content, not_same_frame}
 
@@ -118,6 +119,11 @@ not_bar_among (w ∷ ws) p = by_test (not_bar_among ws p) (layers.in_structure w
     by_test behind false = behind
 
 -- the owner is of this serial
+-- a frame that is not drawn whole, where the window's would be, is another's
+pub quiet_is : (b : Bool) → (b && true) ≡ false → b ≡ false
+quiet_is true e = e
+quiet_is false e = refl
+
 pub turned : (a b : ℕ) → (a == b) ≡ false → (b == a) ≡ false
 turned a b f = by_test (b == a) refl
   where
@@ -134,7 +140,7 @@ of_frame s n e = ap not e
 -- ---- what a plan that is drawn leaves
 
 -- what is known where a call that arranges windows drew its plan
-pub record IsReady (t : Touch) (before : FullState) (after : FullDesk) (desktop : Pixels) (plan : Plan) (old new : Bits) : Type 0 where
+pub record IsReady (t : Touch) (before : FullState) (after : FullDesk) (desktop : Pixels) (olds : List Area) (plan : Plan) (old new : Bits) : Type 0 where
   pub screen : layered_desk after ≡ record (layered_desk before.desk) { windows = (layered_desk after).windows }
   pub distinct : layers.IsDesk (layered_desk after)
   pub on : (p : Point) → layers.on_screen (layered_desk before.desk) p ≡ on_map old p
@@ -142,10 +148,10 @@ pub record IsReady (t : Touch) (before : FullState) (after : FullDesk) (desktop 
   pub shown : AreFramesShown before
   pub desktop_was : IsDesktop (layered_desk before.desk) desktop
   pub frames : (s : ℕ) (p : Point) → draws_whole t s ≡ false → own_bit (layered_desk before.desk) (Frame s) p ≡ own_bit (layered_desk after) (Frame s) p
-  pub planned : IsPlan t (layered_state before) (layered_desk after) desktop after.windows plan
+  pub planned : IsPlan t (layered_state before) (layered_desk after) desktop olds after.windows plan
   pub drawn : IsPlanDrawn plan t.by after.font after.windows old new
 
-module _ (t : Touch) (before : FullState) (after : FullDesk) (desktop : Pixels) (plan : Plan) (old new : Bits) (R : IsReady t before after desktop plan old new) where
+module _ (t : Touch) (before : FullState) (after : FullDesk) (desktop : Pixels) (olds : List Area) (plan : Plan) (old new : Bits) (R : IsReady t before after desktop olds plan old new) where
   abbrev was : LayeredDesk
   was = layered_desk before.desk
 

@@ -35,7 +35,7 @@ use Rattle.window_mgr.proofs.KeptWindows.{layers_relit}
 use Rattle.window_mgr.proofs.PutIn.{put_in, taken_out, map-put, All-out, IsFree, is_put}
 use Rattle.window_mgr.proofs.Rearranged.{stands_lit}
 use Rattle.window_mgr.proofs.Disposed.{IsOneOf, left, distinct_left, others_found, sound_left, settled_left, free_of}
-use Rattle.window_mgr.proofs.Committing.{turned}
+use Rattle.window_mgr.proofs.Committing.{turned, quiet_is}
 use Rattle.window_mgr.proofs.EditCalls.{relit_records}
 use Rattle.window_mgr.proofs.EditSeats.{there_is}
 use Rattle.window_mgr.proofs.Steps.{found, not_missing}
@@ -105,7 +105,7 @@ module _ {V : Type 0} {H : V → Type 0} (loan : Taken V H → Loan) where
     after = left (desk_of loan t slots) s at (record_of loan w) rest one activation now
 
     abbrev touch : Touch
-    touch = record { window = s; by = None }
+    touch = record { window = s; by = None; whole = true }
 
     shut : IsShut (loan w.taken) slots now
     shut = subst (λ (x : Taken V H). IsShut (loan x) slots now) N.off.its N.shut
@@ -124,12 +124,12 @@ module _ {V : Type 0} {H : V → Type 0} (loan : Taken V H → Loan) where
       layers = layers_relit activation t.windows.active rest;
     }
 
-    dispose_arranged : IsArrangedCall loan touch t new slots now after plan
+    dispose_arranged : IsArrangedCall loan touch t new slots now after (remove t.areas.items at) plan
     dispose_arranged = record {
       whole = N.whole;
       screen = refl;
       sound = sound_left (desk_of loan t slots) s at (record_of loan w) rest one activation now N.whole.sound shut;
-      frames = λ n p quiet. ap (λ o. frame_bit o p) (others_found (desk_of loan t slots) s at (record_of loan w) rest one activation now N.whole.sound.distinct n (turned n s quiet));
+      frames = λ n p quiet. ap (λ o. frame_bit o p) (others_found (desk_of loan t slots) s at (record_of loan w) rest one activation now N.whole.sound.distinct n (turned n s (quiet_is (n == s) quiet)));
       planned = N.planned after desk_without;
       drawn = drawn;
       desk_is = λ i. record {
@@ -148,10 +148,6 @@ module _ {V : Type 0} {H : V → Type 0} (loan : Taken V H → Loan) where
       gray = N.off.gray;
       lie = subst (All LieThere) (sym N.off.windows) (relit_lie activation t.windows.active (remove t.windows.records.items at) (rest_lie t.windows.records.items at w N.low N.off.there N.whole.layers));
     }
-      where
-        first_is : (x y : Bool) → (x || y) ≡ false → x ≡ false
-        first_is true y f = f
-        first_is false y f = refl
 
     closed : IsWindowDisposed s (state_of loan t slots) (state_of loan new now)
     closed = record {
@@ -163,7 +159,7 @@ module _ {V : Type 0} {H : V → Type 0} (loan : Taken V H → Loan) where
     }
       where
         left_is : (desk_of loan new now ≡ after) × IsChanged no_change (layered_state (state_of loan t slots)) (layered_state (state_of loan new now))
-        left_is = arranged_is_left loan touch t new slots now after plan dispose_arranged
+        left_is = arranged_is_left loan touch t new slots now after (remove t.areas.items at) plan dispose_arranged
 
         free : IsFree (look_on t) s rest
         free = free_of (desk_of loan t slots) s at (record_of loan w) rest one activation now N.whole.sound.distinct
@@ -178,11 +174,11 @@ module _ {V : Type 0} {H : V → Type 0} (loan : Taken V H → Loan) where
 
     -- and it writes no more on the screen
     pub dispose_spares : Spares loan s None t new
-    dispose_spares = arranged_spares loan touch t new slots now after plan dispose_arranged
+    dispose_spares = arranged_spares loan touch t new slots now after (remove t.areas.items at) plan dispose_arranged
 
     -- it is whole after the call, which made its step
     pub dispose_done : IsWholeManager loan new now × IsWindowStep (Dispose s) (Ok Done) (state_of loan t slots) (state_of loan new now)
     dispose_done = (
-      arranged_is_whole loan touch t new slots now after plan dispose_arranged,
+      arranged_is_whole loan touch t new slots now after (remove t.areas.items at) plan dispose_arranged,
       (not_missing loan t new slots N.whole at s w N.low N.off.there serial, (refl, closed)),
     )

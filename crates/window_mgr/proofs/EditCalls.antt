@@ -1,23 +1,25 @@
 -- What a call that puts one window anew leaves.
-use Rattle.std.proofs.Common.{◌≡◌, ℕ, ◌<◌, ◌==◌, ◌||◌, Bool, true, false, if◌then◌else◌, List, [], ◌∷◌, length, map, Option, None, Some, Ok, pos, refl, sym, ap, ◌∙◌, subst}
-use Rattle.std.specs.Prelude.{All}
+use Rattle.std.proofs.Common.{◌≡◌, ℕ, ◌<◌, ◌==◌, ◌&&◌, Bool, true, false, if◌then◌else◌, List, [], ◌∷◌, length, map, Option, None, Some, Ok, pos, refl, sym, ap, ◌∙◌, subst}
+use Rattle.std.specs.Prelude.{All, is_some}
 use Rattle.std.specs.List.{insert, remove}
-use Rattle.std.proofs.lemmas.Bool.{and_parts}
+use Rattle.std.proofs.lemmas.Bool.{and_parts, eqb-true}
 use Rattle.std.proofs.lemmas.List.Elements.{All-head, All-tail}
 use Rattle.tb_geom.specs.declared.point.Point.{Point}
 use Rattle.tb_geom.specs.Rects.{rect_holds}
 use Rattle.def_iface.specs.declared.taken.Taken.{Taken}
 use Rattle.def_iface.specs.Meaning.{Loan, IsWithin, GoesBy}
 use Rattle.def_iface.specs.Stocked.{SlotView}
-use Rattle.def_iface.specs.Owner.{frame_bit}
+use Rattle.def_iface.specs.Owner.{frame_bit, own_bit}
+use Rattle.def_iface.specs.Owner.Owner.{Frame}
 use Rattle.window_list.specs.declared.window.Window.{Window}
+use Rattle.window_list.specs.Ranks.{moved_item}
 use Rattle.window_list.specs.Lists.{relit, lit as lit_window, dimmed}
 use Rattle.vis_update.specs.declared.plan.Plan.{Plan}
 use Rattle.vis_update.specs.declared.plan.Touch.{Touch}
 use Rattle.vis_update.specs.Records.{WindowRecord, news_of, record_of}
 use Rattle.vis_update.specs.Places.{is_placed}
 use Rattle.vis_update.specs.Seats.{stand_of}
-use Rattle.vis_update.specs.Touches.{moving}
+use Rattle.vis_update.specs.Touches.{moving, draws_whole}
 use Rattle.def_iface.specs.Change.{IsChanged}
 use Rattle.vis_update.proofs.PlaceLemmas.{placed_parts}
 use Rattle.desk_call.specs.declared.window.WindowReply.TheVariants.{Done}
@@ -26,10 +28,10 @@ use Rattle.window_mgr.specs.declared.arrange.Activation.{Activation}
 use Rattle.window_mgr.specs.declared.arrange.Activation.TheVariants.{Stays, Becomes}
 use Rattle.window_mgr.specs.declared.arrange.Edit.{Edit}
 use Rattle.window_mgr.specs.declared.manager.WindowManager.{WindowManager}
-use Rattle.window_mgr.specs.FullDesk.{FullDesk, layered_state}
+use Rattle.window_mgr.specs.FullDesk.{FullDesk, layered_desk, layered_state}
 use Rattle.window_mgr.specs.Arrange.{activated, desk_activated, with_highlighting}
 use Rattle.window_mgr.specs.Commits.{IsPlanDrawn}
-use Rattle.window_mgr.specs.Edits.{put_record, put_window, records_put, relit_all, IsWindowAt, IsPlanOfEdit, IsDeskOfEdit, IsPlaceable, SameSize, IsActivation, AreSettledAfter, IsCommitted, IsRearranged}
+use Rattle.window_mgr.specs.Edits.{put_record, put_window, records_put, relit_all, IsWindowAt, IsPlanOfEdit, IsDeskOfEdit, IsPlaceable, SameSize, IsOnItsWay, IsActivation, AreSettledAfter, IsCommitted, IsRearranged}
 use Rattle.window_mgr.specs.Effects.{IsArrangement}
 use Rattle.window_mgr.specs.Records.{desk_of, state_of}
 use Rattle.window_paint.specs.White.{all_white}
@@ -38,7 +40,7 @@ use Rattle.window_mgr.proofs.PutIn.{put_in, put_is_insert, taken_out, All-out, A
 use Rattle.window_mgr.proofs.LyingThere.{relit_lie, put_lie}
 use Rattle.window_mgr.proofs.KeptWindows.{layers_relit}
 use Rattle.window_mgr.proofs.DimLemmas.{dimmed_record}
-use Rattle.window_mgr.proofs.Rearranged.{IsEdit, edited, sound_now, distinct_now, others_found, stands_lit, settled_all, relit_record}
+use Rattle.window_mgr.proofs.Rearranged.{IsEdit, edited, sound_now, distinct_now, others_found, frame_kept, stands_lit, settled_all, relit_record}
 use Rattle.window_mgr.proofs.EditSeats.{map-insert, same_at}
 use Rattle.window_mgr.proofs.Committing.{turned}
 use Rattle.window_mgr.proofs.Arranged.{IsArrangedCall, is_left as arranged_is_left, is_whole as arranged_is_whole, spares as arranged_spares}
@@ -123,7 +125,8 @@ module _ {V : Type 0} {H : V → Type 0} (loan : Taken V H → Loan) where
     pub may : IsPlaceable loan e t.windows.records.items
     pub same : SameSize e t.windows.records.items
     pub becomes : IsActivation loan e activates t activation
-    pub planned : IsPlanOfEdit loan e by t plan
+    pub way : IsOnItsWay e.at e.place by t.windows.records.items
+    pub planned : IsPlanOfEdit loan e by (is_some by) t plan
     pub committed : IsCommitted loan e activation plan by t new
 
   module _ (e : Edit) (activates : Activates) (activation : Activation) (by : Option Point) (plan : Plan) (t new : WindowManager V H) (slots : List SlotView) (N : IsEditCall e activates activation by plan t new slots) where
@@ -140,7 +143,25 @@ module _ {V : Type 0} {H : V → Type 0} (loan : Taken V H → Loan) where
     edit = edit_is t slots e activation w w_is N.low
 
     abbrev touch : Touch
-    touch = record { window = w.serial; by = by }
+    touch = record { window = w.serial; by = by; whole = is_some by }
+
+    -- the frame of a window that is not drawn whole is as it was: that of another, or that of the window itself, which stays
+    -- where it is
+    frames : (n : ℕ) (p : Point) → draws_whole touch n ≡ false → own_bit (layered_desk (desk_of loan t slots)) (Frame n) p ≡ own_bit (layered_desk left) (Frame n) p
+    frames n p quiet = by_window (n == w.serial) refl
+      where
+        stays : (k : Option Point) → (true && is_some k) ≡ false → IsOnItsWay e.at e.place k t.windows.records.items → e.place ≡ w.place
+        stays None still way = way w w_is
+        stays (Some k) still way = absurd (cc)
+
+        by_window : (b : Bool) → (n == w.serial) ≡ b → own_bit (layered_desk (desk_of loan t slots)) (Frame n) p ≡ own_bit (layered_desk left) (Frame n) p
+        by_window true here =
+            let same : n ≡ w.serial = eqb-true n w.serial here in
+            let place : e.place ≡ w.place = stays by (ap (λ b. b && is_some by) (sym here) ∙ quiet) N.way in
+            ap (λ k. own_bit (layered_desk (desk_of loan t slots)) (Frame k) p) same
+            ∙ frame_kept (desk_of loan t slots) w.serial e.at e.to (record_of loan w) _ _ edit activation N.whole.sound.distinct p place refl
+            ∙ ap (λ k. own_bit (layered_desk left) (Frame k) p) (sym same)
+        by_window false away = ap (λ o. frame_bit o p) (others_found (desk_of loan t slots) w.serial e.at e.to (record_of loan w) _ _ edit activation N.whole.sound.distinct n (turned n w.serial away))
 
     windows_are : map (record_of loan) new.windows.records.items ≡ left.windows
     windows_are = ap (map (record_of loan)) N.committed.windows ∙ records_are t slots e activation w w_is N.low (N.same w w_is)
@@ -156,12 +177,12 @@ module _ {V : Type 0} {H : V → Type 0} (loan : Taken V H → Loan) where
       layers = layers_relit activation t.windows.active _ ∙ ap (map (λ (v : WindowRecord). v.layers)) (put_is_insert e.to (put_record e (record_of loan w)) (rest t slots e activation w w_is N.low));
     }
 
-    edit_arranged : IsArrangedCall loan touch t new slots slots left plan
+    edit_arranged : IsArrangedCall loan touch t new slots slots left (moved_item t.areas.items e.at e.to) plan
     edit_arranged = record {
       whole = N.whole;
       screen = refl;
       sound = sound_now (desk_of loan t slots) w.serial e.at e.to (record_of loan w) _ _ edit activation N.whole.sound refl (put_settled t slots e activation w w_is N.low N.may (N.same w w_is) N.whole.sound.settled);
-      frames = λ n p quiet. ap (λ o. frame_bit o p) (others_found (desk_of loan t slots) w.serial e.at e.to (record_of loan w) _ _ edit activation N.whole.sound.distinct n (turned n w.serial quiet));
+      frames = frames;
       planned = N.planned w w_is left deskof;
       drawn = drawn;
       desk_is = λ i. record {
@@ -181,10 +202,6 @@ module _ {V : Type 0} {H : V → Type 0} (loan : Taken V H → Loan) where
       lie = subst (All LieThere) (ap (relit_all activation t.windows.active) (put_is_insert e.to (put_window e w) (remove t.windows.records.items e.at)) ∙ sym N.committed.windows)
           (relit_lie activation t.windows.active _ (put_lie t.windows.records.items e.at e.to w (put_window e w) N.low w_is N.whole.layers refl));
     }
-      where
-        first_is : (x y : Bool) → (x || y) ≡ false → x ≡ false
-        first_is true y f = f
-        first_is false y f = refl
 
     edit_is_left : (v : Window V H) → IsWindowAt t.windows.records.items e.at v
         → IsArrangement (record { window = v.serial; by = by; windows = records_put loan e v t; activates = activates }) (state_of loan t slots) (state_of loan new slots)
@@ -194,15 +211,15 @@ module _ {V : Type 0} {H : V → Type 0} (loan : Taken V H → Loan) where
     })
       where
         left_is : (desk_of loan new slots ≡ left) × IsChanged (moving w.serial by) (layered_state (state_of loan t slots)) (layered_state (state_of loan new slots))
-        left_is = arranged_is_left loan touch t new slots slots left plan edit_arranged
+        left_is = arranged_is_left loan touch t new slots slots left (moved_item t.areas.items e.at e.to) plan edit_arranged
 
     -- it is whole after the call, and this is what the call answers and leaves
     pub edit_done : IsWholeManager loan new slots × IsRearranged loan e activates by (Ok Done) t new slots
-    edit_done = (arranged_is_whole loan touch t new slots slots left plan edit_arranged, (refl, edit_is_left))
+    edit_done = (arranged_is_whole loan touch t new slots slots left (moved_item t.areas.items e.at e.to) plan edit_arranged, (refl, edit_is_left))
 
     -- and it writes no more on the screen
     pub edit_spares : (v : Window V H) → IsWindowAt t.windows.records.items e.at v → Spares loan v.serial by t new
-    edit_spares v v_is = subst (λ (x : Window V H). Spares loan x.serial by t new) (same_at t.windows.records.items e.at w v N.low w_is v_is) (arranged_spares loan touch t new slots slots left plan edit_arranged)
+    edit_spares v v_is = subst (λ (x : Window V H). Spares loan x.serial by t new) (same_at t.windows.records.items e.at w v N.low w_is v_is) (arranged_spares loan touch t new slots slots left (moved_item t.areas.items e.at e.to) plan edit_arranged)
 
   -- every window is settled, whichever stands at the place
   pub all_settled : (t : WindowManager V H) (slots : List SlotView) (e : Edit) (a : Activation) → IsWholeManager loan t slots → e.at < length t.windows.records.items → IsPlaceable loan e t.windows.records.items → SameSize e t.windows.records.items

@@ -3,23 +3,27 @@ use Rattle.std.proofs.Common.{◌≡◌, ℕ, zero, suc, ◌+◌, ◌<◌, ◌�
 use Rattle.std.specs.Prelude.{All, slice_get}
 use Rattle.std.specs.List.{insert, remove}
 use Rattle.std.proofs.lemmas.Bool.{and_parts}
-use Rattle.std.proofs.lemmas.Option.{slice_get_read}
-use Rattle.std.proofs.lemmas.List.Elements.{All-head, All-tail}
+use Rattle.std.proofs.lemmas.Option.{slice_get_read, get_or_from_slice_get}
+use Rattle.std.proofs.lemmas.List.Elements.{All-head, All-tail, All-get_or}
 use Rattle.std.proofs.lemmas.List.Sorted.{length_permutation}
 use Rattle.tb_geom.specs.declared.point.Point.{Point}
 use Rattle.tb_geom.specs.Points.{minus}
+use Rattle.tb_geom.specs.Pixels.{Pixels, holds}
 use Rattle.def_iface.specs.declared.taken.Taken.{Taken}
 use Rattle.def_iface.specs.Meaning.{Loan}
-use Rattle.def_iface.specs.Desk.{LayeredDesk}
 use Rattle.def_iface.specs.Change.{State}
 use Rattle.window_list.specs.declared.window.Window.{Window}
 use Rattle.window_list.specs.Ranks.{insert_option, moved_item}
 use Rattle.window_list.specs.Lists.{edit}
+use Rattle.vis_update.specs.declared.area.Area.{Area}
 use Rattle.vis_update.specs.declared.plan.Seat.{Seat}
+use Rattle.vis_update.specs.declared.plan.Touch.{Touch}
+use Rattle.vis_update.specs.Plans.{IsLosing}
+use Rattle.vis_update.specs.Hands.{IsLostOf}
 use Rattle.vis_update.specs.Records.{WindowRecord, record_of}
 use Rattle.vis_update.specs.Places.{is_placed}
-use Rattle.vis_update.specs.Areas.{IsArea, IsGray}
-use Rattle.vis_update.specs.Seats.{stand_of, seat_stand, IsPlacedSeat, IsNearSeat, IsArranged}
+use Rattle.vis_update.specs.Areas.{IsArea}
+use Rattle.vis_update.specs.Seats.{stand_of, seat_stand, area_had, IsPlacedSeat, IsNearSeat, IsArranged, IsChangedArea}
 use Rattle.window_mgr.specs.declared.arrange.Edit.{Edit}
 use Rattle.window_mgr.specs.declared.manager.WindowManager.{WindowManager}
 use Rattle.window_mgr.specs.FullDesk.{FullDesk, layered_desk, layered_state, look_of}
@@ -33,8 +37,8 @@ use Rattle.window_mgr.specs.Whole.{IsSettled}
 use Rattle.window_mgr.proofs.PaintLemmas.{settled_in}
 use Rattle.vis_update.proofs.PlaceLemmas.{placed_from}
 use Rattle.window_mgr.proofs.PutIn.{put_in, put_is_insert, taken_out, All-out, All-put, map-put, put_permutes}
-use Rattle.window_mgr.proofs.Seating.{lengths_of, seat_at, seats_stand, seats_had, seats_placed, sides}
-use Rattle.vis_update.proofs.SeatLemmas.{seats_near}
+use Rattle.window_mgr.proofs.Seating.{as_many, lengths_of, seat_at, seats_areas, seats_stand, seats_had, seats_placed, sides}
+use Rattle.vis_update.proofs.SeatLemmas.{seats_near, losing_seats}
 
 module _ {X Y : Type 0} (f : X → Y) where
   pub map-insert : (i : ℕ) (x : X) (xs : List X) → map f (insert xs i x) ≡ put_in i (f x) (map f xs)
@@ -100,6 +104,16 @@ module _ {X : Type 0} (xs : List X) (i j : ℕ) (x : X) (low : i < length xs) (x
   pub moved_anew : (f : X → X) → j < length xs → edit f j (moved_item xs i j) ≡ insert (remove xs i) j (f x)
   moved_anew f to = ap (edit f j) moved_put ∙ edit_put f j x (remove xs i) (room to) ∙ put_is_insert j (f x) (remove xs i)
 
+-- an element that is moved to its own place is where it was
+pub moved_to_itself : {X : Type 0} (xs : List X) (i : ℕ) → i < length xs → moved_item xs i i ≡ xs
+moved_to_itself xs i low = let x = there_is xs i low in moved_put xs i i x.0 low x.1 ∙ sym (taken_out xs i x.0 low x.1)
+
+-- what is read of an element is read of it among what is of all
+pub read_map : {X Y : Type 0} (f : X → Y) (xs : List X) (i : ℕ) (x : X) → x ≡ get_or xs i x → f x ≡ get_or (map f xs) i (f x)
+read_map f [] i x e = refl
+read_map f (y ∷ ys) zero x e = ap f e
+read_map f (y ∷ ys) (suc i) x e = read_map f ys i x e
+
 -- seats that stand as windows do have the same first visible one
 pub first_stand : {V : Type 0} {H : V → Type 0} (loan : Taken V H → Loan) (ss : List (Seat V H)) (ws : List WindowRecord) → map (seat_stand loan) ss ≡ map stand_of ws → first_seated ss ≡ front_of ws
 first_stand loan [] [] e = refl
@@ -137,6 +151,42 @@ module _ {V : Type 0} {H : V → Type 0} (loan : Taken V H → Loan) (t : Window
   pub near_edit : All IsNearSeat seats
   near_edit = let side = sides loan t kept in seats_near before.desk before.stale seats side.0 side.1 had
 
+  -- the seat that is put anew
+  abbrev pub anew : Seat V H
+  anew = record S.seat { place = e.place; size = e.size; shown = e.shown }
+
+  pub area_low : e.at < length t.areas.items
+  area_low = let long = as_many loan t kept in omega arith
+
+  -- its area is the one that stood at the place of the edit
+  pub area_read : S.seat.area.now ≡ get_or t.areas.items e.at S.seat.area.now
+  area_read = read_map area_had S.all e.at S.seat S.at ∙ ap (λ xs. get_or xs e.at S.seat.area.now) (seats_areas t.windows.records.items t.areas.items S.all S.are)
+
+  -- the areas are those of the windows, one in its new place
+  pub areas_edit : map area_had seats ≡ moved_item t.areas.items e.at e.to
+  areas_edit =
+      ap (map area_had) S.is
+      ∙ map-insert area_had e.to anew (remove S.all e.at)
+      ∙ ap (put_in e.to S.seat.area.now) (map-remove area_had S.all e.at ∙ ap (λ xs. remove xs e.at) (seats_areas t.windows.records.items t.areas.items S.all S.are))
+      ∙ sym (moved_put t.areas.items e.at e.to S.seat.area.now area_low area_read)
+
+  -- it stands in its new place
+  pub anew_read : (s : Seat V H) → e.to < length t.windows.records.items → s ≡ get_or seats e.to s → s ≡ anew
+  anew_read s to read =
+      let one_less = length-put e.at S.seat (remove S.all e.at) in
+      let all = ap length (taken_out S.all e.at S.seat within S.at) in
+      let long = lengths_of t.windows.records.items t.areas.items S.all S.are in
+      let many = as_many_seats in
+      let found : slice_get seats e.to ≡ Some anew = ap (λ ss. slice_get ss e.to) (S.is ∙ sym (put_is_insert e.to anew (remove S.all e.at))) ∙ read_put e.to anew (remove S.all e.at) (omega arith) in
+      same_at seats e.to s anew (omega arith) read (get_or_from_slice_get seats e.to anew anew found)
+
+  pub losing_edit : (touch : Touch) (s : Seat V H) → e.to < length t.windows.records.items → s ≡ get_or seats e.to s → touch.window ≡ s.serial → (changed lost : Pixels) → IsLostOf s.area.now changed lost → All (IsLosing touch (holds changed) (holds lost)) seats
+  losing_edit touch s to read same changed lost lost_is =
+      let many = as_many_seats in
+      losing_seats touch before.desk before.stale s.area.now changed lost seats
+      (subst (λ n. IsArea before.desk before.stale n s.area.now) (sym same) (subst (λ (x : Seat V H). IsArea before.desk before.stale x.serial x.area.now) (sym read) (All-get_or (λ (x : Seat V H). IsArea before.desk before.stale x.serial x.area.now) seats e.to s (omega arith) had)))
+      lost_is had
+
   pub placed_edit : IsPlaceable loan e t.windows.records.items → All (IsPlacedSeat loan) seats
   placed_edit may =
       let w = there_is t.windows.records.items e.at low in
@@ -164,11 +214,11 @@ module _ {V : Type 0} {H : V → Type 0} (loan : Taken V H → Loan) (t : Window
         ∙ (λ i. put_in e.to (seat_put i) ((map-remove (seat_stand loan) S.all e.at ∙ ap (λ xs. remove xs e.at) (seats_stand loan t.windows.records.items t.areas.items S.all S.are) ∙ sym (map-remove stand_of (map (record_of loan) t.windows.records.items) e.at) ∙ ap (map stand_of) (sym (map-remove (record_of loan) t.windows.records.items e.at))) i))
         ∙ sym (map-insert stand_of e.to (put_record e (record_of loan w)) (map (record_of loan) (remove t.windows.records.items e.at)))
 
-    pub arranged_edit : (after : FullDesk) → IsDeskOfEdit loan e t w after → IsArranged loan (look_of after) before (layered_desk after) after.windows t.gray seats
-    arranged_edit after D = record {
+    pub arranged_edit : (after : FullDesk) (changed : Pixels) → IsDeskOfEdit loan e t w after → IsChangedArea before.desk (layered_desk after) changed → IsArranged loan (look_of after) before (layered_desk after) after.windows changed seats
+    arranged_edit after changed D changes = record {
       desk = refl;
       distinct = D.distinct;
-      gray_is = subst (λ (d : LayeredDesk). IsGray d t.gray) (sym D.screen) kept.whole.gray;
+      changes = changes;
       stands = seats_put ∙ sym D.stands;
       areas = had;
     }

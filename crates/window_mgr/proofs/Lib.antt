@@ -20,6 +20,7 @@ pub mod Rearranged
 pub mod LyingThere
 pub mod KeptWindows
 pub mod KeptEdits
+pub mod Changed
 pub mod EditSeats
 pub mod RestSeats
 pub mod EditCalls

@@ -43,7 +43,7 @@ use Rattle.window_mgr.specs.Effects.{IsNewWindow, first_news, new_record, desk_w
 use Rattle.window_mgr.specs.Arrange.{with_highlighting}
 use Rattle.window_mgr.specs.Planned.{IsPlanWith, IsAdded, IsUnplanned, SameDesk, new_touch}
 use Rattle.window_list.specs.Lists.{dimmed}
-use Rattle.vis_update.specs.Plans.{IsPlan}
+use Rattle.vis_update.specs.Plans.{IsPlan, areas_then}
 use Rattle.vis_update.specs.Touches.{change_of, draws_whole}
 use Rattle.window_mgr.specs.Whole.{IsWholeManager, IsSoundDesk, IsSettled, LieThere}
 use Rattle.window_mgr.specs.Commits.{IsPlanDrawn}
@@ -167,10 +167,10 @@ module _ {V : Type 0} {H : V → Type 0} (loan : Taken V H → Loan) where
     layers_are = layered_desk-with w n taken.slot N.added.begun before left
 
     -- the plan, said of the desk before the call
-    plan_is : IsPlan touch (layered_state (state_of loan t slots)) (layered_desk after) t.desktop after.windows plan
+    plan_is : IsPlan touch (layered_state (state_of loan t slots)) (layered_desk after) t.desktop (N.added.area ∷ t.areas.items) after.windows plan
     plan_is =
         let back : SameDesk planned t = record { screen = sym N.same.screen; bar = sym N.same.bar; font = sym N.same.font; gray = sym N.same.gray; desktop = sym N.same.desktop; windows = sym N.same.windows; areas = sym N.same.areas; active = sym N.same.active; next = sym N.same.next } in
-        plan_stays loan planned t [] [] back refl w n taken.definition touch plan N.plan_with taken.slot N.added.begun N.added.live.regions
+        plan_stays loan planned t [] [] back refl w n taken.definition touch plan N.plan_with taken.slot N.added.begun N.added.live.regions N.added.area N.added.nowhere
 
     windows_are : map (record_of loan) new.windows.records.items ≡ after.windows
     windows_are =
@@ -197,12 +197,8 @@ module _ {V : Type 0} {H : V → Type 0} (loan : Taken V H → Loan) where
     -- the frames of other windows stay
     frames : (s : ℕ) (p : Point) → draws_whole touch s ≡ false → own_bit (layered_desk before) (Frame s) p ≡ own_bit (layered_desk after) (Frame s) p
     frames s p e =
-        sym (own_bit-behind (layered_desk before) (layered_window (look_on t) (new_record w n taken.slot N.added.begun)) (layered_desk before).windows p (Frame s) (ap not (turned s n (ap (λ (x : Touch). s == x.window) (sym N.touch_is) ∙ e))))
+        sym (own_bit-behind (layered_desk before) (layered_window (look_on t) (new_record w n taken.slot N.added.begun)) (layered_desk before).windows p (Frame s) (ap not (turned s n (quiet_is (s == n) (ap (λ (x : Touch). s == x.window && x.whole) (sym N.touch_is) ∙ e)))))
         ∙ sym (ap (λ d. own_bit d (Frame s) p) layers_are)
-      where
-        first_is : (a b : Bool) → (a || b) ≡ false → a ≡ false
-        first_is true b f = f
-        first_is false b f = refl
 
     settled : IsSettled (new_record w n taken.slot N.added.begun)
     settled = record {
@@ -234,7 +230,7 @@ module _ {V : Type 0} {H : V → Type 0} (loan : Taken V H → Loan) where
       stocked = stocked_with w.kind taken slots left N.took _ _ refl (stocked_behind t.windows.active w.shown before.windows slots N.whole.sound.stocked);
     }
 
-    arranged : IsArrangedCall loan touch t new slots left after plan
+    arranged : IsArrangedCall loan touch t new slots left after (N.added.area ∷ t.areas.items) plan
     arranged = record {
       whole = N.whole;
       screen = refl;
@@ -243,14 +239,14 @@ module _ {V : Type 0} {H : V → Type 0} (loan : Taken V H → Loan) where
       planned = plan_is;
       drawn = drawn;
       desk_is = desk_is;
-      areas = N.added.areas;
+      areas = N.added.areas ∙ ap (λ olds. areas_then (N.added.area ∷ olds) plan.areas.items) N.same.areas;
       desktop = N.added.desktop;
       gray = N.added.gray ∙ N.same.gray;
       lie = subst (All LieThere) (sym N.added.windows) (All-cons LieThere N.added.record_is _ N.added.there (dimmed_lie planned.windows.active w.shown planned.windows.records.items (subst (All LieThere) (sym N.same.windows) N.whole.layers)));
     }
 
     pub is_whole : IsWholeManager loan new left
-    is_whole = arranged_is_whole loan touch t new slots left after plan arranged
+    is_whole = arranged_is_whole loan touch t new slots left after (N.added.area ∷ t.areas.items) plan arranged
 
     pub is_new_window : IsNewWindow w n (state_of loan t slots) (state_of loan new left)
     is_new_window = record {
@@ -260,7 +256,7 @@ module _ {V : Type 0} {H : V → Type 0} (loan : Taken V H → Loan) where
       taken = N.took;
       live = N.added.live;
       desk = desk_is;
-      pixels = subst (λ (x : Touch). plain.IsChanged (change_of x) (layered_state (state_of loan t slots)) (layered_state (state_of loan new left))) N.touch_is (arranged_is_left loan touch t new slots left after plan arranged).1;
+      pixels = subst (λ (x : Touch). plain.IsChanged (change_of x) (layered_state (state_of loan t slots)) (layered_state (state_of loan new left))) N.touch_is (arranged_is_left loan touch t new slots left after (N.added.area ∷ t.areas.items) plan arranged).1;
     }
 
     -- the call was done

@@ -31,6 +31,7 @@ use Rattle.vis_update.specs.declared.plan.Touch.{Touch}
 use Rattle.vis_update.specs.Records.{WindowRecord, news_of, record_of}
 use Rattle.vis_update.specs.Places.{is_placed}
 use Rattle.vis_update.specs.Seats.{stand_of}
+use Rattle.vis_update.specs.Plans.{IsPlan}
 use Rattle.vis_update.specs.Touches.{moving}
 use Rattle.vis_update.proofs.PlaceLemmas.{placed_parts}
 use Rattle.desk_call.specs.declared.window.SizeWindow.{SizeWindow}
@@ -45,7 +46,7 @@ use Rattle.desk_call.specs.Parts.{zoom_of}
 use Rattle.window_mgr.specs.declared.arrange.Activation.TheVariants.{Stays}
 use Rattle.window_mgr.specs.declared.arrange.Edit.{Edit}
 use Rattle.window_mgr.specs.declared.manager.WindowManager.{WindowManager}
-use Rattle.window_mgr.specs.FullDesk.{FullDesk, layered_state}
+use Rattle.window_mgr.specs.FullDesk.{FullDesk, layered_desk, layered_state}
 use Rattle.window_mgr.specs.Arrange.{changed, with_placement, desk_activated}
 use Rattle.window_mgr.specs.Commits.{IsPlanDrawn}
 use Rattle.window_mgr.specs.Effects.{Effect, IsEffect, IsWindowPlaced, effect_of, places}
@@ -65,8 +66,10 @@ use Rattle.window_mgr.specs.Whole.{IsWholeManager, IsSettled, LieThere}
 use Rattle.window_mgr.proofs.LyingThere.{put_lie}
 use Rattle.window_mgr.proofs.PutIn.{put_in, put_is_insert, taken_out, map-put, All-out, All-put}
 use Rattle.window_mgr.proofs.Rearranged.{IsEdit, edited, sound_now, distinct_now, others_found}
-use Rattle.window_mgr.proofs.EditSeats.{same_at}
-use Rattle.window_mgr.proofs.Committing.{turned}
+use Rattle.window_mgr.proofs.EditSeats.{same_at, moved_to_itself}
+use Rattle.window_mgr.proofs.Remarked.{area_low}
+use Rattle.window_list.specs.Ranks.{moved_item}
+use Rattle.window_mgr.proofs.Committing.{turned, quiet_is}
 use Rattle.window_mgr.proofs.Arranged.{IsArrangedCall, is_left as arranged_is_left, is_whole as arranged_is_whole, spares as arranged_spares}
 use Rattle.window_mgr.specs.Sparing.{Spares}
 use Rattle.window_mgr.proofs.Steps as steps
@@ -148,7 +151,7 @@ module _ {V : Type 0} {H : V → Type 0} (loan : Taken V H → Loan) where
     pub whole : IsWholeManager loan t slots
     pub low : i < length t.windows.records.items
     pub may : IsPlaceableAt loan i to t.windows.records.items
-    pub planned : (w : Window V H) → IsWindowAt t.windows.records.items i w → IsPlanOfEdit loan (record (stays_put i w) { place = to.place; size = to.size }) by t plan
+    pub planned : (w : Window V H) → IsWindowAt t.windows.records.items i w → IsPlanOfEdit loan (record (stays_put i w) { place = to.place; size = to.size }) by true t plan
     pub committed : IsPlacementCommitted loan i to plan by t new
 
   module _ (i : ℕ) (to : Placement) (by : Option Point) (plan : Plan) (t new : WindowManager V H) (slots : List SlotView) (N : IsPlacementCall i to by plan t new slots) where
@@ -179,11 +182,11 @@ module _ {V : Type 0} {H : V → Type 0} (loan : Taken V H → Loan) where
     abbrev planned_edit : Edit
     planned_edit = record (stays_put i w) { place = to.place; size = to.size }
 
-    plan_is : IsPlanOfEdit loan planned_edit by t plan
+    plan_is : IsPlanOfEdit loan planned_edit by true t plan
     plan_is = N.planned w w_is
 
     abbrev touch : Touch
-    touch = record { window = w.serial; by = by }
+    touch = record { window = w.serial; by = by; whole = true }
 
     deskof : IsDeskOfEdit loan planned_edit t w left
     deskof = record {
@@ -200,14 +203,17 @@ module _ {V : Type 0} {H : V → Type 0} (loan : Taken V H → Loan) where
           ∙ ap (map (λ (u : WindowRecord). u.layers)) (put_is_insert i (put_record planned_edit (record_of loan w)) others);
     }
 
-    placement_arranged : IsArrangedCall loan touch t new slots slots left plan
+    olds_are : moved_item t.areas.items i i ≡ t.areas.items
+    olds_are = moved_to_itself t.areas.items i (area_low loan t slots N.whole i N.low)
+
+    placement_arranged : IsArrangedCall loan touch t new slots slots left t.areas.items plan
     placement_arranged = record {
       whole = N.whole;
       screen = refl;
       sound = sound_now (desk_of loan t slots) w.serial i i (record_of loan w) v others edit Stays N.whole.sound refl
           (laid_settled N.low w_is R (N.may w w_is) N.whole.sound.settled);
-      frames = λ n p quiet. ap (λ o. frame_bit o p) (others_found (desk_of loan t slots) w.serial i i (record_of loan w) v others edit Stays N.whole.sound.distinct n (turned n w.serial quiet));
-      planned = plan_is w w_is left deskof;
+      frames = λ n p quiet. ap (λ o. frame_bit o p) (others_found (desk_of loan t slots) w.serial i i (record_of loan w) v others edit Stays N.whole.sound.distinct n (turned n w.serial (quiet_is (n == w.serial) quiet)));
+      planned = subst (λ olds. IsPlan touch (layered_state (state_of loan t slots)) (layered_desk left) t.desktop olds left.windows plan) olds_are (plan_is w w_is left deskof);
       drawn = subst (λ ws. IsPlanDrawn plan by t.font ws t.screen new.screen) windows_are N.committed.drawn;
       desk_is = λ k. record {
         width = pos (N.committed.drawn.width k);
@@ -226,13 +232,9 @@ module _ {V : Type 0} {H : V → Type 0} (loan : Taken V H → Loan) where
       lie = subst (All LieThere) (sym (R.items ∙ set_is_put t.windows.records.items i (laid_window N.low w_is R) N.low))
           (put_lie t.windows.records.items i i w (laid_window N.low w_is R) N.low w_is N.whole.layers refl);
     }
-      where
-        first_is : (x y : Bool) → (x || y) ≡ false → x ≡ false
-        first_is true y f = f
-        first_is false y f = refl
 
     placement_left : (desk_of loan new slots ≡ left) × IsChanged (moving w.serial by) (layered_state (state_of loan t slots)) (layered_state (state_of loan new slots))
-    placement_left = arranged_is_left loan touch t new slots slots left plan placement_arranged
+    placement_left = arranged_is_left loan touch t new slots slots left t.areas.items plan placement_arranged
 
     window_placed : IsWindowPlaced (record { window = w.serial; by = by; to = to }) (state_of loan t slots) (state_of loan new slots)
     window_placed = record {
@@ -251,12 +253,12 @@ module _ {V : Type 0} {H : V → Type 0} (loan : Taken V H → Loan) where
 
     -- and it writes no more on the screen
     pub placement_spares : (v : Window V H) → IsWindowAt t.windows.records.items i v → Spares loan v.serial by t new
-    placement_spares v v_is = subst (λ (x : Window V H). Spares loan x.serial by t new) (same_at t.windows.records.items i w v N.low w_is v_is) (arranged_spares loan touch t new slots slots left plan placement_arranged)
+    placement_spares v v_is = subst (λ (x : Window V H). Spares loan x.serial by t new) (same_at t.windows.records.items i w v N.low w_is v_is) (arranged_spares loan touch t new slots slots left t.areas.items plan placement_arranged)
 
     -- it is whole after the call, and this is what the call answers and leaves
     pub placement_done : IsWholeManager loan new slots × IsLaid loan i to by (Ok Done) t new slots
     placement_done = (
-      arranged_is_whole loan touch t new slots slots left plan placement_arranged,
+      arranged_is_whole loan touch t new slots slots left t.areas.items plan placement_arranged,
       (refl, λ x x_is. subst (λ (y : Window V H). IsWindowPlaced (record { window = y.serial; by = by; to = to }) (state_of loan t slots) (state_of loan new slots)) (same_at t.windows.records.items i w x N.low w_is x_is) window_placed),
     )
 
@@ -285,14 +287,14 @@ module _ {V : Type 0} {H : V → Type 0} (loan : Taken V H → Loan) where
     pub is_on_its_way : (by : Option Point) → IsOnItsWay i to.place by t.windows.records.items → (e : Edit) → e ≡ stays_put i x → IsOnItsWay e.at to.place by t.windows.records.items
     is_on_its_way by way e e_is = subst (λ (y : Edit). IsOnItsWay y.at to.place by t.windows.records.items) (sym e_is) way
 
-    pub placement_call : (by : Option Point) (plan : Plan) (new : WindowManager V H) (slots : List SlotView) (e : Edit) → IsWholeManager loan t slots → IsPlaceableAt loan i to t.windows.records.items → e ≡ stays_put i x → IsPlanOfEdit loan (record e { place = to.place; size = to.size }) by t plan → IsPlacementCommitted loan i to plan by t new → IsPlacementCall i to by plan t new slots
+    pub placement_call : (by : Option Point) (plan : Plan) (new : WindowManager V H) (slots : List SlotView) (e : Edit) → IsWholeManager loan t slots → IsPlaceableAt loan i to t.windows.records.items → e ≡ stays_put i x → IsPlanOfEdit loan (record e { place = to.place; size = to.size }) by true t plan → IsPlacementCommitted loan i to plan by t new → IsPlacementCall i to by plan t new slots
     placement_call by plan new slots e whole may e_is planned committed = record {
       whole = whole;
       low = low;
       may = may;
       planned = λ w w_is.
-          subst (λ (y : Window V H). IsPlanOfEdit loan (record (stays_put i y) { place = to.place; size = to.size }) by t plan) (same_at t.windows.records.items i x w low x_is w_is)
-          (subst (λ (y : Edit). IsPlanOfEdit loan (record y { place = to.place; size = to.size }) by t plan) e_is planned);
+          subst (λ (y : Window V H). IsPlanOfEdit loan (record (stays_put i y) { place = to.place; size = to.size }) by true t plan) (same_at t.windows.records.items i x w low x_is w_is)
+          (subst (λ (y : Edit). IsPlanOfEdit loan (record y { place = to.place; size = to.size }) by true t plan) e_is planned);
       committed = committed;
     }
 

@@ -10,9 +10,11 @@ use Rattle.tb_geom.specs.Points.{minus}
 use Rattle.def_iface.specs.Stocked.{SlotView, is_left}
 use Rattle.def_iface.specs.declared.part.Part.{Part}
 use Rattle.def_iface.specs.Desk as layers
-use Rattle.def_iface.specs.Owner.{Owner, owner, own_bit, content_bit, is_content}
+use Rattle.def_iface.specs.Owner.{Owner, owner, own_bit, content_bit, frame_bit, is_content}
 use Rattle.def_iface.specs.Owner.Owner.{Desktop, Bar, Frame, Content}
 use Rattle.def_iface.specs.Change as plain
+use Rattle.def_iface.specs.News.{no_news}
+use Rattle.def_iface.proofs.Owning.{same_number}
 use Rattle.vis_update.specs.Records.{WindowRecord, Look, layered_window}
 use Rattle.vis_update.specs.Seats.{stand_of}
 use Rattle.vis_update.specs.Touches.{moved_from, moving}
@@ -130,6 +132,14 @@ module _ (before : FullDesk) (s i j : ℕ) (w v : WindowRecord) (rest : List Win
     -- other windows are found as they were
     pub others_found : (n : ℕ) → (s == n) ≡ false → layers.window_of n (layered_desk before).windows ≡ layers.window_of n (layered_desk edited).windows
     others_found n away = found_before n ∙ (λ k. if away k then Some (layered_window (look_of before) w) else layers.window_of n (map (layered_window (look_of before)) rest)) ∙ (λ k. if sym away k then Some (layered_window (look_of before) v) else layers.window_of n (map (layered_window (look_of before)) rest)) ∙ sym (found_after n)
+
+    -- the frame of the window, where that stays in its place, shows as it did
+    pub frame_kept : (p : Point) → v.place ≡ w.place → v.definition ≡ w.definition → frame_bit (layers.window_of s (layered_desk before).windows) p ≡ frame_bit (layers.window_of s (layered_desk edited).windows) p
+    frame_kept p place definition =
+        (λ k. frame_bit (found_before s k) p)
+        ∙ (λ k. frame_bit (if same_number s k then Some (layered_window (look_of before) w) else layers.window_of s (map (layered_window (look_of before)) rest)) p)
+        ∙ (λ k. (sym definition k).picture no_news before.font (minus p (sym place k)))
+        ∙ sym ((λ k. frame_bit (found_after s k) p) ∙ (λ k. frame_bit (if same_number s k then Some (layered_window (look_of before) v) else layers.window_of s (map (layered_window (look_of before)) rest)) p))
 
     -- the call is a sound change, where the window's content moves as it does
     pub edit_is_sound : (stale : Point → Bool) (image : Point → Bool) (by : Option Point)

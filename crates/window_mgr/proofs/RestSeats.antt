@@ -6,15 +6,19 @@ use Rattle.std.proofs.lemmas.List.{length-map}
 use Rattle.std.proofs.lemmas.List.Elements.{All-tail}
 use Rattle.def_iface.specs.declared.taken.Taken.{Taken}
 use Rattle.def_iface.specs.Meaning.{Loan}
-use Rattle.def_iface.specs.Desk.{LayeredDesk}
+use Rattle.tb_geom.specs.Pixels.{Pixels, holds}
 use Rattle.def_iface.specs.Change.{State}
 use Rattle.window_list.specs.declared.window.Window.{Window}
 use Rattle.window_list.specs.Lists.{relit, lit, dimmed}
+use Rattle.vis_update.specs.declared.area.Area.{Area}
 use Rattle.vis_update.specs.declared.plan.Seat.{Seat}
+use Rattle.vis_update.specs.declared.plan.Touch.{Touch}
+use Rattle.vis_update.specs.Plans.{IsLosing}
+use Rattle.vis_update.specs.Hands.{IsLostOf}
 use Rattle.vis_update.specs.Records.{record_of}
-use Rattle.vis_update.specs.Areas.{IsArea, IsGray}
-use Rattle.vis_update.specs.Seats.{stand_of, seat_stand, IsPlacedSeat, IsNearSeat, IsArranged}
-use Rattle.vis_update.proofs.SeatLemmas.{seats_near}
+use Rattle.vis_update.specs.Areas.{IsArea}
+use Rattle.vis_update.specs.Seats.{stand_of, seat_stand, area_had, IsPlacedSeat, IsNearSeat, IsArranged, IsChangedArea}
+use Rattle.vis_update.proofs.SeatLemmas.{seats_near, losing_seats}
 use Rattle.window_mgr.specs.declared.arrange.Activation.{Activation}
 use Rattle.window_mgr.specs.declared.arrange.Activation.TheVariants.{Stays, Becomes}
 use Rattle.window_mgr.specs.declared.manager.WindowManager.{WindowManager}
@@ -26,7 +30,7 @@ use Rattle.window_mgr.specs.Records.{state_of}
 use Rattle.window_mgr.specs.Seats.{first_seated}
 use Rattle.window_mgr.specs.Without.{AreSeatsWithout, IsDeskWithout, records_without}
 use Rattle.window_mgr.proofs.PutIn.{taken_out, All-out}
-use Rattle.window_mgr.proofs.Seating.{lengths_of, seats_stand, seats_had, seats_placed, sides}
+use Rattle.window_mgr.proofs.Seating.{lengths_of, seats_areas, seats_stand, seats_had, seats_placed, sides}
 use Rattle.window_mgr.proofs.EditSeats.{map-remove, there_is, length-put, first_stand}
 
 -- one element less
@@ -104,6 +108,13 @@ module _ {V : Type 0} {H : V → Type 0} (loan : Taken V H → Loan) (t : Window
   pub near_rest : All IsNearSeat seats
   near_rest = let side = sides loan t kept in seats_near before.desk before.stale seats side.0 side.1 had
 
+  -- the areas are those of the windows without one
+  pub areas_rest : map area_had seats ≡ remove t.areas.items at
+  areas_rest = ap (map area_had) S.is ∙ map-remove area_had S.all at ∙ ap (λ xs. remove xs at) (seats_areas t.windows.records.items t.areas.items S.all S.are)
+
+  pub losing_rest : (touch : Touch) (old : Area) → IsArea before.desk before.stale touch.window old → (changed lost : Pixels) → IsLostOf old changed lost → All (IsLosing touch (holds changed) (holds lost)) seats
+  losing_rest touch old its changed lost lost_is = losing_seats touch before.desk before.stale old changed lost seats its lost_is had
+
   pub placed_rest : All (IsPlacedSeat loan) seats
   placed_rest = all_rest (IsPlacedSeat loan) (seats_placed loan t.windows.records.items t.areas.items S.all S.are kept.whole.sound.settled)
 
@@ -116,11 +127,11 @@ module _ {V : Type 0} {H : V → Type 0} (loan : Taken V H → Loan) (t : Window
       ∙ sym (map-remove stand_of (map (record_of loan) t.windows.records.items) at)
       ∙ ap (map stand_of) (sym (map-remove (record_of loan) t.windows.records.items at))
 
-  pub arranged_rest : (after : FullDesk) → IsDeskWithout loan at t after → IsArranged loan (look_of after) before (layered_desk after) after.windows t.gray seats
-  arranged_rest after D = record {
+  pub arranged_rest : (after : FullDesk) (changed : Pixels) → IsDeskWithout loan at t after → IsChangedArea before.desk (layered_desk after) changed → IsArranged loan (look_of after) before (layered_desk after) after.windows changed seats
+  arranged_rest after changed D changes = record {
     desk = refl;
     distinct = D.distinct;
-    gray_is = subst (λ (d : LayeredDesk). IsGray d t.gray) (sym D.screen) kept.whole.gray;
+    changes = changes;
     stands = seats_rest ∙ sym D.stands;
     areas = had;
   }

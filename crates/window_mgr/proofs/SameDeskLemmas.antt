@@ -68,9 +68,9 @@ module _ {V : Type 0} {H : V → Type 0} (loan : Taken V H → Loan) (t u : Wind
 
   -- what was planned is still right
   pub plan_stays : (w : NewWindow) (n : ℕ) (d : Definition) (touch : Touch) (plan : Plan) → IsPlanWith loan w n d touch t plan → IsPlanWith loan w n d touch u plan
-  plan_stays w n d touch plan h slot begun regions =
-      subst (λ (x : FullState × Pixels). IsPlan touch (layered_state x.0) (layered_desk (desk_with_new w n slot begun x.0.desk)) x.1 (desk_with_new w n slot begun x.0.desk).windows plan)
-      (λ i. (record (sym state_stays i) { desk = record (sym state_stays i).desk { stock = [] } }, sym same.desktop i)) (h slot begun regions)
+  plan_stays w n d touch plan h slot begun regions old nowhere =
+      subst (λ (x : FullState × Pixels × List Area). IsPlan touch (layered_state x.0) (layered_desk (desk_with_new w n slot begun x.0.desk)) x.1 (old ∷ x.2) (desk_with_new w n slot begun x.0.desk).windows plan)
+      (λ i. (record (sym state_stays i) { desk = record (sym state_stays i).desk { stock = [] } }, sym same.desktop i, sym same.areas i)) (h slot begun regions old nowhere)
 
   -- the same, where the window's number goes by another name
   pub plan_stays_by : (w : NewWindow) (k n : ℕ) (d : Definition) (touch : Touch) (plan : Plan) → k ≡ n → IsPlanWith loan w k d touch t plan → IsPlanWith loan w n d touch u plan

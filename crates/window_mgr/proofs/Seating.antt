@@ -1,19 +1,27 @@
 -- The windows of a desk as they are, behind a new one.
-use Rattle.std.proofs.Common.{◌≡◌, ℕ, zero, suc, ◌+◌, ◌<◌, Bool, true, false, ℤ, pos, ◌≤ℤ◌, List, [], ◌∷◌, ◌++◌, length, get_or, take, map, Option, None, Some, refl, sym, ap, ◌∙◌, subst, arith}
+use Rattle.std.proofs.Common.{◌≡◌, ℕ, zero, suc, ◌+◌, ◌<◌, Bool, true, false, ◌&&◌, ℤ, pos, ◌≤ℤ◌, List, [], ◌∷◌, ◌++◌, length, get_or, take, map, Option, None, Some, refl, sym, ap, ◌∙◌, subst, arith}
 use Rattle.std.specs.Prelude.{All}
 use Rattle.std.proofs.Math.Seq.{take-length}
 use Rattle.std.proofs.lemmas.List.{take_more, length-map}
 use Rattle.std.proofs.lemmas.List.Elements.{All-nil, All-cons, All-head, All-tail}
 use Rattle.std.proofs.lemmas.Bool.{and_parts, false≢true}
 use Rattle.std.proofs.lemmas.Int.{ints}
+use Rattle.tb_geom.specs.Points.{PixelSet}
+use Rattle.tb_geom.specs.Pixels.{Pixels}
+use Rattle.tb_geom.specs.declared.point.Point.{Point}
 use Rattle.def_iface.specs.declared.taken.Taken.{Taken}
 use Rattle.def_iface.specs.Meaning.{Definition, Loan, SameRegions}
 use Rattle.def_iface.specs.Desk as layers
+use Rattle.def_iface.specs.Desk.{LayeredDesk}
 use Rattle.def_iface.specs.Change.{State}
 use Rattle.desk_call.specs.declared.window.NewWindow.{NewWindow}
 use Rattle.window_mgr.specs.declared.manager.WindowManager.{WindowManager}
 use Rattle.vis_update.specs.declared.area.Area.{Area}
+use Rattle.vis_update.specs.declared.plan.Plan.{Plan}
 use Rattle.vis_update.specs.declared.plan.Seat.{Seat}
+use Rattle.vis_update.specs.declared.plan.Touch.{Touch}
+use Rattle.vis_update.specs.Plans.{IsPlan, AreAreasAfter, areas_then, stale_after}
+use Rattle.vis_update.specs.Touches.{change_of}
 use Rattle.window_list.specs.declared.window.Window.{Window}
 use Rattle.vis_update.specs.Records.{WindowRecord}
 use Rattle.window_mgr.specs.FullDesk.{FullDesk, AreSerials, layered_desk, layered_state}
@@ -21,7 +29,7 @@ use Rattle.window_mgr.specs.Kept.{IsKept}
 use Rattle.vis_update.specs.Records.{record_of}
 use Rattle.window_mgr.specs.Records.{desk_of, state_of, look_on}
 use Rattle.vis_update.specs.Areas.{stale_in}
-use Rattle.vis_update.specs.Seats.{stand_of, seat_stand, IsPlacedSeat, IsNearSeat, IsSeatOf, IsArranged}
+use Rattle.vis_update.specs.Seats.{stand_of, seat_stand, area_had, IsPlacedSeat, IsNearSeat, IsSeatOf, IsArranged, IsChangedArea}
 use Rattle.vis_update.specs.Areas.{IsNowhere, IsNear}
 use Rattle.window_mgr.specs.Seats.{AreSeatsOf, AreSeatsBehind}
 use Rattle.window_mgr.specs.Effects.{new_record, desk_with_new}
@@ -70,6 +78,15 @@ module _ {V : Type 0} {H : V → Type 0} where
   seat_at (v ∷ ws) [] seats i w s its low w_is s_is = absurd its
   seat_at (v ∷ ws) (a ∷ areas) [] i w s its low w_is s_is = absurd its
 
+  -- seats lend the areas
+  pub seats_areas : (ws : List (Window V H)) (areas : List Area) (seats : List (Seat V H)) → AreSeatsOf ws areas seats → map area_had seats ≡ areas
+  seats_areas [] [] [] its = refl
+  seats_areas (w ∷ ws) (a ∷ areas) (s ∷ seats) its = λ i. its.0.area i ∷ seats_areas ws areas seats its.1 i
+  seats_areas [] [] (s ∷ seats) its = absurd its
+  seats_areas [] (a ∷ areas) seats its = absurd its
+  seats_areas (w ∷ ws) [] seats its = absurd its
+  seats_areas (w ∷ ws) (a ∷ areas) [] its = absurd its
+
   pub lengths_of : (ws : List (Window V H)) (areas : List Area) (seats : List (Seat V H)) → AreSeatsOf ws areas seats → length seats ≡ length ws
   lengths_of [] [] [] its = refl
   lengths_of (w ∷ ws) (a ∷ areas) (s ∷ seats) its = ap suc (lengths_of ws areas seats its.1)
@@ -78,10 +95,41 @@ module _ {V : Type 0} {H : V → Type 0} where
   lengths_of (w ∷ ws) [] seats its = absurd its
   lengths_of (w ∷ ws) (a ∷ areas) [] its = absurd its
 
+  -- they lend the areas behind that of the first
+  pub areas_behind : (front : Seat V H) (ws : List (Window V H)) (areas : List Area) (seats : List (Seat V H)) → AreSeatsBehind front ws areas seats → map area_had seats ≡ front.area.now ∷ areas
+  areas_behind front ws areas [] h = absurd h
+  areas_behind front ws areas (s ∷ seats) h = λ i. area_had (h.0 i) ∷ seats_areas ws areas seats h.1 i
+
   -- one seat more than there are windows, behind the first
   pub seats_length : (front : Seat V H) (ws : List (Window V H)) (areas : List Area) (seats : List (Seat V H)) → AreSeatsBehind front ws areas seats → length seats ≡ length ws + 1
   seats_length front ws areas [] h = absurd h
   seats_length front ws areas (s ∷ seats) h = let rest = lengths_of ws areas seats h.1 in omega arith
+
+-- areas of no pixel are one as good as the other
+nowhere_alike : (desk : LayeredDesk) (stale : PixelSet) (n : ℕ) (a b : Area) → IsNowhere a → IsNowhere b → IsArea desk stale n a → IsArea desk stale n b
+nowhere_alike desk stale n a b none nowhere its = record {
+  visible = λ p. nowhere.visible p ∙ sym (none.visible p) ∙ its.visible p;
+  update = λ p. nowhere.update p ∙ sym (none.update p) ∙ its.update p ∙ ap (λ v. v && stale p) (none.visible p ∙ sym (nowhere.visible p));
+  frame = λ p. nowhere.frame p ∙ sym (none.frame p) ∙ its.frame p;
+}
+
+-- so a plan, where the first window had the one, is a plan where it had the other
+pub plan_for_any : (t : Touch) (before : State) (after : LayeredDesk) (desktop : Pixels) (a b : Area) (olds : List Area) (ws : List WindowRecord) (plan : Plan) → IsNowhere a → IsNowhere b
+    → IsPlan t before after desktop (a ∷ olds) ws plan → IsPlan t before after desktop (b ∷ olds) ws plan
+plan_for_any t before after desktop a b olds ws plan none nowhere its = record {
+  areas = by_first ws plan.areas.items its.areas;
+  parts = its.parts;
+  desktop_is = its.desktop_is;
+  uncovered = its.uncovered;
+  copied = its.copied;
+}
+  where
+    by_first : (vs : List WindowRecord) (cs : List (Option Area)) → AreAreasAfter (change_of t) before after vs (areas_then (a ∷ olds) cs) → AreAreasAfter (change_of t) before after vs (areas_then (b ∷ olds) cs)
+    by_first [] [] h = absurd h
+    by_first [] (c ∷ cs) h = absurd h
+    by_first (v ∷ vs) [] h = (nowhere_alike after (stale_after (change_of t) before after) v.serial a b none nowhere h.0, h.1)
+    by_first (v ∷ vs) (None ∷ cs) h = (nowhere_alike after (stale_after (change_of t) before after) v.serial a b none nowhere h.0, h.1)
+    by_first (v ∷ vs) (Some c ∷ cs) h = h
 
 -- no side of a screen is longer than 1024
 low_side : (n : ℤ) → is_screen_side n ≡ true → n ≤ℤ pos 1024
@@ -168,7 +216,7 @@ module _ {V : Type 0} {H : V → Type 0} (loan : Taken V H → Loan) where
     distinct : layers.IsDesk (layered_desk after)
     distinct = subst layers.IsDesk (sym (layered_desk-with w n slot begun (desk_of loan t []) [])) (free, ((refl, tt), kept.whole.sound.distinct))
 
-    front_stand : seat_stand loan front ≡ stand_of (new_record w n slot begun)
+    pub front_stand : seat_stand loan front ≡ stand_of (new_record w n slot begun)
     front_stand =
         (λ i. record {
           serial = new.serial i;
@@ -180,20 +228,20 @@ module _ {V : Type 0} {H : V → Type 0} (loan : Taken V H → Loan) where
         ∙ (λ i. record { serial = n; place = w.place; shown = w.shown; structure = sym regions.structure i w.size; content = sym regions.content i w.size })
 
     -- a window that was not there had no pixel
-    front_had : IsArea before.desk before.stale front.serial front.area.now
+    pub front_had : IsArea before.desk before.stale front.serial front.area.now
     front_had = subst (λ k. IsArea before.desk before.stale k front.area.now) (sym new.serial) (seat.absent_area before.desk before.stale n front.area.now free new.nowhere)
 
-    pub arranged : (seats : List (Seat V H)) → AreSeatsBehind front t.windows.records.items t.areas.items seats → IsArranged loan (look_on t) before (layered_desk after) after.windows t.gray seats
-    arranged (s ∷ seats) its = record {
+    pub arranged : (seats : List (Seat V H)) (changed : Pixels) → AreSeatsBehind front t.windows.records.items t.areas.items seats → IsChangedArea before.desk (layered_desk after) changed → IsArranged loan (look_on t) before (layered_desk after) after.windows changed seats
+    arranged (s ∷ seats) changed its changes = record {
       desk = refl;
       distinct = distinct;
-      gray_is = kept.whole.gray;
+      changes = changes;
       stands = (λ i. (ap (seat_stand loan) its.0 ∙ front_stand) i ∷ (seats_stand t.windows.records.items t.areas.items seats its.1 ∙ sym (stands-behind t.windows.active w.shown (desk_of loan t []).windows)) i);
       areas = All-cons (λ s. IsArea before.desk before.stale s.serial s.area.now) s seats
           (subst (λ (x : Seat V H). IsArea before.desk before.stale x.serial x.area.now) (sym its.0) front_had)
           (seats_had before t.windows.records.items t.areas.items seats its.1 kept.whole.areas);
     }
-    arranged [] its = absurd its
+    arranged [] changed its changes = absurd its
 
   -- all seats are near, with one in front that had no pixel
   pub all_near : (t : WindowManager V H) → IsKept loan t → (front : Seat V H) → IsNowhere front.area.now → (seats : List (Seat V H)) → AreSeatsBehind front t.windows.records.items t.areas.items seats → All IsNearSeat seats

@@ -19,6 +19,7 @@ use Rattle.vis_update.specs.declared.plan.Touch.{Touch}
 use Rattle.vis_update.specs.Records.{WindowRecord, Look, layered_window}
 use Rattle.vis_update.specs.Touches.{change_of, draws_whole, moves, moved_from}
 use Rattle.vis_update.specs.Plans.{IsPart, ArePlanParts}
+use Rattle.vis_update.specs.declared.area.Area.{Area}
 use Rattle.vis_update.specs.Areas.{is_content_of}
 use Rattle.vis_update.proofs.Others.{not_content, not_same_frame}
 use Rattle.window_paint.specs.Writes.{arrives, one}
@@ -112,7 +113,7 @@ record IsSpared (t : Touch) (was o : Owner) (times : ℕ) (drawn : Bool) : Type 
   pub spared : is_frame o ≡ false → same_owner was o ≡ true → moves t o ≡ false → times ≡ 0
   pub frames : (s : ℕ) → same_owner o (Frame s) ≡ true → same_owner was (Frame s) ≡ true → draws_whole t s ≡ false → (times ≡ 0) × (drawn ≡ false)
 
-module _ (t : Touch) (before : FullState) (after : FullDesk) (desktop : Pixels) (plan : Plan) (old new : Bits) (R : IsReady t before after desktop plan old new) where
+module _ (t : Touch) (before : FullState) (after : FullDesk) (desktop : Pixels) (olds : List Area) (plan : Plan) (old new : Bits) (R : IsReady t before after desktop olds plan old new) where
   abbrev was : LayeredDesk
   was = layered_desk before.desk
 
@@ -121,7 +122,7 @@ module _ (t : Touch) (before : FullState) (after : FullDesk) (desktop : Pixels) 
 
   module _ (p : Point) (on : layers.on_screen was p ≡ true) where
     on_now : layers.on_screen is p ≡ true
-    on_now = on_same t before after desktop plan old new R p ∙ on
+    on_now = on_same t before after desktop olds plan old new R p ∙ on
 
     abbrev times : ℕ
     times = planned_times plan t.by p
@@ -130,10 +131,10 @@ module _ (t : Touch) (before : FullState) (after : FullDesk) (desktop : Pixels) 
     drawn = redrawn plan.parts.items p
 
     copied : (o : Owner) → owner is p ≡ o → holds plan.copied p ≡ ((true && moves t o) && plain.had (change_of t) was o p)
-    copied = copied_by t before after desktop plan old new R p on
+    copied = copied_by t before after desktop olds plan old new R p on
 
     uncovered : (o : Owner) → owner is p ≡ o → holds plan.uncovered p ≡ ((true && same_owner o Desktop) && not (true && same_owner (owner was p) Desktop))
-    uncovered = uncovered_by t before after desktop plan old new R p on
+    uncovered = uncovered_by t before after desktop olds plan old new R p on
 
     low : arrives plan.copied t.by p ≤ one (holds plan.copied p)
     low = arrives_low plan.copied t.by p
@@ -188,7 +189,7 @@ module _ (t : Touch) (before : FullState) (after : FullDesk) (desktop : Pixels) 
         }
       where
         there : (v : layers.LayeredWindow) × (layers.window_of n is.windows ≡ Some v)
-        there = found t before after desktop plan old new R p on n (ap (is_other n) e ∙ ap not (same_number n))
+        there = found t before after desktop olds plan old new R p on n (ap (is_other n) e ∙ ap not (same_number n))
 
         single : IsAlone (look_of after) t (layered_state before) is p n plan.parts.items
         single = alone (look_of after) t (layered_state before) is p n there.0 after.windows plan.parts.items (λ m away. ap (is_other m) e ∙ of_frame n m away) R.planned.parts R.distinct there.1
@@ -214,7 +215,7 @@ module _ (t : Touch) (before : FullState) (after : FullDesk) (desktop : Pixels) 
     }
       where
         there : (v : layers.LayeredWindow) × (layers.window_of n is.windows ≡ Some v)
-        there = found t before after desktop plan old new R p on n (ap (is_other n) e ∙ ap not (same_number n))
+        there = found t before after desktop olds plan old new R p on n (ap (is_other n) e ∙ ap not (same_number n))
 
         single : IsAlone (look_of after) t (layered_state before) is p n plan.parts.items
         single = alone (look_of after) t (layered_state before) is p n there.0 after.windows plan.parts.items (λ m away. ap (is_other m) e ∙ of_content n m part away) R.planned.parts R.distinct there.1
@@ -295,7 +296,7 @@ module _ (t : Touch) (before : FullState) (after : FullDesk) (desktop : Pixels) 
   }
     where
       then_on : (p : Point) → layers.on_screen is p ≡ true → layers.on_screen was p ≡ true
-      then_on p here = sym (on_same t before after desktop plan old new R p) ∙ here
+      then_on p here = sym (on_same t before after desktop olds plan old new R p) ∙ here
 
       on_map_of : (p : Point) → layers.on_screen is p ≡ true → on_map old p ≡ true
       on_map_of p here = sym (R.on p) ∙ then_on p here
@@ -307,7 +308,7 @@ pub sparing_by : (t : Touch) (before after : LayeredDesk) (old new : Bits) → I
 sparing_by t before after old new so = record {
   once = so.once;
   spared = λ p on f same still. so.spared p on f same (by_way t.by (owner after p) still);
-  frames = so.frames;
+  frames = λ s p here f g h. so.frames s p here f g (both (s == t.window) t.whole h);
   rises = so.rises;
   changed = so.changed;
 }
@@ -320,7 +321,7 @@ sparing_by t before after old new so = record {
     none true = refl
     none false = refl
 
-    by_way : (by : Option Point) (o : Owner) → moving_content t.window by o ≡ false → moves (record { window = t.window; by = by }) o ≡ false
+    by_way : (by : Option Point) (o : Owner) → moving_content t.window by o ≡ false → moves (record { window = t.window; by = by; whole = t.whole }) o ≡ false
     by_way by Desktop e = refl
     by_way by Bar e = refl
     by_way by (Frame s) e = refl

@@ -1,8 +1,9 @@
 -- One window put anew among the others, as the code does it.
-use Rattle.std.specs.Prelude.{◌≡◌, ℕ, ◌<◌, true, List, [], length, map, Option, None, Some, All, Result, Ok, Err, slice_index_or}
+use Rattle.std.specs.Prelude.{◌≡◌, ℕ, ◌<◌, Bool, true, List, [], length, map, Option, None, Some, All, Result, Ok, Err, slice_index_or}
 use Rattle.std.specs.List.{insert, remove}
 use Rattle.tb_geom.specs.Points.{minus}
 use Rattle.tb_geom.specs.declared.point.Point.{Point}
+use Rattle.tb_geom.specs.Pixels.{Pixels}
 use Rattle.tb_geom.specs.declared.refusal.Refusal.{Refusal}
 use Rattle.tb_geom.specs.declared.refusal.Refusal.TheVariants.{NoMemory}
 use Rattle.def_iface.specs.declared.taken.Taken.{Taken}
@@ -17,7 +18,8 @@ use Rattle.vis_update.specs.declared.plan.Seat.{Seat}
 use Rattle.vis_update.specs.declared.plan.Touch.{Touch}
 use Rattle.vis_update.specs.Records.{WindowRecord, record_of}
 use Rattle.vis_update.specs.Seats.{stand_of}
-use Rattle.vis_update.specs.Plans.{IsPlan}
+use Rattle.vis_update.specs.Plans.{IsPlan, areas_then}
+use Rattle.window_list.specs.Ranks.{moved_item}
 use Rattle.window_mgr.specs.declared.arrange.Activates.{Activates}
 use Rattle.window_mgr.specs.declared.arrange.Activation.{Activation}
 use Rattle.window_mgr.specs.declared.arrange.Activation.TheVariants.{Stays, Becomes}
@@ -109,12 +111,12 @@ module _ {V : Type 0} {H : V → Type 0} (loan : Taken V H → Loan) where
     pub stands : map stand_of after.windows ≡ map stand_of (records_put e w t)
     pub layers : map (λ v. v.layers) after.windows ≡ map (λ v. v.layers) (records_put e w t)
 
-  -- the plan is right for each such desk, where pixels move so far
-  abbrev pub IsPlanOfEdit : Edit → Option Point → WindowManager V H → Plan → Type 0
-  IsPlanOfEdit e by t plan = (w : Window V H) → IsWindowAt t.windows.records.items e.at w
+  -- the plan is right for each such desk, where pixels move so far, and the window's frame is drawn whole or where it gains
+  abbrev pub IsPlanOfEdit : Edit → Option Point → Bool → WindowManager V H → Plan → Type 0
+  IsPlanOfEdit e by whole t plan = (w : Window V H) → IsWindowAt t.windows.records.items e.at w
       → (after : FullDesk) → IsDeskOfEdit e t w after
-      → let touch : Touch = record { window = w.serial; by = by } in
-      IsPlan touch (layered_state (state_of loan t [])) (layered_desk after) t.desktop after.windows plan
+      → let touch : Touch = record { window = w.serial; by = by; whole = whole } in
+      IsPlan touch (layered_state (state_of loan t [])) (layered_desk after) t.desktop (moved_item t.areas.items e.at e.to) after.windows plan
 
   -- nothing refuses that the window at this place goes behind another or behind all, and that is this place of the others
   pub record IsPlaceBehind (b : SendBehind) (at : ℕ) (t : WindowManager V H) (to : ℕ) : Type 0 where
@@ -131,7 +133,7 @@ module _ {V : Type 0} {H : V → Type 0} (loan : Taken V H → Loan) where
     pub windows : new.windows.records.items
         ≡ relit_all activation old.windows.active (insert (remove old.windows.records.items e.at) e.to (put_window e window))
     pub drawn : IsPlanDrawn plan by old.font (map (record_of loan) new.windows.records.items) old.screen new.screen
-    pub areas : new.areas.items ≡ plan.areas.items
+    pub areas : new.areas.items ≡ areas_then (moved_item old.areas.items e.at e.to) plan.areas.items
     pub desktop : new.desktop ≡ plan.desktop
     pub bar : new.bar ≡ old.bar
     pub font : new.font ≡ old.font

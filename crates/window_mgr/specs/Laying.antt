@@ -13,6 +13,7 @@ use Rattle.window_list.specs.declared.window.Placement.{Placement}
 use Rattle.window_list.specs.declared.window.Window.{Window}
 use Rattle.window_list.specs.Lists.{IsPlacedAt}
 use Rattle.vis_update.specs.declared.plan.Plan.{Plan}
+use Rattle.vis_update.specs.Plans.{areas_then}
 use Rattle.vis_update.specs.Records.{record_of}
 use Rattle.window_mgr.specs.declared.manager.WindowManager.{WindowManager}
 use Rattle.window_mgr.specs.Commits.{IsPlanDrawn}
@@ -40,7 +41,7 @@ module _ {V : Type 0} {H : V → Type 0} (loan : Taken V H → Loan) where
     pub at : IsWindowAt old.windows.records.items i window
     pub lies : IsPlacedAt loan i to window old.windows.records.items new.windows.records.items
     pub drawn : IsPlanDrawn plan by old.font (map (record_of loan) new.windows.records.items) old.screen new.screen
-    pub areas : new.areas.items ≡ plan.areas.items
+    pub areas : new.areas.items ≡ areas_then old.areas.items plan.areas.items
     pub desktop : new.desktop ≡ plan.desktop
     pub bar : new.bar ≡ old.bar
     pub font : new.font ≡ old.font

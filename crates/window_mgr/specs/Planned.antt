@@ -1,6 +1,6 @@
 -- A window that is planned, and one that was added; an operation that may be drawn, and one that was; a window that got
 -- another picture.
-use Rattle.std.specs.Prelude.{◌≡◌, ◌⊎◌, ℕ, ◌+◌, ◌<◌, Bool, if◌then◌else◌, [], ◌∷◌, ◌++◌, length, map, set, Option, None, Some, IsSomeAnd, slice_get, vec_len, ◌&&◌, ◌||◌, not}
+use Rattle.std.specs.Prelude.{◌≡◌, ◌⊎◌, ℕ, ◌+◌, ◌<◌, Bool, if◌then◌else◌, [], ◌∷◌, ◌++◌, length, map, set, Option, None, Some, IsSomeAnd, slice_get, vec_len, vec_capacity, true, ◌&&◌, ◌||◌, not}
 use Rattle.tb_geom.specs.declared.refusal.Refusal.{Refusal}
 use Rattle.tb_geom.specs.declared.refusal.Refusal.TheVariants.{NoMemory}
 use Rattle.tb_geom.specs.Points.{minus}
@@ -16,8 +16,10 @@ use Rattle.window_list.specs.declared.window.Window.{Window}
 use Rattle.window_list.specs.Lists.{dimmed, serial_after}
 use Rattle.vis_update.specs.declared.plan.Plan.{Plan}
 use Rattle.vis_update.specs.declared.plan.Touch.{Touch}
+use Rattle.vis_update.specs.declared.area.Area.{Area}
+use Rattle.vis_update.specs.Areas.{IsNowhere}
 use Rattle.vis_update.specs.Records.{record_of}
-use Rattle.vis_update.specs.Plans.{IsPlan}
+use Rattle.vis_update.specs.Plans.{IsPlan, areas_then}
 use Rattle.desk_call.specs.declared.window.Drawing.{Drawing}
 use Rattle.desk_call.specs.declared.window.NewPicture.{NewPicture}
 use Rattle.desk_call.specs.declared.window.NewWindow.{NewWindow}
@@ -45,6 +47,7 @@ abbrev pub new_touch : ℕ → Touch
 new_touch serial = record {
   window = serial;
   by = None;
+  whole = true;
 }
 
 module _ {V : Type 0} {H : V → Type 0} where
@@ -114,7 +117,7 @@ module _ {V : Type 0} {H : V → Type 0} (loan : Taken V H → Loan) where
   abbrev pub IsPlanWith : NewWindow → ℕ → Definition → Touch → WindowManager V H → Plan → Type 0
   IsPlanWith w serial d touch t plan = (slot : ℕ) (begun : Definition) → SameRegions d begun
       → let after = desk_with_new w serial slot begun (desk_of loan t []) in
-      IsPlan touch (layered_state (state_of loan t [])) (layered_desk after) t.desktop after.windows plan
+      (old : Area) → IsNowhere old → IsPlan touch (layered_state (state_of loan t [])) (layered_desk after) t.desktop (old ∷ t.areas.items) after.windows plan
 
   -- nothing refuses the window with this definition any more, whose content then lies in the box of its structure
   pub record IsPlanned (w : NewWindow) (d : Definition) (t : WindowManager V H) (addition : Addition) : Type 0 where
@@ -123,6 +126,7 @@ module _ {V : Type 0} {H : V → Type 0} (loan : Taken V H → Loan) where
     pub plan : IsPlanWith w addition.ticket.serial d addition.touch t addition.plan
     pub some : vec_len addition.plan.parts ≡ length t.windows.records.items + 1
     pub room : length t.windows.records.items < t.windows.records.capacity
+    pub area_room : vec_len t.areas < vec_capacity t.areas
     pub within : IsWithin (d.content w.size) (rect_holds (d.bounds w.size))
 
   -- the window was put in front of all others, and the plan was drawn
@@ -135,7 +139,9 @@ module _ {V : Type 0} {H : V → Type 0} (loan : Taken V H → Loan) where
     pub there : LieThere record_is
     pub windows : new.windows.records.items ≡ record_is
         ∷ (if w.shown then map (dimmed old.windows.active) old.windows.records.items else old.windows.records.items)
-    pub areas : new.areas.items ≡ plan.areas.items
+    pub area : Area
+    pub nowhere : IsNowhere area
+    pub areas : new.areas.items ≡ areas_then (area ∷ old.areas.items) plan.areas.items
     pub desktop : new.desktop ≡ plan.desktop
     pub drawn : IsPlanDrawn plan touch.by old.font (map (record_of loan) new.windows.records.items) old.screen new.screen
     pub bar : new.bar ≡ old.bar

@@ -1,5 +1,5 @@
 -- One window taken out of the others, as the code does it.
-use Rattle.std.specs.Prelude.{◌≡◌, ℕ, List, [], map, None}
+use Rattle.std.specs.Prelude.{◌≡◌, ℕ, List, [], map, None, true}
 use Rattle.std.specs.List.{remove}
 use Rattle.def_iface.specs.declared.taken.Taken.{Taken}
 use Rattle.def_iface.specs.Meaning.{Loan}
@@ -11,7 +11,7 @@ use Rattle.vis_update.specs.declared.plan.Seat.{Seat}
 use Rattle.vis_update.specs.declared.plan.Touch.{Touch}
 use Rattle.vis_update.specs.Records.{WindowRecord, record_of}
 use Rattle.vis_update.specs.Seats.{stand_of}
-use Rattle.vis_update.specs.Plans.{IsPlan}
+use Rattle.vis_update.specs.Plans.{IsPlan, areas_then}
 use Rattle.window_mgr.specs.declared.arrange.Activates.TheVariants.{FrontInItsPlace}
 use Rattle.window_mgr.specs.declared.arrange.Activation.{Activation}
 use Rattle.window_mgr.specs.declared.manager.WindowManager.{WindowManager}
@@ -46,8 +46,8 @@ module _ {V : Type 0} {H : V → Type 0} (loan : Taken V H → Loan) where
   -- the plan is right for each such desk, where this window is the one that is gone
   abbrev pub IsPlanWithout : ℕ → ℕ → WindowManager V H → Plan → Type 0
   IsPlanWithout at s t plan = (after : FullDesk) → IsDeskWithout at t after
-      → let touch : Touch = record { window = s; by = None } in
-      IsPlan touch (layered_state (state_of loan t [])) (layered_desk after) t.desktop after.windows plan
+      → let touch : Touch = record { window = s; by = None; whole = true } in
+      IsPlan touch (layered_state (state_of loan t [])) (layered_desk after) t.desktop (remove t.areas.items at) after.windows plan
 
   -- where the window was active, the first visible one of the others becomes so
   abbrev pub IsActivationWithout : ℕ → ℕ → WindowManager V H → Activation → Type 0
@@ -63,7 +63,7 @@ module _ {V : Type 0} {H : V → Type 0} (loan : Taken V H → Loan) where
     pub its : taken ≡ window.taken
     pub windows : new.windows.records.items ≡ relit_all activation old.windows.active (remove old.windows.records.items at)
     pub drawn : IsPlanDrawn plan None old.font (map (record_of loan) new.windows.records.items) old.screen new.screen
-    pub areas : new.areas.items ≡ plan.areas.items
+    pub areas : new.areas.items ≡ areas_then (remove old.areas.items at) plan.areas.items
     pub desktop : new.desktop ≡ plan.desktop
     pub bar : new.bar ≡ old.bar
     pub font : new.font ≡ old.font

@@ -1,6 +1,7 @@
 //! One window put anew among the others, whichever call it is for.
 ghost use Rattle.std.specs.Prelude.{◌≡◌, ◌<◌, Some, None, All, MatchOption, IfOk, length, map, vec_len, vec_capacity};
 ghost use Rattle.vis_update.specs.Records.{record_of};
+ghost use Rattle.window_list.specs.Ranks.{moved_item};
 ghost use Rattle.window_mgr.specs.AnySlots.{IsRearrangedOverAnySlots};
 ghost use Rattle.window_mgr.specs.Arrange.{activation_of, active_after, if_active};
 ghost use Rattle.window_mgr.specs.Edits.{IsWindowAt, relit_all, IsPutAnew, StandsAt, IsPlaceable, SameSize, IsOnItsWay, AreSeatsAfter, AreSettledAfter, IsActivation, IsPlanOfEdit, IsCommitted, stays_put};
@@ -13,7 +14,7 @@ use crate::{WindowManager, WindowReply};
 use def_iface::{Defined, Size, Taken};
 use std::alloc::AllocError;
 use tb_geom::{Point, Refusal};
-use vis_update::{Plan, Seat, Touch, plan_of, seat_of};
+use vis_update::{Plan, Seat, Touch, changed_with, lost_of, plan_of, seat_of};
 use window_list::{UserState, Window};
 
 /// How one window is put anew: from which place of the list to which, counted without it, and how it
@@ -137,26 +138,29 @@ impl WindowManager {
         ensures sparing { (w : _) → IsWindowAt self.old.windows.records.items edit.at w
             → Spares ⟦<Taken as Defined>⟧.loan w.serial by self.old self.new }
     {
-        let Ok(Rearrangement { plan, activation }) = self.plan_edit(edit, activates, by) else {
+        let Ok(Rearrangement { plan, activation }) =
+            self.plan_edit(edit, activates, by, by.is_some())
+        else {
             return Err(Refusal::NoMemory);
         };
         self.commit_edit(edit, activation, plan, by);
         Ok(WindowReply::Done)
     }
 
-    /// All that changes on the screen where one window is put anew, and all growth.
+    /// All that changes on the screen where one window is put anew, its frame drawn whole or where it gains, and all growth.
     pub(crate) fn plan_edit(
         &self,
         edit: Edit,
         activates: Activates,
         by: Option<Point>,
+        whole: bool,
     ) -> Result<Rearrangement, AllocError>
         requires kept { IsKept ⟦<Taken as Defined>⟧.loan self.now }
         requires at { edit.at < length self.now.windows.records.items }
         requires to { edit.to < length self.now.windows.records.items }
         requires placed { IsPlaceable ⟦<Taken as Defined>⟧.loan edit self.now.windows.records.items }
         requires way { IsOnItsWay edit.at edit.place by self.now.windows.records.items }
-        ensures plan { IfOk result (λ r. IsPlanOfEdit ⟦<Taken as Defined>⟧.loan edit by self.now r.plan) }
+        ensures plan { IfOk result (λ r. IsPlanOfEdit ⟦<Taken as Defined>⟧.loan edit by whole self.now r.plan) }
         ensures activation { IfOk result (λ r. IsActivation ⟦<Taken as Defined>⟧.loan edit activates self.now r.activation) }
         ensures length { IfOk result (λ r. vec_len r.plan.parts ≡ length self.now.windows.records.items) }
     {
@@ -164,8 +168,11 @@ impl WindowManager {
         let window = self.windows.at(edit.at).serial;
         let active = self.windows.active();
         let activation = activates.activation(window, active, front_of(&seats));
-        let touch = Touch { window, by };
-        let plan = plan_of(self.alloc, &self.gray, &self.desktop, &seats, touch)?;
+        let touch = Touch { window, by, whole };
+        let seat = &seats[edit.to];
+        let changed = changed_with(self.alloc, &self.gray, seat)?;
+        let lost = lost_of(self.alloc, &changed, seat.area)?;
+        let plan = plan_of(self.alloc, &changed, &lost, &self.desktop, &seats, touch)?;
         Ok(Rearrangement { plan, activation })
     }
 
@@ -200,8 +207,9 @@ impl WindowManager {
         Ok(seats)
     }
 
-    /// Puts one window anew, its size as it was.
+    /// Puts one window anew, its size as it was, and its area in its place.
     fn put_anew(&mut self, edit: Edit)
+        requires areas { length self.old.areas.items ≡ length self.old.windows.records.items }
         requires at { edit.at < length self.old.windows.records.items }
         requires to { edit.to < length self.old.windows.records.items }
         requires placed { IsPlaceable ⟦<Taken as Defined>⟧.loan edit self.old.windows.records.items }
@@ -209,8 +217,11 @@ impl WindowManager {
         ensures len { length self.new.windows.records.items ≡ length self.old.windows.records.items }
         ensures active { self.new.windows.active ≡ self.old.windows.active }
         ensures next { self.new.windows.next ≡ self.old.windows.next }
-        ensures others { self.new ≡ record self.old { windows = self.new.windows } }
+        ensures areas { self.new.areas.items ≡ moved_item self.old.areas.items edit.at edit.to }
+        ensures others { self.new ≡ record self.old { windows = self.new.windows; areas = self.new.areas } }
     {
+        let area = self.areas.remove(edit.at);
+        self.areas.insert(edit.to, area).unwrap();
         self.windows.move_to(edit.at, edit.to);
         self.windows
             .set_stand(edit.to, edit.place, edit.shown, edit.user_state);
@@ -235,6 +246,7 @@ impl WindowManager {
     /// Puts one window anew, its size as it was, makes active what becomes so, and draws what a plan
     /// says.
     fn commit_edit(&mut self, edit: Edit, activation: Activation, plan: Plan, by: Option<Point>)
+        requires areas { length self.old.areas.items ≡ length self.old.windows.records.items }
         requires at { edit.at < length self.old.windows.records.items }
         requires to { edit.to < length self.old.windows.records.items }
         requires settled { AreSettledAfter ⟦<Taken as Defined>⟧.loan edit activation self.old.windows.active

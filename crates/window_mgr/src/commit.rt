@@ -1,5 +1,6 @@
 //! What a plan says, drawn on the screen.
 ghost use Rattle.std.specs.Prelude.{◌≡◌, map, All, length};
+ghost use Rattle.vis_update.specs.Plans.{areas_then};
 ghost use Rattle.vis_update.specs.Records.{record_of};
 ghost use Rattle.window_mgr.specs.Commits.{ArePainted, IsPlanDrawn, erased, redrawn};
 ghost use Rattle.window_mgr.specs.Whole.{IsSettled};
@@ -11,7 +12,7 @@ use bit_map::{BitMap, Mode, Pattern};
 use def_iface::{Defined, Taken};
 use strike_font::Font;
 use tb_geom::Point;
-use vis_update::{Part, Plan};
+use vis_update::{Part, Plan, settle};
 use window_list::WindowList;
 use window_paint::{move_content, paint_anew};
 
@@ -22,7 +23,7 @@ impl WindowManager {
         requires parts { length plan.parts.items ≡ length self.old.windows.records.items }
         ensures drawn { IsPlanDrawn plan by self.old.font
             (map (record_of ⟦<Taken as Defined>⟧.loan) self.old.windows.records.items) self.old.screen self.new.screen }
-        ensures areas { self.new.areas.items ≡ plan.areas.items }
+        ensures areas { self.new.areas.items ≡ areas_then self.old.areas.items plan.areas.items }
         ensures desktop { self.new.desktop ≡ plan.desktop }
         ensures others { self.new ≡ record self.old {
           screen = self.new.screen;
@@ -40,7 +41,7 @@ impl WindowManager {
             Mode::Copy,
         );
         paint_parts(&mut self.screen, &self.windows, &plan.parts, &self.font);
-        self.areas = plan.areas;
+        settle(&mut self.areas, plan.areas);
         self.desktop = plan.desktop;
     }
 }

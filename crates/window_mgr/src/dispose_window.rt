@@ -3,7 +3,7 @@ ghost use Rattle.std.specs.Prelude.{◌≡◌, ◌+◌, ◌<◌, None, All, IfOk
 ghost use Rattle.std.specs.List.{remove};
 ghost use Rattle.desk_call.specs.declared.window.WindowCall.TheVariants.{Dispose};
 ghost use Rattle.vis_update.specs.Records.{record_of};
-ghost use Rattle.window_mgr.specs.Edits.{relit_all};
+ghost use Rattle.window_mgr.specs.Edits.{relit_all, StandsAt};
 ghost use Rattle.window_mgr.specs.Kept.{IsKept};
 ghost use Rattle.window_mgr.specs.Records.{state_of};
 ghost use Rattle.window_mgr.specs.Step.{IsWindowStep};
@@ -15,9 +15,10 @@ use crate::arrange::{Activates, Activation, Rearrangement, front_of};
 use crate::close::put_away;
 use crate::{WindowManager, WindowReply};
 use def_iface::{Defined, Stocked, Taken, WindowStock};
+use scan_region::Region;
 use std::alloc::AllocError;
 use tb_geom::Refusal;
-use vis_update::{Plan, Seat, Touch, plan_of};
+use vis_update::{Plan, Seat, Touch, changed_without, plan_of};
 use window_list::Window;
 
 impl WindowManager {
@@ -50,7 +51,7 @@ impl WindowManager {
     /// All that changes on the screen where this window, at this index, is there no more, and all growth.
     fn plan_without(&self, window: u64, at: usize) -> Result<Rearrangement, AllocError>
         requires kept { IsKept ⟦<Taken as Defined>⟧.loan self.now }
-        requires at { at < length self.now.windows.records.items }
+        requires at { StandsAt self.now.windows.records.items window at }
         ensures plan { IfOk result (λ r. IsPlanWithout ⟦<Taken as Defined>⟧.loan at window self.now r.plan) }
         ensures activation { IfOk result (λ r.
             IsActivationWithout ⟦<Taken as Defined>⟧.loan at window self.now r.activation) }
@@ -59,8 +60,14 @@ impl WindowManager {
         let seats = self.seats_without(at)?;
         let active = self.windows.active();
         let activation = Activates::FrontInItsPlace.activation(window, active, front_of(&seats));
-        let touch = Touch { window, by: None };
-        let plan = plan_of(self.alloc, &self.gray, &self.desktop, &seats, touch)?;
+        let touch = Touch {
+            window,
+            by: None,
+            whole: true,
+        };
+        let changed = changed_without(self.alloc, &self.gray, &self.areas[at])?;
+        let lost = Region::empty(self.alloc);
+        let plan = plan_of(self.alloc, &changed, &lost, &self.desktop, &seats, touch)?;
         Ok(Rearrangement { plan, activation })
     }
 
@@ -78,6 +85,7 @@ impl WindowManager {
 
     /// Makes active what becomes so, takes the window at this index out, and draws what a plan says.
     fn take_off(&mut self, at: usize, activation: Activation, plan: Plan) -> Taken
+        requires areas { length self.old.areas.items ≡ length self.old.windows.records.items }
         requires at { at < length self.old.windows.records.items }
         requires settled { All IsSettled (map (record_of ⟦<Taken as Defined>⟧.loan)
             (relit_all activation self.old.windows.active (remove self.old.windows.records.items at))) }
@@ -86,6 +94,7 @@ impl WindowManager {
     {
         self.activate(activation);
         let Window { taken, .. } = self.windows.remove(at);
+        let _area = self.areas.remove(at);
         self.commit(plan, None);
         taken
     }

@@ -21,7 +21,7 @@ use draw_port::Picture;
 use layer_list::Layers;
 use std::alloc::{AllocError, Global};
 use tb_geom::{Point, Refusal};
-use vis_update::{Area, Plan, Seat, Touch, is_placed_alone, is_placed_with, plan_of};
+use vis_update::{Area, Plan, Seat, Touch, changed_with, is_placed_alone, is_placed_with, lost_of, plan_of};
 use window_list::{Heard, Title, Window};
 
 /// As many windows as there may be.
@@ -88,6 +88,7 @@ impl WindowManager {
         let touch = new_touch(ticket.serial);
         let plan = self.plan_with(window, taken, touch)?;
         self.windows.reserve()?;
+        self.areas.reserve(1)?;
         Ok(Addition {
             ticket,
             touch,
@@ -154,8 +155,10 @@ impl WindowManager {
             taken,
             area: &nothing,
         };
+        let changed = changed_with(self.alloc, &self.gray, &front)?;
         let seats = self.seats_behind(front)?;
-        let plan = plan_of(self.alloc, &self.gray, &self.desktop, &seats, touch)?;
+        let lost = lost_of(self.alloc, &changed, &nothing)?;
+        let plan = plan_of(self.alloc, &changed, &lost, &self.desktop, &seats, touch)?;
         Ok(plan)
     }
 
@@ -197,6 +200,7 @@ impl WindowManager {
         );
         let added = record_for(self.alloc, window, serial, title, taken);
         self.windows.add(added);
+        self.areas.insert(0, Area::empty(self.alloc)).unwrap();
         self.commit(plan, touch.by);
     }
 }
@@ -206,11 +210,13 @@ fn new_touch(serial: u64) -> Touch
     ensures { result ≡ record {
       window = serial;
       by = None;
+      whole = true;
     } }
 {
     Touch {
         window: serial,
         by: None,
+        whole: true,
     }
 }
 

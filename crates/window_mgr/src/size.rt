@@ -60,7 +60,8 @@ impl WindowManager {
         let mut edit = Edit::of(at, self.windows.at(at));
         edit.place = placement.place;
         edit.size = placement.size;
-        let Ok(Rearrangement { plan, .. }) = self.plan_edit(edit, Activates::Nothing, by) else {
+        let Ok(Rearrangement { plan, .. }) = self.plan_edit(edit, Activates::Nothing, by, true)
+        else {
             return Err(Refusal::NoMemory);
         };
         self.commit_placement(at, placement, plan, by);

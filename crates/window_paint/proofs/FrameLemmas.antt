@@ -8,16 +8,12 @@ use Rattle.tb_geom.specs.Points.{PixelSet, minus}
 use Rattle.tb_geom.specs.Pixels.{Pixels, holds}
 use Rattle.tb_geom.specs.Rects.{rect_holds, is_in_range, is_coordinate, in_plane, moved_rect, is_empty_rect, empty_rect}
 use Rattle.tb_geom.proofs.RectLemmas.{sides_of, sides_rise, is_around}
-use Rattle.bit_map.specs.declared.mode.Mode.TheVariants.{Copy}
 use Rattle.bit_map.specs.Bits.{Bits, bit}
-use Rattle.bit_map.specs.Modes.{mode_bit}
-use Rattle.bit_map.specs.Patterns.{pattern_bit}
 use Rattle.bit_blit.specs.Draws.{Draws}
 use Rattle.bit_blit.proofs.DrawsLemmas.{Draws-where, Draws-on_map}
 use Rattle.def_iface.specs.Meaning.{Definition}
 use Rattle.def_iface.specs.News.{no_news}
 use Rattle.window_paint.specs.Frames.{IsPainted}
-use Rattle.window_paint.proofs.WhiteLemmas.{white, pattern_bit-white}
 
 -- ---- the range of coordinates
 
@@ -94,14 +90,14 @@ framed_within region clip these f old new clips drawn =
 
 -- white where content is new, and a frame drawn over that
 pub painted_by : (font : List ℕ) (d : Definition) (place : Point) (new frame : Pixels) (old mid end : Bits)
-    → Draws (holds new) (λ p value. mode_bit Copy (pattern_bit white (minus p (record { h = pos 0; v = pos 0 }))) value) old mid
+    → Draws (holds new) (λ p value. false) old mid
     → Draws (holds frame) (λ p _. d.picture no_news font (minus p place)) mid end
     → IsPainted font d place new frame old end
 painted_by font d place new frame old mid end filled drawn = record {
   pixels = λ p on.
       drawn.pixels p (Draws-on_map _ _ old mid filled p ∙ on)
       ∙ ap (λ b. if holds frame p then d.picture no_news font (minus p place) else b)
-      (filled.pixels p on ∙ ap (λ w. if holds new p then w else bit old p) (pattern_bit-white (minus p (record { h = pos 0; v = pos 0 }))));
+      (filled.pixels p on);
   width = drawn.width ∙ filled.width;
   height = drawn.height ∙ filled.height;
 }

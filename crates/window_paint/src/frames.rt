@@ -1,10 +1,10 @@
 //! Frames of windows, and what of their content is new.
-ghost use Rattle.std.specs.Prelude.{◌≡◌, ◌&&◌, true};
+ghost use Rattle.std.specs.Prelude.{◌≡◌, ◌&&◌, true, false};
 ghost use Rattle.tb_geom.specs.declared.point.Point.{Point};
 ghost use Rattle.tb_geom.specs.Points.{minus};
 ghost use Rattle.tb_geom.specs.Pixels.{holds};
 ghost use Rattle.tb_geom.specs.Rects.{in_plane, is_in_range, moved_rect, rect_holds};
-ghost use Rattle.bit_blit.specs.Draws.{Draws, IsWritten};
+ghost use Rattle.bit_blit.specs.Draws.{Draws, DrawsOnce, IsWritten};
 ghost use Rattle.def_iface.specs.Meaning.{is_fitting};
 ghost use Rattle.def_iface.specs.News.{no_news};
 ghost use Rattle.window_paint.specs.Frames.{IsPlaced, IsPainted};
@@ -46,13 +46,23 @@ pub fn paint_anew(map: &mut BitMap, new: &Region, frame: &Region, window: &Windo
         map.old map.new }
     ensures written { IsWrittenBy (λ p. one (holds new.now p)) (holds frame.now) map.old map.new }
 {
-    let origin = Point { h: 0, v: 0 };
-    fill(map, new, origin, Pattern::WHITE, Mode::Copy);
+    whiten(map, new);
     let clip = frame.bbox();
     draw_clipped(map, frame, clip, window, font);
 }
 
-/// Draws a window's frame on the pixels of a region of the screen that lie within a rectangle of the screen.
+/// Makes the pixels of a region white, if it has any.
+fn whiten(map: &mut BitMap, region: &Region)
+    ensures { DrawsOnce (holds region.now) (λ p old. false) map.old map.new }
+{
+    if region.is_empty() {
+        return;
+    }
+    let origin = Point { h: 0, v: 0 };
+    fill(map, region, origin, Pattern::WHITE, Mode::Copy);
+}
+
+/// Draws a window's frame on the pixels of a region of the screen that lie within a rectangle of the screen, if any do.
 fn draw_clipped(map: &mut BitMap, region: &Region, clip: Rect, window: &Window, font: &Font)
     requires placed { in_plane window.now.place ≡ true }
     requires live { (⟦<Taken as Defined>⟧.loan window.now.taken).definition.stage ≡ Stage.Live }
@@ -63,6 +73,9 @@ fn draw_clipped(map: &mut BitMap, region: &Region, clip: Rect, window: &Window, 
         map.old map.new }
     ensures written { IsWritten (holds region.now) map.old map.new }
 {
+    if !region.meets_rect(clip) {
+        return;
+    }
     let cut = cut_inside(region);
     let mut canvas = Canvas {
         map,

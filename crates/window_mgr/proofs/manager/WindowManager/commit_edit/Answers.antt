@@ -1,4 +1,6 @@
 use Rattle.std.proofs.Common.{ap, ◌∙◌, refl}
+use Rattle.vis_update.specs.Plans.{areas_then}
+use Rattle.window_mgr.specs.declared.manager.WindowManager.{WindowManager}
 use Rattle.window_mgr.specs.Arrange.{active_after}
 use Rattle.window_mgr.specs.Edits.{relit_all}
 use Rattle.window_mgr.proofs.manager.WindowManager.commit_edit.Goals as goal
@@ -17,7 +19,7 @@ returns g c = record {
   drawn =
       let screen = rw (c.activate.ensures.others, c.put_anew.ensures.others) at c.commit.ensures.drawn in
       rw c.commit.ensures.others screen;
-  areas = c.commit.ensures.areas;
+  areas = c.commit.ensures.areas ∙ (λ i. areas_then ((ap (λ (t : WindowManager _ _). t.areas.items) c.activate.ensures.others ∙ c.put_anew.ensures.areas) i) c.args.plan.areas.items);
   desktop = c.commit.ensures.desktop;
   bar = rw (c.commit.ensures.others, c.activate.ensures.others, c.put_anew.ensures.others) refl;
   font = rw (c.commit.ensures.others, c.activate.ensures.others, c.put_anew.ensures.others) refl;

@@ -1,9 +1,13 @@
 use Rattle.window_mgr.proofs.DisposeCalls as closing
 use Rattle.window_mgr.proofs.KeptLemmas.{kept}
+use Rattle.window_mgr.proofs.Seating.{as_many}
 use Rattle.window_mgr.proofs.manager.WindowManager.dispose_window.Goals as goal
 
 pub plan_without-requires-clause-kept : goal.plan_without-requires-clause-kept
 plan_without-requires-clause-kept g c = kept _ c.args.self.now _ c.requires
+
+pub take_off-taken-requires-clause-areas : goal.take_off-taken-requires-clause-areas
+take_off-taken-requires-clause-areas g c = as_many _ c.args.self.now (kept _ c.args.self.now _ c.requires)
 
 pub take_off-taken-requires-clause-settled : goal.take_off-taken-requires-clause-settled
 take_off-taken-requires-clause-settled g c = closing.rest_settled _ c.args.self.now _ _ c.in-Some.ensures.0 c.requires.sound.settled

@@ -3,6 +3,9 @@ use Rattle.window_mgr.specs.Arrange.{activation_of}
 use Rattle.window_mgr.proofs.KeptEdits.{edit_keeps}
 use Rattle.window_mgr.proofs.Seating as arranging
 use Rattle.window_mgr.proofs.EditSeats as editing
+use Rattle.window_mgr.proofs.Remarked.{area_there}
+use Rattle.window_mgr.proofs.Remarked as remarked
+use Rattle.window_mgr.proofs.Changed as changing
 use Rattle.window_mgr.proofs.manager.WindowManager.plan_edit.Goals as goal
 
 pub seats_after-requires-clause-areas : goal.seats_after-requires-clause-areas
@@ -18,16 +21,33 @@ plan_of-requires-clause-near g c =
     let low : c.args.edit.at < length c.args.self.now.windows.records.items = search rules in
     rw c.deref-2.ensures.value (editing.near_edit _ c.args.self.now c.requires.kept c.args.edit c.in_ok-seats.seats.items c.in_ok-seats.ensures low)
 
-pub plan_of-requires-clause-near_gray : goal.plan_of-requires-clause-near_gray
-plan_of-requires-clause-near_gray g c = arranging.gray_near _ c.args.self.now c.requires.kept
+pub index-seat-requires : goal.index-seat-requires
+index-seat-requires g c =
+    let low : c.args.edit.at < length c.args.self.now.windows.records.items = search rules in
+    let many = editing.as_many_seats _ c.args.self.now c.requires.kept c.args.edit c.in_ok-seats.seats.items c.in_ok-seats.ensures low in
+    let to = c.requires.to in
+    omega arith
+
+pub changed_with-requires : goal.changed_with-requires
+changed_with-requires g c =
+    let low : c.args.edit.at < length c.args.self.now.windows.records.items = search rules in
+    ?
+
+pub plan_of-requires-clause-near_changed : goal.plan_of-requires-clause-near_changed
+plan_of-requires-clause-near_changed g c = changing.changed_near _ c.args.self.now c.requires.kept _ _ c.in_ok-changed.ensures
+
+pub plan_of-requires-clause-losing : goal.plan_of-requires-clause-losing
+plan_of-requires-clause-losing g c = ?
 
 pub returns-clause-plan : goal.returns-clause-plan
 returns-clause-plan g c w w_is after deskof =
     let low : c.args.edit.at < length c.args.self.now.windows.records.items = search rules in
     let plan = rw c.deref-2.ensures.value at c.in_ok-plan.ensures.plan in
     let same = editing.same_at c.args.self.now.windows.records.items c.args.edit.at c.at.result.now w low (search rules) w_is in
-    rw (ap (λ z. z.serial) same) at
-    (plan _ _ _ _ (editing.arranged_edit _ c.args.self.now c.requires.kept c.args.edit c.in_ok-seats.seats.items c.in_ok-seats.ensures low w w_is after deskof)
+    rw (editing.areas_edit _ c.args.self.now c.requires.kept c.args.edit c.in_ok-seats.seats.items c.in_ok-seats.ensures low, ap (λ z. z.serial) same) at
+    (plan _ _ _ _ (editing.arranged_edit _ c.args.self.now c.requires.kept c.args.edit c.in_ok-seats.seats.items c.in_ok-seats.ensures low w w_is after _ deskof
+    (changing.changes_edit _ c.args.self.now c.requires.kept c.args.edit w w_is low after deskof _ (changing.changed_is _ c.args.self.now c.requires.kept c.args.edit c.in_ok-seats.seats.items c.in_ok-seats.ensures low c.requires.to ? ? _ c.in_ok-changed.ensures)))
+    c.requires.kept.whole.desktop
     (edit_keeps _ c.args.self.now c.requires.kept.whole.sound.distinct c.args.edit w w_is low c.at.result.now.serial (ap (λ z. z.serial) same) c.args.by c.requires.way after deskof))
 
 pub returns-clause-activation : goal.returns-clause-activation

@@ -1,6 +1,7 @@
 use Rattle.std.proofs.Common.{refl, arith}
 use Rattle.window_mgr.proofs.KeptEdits.{new_keeps}
 use Rattle.window_mgr.proofs.Seating as arranging
+use Rattle.window_mgr.proofs.Changed as changing
 use Rattle.window_mgr.proofs.manager.WindowManager.plan_with.Goals as goal
 
 pub seats_behind-requires : goal.seats_behind-requires
@@ -12,17 +13,24 @@ plan_of-requires-clause-placed g c = rw c.deref.ensures.value (arranging.all_pla
 pub plan_of-requires-clause-near : goal.plan_of-requires-clause-near
 plan_of-requires-clause-near g c = rw c.deref.ensures.value (arranging.all_near _ c.args.self.now c.requires.kept _ c.empty-nothing.ensures c.in_ok-seats.seats.items c.in_ok-seats.ensures)
 
-pub plan_of-requires-clause-near_gray : goal.plan_of-requires-clause-near_gray
-plan_of-requires-clause-near_gray g c = arranging.gray_near _ c.args.self.now c.requires.kept
+pub plan_of-requires-clause-near_changed : goal.plan_of-requires-clause-near_changed
+plan_of-requires-clause-near_changed g c = changing.changed_near _ c.args.self.now c.requires.kept _ _ c.in_ok-changed.ensures
+
+pub plan_of-requires-clause-losing : goal.plan_of-requires-clause-losing
+plan_of-requires-clause-losing g c =
+    rw c.deref.ensures.value (changing.losing_nothing c.args.touch c.empty-nothing.result c.empty-nothing.ensures c.in_ok-changed.changed c.in_ok-lost.lost c.in_ok-lost.ensures c.in_ok-seats.seats.items)
 
 pub returns-clause-plan : goal.returns-clause-plan
-returns-clause-plan g c slot begun regions =
+returns-clause-plan g c slot begun regions old nowhere =
     let plan = rw c.deref.ensures.value at c.in_ok-plan.ensures.plan in
-    plan _ _ _ _
+    arranging.plan_for_any _ _ _ _ c.empty-nothing.result old c.args.self.now.areas.items _ _ c.empty-nothing.ensures nowhere
+    (rw (arranging.areas_behind _ _ _ _ c.in_ok-seats.ensures) at plan _ _ _ _
     (arranging.arranged _ c.args.window.now c.args.touch.window slot _ begun c.args.self.now c.requires.kept c.requires.number regions _
     (record { serial = refl; place = refl; size = refl; shown = refl; definition = refl; nowhere = c.empty-nothing.ensures })
-    c.in_ok-seats.seats.items c.in_ok-seats.ensures)
-    (new_keeps _ c.args.self.now c.requires.kept.whole.sound.distinct c.args.window.now c.args.touch.window slot begun c.args.touch refl (arranging.number_is_free _ c.args.self.now c.requires.kept c.args.touch.window c.requires.number))
+    c.in_ok-seats.seats.items _ c.in_ok-seats.ensures
+    (changing.changes_new _ c.args.self.now c.requires.kept c.args.window.now c.args.touch.window slot _ begun c.requires.number regions c.empty-nothing.result c.empty-nothing.ensures _ c.in_ok-changed.ensures))
+    c.requires.kept.whole.desktop
+    (new_keeps _ c.args.self.now c.requires.kept.whole.sound.distinct c.args.window.now c.args.touch.window slot begun c.args.touch refl (arranging.number_is_free _ c.args.self.now c.requires.kept c.args.touch.window c.requires.number)))
 
 pub returns-clause-some : goal.returns-clause-some
 returns-clause-some g c =

@@ -1,5 +1,9 @@
 use Rattle.window_mgr.proofs.EditCalls as editing
+use Rattle.window_mgr.proofs.Seating.{as_many}
 use Rattle.window_mgr.proofs.manager.WindowManager.rearrange.Goals as goal
+
+pub commit_edit-requires-clause-areas : goal.commit_edit-requires-clause-areas
+commit_edit-requires-clause-areas g c = as_many _ c.args.self.now c.requires.kept
 
 pub commit_edit-requires-clause-settled : goal.commit_edit-requires-clause-settled
 commit_edit-requires-clause-settled g c =
@@ -12,8 +16,9 @@ returns-clause-step g c slots whole =
       low = c.requires.at;
       may = c.requires.placed;
       same = c.requires.size;
+      way = c.requires.way;
       becomes = c.in-Ok.ensures.activation;
-      planned = c.in-Ok.ensures.plan;
+      planned = rw c.is_some.ensures at c.in-Ok.ensures.plan;
       committed = c.commit_edit.ensures;
     })
 
@@ -24,7 +29,8 @@ returns-clause-sparing g c =
       low = c.requires.at;
       may = c.requires.placed;
       same = c.requires.size;
+      way = c.requires.way;
       becomes = c.in-Ok.ensures.activation;
-      planned = c.in-Ok.ensures.plan;
+      planned = rw c.is_some.ensures at c.in-Ok.ensures.plan;
       committed = c.commit_edit.ensures;
     })
