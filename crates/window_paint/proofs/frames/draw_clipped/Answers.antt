@@ -25,8 +25,8 @@ none_within region clip met meets away p = by_test (rect_holds clip p && holds r
     by_test true e = let its = and_parts (rect_holds clip p) (holds region p) e in absurd (false≢true (sym away ∙ meets.1 (p, its.1, its.0)))
     by_test false e = e
 
-pub returns-then-clause-drawn : goal.returns-then-clause-drawn
-returns-then-clause-drawn g c = Draws-none _ _ c.args.map.now (λ p on. none_within c.args.region.now c.args.clip c.meets_rect.result c.meets_rect.ensures (search rules) p)
+pub returns-then-not-meets_rect-clause-drawn : goal.returns-then-not-meets_rect-clause-drawn
+returns-then-not-meets_rect-clause-drawn g c = Draws-none _ _ c.args.map.now (λ p on. none_within c.args.region.now c.args.clip c.meets_rect.result c.meets_rect.ensures (search rules) p)
 
-pub returns-then-clause-written : goal.returns-then-clause-written
-returns-then-clause-written g c = written_none _ c.args.map.now
+pub returns-then-not-meets_rect-clause-written : goal.returns-then-not-meets_rect-clause-written
+returns-then-not-meets_rect-clause-written g c = written_none _ c.args.map.now
