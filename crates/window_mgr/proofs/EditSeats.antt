@@ -178,13 +178,21 @@ module _ {V : Type 0} {H : V → Type 0} (loan : Taken V H → Loan) (t : Window
       let long = lengths_of t.windows.records.items t.areas.items S.all S.are in
       let many = as_many_seats in
       let found : slice_get seats e.to ≡ Some anew = ap (λ ss. slice_get ss e.to) (S.is ∙ sym (put_is_insert e.to anew (remove S.all e.at))) ∙ read_put e.to anew (remove S.all e.at) (omega arith) in
-      same_at seats e.to s anew (omega arith) read (get_or_from_slice_get seats e.to anew anew found)
+      same_at seats e.to s anew (omega arith) read (sym (get_or_from_slice_get seats e.to anew anew found))
 
-  pub losing_edit : (touch : Touch) (s : Seat V H) → e.to < length t.windows.records.items → s ≡ get_or seats e.to s → touch.window ≡ s.serial → (changed lost : Pixels) → IsLostOf s.area.now changed lost → All (IsLosing touch (holds changed) (holds lost)) seats
-  losing_edit touch s to read same changed lost lost_is =
+  -- what holds of all seats holds of it
+  pub of_anew : (P : Seat V H → Type 0) → All P seats → (s : Seat V H) → e.to < length t.windows.records.items → s ≡ get_or seats e.to s → P s
+  of_anew P all s to read =
       let many = as_many_seats in
+      subst P (sym read) (All-get_or P seats e.to s (omega arith) all)
+
+  pub losing_edit : (touch : Touch) (w : Window V H) → IsWindowAt t.windows.records.items e.at w → touch.window ≡ w.serial → (s : Seat V H) → e.to < length t.windows.records.items → s ≡ get_or seats e.to s
+      → (changed lost : Pixels) → IsLostOf s.area.now changed lost → All (IsLosing touch (holds changed) (holds lost)) seats
+  losing_edit touch w w_is about s to read changed lost lost_is =
+      let its = seat_at t.windows.records.items t.areas.items S.all e.at w S.seat S.are low w_is S.at in
+      let same : s.serial ≡ touch.window = ap (λ (x : Seat V H). x.serial) (anew_read s to read) ∙ its.1.serial ∙ sym about in
       losing_seats touch before.desk before.stale s.area.now changed lost seats
-      (subst (λ n. IsArea before.desk before.stale n s.area.now) (sym same) (subst (λ (x : Seat V H). IsArea before.desk before.stale x.serial x.area.now) (sym read) (All-get_or (λ (x : Seat V H). IsArea before.desk before.stale x.serial x.area.now) seats e.to s (omega arith) had)))
+      (subst (λ n. IsArea before.desk before.stale n s.area.now) same (of_anew (λ (x : Seat V H). IsArea before.desk before.stale x.serial x.area.now) had s to read))
       lost_is had
 
   pub placed_edit : IsPlaceable loan e t.windows.records.items → All (IsPlacedSeat loan) seats

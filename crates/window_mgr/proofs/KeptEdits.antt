@@ -50,25 +50,25 @@ module _ {V : Type 0} {H : V → Type 0} (loan : Taken V H → Loan) (t : Window
 
   module _ (e : Edit) (w : Window V H) (w_is : IsWindowAt t.windows.records.items e.at w) (low : e.at < length t.windows.records.items) where
     -- a window on its way keeps its layers
-    on_its_way : (by : Option Point) → IsOnItsWay e.at e.place by t.windows.records.items → IsKept (record { window = w.serial; by = by }) (record_of loan w) (put_record e (record_of loan w))
-    on_its_way None way =
-        kept_in_place (record { window = w.serial; by = None }) (record_of loan w) (put_record e (record_of loan w)) refl (way w w_is)
-        (none_moves (record { window = w.serial; by = None }) refl w.serial)
-    on_its_way (Some by) way =
-        kept_on_its_way (record { window = w.serial; by = Some by }) (record_of loan w) (put_record e (record_of loan w)) refl
+    on_its_way : (by : Option Point) (whole : Bool) → IsOnItsWay e.at e.place by t.windows.records.items → IsKept (record { window = w.serial; by = by; whole = whole }) (record_of loan w) (put_record e (record_of loan w))
+    on_its_way None whole way =
+        kept_in_place (record { window = w.serial; by = None; whole = whole }) (record_of loan w) (put_record e (record_of loan w)) refl (way w w_is)
+        (none_moves (record { window = w.serial; by = None; whole = whole }) refl w.serial)
+    on_its_way (Some by) whole way =
+        kept_on_its_way (record { window = w.serial; by = Some by; whole = whole }) (record_of loan w) (put_record e (record_of loan w)) refl
         (ap (λ b. if b then Some by else None) (same_number w.serial) ∙ ap Some (way w w_is))
 
     -- a call that puts this window anew
-    pub edit_keeps : (n : ℕ) → n ≡ w.serial → (by : Option Point) → IsOnItsWay e.at e.place by t.windows.records.items → (after : FullDesk) → IsDeskOfEdit loan e t w after
-        → KeepsLayers (record { window = n; by = by }) (layered_desk before) (layered_desk after)
-    edit_keeps n about by way after D =
-        let touch : Touch = record { window = w.serial; by = by } in
+    pub edit_keeps : (n : ℕ) → n ≡ w.serial → (by : Option Point) (whole : Bool) → IsOnItsWay e.at e.place by t.windows.records.items → (after : FullDesk) → IsDeskOfEdit loan e t w after
+        → KeepsLayers (record { window = n; by = by; whole = whole }) (layered_desk before) (layered_desk after)
+    edit_keeps n about by whole way after D =
+        let touch : Touch = record { window = w.serial; by = by; whole = whole } in
         let anew = put_record e (record_of loan w) in
         let rest = records_without loan e.at t in
-        subst (λ s. KeepsLayers (record { window = s; by = by }) (layered_desk before) (layered_desk after)) (sym about)
+        subst (λ s. KeepsLayers (record { window = s; by = by; whole = whole }) (layered_desk before) (layered_desk after)) (sym about)
         (keeps_layers touch (look_on t) (look_of after) before.windows after.windows (layered_desk before) (layered_desk after) refl refl
         (λ u v there now.
-        kept_anew (look_on t) touch before.windows rest e.at e.to (record_of loan w) anew (windows_were e.at w w_is low) distinct refl refl (on_its_way by way) u v there
+        kept_anew (look_on t) touch before.windows rest e.at e.to (record_of loan w) anew (windows_were e.at w w_is low) distinct refl refl (on_its_way by whole way) u v there
         (all_were after.windows (put_in e.to anew rest) (D.stands ∙ ap (map stand_of) (sym (put_is_insert e.to anew rest))) (D.layers ∙ ap (map (λ (x : WindowRecord). x.layers)) (sym (put_is_insert e.to anew rest))) v now)))
 
   -- a call that puts a new window in front, whose serial owned nothing

@@ -52,7 +52,7 @@ use Rattle.window_mgr.proofs.SlotLemmas.{stocked_with, put_back_is_old}
 use Rattle.window_mgr.proofs.RefusalLemmas.{refusal_is, refusal_without, unplanned_is_refused}
 use Rattle.window_mgr.proofs.SameDeskLemmas.{plan_stays, stays_unchanged}
 use Rattle.vis_update.proofs.PlaceLemmas.{placed_parts}
-use Rattle.window_mgr.proofs.Committing.{turned}
+use Rattle.window_mgr.proofs.Committing.{quiet_is, turned}
 use Rattle.window_mgr.proofs.Arranged.{IsArrangedCall, is_left as arranged_is_left, is_whole as arranged_is_whole}
 use Rattle.window_mgr.proofs.DimLemmas.{windows_behind, settled_behind, stocked_behind, records_behind}
 use Rattle.window_mgr.proofs.Running.{layered_desk-with, next_is_free, numbered_with}

@@ -1,5 +1,5 @@
 -- A window manager that gained room alone.
-use Rattle.std.proofs.Common.{◌≡◌, ℕ, List, [], map, Err, pos, refl, sym, ap, subst}
+use Rattle.std.proofs.Common.{◌≡◌, ◌∷◌, ℕ, List, [], map, Err, pos, refl, sym, ap, subst}
 use Rattle.std.specs.Prelude.{All}
 use Rattle.tb_geom.specs.declared.refusal.Refusal.{Refusal}
 use Rattle.tb_geom.specs.Pixels.{Pixels}

@@ -1,5 +1,7 @@
-use Rattle.std.proofs.Common.{◌≡◌, ◌+◌, ◌∷◌, Bool, true, false, List, length, if◌then◌else◌, map, ap, ◌∙◌, Some, refl, sym, arith}
+use Rattle.std.proofs.Common.{◌≡◌, ◌+◌, ◌∷◌, Bool, true, false, List, length, if◌then◌else◌, map, ap, ◌∙◌, Some, refl, rules, sym, arith}
+use Rattle.std.specs.Result.{is_ok}
 use Rattle.std.proofs.lemmas.List.{length-map}
+use Rattle.vis_update.specs.Plans.{areas_then}
 use Rattle.window_list.specs.Lists.{dimmed, serial_after}
 use Rattle.vis_update.proofs.PlaceLemmas.{placed_parts}
 use Rattle.window_mgr.specs.Effects.{new_record}
@@ -34,6 +36,7 @@ commit-requires-clause-parts g c =
 
 pub returns : goal.returns
 returns g c =
+    let made : is_ok c.insert.result ≡ true = search rules in
     let begun = (goal.WindowDef-dyn g (c.begin.new.self.definition.vtable, c.begin.new.self.definition.value)).meaning c.begin.new.self.definition.value in
     record {
       record_is = c.record_for-added.result;
@@ -42,7 +45,10 @@ returns g c =
       seen = c.record_for-added.ensures.seen ∙ ap (λ s. new_record c.args.window.now c.args.addition.ticket.serial s begun) c.begin.ensures.slot;
       there = c.record_for-added.ensures.there;
       windows = ap (λ t. t.windows.records.items) c.commit.ensures.others ∙ ap (λ l. l.records.items) c.add.ensures ∙ ap (λ b. c.record_for-added.result ∷ (if b then map (dimmed c.args.self.now.windows.active) c.args.self.now.windows.records.items else c.args.self.now.windows.records.items)) c.record_for-added.ensures.shown;
-      areas = c.commit.ensures.areas;
+      area = c.empty.result;
+      nowhere = c.empty.ensures;
+      areas = c.commit.ensures.areas ∙ ap (λ olds. areas_then olds c.args.addition.plan.areas.items) c.insert.ensures.items
+          ∙ ap (λ (b : Bool). areas_then (if b then c.empty.result ∷ c.args.self.now.areas.items else c.args.self.now.areas.items) c.args.addition.plan.areas.items) made;
       desktop = c.commit.ensures.desktop;
       drawn = rw c.commit.ensures.others c.commit.ensures.drawn;
       bar = rw c.commit.ensures.others refl;

@@ -1,10 +1,11 @@
-use Rattle.std.proofs.Common.{◌<◌, length, rules, arith, ap, ◌∙◌}
+use Rattle.std.proofs.Common.{◌<◌, length, refl, rules, arith, ap, ◌∙◌}
+use Rattle.def_iface.specs.contracts.taken.TakenDefined.TheImpl as taken
+use Rattle.vis_update.specs.declared.plan.Touch.{Touch}
+use Rattle.vis_update.specs.Seats.{IsPlacedSeat}
 use Rattle.window_mgr.specs.Arrange.{activation_of}
 use Rattle.window_mgr.proofs.KeptEdits.{edit_keeps}
 use Rattle.window_mgr.proofs.Seating as arranging
 use Rattle.window_mgr.proofs.EditSeats as editing
-use Rattle.window_mgr.proofs.Remarked.{area_there}
-use Rattle.window_mgr.proofs.Remarked as remarked
 use Rattle.window_mgr.proofs.Changed as changing
 use Rattle.window_mgr.proofs.manager.WindowManager.plan_edit.Goals as goal
 
@@ -31,13 +32,18 @@ index-seat-requires g c =
 pub changed_with-requires : goal.changed_with-requires
 changed_with-requires g c =
     let low : c.args.edit.at < length c.args.self.now.windows.records.items = search rules in
-    ?
+    editing.of_anew _ c.args.self.now c.requires.kept c.args.edit c.in_ok-seats.seats.items c.in_ok-seats.ensures low (IsPlacedSeat (taken.loan-value g.dyn-1).it)
+    (editing.placed_edit _ c.args.self.now c.requires.kept c.args.edit c.in_ok-seats.seats.items c.in_ok-seats.ensures low c.requires.placed) c.index-seat.result.now c.requires.to c.index-seat.ensures
 
 pub plan_of-requires-clause-near_changed : goal.plan_of-requires-clause-near_changed
 plan_of-requires-clause-near_changed g c = changing.changed_near _ c.args.self.now c.requires.kept _ _ c.in_ok-changed.ensures
 
 pub plan_of-requires-clause-losing : goal.plan_of-requires-clause-losing
-plan_of-requires-clause-losing g c = ?
+plan_of-requires-clause-losing g c =
+    let low : c.args.edit.at < length c.args.self.now.windows.records.items = search rules in
+    let touch : Touch = record { window = c.at.result.now.serial; by = c.args.by; whole = c.args.whole } in
+    rw c.deref-2.ensures.value (editing.losing_edit _ c.args.self.now c.requires.kept c.args.edit c.in_ok-seats.seats.items c.in_ok-seats.ensures low touch c.at.result.now (search rules) refl
+    c.index-seat.result.now c.requires.to c.index-seat.ensures c.in_ok-changed.changed c.in_ok-lost.lost c.in_ok-lost.ensures)
 
 pub returns-clause-plan : goal.returns-clause-plan
 returns-clause-plan g c w w_is after deskof =
@@ -46,9 +52,9 @@ returns-clause-plan g c w w_is after deskof =
     let same = editing.same_at c.args.self.now.windows.records.items c.args.edit.at c.at.result.now w low (search rules) w_is in
     rw (editing.areas_edit _ c.args.self.now c.requires.kept c.args.edit c.in_ok-seats.seats.items c.in_ok-seats.ensures low, ap (λ z. z.serial) same) at
     (plan _ _ _ _ (editing.arranged_edit _ c.args.self.now c.requires.kept c.args.edit c.in_ok-seats.seats.items c.in_ok-seats.ensures low w w_is after _ deskof
-    (changing.changes_edit _ c.args.self.now c.requires.kept c.args.edit w w_is low after deskof _ (changing.changed_is _ c.args.self.now c.requires.kept c.args.edit c.in_ok-seats.seats.items c.in_ok-seats.ensures low c.requires.to ? ? _ c.in_ok-changed.ensures)))
+    (changing.changes_edit _ c.args.self.now c.requires.kept c.args.edit w w_is low after deskof _ (changing.changed_is _ c.args.self.now c.requires.kept c.args.edit c.in_ok-seats.seats.items c.in_ok-seats.ensures low c.requires.to c.index-seat.result.now c.index-seat.ensures c.in_ok-changed.changed c.in_ok-changed.ensures)))
     c.requires.kept.whole.desktop
-    (edit_keeps _ c.args.self.now c.requires.kept.whole.sound.distinct c.args.edit w w_is low c.at.result.now.serial (ap (λ z. z.serial) same) c.args.by c.requires.way after deskof))
+    (edit_keeps _ c.args.self.now c.requires.kept.whole.sound.distinct c.args.edit w w_is low c.at.result.now.serial (ap (λ z. z.serial) same) c.args.by c.args.whole c.requires.way after deskof))
 
 pub returns-clause-activation : goal.returns-clause-activation
 returns-clause-activation g c w w_is =

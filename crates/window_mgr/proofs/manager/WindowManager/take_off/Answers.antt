@@ -1,5 +1,7 @@
 use Rattle.std.proofs.Common.{◌<◌, length, ap, ◌∙◌, refl, subst, arith}
 use Rattle.std.specs.List.{remove}
+use Rattle.vis_update.specs.Plans.{areas_then}
+use Rattle.window_mgr.specs.declared.manager.WindowManager.{WindowManager}
 use Rattle.window_mgr.specs.Edits.{IsWindowAt}
 use Rattle.window_mgr.proofs.RestSeats as resting
 use Rattle.window_mgr.proofs.manager.WindowManager.take_off.Goals as goal
@@ -34,7 +36,7 @@ returns g c =
       drawn =
           let screen = rw c.activate.ensures.others at c.commit.ensures.drawn in
           rw c.commit.ensures.others screen;
-      areas = c.commit.ensures.areas;
+      areas = c.commit.ensures.areas ∙ ap (λ olds. areas_then olds c.args.plan.areas.items) (c.remove-area.ensures.items ∙ ap (λ (t : WindowManager _ _). remove t.areas.items c.args.at) c.activate.ensures.others);
       desktop = c.commit.ensures.desktop;
       bar = rw (c.commit.ensures.others, c.activate.ensures.others) refl;
       font = rw (c.commit.ensures.others, c.activate.ensures.others) refl;
