@@ -176,9 +176,9 @@ changed_area look other before after were are t old gray changed covers were_is 
         let was : owner before.desk p ≡ owner_among (map (layered_window other) were) p = (λ i. if below i then Bar else owner_among (were_is i) p) in
         let is : owner after p ≡ owner_among (map (layered_window look) are) p = (λ i. if bar i then Bar else owner_among (are_is i) p) in
         let was_other : is_other t (owner before.desk p) ≡ true =
-            other_from t (owner before.desk p)
-            (not_its (layers.on_screen before.desk p) _ was_on (sym (had.visible p) ∙ had_none.0))
-            (not_its (layers.on_screen before.desk p) _ was_on (sym (had.frame p) ∙ had_none.1)) in
+        other_from t (owner before.desk p)
+        (not_its (layers.on_screen before.desk p) _ was_on (sym (had.visible p) ∙ had_none.0))
+        (not_its (layers.on_screen before.desk p) _ was_on (sym (had.frame p) ∙ had_none.1)) in
         is
         ∙ unowned t look p are (free t look p are (covered p nowhere.1))
         ∙ sym (same_owners other look p (except t were) (except t are) others.stands others.layers)

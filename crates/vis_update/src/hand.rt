@@ -24,11 +24,7 @@ pub fn lost_of(alloc: Global, changed: &Region, old: &Area) -> Result<Region, Al
 }
 
 /// What of the gray region a window had, and what it covers where it is to be, as its seat says.
-pub fn changed_with(
-    alloc: Global,
-    gray: &Region,
-    seat: &Seat<'_>,
-) -> Result<Region, AllocError>
+pub fn changed_with(alloc: Global, gray: &Region, seat: &Seat<'_>) -> Result<Region, AllocError>
     requires { IsPlacedSeat ⟦<Taken as Defined>⟧.loan seat.now }
     ensures { IfOk result (IsChangedWith seat.now.area.now (covers ⟦<Taken as Defined>⟧.loan seat.now) gray.now) }
 {

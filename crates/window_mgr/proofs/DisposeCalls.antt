@@ -1,5 +1,5 @@
 -- What a call that ends a window leaves.
-use Rattle.std.proofs.Common.{◌≡◌, ◌==◌, inr, ℕ, ◌<◌, ◌||◌, Bool, true, false, List, [], length, map, None, pos, refl, sym, ap, ◌∙◌, subst}
+use Rattle.std.proofs.Common.{◌≡◌, ◌==◌, inr, ℕ, ◌<◌, true, List, [], length, map, None, pos, refl, sym, ap, ◌∙◌, subst}
 use Rattle.std.specs.Prelude.{All, Ok, Err}
 use Rattle.std.specs.List.{remove}
 use Rattle.std.proofs.lemmas.List.Elements.{All-head}

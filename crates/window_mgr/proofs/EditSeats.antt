@@ -15,7 +15,6 @@ use Rattle.def_iface.specs.Change.{State}
 use Rattle.window_list.specs.declared.window.Window.{Window}
 use Rattle.window_list.specs.Ranks.{insert_option, moved_item}
 use Rattle.window_list.specs.Lists.{edit}
-use Rattle.vis_update.specs.declared.area.Area.{Area}
 use Rattle.vis_update.specs.declared.plan.Seat.{Seat}
 use Rattle.vis_update.specs.declared.plan.Touch.{Touch}
 use Rattle.vis_update.specs.Plans.{IsLosing}

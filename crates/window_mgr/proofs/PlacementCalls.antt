@@ -1,5 +1,5 @@
 -- What the calls that put a window elsewhere or give it another size leave, and their steps.
-use Rattle.std.proofs.Common.{◌≡◌, ◌==◌, inr, ℕ, zero, suc, ◌<◌, ◌||◌, ◌&&◌, not, Bool, true, false, if◌then◌else◌, List, [], ◌∷◌, length, get_or, map, Option, None, Some, Result, Ok, Err, pos, refl, sym, ap, ◌∙◌, subst, arith}
+use Rattle.std.proofs.Common.{◌≡◌, ◌==◌, inr, ℕ, zero, suc, ◌<◌, ◌&&◌, not, Bool, true, false, if◌then◌else◌, List, [], ◌∷◌, length, get_or, map, Option, None, Some, Result, Ok, Err, pos, refl, sym, ap, ◌∙◌, subst, arith}
 use Rattle.std.specs.Prelude.{All, slice_set, slice_get, is_none}
 use Rattle.std.specs.Option.{is_some}
 use Rattle.std.specs.List.{remove}

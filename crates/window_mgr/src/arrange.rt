@@ -138,9 +138,12 @@ impl WindowManager {
         ensures sparing { (w : _) → IsWindowAt self.old.windows.records.items edit.at w
             → Spares ⟦<Taken as Defined>⟧.loan w.serial by self.old self.new }
     {
-        let Ok(Rearrangement { plan, activation }) =
-            self.plan_edit(edit, activates, by, by.is_some())
-        else {
+        let Ok(Rearrangement { plan, activation }) = self.plan_edit(
+            edit,
+            activates,
+            by,
+            by.is_some(),
+        ) else {
             return Err(Refusal::NoMemory);
         };
         self.commit_edit(edit, activation, plan, by);

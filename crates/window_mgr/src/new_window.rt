@@ -21,7 +21,9 @@ use draw_port::Picture;
 use layer_list::Layers;
 use std::alloc::{AllocError, Global};
 use tb_geom::{Point, Refusal};
-use vis_update::{Area, Plan, Seat, Touch, changed_with, is_placed_alone, is_placed_with, lost_of, plan_of};
+use vis_update::{
+    Area, Plan, Seat, Touch, changed_with, is_placed_alone, is_placed_with, lost_of, plan_of,
+};
 use window_list::{Heard, Title, Window};
 
 /// As many windows as there may be.

@@ -8,7 +8,7 @@ use Rattle.tb_geom.specs.Points.{PixelSet, minus}
 use Rattle.tb_geom.specs.Pixels.{Pixels, holds}
 use Rattle.tb_geom.specs.Rects.{rect_holds, is_in_range, is_coordinate, in_plane, moved_rect, is_empty_rect, empty_rect}
 use Rattle.tb_geom.proofs.RectLemmas.{sides_of, sides_rise, is_around}
-use Rattle.bit_map.specs.Bits.{Bits, bit}
+use Rattle.bit_map.specs.Bits.{Bits}
 use Rattle.bit_blit.specs.Draws.{Draws}
 use Rattle.bit_blit.proofs.DrawsLemmas.{Draws-where, Draws-on_map}
 use Rattle.def_iface.specs.Meaning.{Definition}

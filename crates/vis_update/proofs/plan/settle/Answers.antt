@@ -1,4 +1,4 @@
-use Rattle.std.proofs.Common.{◌≡◌, ◌≤◌, ◌++◌, ◌∷◌, [], length, set, sym, ap, ◌∙◌, arith, rules}
+use Rattle.std.proofs.Common.{◌≡◌, ◌≤◌, ◌++◌, ◌∷◌, [], length, set, sym, ap, ◌∙◌, rules}
 use Rattle.vis_update.specs.Plans.{areas_then}
 use Rattle.vis_update.proofs.Settling.{last_none, last_some, last_beyond, all_settled}
 use Rattle.vis_update.proofs.plan.settle.Goals as goal

@@ -1,4 +1,4 @@
-use Rattle.std.proofs.Common.{◌≡◌, true, rules}
+use Rattle.std.proofs.Common.{rules}
 use Rattle.tb_geom.specs.Pixels.{holds}
 use Rattle.vis_update.proofs.PlaceLemmas.{kept_near}
 use Rattle.vis_update.proofs.Sweeping.{stays_where, swept_by, left_alone}
