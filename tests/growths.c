@@ -6,6 +6,7 @@
 // are comments to the program:
 //
 //     #refuse FIRST LAST     the growths FIRST up to LAST of the next line are refused, counted from 1
+//     #refuse-on FIRST LAST  the same of each line after it that has no #refuse of its own, up to the next #refuse-on
 //     #each FIRST LAST STEP  for each of the numbers FIRST, FIRST + STEP and so on up to LAST a copy of the program reads
 //                            on to the end of the input, one after the other, before the program itself does; the
 //                            growth of this number of its next line is refused
@@ -36,8 +37,8 @@ struct range {
     unsigned long first, last;
 };
 
-// The growths to refuse of the line that was read, and of the one after it.
-static struct range refused, refused_next;
+// The growths to refuse of the line that was read, of the one after it, and of each line for which none are named.
+static struct range refused, refused_next, refused_on;
 // The growths of the line that was read, and how many of them were refused.
 static unsigned long growths, refusals;
 
@@ -154,6 +155,8 @@ static void obey(const char *line, size_t length) {
         for (unsigned long growth = first; growth <= last && !is_copy; growth += step)
             make_copy(growth);
     sscanf(mark, "#refuse %lu %lu", &refused_next.first, &refused_next.last);
+    if (sscanf(mark, "#refuse-on %lu %lu", &first, &last) == 2)
+        refused_next = refused_on = (struct range){first, last};
 }
 
 // Turns to the next line. Its length.
@@ -179,7 +182,7 @@ ssize_t read(int file, void *to, size_t most) {
         open_input();
     growths = refusals = 0;
     refused = refused_next;
-    refused_next = (struct range){0, 0};
+    refused_next = refused_on;
     if (place == input_length)
         return 0;
     lines++;

@@ -12,8 +12,9 @@ from desk_kit.answers import LONGEST_SHOWN, Fault
 
 # How long a run may take, with all its copies.
 SECONDS = 300
-# The last growth that is refused, where all are.
+# The last growth that is refused, where all are, and where none is.
 ALL = 10**9
+NONE = 0
 # How many copies one run makes at most, so that it ends in time.
 MOST_COPIES = 500
 
@@ -26,6 +27,11 @@ def questions(asked):
 def refusal(first, last):
     """The line that has these growths of the line after it refused: a comment to the program, as are those below."""
     return b"#refuse %d %d" % (first, last)
+
+
+def refusal_on(first, last):
+    """The line that has these growths of each line after it refused, up to the next such line."""
+    return b"#refuse-on %d %d" % (first, last)
 
 
 def each(growths, lines):

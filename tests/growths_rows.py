@@ -7,7 +7,7 @@ import subprocess
 import sys
 
 sys.dont_write_bytecode = True
-from growths_program import ALL, MOST_COPIES, each, questions, refusal
+from growths_program import ALL, MOST_COPIES, NONE, each, questions, refusal, refusal_on
 from preloaded import ROWS, TOP, read
 
 from desk_kit.answers import LONGEST_SHOWN, Fault, answers_to, commands_of
@@ -35,6 +35,8 @@ WITHOUT_MEMORY = set(
 )
 # Those that may be so only while the drawing of their list is off.
 WITH_MEMORY_UNDRAWN = set(b"ldelrow ldelcol lclear lsetsel lclick lscroll".split())
+# Those that may want memory and change nothing.
+ASKING = set(b"visrgn updatergn lget".split())
 # The commands that name a cell of a list, each with the places of its column and its row among its words.
 CELLS = {
     **dict.fromkeys((b"lset", b"ladd", b"lclear", b"lget", b"lsearch"), (3, 4)),
@@ -86,6 +88,14 @@ class Row:
         verb = self.words(at)[0]
         without = verb in WITHOUT_MEMORY or (verb in WITH_MEMORY_UNDRAWN and at not in self.undrawn)
         return self.is_done(at) and not without
+
+    def changes_with_memory(self, at):
+        """Whether the command at this place may want memory and changes something."""
+        return self.may_want_memory(at) and self.words(at)[0] not in ASKING
+
+    def begins_without_memory(self, at):
+        """Whether the command at this place changes nothing with memory, and the one before it does."""
+        return not self.changes_with_memory(at) and (at == 1 or self.changes_with_memory(at - 1))
 
     def done(self, *verbs):
         """The words of the commands that are done and begin so, each with its place."""
@@ -198,6 +208,23 @@ class Row:
         if not program.tries(lines, [("before it", begin), ("with all growths refused", rest)], *self.options):
             raise Fault("no growth was refused")
 
+    def without_memory(self, begin, end):
+        """These commands, with their answers where all growths are refused. None of them changes something with memory,
+        except the last, maybe."""
+        wanting = (self.may_want_memory(at) and self.growths[at] > 0 for at in range(begin, end))
+        return [(line, NO_MEMORY if it else answer) for (line, answer), it in zip(self.asked(begin, end), wanting)]
+
+    def try_on(self, program, at):
+        """Refuses all growths from the command at this place on, up to the next that changes something with memory."""
+        places = range(at, len(self.commands))
+        end = next((it for it in places if self.changes_with_memory(it)), len(self.commands))
+        is_refused = end < len(self.commands) and self.growths[end] > 0
+        begin, refused = self.asked(0, at), self.without_memory(at, end + is_refused)
+        rest = [*self.state(end - 1), *self.asked(end)]
+        lines = [*questions(begin), refusal_on(1, ALL), *questions(refused), refusal_on(NONE, NONE), *questions(rest)]
+        what = "with all growths refused from it on"
+        program.tries(lines, [("before it", begin), (what, refused), (f"{what}, and then granted", rest)], *self.options)
+
     def chosen(self, program, at):
         """What the keys choose after the command at this place, with nothing refused."""
         lines = [*self.commands[: at + 1], *self.keys]
@@ -208,8 +235,11 @@ class Row:
         self.try_copies(program, at, [(self.commands[at], NO_MEMORY), *zip(self.keys, self.chosen(program, at - 1))], [])
 
     def fault(self, program, at):
-        """What goes wrong where the command at this place is refused memory, if anything does."""
+        """What goes wrong where the command at this place is refused memory, alone or with those after it, if anything
+        does."""
         try:
+            if self.begins_without_memory(at):
+                self.try_on(program, at)
             if self.growths[at]:
                 self.try_all(program, at)
                 self.try_each(program, at)

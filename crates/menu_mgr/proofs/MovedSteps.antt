@@ -37,30 +37,40 @@ use Rattle.menu_mgr.proofs.SeenMenus.{another, on_no_other, on_other, seen_at, t
 use Rattle.menu_mgr.proofs.ToldMenus.{as_large, told_alike}
 
 module _ {V : Type 0} {H : V → Type 0} (loan : Taken V H → Loan) {W : Type 0} {K : W → Type 0} (menu_loan : TakenMenu W K → MenuLoan) where
-  -- all that is known where the pulled menu was told which item is highlighted
-  pub record IsToldSo (pulled : PulledMenu) (item : Option ℕ) (font : List ℕ) (m k : Menus W K) : Type 0 where
+  -- all that is known of the menus where the pulled menu was told which item is highlighted
+  pub record IsToldSo (pulled : PulledMenu) (item : Option ℕ) (m k : Menus W K) : Type 0 where
     pub told : IsTold pulled item (seen_menus loan menu_loan m) (seen_menus loan menu_loan k)
     pub highlighted : k.list.highlighted ≡ m.list.highlighted
     pub room : vec_capacity m.list.menus ≤ vec_capacity k.list.menus
-    pub front : (base : Bits) → IsShown font (pulled_of (Pulling pulled) (seen_menus loan menu_loan m)) base m.overlay.front
-        → IsShown font (pulled_of (Pulling pulled) (seen_menus loan menu_loan k)) base k.overlay.front
 
-  module _ (t : WindowManager V H) (pulled : PulledMenu) (item : Option ℕ) (m k : Menus W K) (so : IsToldSo pulled item t.font m k) where
+  module _ (t : WindowManager V H) (pulled : PulledMenu) (item : Option ℕ) (m k : Menus W K) (so : IsToldSo pulled item m k) where
     pub as_many : length k.list.menus.items ≡ length m.list.menus.items
     as_many =
         sym (length-seen menu_loan k.list.menus.items)
         ∙ (told_alike pulled item (seen_menus loan menu_loan m) (seen_menus loan menu_loan k) so.told).many
         ∙ length-seen menu_loan m.list.menus.items
 
-    pub told_whole : (slots : List MenuSlot) → IsWholeMenus menu_loan t (Pulling pulled) m slots → IsWholeMenus menu_loan t (Pulling (record pulled { item = item })) k slots
-    told_whole slots whole =
+    pub told_held : (slots : List MenuSlot) → IsWholeMenus menu_loan t (Pulling pulled) m slots → IsHeld loan menu_loan k slots
+    told_held slots whole =
         let alike = told_alike pulled item (seen_menus loan menu_loan m) (seen_menus loan menu_loan k) so.told in
-        let front = so.front t.screen whole.front in
         record {
           few = omega (arith, as_many, whole.few);
           room = omega (arith, so.room, whole.room);
           live = alike.live whole.live;
           stocked = alike.stocked slots whole.stocked;
+        }
+
+    -- the map in front shows it
+    pub told_whole : (slots : List MenuSlot) → IsWholeMenus menu_loan t (Pulling pulled) m slots
+        → IsShown t.font (pulled_of (Pulling pulled) (seen_menus loan menu_loan k)) t.screen k.overlay.front
+        → IsWholeMenus menu_loan t (Pulling (record pulled { item = item })) k slots
+    told_whole slots whole front =
+        let held = told_held slots whole in
+        record {
+          few = held.few;
+          room = held.room;
+          live = held.live;
+          stocked = held.stocked;
           width = front.width;
           height = front.height;
           placed = whole.placed;
@@ -81,12 +91,17 @@ module _ {V : Type 0} {H : V → Type 0} (loan : Taken V H → Loan) {W : Type 0
     pub width : k.overlay.front.width ≡ t.screen.width
     pub height : k.overlay.front.height ≡ t.screen.height
 
-  pub still_hold : (t : WindowManager V H) (a : Activity) (pulled : PulledMenu) (item : Option ℕ) (font : List ℕ) (m k : Menus W K)
-      → AreKeptMenus loan menu_loan t a m → a ≡ Pulling pulled → font ≡ t.font → IsToldSo pulled item font m k → StillHold t m k
-  still_hold t a pulled item font m k kept pulling same so =
-      let now : IsToldSo pulled item t.font m k = subst (λ f. IsToldSo pulled item f m k) same so in
-      let told = told_whole t pulled item m k now kept.slots (subst (λ x. IsWholeMenus menu_loan t x m kept.slots) pulling kept.whole) in
-      record { many = as_many t pulled item m k now; few = told.few; live = told.live; width = told.width; height = told.height }
+  pub still_hold : (t : WindowManager V H) (a : Activity) (pulled : PulledMenu) (m k : Menus W K)
+      → AreKeptMenus loan menu_loan t a m → a ≡ Pulling pulled → IsToldSo pulled None m k → k.overlay ≡ m.overlay → StillHold t m k
+  still_hold t a pulled m k kept pulling so overlay =
+      let held = told_held t pulled None m k so kept.slots (subst (λ x. IsWholeMenus menu_loan t x m kept.slots) pulling kept.whole) in
+      record {
+        many = as_many t pulled None m k so;
+        few = held.few;
+        live = held.live;
+        width = (λ i. (overlay i).front.width) ∙ kept.whole.width;
+        height = (λ i. (overlay i).front.height) ∙ kept.whole.height;
+      }
 
   -- ---- the mouse is on the title of another menu
 
@@ -94,13 +109,12 @@ module _ {V : Type 0} {H : V → Type 0} (loan : Taken V H → Loan) {W : Type 0
       → in_plane p ≡ true → a ≡ Pulling pulled
       → of_another pulled (indexed m.list.menus.items (title_under (desk_of loan t []) p)) ≡ Some title
       → title.at < length m.list.menus.items → title.at < length k.list.menus.items
-      → IsToldSo pulled None t.font m k → IsPulledOver loan menu_loan title new t u k n
+      → IsToldSo pulled None m k → IsPulledOver loan menu_loan title new t u k n
       → LeavesMenus loan menu_loan (IsMenuStep (Move p) (Ok (reply.Item None))) t (opened a begun) m u (opened (Pulling new) begun) n
   moved_on t u a begun m k n p pulled new title e pulling on within there so over kept was slots w =
       let under = title_under (desk_of loan t []) p in
       let whole : IsWholeMenus menu_loan t (Pulling pulled) m kept = subst (λ x. IsWholeMenus menu_loan t x m kept) pulling was in
-      let told = told_whole t pulled None m k so kept whole in
-      let held : IsHeld loan menu_loan k kept = record { few = told.few; room = told.room; live = told.live; stocked = told.stocked } in
+      let held = told_held t pulled None m k so kept whole in
       let old = is_at title.at m.list.menus.items within in
       let now = is_at title.at k.list.menus.items there in
       let bar = over.bar slots w in
@@ -140,15 +154,17 @@ module _ {V : Type 0} {H : V → Type 0} (loan : Taken V H → Loan) {W : Type 0
       → in_plane p ≡ true → a ≡ Pulling pulled
       → of_another pulled (indexed m.list.menus.items (title_under (desk_of loan t []) p)) ≡ None
       → item ≡ item_under (desk_of loan t []) pulled (seen_menus loan menu_loan m) p
-      → IsToldSo pulled item t.font m k
+      → IsToldSo pulled item m k
+      → ((base : Bits) → IsShown t.font (pulled_of (Pulling pulled) (seen_menus loan menu_loan m)) base m.overlay.front
+      → IsShown t.font (pulled_of (Pulling pulled) (seen_menus loan menu_loan k)) base k.overlay.front)
       → LeavesMenus loan menu_loan (IsMenuStep (Move p) (Ok (reply.Item item))) t (opened a begun) m t (opened (Pulling (record pulled { item = item })) begun) k
-  stayed_on t a begun m k p pulled item e pulling none over so kept was slots w =
+  stayed_on t a begun m k p pulled item e pulling none over so shows kept was slots w =
       let whole : IsWholeMenus menu_loan t (Pulling pulled) m kept = subst (λ x. IsWholeMenus menu_loan t x m kept) pulling was in
       let before = menu_desk menu_loan loan t (opened a begun) slots m kept in
       let after = menu_desk menu_loan loan t (opened (Pulling (record pulled { item = item })) begun) slots k kept in
       let is = on_no_other menu_loan pulled m.list.menus.items (title_under (desk_of loan t []) p) none in (
         w,
-        told_whole t pulled item m k so kept whole,
+        told_whole t pulled item m k so kept whole (shows t.screen whole.front),
         (
           near p e,
           (
@@ -177,13 +193,13 @@ module _ {V : Type 0} {H : V → Type 0} (loan : Taken V H → Loan) {W : Type 0
   pub released : (t u : WindowManager V H) (a : Activity) (begun : PixelSet) (m k n : Menus W K) (p : Point) (pulled : PulledMenu) (choice : Option Choice)
       → in_plane p ≡ true → a ≡ Pulling pulled
       → choice ≡ choice_of pulled (item_under (desk_of loan t []) pulled (seen_menus loan menu_loan m) p)
-      → IsToldSo pulled None t.font m k
-      → n.list.menus ≡ k.list.menus → n.list.highlighted ≡ (if is_none choice then None else k.list.highlighted) → n.overlay ≡ k.overlay
+      → IsToldSo pulled None m k
+      → n.list.menus ≡ k.list.menus → n.list.highlighted ≡ (if is_none choice then None else k.list.highlighted) → n.overlay ≡ m.overlay
       → LeavesState loan (IsBarShown (titles_of n.list.highlighted n.list.menus.items)) t u
       → LeavesMenus loan menu_loan (IsMenuStep (Up p) (Ok (reply.Chosen choice))) t (opened a begun) m u (opened Idle begun) n
   released t u a begun m k n p pulled choice e pulling chosen so menus lit overlay leaves kept was slots w =
       let whole : IsWholeMenus menu_loan t (Pulling pulled) m kept = subst (λ x. IsWholeMenus menu_loan t x m kept) pulling was in
-      let told = told_whole t pulled None m k so kept whole in
+      let told = told_held t pulled None m k so kept whole in
       let bar = leaves slots w in
       let sides = bars.as_large loan t u slots (titles_of n.list.highlighted n.list.menus.items) bar.1 in
       let before = menu_desk menu_loan loan t (opened a begun) slots m kept in
@@ -196,8 +212,8 @@ module _ {V : Type 0} {H : V → Type 0} (loan : Taken V H → Loan) {W : Type 0
           room = subst (λ v. 16 ≤ v) (sym (λ i. vec_capacity (menus i))) told.room;
           live = subst (λ v. AreLive (menus_of menu_loan v)) (sym items) told.live;
           stocked = subst (λ v. AreMenusStocked (menus_of menu_loan v) kept) (sym items) told.stocked;
-          width = (λ i. (overlay i).front.width) ∙ told.width ∙ sym sides.width;
-          height = (λ i. (overlay i).front.height) ∙ told.height ∙ sym sides.height;
+          width = (λ i. (overlay i).front.width) ∙ whole.width ∙ sym sides.width;
+          height = (λ i. (overlay i).front.height) ∙ whole.height ∙ sym sides.height;
           placed = tt;
           front = tt;
         },

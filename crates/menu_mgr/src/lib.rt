@@ -8,7 +8,9 @@
 //! memory, which only AppendMenu does.
 //!
 //! The titles in the menu bar are content of the base image, the one that windows and update regions speak of: each call that
-//! changes them shows the bar anew (`IsBarShown`), and no other pixel of that image changes. A menu that is pulled down lies
+//! changes them shows the bar anew (`IsBarShown`), and no other pixel of that image changes. Whether they change is seen by the
+//! titles that the bar has, whichever call it is: between calls it shows those, so nothing is drawn where they stay
+//! (`are_shown`). A menu that is pulled down lies
 //! over it on a map of its own (`menu_overlay`): `screen_of` is the pulled menu where it lies, and else the base image. So there
 //! is nothing to bring back when it is put away, and no call about menus can hurt what windows show.
 //!
@@ -21,6 +23,7 @@ mod menus;
 mod painting;
 mod perform;
 mod pulling;
+mod titles;
 
 pub use desk_call::{
     AppendItems, CheckItem, Choice, InsertMenu, ItemOfMenu, ItemText, MenuCall, MenuReply, NewMenu,

@@ -7,6 +7,7 @@ ghost use Rattle.window_mgr.specs.Kept.{IsKept};
 ghost use Rattle.window_mgr.specs.Updating.{LeavesState};
 ghost use Rattle.menu_mgr.specs.WholeMenus.{AreNoMenus};
 
+use crate::titles::are_shown;
 use bit_map::BitMap;
 use def_iface::{Defined, Taken, TakenMenu};
 use menu_list::MenuList;
@@ -51,13 +52,15 @@ impl Menus {
         self.overlay.front()
     }
 
-    /// Shows the titles of these menus in the menu bar. Takes no memory.
+    /// Shows the titles of these menus in the menu bar, which is drawn where it has others. Takes no memory.
     pub(crate) fn show_titles(&self, windows: &mut WindowManager)
         requires few { length self.now.list.menus.items ≤ 16 }
         requires kept { IsKept ⟦<Taken as Defined>⟧.loan windows.old }
         ensures { LeavesState ⟦<Taken as Defined>⟧.loan
             (IsBarShown (titles_of self.now.list.highlighted self.now.list.menus.items)) windows.old windows.new }
     {
-        windows.set_titles(self.list.titles());
+        if !are_shown(windows.parts().titles.as_slice(), &self.list) {
+            windows.set_titles(self.list.titles());
+        }
     }
 }

@@ -229,6 +229,23 @@ impl Menus {
         );
     }
 
+    /// Tells the definition of the pulled menu, which is about to be put away, that no item is highlighted. The map in front
+    /// stays as it is. Takes no memory.
+    fn dim_pulled(&mut self, pulled: PulledMenu)
+        requires live { AreLive (menus_of ⟦<TakenMenu as DefinedMenu>⟧.menu_loan self.old.list.menus.items) }
+        ensures told { IsTold pulled None (menus_of ⟦<TakenMenu as DefinedMenu>⟧.menu_loan self.old.list.menus.items)
+            (menus_of ⟦<TakenMenu as DefinedMenu>⟧.menu_loan self.new.list.menus.items) }
+        ensures highlighted { self.new.list.highlighted ≡ self.old.list.highlighted }
+        ensures room { vec_capacity self.old.list.menus ≤ vec_capacity self.new.list.menus }
+        ensures alloc { self.new.alloc ≡ self.old.alloc }
+        ensures overlay { self.new.overlay ≡ self.old.overlay }
+    {
+        if let Some(at) = self.index_of(pulled.menu) {
+            let listed = &mut self.list.menus[at];
+            listed.definition.told(MenuChange::Highlighted(None));
+        }
+    }
+
     /// Tells the definition of the pulled menu which item is highlighted, and shows the menu so. Takes no memory.
     fn tell(&mut self, font: &Font, pulled: PulledMenu, item: Option<u8>)
         requires live { AreLive (menus_of ⟦<TakenMenu as DefinedMenu>⟧.menu_loan self.old.list.menus.items) }
@@ -339,7 +356,7 @@ impl Menus {
         }
         match self.other_title(windows, pulled, point) {
             Some(title) => {
-                self.tell(windows.parts().font, pulled, None);
+                self.dim_pulled(pulled);
                 *activity = Activity::Pulling(self.pull(windows, title));
                 Ok(MenuReply::Item(None))
             }
@@ -371,7 +388,7 @@ impl Menus {
             return Err(Refusal::OutOfRange);
         }
         let choice = chosen(pulled, self.item_under(windows, pulled, point));
-        self.tell(windows.parts().font, pulled, None);
+        self.dim_pulled(pulled);
         self.dim_unless(choice);
         self.show_titles(windows);
         *activity = Activity::Idle;

@@ -21,12 +21,11 @@ use Rattle.menu_overlay.specs.Overlays.{Pulled, IsShown, pulled_rect, pulled_bit
 
 -- bits that are copied from the same places
 pub covered : (map base : Bits) (rect : Rect) (new : Bits) → map.width ≡ base.width → map.height ≡ base.height
-    → Draws (rect_holds rect) (λ p old. if on_map base (minus p origin) then mode_bit Copy (bit base (minus p origin)) old else old) map new
+    → Draws (rect_holds rect) (λ p old. if on_map base p then bit base p else old) map new
     → Draws (rect_holds rect) (λ p _. bit base p) map new
 covered map base rect new w h drawn =
     Draws-same _ _ _ _ map new
-    (λ p d on. ap (λ q. cond (rect_holds rect p) (if on_map base q then mode_bit Copy (bit base q) d else d) d) (minus-origin p)
-    ∙ ap (λ t. cond (rect_holds rect p) (if t then bit base p else d) d) (on_map-same map base p (sym w) (sym h) ∙ on))
+    (λ p d on. ap (λ t. cond (rect_holds rect p) (if t then bit base p else d) d) (on_map-same map base p (sym w) (sym h) ∙ on))
     drawn
 
 -- a cut that takes nothing away

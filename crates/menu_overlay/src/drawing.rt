@@ -2,33 +2,17 @@
 ghost use Rattle.std.specs.Prelude.{◌≡◌, true, ◌+ℤ◌};
 ghost use Rattle.tb_geom.specs.Points.{minus};
 ghost use Rattle.tb_geom.specs.Rects.{rect_holds};
-ghost use Rattle.bit_map.specs.Bits.{bit};
 ghost use Rattle.bit_blit.specs.Draws.{Draws};
 ghost use Rattle.def_iface.specs.MenuMeaning.{is_menu_size, no_menu_news};
 ghost use Rattle.menu_overlay.specs.Overlays.{is_menu_place, pulled_rect};
 
-use bit_blit::{Copied, draw_rect};
-use bit_map::{BitMap, Mode};
+use bit_map::BitMap;
 use def_iface::{DefinedMenu, Size, Stage, TakenMenu};
 use draw_port::Canvas;
 use menu_record::Menu;
 use scan_region::Cut;
 use strike_font::Font;
 use tb_geom::{Point, Rect};
-
-/// Gives the pixels of a rectangle the bits that another map of the same size has there.
-pub(crate) fn cover(map: &mut BitMap, rect: Rect, base: &BitMap)
-    requires width { map.old.width ≡ base.now.width }
-    requires height { map.old.height ≡ base.now.height }
-    ensures { Draws (rect_holds rect) (λ p _. bit base.now p) map.old map.new }
-{
-    let copied = Copied {
-        source: base,
-        origin: Point { h: 0, v: 0 },
-        mode: Mode::Copy,
-    };
-    draw_rect(map, rect, &copied);
-}
 
 /// Draws a menu whose corner lies at a place, within a rectangle.
 pub(crate) fn draw_menu(

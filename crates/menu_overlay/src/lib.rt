@@ -9,6 +9,7 @@
 //! coordinates of the screen.
 #![tactic(auto)]
 
+mod base;
 mod drawing;
 pub mod laws;
 mod overlay;

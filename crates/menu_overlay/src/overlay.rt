@@ -4,7 +4,8 @@ ghost use Rattle.bit_map.specs.Bits.{Bits, is_side};
 ghost use Rattle.def_iface.specs.MenuMeaning.{MenuDefinition, IsMenuDamage, is_menu_size};
 ghost use Rattle.menu_overlay.specs.Overlays.{IsShown, is_menu_place};
 
-use crate::drawing::{cover, draw_menu, draw_pulled, pulled_rect};
+use crate::base::cover;
+use crate::drawing::{draw_menu, draw_pulled, pulled_rect};
 use bit_map::BitMap;
 use def_iface::{DefinedMenu, Size, Stage, TakenMenu};
 use draw_port::placed_within;

@@ -2,4 +2,5 @@
 pub mod RowLemmas
 pub mod BandLemmas
 pub mod ChosenLemmas
+pub mod IdleLemmas
 pub mod CellLemmas

@@ -9,7 +9,7 @@ ghost use Rattle.std_mldef.specs.Rows as rows;
 use crate::measures::menu_size;
 use arrayvec::ArrayVec;
 use def_iface::Size;
-use draw_port::Canvas;
+use draw_port::{Canvas, placed_within};
 use looks::{Baseline, Label, Lettered, Step, draw_lettered, draw_look, sides};
 use menu_record::{Menu, MenuItem};
 use tb_geom::Rect;
@@ -143,7 +143,7 @@ fn row_steps(row: Row, line: bool, texts: Texts<'_>, bright: bool, lit: bool) ->
     ]
 }
 
-/// Draws the row of an item over what stands there.
+/// Draws the row of an item over what stands there, where the canvas has pixels of it.
 #[tactic(auto, unfolding(crate::specs::Rows::item_steps))]
 pub(crate) fn draw_item(canvas: &mut Canvas<'_>, row: Row, item: &MenuItem, bright: bool, lit: bool)
     requires { rows.is_row row ≡ true }
@@ -153,6 +153,9 @@ pub(crate) fn draw_item(canvas: &mut Canvas<'_>, row: Row, item: &MenuItem, brig
         (λ p d. lettered_value canvas.old.font.now (rows.item_steps row item.now bright lit) (canvas_point canvas.old p) d)
         canvas.old.map.now canvas.new.map.now }
 {
+    if placed_within(canvas.clip, row_box(row), canvas.origin).is_empty() {
+        return;
+    }
     let mark = mark_text(item.mark);
     let key = key_text(item.key);
     let texts = Texts {
