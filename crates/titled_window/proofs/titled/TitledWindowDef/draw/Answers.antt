@@ -1,6 +1,6 @@
 use Rattle.draw_port.proofs.CanvasLemmas.{SameFrame-then}
 use Rattle.draw_port.proofs.OverLemmas.{Draws-black-around}
-use Rattle.state_tests.proofs.titled_window.TitledWindowDef.draw.Goals as goal
+use Rattle.titled_window.proofs.titled.TitledWindowDef.draw.Goals as goal
 
 pub returns-clause-drawn : goal.returns-clause-drawn
 returns-clause-drawn c = Draws-black-around c.args.canvas.now c.fill_all.new.self _ _ _ _ _ c.fill_all.ensures.same_frame c.rect.ensures c.fill_all.ensures.drawn c.fill.ensures.drawn

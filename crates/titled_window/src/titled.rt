@@ -1,7 +1,7 @@
 //! The titled kind of window: a black frame around the content, of four pixels on top and of one elsewhere.
 ghost use Rattle.std.specs.Prelude.{◌≡◌, true};
 ghost use Rattle.def_iface.specs.Sizes.{is_size};
-ghost use Rattle.state_tests.specs.TitledWindows.{titled_box, titled_window};
+ghost use Rattle.titled_window.specs.TitledWindows.{titled_box, titled_window};
 
 use bit_map::{Mode, Pattern};
 use def_iface::{Hit, Size, Stage, WindowChange, WindowDef, WindowRegions, frame_lines};

@@ -2,7 +2,6 @@
 ghost use Rattle.std.specs.Prelude.{◌≡◌, true};
 ghost use Rattle.def_iface.specs.Meaning.{is_fitting};
 
-use crate::titled_window::Titled;
 use def_iface::{Defined, Hit, Size, Stage, Taken, WindowDef, WindowRegions, WindowStock};
 use draw_port::{Canvas, Cut};
 use pixel_pictures::pixels::{Pixels, map_of, mark, picture};
@@ -12,6 +11,7 @@ use std::test::Fail;
 use std_wdef::{StdWindow, Variation};
 use strike_font::Font;
 use tb_geom::{Point, Rect, Refusal};
+use titled_window::Titled;
 
 /// Sizes, and whether a window may have them.
 const SIZES: [(i32, i32, bool); 9] = [

@@ -2,13 +2,13 @@
 ghost use Rattle.std.specs.Prelude.{◌≡◌, ◌<◌, [], length, true, IfOk, OnOk, Some};
 ghost use Rattle.def_iface.specs.Meaning.{is_fitting};
 
-use crate::titled_window::Titled;
 use def_iface::{Defined, Size, Stage, Taken, WindowChange, WindowDef, WindowStock};
 use draw_port::{Op, Picture, Shape};
 use layer_list::Layers;
 use std::alloc::Global;
 use std::test::Fail;
 use tb_geom::Refusal;
+use titled_window::Titled;
 use window_list::{Heard, Placement, Ranks, Title, Window, WindowList};
 
 #[test]

@@ -1,0 +1,6 @@
+//! What no clause says of `event_queue`, by tests: that calls succeed where memory is not refused, and that the words of the
+//! contracts are the Event Manager's. Expected values are tables written by hand, and never come from the library.
+#![tactic(auto)]
+
+#[cfg(test)]
+mod queue;
