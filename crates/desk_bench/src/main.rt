@@ -5,6 +5,7 @@
 //! list without scroll bars, and for two menus. It prints no time, and no memory: it is to be measured from outside, as
 //! `tests/costs` does.
 #![tactic(auto)]
+
 ghost use Rattle.std.specs.Prelude.{All, IfOk};
 ghost use Rattle.def_iface.specs.Slots as slots;
 
