@@ -15,11 +15,11 @@ use Rattle.desk_toolbox.proofs.toolbox.Toolbox.answer_window.Goals as goal
 
 pub returns-in-None-clause-updates : goal.returns-in-None-clause-updates
 returns-in-None-clause-updates g c =
-    updates_after_window _ c.args.self.now.windows c.perform.new.self c.args.self.now.updates _ _ c.args.self.now.activity c.args.call.now c.perform.result c.requires.admitted c.perform.ensures.step c.requires.whole.updates
+    updates_after_window _ c.args.self.now.windows c.perform.new.self c.args.self.now.updates _ _ c.args.self.now.activity c.args.call.now c.perform.result c.requires.admitted c.perform.ensures.step c.requires.whole.managers.updates
 
 pub returns-in-None-clause-menus_whole : goal.returns-in-None-clause-menus_whole
 returns-in-None-clause-menus_whole g c =
-    window_whole _ _ c.args.self.now.windows c.perform.new.self _ _ _ _ c.args.self.now.activity c.args.call.now c.perform.result c.requires.admitted c.perform.ensures.step c.requires.whole.menus
+    window_whole _ _ c.args.self.now.windows c.perform.new.self _ _ _ _ c.args.self.now.activity c.args.call.now c.perform.result c.requires.admitted c.perform.ensures.step c.requires.whole.managers.menus
 
 pub returns-in-None-clause-step : goal.returns-in-None-clause-step
 returns-in-None-clause-step g c =

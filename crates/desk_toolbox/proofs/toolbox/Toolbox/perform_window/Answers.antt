@@ -62,13 +62,13 @@ pub forget_controls-requires-clause-live : goal.forget_controls-requires-clause-
 forget_controls-requires-clause-live g c =
     let control_loan = (taken_control.control_loan-value g.dyn-2).it in
     subst (λ m. AreLiveControls (records_of control_loan m)) (sym c.in-Ok.ensures.controls)
-    (All-weaker IsSettledControl (λ (k : ControlRecord). k.definition.definition.stage ≡ Live) (λ k settled. settled.live) (records_of control_loan c.args.self.now.controls) c.requires.whole.controls.settled)
+    (All-weaker IsSettledControl (λ (k : ControlRecord). k.definition.definition.stage ≡ Live) (λ k settled. settled.live) (records_of control_loan c.args.self.now.controls) c.requires.whole.managers.controls.settled)
 
 pub forget_lists-requires-clause-live : goal.forget_lists-requires-clause-live
 forget_lists-requires-clause-live g c =
     let list_loan = (taken_list.list_loan-value g.dyn-4).it in
     subst (λ m. AreLiveLists (lists.records_of list_loan m)) (sym c.in-Ok.ensures.lists)
-    (All-weaker IsSettledList (λ (k : KeptList). k.definition.definition.stage ≡ Live) (λ k settled. settled.live) (lists.records_of list_loan c.args.self.now.lists) c.requires.whole.lists.settled)
+    (All-weaker IsSettledList (λ (k : KeptList). k.definition.definition.stage ≡ Live) (λ k settled. settled.live) (lists.records_of list_loan c.args.self.now.lists) c.requires.whole.managers.lists.settled)
 
 pub returns-in-Ok-clause-whole : goal.returns-in-Ok-clause-whole
 returns-in-Ok-clause-whole g c =
@@ -92,14 +92,14 @@ returns-in-Ok-clause-whole g c =
       menus = before.menus;
       events = before.events;
     } in
-    let right = made_keeps_contents c.args.call.now c.in-Ok.reply before step.middle step.told after (record { controls = c.requires.whole.controls; lists = c.requires.whole.lists; shown = refl })
-    (record { look = look_on old.windows; distinct = c.requires.whole.windows.sound.distinct; serials = c.requires.whole.windows.sound.serials }) step.answered step.caught_up step.shown step.controls step.lists in
+    let right = made_keeps_contents c.args.call.now c.in-Ok.reply before step.middle step.told after (record { controls = c.requires.whole.managers.controls; lists = c.requires.whole.managers.lists; shown = refl })
+    (record { look = look_on old.windows; distinct = c.requires.whole.managers.windows.sound.distinct; serials = c.requires.whole.managers.windows.sound.serials }) step.answered step.caught_up step.shown step.controls step.lists in
     record {
       windows = told.0;
       updates = updates_after_following loan mid.windows c.follow.new.windows mid.updates _ _ mid.activity c.args.call.now may told.1 c.in-Ok.ensures.updates;
       controls = right.controls;
       lists = right.lists;
-      trackable = left_trackable c.args.call.now before after c.requires.admitted c.in-Ok.ensures.activity step.controls c.requires.whole.trackable;
+      trackable = left_trackable c.args.call.now before after c.requires.admitted c.in-Ok.ensures.activity step.controls c.requires.whole.managers.trackable;
       menus = followed_whole loan menu_loan mid.windows c.follow.new.windows mid.menus _ _ _ mid.activity c.args.call.now may told.1 c.in-Ok.ensures.menus_whole;
     }
 

@@ -11,3 +11,6 @@ returns-clause-step g c = window_is_told _ c.args.call.now c.perform_window.resu
 
 pub returns-then-is_covered-clause-economy : goal.returns-then-is_covered-clause-economy
 returns-then-is_covered-clause-economy g c informed = economical_untouched _ c.args.call.now c.args.self.now.windows
+
+pub returns-then-is_covered-clause-whole : goal.returns-then-is_covered-clause-whole
+returns-then-is_covered-clause-whole g c = c.requires.whole.managers

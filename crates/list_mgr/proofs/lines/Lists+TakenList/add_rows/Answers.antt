@@ -10,10 +10,14 @@ use Rattle.desk_call.specs.declared.list.ListCall.TheVariants as asks
 use Rattle.desk_call.specs.declared.list.ListReply.TheVariants as reply
 use Rattle.control_mgr.proofs.Lays.{one_item}
 use Rattle.list_mgr.specs.ListSteps.{told_of, with_rows_more}
-use Rattle.list_mgr.proofs.Given.{kept_there, with_cells_there}
+use Rattle.list_mgr.proofs.Given.{kept_there, of_read, with_cells_there}
 use Rattle.list_mgr.proofs.LinesAnswered.{answered, judged, refused_lines, relined_lines, short_lines}
 use Rattle.list_mgr.proofs.LinesGiven.{rows_more_change, rows_more_other}
 use Rattle.list_mgr.proofs.Relined.{beside_changed, mark_changed, relined_over, spot_changed}
+use Rattle.list_records.specs.Seen.{seen}
+use Rattle.list_mgr.specs.WholeLists.{IsSettledList}
+use Rattle.list_mgr.specs.Within.{IsSameOutside}
+use Rattle.list_mgr.proofs.Outside.{view_outside}
 use Rattle.list_mgr.proofs.lines.Lists+TakenList.add_rows.Goals as goal
 
 pub returns-in-Some : goal.returns-in-Some
@@ -137,6 +141,8 @@ returns g c =
     (λ o slots cs kept. judged _ list_loan lines.list t m spot is x read (asks.AddRows lines) (λ y. add_refusals y.cells.rows y.cells.columns lines.count lines.at) (λ desk cs state. refl) o slots cs kept ∙ allowed)
     (λ before after same done. (answered _ list_loan lines.list t m spot is x read (λ y. reply.Added (place_to_add y.cells.rows lines.at)) (reply.Added c.in_ok-first.first) (ap (λ k. reply.Added k) first) ∙ ap (told_of lines.list (λ y. reply.Added (place_to_add y.cells.rows lines.at))) (sym same), done))
     (relined_over _ list_loan lines.list t m (with_cells_there _ list_loan lines.list t m spot is x read c.add_rows.new.self) spot (with_rows_more lines.count lines.at)
-    (rows_more_change _ list_loan lines.list t m spot is x read c.add_rows.new.self lines.count lines.at now allowed) _ c.in_ok-mark.mark true c.in_ok-mark.ensures
+    (rows_more_change _ list_loan lines.list t m spot is x read c.add_rows.new.self lines.count lines.at now allowed) _ c.rect-within.result
+    (of_read _ list_loan lines.list t m spot is c.index-2.result.now c.index-2.ensures (λ y. IsSettledList y → IsSameOutside c.rect-within.result y (with_rows_more lines.count lines.at y)) (λ settled. view_outside c.rect-within.result (seen list_loan c.index-2.result.now) (with_rows_more lines.count lines.at (seen list_loan c.index-2.result.now)) c.rect-within.ensures.sides refl))
+    c.in_ok-mark.mark true c.in_ok-mark.ensures
     (rows_more_other _ list_loan lines.list t m spot is x read c.add_rows.new.self lines.count lines.at allowed)
     c.show_with_bars.new.windows c.args.controls.now c.show_with_bars.new.controls c.show_with_bars.ensures)
