@@ -1,7 +1,7 @@
 use Rattle.std.proofs.Common.{◌<◌, length, ap, arith}
 use Rattle.window_list.specs.declared.list.WindowList.{WindowList}
 use Rattle.window_mgr.proofs.Remarked.{area_low}
-use Rattle.layer_tests.proofs.steps.Desk.agrees_at.Goals as goal
+use Rattle.layer_steps.proofs.steps.Desk.agrees_at.Goals as goal
 
 pub area-area-requires : goal.area-area-requires
 area-area-requires g c =

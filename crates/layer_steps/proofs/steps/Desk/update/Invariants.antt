@@ -2,7 +2,7 @@ use Rattle.def_iface.specs.contracts.taken.TakenDefined.TheImpl as taken
 use Rattle.def_iface.specs.contracts.window_stock.WindowStockStocked.TheImpl as stock
 use Rattle.window_mgr.specs.Whole.{IsWholeManager}
 use Rattle.window_update.specs.WholeUpdates.{IsWholeUpdates}
-use Rattle.layer_tests.proofs.steps.Desk.update.Given as goal
+use Rattle.layer_steps.proofs.steps.Desk.update.Given as goal
 
 abbrev pub invariant-loop-at : goal.invariant-loop-at
 invariant-loop-at g l =

@@ -1,4 +1,4 @@
-use Rattle.layer_tests.proofs.steps.Desk.perform.Goals as goal
+use Rattle.layer_steps.proofs.steps.Desk.perform.Goals as goal
 
 pub returns-in-Put : goal.returns-in-Put
 returns-in-Put g c = c.put.ensures _ c.requires

@@ -1,10 +1,11 @@
 //! Calls, carried out by the library and by the model, and what both then have.
-ghost use Rattle.std.specs.Prelude.{◌<◌, IfOk, length};
+ghost use Rattle.std.specs.Prelude.{◌<◌, All, IfOk, length};
+ghost use Rattle.def_iface.specs.Stocked.{IsFull};
 ghost use Rattle.window_mgr.specs.Whole.{IsWholeManager};
 ghost use Rattle.window_update.specs.WholeUpdates.{IsWholeUpdates};
 
 use bit_map::{BitMap, Mode, Pattern};
-use def_iface::{Defined, Part, Size, Stocked, Taken, WindowDef, WindowStock};
+use def_iface::{Defined, Part, Size, Stocked, Taken, WindowStock};
 use desk_call::{Activity, PictureRef};
 use draw_port::{Op, Picture, Shade, Shape as Form};
 use op_ref::{BytesRef, OpRef, ShapeRef};
@@ -12,17 +13,34 @@ use plain_layers::desk::{Owner, Painting, PlainDesk, PlainLayer, PlainWindow, se
 use plain_layers::pixels::Plain;
 use plain_layers::steps::{Effect, Step};
 use std::alloc::Global;
-use std_wdef::{StdWindow, Variation};
 use strike_font::Font;
 use striped_layers::relaying::{put, take_out};
 use striped_layers::updating::{update, update_at_once, updates_for};
-use tb_geom::{Point, Refusal};
+use tb_geom::{Point, Rect, Refusal};
 use window_list::{Ranks, WindowList};
 use window_mgr::{
     Drawing, MoveWindow, NewPicture, NewWindow, ScrollPicture, SendBehind, SizeWindow, WindowCall,
     WindowManager,
 };
 use window_update::{LayerDraw, Layers as Kind, UpdateCall, Updates};
+
+const ORIGIN: Point = Point { h: 0, v: 0 };
+
+/// A rectangle of no pixel.
+const NOTHING: Rect = Rect {
+    left: 0,
+    top: 0,
+    right: 0,
+    bottom: 0,
+};
+
+/// What pictures cover.
+const PAINTED: Rect = Rect {
+    left: 0,
+    top: 0,
+    right: 10,
+    bottom: 10,
+};
 
 /// The desk, its stock, and the model of it.
 #[derive(Drop)]
@@ -37,15 +55,15 @@ pub struct Desk {
 fn plain_window(serial: u64, h: i32, v: i32) -> PlainWindow {
     PlainWindow {
         serial,
-        place: point!(h, v),
+        place: Point { h, v },
         size: Size {
             width: 10,
             height: 8,
         },
         shown: false,
         painting: Painting::White,
-        origin: point!(0, 0),
-        inverted: rect!(0, 0, 0, 0),
+        origin: ORIGIN,
+        inverted: NOTHING,
         layers: [
             no_layer(Part::Control(1)),
             no_layer(Part::Control(2)),
@@ -60,7 +78,7 @@ fn no_layer(part: Part) -> PlainLayer {
         part,
         there: false,
         shown: false,
-        rect: rect!(0, 0, 0, 0),
+        rect: NOTHING,
     }
 }
 
@@ -78,23 +96,18 @@ fn picture(alloc: Global, painting: Painting) -> Result<Picture, Refusal> {
     let mut picture = Picture::new(alloc);
     picture.push(Op {
         clip: None,
-        shape: Form::Fill(rect!(0, 0, 10, 10), shade),
+        shape: Form::Fill(PAINTED, shade),
     })?;
     Ok(picture)
 }
 
 impl Desk {
-    /// Two windows, of which the second covers a part of the first, and nothing of them drawn yet.
-    pub fn new(alloc: Global) -> Result<Desk, Refusal>
+    /// Two windows out of a stock of two plain ones, of which the second covers a part of the first, and nothing of them drawn
+    /// yet.
+    pub fn new(alloc: Global, stock: WindowStock) -> Result<Desk, Refusal>
+        requires { All IsFull (⟦<WindowStock as Stocked>⟧.slots stock) }
         ensures { IfOk result (λ d. IsWholeManager ⟦<Taken as Defined>⟧.loan d.windows (⟦<WindowStock as Stocked>⟧.slots d.stock)) }
     {
-        let mut stock = WindowStock::new(alloc);
-        for _ in 0..2 {
-            let window = Box::new(alloc, StdWindow::new(Variation::Plain))?;
-            let Ok(()) = stock.add(b"plain", window) else {
-                return Err(Refusal::NoMemory);
-            };
-        }
         let list = WindowList::new(Ranks::new(alloc));
         let font = Font::built_in(alloc)?;
         let Ok(windows) = WindowManager::new(alloc, 24, 16, 0, font, list) else {
@@ -144,7 +157,7 @@ impl Desk {
     {
         for v in 0..16 {
             for h in 0..24 {
-                if !self.agrees_at(point!(h, v)) {
+                if !self.agrees_at(Point { h, v }) {
                     return false;
                 }
             }
