@@ -30,10 +30,13 @@ MENUS_AT_A_TIME = 16
 def refused_each(program, begin, growth, command, count):
     """A command that makes something so many times after these, each time refused for want of this growth: lines with the
     answers that they want."""
-    # The second may find room that the refused one made and left: it has fewer growths then.
-    later = min(growth, program.growths([*begin, refusal(growth, growth), command, command]))
-    marks = [refusal(it, it) for it in (growth, *[later] * (count - 1))]
-    return [asked for mark in marks for asked in ((mark, b""), (command, NO_MEMORY))]
+    # Each may find room that those before it made and left, until they leave no more: it has fewer growths then.
+    growths, left = [growth], None
+    while len(growths) < count:
+        before = [line for it in growths for line in (refusal(it, it), command)]
+        was, left = left, program.growths([*begin, *before, command])
+        growths += [min(growths[-1], left)] * (count - len(growths) if left == was else 1)
+    return [asked for it in growths for asked in ((refusal(it, it), b""), (command, NO_MEMORY))]
 
 
 def try_definitions(program, begin, made, after):
