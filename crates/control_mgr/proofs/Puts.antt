@@ -1,6 +1,7 @@
 -- A control that is given another state, and shown anew.
 use Rattle.std.proofs.Common.{◌≡◌, ℕ, ◌<◌, List, [], length, get_or, Some, refl, sym, ap, ◌∙◌, subst}
 use Rattle.std.specs.Prelude.{IfSome, slice_get}
+use Rattle.tb_geom.specs.declared.rect.Rect.{Rect}
 use Rattle.tb_geom.specs.Points.{PixelSet}
 use Rattle.control_list.specs.declared.control.Control.{Control}
 use Rattle.control_list.specs.Lists.{edit_at, place_among, with_highlight, with_title, with_values}
@@ -13,6 +14,7 @@ use Rattle.def_iface.specs.declared.taken_control.TakenControl.{TakenControl}
 use Rattle.def_iface.specs.ControlMeaning.{ControlLoan, IsControlBegun}
 use Rattle.def_iface.specs.Meaning.{Loan}
 use Rattle.def_iface.specs.Stocked.{SlotView}
+use Rattle.def_iface.proofs.Owning.{same_number}
 use Rattle.layer_list.specs.declared.layer.Layer.{Layer}
 use Rattle.desk_call.specs.declared.control.ControlOf.{ControlOf}
 use Rattle.window_list.specs.declared.window.Window.{Window}
@@ -21,21 +23,23 @@ use Rattle.window_mgr.specs.DeskStates.{Opened}
 use Rattle.window_mgr.specs.Edits.{IsWindowAt}
 use Rattle.window_mgr.specs.FullDesk.{FullDesk}
 use Rattle.window_mgr.specs.Records.{desk_of, state_of, state_showing}
-use Rattle.window_mgr.specs.Relayered.{IsLayerRedrawn}
+use Rattle.window_mgr.specs.Relayered.{IsLayerDrawnWithin, IsLayerRedrawn, IsSameOutside}
 use Rattle.window_mgr.specs.Whole.{IsWholeManager}
 use Rattle.control_mgr.specs.declared.controls.Controls.{Controls}
 use Rattle.control_mgr.specs.declared.setting.State.{State}
 use Rattle.control_mgr.specs.declared.spots.Spot.{Spot}
-use Rattle.control_mgr.specs.ControlDesks.{ControlRecord, controls_show, news_of_control}
-use Rattle.control_mgr.specs.ControlSteps.{IsChangedAt, IsShownAnew}
+use Rattle.control_mgr.specs.ControlDesks.{ControlRecord, control_bit, controls_show, news_of_control, with_serial}
+use Rattle.control_mgr.specs.ControlSteps.{IsChangedAt, IsChangedTo}
+use Rattle.control_mgr.specs.Damages.{IsDamageAt, IsDamageOf, IsPut}
 use Rattle.control_mgr.specs.Settled.{AreSettled, IsSettledControl}
 use Rattle.control_mgr.specs.Spots.{IsSpot, IsSpotOf, IsTellable, with_state}
-use Rattle.control_mgr.specs.WholeControls.{AreBeside, AreWholeControls, LeavesControls, controls_state, records_of}
+use Rattle.control_mgr.specs.WholeControls.{AreBeside, AreWholeControls, LeavesControls, control_desk, controls_state, records_of}
 use Rattle.control_mgr.proofs.Edited.{All-there, edit_alike, edit_twice, there_edited}
 use Rattle.control_mgr.proofs.Settled.{changed_settled, retold, whole_put}
 use Rattle.control_mgr.proofs.Sound.{MayHave}
-use Rattle.control_mgr.proofs.Places.{IsThere, ItsLayer, layer_there, names, read_is, there_is, within}
+use Rattle.control_mgr.proofs.Places.{IsThere, ItsLayer, layer_there, names, read_is, record_there, there_is, within}
 use Rattle.control_mgr.proofs.Reshown.{alone, redrawn_among}
+use Rattle.control_mgr.proofs.Serials.{with_there}
 
 -- ---- what the list has after the setters
 
@@ -86,6 +90,15 @@ module _ {W : Type 0} {K : W → Type 0} (control_loan : TakenControl W K → Co
       subst (λ o. IfSome o IsTellable) (sym (ap (λ cs. slice_get cs at) set ∙ there_edited (with_state s) at (records_of control_loan m) was.item was.there))
       (record { live = its.live; fits = its.fits })
 
+  -- the damage that it answers is that of the change
+  pub state_damaged : (s : State) (at : ℕ) (m n : Controls (TakenControl W K)) (ds : List (Control (TakenControl W K))) (damage : Rect)
+      → all_seen control_loan ds ≡ edit_at (with_state s) at (records_of control_loan m) → IsDamageAt damage at (all_seen control_loan ds) (records_of control_loan n)
+      → (c d : ControlRecord) → slice_get (records_of control_loan m) at ≡ Some c → slice_get (records_of control_loan n) at ≡ Some d → IsDamageOf damage c d
+  state_damaged s at m n ds damage set damaged c d there then =
+      subst (λ o. IfSome o (λ y. IsDamageOf damage (with_state s c) y)) then
+      (subst (λ o. IfSome o (λ x. IfSome (slice_get (records_of control_loan n) at) (λ y. IsDamageOf damage x y)))
+      (ap (λ cs. slice_get cs at) set ∙ there_edited (with_state s) at (records_of control_loan m) c there) damaged)
+
   -- and then all are settled
   pub state_settled : (s : State) → MayHave s → (at : ℕ) (m n : Controls (TakenControl W K)) → AreSettled (records_of control_loan m)
       → IsChangedAt (with_state s) at (records_of control_loan m) (records_of control_loan n) → AreSettled (records_of control_loan n)
@@ -102,16 +115,17 @@ module _ {W : Type 0} {K : W → Type 0} (control_loan : TakenControl W K → Co
         subst (λ n. n < length w.layers.layers) (place_among-seen control_loan spot.control m.list.controls.items) (within w.layers.layers _ its.layer its.there)
 
     -- what redraw_layer leaves of the window manager
-    abbrev pub IsRedrawnFor : ℕ → ℕ → (List ℕ → Part → PixelSet) → WindowManager V H → WindowManager V H → Type 0
-    IsRedrawnFor at index shows t u = (w : Window V H) → IsWindowAt t.windows.records.items at w → (l : Layer) → l ≡ get_or w.layers.layers index l
+    abbrev pub IsDrawnFor : Rect → ℕ → ℕ → (List ℕ → Part → PixelSet) → WindowManager V H → WindowManager V H → Type 0
+    IsDrawnFor damage at index shows t u = (w : Window V H) → IsWindowAt t.windows.records.items at w → (l : Layer) → l ≡ get_or w.layers.layers index l
         → (was : List ℕ → Part → PixelSet) (slots : List SlotView) → IsWholeManager loan t slots
-        → IsWholeManager loan u slots × IsLayerRedrawn w.serial l.part (state_showing was (state_of loan t slots)) (state_showing shows (state_of loan u slots))
+        → IsWholeManager loan u slots × IsLayerDrawnWithin damage w.serial l (state_showing was (state_of loan t slots)) (state_showing shows (state_of loan u slots))
 
     pub put_shown : (c : ControlOf) (s : State) → MayHave s → (t u : WindowManager V H) (m n : Controls (TakenControl W K)) (spot : Spot) → IsSpotOf loan control_loan c t m spot
         → IsChangedAt (with_state s) spot.control (records_of control_loan m) (records_of control_loan n) → n.list.next ≡ m.list.next
-        → (index : ℕ) → index ≡ place_among spot.control m.list.controls.items → IsRedrawnFor spot.window index (alone (records_of control_loan n)) t u
-        → (o r : Opened) → LeavesControls control_loan loan (IsShownAnew c (with_state s)) t o m u r n
-    put_shown c s may t u m n spot is changed next index index_is redrawn o r kept others slots whole controls =
+        → (index : ℕ) → index ≡ place_among spot.control m.list.controls.items → (damage : Rect) → ((x y : ControlRecord) → slice_get (records_of control_loan m) spot.control ≡ Some x → slice_get (records_of control_loan n) spot.control ≡ Some y → IsDamageOf damage x y)
+        → IsDrawnFor damage spot.window index (alone (records_of control_loan n)) t u
+        → (o r : Opened) → LeavesControls control_loan loan (IsPut c (with_state s)) t o m u r n
+    put_shown c s may t u m n spot is changed next index index_is damage damaged redrawn o r kept others slots whole controls =
         let windows = there_is t.windows.records.items spot.window is.window.0 in
         let w : Window V H = windows.item in
         let lies : IsWindowAt t.windows.records.items spot.window w = read_is t.windows.records.items spot.window w windows.there in
@@ -121,23 +135,40 @@ module _ {W : Type 0} {K : W → Type 0} (control_loan : TakenControl W K → Co
         let serial : w.serial ≡ c.window = is.window.1 w lies in
         let named : its.layer.part ≡ part.Control c.control = its.is_layer.part ∙ ap (λ k. part.Control k) (names loan control_loan c t m spot is).1 in
         let was = state_showing (controls_show others (records_of control_loan m)) (state_of loan t slots) in
-        let windows_are : (desk_of loan u []).windows ≡ (desk_of loan t []).windows = ap (λ (d : FullDesk). d.windows) leaves.1.desk in (
+        let windows_are : (desk_of loan u []).windows ≡ (desk_of loan t []).windows = ap (λ (d : FullDesk). d.windows) leaves.1.desk in
+        let fonts : u.font ≡ t.font = ap (λ (d : FullDesk). d.font) leaves.1.desk in
+        let its_record = record_there loan control_loan c t m spot is in
+        let new : ControlRecord = retold (with_state s) changed.definition its_record.item in
+        let after : AreWholeControls (desk_of loan t []).windows (record { controls = records_of control_loan n; next = m.list.next; stock = kept }) =
+        whole_put s may spot.control (desk_of loan t []).windows (controls_state control_loan m kept) (records_of control_loan n) controls changed in
+        let new_there : slice_get (records_of control_loan n) spot.control ≡ Some new =
+        ap (λ cs. slice_get cs spot.control) changed.controls ∙ there_edited (retold (with_state s) changed.definition) spot.control (records_of control_loan m) its_record.item its_record.there in
+        let same : IsSameOutside damage its.layer (controls_show others (records_of control_loan m) t.font) (alone (records_of control_loan n) u.font) =
+        λ p has outside. subst (λ q. alone (records_of control_loan n) u.font q p ≡ controls_show others (records_of control_loan m) t.font q p) (sym its.is_layer.part)
+        (ap (λ font. control_bit font (with_serial its_record.item.serial (records_of control_loan n)) p) fonts
+        ∙ ap (λ x. control_bit t.font x p) (with_there its_record.item.serial spot.control (records_of control_loan n) new after.apart new_there (same_number its_record.item.serial))
+        ∙ damaged its_record.item new its_record.there new_there (All-there IsSettledControl spot.control (records_of control_loan m) its_record.item its_record.there controls.settled).inside t.font p (sym (its.is_layer.region p) ∙ has) outside
+        ∙ sym (ap (λ x. control_bit t.font x p) (with_there its_record.item.serial spot.control (records_of control_loan m) its_record.item controls.apart its_record.there (same_number its_record.item.serial)))) in
+        let done : IsChangedTo c (with_state s) (control_desk control_loan loan others t o slots m kept) (control_desk control_loan loan others u r slots n kept) = record {
+          at = spot.control;
+          found = is.control;
+          controls = records_of control_loan n;
+          changed = changed;
+          state = ap (λ k. record { controls = records_of control_loan n; next = k; stock = kept }) next;
+        } in (
           leaves.0,
           subst (λ ws. AreWholeControls ws (controls_state control_loan n kept)) (sym windows_are)
-              (subst (λ k. AreWholeControls (desk_of loan t []).windows (record { controls = records_of control_loan n; next = k; stock = kept })) (sym next)
-              (whole_put s may spot.control (desk_of loan t []).windows (controls_state control_loan m kept) (records_of control_loan n) controls changed)),
+              (subst (λ k. AreWholeControls (desk_of loan t []).windows (record { controls = records_of control_loan n; next = k; stock = kept })) (sym next) after),
           record {
-            changed = record {
-              at = spot.control;
-              found = is.control;
-              controls = records_of control_loan n;
-              changed = changed;
-              state = ap (λ k. record { controls = records_of control_loan n; next = k; stock = kept }) next;
+            changed = done;
+            windows = windows_are;
+            shown = λ right. record {
+              changed = done;
+              redrawn = redrawn_among others (records_of control_loan n) (state_of loan u slots) leaves.0.sound.distinct c.window was (part.Control c.control) refl
+                  (subst (λ k. IsLayerRedrawn k (part.Control c.control) was (state_showing (alone (records_of control_loan n)) (state_of loan u slots))) serial
+                  (subst (λ q. IsLayerRedrawn w.serial q was (state_showing (alone (records_of control_loan n)) (state_of loan u slots))) named (leaves.1.redrawn right same)));
+              others = refl;
+              shows = refl;
             };
-            redrawn = redrawn_among others (records_of control_loan n) (state_of loan u slots) leaves.0.sound.distinct c.window was (part.Control c.control) refl
-                (subst (λ k. IsLayerRedrawn k (part.Control c.control) was (state_showing (alone (records_of control_loan n)) (state_of loan u slots))) serial
-                (subst (λ q. IsLayerRedrawn w.serial q was (state_showing (alone (records_of control_loan n)) (state_of loan u slots))) named leaves.1));
-            others = refl;
-            shows = refl;
           },
         )

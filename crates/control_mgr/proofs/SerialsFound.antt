@@ -6,7 +6,6 @@ use Rattle.std.specs.Option.{option_and_then, option_map}
 use Rattle.std.proofs.lemmas.Bool.{false≢true}
 use Rattle.std.proofs.lemmas.Bool.Decides.{nat_tests}
 use Rattle.control_list.specs.Lists.{controls_of, edit_at, has_serial, is_in}
-use Rattle.control_list.proofs.WindowLemmas.{position-cons}
 use Rattle.def_iface.specs.declared.part.Part.TheVariants as part
 use Rattle.def_iface.specs.Owner.{Owner, same_owner}
 use Rattle.def_iface.specs.Owner.Owner.{Content}
@@ -16,22 +15,10 @@ use Rattle.control_mgr.specs.ControlSteps.{IsChangedTo}
 use Rattle.control_mgr.specs.WholeControls.{AreControlsApart}
 use Rattle.control_mgr.proofs.Added.{none_in_window}
 use Rattle.control_mgr.proofs.Places.{found_names}
+use Rattle.control_mgr.proofs.Serials.{any_there, only_one, with_behind, with_first}
 use Rattle.control_mgr.proofs.Settled.{retold}
 
 -- ---- the first control, or one behind it
-
-behind_first : (c : ControlRecord) (cs : List ControlRecord) (b : Bool) (o : Option ℕ)
-    → option_and_then (slice_get (c ∷ cs)) (cond b (Some 0) (option_map (λ at. suc at) o)) ≡ cond b (Some c) (option_and_then (slice_get cs) o)
-behind_first c cs true o = refl
-behind_first c cs false None = refl
-behind_first c cs false (Some at) = refl
-
-with_first : (n : ℕ) (c : ControlRecord) (cs : List ControlRecord) → with_serial n (c ∷ cs) ≡ cond (has_serial n c) (Some c) (with_serial n cs)
-with_first n c cs = ap (option_and_then (slice_get (c ∷ cs))) (position-cons (has_serial n) c cs) ∙ behind_first c cs (has_serial n c) (position (has_serial n) cs)
-
--- the first one is another
-with_behind : (n : ℕ) (c : ControlRecord) (cs : List ControlRecord) → has_serial n c ≡ false → with_serial n (c ∷ cs) ≡ with_serial n cs
-with_behind n c cs other = with_first n c cs ∙ ap (λ b. cond b (Some c) (with_serial n cs)) other
 
 -- lists with the same first control, behind which a serial names the same, if it does not name that one
 with_alike : (n : ℕ) (c : ControlRecord) (cs ds : List ControlRecord) → (has_serial n c ≡ false → with_serial n ds ≡ with_serial n cs) → with_serial n (c ∷ ds) ≡ with_serial n (c ∷ cs)
@@ -54,25 +41,6 @@ any_of n window cs h = by_test (list_any (has_serial n) cs) refl
     by_test : (b : Bool) → list_any (has_serial n) cs ≡ b → b ≡ true
     by_test true e = refl
     by_test false e = absurd (false≢true (sym (none_in_window n window cs e) ∙ h))
-
--- where one behind it has the serial, the first one has not
-only_one : (n : ℕ) (c : ControlRecord) (cs : List ControlRecord) → AreControlsApart (c ∷ cs) → list_any (has_serial n) cs ≡ true → has_serial n c ≡ false
-only_one n c cs apart h = by_test (has_serial n c) refl
-  where
-    by_test : (b : Bool) → has_serial n c ≡ b → b ≡ false
-    by_test true e = absurd (false≢true (sym apart.0 ∙ ap (λ k. list_any (has_serial k) cs) (eqb-true c.serial n e) ∙ h))
-    by_test false e = refl
-
-or_true : (a b : Bool) → b ≡ true → (a || b) ≡ true
-or_true true b e = refl
-or_true false b e = e
-
-any_there : (n i : ℕ) (cs : List ControlRecord) (c : ControlRecord) → slice_get cs i ≡ Some c → has_serial n c ≡ true → list_any (has_serial n) cs ≡ true
-any_there n i [] c there named = absurd (cc)
-any_there n zero (x ∷ xs) c there named =
-    let same : x ≡ c = cc in
-    ap (λ b. b || list_any (has_serial n) xs) (ap (has_serial n) same ∙ named)
-any_there n (suc i) (x ∷ xs) c there named = or_true (has_serial n x) (list_any (has_serial n) xs) (any_there n i xs c there named)
 
 -- a control of a serial that one of a window has is in that window
 pub one_window : (n window i : ℕ) (cs : List ControlRecord) (c : ControlRecord) → AreControlsApart cs → slice_get cs i ≡ Some c → has_serial n c ≡ true

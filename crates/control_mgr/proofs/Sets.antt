@@ -24,11 +24,12 @@ use Rattle.control_mgr.specs.declared.setting.State.{State}
 use Rattle.control_mgr.specs.declared.spots.Spot.{Spot}
 use Rattle.control_mgr.specs.ControlDesks.{ControlDesk, ControlRecord, ControlSlot, control_of}
 use Rattle.control_mgr.specs.ControlRefusals.{control_refusals, may_be_maximum, may_be_minimum, missing_refusals}
-use Rattle.control_mgr.specs.ControlSteps.{IsControlEffect, IsControlStep, IsSet, IsShownAnew}
+use Rattle.control_mgr.specs.ControlSteps.{IsControlEffect, IsControlStep, IsSet}
+use Rattle.control_mgr.specs.Damages.{IsPut, IsWhereRight}
 use Rattle.control_mgr.specs.Spots.{IsSpotOf, with_state}
 use Rattle.control_mgr.specs.WholeControls.{LeavesControls, control_desk, controls_state, records_of}
 use Rattle.control_mgr.proofs.Places.{record_there}
-use Rattle.control_mgr.proofs.Steps.{anew_alike, desk_seen, one_fails, one_holds, other_reasons}
+use Rattle.control_mgr.proofs.Steps.{desk_seen, one_fails, one_holds, other_reasons, put_alike}
 
 -- the state of a control
 abbrev pub state_of_control : ControlRecord → State
@@ -99,9 +100,9 @@ module _ {V : Type 0} {H : V → Type 0} (loan : Taken V H → Loan) {W : Type 0
       → ((others : List ℕ → Part → PixelSet) (slots : List SlotView) (kept : List ControlSlot) → first_refusal (control_refusals call (desk_seen loan control_loan others t slots m) (controls_state control_loan m kept)) ≡ None)
       → ((x : ControlRecord) → slice_get (records_of control_loan m) s.control ≡ Some x → f x ≡ g x)
       → ((before after : ControlDesk) → IsSet c g Done before after → IsControlEffect call Done before after)
-      → LeavesControls control_loan loan (IsShownAnew c f) t o m u o n → LeavesControls control_loan loan (IsControlStep call (Ok Done)) t o m u o n
+      → LeavesControls control_loan loan (IsPut c f) t o m u o n → LeavesControls control_loan loan (IsWhereRight (IsControlStep call (Ok Done))) t o m u o n
   set_done u n call f g o none agrees effect leaves kept others slots whole controls =
       let l = leaves kept others slots whole controls in
       let before : ControlDesk = control_desk control_loan loan others t o slots m kept in
       let after : ControlDesk = control_desk control_loan loan others u o slots n kept in
-      (l.0, l.1, (none others slots kept, effect before after (refl, record { activity = refl; begun = refl }, anew_alike c f g before after s.control is.control agrees l.2)))
+      (l.0, l.1, λ right. (none others slots kept, effect before after (refl, record { activity = refl; begun = refl }, (put_alike c f g before after s.control is.control agrees l.2).shown right)))

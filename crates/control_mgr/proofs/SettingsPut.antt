@@ -19,7 +19,8 @@ use Rattle.control_mgr.specs.declared.setting.State.{State}
 use Rattle.control_mgr.specs.declared.spots.Spot.{Spot}
 use Rattle.control_mgr.specs.ControlDesks.{index_of}
 use Rattle.control_mgr.specs.ControlRefusals.{missing_refusals}
-use Rattle.control_mgr.specs.ControlSteps.{IsSettingPut, IsSettingPutAt, IsShownAnew}
+use Rattle.control_mgr.specs.ControlSteps.{IsSettingPutAt}
+use Rattle.control_mgr.specs.Damages.{IsPut, IsSettingGiven}
 use Rattle.control_mgr.specs.Spots.{IsSpotOf, with_state}
 use Rattle.control_mgr.specs.WholeControls.{AreBeside, LeavesControls, control_desk, records_of}
 use Rattle.control_mgr.proofs.Presses.{leaves_alike, window_there}
@@ -41,23 +42,29 @@ module _ {V : Type 0} {H : V → Type 0} (loan : Taken V H → Loan) {W : Type 0
           (window_there loan control_loan c t m (index_of c (records_of control_loan m)) refl (ap is_none is) beside) (ap is_none is)) ∙ why))
 
   -- then nothing happens
-  pub setting_missed : (setting : Setting) (o r : Opened) → index_of c (records_of control_loan m) ≡ None → LeavesControls control_loan loan (IsSettingPut c setting) t o m t r m
+  pub setting_missed : (setting : Setting) (o r : Opened) → index_of c (records_of control_loan m) ≡ None → LeavesControls control_loan loan (IsSettingGiven c setting) t o m t r m
   setting_missed setting o r none kept others slots whole controls = (
     whole,
     controls,
-    subst (λ i. IsSettingPutAt i c setting (control_desk control_loan loan others t o slots m kept) (control_desk control_loan loan others t r slots m kept)) (sym none)
-        (record { windows = refl; controls = refl; others = refl }),
+    record {
+      windows = refl;
+      put = λ right. subst (λ i. IsSettingPutAt i c setting (control_desk control_loan loan others t o slots m kept) (control_desk control_loan loan others t r slots m kept)) (sym none)
+          (record { windows = refl; controls = refl; others = refl });
+    },
   )
 
   -- else it has another state, with this setting
   pub setting_put : (setting : Setting) (s : Spot) → IsSpotOf loan control_loan c t m s → (was now : State) → IfSome (slice_get (records_of control_loan m) s.control) (λ x. was ≡ state_of_control x)
-      → now ≡ record was { values = setting } → (u : WindowManager V H) (n : Controls (TakenControl W K)) (o r : Opened) → LeavesControls control_loan loan (IsShownAnew c (with_state now)) t o m u r n
-      → LeavesControls control_loan loan (IsSettingPut c setting) t o m u r n
+      → now ≡ record was { values = setting } → (u : WindowManager V H) (n : Controls (TakenControl W K)) (o r : Opened) → LeavesControls control_loan loan (IsPut c (with_state now)) t o m u r n
+      → LeavesControls control_loan loan (IsSettingGiven c setting) t o m u r n
   setting_put setting s is was now read is_now u n o r leaves kept others slots whole controls =
       let l = leaves_alike loan control_loan c t m s is (with_state now) (with_values setting) u n o r
       (λ x e. values_agree (λ v. setting) was now x (state_read loan control_loan c t m s is was read x e) (ap (λ (y : State). y.values) is_now) (ap (λ (y : State). y.highlight) is_now) (ap (λ (y : State). y.title) is_now))
       leaves kept others slots whole controls in (
         l.0,
         l.1,
-        subst (λ i. IsSettingPutAt i c setting (control_desk control_loan loan others t o slots m kept) (control_desk control_loan loan others u r slots n kept)) (sym is.control) l.2,
+        record {
+          windows = l.2.windows;
+          put = λ right. subst (λ i. IsSettingPutAt i c setting (control_desk control_loan loan others t o slots m kept) (control_desk control_loan loan others u r slots n kept)) (sym is.control) (l.2.shown right);
+        },
       )

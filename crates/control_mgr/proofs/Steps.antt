@@ -22,9 +22,10 @@ use Rattle.control_mgr.specs.declared.controls.Controls.{Controls}
 use Rattle.control_mgr.specs.declared.spots.Spot.{Spot}
 use Rattle.control_mgr.specs.ControlDesks.{ControlDesk, ControlRecord, ControlSlot, IsControlDeskUnchanged, controls_show, index_of}
 use Rattle.control_mgr.specs.ControlRefusals.{control_refusals, may_control_grow, missing_refusals}
-use Rattle.control_mgr.specs.ControlSteps.{IsControlEffect, IsControlStep, IsShownAnew}
+use Rattle.control_mgr.specs.ControlSteps.{IsChangedTo, IsControlEffect, IsControlStep}
+use Rattle.control_mgr.specs.Damages.{IsPut, IsWhereRight}
 use Rattle.control_mgr.specs.Spots.{IsSpotOf}
-use Rattle.control_mgr.specs.WholeControls.{LeavesControls, control_desk, controls_state, records_of}
+use Rattle.control_mgr.specs.WholeControls.{LeavesControls, LeavesOver, control_desk, controls_state, records_of}
 use Rattle.control_mgr.proofs.Settled.{changed_alike}
 
 -- ---- refusals
@@ -89,6 +90,16 @@ module _ {V : Type 0} {H : V → Type 0} (loan : Taken V H → Loan) {W : Type 0
       → LeavesControls control_loan loan (IsControlStep call result) t o m t o m
   refused_by call result e t o m is why = subst (λ r. LeavesControls control_loan loan (IsControlStep call r) t o m t o m) (sym is) (refused call e t o m why)
 
+  -- the step was made, also where the screen was right
+  pub where_right : (step : ControlDesk → ControlDesk → Type 0) (kept left : List ControlSlot) (t u : WindowManager V H) (m n : Controls (TakenControl W K)) (o r : Opened)
+      → LeavesOver control_loan loan kept left step t o m u r n → LeavesOver control_loan loan kept left (IsWhereRight step) t o m u r n
+  where_right step kept left t u m n o r leaves others slots windows controls = let l = leaves others slots windows controls in (l.0, l.1, λ right. l.2)
+
+  pub refused_where : (call : ControlCall) (result : Result ControlReply Refusal) (e : Refusal) (t : WindowManager V H) (o : Opened) (m : Controls (TakenControl W K)) → result ≡ Err e
+      → ((others : List ℕ → Part → PixelSet) (slots : List SlotView) (kept : List ControlSlot) → first_refusal (control_refusals call (desk_seen others t slots m) (controls_state control_loan m kept)) ≡ Some e)
+      → LeavesControls control_loan loan (IsWhereRight (IsControlStep call result)) t o m t o m
+  refused_where call result e t o m is why kept = where_right (IsControlStep call result) kept kept t t m m o o (refused_by call result e t o m is why kept)
+
   -- so is one for which there was no memory
   pub short : (call : ControlCall) (e : Refusal) (t : WindowManager V H) (o : Opened) (m : Controls (TakenControl W K)) → may_control_grow call ≡ true → e ≡ NoMemory
       → ((others : List ℕ → Part → PixelSet) (slots : List SlotView) (kept : List ControlSlot) → first_refusal (control_refusals call (desk_seen others t slots m) (controls_state control_loan m kept)) ≡ None)
@@ -119,21 +130,29 @@ module _ {V : Type 0} {H : V → Type 0} (loan : Taken V H → Loan) {W : Type 0
 
 -- ---- controls shown anew
 
--- by another change that agrees where it is made
-pub anew_alike : (c : ControlOf) (f g : ControlRecord → ControlRecord) (before after : ControlDesk) (at : ℕ) → index_of c before.controls.controls ≡ Some at
-    → ((x : ControlRecord) → slice_get before.controls.controls at ≡ Some x → f x ≡ g x) → IsShownAnew c f before after → IsShownAnew c g before after
-anew_alike c f g before after at found same anew = record {
-  changed = record {
-    at = anew.changed.at;
-    found = anew.changed.found;
-    controls = anew.changed.controls;
-    changed = changed_alike f g anew.changed.at before.controls.controls anew.changed.controls (λ x e. same x (subst (λ i. slice_get before.controls.controls i ≡ Some x) (one_place anew.changed.at at (sym anew.changed.found ∙ found)) e)) anew.changed.changed;
-    state = anew.changed.state;
-  };
-  redrawn = anew.redrawn;
-  others = anew.others;
-  shows = anew.shows;
+changed_to_alike : (c : ControlOf) (f g : ControlRecord → ControlRecord) (before after : ControlDesk) (at : ℕ) → index_of c before.controls.controls ≡ Some at
+    → ((x : ControlRecord) → slice_get before.controls.controls at ≡ Some x → f x ≡ g x) → IsChangedTo c f before after → IsChangedTo c g before after
+changed_to_alike c f g before after at found same changed = record {
+  at = changed.at;
+  found = changed.found;
+  controls = changed.controls;
+  changed = changed_alike f g changed.at before.controls.controls changed.controls (λ x e. same x (subst (λ i. slice_get before.controls.controls i ≡ Some x) (one_place changed.at at (sym changed.found ∙ found)) e)) changed.changed;
+  state = changed.state;
 }
   where
     one_place : (i j : ℕ) → Some i ≡ Some j → i ≡ j
     one_place i j e = cc
+
+-- by another change that agrees where it is made
+pub put_alike : (c : ControlOf) (f g : ControlRecord → ControlRecord) (before after : ControlDesk) (at : ℕ) → index_of c before.controls.controls ≡ Some at
+    → ((x : ControlRecord) → slice_get before.controls.controls at ≡ Some x → f x ≡ g x) → IsPut c f before after → IsPut c g before after
+put_alike c f g before after at found same put = record {
+  changed = changed_to_alike c f g before after at found same put.changed;
+  windows = put.windows;
+  shown = λ right. let anew = put.shown right in record {
+    changed = changed_to_alike c f g before after at found same anew.changed;
+    redrawn = anew.redrawn;
+    others = anew.others;
+    shows = anew.shows;
+  };
+}

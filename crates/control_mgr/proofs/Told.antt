@@ -1,6 +1,13 @@
 -- A control's definition, told all of its control.
-use Rattle.std.proofs.Common.{◌≡◌, ℕ, ◌<◌, List, length, get_or, set, Some, refl, ap, ◌∙◌, subst}
-use Rattle.std.specs.Prelude.{slice_get}
+use Rattle.std.proofs.Common.{◌≡◌, ℕ, ◌<◌, Bool, true, false, ◌&&◌, ◌||◌, List, length, get_or, set, Some, refl, sym, ap, ◌∙◌, subst}
+use Rattle.std.proofs.lemmas.Bool.{false≢true}
+use Rattle.std.proofs.lemmas.List.{get_or-set_same, length-set}
+use Rattle.std.specs.Prelude.{IfSome, slice_get}
+use Rattle.tb_geom.specs.declared.point.Point.{Point}
+use Rattle.tb_geom.specs.declared.rect.Rect.{Rect}
+use Rattle.tb_geom.specs.Points.{PixelSet, minus}
+use Rattle.tb_geom.specs.Rects.{IsBoxOf, in_plane, is_in_range, moved_rect, rect_holds}
+use Rattle.tb_geom.proofs.RectLemmas.{holds-moved}
 use Rattle.control_values.specs.Settings.{Setting}
 use Rattle.control_list.specs.declared.control.Control.{Control}
 use Rattle.control_list.specs.Seen.{all_seen, seen}
@@ -8,10 +15,12 @@ use Rattle.control_list.proofs.ListLemmas.{set_is_edit}
 use Rattle.control_list.proofs.SeenLemmas.{edit_at-seen}
 use Rattle.def_iface.specs.declared.size.Size.{Size}
 use Rattle.def_iface.specs.declared.taken_control.TakenControl.{TakenControl}
-use Rattle.def_iface.specs.ControlMeaning.{ControlDefinition, ControlHears, ControlLoan, IsControlBegun}
-use Rattle.def_iface.specs.ControlNews.{told_all_of_control}
+use Rattle.def_iface.specs.ControlMeaning.{ControlDefinition, ControlHears, ControlLoan, IsControlBegun, IsControlDamage}
+use Rattle.def_iface.specs.ControlNews.{no_control_news, told_all_of_control}
 use Rattle.control_mgr.specs.ControlDesks.{ControlRecord, news_of_control}
 use Rattle.control_mgr.specs.ControlSteps.{IsChangedAt}
+use Rattle.control_mgr.specs.Damages.{IsDamageAt, IsDamageOf}
+use Rattle.window_paint.proofs.FrameLemmas.{inside_is_point, shared_is}
 use Rattle.control_mgr.proofs.Edited.{edit_alike}
 use Rattle.control_mgr.proofs.Places.{record_read}
 use Rattle.control_mgr.proofs.Settled.{retold}
@@ -22,6 +31,49 @@ pub heard_title : (size : Size) (title told : List ℕ) (setting : Setting) (h :
     → ControlHears (told_all_of_control (record { size = size; title = title; setting = setting; highlight = h })) old new
 heard_title size title told setting h old new e heard =
     subst (λ (x : List ℕ). ControlHears (told_all_of_control (record { size = size; title = x; setting = setting; highlight = h })) old new) e heard
+
+-- ---- the damage
+
+-- a pixel outside of a box is in no set that it is the box of
+outside : (r : Rect) (s : PixelSet) → IsBoxOf r s → (p : Point) → rect_holds r p ≡ false → s p ≡ false
+outside r s boxed p out = by_test (s p) refl
+  where
+    by_test : (b : Bool) → s p ≡ b → b ≡ false
+    by_test false e = refl
+    by_test true e = absurd (false≢true (sym out ∙ boxed.holds p e))
+
+neither : (a b : Bool) → (a || b) ≡ false → (a ≡ false) × (b ≡ false)
+neither false false e = (refl, refl)
+neither false true e = absurd (false≢true (sym e))
+neither true b e = absurd (false≢true (sym e))
+
+-- a picture is as it was outside of the rectangle
+abbrev pub IsPictureDamage : Rect → (old new : List ℕ → PixelSet) → Type 0
+IsPictureDamage damage old new = (font : List ℕ) (p : Point) → in_plane p ≡ true → rect_holds damage p ≡ false → new font p ≡ old font p
+
+-- four damages in a row, in the rectangle around them
+pub all_damaged : (a b c d e : List ℕ → PixelSet) (r s t u left right whole : Rect) → IsPictureDamage r a b → IsPictureDamage s b c → IsPictureDamage t c d → IsPictureDamage u d e
+    → IsBoxOf left (λ p. rect_holds r p || rect_holds s p) → IsBoxOf right (λ p. rect_holds t p || rect_holds u p) → IsBoxOf whole (λ p. rect_holds left p || rect_holds right p)
+    → IsPictureDamage whole a e
+all_damaged a b c d e r s t u left right whole one two three four first last all font p on out =
+    let halves = neither (rect_holds left p) (rect_holds right p) (outside whole _ all p out) in
+    let former = neither (rect_holds r p) (rect_holds s p) (outside left _ first p halves.0) in
+    let latter = neither (rect_holds t p) (rect_holds u p) (outside right _ last p halves.1) in
+    four font p on latter.1 ∙ three font p on latter.0 ∙ two font p on former.1 ∙ one font p on former.0
+
+-- what of it lies in the box of the control, in the control's window
+placed_damage : (c : ControlRecord) (new : ControlLoan) (damage box shared plane placed : Rect) → IsControlDamage damage c.definition.definition new.definition
+    → box ≡ c.definition.definition.bounds c.size → is_in_range box ≡ true → ((p : Point) → c.definition.definition.region c.size p ≡ true → rect_holds box p ≡ true)
+    → ((p : Point) → rect_holds shared p ≡ (rect_holds damage p && rect_holds box p)) → ((p : Point) → rect_holds plane p ≡ in_plane p)
+    → ((p : Point) → rect_holds placed p ≡ (rect_holds plane p && rect_holds shared (minus p c.place)))
+    → IsDamageOf placed c (record c { definition = new })
+placed_damage c new damage box shared plane placed damaged box_is ranged boxed both plane_is placed_is inside font p has out =
+    let there = minus p c.place in
+    let in_box = boxed there has in
+    let on : in_plane p ≡ true = inside_is_point (moved_rect box c.place.h c.place.v) p (ap (λ r. is_in_range (moved_rect r c.place.h c.place.v)) box_is ∙ inside) (holds-moved box c.place.h c.place.v p ∙ in_box) in
+    let outside_of : rect_holds shared there ≡ false = sym (ap (λ b. b && rect_holds shared there) (plane_is p ∙ on)) ∙ sym (placed_is p) ∙ out in
+    damaged font there (inside_is_point box there ranged in_box)
+    (sym (shared_is (rect_holds damage there) (rect_holds box there) in_box) ∙ sym (both there) ∙ outside_of)
 
 module _ {W : Type 0} {K : W → Type 0} (control_loan : TakenControl W K → ControlLoan) where
   -- the control at a place, with another definition
@@ -48,3 +100,18 @@ module _ {W : Type 0} {K : W → Type 0} (control_loan : TakenControl W K → Co
     where
       one : (cs : List ControlRecord) (at : ℕ) (c d : ControlRecord) → slice_get cs at ≡ Some c → slice_get cs at ≡ Some d → c ≡ d
       one cs at c d e f = cc
+
+  pub damaged_at : (xs : List (Control (TakenControl W K))) (at : ℕ) (x : Control (TakenControl W K)) (t : TakenControl W K) (damage box shared plane placed : Rect) → at < length xs → x ≡ get_or xs at x
+      → IsPictureDamage damage (λ font p. (control_loan x.definition).definition.picture no_control_news font p) (λ font p. (control_loan t).definition.picture no_control_news font p)
+      → box ≡ (control_loan x.definition).definition.bounds x.size → is_in_range box ≡ true → ((p : Point) → (control_loan x.definition).definition.region x.size p ≡ true → rect_holds box p ≡ true)
+      → ((p : Point) → rect_holds shared p ≡ (rect_holds damage p && rect_holds box p)) → ((p : Point) → rect_holds plane p ≡ in_plane p)
+      → ((p : Point) → rect_holds placed p ≡ (rect_holds plane p && rect_holds shared (minus p x.place)))
+      → IsDamageAt placed at (all_seen control_loan xs) (all_seen control_loan (set xs at (with_definition t x)))
+  damaged_at xs at x t damage box shared plane placed low read damaged box_is ranged boxed both plane_is placed_is =
+      let new = with_definition t x in
+      let there : slice_get (all_seen control_loan xs) at ≡ Some (seen control_loan x) = record_read control_loan xs at x low read in
+      let then : slice_get (all_seen control_loan (set xs at new)) at ≡ Some (seen control_loan new) =
+      record_read control_loan (set xs at new) at new (subst (λ n. at < n) (sym (length-set xs at new)) low) (sym (get_or-set_same xs at new new low)) in
+      subst (λ o. IfSome o (λ c. IfSome (slice_get (all_seen control_loan (set xs at new)) at) (λ d. IsDamageOf placed c d))) (sym there)
+      (subst (λ o. IfSome o (λ d. IsDamageOf placed (seen control_loan x) d)) (sym then)
+      (placed_damage (seen control_loan x) (control_loan t) damage box shared plane placed damaged box_is ranged boxed both plane_is placed_is))

@@ -1,10 +1,11 @@
 -- What the contracts speak of: the controls of a desk beside its windows and what they show, where a control may lie, why a call is
--- refused, what a step does, what holds between calls, which slots are in use, and what the end of a desk leaves.
+-- refused, what a step does, what is drawn of a control that is told something, what holds between calls, which slots are in use, and what the end of a desk leaves.
 pub mod InUse
 pub mod ControlDesks
 pub mod Judged
 pub mod ControlRefusals
 pub mod ControlSteps
+pub mod Damages
 pub mod Settled
 pub mod WholeControls
 pub mod Spots

@@ -9,7 +9,9 @@
 //! pixels a layer has the window keeps (`layer_list`): `AreLayersOf` joins the two, one layer for each control in front of all others.
 //! Those others stay as they are, and so does what they show, which a `ControlDesk` has as `others`. New, show, move and size draw all
 //! that the control then owns; what a hidden, moved or disposed control leaves is to be redrawn. Values, highlighting, titles and
-//! tracking show the control anew where it is not to be redrawn, and take no memory: all room that they need the layers keep.
+//! tracking draw the control where it is not to be redrawn, within the damage that its definition answers, and take no memory: all
+//! room that they need the layers keep. Outside of the damage the screen shows the control already where it was right before: so
+//! these are the steps of `IsControlStep` where it was (`specs/Damages`), and the Toolbox, which keeps it right, promises them.
 //!
 //! What another manager makes and ends of controls together with records of its own, it plans before it changes anything: `grow`
 //! and `plan_ending` take the layers and the update region that earlier plans leave a window, `add` and `end_planned` make the

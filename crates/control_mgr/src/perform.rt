@@ -5,6 +5,7 @@ ghost use Rattle.desk_call.specs.Gates.{control_standing, gate};
 ghost use Rattle.window_mgr.specs.Kept.{IsKept};
 ghost use Rattle.window_mgr.specs.Records.{desk_of};
 ghost use Rattle.control_mgr.specs.ControlSteps.{IsControlStep};
+ghost use Rattle.control_mgr.specs.Damages.{IsWhereRight};
 ghost use Rattle.control_mgr.specs.Spots.{opened};
 ghost use Rattle.control_mgr.specs.WholeControls.{AreWholeControls, IsTrackable, LeavesOver, controls_state, records_of};
 
@@ -16,7 +17,8 @@ use window_mgr::WindowManager;
 
 impl Controls<TakenControl> {
     /// Performs one call on these controls of these windows, which may come while this is open, and gives its answer. A refused
-    /// call changes nothing; which refusal comes first where several would do stands with the call.
+    /// call changes nothing; which refusal comes first where several would do stands with the call. What is drawn of a changed
+    /// control is its damage, so the step is the call's where the screen was right.
     pub fn perform(
         &mut self,
         windows: &mut WindowManager,
@@ -30,7 +32,7 @@ impl Controls<TakenControl> {
         requires trackable { IsTrackable activity.old (records_of ⟦<TakenControl as DefinedControl>⟧.control_loan self.old) }
         requires admitted { gate activity.old (control_standing call.now) ≡ None }
         ensures step { (begun : PixelSet) → LeavesOver ⟦<TakenControl as DefinedControl>⟧.control_loan ⟦<Taken as Defined>⟧.loan
-            (⟦<ControlStock as StockedControls>⟧.control_slots stock.old) (⟦<ControlStock as StockedControls>⟧.control_slots stock.new) (IsControlStep call.now result)
+            (⟦<ControlStock as StockedControls>⟧.control_slots stock.old) (⟦<ControlStock as StockedControls>⟧.control_slots stock.new) (IsWhereRight (IsControlStep call.now result))
             windows.old (opened activity.old begun) self.old windows.new (opened activity.new begun) self.new }
         ensures trackable { IsTrackable activity.new (records_of ⟦<TakenControl as DefinedControl>⟧.control_loan self.new) }
     {

@@ -5,7 +5,8 @@ ghost use Rattle.desk_call.specs.declared.control.ControlOf.{ControlOf as Named}
 ghost use Rattle.desk_call.specs.declared.control.ControlCall.TheVariants as asks;
 ghost use Rattle.window_mgr.specs.Kept.{IsKept};
 ghost use Rattle.window_mgr.specs.DeskStates.{Opened};
-ghost use Rattle.control_mgr.specs.ControlSteps.{IsControlStep, IsSettingPut, IsShownAnew};
+ghost use Rattle.control_mgr.specs.ControlSteps.{IsControlStep};
+ghost use Rattle.control_mgr.specs.Damages.{IsPut, IsSettingGiven, IsWhereRight};
 ghost use Rattle.control_mgr.specs.Settled.{MayHaveSetting};
 ghost use Rattle.control_mgr.specs.Spots.{IsSpot, IsSpotOf, with_state};
 ghost use Rattle.control_mgr.specs.WholeControls.{AreBeside, LeavesControls, records_of};
@@ -53,26 +54,26 @@ impl Controls<TakenControl> {
         }
     }
 
-    /// Gives a control this state, and shows it anew where it is not to be redrawn. Takes no memory.
+    /// Gives a control this state, and draws it within the damage where it is not to be redrawn. Takes no memory.
     pub(crate) fn put(&mut self, windows: &mut WindowManager, spot: Spot, state: State)
         requires kept { IsKept ⟦<Taken as Defined>⟧.loan windows.old }
         requires beside { AreBeside ⟦<TakenControl as DefinedControl>⟧.control_loan ⟦<Taken as Defined>⟧.loan windows.old self.old }
         requires spot { IsSpot ⟦<Taken as Defined>⟧.loan ⟦<TakenControl as DefinedControl>⟧.control_loan windows.old self.old spot }
         ensures { (c : Named) → IsSpotOf ⟦<Taken as Defined>⟧.loan ⟦<TakenControl as DefinedControl>⟧.control_loan c windows.old self.old spot
             → (o u : Opened) → LeavesControls ⟦<TakenControl as DefinedControl>⟧.control_loan ⟦<Taken as Defined>⟧.loan
-            (IsShownAnew c (with_state state)) windows.old o self.old windows.new u self.new }
+            (IsPut c (with_state state)) windows.old o self.old windows.new u self.new }
     {
         may_have(state.values, state.highlight);
         let layer = self.list.layer_index(spot.control);
         self.list.set_values(spot.control, state.values);
         self.list.set_highlight(spot.control, state.highlight);
         self.list.set_title(spot.control, state.title);
-        self.tell(spot.control);
-        windows.redraw_layer(spot.window, layer, &*self);
+        let damage = self.tell(spot.control);
+        windows.redraw_layer(spot.window, layer, damage, &*self);
     }
 
-    /// Gives a control this setting, and shows it anew where it is not to be redrawn. Where the control is not there, nothing
-    /// happens. Takes no memory.
+    /// Gives a control this setting, and draws it within the damage where it is not to be redrawn. Where the control is not there,
+    /// nothing happens. Takes no memory.
     pub fn set_setting(
         &mut self,
         windows: &mut WindowManager,
@@ -82,7 +83,7 @@ impl Controls<TakenControl> {
         requires kept { IsKept ⟦<Taken as Defined>⟧.loan windows.old }
         requires beside { AreBeside ⟦<TakenControl as DefinedControl>⟧.control_loan ⟦<Taken as Defined>⟧.loan windows.old self.old }
         ensures { (o u : Opened) → LeavesControls ⟦<TakenControl as DefinedControl>⟧.control_loan ⟦<Taken as Defined>⟧.loan
-            (IsSettingPut control values) windows.old o self.old windows.new u self.new }
+            (IsSettingGiven control values) windows.old o self.old windows.new u self.new }
     {
         if let Ok(spot) = self.spot(windows, control) {
             let mut state = self.state(spot.control);
@@ -100,7 +101,7 @@ impl Controls<TakenControl> {
         requires kept { IsKept ⟦<Taken as Defined>⟧.loan windows.old }
         requires beside { AreBeside ⟦<TakenControl as DefinedControl>⟧.control_loan ⟦<Taken as Defined>⟧.loan windows.old self.old }
         ensures { (o : Opened) → LeavesControls ⟦<TakenControl as DefinedControl>⟧.control_loan ⟦<Taken as Defined>⟧.loan
-            (IsControlStep (asks.SetValue set) result) windows.old o self.old windows.new o self.new }
+            (IsWhereRight (IsControlStep (asks.SetValue set) result)) windows.old o self.old windows.new o self.new }
     {
         let spot = self.spot(windows, set.control)?;
         let mut state = self.state(spot.control);
@@ -118,7 +119,7 @@ impl Controls<TakenControl> {
         requires kept { IsKept ⟦<Taken as Defined>⟧.loan windows.old }
         requires beside { AreBeside ⟦<TakenControl as DefinedControl>⟧.control_loan ⟦<Taken as Defined>⟧.loan windows.old self.old }
         ensures { (o : Opened) → LeavesControls ⟦<TakenControl as DefinedControl>⟧.control_loan ⟦<Taken as Defined>⟧.loan
-            (IsControlStep (asks.SetMinimum set) result) windows.old o self.old windows.new o self.new }
+            (IsWhereRight (IsControlStep (asks.SetMinimum set) result)) windows.old o self.old windows.new o self.new }
     {
         let spot = self.spot(windows, set.control)?;
         let mut state = self.state(spot.control);
@@ -136,7 +137,7 @@ impl Controls<TakenControl> {
         requires kept { IsKept ⟦<Taken as Defined>⟧.loan windows.old }
         requires beside { AreBeside ⟦<TakenControl as DefinedControl>⟧.control_loan ⟦<Taken as Defined>⟧.loan windows.old self.old }
         ensures { (o : Opened) → LeavesControls ⟦<TakenControl as DefinedControl>⟧.control_loan ⟦<Taken as Defined>⟧.loan
-            (IsControlStep (asks.SetMaximum set) result) windows.old o self.old windows.new o self.new }
+            (IsWhereRight (IsControlStep (asks.SetMaximum set) result)) windows.old o self.old windows.new o self.new }
     {
         let spot = self.spot(windows, set.control)?;
         let mut state = self.state(spot.control);
@@ -154,7 +155,7 @@ impl Controls<TakenControl> {
         requires kept { IsKept ⟦<Taken as Defined>⟧.loan windows.old }
         requires beside { AreBeside ⟦<TakenControl as DefinedControl>⟧.control_loan ⟦<Taken as Defined>⟧.loan windows.old self.old }
         ensures { (o : Opened) → LeavesControls ⟦<TakenControl as DefinedControl>⟧.control_loan ⟦<Taken as Defined>⟧.loan
-            (IsControlStep (asks.Hilite set) result) windows.old o self.old windows.new o self.new }
+            (IsWhereRight (IsControlStep (asks.Hilite set) result)) windows.old o self.old windows.new o self.new }
     {
         let spot = self.spot(windows, set.control)?;
         let mut state = self.state(spot.control);
@@ -172,7 +173,7 @@ impl Controls<TakenControl> {
         requires kept { IsKept ⟦<Taken as Defined>⟧.loan windows.old }
         requires beside { AreBeside ⟦<TakenControl as DefinedControl>⟧.control_loan ⟦<Taken as Defined>⟧.loan windows.old self.old }
         ensures { (o : Opened) → LeavesControls ⟦<TakenControl as DefinedControl>⟧.control_loan ⟦<Taken as Defined>⟧.loan
-            (IsControlStep (asks.SetTitle set.now) result) windows.old o self.old windows.new o self.new }
+            (IsWhereRight (IsControlStep (asks.SetTitle set.now) result)) windows.old o self.old windows.new o self.new }
     {
         let spot = self.spot(windows, set.control)?;
         let mut state = self.state(spot.control);

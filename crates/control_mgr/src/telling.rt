@@ -1,27 +1,39 @@
 //! A control's definition, told of its control.
 ghost use Rattle.std.specs.Prelude.{◌≡◌, ◌<◌, true, length, slice_get, IfSome, vec_capacity};
 ghost use Rattle.control_mgr.specs.ControlSteps.{IsChangedAt};
+ghost use Rattle.control_mgr.specs.Damages.{IsDamageAt};
 ghost use Rattle.control_mgr.specs.Spots.{IsTellable};
 ghost use Rattle.control_mgr.specs.WholeControls.{records_of};
 
 use crate::Controls;
 use def_iface::{ControlChange, DefinedControl, TakenControl};
+use draw_port::placed_within;
+use tb_geom::Rect;
 
 impl Controls<TakenControl> {
-    /// Tells the definition of the control at this index all of its control.
-    pub(crate) fn tell(&mut self, at: usize)
+    /// Tells the definition of the control at this index all of its control. The answer is the damage, in the coordinates of the
+    /// control's window: of the pixels outside of it the control shows what it showed.
+    pub(crate) fn tell(&mut self, at: usize) -> Rect
         requires at { at < length self.old.list.controls.items }
         requires tellable { IfSome (slice_get (records_of ⟦<TakenControl as DefinedControl>⟧.control_loan self.old) at) IsTellable }
         ensures told { IsChangedAt (λ c. c) at (records_of ⟦<TakenControl as DefinedControl>⟧.control_loan self.old)
+            (records_of ⟦<TakenControl as DefinedControl>⟧.control_loan self.new) }
+        ensures damage { IsDamageAt result at (records_of ⟦<TakenControl as DefinedControl>⟧.control_loan self.old)
             (records_of ⟦<TakenControl as DefinedControl>⟧.control_loan self.new) }
         ensures next { self.new.list.next ≡ self.old.list.next }
         ensures alloc { self.new.alloc ≡ self.old.alloc }
     {
         let control = &mut self.list.controls[at];
         let definition = &mut control.definition;
-        let _damage = definition.told(&ControlChange::Resized(control.size));
-        let _damage = definition.told(&ControlChange::Titled(control.title.as_slice()));
-        let _damage = definition.told(&ControlChange::Set(control.values));
-        let _damage = definition.told(&ControlChange::Highlighted(control.highlight));
+        let resized = definition.told(&ControlChange::Resized(control.size));
+        let titled = definition.told(&ControlChange::Titled(control.title.as_slice()));
+        let set = definition.told(&ControlChange::Set(control.values));
+        let highlighted = definition.told(&ControlChange::Highlighted(control.highlight));
+        let former = resized.union(titled);
+        let latter = set.union(highlighted);
+        let damage = former.union(latter);
+        let bounds = definition.bounds(control.size);
+        let shared = damage.sect(bounds);
+        placed_within(Rect::plane(), shared, control.place)
     }
 }

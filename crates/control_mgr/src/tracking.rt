@@ -10,7 +10,8 @@ ghost use Rattle.window_mgr.specs.DeskStates.{Opened};
 ghost use Rattle.control_list.specs.Lists.{with_highlight};
 ghost use Rattle.control_list.specs.Seen.{seen};
 ghost use Rattle.control_mgr.specs.ControlDesks.{index_of};
-ghost use Rattle.control_mgr.specs.ControlSteps.{IsControlStep, IsHighlighted, IsShownAnew, dragged, highlight_after, highlight_of, is_part, is_thumb, released_setting, tracked_part};
+ghost use Rattle.control_mgr.specs.ControlSteps.{IsControlStep, IsHighlighted, dragged, highlight_after, highlight_of, is_part, is_thumb, released_setting, tracked_part};
+ghost use Rattle.control_mgr.specs.Damages.{IsPut, IsWhereRight};
 ghost use Rattle.control_mgr.specs.Spots.{IsSpot, IsSpotOf, opened};
 ghost use Rattle.control_mgr.specs.Settled.{AreSettled};
 ghost use Rattle.control_mgr.specs.WholeControls.{AreBeside, IsTrackable, LeavesControls, records_of};
@@ -123,14 +124,14 @@ impl Controls<TakenControl> {
         self.list.controls[at].values
     }
 
-    /// Highlights a control, and shows it anew where it is not to be redrawn.
+    /// Highlights a control, and draws it within the damage where it is not to be redrawn.
     fn highlight(&mut self, windows: &mut WindowManager, spot: Spot, highlight: Highlight)
         requires kept { IsKept ⟦<Taken as Defined>⟧.loan windows.old }
         requires beside { AreBeside ⟦<TakenControl as DefinedControl>⟧.control_loan ⟦<Taken as Defined>⟧.loan windows.old self.old }
         requires spot { IsSpot ⟦<Taken as Defined>⟧.loan ⟦<TakenControl as DefinedControl>⟧.control_loan windows.old self.old spot }
         ensures { (c : Named) → IsSpotOf ⟦<Taken as Defined>⟧.loan ⟦<TakenControl as DefinedControl>⟧.control_loan c windows.old self.old spot
             → (o u : Opened) → LeavesControls ⟦<TakenControl as DefinedControl>⟧.control_loan ⟦<Taken as Defined>⟧.loan
-            (IsShownAnew c (with_highlight highlight)) windows.old o self.old windows.new u self.new }
+            (IsPut c (with_highlight highlight)) windows.old o self.old windows.new u self.new }
     {
         let mut state = self.state(spot.control);
         state.highlight = highlight;
@@ -150,7 +151,7 @@ impl Controls<TakenControl> {
         requires spot { IsSpot ⟦<Taken as Defined>⟧.loan ⟦<TakenControl as DefinedControl>⟧.control_loan windows.old self.old spot }
         ensures shown { (c : Named) → IsSpotOf ⟦<Taken as Defined>⟧.loan ⟦<TakenControl as DefinedControl>⟧.control_loan c windows.old self.old spot
             → (o u : Opened) → LeavesControls ⟦<TakenControl as DefinedControl>⟧.control_loan ⟦<Taken as Defined>⟧.loan
-            (IsHighlighted (is_thumb tracked) c highlight) windows.old o self.old windows.new u self.new }
+            (IsWhereRight (IsHighlighted (is_thumb tracked) c highlight)) windows.old o self.old windows.new u self.new }
         ensures there { (c : Named) → index_of c (records_of ⟦<TakenControl as DefinedControl>⟧.control_loan self.new) ≡ index_of c (records_of ⟦<TakenControl as DefinedControl>⟧.control_loan self.old) }
     {
         if is_thumb(tracked) {
@@ -170,7 +171,7 @@ impl Controls<TakenControl> {
         requires beside { AreBeside ⟦<TakenControl as DefinedControl>⟧.control_loan ⟦<Taken as Defined>⟧.loan windows.old self.old }
         requires idle { activity.old ≡ Idle }
         ensures step { (begun : PixelSet) → LeavesControls ⟦<TakenControl as DefinedControl>⟧.control_loan ⟦<Taken as Defined>⟧.loan
-            (IsControlStep (asks.Track pressed) result)
+            (IsWhereRight (IsControlStep (asks.Track pressed) result))
             windows.old (opened activity.old begun) self.old windows.new (opened activity.new begun) self.new }
         ensures trackable { IsTrackable activity.new (records_of ⟦<TakenControl as DefinedControl>⟧.control_loan self.new) }
     {
@@ -203,7 +204,7 @@ impl Controls<TakenControl> {
         requires beside { AreBeside ⟦<TakenControl as DefinedControl>⟧.control_loan ⟦<Taken as Defined>⟧.loan windows.old self.old }
         requires trackable { IsTrackable (TrackingControl tracked) (records_of ⟦<TakenControl as DefinedControl>⟧.control_loan self.old) }
         ensures step { (begun : PixelSet) → LeavesControls ⟦<TakenControl as DefinedControl>⟧.control_loan ⟦<Taken as Defined>⟧.loan
-            (IsControlStep (asks.Step point) result)
+            (IsWhereRight (IsControlStep (asks.Step point) result))
             windows.old (opened (TrackingControl tracked) begun) self.old windows.new (opened (TrackingControl tracked) begun) self.new }
         ensures trackable { IsTrackable (TrackingControl tracked) (records_of ⟦<TakenControl as DefinedControl>⟧.control_loan self.new) }
     {
@@ -229,7 +230,7 @@ impl Controls<TakenControl> {
         requires tracking { activity.old ≡ TrackingControl tracked }
         requires trackable { IsTrackable (TrackingControl tracked) (records_of ⟦<TakenControl as DefinedControl>⟧.control_loan self.old) }
         ensures step { (begun : PixelSet) → LeavesControls ⟦<TakenControl as DefinedControl>⟧.control_loan ⟦<Taken as Defined>⟧.loan
-            (IsControlStep (asks.End point) result)
+            (IsWhereRight (IsControlStep (asks.End point) result))
             windows.old (opened activity.old begun) self.old windows.new (opened activity.new begun) self.new }
         ensures trackable { IsTrackable activity.new (records_of ⟦<TakenControl as DefinedControl>⟧.control_loan self.new) }
     {

@@ -34,7 +34,7 @@ use Rattle.desk_toolbox.specs.Reached.{IsJustBegun}
 use Rattle.desk_toolbox.specs.WholeToolbox.{toolbox_state}
 
 -- where there are no windows a right state is right, whatever is shown of controls and lists
-right_bare : (shows : List ℕ → Part → PixelSet) (s : FullState) → s.desk.windows ≡ [] → IsRightState s → IsRightState (state_showing shows s)
+pub right_bare : (shows : List ℕ → Part → PixelSet) (s : FullState) → s.desk.windows ≡ [] → IsRightState s → IsRightState (state_showing shows s)
 right_bare shows s none right = record {
   plain = subst plain.IsRight (λ i. record (layered_state s) { desk = record (layered_desk s.desk) { windows = same i } }) right.plain;
   serials = right.serials;

@@ -20,6 +20,8 @@ pub mod HeldWindows
 pub mod Stands
 pub mod StandsOpen
 pub mod MenuKinds
+pub mod Narrowed
+pub mod Ended
 pub mod ControlKinds
 pub mod ControlNumbers
 pub mod ListKinds

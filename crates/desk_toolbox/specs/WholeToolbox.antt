@@ -9,6 +9,7 @@ use Rattle.def_iface.specs.ListMeaning.{ListLoan}
 use Rattle.def_iface.specs.Meaning.{Loan}
 use Rattle.def_iface.specs.MenuMeaning.{MenuLoan}
 use Rattle.def_iface.specs.Stocks.{AllSlots}
+use Rattle.window_mgr.specs.FullDesk.{IsRightState}
 use Rattle.window_mgr.specs.Records.{desk_of, state_of, state_showing}
 use Rattle.window_mgr.specs.Whole.{IsWholeManager}
 use Rattle.window_mgr.specs.DeskStates.{desk_with}
@@ -26,19 +27,14 @@ use Rattle.desk_toolbox.specs.ToolboxStates.{ToolboxState}
 -- `list_loan` what a list's
 module _ {V : Type 0} {H : V → Type 0} (loan : Taken V H → Loan) {W : Type 0} {K : W → Type 0} (menu_loan : TakenMenu W K → MenuLoan)
     {U : Type 0} {J : U → Type 0} (control_loan : TakenControl U J → ControlLoan) {X : Type 0} {L : X → Type 0} (list_loan : TakenList X L → ListLoan) where
-  -- a Toolbox and the slots of its stocks, between calls: each of its managers is whole
-  pub record IsWholeToolbox (t : Toolbox V U W X H J K L) (stocks : AllSlots) : Type 0 where
+  -- a Toolbox and the slots of its stocks, of which each of its managers is whole
+  pub record AreWholeManagers (t : Toolbox V U W X H J K L) (stocks : AllSlots) : Type 0 where
     pub windows : IsWholeManager loan t.windows stocks.windows
     pub updates : IsWholeUpdates loan t.activity t.windows t.updates
     pub controls : AreWholeControls (desk_of loan t.windows []).windows (controls_state control_loan t.controls stocks.controls)
     pub trackable : IsTrackable t.activity (records_of control_loan t.controls)
     pub menus : IsWholeMenus menu_loan t.windows t.activity t.menus stocks.menus
     pub lists : AreWholeLists (desk_of loan t.windows []).windows (lists_state list_loan t.lists stocks.lists)
-
-  -- a Toolbox by itself: it is whole over some slots
-  pub record IsKeptToolbox (t : Toolbox V U W X H J K L) : Type 0 where
-    pub stocks : AllSlots
-    pub whole : IsWholeToolbox t stocks
 
   -- its state: what its windows show of controls and lists is what these show
   abbrev pub toolbox_state : Toolbox V U W X H J K L → AllSlots → ToolboxState
@@ -49,3 +45,14 @@ module _ {V : Type 0} {H : V → Type 0} (loan : Taken V H → Loan) {W : Type 0
     menus = menus_state menu_loan t.menus stocks.menus;
     events = t.events;
   }
+
+  -- a Toolbox and the slots of its stocks, between calls: each of its managers is whole, and the screen is right where nothing is
+  -- to be redrawn, so that what changes is redrawn no further than its damage
+  pub record IsWholeToolbox (t : Toolbox V U W X H J K L) (stocks : AllSlots) : Type 0 where
+    pub managers : AreWholeManagers t stocks
+    pub right : IsRightState (toolbox_state t stocks).desk.windows
+
+  -- a Toolbox by itself: it is whole over some slots
+  pub record IsKeptToolbox (t : Toolbox V U W X H J K L) : Type 0 where
+    pub stocks : AllSlots
+    pub whole : IsWholeToolbox t stocks

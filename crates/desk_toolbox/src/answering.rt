@@ -1,22 +1,22 @@
 //! The answers to calls, each by its manager.
 ghost use Rattle.std.specs.Prelude.{◌≡◌, None, IfOk};
 ghost use Rattle.def_iface.specs.Stocks.{AllSlots};
+ghost use Rattle.desk_call.specs.declared.window.WindowCall.{WindowCall as Named};
 ghost use Rattle.desk_call.specs.Gates.{control_standing, gate, list_standing, standing_of, update_standing, window_standing};
 ghost use Rattle.control_mgr.specs.InUse.{AreStocked};
 ghost use Rattle.control_mgr.specs.WholeControls.{AreLiveControls, controls_state, records_of, slots_of};
 ghost use Rattle.list_mgr.specs.WholeLists.{AreLiveLists, lists_state};
 ghost use Rattle.list_mgr.specs.WholeLists as whole_lists;
-ghost use Rattle.menu_mgr.specs.WholeMenus.{IsWholeMenus};
-ghost use Rattle.window_mgr.specs.Sparing.{IsSparingCall};
-ghost use Rattle.window_mgr.specs.Whole.{IsWholeManager};
-ghost use Rattle.window_frame.specs.Economy.{IsEconomical, LeavesOthers, windows_of};
+ghost use Rattle.window_frame.specs.Economy.{IsEconomical, windows_of};
 ghost use Rattle.window_frame.specs.Followers.{AreInformed};
-ghost use Rattle.window_update.specs.WholeUpdates.{IsWholeUpdates};
+ghost use Rattle.window_frame.specs.Outcomes.{outcome_of};
 ghost use Rattle.desk_toolbox.specs.Economy.{IsCallEconomical};
-ghost use Rattle.desk_toolbox.specs.Run.{AreControlsLeft, AreListsLeft, IsAdmitted, IsControlTold, IsEventAnswer, IsFormFault, IsListAnswer, IsUpdateTold, IsWindowAnswered, IsWindowMade, IsWindowTold, is_covered, is_hidden_by_menu, is_under_menu};
+ghost use Rattle.desk_toolbox.specs.EventSteps.{events_left};
+ghost use Rattle.desk_toolbox.specs.Run.{AreControlsLeft, AreListsLeft, IsAdmitted, IsControlTold, IsEventAnswer, IsFormFault, IsListAnswer, IsUpdateTold, IsWindowTold, is_covered, is_hidden_by_menu, is_under_menu};
 ghost use Rattle.desk_toolbox.specs.ToolboxStates.{ToolboxState};
-ghost use Rattle.desk_toolbox.specs.WholeToolbox.{IsKeptToolbox, IsWholeToolbox, toolbox_state};
+ghost use Rattle.desk_toolbox.specs.WholeToolbox.{AreWholeManagers, IsKeptToolbox, IsWholeToolbox, toolbox_state};
 
+use crate::events::Events;
 use crate::{
     Call, ControlCall, ControlReply, EventCall, EventReply, Found, ListCall, ListReply,
     PointInWindow, Reply, Toolbox, UpdateCall, WindowCall, WindowPart, WindowReply,
@@ -28,7 +28,7 @@ use def_iface::{
 };
 use list_mgr::{Contents, Lists};
 use tb_geom::Refusal;
-use window_frame::follow;
+use window_frame::{Outcome, follow, outcome_of};
 use window_list::picture_place;
 use window_mgr::form_refusal;
 use window_update::{first_to_update, update_form_refusal};
@@ -38,7 +38,7 @@ impl Toolbox {
     pub(crate) fn perform(&mut self, call: &Call<'_>, stock: &mut Stock) -> Result<Reply, Refusal>
         requires whole { IsWholeToolbox ⟦<Taken as Defined>⟧.loan ⟦<TakenMenu as DefinedMenu>⟧.menu_loan ⟦<TakenControl as DefinedControl>⟧.control_loan ⟦<TakenList as DefinedList>⟧.list_loan self.old (⟦<Stock as StockedAll>⟧.all_slots stock.old) }
         requires admitted { gate self.old.activity (standing_of call.now) ≡ None }
-        ensures whole { IsWholeToolbox ⟦<Taken as Defined>⟧.loan ⟦<TakenMenu as DefinedMenu>⟧.menu_loan ⟦<TakenControl as DefinedControl>⟧.control_loan ⟦<TakenList as DefinedList>⟧.list_loan self.new (⟦<Stock as StockedAll>⟧.all_slots stock.new) }
+        ensures whole { AreWholeManagers ⟦<Taken as Defined>⟧.loan ⟦<TakenMenu as DefinedMenu>⟧.menu_loan ⟦<TakenControl as DefinedControl>⟧.control_loan ⟦<TakenList as DefinedList>⟧.list_loan self.new (⟦<Stock as StockedAll>⟧.all_slots stock.new) }
         ensures step { IsAdmitted call.now result
             (toolbox_state ⟦<Taken as Defined>⟧.loan ⟦<TakenMenu as DefinedMenu>⟧.menu_loan ⟦<TakenControl as DefinedControl>⟧.control_loan ⟦<TakenList as DefinedList>⟧.list_loan self.old (⟦<Stock as StockedAll>⟧.all_slots stock.old))
             (toolbox_state ⟦<Taken as Defined>⟧.loan ⟦<TakenMenu as DefinedMenu>⟧.menu_loan ⟦<TakenControl as DefinedControl>⟧.control_loan ⟦<TakenList as DefinedList>⟧.list_loan self.new (⟦<Stock as StockedAll>⟧.all_slots stock.new)) }
@@ -86,7 +86,9 @@ impl Toolbox {
         }
     }
 
-    /// Answers a call on windows: whose a point of the pulled menu is, the menus tell, and all else is performed.
+    /// Answers a call on windows: whose a point of the pulled menu is, the menus tell; a region of the window whose update is open,
+    /// that update; and all else the windows perform. Once it was done, definitions are notified how their windows stand, and a
+    /// window that is gone is forgotten.
     fn tell_window(
         &mut self,
         call: &WindowCall<'_>,
@@ -94,7 +96,7 @@ impl Toolbox {
     ) -> Result<WindowReply, Refusal>
         requires whole { IsWholeToolbox ⟦<Taken as Defined>⟧.loan ⟦<TakenMenu as DefinedMenu>⟧.menu_loan ⟦<TakenControl as DefinedControl>⟧.control_loan ⟦<TakenList as DefinedList>⟧.list_loan self.old (⟦<Stock as StockedAll>⟧.all_slots stock.old) }
         requires admitted { gate self.old.activity (window_standing call.now) ≡ None }
-        ensures whole { IsWholeToolbox ⟦<Taken as Defined>⟧.loan ⟦<TakenMenu as DefinedMenu>⟧.menu_loan ⟦<TakenControl as DefinedControl>⟧.control_loan ⟦<TakenList as DefinedList>⟧.list_loan self.new (⟦<Stock as StockedAll>⟧.all_slots stock.new) }
+        ensures whole { AreWholeManagers ⟦<Taken as Defined>⟧.loan ⟦<TakenMenu as DefinedMenu>⟧.menu_loan ⟦<TakenControl as DefinedControl>⟧.control_loan ⟦<TakenList as DefinedList>⟧.list_loan self.new (⟦<Stock as StockedAll>⟧.all_slots stock.new) }
         ensures step { let before = toolbox_state ⟦<Taken as Defined>⟧.loan ⟦<TakenMenu as DefinedMenu>⟧.menu_loan ⟦<TakenControl as DefinedControl>⟧.control_loan ⟦<TakenList as DefinedList>⟧.list_loan self.old (⟦<Stock as StockedAll>⟧.all_slots stock.old) in
             IsWindowTold (is_covered call.now before) call.now result before
             (toolbox_state ⟦<Taken as Defined>⟧.loan ⟦<TakenMenu as DefinedMenu>⟧.menu_loan ⟦<TakenControl as DefinedControl>⟧.control_loan ⟦<TakenList as DefinedList>⟧.list_loan self.new (⟦<Stock as StockedAll>⟧.all_slots stock.new)) }
@@ -107,7 +109,25 @@ impl Toolbox {
                 window: None,
             }));
         }
-        self.perform_window(call, stock)
+        if let Some(answer) = self.updates.tell(self.activity, call) {
+            return answer;
+        }
+        match self.windows.perform(call, &mut stock.windows) {
+            Ok(reply) => {
+                let outcome = outcome_of(call);
+                follow(&mut self.windows, outcome);
+                forget(
+                    outcome,
+                    &mut self.events,
+                    &mut self.controls,
+                    &mut self.lists,
+                    &mut stock.controls,
+                    &mut stock.lists,
+                );
+                Ok(reply)
+            }
+            Err(refusal) => Err(refusal),
+        }
     }
 
     /// Whether a call asks whose a point of the pulled menu is.
@@ -122,41 +142,13 @@ impl Toolbox {
         }
     }
 
-    /// Performs a call on windows. Once it was done, definitions are notified how their windows stand, and a window that is gone is
-    /// forgotten.
-    fn perform_window(
-        &mut self,
-        call: &WindowCall<'_>,
-        stock: &mut Stock,
-    ) -> Result<WindowReply, Refusal>
-        requires whole { IsWholeToolbox ⟦<Taken as Defined>⟧.loan ⟦<TakenMenu as DefinedMenu>⟧.menu_loan ⟦<TakenControl as DefinedControl>⟧.control_loan ⟦<TakenList as DefinedList>⟧.list_loan self.old (⟦<Stock as StockedAll>⟧.all_slots stock.old) }
-        requires admitted { gate self.old.activity (window_standing call.now) ≡ None }
-        ensures whole { IsWholeToolbox ⟦<Taken as Defined>⟧.loan ⟦<TakenMenu as DefinedMenu>⟧.menu_loan ⟦<TakenControl as DefinedControl>⟧.control_loan ⟦<TakenList as DefinedList>⟧.list_loan self.new (⟦<Stock as StockedAll>⟧.all_slots stock.new) }
-        ensures step { IsWindowMade call.now result
-            (toolbox_state ⟦<Taken as Defined>⟧.loan ⟦<TakenMenu as DefinedMenu>⟧.menu_loan ⟦<TakenControl as DefinedControl>⟧.control_loan ⟦<TakenList as DefinedList>⟧.list_loan self.old (⟦<Stock as StockedAll>⟧.all_slots stock.old))
-            (toolbox_state ⟦<Taken as Defined>⟧.loan ⟦<TakenMenu as DefinedMenu>⟧.menu_loan ⟦<TakenControl as DefinedControl>⟧.control_loan ⟦<TakenList as DefinedList>⟧.list_loan self.new (⟦<Stock as StockedAll>⟧.all_slots stock.new)) }
-        ensures economy { AreInformed (windows_of ⟦<Taken as Defined>⟧.loan self.old.windows)
-            → IsEconomical ⟦<Taken as Defined>⟧.loan call.now self.old.windows self.new.windows }
-    {
-        match self.answer_window(call, stock) {
-            Ok(reply) => {
-                follow(&mut self.windows, call);
-                self.events.follow(call);
-                forget_controls(&mut self.controls, call, &mut stock.controls);
-                forget_lists(&mut self.lists, call, &mut stock.lists);
-                Ok(reply)
-            }
-            Err(refusal) => Err(refusal),
-        }
-    }
-
     /// Answers a call about what is to be redrawn.
     fn tell_update(&mut self, call: &UpdateCall<'_>) -> Result<WindowReply, Refusal>
         requires kept { IsKeptToolbox ⟦<Taken as Defined>⟧.loan ⟦<TakenMenu as DefinedMenu>⟧.menu_loan ⟦<TakenControl as DefinedControl>⟧.control_loan ⟦<TakenList as DefinedList>⟧.list_loan self.old }
         requires admitted { gate self.old.activity (update_standing call.now) ≡ None }
         ensures whole { (stocks : AllSlots)
             → IsWholeToolbox ⟦<Taken as Defined>⟧.loan ⟦<TakenMenu as DefinedMenu>⟧.menu_loan ⟦<TakenControl as DefinedControl>⟧.control_loan ⟦<TakenList as DefinedList>⟧.list_loan self.old stocks
-            → IsWholeToolbox ⟦<Taken as Defined>⟧.loan ⟦<TakenMenu as DefinedMenu>⟧.menu_loan ⟦<TakenControl as DefinedControl>⟧.control_loan ⟦<TakenList as DefinedList>⟧.list_loan self.new stocks }
+            → AreWholeManagers ⟦<Taken as Defined>⟧.loan ⟦<TakenMenu as DefinedMenu>⟧.menu_loan ⟦<TakenControl as DefinedControl>⟧.control_loan ⟦<TakenList as DefinedList>⟧.list_loan self.new stocks }
         ensures step { (stocks : AllSlots)
             → IsWholeToolbox ⟦<Taken as Defined>⟧.loan ⟦<TakenMenu as DefinedMenu>⟧.menu_loan ⟦<TakenControl as DefinedControl>⟧.control_loan ⟦<TakenList as DefinedList>⟧.list_loan self.old stocks
             → IsUpdateTold call.now result
@@ -179,7 +171,7 @@ impl Toolbox {
     ) -> Result<ControlReply, Refusal>
         requires whole { IsWholeToolbox ⟦<Taken as Defined>⟧.loan ⟦<TakenMenu as DefinedMenu>⟧.menu_loan ⟦<TakenControl as DefinedControl>⟧.control_loan ⟦<TakenList as DefinedList>⟧.list_loan self.old (⟦<Stock as StockedAll>⟧.all_slots stock.old) }
         requires admitted { gate self.old.activity (control_standing call.now) ≡ None }
-        ensures whole { IsWholeToolbox ⟦<Taken as Defined>⟧.loan ⟦<TakenMenu as DefinedMenu>⟧.menu_loan ⟦<TakenControl as DefinedControl>⟧.control_loan ⟦<TakenList as DefinedList>⟧.list_loan self.new (⟦<Stock as StockedAll>⟧.all_slots stock.new) }
+        ensures whole { AreWholeManagers ⟦<Taken as Defined>⟧.loan ⟦<TakenMenu as DefinedMenu>⟧.menu_loan ⟦<TakenControl as DefinedControl>⟧.control_loan ⟦<TakenList as DefinedList>⟧.list_loan self.new (⟦<Stock as StockedAll>⟧.all_slots stock.new) }
         ensures step { let before = toolbox_state ⟦<Taken as Defined>⟧.loan ⟦<TakenMenu as DefinedMenu>⟧.menu_loan ⟦<TakenControl as DefinedControl>⟧.control_loan ⟦<TakenList as DefinedList>⟧.list_loan self.old (⟦<Stock as StockedAll>⟧.all_slots stock.old) in
             IsControlTold (is_hidden_by_menu call.now before) call.now result before
             (toolbox_state ⟦<Taken as Defined>⟧.loan ⟦<TakenMenu as DefinedMenu>⟧.menu_loan ⟦<TakenControl as DefinedControl>⟧.control_loan ⟦<TakenList as DefinedList>⟧.list_loan self.new (⟦<Stock as StockedAll>⟧.all_slots stock.new)) }
@@ -226,44 +218,11 @@ impl Toolbox {
         }
     }
 
-    /// Answers a call on windows: what is open may narrow what it asks for, and else the windows perform it.
-    fn answer_window(
-        &mut self,
-        call: &WindowCall<'_>,
-        stock: &mut Stock,
-    ) -> Result<WindowReply, Refusal>
-        requires whole { IsWholeToolbox ⟦<Taken as Defined>⟧.loan ⟦<TakenMenu as DefinedMenu>⟧.menu_loan ⟦<TakenControl as DefinedControl>⟧.control_loan ⟦<TakenList as DefinedList>⟧.list_loan self.old (⟦<Stock as StockedAll>⟧.all_slots stock.old) }
-        requires admitted { gate self.old.activity (window_standing call.now) ≡ None }
-        ensures windows { IsWholeManager ⟦<Taken as Defined>⟧.loan self.new.windows (⟦<Stock as StockedAll>⟧.all_slots stock.new).windows }
-        ensures updates { IsWholeUpdates ⟦<Taken as Defined>⟧.loan self.new.activity self.new.windows self.new.updates }
-        ensures menus_whole { IsWholeMenus ⟦<TakenMenu as DefinedMenu>⟧.menu_loan self.new.windows self.new.activity self.new.menus
-            (⟦<Stock as StockedAll>⟧.all_slots stock.new).menus }
-        ensures step { IsWindowAnswered call.now result
-            (toolbox_state ⟦<Taken as Defined>⟧.loan ⟦<TakenMenu as DefinedMenu>⟧.menu_loan ⟦<TakenControl as DefinedControl>⟧.control_loan ⟦<TakenList as DefinedList>⟧.list_loan self.old (⟦<Stock as StockedAll>⟧.all_slots stock.old)).desk
-            (toolbox_state ⟦<Taken as Defined>⟧.loan ⟦<TakenMenu as DefinedMenu>⟧.menu_loan ⟦<TakenControl as DefinedControl>⟧.control_loan ⟦<TakenList as DefinedList>⟧.list_loan self.new (⟦<Stock as StockedAll>⟧.all_slots stock.new)).desk }
-        ensures activity { self.new.activity ≡ self.old.activity }
-        ensures events { self.new.events ≡ self.old.events }
-        ensures menus { self.new.menus ≡ self.old.menus }
-        ensures controls { self.new.controls ≡ self.old.controls }
-        ensures control_stock { (⟦<Stock as StockedAll>⟧.all_slots stock.new).controls ≡ (⟦<Stock as StockedAll>⟧.all_slots stock.old).controls }
-        ensures lists { self.new.lists ≡ self.old.lists }
-        ensures list_stock { (⟦<Stock as StockedAll>⟧.all_slots stock.new).lists ≡ (⟦<Stock as StockedAll>⟧.all_slots stock.old).lists }
-        ensures menu_stock { (⟦<Stock as StockedAll>⟧.all_slots stock.new).menus ≡ (⟦<Stock as StockedAll>⟧.all_slots stock.old).menus }
-        ensures sparing { IsSparingCall ⟦<Taken as Defined>⟧.loan call.now self.old.windows self.new.windows }
-        ensures others { IfOk result (λ _. LeavesOthers call.now
-            (windows_of ⟦<Taken as Defined>⟧.loan self.old.windows) (windows_of ⟦<Taken as Defined>⟧.loan self.new.windows)) }
-    {
-        match self.updates.tell(self.activity, call) {
-            Some(answer) => answer,
-            None => self.windows.perform(call, &mut stock.windows),
-        }
-    }
-
     /// Answers a call about lists.
     fn tell_list(&mut self, call: &ListCall<'_>, stock: &mut Stock) -> Result<ListReply, Refusal>
         requires whole { IsWholeToolbox ⟦<Taken as Defined>⟧.loan ⟦<TakenMenu as DefinedMenu>⟧.menu_loan ⟦<TakenControl as DefinedControl>⟧.control_loan ⟦<TakenList as DefinedList>⟧.list_loan self.old (⟦<Stock as StockedAll>⟧.all_slots stock.old) }
         requires admitted { gate self.old.activity (list_standing call.now) ≡ None }
-        ensures whole { IsWholeToolbox ⟦<Taken as Defined>⟧.loan ⟦<TakenMenu as DefinedMenu>⟧.menu_loan ⟦<TakenControl as DefinedControl>⟧.control_loan ⟦<TakenList as DefinedList>⟧.list_loan self.new (⟦<Stock as StockedAll>⟧.all_slots stock.new) }
+        ensures whole { AreWholeManagers ⟦<Taken as Defined>⟧.loan ⟦<TakenMenu as DefinedMenu>⟧.menu_loan ⟦<TakenControl as DefinedControl>⟧.control_loan ⟦<TakenList as DefinedList>⟧.list_loan self.new (⟦<Stock as StockedAll>⟧.all_slots stock.new) }
         ensures step { IsListAnswer call.now result
             (toolbox_state ⟦<Taken as Defined>⟧.loan ⟦<TakenMenu as DefinedMenu>⟧.menu_loan ⟦<TakenControl as DefinedControl>⟧.control_loan ⟦<TakenList as DefinedList>⟧.list_loan self.old (⟦<Stock as StockedAll>⟧.all_slots stock.old))
             (toolbox_state ⟦<Taken as Defined>⟧.loan ⟦<TakenMenu as DefinedMenu>⟧.menu_loan ⟦<TakenControl as DefinedControl>⟧.control_loan ⟦<TakenList as DefinedList>⟧.list_loan self.new (⟦<Stock as StockedAll>⟧.all_slots stock.new)) }
@@ -282,7 +241,7 @@ impl Toolbox {
         requires { IsKeptToolbox ⟦<Taken as Defined>⟧.loan ⟦<TakenMenu as DefinedMenu>⟧.menu_loan ⟦<TakenControl as DefinedControl>⟧.control_loan ⟦<TakenList as DefinedList>⟧.list_loan self.old }
         ensures whole { (stocks : AllSlots)
             → IsWholeToolbox ⟦<Taken as Defined>⟧.loan ⟦<TakenMenu as DefinedMenu>⟧.menu_loan ⟦<TakenControl as DefinedControl>⟧.control_loan ⟦<TakenList as DefinedList>⟧.list_loan self.old stocks
-            → IsWholeToolbox ⟦<Taken as Defined>⟧.loan ⟦<TakenMenu as DefinedMenu>⟧.menu_loan ⟦<TakenControl as DefinedControl>⟧.control_loan ⟦<TakenList as DefinedList>⟧.list_loan self.new stocks }
+            → AreWholeManagers ⟦<Taken as Defined>⟧.loan ⟦<TakenMenu as DefinedMenu>⟧.menu_loan ⟦<TakenControl as DefinedControl>⟧.control_loan ⟦<TakenList as DefinedList>⟧.list_loan self.new stocks }
         ensures step { (stocks : AllSlots) → IsEventAnswer call result
             (toolbox_state ⟦<Taken as Defined>⟧.loan ⟦<TakenMenu as DefinedMenu>⟧.menu_loan ⟦<TakenControl as DefinedControl>⟧.control_loan ⟦<TakenList as DefinedList>⟧.list_loan self.old stocks)
             (toolbox_state ⟦<Taken as Defined>⟧.loan ⟦<TakenMenu as DefinedMenu>⟧.menu_loan ⟦<TakenControl as DefinedControl>⟧.control_loan ⟦<TakenList as DefinedList>⟧.list_loan self.new stocks) }
@@ -293,35 +252,34 @@ impl Toolbox {
     }
 }
 
-/// The controls of a window that was disposed of go with it.
-fn forget_controls(
+/// Forgets a window that is gone, once this came of a call: no event tells of it any more, and its controls and its lists go with
+/// it.
+fn forget(
+    outcome: Outcome,
+    events: &mut Events,
     controls: &mut Controls<TakenControl>,
-    call: &WindowCall<'_>,
-    stock: &mut ControlStock,
+    lists: &mut Lists<TakenList>,
+    control_stock: &mut ControlStock,
+    list_stock: &mut ListStock,
 )
     requires live { AreLiveControls (records_of ⟦<TakenControl as DefinedControl>⟧.control_loan controls.old) }
     requires stocked { AreStocked (λ d. d.stage) (slots_of (records_of ⟦<TakenControl as DefinedControl>⟧.control_loan controls.old))
-        (⟦<ControlStock as StockedControls>⟧.control_slots stock.old) }
-    ensures { AreControlsLeft call.now
-        (controls_state ⟦<TakenControl as DefinedControl>⟧.control_loan controls.old (⟦<ControlStock as StockedControls>⟧.control_slots stock.old))
-        (controls_state ⟦<TakenControl as DefinedControl>⟧.control_loan controls.new (⟦<ControlStock as StockedControls>⟧.control_slots stock.new)) }
+        (⟦<ControlStock as StockedControls>⟧.control_slots control_stock.old) }
+    requires live_lists { AreLiveLists (whole_lists.records_of ⟦<TakenList as DefinedList>⟧.list_loan lists.old) }
+    requires stocked_lists { AreStocked (λ d. d.stage) (whole_lists.slots_of (whole_lists.records_of ⟦<TakenList as DefinedList>⟧.list_loan lists.old))
+        (⟦<ListStock as StockedLists>⟧.list_slots list_stock.old) }
+    ensures events { (call : Named) → outcome_of call ≡ outcome → events.new ≡ events_left call events.old }
+    ensures controls { (call : Named) → outcome_of call ≡ outcome → AreControlsLeft call
+        (controls_state ⟦<TakenControl as DefinedControl>⟧.control_loan controls.old (⟦<ControlStock as StockedControls>⟧.control_slots control_stock.old))
+        (controls_state ⟦<TakenControl as DefinedControl>⟧.control_loan controls.new (⟦<ControlStock as StockedControls>⟧.control_slots control_stock.new)) }
+    ensures lists { (call : Named) → outcome_of call ≡ outcome → AreListsLeft call
+        (lists_state ⟦<TakenList as DefinedList>⟧.list_loan lists.old (⟦<ListStock as StockedLists>⟧.list_slots list_stock.old))
+        (lists_state ⟦<TakenList as DefinedList>⟧.list_loan lists.new (⟦<ListStock as StockedLists>⟧.list_slots list_stock.new)) }
 {
-    if let WindowCall::Dispose(window) = call {
-        controls.end_of(*window, stock);
-    }
-}
-
-/// So do its lists.
-fn forget_lists(lists: &mut Lists<TakenList>, call: &WindowCall<'_>, stock: &mut ListStock)
-    requires live { AreLiveLists (whole_lists.records_of ⟦<TakenList as DefinedList>⟧.list_loan lists.old) }
-    requires stocked { AreStocked (λ d. d.stage) (whole_lists.slots_of (whole_lists.records_of ⟦<TakenList as DefinedList>⟧.list_loan lists.old))
-        (⟦<ListStock as StockedLists>⟧.list_slots stock.old) }
-    ensures { AreListsLeft call.now
-        (lists_state ⟦<TakenList as DefinedList>⟧.list_loan lists.old (⟦<ListStock as StockedLists>⟧.list_slots stock.old))
-        (lists_state ⟦<TakenList as DefinedList>⟧.list_loan lists.new (⟦<ListStock as StockedLists>⟧.list_slots stock.new)) }
-{
-    if let WindowCall::Dispose(window) = call {
-        lists.end_of(*window, stock);
+    if let Outcome::Ended(window) = outcome {
+        events.forget(window);
+        controls.end_of(window, control_stock);
+        lists.end_of(window, list_stock);
     }
 }
 

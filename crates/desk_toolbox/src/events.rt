@@ -1,8 +1,8 @@
 //! The calls about events: the queue of what was posted, and what is told of the active window.
 ghost use Rattle.std.specs.Prelude.{◌≡◌, nat_abs, true, IfOk};
-ghost use Rattle.desk_toolbox.specs.EventSteps.{asked_event, event_of, event_step, events_left, first_events, is_in_ranges, is_time, is_word, posting, word_of};
+ghost use Rattle.desk_toolbox.specs.EventSteps.{asked_event, event_of, event_step, first_events, is_in_ranges, is_time, is_word, posting, without_window, word_of};
 
-use desk_call::{EventCall, EventReply, FlushEvents, PostEvent, WindowCall};
+use desk_call::{EventCall, EventReply, FlushEvents, PostEvent};
 use event_queue::{Event, EventError, EventKind, EventQueue, forget};
 use std::alloc::{AllocError, Global};
 use tb_geom::Refusal;
@@ -144,12 +144,10 @@ impl Events {
         }
     }
 
-    /// A call on windows was done: a window that was disposed of is forgotten.
-    pub(crate) fn follow(&mut self, call: &WindowCall<'_>)
-        ensures { self.new ≡ events_left call.now self.old }
+    /// Forgets a window that was disposed of: it is told no more that it is active.
+    pub(crate) fn forget(&mut self, window: u64)
+        ensures { self.new ≡ without_window window self.old }
     {
-        if let WindowCall::Dispose(window) = call {
-            self.told = forget(self.told, *window);
-        }
+        self.told = forget(self.told, window);
     }
 }

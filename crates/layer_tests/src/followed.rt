@@ -1,11 +1,15 @@
 //! The tests: steps in a row, after each of which the library and the model agree.
 
-use crate::steps::Desk;
-use def_iface::{Part, Size};
+ghost use Rattle.std.specs.Prelude.{All, IfOk};
+ghost use Rattle.def_iface.specs.Stocked.{IsFull};
+
+use def_iface::{Part, Size, Stocked, WindowDef, WindowStock};
+use layer_steps::steps::Desk;
 use plain_layers::desk::Painting;
 use plain_layers::steps::Step;
 use std::alloc::Global;
 use std::test::Fail;
+use std_wdef::{StdWindow, Variation};
 use tb_geom::{Rect, Refusal};
 use window_update::Layers as Kind;
 
@@ -32,9 +36,23 @@ const BEGIN: [Step; 6] = [
     Step::Update(2, ALL),
 ];
 
+/// A stock of two plain windows.
+fn plain_stock(alloc: Global) -> Result<WindowStock, Refusal>
+    ensures { IfOk result (λ s. All IsFull (⟦<WindowStock as Stocked>⟧.slots s)) }
+{
+    let mut stock = WindowStock::new(alloc);
+    for _ in 0..2 {
+        let window = Box::new(alloc, StdWindow::new(Variation::Plain))?;
+        let Ok(()) = stock.add(b"plain", window) else {
+            return Err(Refusal::NoMemory);
+        };
+    }
+    Ok(stock)
+}
+
 /// Whether library and model agree at the beginning and after each of these steps.
 fn follow(alloc: Global, steps: &[Step]) -> Result<bool, Refusal> {
-    let mut desk = Desk::new(alloc)?;
+    let mut desk = Desk::new(alloc, plain_stock(alloc)?)?;
     if !desk.agrees() {
         return Ok(false);
     }
@@ -170,7 +188,7 @@ fn updates_draw_layer_by_layer(rt: HostRuntime) -> Result<(), Fail> {
 
 #[test]
 fn hidden_layers_stay_in_range(rt: HostRuntime) -> Result<(), Fail> {
-    let mut desk = Desk::new(rt.alloc())?;
+    let mut desk = Desk::new(rt.alloc(), plain_stock(rt.alloc())?)?;
     let far = Step::Put(1, BUTTON, false, rect!(16000, 0, 16010, 5));
     assert!(rt; desk.follows(far)?);
     assert!(rt; desk.refuses(Step::Move(1, point!(400, 2))));

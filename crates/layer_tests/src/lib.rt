@@ -3,9 +3,9 @@
 //! every region that is kept is what a slow model says. A script makes such layers too, and tells less of them: here what they
 //! show is as plain as the model needs it.
 //!
-//! The model, the crate `plain_layers`, goes by single pixels and uses no region. `steps` carries out each call by the library
-//! and by the model and compares them, and `followed` has the tests. The crate `striped_layers` has the controls and lists of
-//! these tests, and changes the layers of a window.
+//! The model, the crate `plain_layers`, goes by single pixels and uses no region. The crate `layer_steps` carries out each call by
+//! the library and by the model and compares them, and `followed` has the tests. The crate `striped_layers` has the controls and
+//! lists of these tests, and changes the layers of a window.
 #![tactic(auto)]
 
 /// A rectangle, by its left side, its top, its right side and its bottom.
@@ -31,5 +31,3 @@ macro_rules! point {
 
 #[cfg(test)]
 mod followed;
-#[cfg(test)]
-mod steps;

@@ -17,72 +17,63 @@ use Rattle.list_records.specs.Seen.{seen}
 use Rattle.list_view.specs.Bars.{horizontal_setting, vertical_setting}
 use Rattle.window_mgr.specs.declared.manager.WindowManager.{WindowManager}
 use Rattle.window_mgr.specs.DeskStates.{Opened}
-use Rattle.window_mgr.specs.FullDesk.{FullDesk, FullState}
 use Rattle.window_mgr.specs.Kept.{IsKept}
 use Rattle.window_mgr.specs.Records.{desk_of}
 use Rattle.control_mgr.specs.declared.controls.Controls.{Controls}
-use Rattle.control_mgr.specs.ControlDesks.{ControlDesk, index_of}
-use Rattle.control_mgr.specs.ControlSteps.{IsSettingPut, IsSettingPutAt}
+use Rattle.control_mgr.specs.Damages.{IsSettingGiven}
 use Rattle.control_mgr.specs.WholeControls.{AreBeside as AreControlsBeside, LeavesControls}
 use Rattle.list_mgr.specs.declared.lists.Lists.{Lists}
 use Rattle.list_mgr.specs.declared.spots.Spot.{Spot}
 use Rattle.list_mgr.specs.Spots.{IsSpotOf}
 use Rattle.list_mgr.proofs.Places.{found_names}
 use Rattle.list_mgr.proofs.Steps.{list_read}
-use Rattle.list_mgr.specs.ListDesks.{KeptList, ListDesk, list_of, lists_show, with_controls}
+use Rattle.list_mgr.specs.ListDesks.{KeptList, ListDesk, list_of, lists_show}
 use Rattle.list_mgr.specs.ListSteps.{AreBarsSet, IsBarSet}
 use Rattle.list_mgr.specs.Lines.{IsBarSetOver, desk_beside}
 use Rattle.list_mgr.specs.WholeLists.{AreWholeLists, LeavesLists, lists_state, records_of}
-
--- a control that got a setting leaves the windows' records
-setting_windows : (o : Option ℕ) (c : ControlOf) (setting : Setting) (before after : ControlDesk) → IsSettingPutAt o c setting before after
-    → after.desk.windows.desk.windows ≡ before.desk.windows.desk.windows
-setting_windows None c setting before after same = ap (λ (s : FullState). s.desk.windows) same.windows
-setting_windows (Some at) c setting before after anew = ap (λ (d : FullDesk). d.windows) anew.redrawn.desk
-
--- so does a scroll bar
-pub bar_windows : (window : ℕ) (bar : Option ℕ) (setting : Setting) (before after : ListDesk) → IsBarSet window bar setting before after
-    → after.desk.windows.desk.windows ≡ before.desk.windows.desk.windows
-bar_windows window None setting before after same = ap (λ (d : FullDesk). d.windows) same.desk.windows.desk
-bar_windows window (Some n) setting before after set =
-    setting_windows (index_of (record { window = window; control = n }) before.controls.controls) (record { window = window; control = n }) setting (with_controls before) (with_controls after) set.0
+use Rattle.list_mgr.specs.Within.{IsBarGiven, IsWhereRight}
+use Rattle.list_mgr.proofs.BarSettings.{bar_may}
+use Rattle.list_mgr.proofs.Edited.{named_settled}
+use Rattle.list_mgr.proofs.ListsBars.{bar_set_keeps}
+use Rattle.list_mgr.proofs.ListsKept.{IsRightLists}
 
 module _ {W : Type 0} {K : W → Type 0} (control_loan : TakenControl W K → ControlLoan) {V : Type 0} {H : V → Type 0} (loan : Taken V H → Loan) where
   pub bar_set : (window : ℕ) (bar : Option ℕ) (n : ℕ) (setting : Setting) (t u : WindowManager V H) (c d : Controls (TakenControl W K)) → bar ≡ Some n
-      → ((o r : Opened) → LeavesControls control_loan loan (IsSettingPut (record { window = window; control = n }) setting) t o c u r d)
+      → ((o r : Opened) → LeavesControls control_loan loan (IsSettingGiven (record { window = window; control = n }) setting) t o c u r d)
       → IsBarSetOver control_loan loan window bar setting t c u d
   bar_set window bar n setting t u c d is leaves o slots held lists whole controls =
       let left = leaves o o held (lists_show lists.lists) slots whole controls in (
         left.0,
         left.1,
-        subst (λ b. IsBarSet window b setting (desk_beside control_loan loan t o slots c held lists) (desk_beside control_loan loan u o slots d held lists)) (sym is)
-            (left.2, record { activity = refl; begun = refl }, refl),
+        subst (λ b. IsBarGiven window b setting (desk_beside control_loan loan t o slots c held lists) (desk_beside control_loan loan u o slots d held lists)) (sym is)
+            (record { windows = left.2.windows; set = λ right. (left.2.put right, record { activity = refl; begun = refl }, refl) }),
       )
 
   -- both bars of a list
   module _ {X : Type 0} {L : X → Type 0} (list_loan : TakenList X L → ListLoan) (l : ListOf) (m : Lists (TakenList X L)) (x : KeptList) (there : list_of l (records_of list_loan m) ≡ Some x)
       (window : ℕ) (named : window ≡ l.window) (down across : Setting) (down_is : down ≡ vertical_setting x.cells.rows x.view) (across_is : across ≡ horizontal_setting x.cells.columns x.view) where
     pub bars_set : (t u v : WindowManager V H) (c d e : Controls (TakenControl W K)) → IsBarSetOver control_loan loan window x.vertical down t c u d
-        → IsBarSetOver control_loan loan window x.horizontal across u d v e → LeavesLists list_loan loan control_loan (AreBarsSet l) t c m v e m
+        → IsBarSetOver control_loan loan window x.horizontal across u d v e → LeavesLists list_loan loan control_loan (IsWhereRight (AreBarsSet l)) t c m v e m
     bars_set t u v c d e first second held kept o slots whole controls lists =
         let once = first o slots held (lists_state list_loan m kept) whole controls in
         let twice = second o slots held (lists_state list_loan m kept) once.0 once.1 in
         let before : ListDesk = desk_beside control_loan loan t o slots c held (lists_state list_loan m kept) in
         let mid : ListDesk = desk_beside control_loan loan u o slots d held (lists_state list_loan m kept) in
         let after : ListDesk = desk_beside control_loan loan v o slots e held (lists_state list_loan m kept) in
-        let windows : (desk_of loan v []).windows ≡ (desk_of loan t []).windows = bar_windows window x.horizontal across mid after twice.2 ∙ bar_windows window x.vertical down before mid once.2 in (
+        let windows : (desk_of loan v []).windows ≡ (desk_of loan t []).windows = twice.2.windows ∙ once.2.windows in (
           twice.0,
           twice.1,
           subst (λ ws. AreWholeLists ws (lists_state list_loan m kept)) (sym windows) lists,
-          (
-            x,
-            there,
-            (
-              mid,
-              subst (λ (k : ℕ × Setting). IsBarSet k.0 x.vertical k.1 before mid) (λ i. (named i, down_is i)) once.2,
-              subst (λ (k : ℕ × Setting). IsBarSet k.0 x.horizontal k.1 mid after) (λ i. (named i, across_is i)) twice.2,
-            ),
-          ),
+          λ right.
+              let its = named_settled l (records_of list_loan m) x lists.settled there in
+              let first : IsBarSet l.window x.vertical (vertical_setting x.cells.rows x.view) before mid =
+              subst (λ (k : ℕ × Setting). IsBarSet k.0 x.vertical k.1 before mid) (λ i. (named i, down_is i)) (once.2.set right) in
+              let then : IsRightLists mid = bar_set_keeps before mid (record { desk = record { right = right; shows = refl; whole = controls }; lists = lists })
+              l.window x.vertical (vertical_setting x.cells.rows x.view) (bar_may x.view.down x.cells.rows x.view.first.row its.grid.rows_within) first in (
+                x,
+                there,
+                (mid, first, subst (λ (k : ℕ × Setting). IsBarSet k.0 x.horizontal k.1 mid after) (λ i. (named i, across_is i)) (twice.2.set then.desk.right)),
+              ),
         )
 
   -- what holds of windows and controls once a bar was set
@@ -100,7 +91,7 @@ module _ {W : Type 0} {K : W → Type 0} (control_loan : TakenControl W K → Co
 
     pub bars_set_there : (rows columns : ℕ) (down across : Setting) → rows ≡ x.cells.rows → columns ≡ x.cells.columns → down ≡ vertical_setting rows x.view → across ≡ horizontal_setting columns x.view
         → (u v : WindowManager V H) (c d e : Controls (TakenControl W K)) → IsBarSetOver control_loan loan x.window x.vertical down t c u d → IsBarSetOver control_loan loan x.window x.horizontal across u d v e
-        → LeavesLists list_loan loan control_loan (AreBarsSet l) t c m v e m
+        → LeavesLists list_loan loan control_loan (IsWhereRight (AreBarsSet l)) t c m v e m
     bars_set_there rows columns down across rows_are columns_are down_is across_is =
         bars_set list_loan l m (seen list_loan x) (ap (option_and_then (slice_get (records_of list_loan m))) is.list ∙ there)
         x.window (found_names l.window l.list s.list (records_of list_loan m) (seen list_loan x) is.list there).0 down across

@@ -1,12 +1,15 @@
 -- A list that was changed where it stands, and shown anew or marked: what that leaves of windows and lists.
-use Rattle.std.proofs.Common.{◌≡◌, inl, inr, ℕ, ◌<◌, ◌&&◌, ◌||◌, Bool, true, false, not, List, [], length, get_or, set, Option, Some, None, Result, Err, refl, sym, ap, ◌∙◌, subst}
+use Rattle.std.proofs.Common.{◌≡◌, inl, inr, ℕ, ◌<◌, ◌==◌, ◌&&◌, ◌||◌, Bool, true, false, not, List, [], length, get_or, set, Option, Some, None, Result, Err, refl, sym, ap, ◌∙◌, subst}
 use Rattle.std.specs.Option.{option_map_or}
 use Rattle.std.specs.Prelude.{slice_get}
 use Rattle.std.proofs.lemmas.List.{set-get_or}
 use Rattle.tb_geom.specs.declared.refusal.Refusal.{Refusal}
 use Rattle.tb_geom.specs.declared.refusal.Refusal.TheVariants.{NoMemory}
 use Rattle.tb_geom.specs.Points.{minus}
+use Rattle.tb_geom.specs.declared.point.Point.{Point}
+use Rattle.tb_geom.specs.declared.rect.Rect.{Rect}
 use Rattle.tb_geom.specs.Pixels.{Pixels, holds}
+use Rattle.tb_geom.specs.Rects.{rect_holds}
 use Rattle.tb_geom.specs.Refusals.{first_refusal}
 use Rattle.def_iface.specs.declared.part.Part.TheVariants as part
 use Rattle.def_iface.specs.declared.taken.Taken.{Taken}
@@ -14,6 +17,7 @@ use Rattle.def_iface.specs.declared.taken_list.TakenList.{TakenList}
 use Rattle.def_iface.specs.ListMeaning.{ListLoan}
 use Rattle.def_iface.specs.Meaning.{Loan}
 use Rattle.def_iface.specs.Stocked.{SlotView}
+use Rattle.def_iface.proofs.Owning.{same_number}
 use Rattle.list_cells.specs.Grids.{Grid}
 use Rattle.list_records.specs.declared.list_record.ListRecord.{ListRecord}
 use Rattle.list_records.specs.Lists.{edit_at, with_cells}
@@ -28,7 +32,7 @@ use Rattle.desk_call.specs.declared.list.ListReply.{ListReply}
 use Rattle.vis_update.specs.Records.{WindowRecord}
 use Rattle.window_mgr.specs.declared.manager.WindowManager.{WindowManager}
 use Rattle.window_mgr.specs.DeskStates.{Opened}
-use Rattle.window_mgr.specs.FullDesk.{FullDesk}
+use Rattle.window_mgr.specs.FullDesk.{FullDesk, IsRightState}
 use Rattle.window_mgr.specs.Records.{desk_of, state_of, state_showing}
 use Rattle.window_mgr.specs.Relayered.{IsLayerRedrawn}
 use Rattle.window_mgr.specs.Whole.{IsWholeManager}
@@ -37,12 +41,15 @@ use Rattle.control_mgr.proofs.Places.{IsThere, within}
 use Rattle.list_mgr.specs.declared.lists.Lists.{Lists}
 use Rattle.list_mgr.specs.declared.spots.Spot.{Spot}
 use Rattle.list_mgr.specs.Changing.{IsDrawing, IsMark, IsSameOrNot, IsShownOrMarked}
-use Rattle.list_mgr.specs.ListDesks.{IsListDeskUnchanged, KeptList, ListDesk, ListSlot, index_of, lists_show}
+use Rattle.list_mgr.specs.ListDesks.{IsListDeskUnchanged, KeptList, ListDesk, ListSlot, index_of, list_bit, lists_show, with_serial}
 use Rattle.list_mgr.specs.ListRefusals.{is_drawing_off, may_list_grow}
 use Rattle.list_mgr.specs.ListSteps.{IsChangedTo, IsLayerMarked, IsListChanged, IsListStep, IsSeenOrNot, with_grid}
 use Rattle.list_mgr.specs.Spots.{IsSpot, IsSpotOf}
 use Rattle.list_mgr.specs.WholeLists.{AreBeside, AreWholeLists, IsChangedOver, IsSettledList, list_desk, lists_state, records_of}
+use Rattle.list_mgr.specs.Within.{IsSameOutside, IsWhereRight}
+use Rattle.list_mgr.proofs.Drawn.{All-there}
 use Rattle.list_mgr.proofs.Edited.{Keeps, edit_alike, edit_nothing, there_edited, whole_edited}
+use Rattle.list_mgr.proofs.ListsFound.{with_own}
 use Rattle.list_mgr.proofs.Places.{found_names}
 use Rattle.list_mgr.proofs.Steps.{IsTold, list_named, list_there}
 
@@ -116,6 +123,19 @@ module _ {V : Type 0} {H : V → Type 0} (loan : Taken V H → Loan) {X : Type 0
         (inr (why o slots cs kept, (grows kept, memory)), unchanged_so o slots cs kept),
   )
 
+  -- so where the screen was right
+  pub refused_over_right : (call : ListCall) (result : Result ListReply Refusal) (e : Refusal) → result ≡ Err e → IsTold loan list_loan call t m (λ why. first_refusal why ≡ Some e)
+      → IsChangedOver list_loan loan (IsWhereRight (IsListStep call result)) t m t n
+  refused_over_right call result e is why o slots cs kept whole lists =
+      let left = refused_over call result e is why o slots cs kept whole lists in
+      (left.0, left.1, left.2, λ right. left.3)
+
+  pub short_over_right : (call : ListCall) (result : Result ListReply Refusal) (e : Refusal) → result ≡ Err e → e ≡ NoMemory → ((kept : List ListSlot) → may_list_grow call (lists_state list_loan m kept) ≡ true)
+      → IsTold loan list_loan call t m (λ why. first_refusal why ≡ None) → IsChangedOver list_loan loan (IsWhereRight (IsListStep call result)) t m t n
+  short_over_right call result e is memory grows why o slots cs kept whole lists =
+      let left = short_over call result e is memory grows why o slots cs kept whole lists in
+      (left.0, left.1, left.2, λ right. left.3)
+
 -- ---- a list that was changed
 
 module _ {V : Type 0} {H : V → Type 0} (loan : Taken V H → Loan) {X : Type 0} {L : X → Type 0} (list_loan : TakenList X L → ListLoan)
@@ -165,29 +185,10 @@ module _ {V : Type 0} {H : V → Type 0} (loan : Taken V H → Loan) {X : Type 0
       → IsChangedTo l f (list_desk list_loan loan t o slots cs m kept) (list_desk list_loan loan u o slots cs n kept)
   changed_to u o slots cs kept = record { at = s.list; found = is.list; lists = lists_are kept; beside = record { controls = refl; activity = record { activity = refl; begun = refl } } }
 
-  -- it was shown anew, or marked where its drawing is off and something of it changes
-  pub changed_over : (mark : Option Pixels) (changes : Bool) → IsMark list_loan loan t m s mark → ((x : KeptList) → slice_get (records_of list_loan m) s.list ≡ Some x → IsSameOrNot changes (f x) x)
-      → (u : WindowManager V H) → IsShownOrMarked list_loan loan mark changes s n t u → IsChangedOver list_loan loan (IsListChanged l f) t m u n
-  changed_over None changes (x, there, on) agree u shown o slots cs kept whole lists =
-      let was = controls_show (lists_show (records_of list_loan m)) cs.controls in
-      let now = controls_show (lists_show (records_of list_loan n)) cs.controls in
-      let left = shown (f x) (there_after x there) was now (λ p. refl) slots whole in
-      let names = found_names l.window l.list s.list (records_of list_loan m) x is.list there in
-      let windows : (desk_of loan u []).windows ≡ (desk_of loan t []).windows = ap (λ (d : FullDesk). d.windows) left.1.desk in
-      let redrawn : IsLayerRedrawn l.window (part.List l.list) (state_showing was (state_of loan t slots)) (state_showing now (state_of loan u slots)) =
-      subst (λ k. IsLayerRedrawn k (part.List l.list) (state_showing was (state_of loan t slots)) (state_showing now (state_of loan u slots))) (keeps.window x ∙ names.0)
-      (subst (λ k. IsLayerRedrawn (f x).window (part.List k) (state_showing was (state_of loan t slots)) (state_showing now (state_of loan u slots))) (keeps.serial x ∙ names.1) left.1) in (
-        left.0,
-        windows,
-        subst (λ ws. AreWholeLists ws (lists_state list_loan n kept)) (sym windows) (whole_after (desk_of loan t []).windows kept lists),
-        (
-          x,
-          list_named loan list_loan l t m s is x there,
-          subst (λ b. IsSeenOrNot b l f x (list_desk list_loan loan t o slots cs m kept) (list_desk list_loan loan u o slots cs n kept)) (sym on)
-              (record { changed = changed_to u o slots cs kept; redrawn = redrawn; shows = refl }),
-        ),
-      )
-  changed_over (Some update) true ((x, there, off), region) agree u marked o slots cs kept whole lists =
+  -- it was marked where its drawing is off and something of it changes
+  pub marked_over : (within : Rect) (update : Pixels) (changes : Bool) → IsMark list_loan loan t m s (Some update) → ((x : KeptList) → slice_get (records_of list_loan m) s.list ≡ Some x → IsSameOrNot changes (f x) x)
+      → (u : WindowManager V H) → IsShownOrMarked list_loan loan within (Some update) changes s n t u → IsChangedOver list_loan loan (IsListChanged l f) t m u n
+  marked_over within update true ((x, there, off), region) agree u marked o slots cs kept whole lists =
       let was = controls_show (lists_show (records_of list_loan m)) cs.controls in
       let now = controls_show (lists_show (records_of list_loan n)) cs.controls in
       let left = marked (f x) (there_after x there) was now slots whole in
@@ -206,7 +207,7 @@ module _ {V : Type 0} {H : V → Type 0} (loan : Taken V H → Loan) {X : Type 0
               (inr (agree x there, record { changed = changed_to u o slots cs kept; marked = its_mark; shows = refl })),
         ),
       )
-  changed_over (Some update) false ((x, there, off), region) agree u same o slots cs kept whole lists =
+  marked_over within update false ((x, there, off), region) agree u same o slots cs kept whole lists =
       subst (λ v. IsWholeManager loan v slots × ((desk_of loan v []).windows ≡ (desk_of loan t []).windows) × AreWholeLists (desk_of loan v []).windows (lists_state list_loan n kept)
       × IsListChanged l f (list_desk list_loan loan t o slots cs m kept) (list_desk list_loan loan v o slots cs n kept)) (sym same) (
         whole,
@@ -217,6 +218,39 @@ module _ {V : Type 0} {H : V → Type 0} (loan : Taken V H → Loan) {X : Type 0
           list_named loan list_loan l t m s is x there,
           subst (λ b. IsSeenOrNot b l f x (list_desk list_loan loan t o slots cs m kept) (list_desk list_loan loan t o slots cs n kept)) (sym off)
               (inl (agree x there, unchanged_so loan list_loan t m n (edited ∙ edit_nothing f s.list (records_of list_loan m) agree) next o slots cs kept)),
+        ),
+      )
+
+  -- it was shown anew where the screen was right, or marked where its drawing is off and something of it changes
+  pub changed_over : (within : Rect) → ((x : KeptList) → slice_get (records_of list_loan m) s.list ≡ Some x → IsSettledList x → IsSameOutside within x (f x)) → (mark : Option Pixels) (changes : Bool) → IsMark list_loan loan t m s mark → ((x : KeptList) → slice_get (records_of list_loan m) s.list ≡ Some x → IsSameOrNot changes (f x) x)
+      → (u : WindowManager V H) → IsShownOrMarked list_loan loan within mark changes s n t u → IsChangedOver list_loan loan (IsWhereRight (IsListChanged l f)) t m u n
+  changed_over within outside (Some update) changes mark agree u marked o slots cs kept whole lists =
+      let left = marked_over within update changes mark agree u marked o slots cs kept whole lists in
+      (left.0, left.1, left.2, λ right. left.3)
+  changed_over within outside None changes (x, there, on) agree u shown o slots cs kept whole lists =
+      let was = controls_show (lists_show (records_of list_loan m)) cs.controls in
+      let now = controls_show (lists_show (records_of list_loan n)) cs.controls in
+      let left = shown (f x) (there_after x there) was now (λ p. refl) slots whole in
+      let names = found_names l.window l.list s.list (records_of list_loan m) x is.list there in
+      let windows : (desk_of loan u []).windows ≡ (desk_of loan t []).windows = ap (λ (d : FullDesk). d.windows) left.1.desk in
+      let after = whole_after (desk_of loan t []).windows kept lists in
+      let fonts : u.font ≡ t.font = ap (λ (d : FullDesk). d.font) left.1.desk in
+      let same : (p : Point) → rect_holds within p ≡ false → now u.font (part.List (f x).serial) p ≡ was t.font (part.List (f x).serial) p = λ p out.
+      ap (λ font. list_bit font (with_serial (f x).serial (records_of list_loan n)) p) fonts
+      ∙ ap (λ y. list_bit t.font y p) (with_own (f x).serial s.list (records_of list_loan n) (f x) after.apart (there_after x there) (same_number (f x).serial))
+      ∙ outside x there (All-there IsSettledList s.list (records_of list_loan m) x there lists.settled) t.font p out
+      ∙ sym (ap (λ y. list_bit t.font y p) (with_own (f x).serial s.list (records_of list_loan m) x lists.apart there (ap (λ k. k == (f x).serial) (sym (keeps.serial x)) ∙ same_number (f x).serial))) in
+      let redrawn : IsRightState (state_showing was (state_of loan t slots)) → IsLayerRedrawn l.window (part.List l.list) (state_showing was (state_of loan t slots)) (state_showing now (state_of loan u slots)) = λ right.
+      subst (λ k. IsLayerRedrawn k (part.List l.list) (state_showing was (state_of loan t slots)) (state_showing now (state_of loan u slots))) (keeps.window x ∙ names.0)
+      (subst (λ k. IsLayerRedrawn (f x).window (part.List k) (state_showing was (state_of loan t slots)) (state_showing now (state_of loan u slots))) (keeps.serial x ∙ names.1) (left.1.redrawn right same)) in (
+        left.0,
+        windows,
+        subst (λ ws. AreWholeLists ws (lists_state list_loan n kept)) (sym windows) after,
+        λ right. (
+          x,
+          list_named loan list_loan l t m s is x there,
+          subst (λ b. IsSeenOrNot b l f x (list_desk list_loan loan t o slots cs m kept) (list_desk list_loan loan u o slots cs n kept)) (sym on)
+              (record { changed = changed_to u o slots cs kept; redrawn = redrawn right; shows = refl }),
         ),
       )
 
@@ -240,3 +274,16 @@ changed_as loan list_loan t u m n P Q same over o slots cs kept whole lists = ag
         → IsWholeManager loan u slots × ((desk_of loan u []).windows ≡ (desk_of loan t []).windows) × AreWholeLists (desk_of loan u []).windows (lists_state list_loan n kept)
         × Q (list_desk list_loan loan t o slots cs m kept) (list_desk list_loan loan u o slots cs n kept)
     again (a, b, c, p) = (a, b, c, same o slots cs kept p)
+
+-- so where the screen was right
+pub right_as : {V : Type 0} {H : V → Type 0} (loan : Taken V H → Loan) {X : Type 0} {L : X → Type 0} (list_loan : TakenList X L → ListLoan)
+    (t u : WindowManager V H) (m n : Lists (TakenList X L)) (P Q : ListDesk → ListDesk → Type 0)
+    → ((o : Opened) (slots : List SlotView) (cs : ControlsState) (kept : List ListSlot) → P (list_desk list_loan loan t o slots cs m kept) (list_desk list_loan loan u o slots cs n kept)
+    → Q (list_desk list_loan loan t o slots cs m kept) (list_desk list_loan loan u o slots cs n kept))
+    → IsChangedOver list_loan loan (IsWhereRight P) t m u n → IsChangedOver list_loan loan (IsWhereRight Q) t m u n
+right_as loan list_loan t u m n P Q same = changed_as loan list_loan t u m n (IsWhereRight P) (IsWhereRight Q) (λ o slots cs kept made right. same o slots cs kept (made right))
+
+-- what is made, also where the screen was right
+pub over_right : {V : Type 0} {H : V → Type 0} (loan : Taken V H → Loan) {X : Type 0} {L : X → Type 0} (list_loan : TakenList X L → ListLoan)
+    (t u : WindowManager V H) (m n : Lists (TakenList X L)) (P : ListDesk → ListDesk → Type 0) → IsChangedOver list_loan loan P t m u n → IsChangedOver list_loan loan (IsWhereRight P) t m u n
+over_right loan list_loan t u m n P = changed_as loan list_loan t u m n P (IsWhereRight P) (λ o slots cs kept made right. made)

@@ -2,6 +2,7 @@
 use Rattle.std.proofs.Common.{◌≡◌, Bool, get_or, Option, Some, refl, subst}
 use Rattle.std.specs.Prelude.{slice_get}
 use Rattle.std.specs.Vec.{with_item}
+use Rattle.tb_geom.specs.declared.rect.Rect.{Rect}
 use Rattle.tb_geom.specs.Pixels.{Pixels}
 use Rattle.def_iface.specs.declared.taken.Taken.{Taken}
 use Rattle.def_iface.specs.declared.taken_list.TakenList.{TakenList}
@@ -20,6 +21,7 @@ use Rattle.list_mgr.specs.ListDesks.{KeptList}
 use Rattle.list_mgr.specs.ListSteps.{IsListChanged, with_grid}
 use Rattle.list_mgr.specs.Spots.{IsSpot, IsSpotOf}
 use Rattle.list_mgr.specs.WholeLists.{AreBeside, IsChangedOver, IsSettledList, records_of}
+use Rattle.list_mgr.specs.Within.{IsSameOutside, IsWhereRight}
 use Rattle.list_mgr.proofs.Becoming.{MayBecome, MayBecomeWider, IsSettledBut, grid_settles, grid_stays}
 use Rattle.list_mgr.proofs.Changed.{beside_after, cells_kept, cells_written, changed_over, grid_keeps, grid_or_not, mark_after, same_item, spot_after}
 use Rattle.list_mgr.proofs.Drawn.{settled_there}
@@ -70,8 +72,8 @@ module _ {V : Type 0} {H : V → Type 0} (loan : Taken V H → Loan) {X : Type 0
     pub mark_so : (mark : Option Pixels) → IsMark list_loan loan t m s mark → IsMark list_loan loan t n s mark
     mark_so mark marked = mark_after loan list_loan l t m n s is (with_grid g) (grid_keeps g) (edited g cells now) refl stays (λ y. refl) mark marked
 
-    pub changed_so : (mark : Option Pixels) (changes : Bool) → IsMark list_loan loan t m s mark → IsSameOrNot changes (g x.cells) x.cells
-        → (u : WindowManager V H) → IsShownOrMarked list_loan loan mark changes s n t u → IsChangedOver list_loan loan (IsListChanged l (with_grid g)) t m u n
-    changed_so mark changes marked agree u shown =
-        changed_over loan list_loan l t m n s is (with_grid g) (grid_keeps g) (edited g cells now) refl stays mark changes marked
+    pub changed_so : (within : Rect) → (IsSettledList (seen list_loan x) → IsSameOutside within (seen list_loan x) (with_grid g (seen list_loan x))) → (mark : Option Pixels) (changes : Bool) → IsMark list_loan loan t m s mark → IsSameOrNot changes (g x.cells) x.cells
+        → (u : WindowManager V H) → IsShownOrMarked list_loan loan within mark changes s n t u → IsChangedOver list_loan loan (IsWhereRight (IsListChanged l (with_grid g))) t m u n
+    changed_so within outside mark changes marked agree u shown =
+        changed_over loan list_loan l t m n s is (with_grid g) (grid_keeps g) (edited g cells now) refl stays within (of_read (λ y. IsSettledList y → IsSameOutside within y (with_grid g y)) outside) mark changes marked
         (of_read (λ y. IsSameOrNot changes (with_grid g y) y) (grid_or_not changes g (seen list_loan x) agree)) u shown

@@ -1,5 +1,6 @@
 -- Lemmas on the lists of a desk: the steps of calls, where a list stands, what is asked about it, what lists show, and what holds
--- where one of them is changed, shown anew, marked, toggled and clicked, and where one is made.
+-- where one of them is changed, shown anew, marked, toggled and clicked, what it shows outside of that and before lines that come or go,
+-- and where one is made.
 pub mod Steps
 pub mod Places
 pub mod Drawn
@@ -43,6 +44,9 @@ pub mod ListFacts
 pub mod GivenBars
 pub mod ListsLeft
 pub mod Numbers
+pub mod Outside
+pub mod LinesFrom
+pub mod LinesShown
 pub mod Judged
 pub mod Offered
 pub mod MadeSteps

@@ -1,5 +1,5 @@
 -- What calls answer that add, delete or scroll: refused, without memory, and answered.
-use Rattle.std.proofs.Common.{◌≡◌, ◌∙◌, ap, sym, refl, Bool, true, List, get_or, None, Some, Result, Ok, Err}
+use Rattle.std.proofs.Common.{◌≡◌, ◌∙◌, ap, sym, refl, Bool, true, List, get_or, Option, None, Some, Result, Ok, Err}
 use Rattle.std.specs.Option.{option_map_or}
 use Rattle.tb_geom.specs.declared.refusal.Refusal.{Refusal}
 use Rattle.tb_geom.specs.declared.refusal.Refusal.TheVariants.{NoMemory}
@@ -28,9 +28,14 @@ use Rattle.list_mgr.specs.ListRefusals.{list_reasons, list_refusals, may_list_gr
 use Rattle.list_mgr.specs.ListSteps.{IsListEffect, IsListStep, IsRelined, told_of}
 use Rattle.list_mgr.specs.Spots.{IsSpotOf}
 use Rattle.list_mgr.specs.WholeLists.{LeavesLists, list_desk, lists_state, records_of}
-use Rattle.list_mgr.proofs.Changed.{refused_over, short_over}
+use Rattle.list_mgr.specs.Within.{IsWhereRight}
+use Rattle.list_mgr.proofs.Changed.{refused_over_right, short_over_right}
 use Rattle.list_mgr.proofs.Relined.{leaves_as, leaves_controls}
 use Rattle.list_mgr.proofs.Steps.{IsTold, its_reasons, list_named, list_read}
+
+-- what refuses nothing refuses nothing later
+pub none_refused : (o p : Option Refusal) (e : Refusal) → None ≡ o → o ≡ p → p ≡ Some e → ⊥
+none_refused o p e a b c = let both : None ≡ Some e = a ∙ b ∙ c in absurd (cc)
 
 module _ {V : Type 0} {H : V → Type 0} (loan : Taken V H → Loan) {X : Type 0} {L : X → Type 0} (list_loan : TakenList X L → ListLoan) where
   -- ---- what is told of a list that is there
@@ -51,22 +56,22 @@ module _ {V : Type 0} {H : V → Type 0} (loan : Taken V H → Loan) {X : Type 0
 
   module _ {W : Type 0} {K : W → Type 0} (control_loan : TakenControl W K → ControlLoan) (call : ListCall) (t : WindowManager V H) (m : Lists (TakenList X L)) (c : Controls (TakenControl W K)) where
     pub refused_lines : (result : Result ListReply Refusal) (e : Refusal) → result ≡ Err e → IsTold loan list_loan call t m (λ why. first_refusal why ≡ Some e)
-        → LeavesLists list_loan loan control_loan (IsListStep call result) t c m t c m
-    refused_lines result e is why = leaves_controls loan list_loan control_loan (IsListStep call result) t t m m c (refused_over loan list_loan t m m refl refl call result e is why)
+        → LeavesLists list_loan loan control_loan (IsWhereRight (IsListStep call result)) t c m t c m
+    refused_lines result e is why = leaves_controls loan list_loan control_loan (IsWhereRight (IsListStep call result)) t t m m c (refused_over_right loan list_loan t m m refl refl call result e is why)
 
     pub short_lines : (n : Lists (TakenList X L)) → records_of list_loan n ≡ records_of list_loan m → n.list.next ≡ m.list.next → (result : Result ListReply Refusal) (e : Refusal) → result ≡ Err e → e ≡ NoMemory
         → ((kept : List ListSlot) → may_list_grow call (lists_state list_loan m kept) ≡ true) → IsTold loan list_loan call t m (λ why. first_refusal why ≡ None)
-        → LeavesLists list_loan loan control_loan (IsListStep call result) t c m t c n
+        → LeavesLists list_loan loan control_loan (IsWhereRight (IsListStep call result)) t c m t c n
     short_lines n same next result e is memory grows why =
-        leaves_controls loan list_loan control_loan (IsListStep call result) t t m n c (short_over loan list_loan t m n same next call result e is memory grows why)
+        leaves_controls loan list_loan control_loan (IsWhereRight (IsListStep call result)) t t m n c (short_over_right loan list_loan t m n same next call result e is memory grows why)
 
     pub relined_lines : (l : ListOf) (f : KeptList → KeptList) (answer : ListReply) (u : WindowManager V H) (d : Controls (TakenControl W K)) (n : Lists (TakenList X L))
         → IsTold loan list_loan call t m (λ why. first_refusal why ≡ None)
         → ((before after : ListDesk) → before.lists.lists ≡ records_of list_loan m → IsRelined l f before after → IsListEffect call answer before after)
-        → LeavesLists list_loan loan control_loan (IsRelined l f) t c m u d n → LeavesLists list_loan loan control_loan (IsListStep call (Ok answer)) t c m u d n
+        → LeavesLists list_loan loan control_loan (IsWhereRight (IsRelined l f)) t c m u d n → LeavesLists list_loan loan control_loan (IsWhereRight (IsListStep call (Ok answer))) t c m u d n
     relined_lines l f answer u d n why effect =
-        leaves_as loan list_loan control_loan (IsRelined l f) (IsListStep call (Ok answer)) t u m n c d
-        (λ o slots held kept done. (
+        leaves_as loan list_loan control_loan (IsWhereRight (IsRelined l f)) (IsWhereRight (IsListStep call (Ok answer))) t u m n c d
+        (λ o slots held kept done right. (
           why o slots (controls_state control_loan c held) kept,
-          effect (list_desk list_loan loan t o slots (controls_state control_loan c held) m kept) (list_desk list_loan loan u o slots (controls_state control_loan d held) n kept) refl done,
+          effect (list_desk list_loan loan t o slots (controls_state control_loan c held) m kept) (list_desk list_loan loan u o slots (controls_state control_loan d held) n kept) refl (done right),
         ))

@@ -2,6 +2,7 @@
 use Rattle.std.proofs.Common.{◌≡◌, ℕ, ◌<◌, ◌&&◌, ◌||◌, not, Bool, true, false, if◌then◌else◌, List, length, get_or, refl, sym, ap, ◌∙◌, subst}
 use Rattle.std.proofs.lemmas.Bool.{false≢true}
 use Rattle.tb_geom.specs.declared.point.Point.{Point}
+use Rattle.tb_geom.specs.declared.rect.Rect.{Rect}
 use Rattle.tb_geom.specs.Points.{PixelSet, minus}
 use Rattle.tb_geom.specs.Pixels.{Pixels, holds}
 use Rattle.def_iface.specs.declared.part.Part.{Part}
@@ -25,7 +26,6 @@ use Rattle.window_mgr.specs.Edits.{IsWindowAt}
 use Rattle.window_mgr.specs.FullDesk.{FullDesk, FullState, layered_desk, layered_state}
 use Rattle.window_mgr.specs.Kept.{IsKept}
 use Rattle.window_mgr.specs.Records.{desk_of, desk_showing, state_of, state_showing}
-use Rattle.window_mgr.specs.Relayered.{IsLayerRedrawn}
 use Rattle.window_mgr.specs.Updating.{IsRemarked, LeavesState}
 use Rattle.window_mgr.specs.Whole.{IsWholeManager}
 use Rattle.window_mgr.proofs.LayerThere as there
@@ -35,6 +35,7 @@ use Rattle.window_mgr.proofs.UpdateSteps.{added_is_changed, adding, remarked_sho
 use Rattle.control_mgr.proofs.Reshown.{redrawn_reshown}
 use Rattle.list_mgr.specs.Changing.{LeavesShown}
 use Rattle.list_mgr.specs.ListSteps.{IsLayerMarked}
+use Rattle.list_mgr.specs.Within.{IsPartDrawnWithin}
 
 -- ---- what is put into update sets, whatever controls and lists showed before
 
@@ -104,12 +105,16 @@ module _ {V : Type 0} {H : V → Type 0} (loan : Taken V H → Loan) (t : Window
 -- ---- a part that was shown anew, where controls and lists show together what that showed by itself
 
 module _ {V : Type 0} {H : V → Type 0} (loan : Taken V H → Loan) where
-  pub leaves_redrawn : {X : Type 0} {L : X → Type 0} (list_loan : TakenList X L → ListLoan) (t u : WindowManager V H) (s : ℕ) (q : Part) (f was is : List ℕ → Part → PixelSet) → LeavesShown list_loan loan (IsLayerRedrawn s q) was f t u
-      → ((p : Point) → is t.font q p ≡ f t.font q p) → LeavesShown list_loan loan (IsLayerRedrawn s q) was is t u
-  leaves_redrawn list_loan t u s q f was is leaves same slots whole =
+  pub leaves_redrawn : {X : Type 0} {L : X → Type 0} (list_loan : TakenList X L → ListLoan) (t u : WindowManager V H) (s : ℕ) (q : Part) (within : Rect) (f was is : List ℕ → Part → PixelSet) → LeavesShown list_loan loan (IsPartDrawnWithin within s q) was f t u
+      → ((p : Point) → is t.font q p ≡ f t.font q p) → LeavesShown list_loan loan (IsPartDrawnWithin within s q) was is t u
+  leaves_redrawn list_loan t u s q within f was is leaves same slots whole =
       let left = leaves slots whole in
-      let fonts : u.font ≡ t.font = ap (λ (d : FullDesk). d.font) left.1.desk in (
+      let fonts : u.font ≡ t.font = ap (λ (d : FullDesk). d.font) left.1.desk in
+      let shown : (p : Point) → is u.font q p ≡ f u.font q p = λ p. subst (λ font. is font q p ≡ f font q p) (sym fonts) (same p) in (
         left.0,
-        redrawn_reshown f is (state_of loan u slots) left.0.sound.distinct s q (state_showing was (state_of loan t slots))
-            (λ p. sym (subst (λ font. is font q p ≡ f font q p) (sym fonts) (same p))) left.1,
+        record {
+          desk = ap (λ (d : FullDesk). record d { shows = is u.font }) left.1.desk;
+          redrawn = λ right outside. redrawn_reshown f is (state_of loan u slots) left.0.sound.distinct s q (state_showing was (state_of loan t slots))
+              (λ p. sym (shown p)) (left.1.redrawn right (λ p out. sym (shown p) ∙ outside p out));
+        },
       )

@@ -1,9 +1,10 @@
 -- A list that was changed where it stands, shown or marked, and its scroll bars set after it: what that leaves.
 use Rattle.std.proofs.Common.{◌≡◌, ℕ, ◌<◌, Bool, true, false, List, [], length, Option, Some, None, refl, sym, ap, ◌∙◌, subst}
 use Rattle.std.specs.Prelude.{map, slice_get}
-use Rattle.std.specs.Option.{option_map}
+use Rattle.std.specs.Option.{option_and_then, option_map}
 use Rattle.std.proofs.lemmas.Option.{slice_get-map}
 use Rattle.std.proofs.lemmas.List.{length-map}
+use Rattle.tb_geom.specs.declared.rect.Rect.{Rect}
 use Rattle.tb_geom.specs.Pixels.{Pixels}
 use Rattle.def_iface.specs.declared.taken.Taken.{Taken}
 use Rattle.def_iface.specs.declared.taken_control.TakenControl.{TakenControl}
@@ -36,8 +37,10 @@ use Rattle.list_mgr.specs.ListDesks.{KeptList, ListDesk, ListSlot, lists_show}
 use Rattle.list_mgr.specs.ListSteps.{AreBarsSet, IsListChanged, IsRelined}
 use Rattle.list_mgr.specs.Spots.{IsSpot, IsSpotOf}
 use Rattle.list_mgr.specs.WholeLists.{AreBeside, AreWholeLists, IsChangedOver, IsSettledList, LeavesLists, list_desk, lists_state, records_of}
+use Rattle.list_mgr.specs.Within.{IsSameOutside, IsWhereRight}
 use Rattle.list_mgr.proofs.Changed.{beside_after, changed_over, mark_after, spot_after, spot_of_after}
 use Rattle.list_mgr.proofs.Edited.{Keeps}
+use Rattle.list_mgr.proofs.ListsKept.{IsRightLists, changed_keeps}
 use Rattle.list_mgr.proofs.Steps.{list_there}
 
 -- ---- windows whose records are the same
@@ -58,18 +61,18 @@ stands_alike loan ws vs same s i stands =
 
 module _ {V : Type 0} {H : V → Type 0} (loan : Taken V H → Loan) {X : Type 0} {L : X → Type 0} (list_loan : TakenList X L → ListLoan) where
   -- what shows a list or marks it keeps the windows' records
-  shown_windows : (mark : Option Pixels) (changes : Bool) (s : Spot) (m : Lists (TakenList X L)) (t u : WindowManager V H) → IsShownOrMarked list_loan loan mark changes s m t u
+  shown_windows : (within : Rect) (mark : Option Pixels) (changes : Bool) (s : Spot) (m : Lists (TakenList X L)) (t u : WindowManager V H) → IsShownOrMarked list_loan loan within mark changes s m t u
       → (x : KeptList) → slice_get (records_of list_loan m) s.list ≡ Some x → (slots : List SlotView) → IsWholeManager loan t slots
       → IsWholeManager loan u slots × ((desk_of loan u []).windows ≡ (desk_of loan t []).windows)
-  shown_windows None changes s m t u shown x there slots whole =
+  shown_windows within None changes s m t u shown x there slots whole =
       let shows = lists_show (records_of list_loan m) in
       let left = shown x there shows shows (λ p. refl) slots whole in
       (left.0, ap (λ (d : FullDesk). d.windows) left.1.desk)
-  shown_windows (Some update) true s m t u marked x there slots whole =
+  shown_windows within (Some update) true s m t u marked x there slots whole =
       let shows = lists_show (records_of list_loan m) in
       let left = marked x there shows shows slots whole in
       (left.0, ap (λ (d : FullDesk). d.windows) left.1.desk)
-  shown_windows (Some update) false s m t u same x there slots whole =
+  shown_windows within (Some update) false s m t u same x there slots whole =
       subst (λ v. IsWholeManager loan v slots × ((desk_of loan v []).windows ≡ (desk_of loan t []).windows)) (sym same) (whole, refl)
 
   module _ (t u : WindowManager V H) (same : (desk_of loan u []).windows ≡ (desk_of loan t []).windows) (m : Lists (TakenList X L)) where
@@ -88,9 +91,9 @@ module _ {V : Type 0} {H : V → Type 0} (loan : Taken V H → Loan) {X : Type 0
   -- ---- once a list was shown or marked
 
   module _ (t u : WindowManager V H) (m : Lists (TakenList X L)) (s : Spot) (spot : IsSpot loan list_loan t m s) (kept : IsKept loan t)
-      (mark : Option Pixels) (changes : Bool) (shown : IsShownOrMarked list_loan loan mark changes s m t u) where
+      (within : Rect) (mark : Option Pixels) (changes : Bool) (shown : IsShownOrMarked list_loan loan within mark changes s m t u) where
     left : IsWholeManager loan u kept.slots × ((desk_of loan u []).windows ≡ (desk_of loan t []).windows)
-    left = let its = list_there loan list_loan spot.of t m s spot.is in shown_windows mark changes s m t u shown its.item its.there kept.slots kept.whole
+    left = let its = list_there loan list_loan spot.of t m s spot.is in shown_windows within mark changes s m t u shown its.item its.there kept.slots kept.whole
 
     pub kept_shown : IsKept loan u
     kept_shown = record { slots = kept.slots; whole = left.0 }
@@ -129,28 +132,37 @@ module _ {V : Type 0} {H : V → Type 0} (loan : Taken V H → Loan) {X : Type 0
     mark_changed = mark_after loan list_loan l t m n s change.is f change.keeps change.edited change.next change.stays change.draws
 
     -- the change shown or marked, and the bars set after it
-    pub relined_over : {W : Type 0} {K : W → Type 0} (control_loan : TakenControl W K → ControlLoan) (mark : Option Pixels) (changes : Bool) → IsMark list_loan loan t m s mark
-        → ((x : KeptList) → slice_get (records_of list_loan m) s.list ≡ Some x → IsSameOrNot changes (f x) x)
-        → (u : WindowManager V H) (c d : Controls (TakenControl W K)) → IsShownWithBars control_loan loan list_loan mark changes s n t c u d
-        → LeavesLists list_loan loan control_loan (IsRelined l f) t c m u d n
-    relined_over control_loan mark changes marked agree u c d shown held kept o slots whole controls lists =
+    pub relined_over : {W : Type 0} {K : W → Type 0} (control_loan : TakenControl W K → ControlLoan) (within : Rect) → ((x : KeptList) → slice_get (records_of list_loan m) s.list ≡ Some x → IsSettledList x → IsSameOutside within x (f x))
+        → (mark : Option Pixels) (changes : Bool) → IsMark list_loan loan t m s mark → ((x : KeptList) → slice_get (records_of list_loan m) s.list ≡ Some x → IsSameOrNot changes (f x) x)
+        → (u : WindowManager V H) (c d : Controls (TakenControl W K)) → IsShownWithBars control_loan loan list_loan within mark changes s n t c u d
+        → LeavesLists list_loan loan control_loan (IsWhereRight (IsRelined l f)) t c m u d n
+    relined_over control_loan within outside mark changes marked agree u c d shown held kept o slots whole controls lists =
         by_shown (shown l (spot_of_after loan list_loan l t m n s change.is f change.keeps change.edited change.next change.stays))
       where
-        by_changed : (mid : WindowManager V H) → LeavesLists list_loan loan control_loan (AreBarsSet l) mid c n u d n
+        by_changed : (mid : WindowManager V H) → LeavesLists list_loan loan control_loan (IsWhereRight (AreBarsSet l)) mid c n u d n
             → IsWholeManager loan mid slots × ((desk_of loan mid []).windows ≡ (desk_of loan t []).windows) × AreWholeLists (desk_of loan mid []).windows (lists_state list_loan n kept)
-            × IsListChanged l f (list_desk list_loan loan t o slots (controls_state control_loan c held) m kept) (list_desk list_loan loan mid o slots (controls_state control_loan c held) n kept)
+            × IsWhereRight (IsListChanged l f) (list_desk list_loan loan t o slots (controls_state control_loan c held) m kept) (list_desk list_loan loan mid o slots (controls_state control_loan c held) n kept)
             → IsWholeManager loan u slots × AreWholeControls (desk_of loan u []).windows (controls_state control_loan d held) × AreWholeLists (desk_of loan u []).windows (lists_state list_loan n kept)
-            × IsRelined l f (list_desk list_loan loan t o slots (controls_state control_loan c held) m kept) (list_desk list_loan loan u o slots (controls_state control_loan d held) n kept)
+            × IsWhereRight (IsRelined l f) (list_desk list_loan loan t o slots (controls_state control_loan c held) m kept) (list_desk list_loan loan u o slots (controls_state control_loan d held) n kept)
         by_changed mid bars (whole_mid, windows, lists_mid, changed) =
             let set = bars held kept o slots whole_mid (subst (λ ws. AreWholeControls ws (controls_state control_loan c held)) (sym windows) controls) lists_mid in
-            (set.0, set.1, set.2, (list_desk list_loan loan mid o slots (controls_state control_loan c held) n kept, changed, set.3))
+            let before = list_desk list_loan loan t o slots (controls_state control_loan c held) m kept in
+            let between = list_desk list_loan loan mid o slots (controls_state control_loan c held) n kept in (
+              set.0,
+              set.1,
+              set.2,
+              λ right.
+                  let then : IsRightLists between = changed_keeps before between (record { desk = record { right = right; shows = refl; whole = controls }; lists = lists })
+                  l f change.keeps (λ x named. change.stays x (ap (λ o. option_and_then (slice_get (records_of list_loan m)) o) (sym change.is.list) ∙ named)) (changed right) in
+                  (between, changed right, set.3 then.desk.right),
+            )
 
-        by_shown : (mid : WindowManager V H) × IsShownOrMarked list_loan loan mark changes s n t mid × LeavesLists list_loan loan control_loan (AreBarsSet l) mid c n u d n
+        by_shown : (mid : WindowManager V H) × IsShownOrMarked list_loan loan within mark changes s n t mid × LeavesLists list_loan loan control_loan (IsWhereRight (AreBarsSet l)) mid c n u d n
             → IsWholeManager loan u slots × AreWholeControls (desk_of loan u []).windows (controls_state control_loan d held) × AreWholeLists (desk_of loan u []).windows (lists_state list_loan n kept)
-            × IsRelined l f (list_desk list_loan loan t o slots (controls_state control_loan c held) m kept) (list_desk list_loan loan u o slots (controls_state control_loan d held) n kept)
+            × IsWhereRight (IsRelined l f) (list_desk list_loan loan t o slots (controls_state control_loan c held) m kept) (list_desk list_loan loan u o slots (controls_state control_loan d held) n kept)
         by_shown (mid, is_shown, bars) =
             by_changed mid bars
-            (changed_over loan list_loan l t m n s change.is f change.keeps change.edited change.next change.stays mark changes marked agree mid is_shown o slots (controls_state control_loan c held) kept whole lists)
+            (changed_over loan list_loan l t m n s change.is f change.keeps change.edited change.next change.stays within outside mark changes marked agree mid is_shown o slots (controls_state control_loan c held) kept whole lists)
 
 -- ---- steps that leave controls
 

@@ -3,7 +3,9 @@ use Rattle.std.proofs.Common.{◌≡◌, ℕ, ◌<◌, ◌≤◌, Bool, true, fa
 use Rattle.std.specs.Prelude.{slice_get}
 use Rattle.std.proofs.lemmas.Bool.{true≢false}
 use Rattle.std.proofs.lemmas.List.{ext_get_or}
+use Rattle.tb_geom.specs.declared.rect.Rect.{Rect}
 use Rattle.tb_geom.specs.Pixels.{Pixels}
+use Rattle.tb_geom.specs.Rects.{empty_rect}
 use Rattle.def_iface.specs.declared.part.Part.TheVariants as part
 use Rattle.def_iface.specs.declared.taken.Taken.{Taken}
 use Rattle.def_iface.specs.declared.taken_list.TakenList.{TakenList}
@@ -39,7 +41,7 @@ use Rattle.list_mgr.specs.ListSteps.{IsListChanged, IsSeenOrNot, IsSelectionChan
 use Rattle.list_mgr.specs.Spots.{IsSpotOf}
 use Rattle.list_mgr.specs.WholeLists.{IsChangedOver, count_selected, list_desk, lists_state, records_of, AreWholeLists}
 use Rattle.list_mgr.proofs.Becoming.{MayBecomeWider}
-use Rattle.list_mgr.proofs.Changed.{changed_as, changed_over, changed_to, grid_keeps, grid_or_not, same_item, whole_after}
+use Rattle.list_mgr.proofs.Changed.{changed_as, changed_to, grid_keeps, grid_or_not, marked_over, same_item, whole_after}
 use Rattle.list_mgr.proofs.Edited.{there_edited}
 use Rattle.list_mgr.proofs.Given.{edited, of_read, stays, with_cells_there}
 use Rattle.list_mgr.proofs.Places.{found_names}
@@ -98,7 +100,11 @@ module _ {V : Type 0} {H : V → Type 0} (loan : Taken V H → Loan) {X : Type 0
   either true other = λ same. other (sym same ∙ sym said)
   either false same = sym said ∙ sym same
 
-  marked_or_not : (update : Pixels) (changes : Bool) (u : WindowManager V H) → IsMarkedIf list_loan loan changes y t u → IsShownOrMarked list_loan loan (Some update) changes s n t u
+  -- no rectangle is drawn within where something is marked
+  abbrev all : Rect
+  all = empty_rect
+
+  marked_or_not : (update : Pixels) (changes : Bool) (u : WindowManager V H) → IsMarkedIf list_loan loan changes y t u → IsShownOrMarked list_loan loan all (Some update) changes s n t u
   marked_or_not update true u marked = λ z z_there.
       subst (λ k. IsListMarkedBy list_loan loan k t u)
       (same_item (records_of list_loan n) s.list (with_grid g y) z
@@ -162,6 +168,6 @@ module _ {V : Type 0} {H : V → Type 0} (loan : Taken V H → Loan) {X : Type 0
       by_change : (changes : Bool) × IsChange changes x.cells (selected_by selecting x.cells) × IsMarkedIf list_loan loan changes y t u → IsChangedOver list_loan loan (IsSelectionChanged l h) t m u n
       by_change (changes, change, marked) =
           changed_as loan list_loan t u m n (IsListChanged l (with_grid g)) (IsSelectionChanged l h) convert
-          (changed_over loan list_loan l t m n s is (with_grid g) (grid_keeps g) (edited loan list_loan l t m s is x read g cells now) refl (stays loan list_loan l t m s is x read g cells now good)
-          (Some update) changes ((z, there, off), region)
+          (marked_over loan list_loan l t m n s is (with_grid g) (grid_keeps g) (edited loan list_loan l t m s is x read g cells now) refl (stays loan list_loan l t m s is x read g cells now good)
+          all update changes ((z, there, off), region)
           (of_read loan list_loan l t m s is x read (λ k. IsSameOrNot changes (with_grid g k) k) (grid_or_not changes g y (either changes change))) u (marked_or_not update changes u marked))

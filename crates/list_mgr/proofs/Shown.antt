@@ -2,6 +2,7 @@
 use Rattle.std.proofs.Common.{◌≡◌, ℕ, ◌<◌, ◌&&◌, ◌||◌, List, length, get_or, Some, sym, ap, ◌∙◌, subst}
 use Rattle.std.specs.Prelude.{slice_get}
 use Rattle.tb_geom.specs.declared.point.Point.{Point}
+use Rattle.tb_geom.specs.declared.rect.Rect.{Rect}
 use Rattle.tb_geom.specs.Points.{PixelSet, minus}
 use Rattle.tb_geom.specs.Pixels.{Pixels, holds}
 use Rattle.def_iface.specs.declared.part.Part.{Part}
@@ -17,21 +18,27 @@ use Rattle.vis_update.specs.declared.area.Area.{Area}
 use Rattle.window_list.specs.declared.window.Window.{Window}
 use Rattle.window_mgr.specs.declared.manager.WindowManager.{WindowManager}
 use Rattle.window_mgr.specs.Edits.{IsWindowAt}
+use Rattle.window_mgr.specs.FullDesk.{FullState}
 use Rattle.window_mgr.specs.Records.{state_of, state_showing}
-use Rattle.window_mgr.specs.Relayered.{IsLayerRedrawn, IsLayerToggled}
+use Rattle.window_mgr.specs.Relayered.{IsLayerDrawnWithin, IsLayerToggled}
 use Rattle.window_mgr.specs.Updating.{IsRemarked, LeavesState}
 use Rattle.window_mgr.specs.Whole.{IsWholeManager}
 use Rattle.control_mgr.proofs.Lays.{one_item}
 use Rattle.control_mgr.proofs.Places.{IsThere, read_is, there_is}
 use Rattle.list_mgr.specs.declared.lists.Lists.{Lists}
 use Rattle.list_mgr.specs.declared.spots.Spot.{Spot}
-use Rattle.list_mgr.specs.Changing.{IsItsLayer, IsListMarkedBy, IsMarkedRegion, IsShownAnewBy, LeavesShown}
+use Rattle.list_mgr.specs.Changing.{IsItsLayer, IsListMarkedBy, IsDrawnBy, IsMarkedRegion, LeavesShown}
 use Rattle.list_mgr.specs.ListDesks.{KeptList, lists_show}
 use Rattle.list_mgr.specs.Spots.{IsSpot}
 use Rattle.list_mgr.specs.WholeLists.{records_of}
+use Rattle.list_mgr.specs.Within.{IsPartDrawnWithin}
 use Rattle.list_mgr.proofs.Marked.{leaves_marked, leaves_redrawn}
 use Rattle.list_mgr.proofs.Places.{names}
 use Rattle.list_mgr.proofs.Steps.{list_there}
+
+-- a layer that was drawn within a rectangle is a part that was
+of_layer : (within : Rect) (s : ℕ) (l : Layer) (before after : FullState) → IsLayerDrawnWithin within s l before after → IsPartDrawnWithin within s l.part before after
+of_layer within s l before after drawn = record { desk = drawn.desk; redrawn = λ right same. drawn.redrawn right (λ p has out. same p out) }
 
 module _ {V : Type 0} {H : V → Type 0} (loan : Taken V H → Loan) {X : Type 0} {L : X → Type 0} (list_loan : TakenList X L → ListLoan)
     (t : WindowManager V H) (m : Lists (TakenList X L)) (s : Spot) (spot : IsSpot loan list_loan t m s) where
@@ -65,24 +72,25 @@ module _ {V : Type 0} {H : V → Type 0} (loan : Taken V H → Loan) {X : Type 0
         let read : k.item ≡ get_or v.layers.layers layer k.item = read_is v.layers.layers layer k.item k.there in
         owned k.item read p ∙ ap (λ q. belongs_to q v.layers.layers (minus p v.layers.place)) (its_part v.layers.layers layer its k.item read)
 
-    -- where its layer was redrawn it was shown anew
-    pub shown_anew : (layer : ℕ) → ((w : Window V H) → IsWindowAt t.windows.records.items s.window w → IsItsLayer list_loan m s w.layers.layers layer) → (u : WindowManager V H)
+    -- where its layer was drawn within a rectangle it was
+    pub drawn_by : (within : Rect) (layer : ℕ) → ((w : Window V H) → IsWindowAt t.windows.records.items s.window w → IsItsLayer list_loan m s w.layers.layers layer) → (u : WindowManager V H)
         → ((w : Window V H) → IsWindowAt t.windows.records.items s.window w → (l : Layer) → l ≡ get_or w.layers.layers layer l → (was : List ℕ → Part → PixelSet) (slots : List SlotView)
         → IsWholeManager loan t slots → IsWholeManager loan u slots
-        × IsLayerRedrawn w.serial l.part (state_showing was (state_of loan t slots)) (state_showing (lists_show (records_of list_loan m)) (state_of loan u slots)))
-        → IsShownAnewBy list_loan loan m x t u
-    shown_anew layer layers u redrawn was is same =
+        × IsLayerDrawnWithin within w.serial l (state_showing was (state_of loan t slots)) (state_showing (lists_show (records_of list_loan m)) (state_of loan u slots)))
+        → IsDrawnBy list_loan loan within m x t u
+    drawn_by within layer layers u redrawn was is same =
         let w : Window V H = window.item in
         let its = layers w lies in
         let k = there_is w.layers.layers layer its.low in
         let read : k.item ≡ get_or w.layers.layers layer k.item = read_is w.layers.layers layer k.item k.there in
         let shows = lists_show (records_of list_loan m) in
-        leaves_redrawn loan list_loan t u x.window (part.List x.serial) shows was is
+        leaves_redrawn loan list_loan t u x.window (part.List x.serial) within shows was is
         (λ slots whole.
         let left = redrawn w lies k.item read was slots whole in (
           left.0,
-          subst (λ n. IsLayerRedrawn n (part.List x.serial) (state_showing was (state_of loan t slots)) (state_showing shows (state_of loan u slots))) (in_window window.item lies)
-              (subst (λ q. IsLayerRedrawn w.serial q (state_showing was (state_of loan t slots)) (state_showing shows (state_of loan u slots))) (its_part w.layers.layers layer its k.item read) left.1),
+          subst (λ n. IsPartDrawnWithin within n (part.List x.serial) (state_showing was (state_of loan t slots)) (state_showing shows (state_of loan u slots))) (in_window window.item lies)
+              (subst (λ q. IsPartDrawnWithin within w.serial q (state_showing was (state_of loan t slots)) (state_showing shows (state_of loan u slots))) (its_part w.layers.layers layer its k.item read)
+              (of_layer within w.serial k.item _ _ left.1)),
         ))
         same
 

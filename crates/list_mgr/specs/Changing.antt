@@ -1,6 +1,7 @@
 -- How what changes of a list is shown, as the code does it.
 use Rattle.std.specs.Prelude.{◌≡◌, ◌<◌, ℕ, Bool, true, false, ◌&&◌, ◌||◌, List, length, Option, None, Some, slice_get, slice_index_or}
 use Rattle.tb_geom.specs.declared.point.Point.{Point}
+use Rattle.tb_geom.specs.declared.rect.Rect.{Rect}
 use Rattle.tb_geom.specs.Points.{PixelSet, minus}
 use Rattle.tb_geom.specs.Pixels.{Pixels, holds}
 use Rattle.def_iface.specs.declared.part.Part.{Part}
@@ -22,13 +23,14 @@ use Rattle.window_mgr.specs.declared.manager.WindowManager.{WindowManager}
 use Rattle.window_mgr.specs.Edits.{IsWindowAt}
 use Rattle.window_mgr.specs.FullDesk.{FullState}
 use Rattle.window_mgr.specs.Records.{state_of, state_showing}
-use Rattle.window_mgr.specs.Relayered.{IsLayerRedrawn, IsLayerToggled}
+use Rattle.window_mgr.specs.Relayered.{IsLayerToggled}
 use Rattle.window_mgr.specs.Whole.{IsWholeManager}
 use Rattle.list_mgr.specs.declared.lists.Lists.{Lists}
 use Rattle.list_mgr.specs.declared.spots.Spot.{Spot}
 use Rattle.list_mgr.specs.ListDesks.{KeptList, lists_show}
 use Rattle.list_mgr.specs.ListSteps.{IsLayerMarked, IsLayerOf}
 use Rattle.list_mgr.specs.WholeLists.{records_of}
+use Rattle.list_mgr.specs.Within.{IsPartDrawnWithin}
 
 -- a change made another thing of one, or the same
 abbrev pub IsSameOrNot : {X : Type 0} → Bool → X → X → Type 0
@@ -70,21 +72,21 @@ module _ {X : Type 0} {L : X → Type 0} (list_loan : TakenList X L → ListLoan
     LeavesShown step was is t u = (slots : List SlotView) → IsWholeManager loan t slots
         → IsWholeManager loan u slots × step (state_showing was (state_of loan t slots)) (state_showing is (state_of loan u slots))
 
-    -- what it leaves of the windows that the list x, which may have changed, is shown anew
-    abbrev pub IsShownAnewBy : Lists (TakenList X L) → KeptList → WindowManager V H → WindowManager V H → Type 0
-    IsShownAnewBy m x t u = (was is : List ℕ → Part → PixelSet)
+    -- what it leaves of the windows that the list x, which may have changed, is drawn within a rectangle of its window
+    abbrev pub IsDrawnBy : Rect → Lists (TakenList X L) → KeptList → WindowManager V H → WindowManager V H → Type 0
+    IsDrawnBy within m x t u = (was is : List ℕ → Part → PixelSet)
         → ((p : Point) → is t.font (part.List x.serial) p ≡ lists_show (records_of list_loan m) t.font (part.List x.serial) p)
-        → LeavesShown (IsLayerRedrawn x.window (part.List x.serial)) was is t u
+        → LeavesShown (IsPartDrawnWithin within x.window (part.List x.serial)) was is t u
 
     -- what it leaves of them that all that the list owns is to be redrawn
     abbrev pub IsListMarkedBy : KeptList → WindowManager V H → WindowManager V H → Type 0
     IsListMarkedBy x t u = (was is : List ℕ → Part → PixelSet) → LeavesShown (IsLayerMarked x.window (part.List x.serial)) was is t u
 
-    -- the list that stands here was shown anew, or marked where its drawing is off and something of it changes
-    abbrev pub IsShownOrMarked : Option Pixels → Bool → Spot → Lists (TakenList X L) → WindowManager V H → WindowManager V H → Type 0
-    IsShownOrMarked None changes s m t u = (x : KeptList) → slice_get (records_of list_loan m) s.list ≡ Some x → IsShownAnewBy m x t u
-    IsShownOrMarked (Some update) true s m t u = (x : KeptList) → slice_get (records_of list_loan m) s.list ≡ Some x → IsListMarkedBy x t u
-    IsShownOrMarked (Some update) false s m t u = u ≡ t
+    -- the list that stands here was drawn within the rectangle, or marked where its drawing is off and something of it changes
+    abbrev pub IsShownOrMarked : Rect → Option Pixels → Bool → Spot → Lists (TakenList X L) → WindowManager V H → WindowManager V H → Type 0
+    IsShownOrMarked within None changes s m t u = (x : KeptList) → slice_get (records_of list_loan m) s.list ≡ Some x → IsDrawnBy within m x t u
+    IsShownOrMarked within (Some update) true s m t u = (x : KeptList) → slice_get (records_of list_loan m) s.list ≡ Some x → IsListMarkedBy x t u
+    IsShownOrMarked within (Some update) false s m t u = u ≡ t
 
     -- what it leaves of them that what this makes of the selection of the list x, in the window that stands here, highlights
     -- otherwise was inverted

@@ -1,5 +1,6 @@
 -- Scroll bars that are set, and lists that are shown with them, as the code does it.
 use Rattle.std.specs.Prelude.{ℕ, Bool, List, [], Option}
+use Rattle.tb_geom.specs.declared.rect.Rect.{Rect}
 use Rattle.tb_geom.specs.Pixels.{Pixels}
 use Rattle.control_values.specs.Settings.{Setting}
 use Rattle.def_iface.specs.declared.taken.Taken.{Taken}
@@ -21,9 +22,10 @@ use Rattle.list_mgr.specs.declared.lists.Lists.{Lists}
 use Rattle.list_mgr.specs.declared.spots.Spot.{Spot}
 use Rattle.list_mgr.specs.Changing.{IsShownOrMarked}
 use Rattle.list_mgr.specs.ListDesks.{ListDesk, ListsState, lists_show}
-use Rattle.list_mgr.specs.ListSteps.{AreBarsSet, IsBarSet}
+use Rattle.list_mgr.specs.ListSteps.{AreBarsSet}
 use Rattle.list_mgr.specs.Spots.{IsSpotOf}
 use Rattle.list_mgr.specs.WholeLists.{LeavesLists}
+use Rattle.list_mgr.specs.Within.{IsBarGiven, IsWhereRight}
 
 module _ {W : Type 0} {K : W → Type 0} (control_loan : TakenControl W K → ControlLoan) {V : Type 0} {H : V → Type 0} (loan : Taken V H → Loan) where
   -- windows and controls with these lists, as a desk
@@ -34,15 +36,15 @@ module _ {W : Type 0} {K : W → Type 0} (control_loan : TakenControl W K → Co
     lists = lists;
   }
 
-  -- over any slots over which the windows are whole, and whatever the lists, a scroll bar was set that a list was made with
+  -- over any slots over which the windows are whole, and whatever the lists, a scroll bar got a setting that a list was made with
   abbrev pub IsBarSetOver : ℕ → Option ℕ → Setting → WindowManager V H → Controls (TakenControl W K) → WindowManager V H → Controls (TakenControl W K) → Type 0
   IsBarSetOver window bar setting t c u d = (o : Opened) (slots : List SlotView) (held : List ControlSlot) (lists : ListsState) → IsWholeManager loan t slots
       → AreWholeControls (desk_of loan t []).windows (controls_state control_loan c held)
       → IsWholeManager loan u slots × AreWholeControls (desk_of loan u []).windows (controls_state control_loan d held)
-      × IsBarSet window bar setting (desk_beside t o slots c held lists) (desk_beside u o slots d held lists)
+      × IsBarGiven window bar setting (desk_beside t o slots c held lists) (desk_beside u o slots d held lists)
 
-  -- the list that stands here was shown anew, or marked, and then its scroll bars were set
-  abbrev pub IsShownWithBars : {X : Type 0} {L : X → Type 0} → (TakenList X L → ListLoan) → Option Pixels → Bool → Spot → Lists (TakenList X L)
+  -- the list that stands here was drawn within the rectangle, or marked, and then its scroll bars were set
+  abbrev pub IsShownWithBars : {X : Type 0} {L : X → Type 0} → (TakenList X L → ListLoan) → Rect → Option Pixels → Bool → Spot → Lists (TakenList X L)
       → WindowManager V H → Controls (TakenControl W K) → WindowManager V H → Controls (TakenControl W K) → Type 0
-  IsShownWithBars list_loan mark changes s m t c u d = (l : ListOf) → IsSpotOf loan list_loan l t m s
-      → (mid : WindowManager V H) × IsShownOrMarked list_loan loan mark changes s m t mid × LeavesLists list_loan loan control_loan (AreBarsSet l) mid c m u d m
+  IsShownWithBars list_loan within mark changes s m t c u d = (l : ListOf) → IsSpotOf loan list_loan l t m s
+      → (mid : WindowManager V H) × IsShownOrMarked list_loan loan within mark changes s m t mid × LeavesLists list_loan loan control_loan (IsWhereRight (AreBarsSet l)) mid c m u d m

@@ -6,6 +6,7 @@ ghost use Rattle.list_mgr.specs.Lines.{IsBarSetOver};
 ghost use Rattle.list_mgr.specs.ListSteps.{AreBarsSet};
 ghost use Rattle.list_mgr.specs.Spots.{IsSpot, IsSpotOf};
 ghost use Rattle.list_mgr.specs.WholeLists.{AreBeside, LeavesLists};
+ghost use Rattle.list_mgr.specs.Within.{IsWhereRight};
 
 use crate::Lists;
 use crate::spots::Spot;
@@ -45,7 +46,7 @@ impl Lists<TakenList> {
         requires lists { AreBeside ⟦<TakenList as DefinedList>⟧.list_loan ⟦<Taken as Defined>⟧.loan windows.old self.now }
         requires spot { IsSpot ⟦<Taken as Defined>⟧.loan ⟦<TakenList as DefinedList>⟧.list_loan windows.old self.now spot }
         ensures { (l : Named) → IsSpotOf ⟦<Taken as Defined>⟧.loan ⟦<TakenList as DefinedList>⟧.list_loan l windows.old self.now spot
-            → LeavesLists ⟦<TakenList as DefinedList>⟧.list_loan ⟦<Taken as Defined>⟧.loan ⟦<TakenControl as DefinedControl>⟧.control_loan (AreBarsSet l) windows.old controls.old self.now windows.new controls.new self.now }
+            → LeavesLists ⟦<TakenList as DefinedList>⟧.list_loan ⟦<Taken as Defined>⟧.loan ⟦<TakenControl as DefinedControl>⟧.control_loan (IsWhereRight (AreBarsSet l)) windows.old controls.old self.now windows.new controls.new self.now }
     {
         let list = &self.list.lists[spot.list];
         let down = list.view.vertical_values(list.cells.rows());

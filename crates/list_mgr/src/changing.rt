@@ -9,6 +9,7 @@ ghost use Rattle.list_mgr.specs.Changing.{IsDrawing, IsItsLayer, IsLayerFound, I
 ghost use Rattle.list_mgr.specs.ListSteps.{IsListStep};
 ghost use Rattle.list_mgr.specs.Spots.{IsSpot};
 ghost use Rattle.list_mgr.specs.WholeLists.{AreBeside, IsChangedOver};
+ghost use Rattle.list_mgr.specs.Within.{IsWhereRight};
 
 use crate::Lists;
 use crate::spots::Spot;
@@ -17,7 +18,7 @@ use desk_call::{CellOf, CellText, ListDrawing, ListReply};
 use layer_list::Layers;
 use scan_region::Region;
 use std::alloc::AllocError;
-use tb_geom::Refusal;
+use tb_geom::{Rect, Refusal};
 use window_mgr::WindowManager;
 
 /// The index of a list's layer among these.
@@ -75,12 +76,13 @@ impl Lists<TakenList> {
         Ok(Some(update))
     }
 
-    /// Shows a list anew where it is not to be redrawn, or, where its drawing is off and something of it changes, makes this the
-    /// update region of its window. It takes no memory.
+    /// Draws a list within a rectangle of its window where it is not to be redrawn, or, where its drawing is off and something of it
+    /// changes, makes this the update region of its window. It takes no memory.
     pub(crate) fn show(
         &self,
         windows: &mut WindowManager,
         spot: Spot,
+        within: Rect,
         mark: Option<Region>,
         changes: bool,
     )
@@ -88,12 +90,12 @@ impl Lists<TakenList> {
         requires beside { AreBeside ⟦<TakenList as DefinedList>⟧.list_loan ⟦<Taken as Defined>⟧.loan windows.old self.now }
         requires spot { IsSpot ⟦<Taken as Defined>⟧.loan ⟦<TakenList as DefinedList>⟧.list_loan windows.old self.now spot }
         requires mark { IsMark ⟦<TakenList as DefinedList>⟧.list_loan ⟦<Taken as Defined>⟧.loan windows.old self.now spot mark }
-        ensures { IsShownOrMarked ⟦<TakenList as DefinedList>⟧.list_loan ⟦<Taken as Defined>⟧.loan mark changes spot self.now windows.old windows.new }
+        ensures { IsShownOrMarked ⟦<TakenList as DefinedList>⟧.list_loan ⟦<Taken as Defined>⟧.loan within mark changes spot self.now windows.old windows.new }
     {
         match mark {
             None => {
                 let layer = self.layer(windows, spot);
-                windows.redraw_layer(spot.window, layer, self);
+                windows.redraw_layer(spot.window, layer, within, self);
             }
             Some(update) => {
                 if changes {
@@ -112,7 +114,7 @@ impl Lists<TakenList> {
         requires kept { IsKept ⟦<Taken as Defined>⟧.loan windows.old }
         requires beside { AreBeside ⟦<TakenList as DefinedList>⟧.list_loan ⟦<Taken as Defined>⟧.loan windows.old self.old }
         ensures { IsChangedOver ⟦<TakenList as DefinedList>⟧.list_loan ⟦<Taken as Defined>⟧.loan
-            (IsListStep (asks.SetCell set.now) result) windows.old self.old windows.new self.new }
+            (IsWhereRight (IsListStep (asks.SetCell set.now) result)) windows.old self.old windows.new self.new }
     {
         let spot = self.spot(windows, set.cell.list)?;
         let (cell, text) = (set.cell.cell, set.text.as_slice());
@@ -120,9 +122,10 @@ impl Lists<TakenList> {
             return Err(refusal);
         }
         let changes = differ(self.list.lists[spot.list].cells.cell(cell)?, text);
+        let within = self.list.lists[spot.list].view.cell_rect(cell);
         let mark = self.mark(windows, spot)?;
         self.list.lists[spot.list].cells.set_cell(cell, text)?;
-        self.show(windows, spot, mark, changes);
+        self.show(windows, spot, within, mark, changes);
         Ok(ListReply::Done)
     }
 
@@ -135,7 +138,7 @@ impl Lists<TakenList> {
         requires kept { IsKept ⟦<Taken as Defined>⟧.loan windows.old }
         requires beside { AreBeside ⟦<TakenList as DefinedList>⟧.list_loan ⟦<Taken as Defined>⟧.loan windows.old self.old }
         ensures { IsChangedOver ⟦<TakenList as DefinedList>⟧.list_loan ⟦<Taken as Defined>⟧.loan
-            (IsListStep (asks.AddToCell added.now) result) windows.old self.old windows.new self.new }
+            (IsWhereRight (IsListStep (asks.AddToCell added.now) result)) windows.old self.old windows.new self.new }
     {
         let spot = self.spot(windows, added.cell.list)?;
         let (cell, text) = (added.cell.cell, added.text.as_slice());
@@ -143,9 +146,10 @@ impl Lists<TakenList> {
             return Err(refusal);
         }
         let changes = !text.is_empty();
+        let within = self.list.lists[spot.list].view.cell_rect(cell);
         let mark = self.mark(windows, spot)?;
         self.list.lists[spot.list].cells.add_to_cell(cell, text)?;
-        self.show(windows, spot, mark, changes);
+        self.show(windows, spot, within, mark, changes);
         Ok(ListReply::Done)
     }
 
@@ -158,16 +162,17 @@ impl Lists<TakenList> {
         requires kept { IsKept ⟦<Taken as Defined>⟧.loan windows.old }
         requires beside { AreBeside ⟦<TakenList as DefinedList>⟧.list_loan ⟦<Taken as Defined>⟧.loan windows.old self.old }
         ensures { IsChangedOver ⟦<TakenList as DefinedList>⟧.list_loan ⟦<Taken as Defined>⟧.loan
-            (IsListStep (asks.ClearCell cleared) result) windows.old self.old windows.new self.new }
+            (IsWhereRight (IsListStep (asks.ClearCell cleared) result)) windows.old self.old windows.new self.new }
     {
         let spot = self.spot(windows, cleared.list)?;
         let changes = !self.list.lists[spot.list]
             .cells
             .cell(cleared.cell)?
             .is_empty();
+        let within = self.list.lists[spot.list].view.cell_rect(cleared.cell);
         let mark = self.mark(windows, spot)?;
         self.list.lists[spot.list].cells.clear_cell(cleared.cell)?;
-        self.show(windows, spot, mark, changes);
+        self.show(windows, spot, within, mark, changes);
         Ok(ListReply::Done)
     }
 

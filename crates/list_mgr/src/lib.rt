@@ -4,10 +4,14 @@
 //! controls and in front of its picture, and what a list shows is here (`Lists` is a `Showing`, and `Contents` shows controls and
 //! lists together). Each call about lists makes one step (`IsListStep` in `specs/ListSteps`): `perform` performs one.
 //!
-//! While a list's drawing is on, a change shows the list anew where it is not to be redrawn anyway; a call that changes the
-//! selection alone inverts the cells that it toggles, where they stand. While it is off, a change draws nothing, and all that the
-//! list owns is to be redrawn. The scroll bars of a list are controls of its window, made with it, set by each call that adds,
-//! deletes or scrolls, and disposed of with it; in between they are anybody's.
+//! While a list's drawing is on, a change draws where the list is not to be redrawn anyway: within a cell that gets other data, from
+//! the first line on where lines come or go, and the whole view where the list is scrolled. Elsewhere the screen shows the list
+//! already where it was right before, so these are the steps of `IsListStep` where it was (`specs/Within`). A call that changes the
+//! selection alone inverts the cells that it toggles, where they stand. While drawing is off, a change draws nothing, and all that
+//! the list owns is to be redrawn.
+//!
+//! The scroll bars of a list are controls of its window, made with it, set by each call that adds, deletes or scrolls, and disposed of
+//! with it; in between they are anybody's.
 #![tactic(auto)]
 
 mod asking;
@@ -17,6 +21,7 @@ mod drawing;
 mod ending;
 mod judging;
 mod lines;
+mod lines_from;
 mod lists;
 mod making;
 mod new_bars;

@@ -9,15 +9,17 @@ ghost use Rattle.list_mgr.specs.Lines.{IsShownWithBars};
 ghost use Rattle.list_mgr.specs.ListSteps.{IsListStep, with_scroll};
 ghost use Rattle.list_mgr.specs.Spots.{IsSpot};
 ghost use Rattle.list_mgr.specs.WholeLists.{AreBeside, LeavesLists, records_of};
+ghost use Rattle.list_mgr.specs.Within.{IsWhereRight};
 
 use crate::Lists;
+use crate::lines_from::{columns_from, line_number, rows_from};
 use crate::spots::Spot;
 use control_mgr::Controls;
 use def_iface::{Defined, DefinedControl, DefinedList, Taken, TakenControl, TakenList};
 use desk_call::{ListLines, ListReply, ScrollList};
 use list_view::ListView;
 use scan_region::Region;
-use tb_geom::Refusal;
+use tb_geom::{Rect, Refusal};
 use window_mgr::WindowManager;
 
 /// Whether two views differ.
@@ -42,13 +44,14 @@ impl Lists<TakenList> {
         differ(old, new)
     }
 
-    /// Shows a list as it is now, or marks it where its drawing is off and something of it changes, and sets its scroll bars. It
-    /// takes no memory.
+    /// Draws a list as it is now within a rectangle of its window, or marks it where its drawing is off and something of it
+    /// changes, and sets its scroll bars. It takes no memory.
     fn show_with_bars(
         &self,
         windows: &mut WindowManager,
         controls: &mut Controls<TakenControl>,
         spot: Spot,
+        within: Rect,
         mark: Option<Region>,
         changes: bool,
     )
@@ -57,10 +60,10 @@ impl Lists<TakenList> {
         requires lists { AreBeside ⟦<TakenList as DefinedList>⟧.list_loan ⟦<Taken as Defined>⟧.loan windows.old self.now }
         requires spot { IsSpot ⟦<Taken as Defined>⟧.loan ⟦<TakenList as DefinedList>⟧.list_loan windows.old self.now spot }
         requires mark { IsMark ⟦<TakenList as DefinedList>⟧.list_loan ⟦<Taken as Defined>⟧.loan windows.old self.now spot mark }
-        ensures { IsShownWithBars ⟦<TakenControl as DefinedControl>⟧.control_loan ⟦<Taken as Defined>⟧.loan ⟦<TakenList as DefinedList>⟧.list_loan mark changes spot self.now
+        ensures { IsShownWithBars ⟦<TakenControl as DefinedControl>⟧.control_loan ⟦<Taken as Defined>⟧.loan ⟦<TakenList as DefinedList>⟧.list_loan within mark changes spot self.now
             windows.old controls.old windows.new controls.new }
     {
-        self.show(windows, spot, mark, changes);
+        self.show(windows, spot, within, mark, changes);
         self.set_bars(windows, controls, spot);
     }
 
@@ -75,7 +78,7 @@ impl Lists<TakenList> {
         requires beside { AreControlsBeside ⟦<TakenControl as DefinedControl>⟧.control_loan ⟦<Taken as Defined>⟧.loan windows.old controls.old }
         requires lists { AreBeside ⟦<TakenList as DefinedList>⟧.list_loan ⟦<Taken as Defined>⟧.loan windows.old self.old }
         ensures { LeavesLists ⟦<TakenList as DefinedList>⟧.list_loan ⟦<Taken as Defined>⟧.loan ⟦<TakenControl as DefinedControl>⟧.control_loan
-            (IsListStep (asks.AddRows lines) result) windows.old controls.old self.old windows.new controls.new self.new }
+            (IsWhereRight (IsListStep (asks.AddRows lines) result)) windows.old controls.old self.old windows.new controls.new self.new }
     {
         let spot = self.spot(windows, lines.list)?;
         if let Some(refusal) = self.list.lists[spot.list]
@@ -84,11 +87,13 @@ impl Lists<TakenList> {
         {
             return Err(refusal);
         }
+        let view = self.list.lists[spot.list].view;
         let mark = self.mark(windows, spot)?;
         let first = self.list.lists[spot.list]
             .cells
             .add_rows(lines.count, lines.at)?;
-        self.show_with_bars(windows, controls, spot, mark, true);
+        let within = rows_from(view, line_number(first), false);
+        self.show_with_bars(windows, controls, spot, within, mark, true);
         Ok(ListReply::Added(first))
     }
 
@@ -103,7 +108,7 @@ impl Lists<TakenList> {
         requires beside { AreControlsBeside ⟦<TakenControl as DefinedControl>⟧.control_loan ⟦<Taken as Defined>⟧.loan windows.old controls.old }
         requires lists { AreBeside ⟦<TakenList as DefinedList>⟧.list_loan ⟦<Taken as Defined>⟧.loan windows.old self.old }
         ensures { LeavesLists ⟦<TakenList as DefinedList>⟧.list_loan ⟦<Taken as Defined>⟧.loan ⟦<TakenControl as DefinedControl>⟧.control_loan
-            (IsListStep (asks.AddColumns lines) result) windows.old controls.old self.old windows.new controls.new self.new }
+            (IsWhereRight (IsListStep (asks.AddColumns lines) result)) windows.old controls.old self.old windows.new controls.new self.new }
     {
         let spot = self.spot(windows, lines.list)?;
         if let Some(refusal) = self.list.lists[spot.list]
@@ -112,11 +117,13 @@ impl Lists<TakenList> {
         {
             return Err(refusal);
         }
+        let view = self.list.lists[spot.list].view;
         let mark = self.mark(windows, spot)?;
         let first = self.list.lists[spot.list]
             .cells
             .add_columns(lines.count, lines.at)?;
-        self.show_with_bars(windows, controls, spot, mark, true);
+        let within = columns_from(view, line_number(first), false);
+        self.show_with_bars(windows, controls, spot, within, mark, true);
         Ok(ListReply::Added(first))
     }
 
@@ -131,7 +138,7 @@ impl Lists<TakenList> {
         requires beside { AreControlsBeside ⟦<TakenControl as DefinedControl>⟧.control_loan ⟦<Taken as Defined>⟧.loan windows.old controls.old }
         requires lists { AreBeside ⟦<TakenList as DefinedList>⟧.list_loan ⟦<Taken as Defined>⟧.loan windows.old self.old }
         ensures { LeavesLists ⟦<TakenList as DefinedList>⟧.list_loan ⟦<Taken as Defined>⟧.loan ⟦<TakenControl as DefinedControl>⟧.control_loan
-            (IsListStep (asks.DeleteRows lines) result) windows.old controls.old self.old windows.new controls.new self.new }
+            (IsWhereRight (IsListStep (asks.DeleteRows lines) result)) windows.old controls.old self.old windows.new controls.new self.new }
     {
         let spot = self.spot(windows, lines.list)?;
         if let Some(refusal) = self.list.lists[spot.list]
@@ -140,12 +147,14 @@ impl Lists<TakenList> {
         {
             return Err(refusal);
         }
+        let view = self.list.lists[spot.list].view;
         let mark = self.mark(windows, spot)?;
         self.list.lists[spot.list]
             .cells
             .delete_rows(lines.count, lines.at)?;
-        let _scrolled = self.scroll_by(spot, 0, 0);
-        self.show_with_bars(windows, controls, spot, mark, true);
+        let scrolled = self.scroll_by(spot, 0, 0);
+        let within = rows_from(view, lines.at, scrolled);
+        self.show_with_bars(windows, controls, spot, within, mark, true);
         Ok(ListReply::Done)
     }
 
@@ -160,7 +169,7 @@ impl Lists<TakenList> {
         requires beside { AreControlsBeside ⟦<TakenControl as DefinedControl>⟧.control_loan ⟦<Taken as Defined>⟧.loan windows.old controls.old }
         requires lists { AreBeside ⟦<TakenList as DefinedList>⟧.list_loan ⟦<Taken as Defined>⟧.loan windows.old self.old }
         ensures { LeavesLists ⟦<TakenList as DefinedList>⟧.list_loan ⟦<Taken as Defined>⟧.loan ⟦<TakenControl as DefinedControl>⟧.control_loan
-            (IsListStep (asks.DeleteColumns lines) result) windows.old controls.old self.old windows.new controls.new self.new }
+            (IsWhereRight (IsListStep (asks.DeleteColumns lines) result)) windows.old controls.old self.old windows.new controls.new self.new }
     {
         let spot = self.spot(windows, lines.list)?;
         if let Some(refusal) = self.list.lists[spot.list]
@@ -169,12 +178,14 @@ impl Lists<TakenList> {
         {
             return Err(refusal);
         }
+        let view = self.list.lists[spot.list].view;
         let mark = self.mark(windows, spot)?;
         self.list.lists[spot.list]
             .cells
             .delete_columns(lines.count, lines.at)?;
-        let _scrolled = self.scroll_by(spot, 0, 0);
-        self.show_with_bars(windows, controls, spot, mark, true);
+        let scrolled = self.scroll_by(spot, 0, 0);
+        let within = columns_from(view, lines.at, scrolled);
+        self.show_with_bars(windows, controls, spot, within, mark, true);
         Ok(ListReply::Done)
     }
 
@@ -189,12 +200,13 @@ impl Lists<TakenList> {
         requires beside { AreControlsBeside ⟦<TakenControl as DefinedControl>⟧.control_loan ⟦<Taken as Defined>⟧.loan windows.old controls.old }
         requires lists { AreBeside ⟦<TakenList as DefinedList>⟧.list_loan ⟦<Taken as Defined>⟧.loan windows.old self.old }
         ensures { LeavesLists ⟦<TakenList as DefinedList>⟧.list_loan ⟦<Taken as Defined>⟧.loan ⟦<TakenControl as DefinedControl>⟧.control_loan
-            (IsListStep (asks.Scroll scrolled) result) windows.old controls.old self.old windows.new controls.new self.new }
+            (IsWhereRight (IsListStep (asks.Scroll scrolled) result)) windows.old controls.old self.old windows.new controls.new self.new }
     {
         let spot = self.spot(windows, scrolled.list)?;
+        let within = self.list.lists[spot.list].view.rect();
         let mark = self.mark(windows, spot)?;
         let changes = self.scroll_by(spot, scrolled.columns, scrolled.rows);
-        self.show_with_bars(windows, controls, spot, mark, changes);
+        self.show_with_bars(windows, controls, spot, within, mark, changes);
         Ok(ListReply::Done)
     }
 }

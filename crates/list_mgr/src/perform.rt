@@ -5,6 +5,7 @@ ghost use Rattle.window_mgr.specs.Records.{desk_of};
 ghost use Rattle.control_mgr.specs.WholeControls.{AreWholeControls, controls_state};
 ghost use Rattle.list_mgr.specs.ListSteps.{IsListStep};
 ghost use Rattle.list_mgr.specs.WholeLists.{AreWholeLists, LeavesOver, lists_state};
+ghost use Rattle.list_mgr.specs.Within.{IsWhereRight};
 
 use crate::Lists;
 use control_mgr::Controls;
@@ -18,7 +19,8 @@ use window_mgr::WindowManager;
 
 impl Lists<TakenList> {
     /// Performs one call on these lists of these windows, which have these controls, and gives its answer. A refused call changes
-    /// nothing; which refusal comes first where several would do stands with the call.
+    /// nothing; which refusal comes first where several would do stands with the call. What is drawn of a list of which a cell or
+    /// lines change lies in the rectangle of these, so the step is the call's where the screen was right.
     pub fn perform(
         &mut self,
         windows: &mut WindowManager,
@@ -35,7 +37,7 @@ impl Lists<TakenList> {
         ensures { LeavesOver ⟦<TakenList as DefinedList>⟧.list_loan ⟦<Taken as Defined>⟧.loan ⟦<TakenControl as DefinedControl>⟧.control_loan
             (⟦<ControlStock as StockedControls>⟧.control_slots bars.old) (⟦<ControlStock as StockedControls>⟧.control_slots bars.new)
             (⟦<ListStock as StockedLists>⟧.list_slots stock.old) (⟦<ListStock as StockedLists>⟧.list_slots stock.new)
-            (IsListStep call.now result) windows.old controls.old self.old windows.new controls.new self.new }
+            (IsWhereRight (IsListStep call.now result)) windows.old controls.old self.old windows.new controls.new self.new }
     {
         match call {
             ListCall::New(new) => self.make(windows, controls, new, stock, bars),

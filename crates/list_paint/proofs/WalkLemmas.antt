@@ -75,6 +75,15 @@ cell_placed c clip rect origin corner value old new shared lies drawn = Draws-sa
         ap (λ (b : Bool). b && cut_holds c.cut.now p) (shared p) ∙ turned (rect_holds c.clip p) (rect_holds rect (minus p c.origin)) (cut_holds c.cut.now p) in
         λ i. cond (there i) (value (at i) d) d
 
+-- of what a canvas has no pixel, nothing is drawn
+pub drawn_nowhere : (c : Canvas) (clip rect : Rect) (value : Point → Bool → Bool)
+    → ((p : Point) → rect_holds clip p ≡ (rect_holds c.clip p && rect_holds rect (minus p c.origin))) → ((p : Point) → rect_holds clip p ≡ false)
+    → Draws (λ p. canvas_holds c p && rect_holds rect (canvas_point c p)) value c.map.now c.map.now
+drawn_nowhere c clip rect value shared none =
+    Draws-none _ value c.map.now
+    (λ p on. sym (turned (rect_holds c.clip p) (rect_holds rect (minus p c.origin)) (cut_holds c.cut.now p))
+    ∙ ap (λ (b : Bool). b && cut_holds c.cut.now p) (sym (shared p) ∙ none p))
+
 -- ---- the cell at a point
 
 -- a cell and another are the same

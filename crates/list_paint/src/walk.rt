@@ -59,10 +59,14 @@ fn draw_cell<P: CellPen>(
         (λ p d. P.value pen.now cells.now canvas.old.font.now cell (in_cell view cell (canvas_point canvas.old p)) d)
         canvas.old.map.now canvas.new.map.now }
 {
+    let clip = placed_within(canvas.clip, view.cell_rect(cell), canvas.origin);
+    if clip.is_empty() {
+        return;
+    }
     let corner = view.cell_corner(cell);
     let mut there = Canvas {
         map: &mut *canvas.map,
-        clip: placed_within(canvas.clip, view.cell_rect(cell), canvas.origin),
+        clip,
         origin: corner_place(canvas.origin, corner),
         cut: canvas.cut,
         font: canvas.font,

@@ -1,8 +1,7 @@
-//! What no clause says of `list_cells`, `list_view` and `list_records`, by tests: that calls succeed where memory is not
-//! refused, and that the words of the contracts are the List Manager's. Expected values are tables written by hand, and never
-//! come from the libraries.
+//! What no clause says of `list_view` and `list_records`, by tests: that calls succeed where memory is not refused, and that the
+//! words of the contracts are the List Manager's. Expected values are tables written by hand, and never come from the libraries.
 //!
-//! `cells` tests `list_cells`, `views` tests `list_view`, and `records` tests `list_records`.
+//! `views` tests `list_view`, and `records` tests `list_records`.
 #![tactic(auto)]
 
 /// A cell, by its column and its row.
@@ -16,8 +15,6 @@ macro_rules! cell {
     };
 }
 
-#[cfg(test)]
-mod cells;
 #[cfg(test)]
 mod records;
 #[cfg(test)]

@@ -12,6 +12,7 @@ ghost use Rattle.std_cdef.specs.Looks.{button_look};
 ghost use Rattle.std_cdef.specs.Told.{button_meaning, fresh_button, told_button, button_at};
 
 use crate::rects::{columns, is_control_size, middle, region_of};
+use crate::titles::same_title;
 use control_values::{ControlPart, Highlight};
 use def_iface::{ControlChange, ControlDef, KeptControl, Size, Stage};
 use draw_port::Canvas;
@@ -106,7 +107,7 @@ impl ControlDef for StdButton {
         ensures kept { self.new ≡ told_button change.now self.old }
     {
         let kept = self.kept.after(change);
-        let damage = button_damage(&self.kept, &kept, change.keeps_title());
+        let damage = button_damage(&self.kept, &kept, same_title(&self.kept, &kept));
         self.kept = kept;
         damage
     }

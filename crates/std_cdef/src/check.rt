@@ -7,6 +7,7 @@ ghost use Rattle.std_cdef.specs.Told.{check_meaning, fresh_check, told_check, ch
 
 use crate::boxes::{box_damage, draw_box};
 use crate::rects::region_of;
+use crate::titles::same_title;
 use control_values::ControlPart;
 use def_iface::{ControlChange, ControlDef, KeptControl, Size, Stage};
 use draw_port::Canvas;
@@ -76,7 +77,8 @@ impl ControlDef for StdCheck {
         ensures kept { self.new ≡ told_check change.now self.old }
     {
         let kept = self.kept.after(change);
-        let damage = box_damage(self.variation, &self.kept, &kept, change.keeps_title());
+        let same_title = same_title(&self.kept, &kept);
+        let damage = box_damage(self.variation, &self.kept, &kept, same_title);
         self.kept = kept;
         damage
     }

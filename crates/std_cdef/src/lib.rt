@@ -23,6 +23,7 @@ mod rects;
 mod scroll;
 mod scroll_bar;
 mod thumb;
+mod titles;
 
 pub use button::StdButton;
 pub use check::{StdCheck, Variation};

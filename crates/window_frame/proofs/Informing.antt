@@ -9,8 +9,6 @@ use Rattle.def_iface.specs.declared.taken.Taken.{Taken}
 use Rattle.def_iface.specs.Meaning.{Definition, Loan}
 use Rattle.def_iface.specs.Desk as layers
 use Rattle.def_iface.proofs.Owning.{same_number}
-use Rattle.desk_call.specs.declared.activity.Standing.{Standing}
-use Rattle.desk_call.specs.declared.activity.Standing.TheVariants as standings
 use Rattle.vis_update.specs.Records.{WindowRecord, Look, layered_window, record_of}
 use Rattle.window_list.specs.declared.window.Window.{Window}
 use Rattle.window_mgr.specs.declared.manager.WindowManager.{WindowManager}
@@ -25,7 +23,7 @@ use Rattle.window_mgr.proofs.EditSeats.{there_is}
 use Rattle.window_mgr.proofs.FindLemmas.{not_among, record_at}
 use Rattle.window_mgr.specs.Sparing.{Repaints}
 use Rattle.window_frame.proofs.Repainting.{informed_knows, knows_draws_none, not_behind, repainted_none, repainted_then}
-use Rattle.window_frame.specs.Followers.{Flag, draws_told, is_behind, Telling, Knows, AreNotified, IsCaughtUp, IsCaughtUpBy, IsInformed, IsNotified, with_heard}
+use Rattle.window_frame.specs.Followers.{Flag, draws_told, is_behind, Telling, Knows, AreNotified, IsCaughtUp, IsInformed, IsNotified, with_heard}
 use Rattle.window_frame.specs.Followers.Flag.{Highlighting, Zooming}
 use Rattle.window_frame.proofs.FrameSteps.{still_kept}
 
@@ -300,16 +298,3 @@ module _ {V : Type 0} {H : V → Type 0} (loan : Taken V H → Loan) where
       let long : length (records new) ≡ length new.windows.records.items = length-map new.windows.records.items (record_of loan) in
       let many = so_far.many in
       (left.0, (left.1.0, left.1.1, λ k d low. so_far.informed k d (omega arith)))
-
--- after a call that does not merely ask
-pub caught_up : {V : Type 0} {H : V → Type 0} (loan : Taken V H → Loan) (t new : WindowManager V H) (standing its : Standing) → standing ≡ its → (standing ≡ standings.Asks → ⊥)
-    → LeavesState loan IsCaughtUp t new → LeavesState loan (IsCaughtUpBy its) t new
-caught_up loan t new standing its same none leaves = subst (λ s. LeavesState loan (IsCaughtUpBy s) t new) same (by_standing standing none)
-  where
-    by_standing : (s : Standing) → (s ≡ standings.Asks → ⊥) → LeavesState loan (IsCaughtUpBy s) t new
-    by_standing standings.Asks none = absurd (none refl)
-    by_standing (standings.Updates n) none = leaves
-    by_standing standings.Tracks none = leaves
-    by_standing standings.Pulls none = leaves
-    by_standing standings.TracksControl none = leaves
-    by_standing standings.Changes none = leaves

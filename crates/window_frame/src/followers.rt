@@ -3,27 +3,27 @@ ghost use Rattle.std.specs.Prelude.{◌≡◌, ◌<◌, length, map};
 ghost use Rattle.window_mgr.specs.Edits.{IsWindowAt};
 ghost use Rattle.window_mgr.specs.Kept.{IsKept};
 ghost use Rattle.window_mgr.specs.Updating.{LeavesState};
-ghost use Rattle.desk_call.specs.Gates.{window_standing};
 ghost use Rattle.window_frame.specs.Followers.{IsCaughtUp, IsCaughtUpBy, IsInformed, draws_told, is_behind};
+ghost use Rattle.window_frame.specs.Outcomes.{standing_after};
 ghost use Rattle.window_mgr.specs.Sparing.{Repaints};
 ghost use Rattle.vis_update.specs.Records.{record_of};
 ghost use Rattle.window_frame.specs.Followers.Flag.{Highlighting, Zooming};
 
+use crate::outcome::Outcome;
 use def_iface::{Defined, Taken, WindowChange};
-use desk_call::{Standing, WindowCall};
 use window_mgr::WindowManager;
 
-/// Notifies definitions of how their windows stand, once a call on windows was done: each that heard otherwise, and no other, is
-/// told whether its window is highlighted, and whether it is zoomed, and has the frame drawn where that shows. After a call
+/// Notifies definitions of how their windows stand, once this came of a call on windows: each that heard otherwise, and no other,
+/// is told whether its window is highlighted, and whether it is zoomed, and has the frame drawn where that shows. After a call
 /// that asks none is told anything. Takes no memory.
-pub fn follow(windows: &mut WindowManager, call: &WindowCall<'_>)
+pub fn follow(windows: &mut WindowManager, outcome: Outcome)
     requires { IsKept ⟦<Taken as Defined>⟧.loan windows.old }
-    ensures told { LeavesState ⟦<Taken as Defined>⟧.loan (IsCaughtUpBy (window_standing call.now)) windows.old windows.new }
+    ensures told { LeavesState ⟦<Taken as Defined>⟧.loan (IsCaughtUpBy (standing_after outcome)) windows.old windows.new }
     ensures repainted { Repaints ⟦<Taken as Defined>⟧.loan
         (is_behind (map (record_of ⟦<Taken as Defined>⟧.loan) windows.old.windows.records.items)) windows.old windows.new }
 {
-    match call.standing() {
-        Standing::Asks => {}
+    match outcome {
+        Outcome::Asked => {}
         _ => inform_all(windows),
     }
 }

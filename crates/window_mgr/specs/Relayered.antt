@@ -1,10 +1,12 @@
 -- The layers of one window changed, planned and drawn.
-use Rattle.std.specs.Prelude.{◌≡◌, ◌<◌, ◌&&◌, ℕ, true, not, if◌then◌else◌, List, [], length, map, Option, None, Some, slice_index_or}
+use Rattle.std.specs.Prelude.{◌≡◌, ◌<◌, ◌&&◌, ℕ, true, false, not, if◌then◌else◌, List, [], length, map, Option, None, Some, slice_index_or}
 use Rattle.std.specs.List.{list_all}
 use Rattle.std.specs.Vec.{with_item}
 use Rattle.tb_geom.specs.declared.point.Point.{Point}
+use Rattle.tb_geom.specs.declared.rect.Rect.{Rect}
 use Rattle.tb_geom.specs.Points.{PixelSet, minus}
 use Rattle.tb_geom.specs.Pixels.{Pixels, holds}
+use Rattle.tb_geom.specs.Rects.{rect_holds}
 use Rattle.def_iface.specs.declared.part.Part.{Part}
 use Rattle.def_iface.specs.declared.taken.Taken.{Taken}
 use Rattle.def_iface.specs.Meaning.{Loan}
@@ -23,7 +25,7 @@ use Rattle.vis_update.specs.Relayings.{IsRelayered, IsRelaid, IsGained, afresh_c
 use Rattle.window_mgr.specs.declared.manager.WindowManager.{WindowManager}
 use Rattle.window_mgr.specs.Edits.{IsWindowAt}
 use Rattle.window_mgr.specs.Kept.{IsKept}
-use Rattle.window_mgr.specs.FullDesk.{FullState, layered_desk, layered_state}
+use Rattle.window_mgr.specs.FullDesk.{FullState, IsRightState, layered_desk, layered_state}
 use Rattle.window_mgr.specs.Records.{state_of}
 
 -- the part of the layer at this index, if one is given
@@ -46,6 +48,16 @@ redrawn_change s q = record no_change { redrawn = λ o. same_owner o (Content s 
 pub record IsLayerRedrawn (s : ℕ) (q : Part) (before after : FullState) : Type 0 where
   pub desk : after.desk ≡ record before.desk { shows = after.desk.shows }
   pub pixels : IsChanged (redrawn_change s q) (layered_state before) (layered_state after)
+
+-- the layer shows outside of the rectangle, which is given in the window's own coordinates, what it showed
+abbrev pub IsSameOutside : Rect → Layer → (was is : Part → PixelSet) → Type 0
+IsSameOutside within l was is = (p : Point) → holds l.region p ≡ true → rect_holds within p ≡ false → is l.part p ≡ was l.part p
+
+-- the layer was drawn within the rectangle, where it is not to be redrawn: where all was right, and outside of the rectangle the
+-- layer shows what it showed, it was shown anew. Nothing else of the desk changed but what layers show
+pub record IsLayerDrawnWithin (within : Rect) (s : ℕ) (l : Layer) (before after : FullState) : Type 0 where
+  pub desk : after.desk ≡ record before.desk { shows = after.desk.shows }
+  pub redrawn : IsRightState before → IsSameOutside within l before.desk.shows after.desk.shows → IsLayerRedrawn s l.part before after
 
 -- the change of a call that inverts these pixels of a part of a window at this place, given in the window's own coordinates
 abbrev pub toggled_change : ℕ → Point → Part → PixelSet → Change

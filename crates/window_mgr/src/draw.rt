@@ -1,21 +1,21 @@
 //! The call that draws.
-ghost use Rattle.std.specs.Prelude.{◌≡◌, [], OnOk, OnErr, Some, MatchResult};
+ghost use Rattle.std.specs.Prelude.{◌≡◌, [], Some, MatchResult};
 ghost use Rattle.desk_call.specs.declared.window.WindowCall.TheVariants.{Draw};
+ghost use Rattle.window_mgr.specs.AnySlots.{IsStepOverAnySlots};
 ghost use Rattle.window_mgr.specs.Kept.{IsKept};
-ghost use Rattle.window_mgr.specs.Planned.{SameDesk, MayDraw, IsDrawnAt};
+ghost use Rattle.window_mgr.specs.Planned.{MayDraw};
 ghost use Rattle.window_mgr.specs.Records.{state_of};
 ghost use Rattle.window_mgr.specs.Refused.{IsRefusal, is_formal};
 
-use crate::{Drawing, WindowManager};
+use crate::{Drawing, WindowManager, WindowReply};
 use def_iface::{Defined, Taken};
 use draw_port::MOST_OPERATIONS;
-use std::alloc::AllocError;
 use tb_geom::Refusal;
 use window_paint::paint_last_operation;
 
 impl WindowManager {
     /// The index of the window that is drawn in, where nothing but memory can refuse that.
-    pub(crate) fn index_to_draw(&self, drawing: &Drawing<'_>) -> Result<usize, Refusal>
+    fn index_to_draw(&self, drawing: &Drawing<'_>) -> Result<usize, Refusal>
         requires { IsKept ⟦<Taken as Defined>⟧.loan self.now }
         ensures { MatchResult result (MayDraw drawing.now self.now)
             (λ e. IsRefusal (Draw drawing.now) (state_of ⟦<Taken as Defined>⟧.loan self.now []) (Some e)) }
@@ -34,23 +34,20 @@ impl WindowManager {
         }
     }
 
-    /// Adds an operation to the picture of the window at this index, and draws it on each pixel of
-    /// the screen that the picture owns. Where there is no memory the desk stays as it was.
-    pub(crate) fn add_operation(
-        &mut self,
-        at: usize,
-        drawing: &Drawing<'_>,
-    ) -> Result<(), AllocError>
-        requires kept { IsKept ⟦<Taken as Defined>⟧.loan self.old }
-        requires may { MayDraw drawing.now self.old at }
-        ensures drawn { OnOk result (IsDrawnAt at drawing.now self.old self.new) }
-        ensures same { OnErr result (SameDesk self.old self.new) }
+    /// Adds an operation to the picture of a window, and draws it on each pixel of the screen that
+    /// the picture owns, to be redrawn or not. The refusal is the first of these: BadSyntax and
+    /// BadRegion as `OpRef::judge` has them, NoSuchWindow, OutOfRange and TooLong as it has them, TooMany
+    /// where the picture has 1024 operations, NoMemory.
+    pub(crate) fn draw(&mut self, drawing: &Drawing<'_>) -> Result<WindowReply, Refusal>
+        requires { IsKept ⟦<Taken as Defined>⟧.loan self.old }
+        ensures { IsStepOverAnySlots ⟦<Taken as Defined>⟧.loan (Draw drawing.now) result self.old self.new }
     {
+        let at = self.index_to_draw(drawing)?;
         let Ok(operation) = drawing.operation.to_op(self.alloc) else {
-            return Err(AllocError);
+            return Err(Refusal::NoMemory);
         };
         if self.windows.push_operation(at, operation).is_err() {
-            return Err(AllocError);
+            return Err(Refusal::NoMemory);
         }
         paint_last_operation(
             &mut self.screen,
@@ -58,7 +55,7 @@ impl WindowManager {
             self.windows.at(at),
             &self.font,
         );
-        Ok(())
+        Ok(WindowReply::Done)
     }
 }
 

@@ -6,7 +6,7 @@ ghost use Rattle.tb_geom.specs.Rects.{in_plane};
 ghost use Rattle.def_iface.specs.News.{no_news};
 ghost use Rattle.window_mgr.specs.Kept.{IsKept};
 ghost use Rattle.vis_update.specs.Areas.{area_has};
-ghost use Rattle.window_mgr.specs.Finding.{found_at, found_none, part_of_hit};
+ghost use Rattle.window_mgr.specs.Finding.{found_at, part_of_hit};
 ghost use Rattle.vis_update.specs.Records.{record_of};
 ghost use Rattle.window_mgr.specs.Records.{desk_of};
 ghost use Rattle.window_mgr.specs.Whole.{IsSettled};
@@ -39,14 +39,23 @@ impl WindowManager {
         ensures { result ≡ found_at (desk_of ⟦<Taken as Defined>⟧.loan self.now []) point }
     {
         if !self.screen.bounds().contains(point) {
-            return found_none(WindowPart::InDesk);
+            return Found {
+                part: WindowPart::InDesk,
+                window: None,
+            };
         }
         if point.v < self.bar.rows {
-            return found_none(WindowPart::InMenuBar);
+            return Found {
+                part: WindowPart::InMenuBar,
+                window: None,
+            };
         }
         match self.window_at(point) {
             Some(at) => found(self.windows.at(at), point),
-            None => found_none(WindowPart::InDesk),
+            None => Found {
+                part: WindowPart::InDesk,
+                window: None,
+            },
         }
     }
 
@@ -76,13 +85,6 @@ fn found(window: &Window, point: Point) -> Found
         part: part_of_hit(window.taken.hit(local(point, window.place))),
         window: Some(window.serial),
     }
-}
-
-/// No window, and this part.
-fn found_none(part: WindowPart) -> Found
-    ensures { result ≡ found_none part }
-{
-    Found { part, window: None }
 }
 
 /// The part that FindWindow answers where a definition answers this hit.

@@ -1,6 +1,6 @@
 //! Calls, one by one.
 ghost use Rattle.std.specs.Prelude.{◌≡◌};
-ghost use Rattle.desk_call.specs.declared.window.WindowCall.TheVariants.{Draw, Find, Info};
+ghost use Rattle.desk_call.specs.declared.window.WindowCall.TheVariants.{Info};
 ghost use Rattle.window_mgr.specs.AnySlots.{IsStepOverAnySlots};
 ghost use Rattle.window_mgr.specs.Kept.{IsKept};
 ghost use Rattle.window_mgr.specs.Records.{state_of};
@@ -9,11 +9,9 @@ ghost use Rattle.window_mgr.specs.Whole.{IsWholeManager};
 ghost use Rattle.window_mgr.specs.Sparing.{IsSparingCall};
 
 use crate::tell::AskedRegion;
-use crate::{Drawing, ShowHide, WindowCall, WindowInfo, WindowManager, WindowReply};
+use crate::{ShowHide, WindowCall, WindowInfo, WindowManager, WindowReply};
 use def_iface::{Defined, Stocked, Taken, WindowStock};
-use std::alloc::AllocError;
-use tb_geom::{Point, Refusal};
-use window_list::Window;
+use tb_geom::Refusal;
 
 impl WindowManager {
     /// Performs one call, and gives its answer. A refused call changes nothing; which refusal comes
@@ -54,10 +52,13 @@ impl WindowManager {
             WindowCall::Move(moved) => self.move_window(*moved),
             WindowCall::Size(sized) => self.size_window(*sized),
             WindowCall::Zoom(zoom) => self.zoom_window(*zoom),
-            WindowCall::Draw(drawing) => self.answer_draw(drawing),
+            WindowCall::Draw(drawing) => self.draw(drawing),
             WindowCall::SetPicture(new) => self.set_picture(new),
             WindowCall::Scroll(scroll) => self.scroll(*scroll),
-            WindowCall::Find(point) => self.answer_find(*point),
+            WindowCall::Find(point) => match self.find_window(*point) {
+                Ok(found) => Ok(WindowReply::Found(found)),
+                Err(refusal) => Err(refusal),
+            },
             WindowCall::Front => Ok(WindowReply::Front(self.windows.front())),
             WindowCall::Info(window) => self.answer_info(*window),
             WindowCall::VisibleRegion(window) => self.answer_region(*window, AskedRegion::Visible),
@@ -65,54 +66,20 @@ impl WindowManager {
         }
     }
 
-    /// Adds an operation to the picture of a window, and draws it on each pixel of the screen that
-    /// the picture owns, to be redrawn or not. The refusal is the first of these: BadSyntax and
-    /// BadRegion as `OpRef::judge` has them, NoSuchWindow, OutOfRange and TooLong as it has them, TooMany
-    /// where the picture has 1024 operations, NoMemory.
-    fn answer_draw(&mut self, drawing: &Drawing<'_>) -> Result<WindowReply, Refusal>
-        requires { IsKept ⟦<Taken as Defined>⟧.loan self.old }
-        ensures { IsStepOverAnySlots ⟦<Taken as Defined>⟧.loan (Draw drawing.now) result self.old self.new }
-    {
-        let at = self.index_to_draw(drawing)?;
-        match self.add_operation(at, drawing) {
-            Ok(()) => Ok(WindowReply::Done),
-            Err(AllocError) => Err(Refusal::NoMemory),
-        }
-    }
-
-    /// Answers whose a point of the screen is.
-    fn answer_find(&self, point: Point) -> Result<WindowReply, Refusal>
-        requires { IsKept ⟦<Taken as Defined>⟧.loan self.now }
-        ensures { IsStepOverAnySlots ⟦<Taken as Defined>⟧.loan (Find point) result self.now self.now }
-    {
-        Ok(WindowReply::Found(self.find_window(point)?))
-    }
-
     /// Tells how a window stands.
     fn answer_info(&self, window: u64) -> Result<WindowReply, Refusal>
         requires { IsKept ⟦<Taken as Defined>⟧.loan self.now }
         ensures { IsStepOverAnySlots ⟦<Taken as Defined>⟧.loan (Info window) result self.now self.now }
     {
-        match self.find(window) {
-            Some(at) => Ok(WindowReply::Info(info_of(self.windows.at(at)))),
-            None => Err(Refusal::NoSuchWindow),
-        }
-    }
-}
-
-/// How a window stands.
-fn info_of(window: &Window) -> WindowInfo
-    ensures { result ≡ record {
-      place = window.now.place;
-      size = window.now.size;
-      shown = window.now.shown;
-      highlighted = window.now.highlighted;
-    } }
-{
-    WindowInfo {
-        place: window.place,
-        size: window.size,
-        shown: window.shown,
-        highlighted: window.highlighted,
+        let Some(at) = self.find(window) else {
+            return Err(Refusal::NoSuchWindow);
+        };
+        let found = self.windows.at(at);
+        Ok(WindowReply::Info(WindowInfo {
+            place: found.place,
+            size: found.size,
+            shown: found.shown,
+            highlighted: found.highlighted,
+        }))
     }
 }

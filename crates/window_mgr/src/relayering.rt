@@ -10,7 +10,7 @@ ghost use Rattle.window_mgr.specs.Edits.{IsWindowAt};
 ghost use Rattle.window_mgr.specs.Kept.{IsKept};
 ghost use Rattle.window_mgr.specs.Records.{state_of, state_showing};
 ghost use Rattle.window_mgr.specs.Whole.{IsWholeManager};
-ghost use Rattle.window_mgr.specs.Relayered.{IsPartAt, MayHaveLayers, IsGainedAt, IsPlanOfLayers, AreLayersSet, AreLayersPut, HasUpdate, IsLayerRedrawn, IsLayerToggled};
+ghost use Rattle.window_mgr.specs.Relayered.{IsPartAt, MayHaveLayers, IsGainedAt, IsPlanOfLayers, AreLayersSet, AreLayersPut, HasUpdate, IsLayerDrawnWithin, IsLayerToggled};
 
 use crate::WindowManager;
 use bit_blit::fill;
@@ -19,7 +19,7 @@ use def_iface::{Defined, Taken};
 use layer_list::{Layers, Relaid};
 use scan_region::Region;
 use std::alloc::AllocError;
-use tb_geom::Point;
+use tb_geom::{Point, Rect};
 use vis_update::{Relaying, relaying_of};
 use window_paint::{Showing, Toggling, invert_layer, paint_layer, repaint_layer};
 
@@ -52,9 +52,10 @@ impl WindowManager {
         relaying_of(self.alloc, visible, update, &relaid.gained, drawn)
     }
 
-    /// Shows the layer at this index of a window anew, on the pixels that it owns and that are not to be redrawn. It takes no
-    /// memory.
-    pub fn redraw_layer<S: Showing>(&mut self, at: usize, index: usize, showing: &S)
+    /// Draws the layer at this index of a window within a rectangle of the window, on the pixels that it owns and that are not to
+    /// be redrawn. Where the screen was right, and the layer shows outside of the rectangle what it showed, it is shown anew so. It
+    /// takes no memory.
+    pub fn redraw_layer<S: Showing>(&mut self, at: usize, index: usize, within: Rect, showing: &S)
         requires kept { IsKept ⟦<Taken as Defined>⟧.loan self.old }
         requires at { at < length self.old.windows.records.items }
         requires index { (w : _) → IsWindowAt self.old.windows.records.items at w → index < length w.layers.layers }
@@ -64,7 +65,7 @@ impl WindowManager {
             → (was : List ℕ → Part → PixelSet) (slots : List SlotView)
             → IsWholeManager ⟦<Taken as Defined>⟧.loan self.old slots
             → IsWholeManager ⟦<Taken as Defined>⟧.loan self.new slots
-            × IsLayerRedrawn w.serial l.part (state_showing was (state_of ⟦<Taken as Defined>⟧.loan self.old slots))
+            × IsLayerDrawnWithin within w.serial l (state_showing was (state_of ⟦<Taken as Defined>⟧.loan self.old slots))
             (state_showing (S.shows showing.now) (state_of ⟦<Taken as Defined>⟧.loan self.new slots)) }
     {
         let area = &self.areas[at];
@@ -74,6 +75,7 @@ impl WindowManager {
             &area.update,
             self.windows.at(at),
             index,
+            within,
             showing,
             &self.font,
         );

@@ -1,16 +1,13 @@
 //! The calls that change which picture a window shows, and where.
-ghost use Rattle.std.specs.Prelude.{◌≡◌, true, false, IfNone, IfSome, OnOk, OnErr};
+ghost use Rattle.std.specs.Prelude.{◌≡◌, true, false, IfNone, IfSome};
 ghost use Rattle.tb_geom.specs.Points.{plus};
 ghost use Rattle.tb_geom.specs.Rects.{in_plane};
 ghost use Rattle.desk_call.specs.declared.window.WindowCall.TheVariants as asks;
 ghost use Rattle.window_mgr.specs.AnySlots.{IsStepOverAnySlots};
-ghost use Rattle.window_mgr.specs.Edits.{StandsAt};
 ghost use Rattle.window_mgr.specs.Kept.{IsKept};
-ghost use Rattle.window_mgr.specs.Planned.{SameDesk, IsPictureAt};
 
 use crate::{NewPicture, ScrollPicture, WindowManager, WindowReply};
 use def_iface::{Defined, Taken};
-use std::alloc::AllocError;
 use tb_geom::{Point, Refusal};
 
 impl WindowManager {
@@ -25,19 +22,6 @@ impl WindowManager {
         if !new.origin.is_in_range() {
             return Err(Refusal::OutOfRange);
         }
-        match self.replace_picture(at, new) {
-            Ok(()) => Ok(WindowReply::Done),
-            Err(AllocError) => Err(Refusal::NoMemory),
-        }
-    }
-
-    /// Gives the window at this index another picture. Where there is no memory the desk stays as it was.
-    fn replace_picture(&mut self, at: usize, new: &NewPicture<'_>) -> Result<(), AllocError>
-        requires kept { IsKept ⟦<Taken as Defined>⟧.loan self.old }
-        requires at { StandsAt self.old.windows.records.items new.now.window at }
-        ensures set { OnOk result (IsPictureAt at new.now self.old self.new) }
-        ensures same { OnErr result (SameDesk self.old self.new) }
-    {
         let picture = new.picture.copy(self.alloc)?;
         let area = &self.areas[at];
         let shown = area
@@ -46,7 +30,7 @@ impl WindowManager {
         let update = area.update.union(self.alloc, &shown)?;
         self.windows.set_picture(at, picture, new.origin);
         self.put_update(at, update);
-        Ok(())
+        Ok(WindowReply::Done)
     }
 
     /// Moves a window's picture in its content. What comes into sight of it is to be redrawn.

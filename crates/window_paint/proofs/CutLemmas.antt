@@ -1,5 +1,6 @@
 -- Drawing on a region, where it meets another, or where it is less another.
 use Rattle.std.proofs.Common.{◌≡◌, Bool, true, false, not, ◌&&◌, if◌then◌else◌, [], ◌∷◌, Some, None, refl, ap, ◌∙◌}
+use Rattle.std.proofs.lemmas.Bool.{false≢true}
 use Rattle.std.specs.Borrow.{Bor}
 use Rattle.tb_geom.specs.declared.point.Point.{Point}
 use Rattle.tb_geom.specs.declared.rect.Rect.{Rect}
@@ -70,6 +71,25 @@ painted_within cut shown clip f g old new end is_shown is_end within same drawn 
   where
     held : (p : Point) → (rect_holds clip p && cut_holds cut p) ≡ shown p
     held p = ap (λ b. rect_holds clip p && b) (is_shown p) ∙ clipped (shown p) (rect_holds clip p) (within p)
+
+-- what was drawn on a region, in a clip that has of a box around it just these
+pub painted_placed : (cut : Cut) (shown these : PixelSet) (clip box : Rect) (f : Point → Bool → Bool) (old new end : Bits)
+    → ((p : Point) → cut_holds cut p ≡ shown p)
+    → end ≡ new
+    → ((p : Point) → shown p ≡ true → rect_holds box p ≡ true)
+    → ((p : Point) → rect_holds clip p ≡ (rect_holds box p && these p))
+    → Draws (λ p. rect_holds clip p && cut_holds cut p) f old new
+    → Draws (λ p. shown p && these p) f old end
+painted_placed cut shown these clip box f old new end is_shown is_end within clipped_is drawn = rw is_end (
+    Draws-where _ (λ p. shown p && these p) f old new (λ p on. (λ i. clipped_is p i && is_shown p i) ∙ turned (rect_holds box p) (these p) (shown p) (within p)) drawn)
+  where
+    turned : (b t s : Bool) → (s ≡ true → b ≡ true) → ((b && t) && s) ≡ (s && t)
+    turned true true true e = refl
+    turned true true false e = refl
+    turned true false true e = refl
+    turned true false false e = refl
+    turned false t true e = absurd (false≢true (e refl))
+    turned false t false e = refl
 
 -- what was drawn by a value that is another's
 pub drawn_as : (shown : PixelSet) (f g : Point → Bool → Bool) (old new end : Bits)

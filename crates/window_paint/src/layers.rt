@@ -13,7 +13,7 @@ ghost use Rattle.window_paint.specs.Shown.{content_shown};
 use crate::pictures::paint_picture;
 use crate::showing::{Showing, Toggling};
 use bit_map::BitMap;
-use draw_port::Canvas;
+use draw_port::{Canvas, placed_within};
 use scan_region::{Cut, Region};
 use strike_font::Font;
 use tb_geom::Rect;
@@ -41,14 +41,15 @@ pub fn paint_layer<S: Showing>(
     draw_layer(map, region.bbox(), &cut, window, at, layers, font);
 }
 
-/// Draws the layer at this index of a window anew on the pixels of a region of the screen that it owns, but for those of another
-/// region.
+/// Draws the layer at this index of a window anew within a rectangle of the window, on the pixels of a region of the screen that it
+/// owns, but for those of another region.
 pub fn repaint_layer<S: Showing>(
     map: &mut BitMap,
     region: &Region,
     but: &Region,
     window: &Window,
     at: usize,
+    within: Rect,
     layers: &S,
     font: &Font,
 )
@@ -57,13 +58,14 @@ pub fn repaint_layer<S: Showing>(
     requires apart { ArePartsApart window.now.layers.layers }
     requires whole { S.is_whole layers.now }
     ensures { (l : Layer) → l ≡ slice_index_or window.now.layers.layers at l
-        → Draws (λ p. (holds region.now p && belongs_to l.part window.now.layers.layers (minus p window.now.layers.place))
-        && not (holds but.now p))
+        → Draws (λ p. ((holds region.now p && belongs_to l.part window.now.layers.layers (minus p window.now.layers.place))
+        && not (holds but.now p)) && rect_holds within (minus p window.now.place))
         (λ p _. S.shows layers.now font.now l.part (minus p window.now.place))
         map.old map.new }
 {
     let cut = meeting_but(region, window.layers.owned(at), but);
-    draw_layer(map, region.bbox(), &cut, window, at, layers, font);
+    let clip = placed_within(region.bbox(), within, window.place);
+    draw_layer(map, clip, &cut, window, at, layers, font);
 }
 
 /// Inverts what a change of a selection does of the layer at this index of a window, on the pixels of a region of the screen that

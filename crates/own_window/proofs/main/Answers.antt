@@ -16,4 +16,4 @@ at_most_1024 n side = grind (arith, ints)
 -- and so is the screen of a desk that is whole
 pub write_p1-shown-requires-clause-width : goal.write_p1-shown-requires-clause-width
 write_p1-shown-requires-clause-width c =
-    rw c.screen.ensures.width (at_most_1024 _ (and_parts _ _ c.run.ensures.whole.windows.sound.screen).0)
+    rw c.screen.ensures.width (at_most_1024 _ (and_parts _ _ c.run.ensures.whole.managers.windows.sound.screen).0)

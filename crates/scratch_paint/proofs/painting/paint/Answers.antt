@@ -7,16 +7,16 @@ use Rattle.scratch_paint.proofs.FrontLemmas.{screen_painted}
 use Rattle.scratch_paint.proofs.painting.paint.Goals as goal
 
 pub paint_base-requires-clause-kept : goal.paint_base-requires-clause-kept
-paint_base-requires-clause-kept g c = rw c.windows-windows.ensures (kept _ _ _ c.requires.whole.windows)
+paint_base-requires-clause-kept g c = rw c.windows-windows.ensures (kept _ _ _ c.requires.whole.managers.windows)
 
 pub paint_base-requires-clause-layers : goal.paint_base-requires-clause-layers
-paint_base-requires-clause-layers g c = rw (c.contents.ensures.0, c.contents.ensures.1) (c.requires.whole.controls.settled, c.requires.whole.lists.settled)
+paint_base-requires-clause-layers g c = rw (c.contents.ensures.0, c.contents.ensures.1) (c.requires.whole.managers.controls.settled, c.requires.whole.managers.lists.settled)
 
 pub paint_pulled-requires-clause-live : goal.paint_pulled-requires-clause-live
-paint_pulled-requires-clause-live g c = rw c.menus.ensures c.requires.whole.menus.live
+paint_pulled-requires-clause-live g c = rw c.menus.ensures c.requires.whole.managers.menus.live
 
 pub paint_pulled-requires-clause-placed : goal.paint_pulled-requires-clause-placed
-paint_pulled-requires-clause-placed g c = rw c.activity.ensures c.requires.whole.menus.placed
+paint_pulled-requires-clause-placed g c = rw c.activity.ensures c.requires.whole.managers.menus.placed
 
 pub returns : goal.returns
 returns g c =

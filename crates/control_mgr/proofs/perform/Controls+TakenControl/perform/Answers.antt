@@ -1,36 +1,36 @@
 use Rattle.desk_call.specs.declared.control.ControlCall.TheVariants as asks
 use Rattle.control_mgr.specs.Spots.{opened}
-use Rattle.control_mgr.proofs.Performed.{by_call, while_open}
+use Rattle.control_mgr.proofs.Performed.{asked_by, by_call, while_open}
 use Rattle.control_mgr.proofs.perform.Controls+TakenControl.perform.Goals as goal
 
 pub returns-in-New-clause-step : goal.returns-in-New-clause-step
 returns-in-New-clause-step g c begun =
-    by_call _ _ c.args.call.now (asks.New c.in-New.new) _ _ _ c.args.windows.now c.make.new.windows c.args.self.now c.make.new.self (opened c.args.activity.now begun) (opened c.args.activity.now begun) c.in-New.is
+    asked_by _ _ c.args.call.now (asks.New c.in-New.new) _ _ _ c.args.windows.now c.make.new.windows c.args.self.now c.make.new.self (opened c.args.activity.now begun) (opened c.args.activity.now begun) c.in-New.is
     (c.make.ensures (opened c.args.activity.now begun))
 
 pub returns-in-Dispose-clause-step : goal.returns-in-Dispose-clause-step
 returns-in-Dispose-clause-step g c begun =
-    by_call _ _ c.args.call.now (asks.Dispose c.in-Dispose.control) _ _ _ c.args.windows.now c.dispose.new.windows c.args.self.now c.dispose.new.self (opened c.args.activity.now begun) (opened c.args.activity.now begun) c.in-Dispose.is
+    asked_by _ _ c.args.call.now (asks.Dispose c.in-Dispose.control) _ _ _ c.args.windows.now c.dispose.new.windows c.args.self.now c.dispose.new.self (opened c.args.activity.now begun) (opened c.args.activity.now begun) c.in-Dispose.is
     (c.dispose.ensures (opened c.args.activity.now begun))
 
 pub returns-in-Show-clause-step : goal.returns-in-Show-clause-step
 returns-in-Show-clause-step g c begun =
-    by_call _ _ c.args.call.now (asks.Show c.in-Show.control) _ _ _ c.args.windows.now c.show.new.windows c.args.self.now c.show.new.self (opened c.args.activity.now begun) (opened c.args.activity.now begun) c.in-Show.is
+    asked_by _ _ c.args.call.now (asks.Show c.in-Show.control) _ _ _ c.args.windows.now c.show.new.windows c.args.self.now c.show.new.self (opened c.args.activity.now begun) (opened c.args.activity.now begun) c.in-Show.is
     (c.show.ensures (opened c.args.activity.now begun) _)
 
 pub returns-in-Hide-clause-step : goal.returns-in-Hide-clause-step
 returns-in-Hide-clause-step g c begun =
-    by_call _ _ c.args.call.now (asks.Hide c.in-Hide.control) _ _ _ c.args.windows.now c.show-in-Hide.new.windows c.args.self.now c.show-in-Hide.new.self (opened c.args.activity.now begun) (opened c.args.activity.now begun) c.in-Hide.is
+    asked_by _ _ c.args.call.now (asks.Hide c.in-Hide.control) _ _ _ c.args.windows.now c.show-in-Hide.new.windows c.args.self.now c.show-in-Hide.new.self (opened c.args.activity.now begun) (opened c.args.activity.now begun) c.in-Hide.is
     (c.show-in-Hide.ensures (opened c.args.activity.now begun) _)
 
 pub returns-in-Move-clause-step : goal.returns-in-Move-clause-step
 returns-in-Move-clause-step g c begun =
-    by_call _ _ c.args.call.now (asks.Move c.in-Move.moved) _ _ _ c.args.windows.now c.move_control.new.windows c.args.self.now c.move_control.new.self (opened c.args.activity.now begun) (opened c.args.activity.now begun) c.in-Move.is
+    asked_by _ _ c.args.call.now (asks.Move c.in-Move.moved) _ _ _ c.args.windows.now c.move_control.new.windows c.args.self.now c.move_control.new.self (opened c.args.activity.now begun) (opened c.args.activity.now begun) c.in-Move.is
     (c.move_control.ensures (opened c.args.activity.now begun) _)
 
 pub returns-in-Size-clause-step : goal.returns-in-Size-clause-step
 returns-in-Size-clause-step g c begun =
-    by_call _ _ c.args.call.now (asks.Size c.in-Size.sized) _ _ _ c.args.windows.now c.size_control.new.windows c.args.self.now c.size_control.new.self (opened c.args.activity.now begun) (opened c.args.activity.now begun) c.in-Size.is
+    asked_by _ _ c.args.call.now (asks.Size c.in-Size.sized) _ _ _ c.args.windows.now c.size_control.new.windows c.args.self.now c.size_control.new.self (opened c.args.activity.now begun) (opened c.args.activity.now begun) c.in-Size.is
     (c.size_control.ensures (opened c.args.activity.now begun) _)
 
 pub returns-in-SetValue-clause-step : goal.returns-in-SetValue-clause-step
@@ -60,17 +60,17 @@ returns-in-SetTitle-clause-step g c begun =
 
 pub returns-in-Get-clause-step : goal.returns-in-Get-clause-step
 returns-in-Get-clause-step g c begun =
-    by_call _ _ c.args.call.now (asks.Get c.in-Get.control) _ _ _ c.args.windows.now c.args.windows.now c.args.self.now c.args.self.now (opened c.args.activity.now begun) (opened c.args.activity.now begun) c.in-Get.is
+    asked_by _ _ c.args.call.now (asks.Get c.in-Get.control) _ _ _ c.args.windows.now c.args.windows.now c.args.self.now c.args.self.now (opened c.args.activity.now begun) (opened c.args.activity.now begun) c.in-Get.is
     (c.get.ensures (opened c.args.activity.now begun) _)
 
 pub returns-in-Find-clause-step : goal.returns-in-Find-clause-step
 returns-in-Find-clause-step g c begun =
-    by_call _ _ c.args.call.now (asks.Find c.in-Find.asked) _ _ _ c.args.windows.now c.args.windows.now c.args.self.now c.args.self.now (opened c.args.activity.now begun) (opened c.args.activity.now begun) c.in-Find.is
+    asked_by _ _ c.args.call.now (asks.Find c.in-Find.asked) _ _ _ c.args.windows.now c.args.windows.now c.args.self.now c.args.self.now (opened c.args.activity.now begun) (opened c.args.activity.now begun) c.in-Find.is
     (c.find.ensures (opened c.args.activity.now begun) _)
 
 pub returns-in-Test-clause-step : goal.returns-in-Test-clause-step
 returns-in-Test-clause-step g c begun =
-    by_call _ _ c.args.call.now (asks.Test c.in-Test.asked) _ _ _ c.args.windows.now c.args.windows.now c.args.self.now c.args.self.now (opened c.args.activity.now begun) (opened c.args.activity.now begun) c.in-Test.is
+    asked_by _ _ c.args.call.now (asks.Test c.in-Test.asked) _ _ _ c.args.windows.now c.args.windows.now c.args.self.now c.args.self.now (opened c.args.activity.now begun) (opened c.args.activity.now begun) c.in-Test.is
     (c.test.ensures (opened c.args.activity.now begun) _)
 
 pub returns-in-Track-clause-step : goal.returns-in-Track-clause-step

@@ -7,13 +7,13 @@ use Rattle.tb_geom.specs.declared.refusal.Refusal.TheVariants.{OutOfRange}
 use Rattle.control_list.specs.Lists.{with_highlight}
 use Rattle.desk_call.specs.declared.control.ControlCall.TheVariants as asks
 use Rattle.control_mgr.proofs.Sets.{highlight_agrees, number_fits, set_done, state_read}
-use Rattle.control_mgr.proofs.Steps.{named_missing, refused_by}
+use Rattle.control_mgr.proofs.Steps.{named_missing, refused_where}
 use Rattle.control_mgr.proofs.setting.Controls+TakenControl.hilite.Goals as goal
 
 pub returns-in_err-spot : goal.returns-in_err-spot
 returns-in_err-spot g c o =
     let e = err_from_is_err_and c.from_residual.result c.from_residual.ensures.1 in
-    refused_by _ _ (asks.Hilite c.args.set) c.from_residual.result e.0 c.args.windows.now o c.args.self.now e.1 (λ others slots kept. named_missing _ _ c.args.set.control c.args.windows.now c.args.self.now ((not (is_highlight c.args.set.number), OutOfRange) ∷ []) _ c.in_err-spot.ensures ∙ ap Some (sym e.2))
+    refused_where _ _ (asks.Hilite c.args.set) c.from_residual.result e.0 c.args.windows.now o c.args.self.now e.1 (λ others slots kept. named_missing _ _ c.args.set.control c.args.windows.now c.args.self.now ((not (is_highlight c.args.set.number), OutOfRange) ∷ []) _ c.in_err-spot.ensures ∙ ap Some (sym e.2))
 
 pub returns : goal.returns
 returns g c o =

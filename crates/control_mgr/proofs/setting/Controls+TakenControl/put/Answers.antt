@@ -1,9 +1,9 @@
 use Rattle.std.proofs.Common.{◌<◌, length, sym, ◌∙◌, subst}
-use Rattle.control_mgr.proofs.Puts.{layer_low, put_shown, state_changed, state_set, state_settled, state_tellable}
+use Rattle.control_mgr.proofs.Puts.{layer_low, put_shown, state_changed, state_damaged, state_set, state_settled, state_tellable}
 use Rattle.control_mgr.proofs.setting.Controls+TakenControl.put.Goals as goal
 
-pub tell-requires-clause-tellable : goal.tell-requires-clause-tellable
-tell-requires-clause-tellable g c =
+pub tell-damage-requires-clause-tellable : goal.tell-damage-requires-clause-tellable
+tell-damage-requires-clause-tellable g c =
     let spot = c.args.spot in
     state_tellable _ c.args.state spot.control c.args.self.now _ c.requires.spot.is.low c.requires.beside.whole.settled
     (state_set _ c.args.state spot.control c.args.self.now.list.controls.items _ _ _ c.set_values.ensures.controls c.set_highlight.ensures.controls c.set_title.ensures.controls)
@@ -16,14 +16,16 @@ pub redraw_layer-requires-clause-whole : goal.redraw_layer-requires-clause-whole
 redraw_layer-requires-clause-whole g c =
     let spot = c.args.spot in
     let set = state_set _ c.args.state spot.control c.args.self.now.list.controls.items _ _ _ c.set_values.ensures.controls c.set_highlight.ensures.controls c.set_title.ensures.controls in
-    state_settled _ c.args.state (record { setting = c.may_have.ensures.setting; highlight = c.may_have.ensures.highlight }) spot.control c.args.self.now c.tell.new.self c.requires.beside.whole.settled
-    (state_changed _ c.args.state spot.control c.args.self.now c.tell.new.self _ c.requires.spot.is.low set c.tell.ensures.told)
+    state_settled _ c.args.state (record { setting = c.may_have.ensures.setting; highlight = c.may_have.ensures.highlight }) spot.control c.args.self.now c.tell-damage.new.self c.requires.beside.whole.settled
+    (state_changed _ c.args.state spot.control c.args.self.now c.tell-damage.new.self _ c.requires.spot.is.low set c.tell-damage.ensures.told)
 
 pub returns : goal.returns
 returns g c named is =
     let spot = c.args.spot in
     let set = state_set _ c.args.state spot.control c.args.self.now.list.controls.items _ _ _ c.set_values.ensures.controls c.set_highlight.ensures.controls c.set_title.ensures.controls in
-    put_shown _ _ named c.args.state (record { setting = c.may_have.ensures.setting; highlight = c.may_have.ensures.highlight }) c.args.windows.now c.redraw_layer.new.self c.args.self.now c.tell.new.self spot is
-    (state_changed _ c.args.state spot.control c.args.self.now c.tell.new.self _ c.requires.spot.is.low set c.tell.ensures.told)
-    (c.tell.ensures.next ∙ c.set_title.ensures.next ∙ c.set_highlight.ensures.next ∙ c.set_values.ensures.next)
-    c.layer_index-layer.result c.layer_index-layer.ensures c.redraw_layer.ensures
+    put_shown _ _ named c.args.state (record { setting = c.may_have.ensures.setting; highlight = c.may_have.ensures.highlight }) c.args.windows.now c.redraw_layer.new.self c.args.self.now c.tell-damage.new.self spot is
+    (state_changed _ c.args.state spot.control c.args.self.now c.tell-damage.new.self _ c.requires.spot.is.low set c.tell-damage.ensures.told)
+    (c.tell-damage.ensures.next ∙ c.set_title.ensures.next ∙ c.set_highlight.ensures.next ∙ c.set_values.ensures.next)
+    c.layer_index-layer.result c.layer_index-layer.ensures c.tell-damage.result
+    (state_damaged _ c.args.state spot.control c.args.self.now c.tell-damage.new.self _ c.tell-damage.result set c.tell-damage.ensures.damage)
+    c.redraw_layer.ensures

@@ -6,7 +6,7 @@ use Rattle.control_values.specs.Settings.{is_in_range, settled}
 use Rattle.desk_call.specs.declared.control.ControlCall.TheVariants as asks
 use Rattle.control_mgr.specs.ControlSteps.{with_maximum}
 use Rattle.control_mgr.proofs.Sets.{chosen, maximum_judged, number_fits, number_refused, set_done, state_read, values_agree}
-use Rattle.control_mgr.proofs.Steps.{refused_by}
+use Rattle.control_mgr.proofs.Steps.{refused_where}
 use Rattle.control_mgr.proofs.setting.Controls+TakenControl.set_maximum.Goals as goal
 
 pub returns : goal.returns
@@ -34,5 +34,5 @@ returns-in_err-set_maximum g c o =
     let judged = simp to_z-of_z at c.set_maximum.ensures.in_range in
     let fits : (is_in_range c.args.set.number && int_le c.state-state.result.values.minimum c.args.set.number) ≡ false = sym judged ∙ ap is_ok c.in_err-set_maximum.was in
     let e = err_from_is_err_and c.from_residual-in_err-set_maximum.result c.from_residual-in_err-set_maximum.ensures.1 in
-    refused_by _ _ (asks.SetMaximum set) _ e.0 c.args.windows.now o c.args.self.now e.1
+    refused_where _ _ (asks.SetMaximum set) _ e.0 c.args.windows.now o c.args.self.now e.1
     (λ others slots kept. number_refused _ _ set.control c.args.windows.now c.args.self.now spot is _ (maximum_judged _ _ set.control c.args.windows.now c.args.self.now spot is set.number c.state-state.result c.state-state.ensures ∙ fits) ∙ ap Some (sym (e.2 ∙ c.in_err-set_maximum.ensures.refused)))

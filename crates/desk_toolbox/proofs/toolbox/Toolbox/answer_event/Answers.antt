@@ -13,6 +13,16 @@ use Rattle.list_mgr.specs.WholeLists as lists
 use Rattle.desk_toolbox.proofs.WaitingShown.{first_showing}
 use Rattle.desk_toolbox.proofs.toolbox.Toolbox.answer_event.Goals as goal
 
+pub returns-clause-whole : goal.returns-clause-whole
+returns-clause-whole g c stocks whole = record {
+  windows = whole.managers.windows;
+  updates = whole.managers.updates;
+  controls = whole.managers.controls;
+  trackable = whole.managers.trackable;
+  menus = whole.managers.menus;
+  lists = whole.managers.lists;
+}
+
 pub returns-clause-step : goal.returns-clause-step
 returns-clause-step g c stocks =
     let self = c.args.self.now in

@@ -33,23 +33,23 @@ returns-in-Err-tell_update-clause-step g c = rw c.in-Update.is (Err c.in-Err-tel
 
 pub returns-in-Ok-perform-clause-whole : goal.returns-in-Ok-perform-clause-whole
 returns-in-Ok-perform-clause-whole g c =
-    let done = c.in-Ok-perform.ensures.step (λ p. false) _ c.requires.whole.windows in
+    let done = c.in-Ok-perform.ensures.step (λ p. false) _ c.requires.whole.managers.windows in
     let may = subst (λ call. gate c.args.self.now.activity (standing_of call) ≡ None) c.in-Frame.is c.requires.admitted in
     let before : Opened = record { activity = c.args.self.now.activity; begun = λ p. false } in
     let after : Opened = record { activity = c.perform.new.activity; begun = λ p. false } in
     record {
       windows = done.0;
-      updates = updates_after_frame _ c.args.self.now.windows c.perform.new.windows c.args.self.now.updates _ _ before after c.in-Frame.call (Ok c.in-Ok-perform.reply) may done.1 c.requires.whole.updates;
-      controls = frames_leave c.in-Frame.call (Ok c.in-Ok-perform.reply) _ _ _ done.1 c.requires.whole.controls;
-      lists = frames_leave_lists c.in-Frame.call (Ok c.in-Ok-perform.reply) _ _ _ done.1 c.requires.whole.lists;
-      trackable = frame_trackable _ _ _ c.requires.whole.trackable c.in-Frame.call (Ok c.in-Ok-perform.reply) done.1;
-      menus = frame_whole _ _ c.args.self.now.windows c.perform.new.windows _ _ _ _ before after c.in-Frame.call (Ok c.in-Ok-perform.reply) may done.1 c.requires.whole.menus;
+      updates = updates_after_frame _ c.args.self.now.windows c.perform.new.windows c.args.self.now.updates _ _ before after c.in-Frame.call (Ok c.in-Ok-perform.reply) may done.1 c.requires.whole.managers.updates;
+      controls = frames_leave c.in-Frame.call (Ok c.in-Ok-perform.reply) _ _ _ done.1 c.requires.whole.managers.controls;
+      lists = frames_leave_lists c.in-Frame.call (Ok c.in-Ok-perform.reply) _ _ _ done.1 c.requires.whole.managers.lists;
+      trackable = frame_trackable _ _ _ c.requires.whole.managers.trackable c.in-Frame.call (Ok c.in-Ok-perform.reply) done.1;
+      menus = frame_whole _ _ c.args.self.now.windows c.perform.new.windows _ _ _ _ before after c.in-Frame.call (Ok c.in-Ok-perform.reply) may done.1 c.requires.whole.managers.menus;
     }
 
 pub returns-in-Ok-perform-clause-step : goal.returns-in-Ok-perform-clause-step
 returns-in-Ok-perform-clause-step g c =
     let kept = holds c.args.self.now.updates.begun in
-    let done = c.in-Ok-perform.ensures.step kept _ c.requires.whole.windows in
+    let done = c.in-Ok-perform.ensures.step kept _ c.requires.whole.managers.windows in
     let before : Opened = record { activity = c.args.self.now.activity; begun = kept } in
     let after : Opened = record { activity = c.perform.new.activity; begun = kept } in
     rw c.in-Frame.is (
@@ -57,30 +57,30 @@ returns-in-Ok-perform-clause-step g c =
       refl,
       (
         frame_step_showing (controls_show (lists_show (lists.records_of (taken_list.list_loan-value g.dyn-4).it c.args.self.now.lists)) (records_of (taken_control.control_loan-value g.dyn-2).it c.args.self.now.controls)) c.in-Frame.call (Ok c.in-Ok-perform.reply) (desk_with before (state_of (taken.loan-value g.dyn-1).it c.args.self.now.windows _)) (desk_with after (state_of (taken.loan-value g.dyn-1).it c.perform.new.windows _))
-            c.requires.whole.windows.sound.distinct done.1,
+            c.requires.whole.managers.windows.sound.distinct done.1,
         record { events = refl; controls = refl; lists = refl; menus = refl },
       ),
     )
 
 pub returns-in-Err-perform-clause-whole : goal.returns-in-Err-perform-clause-whole
 returns-in-Err-perform-clause-whole g c =
-    let done = c.in-Err-perform.ensures.step (λ p. false) _ c.requires.whole.windows in
+    let done = c.in-Err-perform.ensures.step (λ p. false) _ c.requires.whole.managers.windows in
     let may = subst (λ call. gate c.args.self.now.activity (standing_of call) ≡ None) c.in-Frame.is c.requires.admitted in
     let before : Opened = record { activity = c.args.self.now.activity; begun = λ p. false } in
     let after : Opened = record { activity = c.perform.new.activity; begun = λ p. false } in
     record {
       windows = done.0;
-      updates = updates_after_frame _ c.args.self.now.windows c.perform.new.windows c.args.self.now.updates _ _ before after c.in-Frame.call (Err c.in-Err-perform.refusal) may done.1 c.requires.whole.updates;
-      controls = frames_leave c.in-Frame.call (Err c.in-Err-perform.refusal) _ _ _ done.1 c.requires.whole.controls;
-      lists = frames_leave_lists c.in-Frame.call (Err c.in-Err-perform.refusal) _ _ _ done.1 c.requires.whole.lists;
-      trackable = frame_trackable _ _ _ c.requires.whole.trackable c.in-Frame.call (Err c.in-Err-perform.refusal) done.1;
-      menus = frame_whole _ _ c.args.self.now.windows c.perform.new.windows _ _ _ _ before after c.in-Frame.call (Err c.in-Err-perform.refusal) may done.1 c.requires.whole.menus;
+      updates = updates_after_frame _ c.args.self.now.windows c.perform.new.windows c.args.self.now.updates _ _ before after c.in-Frame.call (Err c.in-Err-perform.refusal) may done.1 c.requires.whole.managers.updates;
+      controls = frames_leave c.in-Frame.call (Err c.in-Err-perform.refusal) _ _ _ done.1 c.requires.whole.managers.controls;
+      lists = frames_leave_lists c.in-Frame.call (Err c.in-Err-perform.refusal) _ _ _ done.1 c.requires.whole.managers.lists;
+      trackable = frame_trackable _ _ _ c.requires.whole.managers.trackable c.in-Frame.call (Err c.in-Err-perform.refusal) done.1;
+      menus = frame_whole _ _ c.args.self.now.windows c.perform.new.windows _ _ _ _ before after c.in-Frame.call (Err c.in-Err-perform.refusal) may done.1 c.requires.whole.managers.menus;
     }
 
 pub returns-in-Err-perform-clause-step : goal.returns-in-Err-perform-clause-step
 returns-in-Err-perform-clause-step g c =
     let kept = holds c.args.self.now.updates.begun in
-    let done = c.in-Err-perform.ensures.step kept _ c.requires.whole.windows in
+    let done = c.in-Err-perform.ensures.step kept _ c.requires.whole.managers.windows in
     let before : Opened = record { activity = c.args.self.now.activity; begun = kept } in
     let after : Opened = record { activity = c.perform.new.activity; begun = kept } in
     rw c.in-Frame.is (
@@ -88,34 +88,34 @@ returns-in-Err-perform-clause-step g c =
       refl,
       (
         frame_step_showing (controls_show (lists_show (lists.records_of (taken_list.list_loan-value g.dyn-4).it c.args.self.now.lists)) (records_of (taken_control.control_loan-value g.dyn-2).it c.args.self.now.controls)) c.in-Frame.call (Err c.in-Err-perform.refusal) (desk_with before (state_of (taken.loan-value g.dyn-1).it c.args.self.now.windows _)) (desk_with after (state_of (taken.loan-value g.dyn-1).it c.perform.new.windows _))
-            c.requires.whole.windows.sound.distinct done.1,
+            c.requires.whole.managers.windows.sound.distinct done.1,
         record { events = refl; controls = refl; lists = refl; menus = refl },
       ),
     )
 
 pub returns-in-Ok-perform-2-clause-whole : goal.returns-in-Ok-perform-2-clause-whole
 returns-in-Ok-perform-2-clause-whole g c =
-    let done = c.in-Ok-perform-2.ensures (λ p. holds c.args.self.now.updates.begun p) _ c.requires.whole.windows in
+    let done = c.in-Ok-perform-2.ensures (λ p. holds c.args.self.now.updates.begun p) _ c.requires.whole.managers.windows in
     let may = subst (λ call. gate c.args.self.now.activity (standing_of call) ≡ None) c.in-Menu.is c.requires.admitted in
     let before : Opened = record { activity = c.args.self.now.activity; begun = λ p. holds c.args.self.now.updates.begun p } in
     let after : Opened = record { activity = c.perform-in-Menu.new.activity; begun = λ p. holds c.args.self.now.updates.begun p } in
     record {
       windows = done.0;
-      updates = updates_after_menu _ c.args.self.now.windows c.perform-in-Menu.new.windows c.args.self.now.updates _ _ before after _ _ c.in-Menu.call (Ok c.in-Ok-perform-2.reply) may done.2 c.requires.whole.updates;
-      controls = menus_leave c.in-Menu.call (Ok c.in-Ok-perform-2.reply) _ _ _ done.2 c.requires.whole.controls;
-      lists = menus_leave_lists c.in-Menu.call (Ok c.in-Ok-perform-2.reply) _ _ _ done.2 c.requires.whole.lists;
+      updates = updates_after_menu _ c.args.self.now.windows c.perform-in-Menu.new.windows c.args.self.now.updates _ _ before after _ _ c.in-Menu.call (Ok c.in-Ok-perform-2.reply) may done.2 c.requires.whole.managers.updates;
+      controls = menus_leave c.in-Menu.call (Ok c.in-Ok-perform-2.reply) _ _ _ done.2 c.requires.whole.managers.controls;
+      lists = menus_leave_lists c.in-Menu.call (Ok c.in-Ok-perform-2.reply) _ _ _ done.2 c.requires.whole.managers.lists;
       trackable = menu_trackable c.in-Menu.call (Ok c.in-Ok-perform-2.reply) _ _ _ may done.2;
       menus = done.1;
     }
 
 pub returns-in-Ok-perform-2-clause-step : goal.returns-in-Ok-perform-2-clause-step
 returns-in-Ok-perform-2-clause-step g c =
-    let done = c.in-Ok-perform-2.ensures (λ p. holds c.args.self.now.updates.begun p) _ c.requires.whole.windows in
+    let done = c.in-Ok-perform-2.ensures (λ p. holds c.args.self.now.updates.begun p) _ c.requires.whole.managers.windows in
     rw c.in-Menu.is (
       Ok c.in-Ok-perform-2.reply,
       refl,
       record {
-        step = menu_step_showing (controls_show (lists_show (lists.records_of (taken_list.list_loan-value g.dyn-4).it c.args.self.now.lists)) (records_of (taken_control.control_loan-value g.dyn-2).it c.args.self.now.controls)) _ _ c.requires.whole.windows.sound.distinct c.in-Menu.call (Ok c.in-Ok-perform-2.reply) done.2;
+        step = menu_step_showing (controls_show (lists_show (lists.records_of (taken_list.list_loan-value g.dyn-4).it c.args.self.now.lists)) (records_of (taken_control.control_loan-value g.dyn-2).it c.args.self.now.controls)) _ _ c.requires.whole.managers.windows.sound.distinct c.in-Menu.call (Ok c.in-Ok-perform-2.reply) done.2;
         events = refl;
         controls = refl;
         lists = refl;
@@ -124,27 +124,27 @@ returns-in-Ok-perform-2-clause-step g c =
 
 pub returns-in-Err-perform-2-clause-whole : goal.returns-in-Err-perform-2-clause-whole
 returns-in-Err-perform-2-clause-whole g c =
-    let done = c.in-Err-perform-2.ensures (λ p. holds c.args.self.now.updates.begun p) _ c.requires.whole.windows in
+    let done = c.in-Err-perform-2.ensures (λ p. holds c.args.self.now.updates.begun p) _ c.requires.whole.managers.windows in
     let may = subst (λ call. gate c.args.self.now.activity (standing_of call) ≡ None) c.in-Menu.is c.requires.admitted in
     let before : Opened = record { activity = c.args.self.now.activity; begun = λ p. holds c.args.self.now.updates.begun p } in
     let after : Opened = record { activity = c.perform-in-Menu.new.activity; begun = λ p. holds c.args.self.now.updates.begun p } in
     record {
       windows = done.0;
-      updates = updates_after_menu _ c.args.self.now.windows c.perform-in-Menu.new.windows c.args.self.now.updates _ _ before after _ _ c.in-Menu.call (Err c.in-Err-perform-2.refusal) may done.2 c.requires.whole.updates;
-      controls = menus_leave c.in-Menu.call (Err c.in-Err-perform-2.refusal) _ _ _ done.2 c.requires.whole.controls;
-      lists = menus_leave_lists c.in-Menu.call (Err c.in-Err-perform-2.refusal) _ _ _ done.2 c.requires.whole.lists;
+      updates = updates_after_menu _ c.args.self.now.windows c.perform-in-Menu.new.windows c.args.self.now.updates _ _ before after _ _ c.in-Menu.call (Err c.in-Err-perform-2.refusal) may done.2 c.requires.whole.managers.updates;
+      controls = menus_leave c.in-Menu.call (Err c.in-Err-perform-2.refusal) _ _ _ done.2 c.requires.whole.managers.controls;
+      lists = menus_leave_lists c.in-Menu.call (Err c.in-Err-perform-2.refusal) _ _ _ done.2 c.requires.whole.managers.lists;
       trackable = menu_trackable c.in-Menu.call (Err c.in-Err-perform-2.refusal) _ _ _ may done.2;
       menus = done.1;
     }
 
 pub returns-in-Err-perform-2-clause-step : goal.returns-in-Err-perform-2-clause-step
 returns-in-Err-perform-2-clause-step g c =
-    let done = c.in-Err-perform-2.ensures (λ p. holds c.args.self.now.updates.begun p) _ c.requires.whole.windows in
+    let done = c.in-Err-perform-2.ensures (λ p. holds c.args.self.now.updates.begun p) _ c.requires.whole.managers.windows in
     rw c.in-Menu.is (
       Err c.in-Err-perform-2.refusal,
       refl,
       record {
-        step = menu_step_showing (controls_show (lists_show (lists.records_of (taken_list.list_loan-value g.dyn-4).it c.args.self.now.lists)) (records_of (taken_control.control_loan-value g.dyn-2).it c.args.self.now.controls)) _ _ c.requires.whole.windows.sound.distinct c.in-Menu.call (Err c.in-Err-perform-2.refusal) done.2;
+        step = menu_step_showing (controls_show (lists_show (lists.records_of (taken_list.list_loan-value g.dyn-4).it c.args.self.now.lists)) (records_of (taken_control.control_loan-value g.dyn-2).it c.args.self.now.controls)) _ _ c.requires.whole.managers.windows.sound.distinct c.in-Menu.call (Err c.in-Err-perform-2.refusal) done.2;
         events = refl;
         controls = refl;
         lists = refl;

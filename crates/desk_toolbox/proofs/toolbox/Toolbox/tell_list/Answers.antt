@@ -15,21 +15,22 @@ returns-clause-whole g c =
     let menu_loan = (taken_menu.menu_loan-value g.dyn-3).it in
     let list_loan = (taken_list.list_loan-value g.dyn-4).it in
     let began = opened self.activity self.updates in
-    let done = c.perform.ensures began _ c.requires.whole.windows c.requires.whole.controls c.requires.whole.lists in
+    let done = c.perform.ensures began _ c.requires.whole.managers.windows c.requires.whole.managers.controls c.requires.whole.managers.lists in
+    let made = done.3 c.requires.whole.right in
     record {
       windows = done.0;
       updates = updates_after_list loan menu_loan control_loan list_loan self.windows c.perform.new.windows _ _ began self.controls c.perform.new.controls _ _ self.lists c.perform.new.self _ _
-          c.args.call.now c.perform.result c.requires.admitted done.3 self.updates c.requires.whole.updates;
+          c.args.call.now c.perform.result c.requires.admitted made self.updates c.requires.whole.managers.updates;
       controls = done.1;
       trackable = trackable_after_list loan menu_loan control_loan list_loan self.windows c.perform.new.windows _ _ began self.controls c.perform.new.controls _ _ self.lists c.perform.new.self _ _
-          c.args.call.now c.perform.result c.requires.admitted done.3 c.requires.whole.trackable;
+          c.args.call.now c.perform.result c.requires.admitted made c.requires.whole.managers.trackable;
       menus = menus_after_list loan menu_loan control_loan list_loan self.windows c.perform.new.windows _ _ began self.controls c.perform.new.controls _ _ self.lists c.perform.new.self _ _
-          c.args.call.now c.perform.result c.requires.admitted done.3 self.menus _ c.requires.whole.menus;
+          c.args.call.now c.perform.result c.requires.admitted made self.menus _ c.requires.whole.managers.menus;
       lists = done.2;
     }
 
 pub returns-clause-step : goal.returns-clause-step
 returns-clause-step g c =
     let began = opened c.args.self.now.activity c.args.self.now.updates in
-    let done = c.perform.ensures began _ c.requires.whole.windows c.requires.whole.controls c.requires.whole.lists in
-    record { step = done.3; events = refl; menus = refl }
+    let done = c.perform.ensures began _ c.requires.whole.managers.windows c.requires.whole.managers.controls c.requires.whole.managers.lists in
+    record { step = done.3 c.requires.whole.right; events = refl; menus = refl }

@@ -14,16 +14,16 @@ use Rattle.desk_toolbox.proofs.toolbox.Toolbox.tell_update.Goals as goal
 pub returns-clause-whole : goal.returns-clause-whole
 returns-clause-whole g c stocks whole =
     let self = c.args.self.now in
-    let done = c.perform.ensures.step stocks.windows whole.windows in
+    let done = c.perform.ensures.step stocks.windows whole.managers.windows in
     let shows = controls_show (lists_show (lists.records_of (taken_list.list_loan-value g.dyn-4).it self.lists)) (records_of (taken_control.control_loan-value g.dyn-2).it self.controls) in
     record {
       windows = done.0;
       updates = c.perform.ensures.whole;
-      controls = updates_leave c.args.call.now c.perform.result _ _ _ done.1 whole.controls;
-      trackable = update_trackable _ _ _ whole.trackable c.args.call.now c.perform.result done.1;
-      menus = update_whole _ _ self.windows c.perform.new.windows _ _ _ _ shows (opened self.activity self.updates) (opened c.perform.new.activity c.perform.new.self) c.args.call.now c.perform.result c.requires.admitted done.1 whole.menus;
-      lists = updates_leave_lists c.args.call.now c.perform.result _ _ _ done.1 whole.lists;
+      controls = updates_leave c.args.call.now c.perform.result _ _ _ done.1 whole.managers.controls;
+      trackable = update_trackable _ _ _ whole.managers.trackable c.args.call.now c.perform.result done.1;
+      menus = update_whole _ _ self.windows c.perform.new.windows _ _ _ _ shows (opened self.activity self.updates) (opened c.perform.new.activity c.perform.new.self) c.args.call.now c.perform.result c.requires.admitted done.1 whole.managers.menus;
+      lists = updates_leave_lists c.args.call.now c.perform.result _ _ _ done.1 whole.managers.lists;
     }
 
 pub returns-clause-step : goal.returns-clause-step
-returns-clause-step g c stocks whole = ((c.perform.ensures.step stocks.windows whole.windows).1, record { events = refl; controls = refl; lists = refl; menus = refl })
+returns-clause-step g c stocks whole = ((c.perform.ensures.step stocks.windows whole.managers.windows).1, record { events = refl; controls = refl; lists = refl; menus = refl })

@@ -1,7 +1,14 @@
 use Rattle.std.proofs.Common.{rules, SFits, w32, ap}
 use Rattle.std.proofs.lemmas.Int.{to_z-of_z}
+use Rattle.def_iface.specs.contracts.taken_control.TakenControlDefinedControl.TheImpl as taken_control
+use Rattle.def_iface.specs.contracts.taken_list.TakenListDefinedList.TheImpl as taken_list
 use Rattle.control_list.specs.Seen.{all_seen}
+use Rattle.control_mgr.specs.ControlDesks.{controls_show}
+use Rattle.control_mgr.specs.WholeControls.{records_of}
+use Rattle.list_mgr.specs.ListDesks.{lists_show}
+use Rattle.list_mgr.specs.WholeLists as whole_lists
 use Rattle.menu_mgr.proofs.Stocks.{stocked_by_full}
+use Rattle.desk_toolbox.proofs.Begun.{right_bare}
 use Rattle.desk_toolbox.proofs.MenusBeside.{menus_begin}
 use Rattle.desk_toolbox.proofs.UpdatesBeside.{updates_begin}
 use Rattle.window_mgr.specs.FullDesk.{FullDesk}
@@ -25,13 +32,17 @@ returns-in-Ok-clause-whole g c stocks full =
     let fits_b : SFits w32 c.args.bar = search rules in
     let begun = simp to_z-of_z at c.in-Ok.ensures.begun in
     let empty = begun stocks.windows full.windows in
+    let shows = controls_show (lists_show (whole_lists.records_of (taken_list.list_loan-value g.dyn-4).it c.new-in-Ok-2.result)) (records_of (taken_control.control_loan-value g.dyn-3).it c.new-in-Ok.result) in
     record {
-      windows = empty.whole;
-      updates = updates_begin _ c.args.width c.args.height c.args.bar _ _ _ stocks.windows c.requires.width c.requires.height empty;
-      controls = none_whole _ _ (ap (λ (d : FullDesk). d.windows) empty.desk) (ap (all_seen _) c.new-in-Ok.ensures.controls) c.new-in-Ok.ensures.next full.controls;
-      trackable = tt;
-      lists = no_lists_whole _ _ (ap (λ (d : FullDesk). d.windows) empty.desk) (ap (lists.all_seen _) c.new-in-Ok-2.ensures.lists) c.new-in-Ok-2.ensures.next full.lists;
-      menus = menus_begin _ _ c.args.width c.args.height c.args.bar _ _ _ stocks.windows stocks.menus c.requires.menus empty (stocked_by_full stocks.menus full.menus);
+      managers = record {
+        windows = empty.whole;
+        updates = updates_begin _ c.args.width c.args.height c.args.bar _ _ _ stocks.windows c.requires.width c.requires.height empty;
+        controls = none_whole _ _ (ap (λ (d : FullDesk). d.windows) empty.desk) (ap (all_seen _) c.new-in-Ok.ensures.controls) c.new-in-Ok.ensures.next full.controls;
+        trackable = tt;
+        lists = no_lists_whole _ _ (ap (λ (d : FullDesk). d.windows) empty.desk) (ap (lists.all_seen _) c.new-in-Ok-2.ensures.lists) c.new-in-Ok-2.ensures.next full.lists;
+        menus = menus_begin _ _ c.args.width c.args.height c.args.bar _ _ _ stocks.windows stocks.menus c.requires.menus empty (stocked_by_full stocks.menus full.menus);
+      };
+      right = right_bare shows _ (ap (λ (d : FullDesk). d.windows) empty.desk) empty.right;
     }
 
 pub returns-in-Ok-clause-in_range : goal.returns-in-Ok-clause-in_range

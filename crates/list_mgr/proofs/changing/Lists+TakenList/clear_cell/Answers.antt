@@ -10,9 +10,12 @@ use Rattle.control_mgr.proofs.Lays.{one_item}
 use Rattle.list_mgr.proofs.Cells.{cleared_grid, cleared_or_not}
 use Rattle.list_mgr.specs.Changing.{IsSameOrNot}
 use Rattle.list_mgr.specs.ListSteps.{IsListChanged, IsListStep, with_grid}
-use Rattle.list_mgr.proofs.Changed.{changed_as, grows_off, short_over}
+use Rattle.list_mgr.proofs.Changed.{right_as, grows_off, short_over_right}
 use Rattle.list_mgr.proofs.Given.{beside_so, changed_so, mark_so, read_grid, spot_so, with_cells_there}
 use Rattle.list_mgr.proofs.Steps.{cell_there, list_read}
+use Rattle.list_view.specs.Views.{cell_rect}
+use Rattle.list_view.proofs.LawLemmas.{cell_of_list}
+use Rattle.list_mgr.proofs.Outside.{bytes_outside}
 use Rattle.list_mgr.proofs.changing.Lists+TakenList.clear_cell.Goals as goal
 
 pub returns-in_err-mark : goal.returns-in_err-mark
@@ -20,11 +23,17 @@ returns-in_err-mark g c =
     let named = c.args.cleared in
     let x = c.index.result.now in
     let e = err_from_is_err_and c.from_residual-in_err-mark.result c.from_residual-in_err-mark.ensures.1 in
-    short_over _ (list.list_loan-value g.dyn-1).it c.args.windows.now c.args.self.now c.args.self.now refl refl (asks.ClearCell named) c.from_residual-in_err-mark.result e.0 e.1 e.2
+    short_over_right _ (list.list_loan-value g.dyn-1).it c.args.windows.now c.args.self.now c.args.self.now refl refl (asks.ClearCell named) c.from_residual-in_err-mark.result e.0 e.1 e.2
     (λ kept. grows_off _ (list.list_loan-value g.dyn-1).it named.list c.args.windows.now c.args.self.now c.in_ok-spot.spot c.in_ok-spot.ensures c.in_err-mark.ensures kept)
     (λ o slots cs kept.
     cell_there _ _ named.list c.args.windows.now c.args.self.now c.in_ok-spot.spot c.in_ok-spot.ensures named.cell (seen (list.list_loan-value g.dyn-1).it x)
     (list_read _ _ named.list c.args.windows.now c.args.self.now c.in_ok-spot.spot c.in_ok-spot.ensures x c.index.ensures) (sym c.cell.ensures.found ∙ ap is_ok c.in_ok-cell.was))
+
+pub cell_rect-within-requires : goal.cell_rect-within-requires
+cell_rect-within-requires g c =
+    let named = c.args.cleared in
+    let x = c.index.result.now in
+    cell_of_list x.cells named.cell (read_grid _ (list.list_loan-value g.dyn-1).it named.list c.args.windows.now c.args.self.now c.in_ok-spot.spot c.in_ok-spot.ensures x c.index.ensures c.requires.beside) (sym c.in_ok-cell.ensures.found)
 
 pub show-requires-clause-beside : goal.show-requires-clause-beside
 show-requires-clause-beside g c =
@@ -62,13 +71,14 @@ returns g c =
     let read = c.index_mut.ensures.value in
     let has : is_cell x.cells cell ≡ true = sym c.in_ok-clear_cell.ensures.found in
     let same : c.index.result.now ≡ x = one_item m.list.lists.items spot.list c.index.result.now x is.low c.index.ensures read in
-    changed_as _ (list.list_loan-value g.dyn-1).it t c.show.new.windows m (with_cells_there _ (list.list_loan-value g.dyn-1).it named.list t m spot is x read c.clear_cell.new.self) (IsListChanged named.list (with_grid (λ (y : Grid). with_bytes y cell []))) (IsListStep (asks.ClearCell named) (Ok reply.Done))
+    right_as _ (list.list_loan-value g.dyn-1).it t c.show.new.windows m (with_cells_there _ (list.list_loan-value g.dyn-1).it named.list t m spot is x read c.clear_cell.new.self) (IsListChanged named.list (with_grid (λ (y : Grid). with_bytes y cell []))) (IsListStep (asks.ClearCell named) (Ok reply.Done))
     (λ o slots cs kept done. (
       cell_there _ _ named.list t m spot is cell (seen (list.list_loan-value g.dyn-1).it x) (list_read _ _ named.list t m spot is x read) has,
       (refl, done),
     ))
     (changed_so _ (list.list_loan-value g.dyn-1).it named.list t m spot is x read (λ (y : Grid). with_bytes y cell []) c.clear_cell.new.self
-    (c.in_ok-clear_cell.ensures.cells ∙ ap (λ b. if b then with_bytes x.cells cell [] else x.cells) has) (λ good. cleared_grid x.cells cell good has) c.in_ok-mark.mark (not c.is_empty-changes.result) c.in_ok-mark.ensures
+    (c.in_ok-clear_cell.ensures.cells ∙ ap (λ b. if b then with_bytes x.cells cell [] else x.cells) has) (λ good. cleared_grid x.cells cell good has) c.cell_rect-within.result (λ settled. bytes_outside c.cell_rect-within.result (seen (list.list_loan-value g.dyn-1).it x) cell []
+    (c.cell_rect-within.ensures.sides ∙ ap (λ y. cell_rect y.view cell) (one_item m.list.lists.items spot.list c.index-2.result.now x is.low c.index-2.ensures read)) has settled) c.in_ok-mark.mark (not c.is_empty-changes.result) c.in_ok-mark.ensures
     (subst (λ b. IsSameOrNot (not b) (with_bytes x.cells cell []) x.cells) (sym c.is_empty-changes.ensures)
     (cleared_or_not x.cells cell c.in_ok-cell.field-0.now (c.in_ok-cell.ensures.bytes ∙ ap (λ y. (content_of y.cells cell).bytes) same)
     (read_grid _ (list.list_loan-value g.dyn-1).it named.list t m spot is x read c.requires.beside) has))

@@ -13,9 +13,12 @@ use Rattle.control_mgr.proofs.Lays.{one_item}
 use Rattle.list_mgr.specs.Changing.{IsSameOrNot}
 use Rattle.list_mgr.specs.ListSteps.{IsListChanged, IsListStep, with_grid}
 use Rattle.list_mgr.proofs.Cells.{cell_of_allowed, no_cell_refused, set_grid, set_or_not}
-use Rattle.list_mgr.proofs.Changed.{changed_as, refused_over, short_over}
+use Rattle.list_mgr.proofs.Changed.{right_as, refused_over_right, short_over_right}
 use Rattle.list_mgr.proofs.Given.{beside_so, changed_so, kept_there, mark_so, read_grid, spot_so, with_cells_there}
 use Rattle.list_mgr.proofs.Steps.{its_reasons, list_read}
+use Rattle.list_view.specs.Views.{cell_rect}
+use Rattle.list_view.proofs.LawLemmas.{cell_of_list}
+use Rattle.list_mgr.proofs.Outside.{bytes_outside}
 use Rattle.list_mgr.proofs.changing.Lists+TakenList.set_cell.Goals as goal
 
 pub returns-in_err-cell : goal.returns-in_err-cell
@@ -24,7 +27,7 @@ returns-in_err-cell g c =
     let cell = set.cell.cell in
     let x = c.index-2.result.now in
     let e = err_from_is_err_and c.from_residual-in_err-cell.result c.from_residual-in_err-cell.ensures.1 in
-    refused_over _ (list.list_loan-value g.dyn-1).it c.args.windows.now c.args.self.now c.args.self.now refl refl (asks.SetCell set) c.from_residual-in_err-cell.result e.0 e.1
+    refused_over_right _ (list.list_loan-value g.dyn-1).it c.args.windows.now c.args.self.now c.args.self.now refl refl (asks.SetCell set) c.from_residual-in_err-cell.result e.0 e.1
     (λ o slots cs kept.
     its_reasons _ _ set.cell.list c.args.windows.now c.args.self.now c.in_ok-spot.spot c.in_ok-spot.ensures (λ y. data_refusals y.cells cell (length (content_of y.cells cell).bytes) (length set.text))
     (seen (list.list_loan-value g.dyn-1).it x) (list_read _ _ set.cell.list c.args.windows.now c.args.self.now c.in_ok-spot.spot c.in_ok-spot.ensures x c.index-2.ensures)
@@ -37,7 +40,7 @@ returns-in_err-mark g c =
     let cell = set.cell.cell in
     let x = c.index.result.now in
     let e = err_from_is_err_and c.from_residual-in_err-mark.result c.from_residual-in_err-mark.ensures.1 in
-    short_over _ (list.list_loan-value g.dyn-1).it c.args.windows.now c.args.self.now c.args.self.now refl refl (asks.SetCell set) c.from_residual-in_err-mark.result e.0 e.1 e.2 (λ kept. refl)
+    short_over_right _ (list.list_loan-value g.dyn-1).it c.args.windows.now c.args.self.now c.args.self.now refl refl (asks.SetCell set) c.from_residual-in_err-mark.result e.0 e.1 e.2 (λ kept. refl)
     (λ o slots cs kept.
     its_reasons _ _ set.cell.list c.args.windows.now c.args.self.now c.in_ok-spot.spot c.in_ok-spot.ensures (λ y. data_refusals y.cells cell (length (content_of y.cells cell).bytes) (length set.text))
     (seen (list.list_loan-value g.dyn-1).it x) (list_read _ _ set.cell.list c.args.windows.now c.args.self.now c.in_ok-spot.spot c.in_ok-spot.ensures x c.index.ensures)
@@ -55,13 +58,19 @@ returns-in_err-set_cell g c =
     let memory : e.0 ≡ NoMemory =
     e.2 ∙ c.in_err-set_cell.ensures.refused
     ∙ ap (λ o. unwrap_or o NoMemory) (subst (λ z. first_refusal (data_refusals z.cells cell (length (content_of z.cells cell).bytes) (length c.as_slice-text.result.now)) ≡ None) same free) in
-    short_over _ (list.list_loan-value g.dyn-1).it c.args.windows.now c.args.self.now (with_cells_there _ (list.list_loan-value g.dyn-1).it set.cell.list c.args.windows.now c.args.self.now c.in_ok-spot.spot c.in_ok-spot.ensures y c.index_mut.ensures.value c.set_cell.new.self)
+    short_over_right _ (list.list_loan-value g.dyn-1).it c.args.windows.now c.args.self.now (with_cells_there _ (list.list_loan-value g.dyn-1).it set.cell.list c.args.windows.now c.args.self.now c.in_ok-spot.spot c.in_ok-spot.ensures y c.index_mut.ensures.value c.set_cell.new.self)
     (kept_there _ (list.list_loan-value g.dyn-1).it set.cell.list c.args.windows.now c.args.self.now c.in_ok-spot.spot c.in_ok-spot.ensures y c.index_mut.ensures.value c.set_cell.new.self c.in_err-set_cell.ensures.cells)
     refl (asks.SetCell set) c.from_residual-in_err-set_cell.result e.0 e.1 memory (λ kept. refl)
     (λ o slots cs kept.
     its_reasons _ _ set.cell.list c.args.windows.now c.args.self.now c.in_ok-spot.spot c.in_ok-spot.ensures (λ z. data_refusals z.cells cell (length (content_of z.cells cell).bytes) (length set.text))
     (seen (list.list_loan-value g.dyn-1).it x) (list_read _ _ set.cell.list c.args.windows.now c.args.self.now c.in_ok-spot.spot c.in_ok-spot.ensures x c.index.ensures)
     ∙ subst (λ (text : List ℕ). first_refusal (data_refusals x.cells cell (length (content_of x.cells cell).bytes) (length text)) ≡ None) c.as_slice-text.ensures free)
+
+pub cell_rect-within-requires : goal.cell_rect-within-requires
+cell_rect-within-requires g c =
+    let set = c.args.set.now in
+    let x = c.index-2.result.now in
+    cell_of_list x.cells set.cell.cell (read_grid _ (list.list_loan-value g.dyn-1).it set.cell.list c.args.windows.now c.args.self.now c.in_ok-spot.spot c.in_ok-spot.ensures x c.index-2.ensures c.requires.beside) (sym c.in_ok-cell.ensures.found)
 
 pub show-requires-clause-beside : goal.show-requires-clause-beside
 show-requires-clause-beside g c =
@@ -106,13 +115,14 @@ returns g c =
     let changes : not (bytes_eq (content_of x.cells cell).bytes set.text) ≡ c.differ-changes.result =
     sym (c.differ-changes.ensures ∙ ap (λ (old : List ℕ). not (bytes_eq old c.as_slice-text.result.now)) (c.in_ok-cell.ensures.bytes ∙ ap (λ y. (content_of y.cells cell).bytes) same)
     ∙ ap (λ (text : List ℕ). not (bytes_eq (content_of x.cells cell).bytes text)) c.as_slice-text.ensures) in
-    changed_as _ (list.list_loan-value g.dyn-1).it t c.show.new.windows m (with_cells_there _ (list.list_loan-value g.dyn-1).it set.cell.list t m spot is x read c.set_cell.new.self) (IsListChanged set.cell.list (with_grid (λ (y : Grid). with_bytes y cell set.text))) (IsListStep (asks.SetCell set) (Ok reply.Done))
+    right_as _ (list.list_loan-value g.dyn-1).it t c.show.new.windows m (with_cells_there _ (list.list_loan-value g.dyn-1).it set.cell.list t m spot is x read c.set_cell.new.self) (IsListChanged set.cell.list (with_grid (λ (y : Grid). with_bytes y cell set.text))) (IsListStep (asks.SetCell set) (Ok reply.Done))
     (λ o slots cs kept done. (
       its_reasons _ _ set.cell.list t m spot is (λ y. data_refusals y.cells cell (length (content_of y.cells cell).bytes) (length set.text)) (seen (list.list_loan-value g.dyn-1).it x) (list_read _ _ set.cell.list t m spot is x read) ∙ allowed,
       (refl, done),
     ))
     (changed_so _ (list.list_loan-value g.dyn-1).it set.cell.list t m spot is x read (λ (y : Grid). with_bytes y cell set.text) c.set_cell.new.self
-    (c.in_ok-set_cell.ensures.cells ∙ ap (λ (text : List ℕ). with_bytes x.cells cell text) c.as_slice-text.ensures) (λ good. set_grid x.cells cell set.text good allowed) c.in_ok-mark.mark c.differ-changes.result c.in_ok-mark.ensures
+    (c.in_ok-set_cell.ensures.cells ∙ ap (λ (text : List ℕ). with_bytes x.cells cell text) c.as_slice-text.ensures) (λ good. set_grid x.cells cell set.text good allowed) c.cell_rect-within.result (λ settled. bytes_outside c.cell_rect-within.result (seen (list.list_loan-value g.dyn-1).it x) cell set.text
+    (c.cell_rect-within.ensures.sides ∙ ap (λ y. cell_rect y.view cell) (one_item m.list.lists.items spot.list c.index-3.result.now x is.low c.index-3.ensures read)) (cell_of_allowed x.cells cell (length (content_of x.cells cell).bytes) (length set.text) allowed) settled) c.in_ok-mark.mark c.differ-changes.result c.in_ok-mark.ensures
     (subst (λ b. IsSameOrNot b (with_bytes x.cells cell set.text) x.cells) changes
     (set_or_not x.cells cell set.text (read_grid _ (list.list_loan-value g.dyn-1).it set.cell.list t m spot is x read c.requires.beside) (cell_of_allowed x.cells cell (length (content_of x.cells cell).bytes) (length set.text) allowed)))
     c.show.new.windows c.show.ensures)

@@ -6,7 +6,7 @@ use Rattle.window_mgr.proofs.Remarked.{area_there}
 use Rattle.control_mgr.proofs.Places.{read_is, there_is}
 use Rattle.list_mgr.specs.Changing.{IsMark, IsShownOrMarked}
 use Rattle.list_mgr.proofs.Marked.{region_within}
-use Rattle.list_mgr.proofs.Shown.{marked_by, shown_anew}
+use Rattle.list_mgr.proofs.Shown.{drawn_by, marked_by}
 use Rattle.list_mgr.proofs.Steps.{list_there}
 use Rattle.list_mgr.proofs.changing.Lists+TakenList.show.Goals as goal
 
@@ -22,13 +22,13 @@ set_update-requires-clause-within g c a read p on =
 
 pub returns-in-None : goal.returns-in-None
 returns-in-None g c =
-    subst (λ o. IsShownOrMarked (list.list_loan-value g.dyn-1).it (window.loan-value g.dyn-2).it o c.args.changes c.args.spot c.args.self.now c.args.windows.now c.redraw_layer.new.self) (sym c.in-None.is)
-    (λ x there. shown_anew _ _ c.args.windows.now c.args.self.now c.args.spot c.requires.spot x there c.layer-layer.result c.layer-layer.ensures c.redraw_layer.new.self c.redraw_layer.ensures)
+    subst (λ o. IsShownOrMarked (list.list_loan-value g.dyn-1).it (window.loan-value g.dyn-2).it c.args.within o c.args.changes c.args.spot c.args.self.now c.args.windows.now c.redraw_layer.new.self) (sym c.in-None.is)
+    (λ x there. drawn_by _ _ c.args.windows.now c.args.self.now c.args.spot c.requires.spot x there c.args.within c.layer-layer.result c.layer-layer.ensures c.redraw_layer.new.self c.redraw_layer.ensures)
 
 pub returns-then-changes : goal.returns-then-changes
 returns-then-changes g c =
     let mark = subst (IsMark (list.list_loan-value g.dyn-1).it (window.loan-value g.dyn-2).it c.args.windows.now c.args.self.now c.args.spot) c.in-Some.is c.requires.mark in
-    subst (λ o. IsShownOrMarked (list.list_loan-value g.dyn-1).it (window.loan-value g.dyn-2).it o c.args.changes c.args.spot c.args.self.now c.args.windows.now c.set_update.new.self) (sym c.in-Some.is)
-    (subst (λ b. IsShownOrMarked (list.list_loan-value g.dyn-1).it (window.loan-value g.dyn-2).it (Some c.in-Some.update) b c.args.spot c.args.self.now c.args.windows.now c.set_update.new.self) (sym c.if-changes.true)
+    subst (λ o. IsShownOrMarked (list.list_loan-value g.dyn-1).it (window.loan-value g.dyn-2).it c.args.within o c.args.changes c.args.spot c.args.self.now c.args.windows.now c.set_update.new.self) (sym c.in-Some.is)
+    (subst (λ b. IsShownOrMarked (list.list_loan-value g.dyn-1).it (window.loan-value g.dyn-2).it c.args.within (Some c.in-Some.update) b c.args.spot c.args.self.now c.args.windows.now c.set_update.new.self) (sym c.if-changes.true)
     (λ x there. marked_by _ _ c.args.windows.now c.args.self.now c.args.spot c.requires.spot x there c.in-Some.update mark.1
     (area_there _ c.args.windows.now c.requires.kept c.args.spot.window c.requires.spot.is.window.0) c.set_update.new.self c.set_update.ensures))

@@ -1,6 +1,6 @@
-use Rattle.std.proofs.Common.{◌≡◌, rules, true, None, Err, SFits, w32, refl, sym, ap, ◌∙◌, subst}
+use Rattle.std.proofs.Common.{◌≡◌, arith, rules, pos, true, false, None, Err, SFits, w32, refl, sym, ap, ◌∙◌, subst}
 use Rattle.std.specs.Prelude.{unwrap_or}
-use Rattle.std.proofs.lemmas.Int.{to_z-of_z}
+use Rattle.std.proofs.lemmas.Int.{ints, to_z-of_z}
 use Rattle.std.proofs.lemmas.Result.{err_from_is_err_and}
 use Rattle.tb_geom.specs.declared.refusal.Refusal.TheVariants.{NoMemory}
 use Rattle.tb_geom.specs.Refusals.{first_refusal}
@@ -14,6 +14,9 @@ use Rattle.list_mgr.proofs.Given.{kept_there, with_cells_there}
 use Rattle.list_mgr.proofs.LinesAnswered.{answered, judged, refused_lines, relined_lines, short_lines}
 use Rattle.list_mgr.proofs.LinesGiven.{rows_more_change, rows_more_other}
 use Rattle.list_mgr.proofs.Relined.{beside_changed, mark_changed, relined_over, spot_changed}
+use Rattle.list_mgr.specs.LinesFrom.{AreRowsFrom}
+use Rattle.list_mgr.proofs.LinesFrom.{added_low}
+use Rattle.list_mgr.proofs.LinesShown.{rows_more_shown}
 use Rattle.list_mgr.proofs.lines.Lists+TakenList.add_rows.Goals as goal
 
 pub returns-in-Some : goal.returns-in-Some
@@ -66,6 +69,31 @@ returns-in_err-first g c =
     (kept_there _ list_loan lines.list t m spot is x read c.add_rows.new.self c.in_err-first.ensures.cells)
     refl c.from_residual-in_err-first.result e.0 e.1 (e.2 ∙ short ∙ ap (λ o. unwrap_or o NoMemory) free) (λ kept. refl)
     (λ o slots cs kept. judged _ list_loan lines.list t m spot is x read (asks.AddRows lines) (λ y. add_refusals y.cells.rows y.cells.columns lines.count lines.at) (λ desk cs state. refl) o slots cs kept ∙ free)
+
+pub line_number-requires : goal.line_number-requires
+line_number-requires g c =
+    let lines = c.args.lines in
+    let count : SFits w32 lines.count = search rules in
+    let at : SFits w32 lines.at = search rules in
+    let x = c.index_mut.result.now in
+    let allowed = simp to_z-of_z at c.in_ok-first.ensures.allowed in
+    let first = simp to_z-of_z at c.in_ok-first.ensures.first in
+    let low = added_low x.cells.rows x.cells.columns lines.count lines.at allowed in
+    omega (arith, first, low)
+
+pub rows_from-within-requires-clause-least : goal.rows_from-within-requires-clause-least
+rows_from-within-requires-clause-least g c = rw c.line_number.ensures (omega (arith, ints))
+
+pub rows_from-within-requires-clause-most : goal.rows_from-within-requires-clause-most
+rows_from-within-requires-clause-most g c =
+    let lines = c.args.lines in
+    let count : SFits w32 lines.count = search rules in
+    let at : SFits w32 lines.at = search rules in
+    let x = c.index_mut.result.now in
+    let allowed = simp to_z-of_z at c.in_ok-first.ensures.allowed in
+    let first = simp to_z-of_z at c.in_ok-first.ensures.first in
+    let low = added_low x.cells.rows x.cells.columns lines.count lines.at allowed in
+    rw c.line_number.ensures (omega (arith, ints, first, low))
 
 pub show_with_bars-requires-clause-lists : goal.show_with_bars-requires-clause-lists
 show_with_bars-requires-clause-lists g c =
@@ -133,10 +161,15 @@ returns g c =
     let now = simp to_z-of_z at c.in_ok-first.ensures.cells in
     let allowed = simp to_z-of_z at c.in_ok-first.ensures.allowed in
     let first = simp to_z-of_z at c.in_ok-first.ensures.first in
+    let number : SFits w32 c.line_number.result = search rules in
+    let from = simp to_z-of_z at c.rows_from-within.ensures in
     relined_lines _ list_loan _ (asks.AddRows lines) t m c.args.controls.now lines.list (with_rows_more lines.count lines.at) (reply.Added c.in_ok-first.first) c.show_with_bars.new.windows c.show_with_bars.new.controls (with_cells_there _ list_loan lines.list t m spot is x read c.add_rows.new.self)
     (λ o slots cs kept. judged _ list_loan lines.list t m spot is x read (asks.AddRows lines) (λ y. add_refusals y.cells.rows y.cells.columns lines.count lines.at) (λ desk cs state. refl) o slots cs kept ∙ allowed)
     (λ before after same done. (answered _ list_loan lines.list t m spot is x read (λ y. reply.Added (place_to_add y.cells.rows lines.at)) (reply.Added c.in_ok-first.first) (ap (λ k. reply.Added k) first) ∙ ap (told_of lines.list (λ y. reply.Added (place_to_add y.cells.rows lines.at))) (sym same), done))
     (relined_over _ list_loan lines.list t m (with_cells_there _ list_loan lines.list t m spot is x read c.add_rows.new.self) spot (with_rows_more lines.count lines.at)
-    (rows_more_change _ list_loan lines.list t m spot is x read c.add_rows.new.self lines.count lines.at now allowed) _ c.in_ok-mark.mark true c.in_ok-mark.ensures
+    (rows_more_change _ list_loan lines.list t m spot is x read c.add_rows.new.self lines.count lines.at now allowed) _ c.rows_from-within.result
+    (rows_more_shown _ list_loan lines.list t m spot is x read lines.count lines.at c.index-2.result.now c.index-2.ensures c.rows_from-within.result
+    (subst (λ z. AreRowsFrom false c.index-2.result.now.view z c.rows_from-within.result) (c.line_number.ensures ∙ ap (λ n. pos n) first) from))
+    c.in_ok-mark.mark true c.in_ok-mark.ensures
     (rows_more_other _ list_loan lines.list t m spot is x read c.add_rows.new.self lines.count lines.at allowed)
     c.show_with_bars.new.windows c.args.controls.now c.show_with_bars.new.controls c.show_with_bars.ensures)

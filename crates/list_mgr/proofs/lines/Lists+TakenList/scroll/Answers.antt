@@ -4,10 +4,15 @@ use Rattle.def_iface.specs.contracts.taken_list.TakenListDefinedList.TheImpl as 
 use Rattle.desk_call.specs.declared.list.ListCall.TheVariants as asks
 use Rattle.desk_call.specs.declared.list.ListReply.TheVariants as reply
 use Rattle.list_mgr.specs.ListSteps.{with_scroll}
+use Rattle.list_mgr.proofs.Given.{of_read}
 use Rattle.list_mgr.proofs.LinesAnswered.{relined_lines}
 use Rattle.list_mgr.proofs.LinesGiven.{scroll_agrees, scroll_change}
 use Rattle.list_mgr.proofs.Relined.{beside_changed, mark_changed, relined_over, spot_changed}
 use Rattle.list_mgr.proofs.Steps.{nothing_missing}
+use Rattle.list_records.specs.Seen.{seen}
+use Rattle.list_mgr.specs.WholeLists.{IsSettledList}
+use Rattle.list_mgr.specs.Within.{IsSameOutside}
+use Rattle.list_mgr.proofs.Outside.{view_outside}
 use Rattle.list_mgr.proofs.lines.Lists+TakenList.scroll.Goals as goal
 
 pub show_with_bars-requires-clause-lists : goal.show_with_bars-requires-clause-lists
@@ -72,6 +77,8 @@ returns g c =
     relined_lines _ list_loan _ (asks.Scroll scrolled) t m c.args.controls.now scrolled.list (with_scroll scrolled.columns scrolled.rows) reply.Done c.show_with_bars.new.windows c.show_with_bars.new.controls n
     (λ o slots cs kept. nothing_missing _ list_loan scrolled.list t m spot is)
     (λ before after same done. (refl, done))
-    (relined_over _ list_loan scrolled.list t m n spot (with_scroll scrolled.columns scrolled.rows) change _ c.in_ok-mark.mark c.scroll_by-changes.result c.in_ok-mark.ensures
+    (relined_over _ list_loan scrolled.list t m n spot (with_scroll scrolled.columns scrolled.rows) change _ c.rect-within.result
+    (of_read _ list_loan scrolled.list t m spot is c.index.result.now c.index.ensures (λ y. IsSettledList y → IsSameOutside c.rect-within.result y (with_scroll scrolled.columns scrolled.rows y)) (λ settled. view_outside c.rect-within.result (seen list_loan c.index.result.now) (with_scroll scrolled.columns scrolled.rows (seen list_loan c.index.result.now)) c.rect-within.ensures.sides refl))
+    c.in_ok-mark.mark c.scroll_by-changes.result c.in_ok-mark.ensures
     (scroll_agrees list_loan m spot scrolled.columns scrolled.rows c.scroll_by-changes.result agree)
     c.show_with_bars.new.windows c.args.controls.now c.show_with_bars.new.controls c.show_with_bars.ensures)

@@ -17,4 +17,4 @@ returns-in-Some g c =
 
 pub returns-in-None : goal.returns-in-None
 returns-in-None g c =
-    c.found_none-in-None.ensures ∙ sym (finding.found_desk_is _ c.args.self.now c.requires.asked c.args.point (search rules) (search rules) (sym c.window_at.ensures ∙ c.in-None.is))
+    sym (finding.found_desk_is _ c.args.self.now c.requires.asked c.args.point (search rules) (search rules) (sym c.window_at.ensures ∙ c.in-None.is))

@@ -31,16 +31,13 @@ pub returns-in-Zoom : goal.returns-in-Zoom
 returns-in-Zoom g c = let done = c.zoom_window.ensures _ c.requires in record { whole = done.0; step = rw c.in-Zoom.is (done.1); sparing = rw c.in-Zoom.is tt }
 
 pub returns-in-Draw : goal.returns-in-Draw
-returns-in-Draw g c = let done = c.answer_draw.ensures _ c.requires in record { whole = done.0; step = rw c.in-Draw.is (done.1); sparing = rw c.in-Draw.is tt }
+returns-in-Draw g c = let done = c.draw.ensures _ c.requires in record { whole = done.0; step = rw c.in-Draw.is (done.1); sparing = rw c.in-Draw.is tt }
 
 pub returns-in-SetPicture : goal.returns-in-SetPicture
 returns-in-SetPicture g c = let done = c.set_picture.ensures _ c.requires in record { whole = done.0; step = rw c.in-SetPicture.is (done.1); sparing = rw c.in-SetPicture.is tt }
 
 pub returns-in-Scroll : goal.returns-in-Scroll
 returns-in-Scroll g c = let done = c.scroll.ensures _ c.requires in record { whole = done.0; step = rw c.in-Scroll.is (done.1); sparing = rw c.in-Scroll.is tt }
-
-pub returns-in-Find : goal.returns-in-Find
-returns-in-Find g c = let done = c.answer_find.ensures _ c.requires in record { whole = done.0; step = rw c.in-Find.is (done.1); sparing = rw c.in-Find.is tt }
 
 pub returns-in-Front : goal.returns-in-Front
 returns-in-Front g c = record {

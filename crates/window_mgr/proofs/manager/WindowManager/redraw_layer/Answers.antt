@@ -17,4 +17,4 @@ repaint_layer-requires-clause-apart g c = layers_apart _ c.args.self.now c.requi
 
 pub returns : goal.returns
 returns g c w there l read was slots whole =
-    index_redrawn _ c.args.self.now slots whole c.args.at c.requires.at w there c.index-area.result.now c.index-area.ensures was (g.S.Showing.shows c.args.showing.now) c.args.index (c.requires.index w there) l read c.at.result.now c.at.ensures c.repaint_layer.new.map c.repaint_layer.ensures
+    index_redrawn _ c.args.self.now slots whole c.args.at c.requires.at w there c.index-area.result.now c.index-area.ensures was (g.S.Showing.shows c.args.showing.now) c.args.index (c.requires.index w there) l read c.at.result.now c.at.ensures c.args.within c.repaint_layer.new.map c.repaint_layer.ensures

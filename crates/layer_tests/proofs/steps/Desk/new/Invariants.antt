@@ -1,7 +1,0 @@
-use Rattle.std.specs.Prelude.{All}
-use Rattle.def_iface.specs.contracts.window_stock.WindowStockStocked.TheImpl as stock
-use Rattle.def_iface.specs.Stocked.{IsFull}
-use Rattle.layer_tests.proofs.steps.Desk.new.Given as goal
-
-abbrev pub invariant-loop : goal.invariant-loop
-invariant-loop g l = All IsFull ((stock.slots-value g.dyn-1).it l.stock)
