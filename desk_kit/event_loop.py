@@ -140,8 +140,8 @@ class EventLoop(ShownDesk):
             self.status = str(refused)
 
     def post_and_serve(self, event):
-        if self.tracked is None and self.known.open:
-            self.tell(self.known.open)
+        if self.tracked is None:
+            self.end_open()
         self.tell("post " + " ".join(map(str, event)))
         if event.kind == MOUSE_UP and self.tracked:
             self.release(event)
@@ -152,6 +152,11 @@ class EventLoop(ShownDesk):
         tracked, self.tracked = self.tracked, None
         self.tell(f"next {MOUSE_UP_MASK}")
         tracked.released(event)
+
+    def end_open(self):
+        """Ends what is open, where something is, with nothing chosen."""
+        if self.known.open:
+            self.tell(self.known.open)
 
     def serve(self):
         """Asks for the next event, and does what it calls for, until there is none; or until something follows the mouse, or

@@ -6,7 +6,7 @@ from dataclasses import dataclass
 
 WORD = re.compile(r'"[^"]*"|[^ ]+')
 
-# A point at which no button, menu or box is, so that what is tracked ends there with nothing chosen.
+# A point at which no button, menu, box or desktop is, so that what is tracked ends there with nothing chosen.
 NOWHERE = "-16384 -16384"
 
 # The characters of a menu's items that take the character after them, and the one that stands alone.
@@ -102,7 +102,7 @@ def text_of(item):
 
 class Known:
     """The windows, controls, lists and menus that are there, by their numbers, and the line that ends what is open: an
-    update, the tracking of a box or a control, or a menu that is pulled down."""
+    update, the tracking of a box or a control, a menu that is pulled down, or a window that is dragged or grown."""
 
     def __init__(self):
         self.windows = {}
@@ -213,7 +213,7 @@ class Known:
         self.open = ""
 
 
-ENDS = {"goaway": "gaend", "ctrack": "ctend", "mdown": "mup"}
+ENDS = {"goaway": "gaend", "ctrack": "ctend", "mdown": "mup", "drag": "dragend", "grow": "growend"}
 LEARNED = {
     "window": Known.window_made,
     "title": Known.window_titled,

@@ -5,8 +5,8 @@ by the event of the button that went up."""
 # The range of coordinates.
 LEAST, MOST = -16384, 16383
 
-# The least width and height that the size box gives a window.
-LEAST_SIDE = 32
+# The least and the most width and height that the size box gives a window.
+LEAST_SIDE, MOST_SIDE = 32, 16383
 
 # The parts of a scroll bar, each with the way in which it goes, and whether by a page.
 SCROLL_PARTS = {20: (-1, False), 21: (1, False), 22: (-1, True), 23: (1, True)}
@@ -58,10 +58,11 @@ class MenuTracking(Tracking):
 
 
 class Dragging(Tracking):
-    """A window that is dragged by its title bar moves where the button goes up, by as much as the mouse did. It is selected
-    too, unless the Command key was down. Where the button goes up off the screen or in the menu bar, nothing was meant."""
+    """A window that is dragged by its title bar: its outline follows the mouse, and the window moves where the button goes up,
+    by as much as the mouse did. It is selected too, unless the Command key was down. Where the button goes up off the screen or
+    in the menu bar, nothing was meant."""
 
-    MENU_BAR, COMMAND = 1, 256
+    COMMAND = 256
 
     def __init__(self, loop, window):
         self.loop, self.window, self.name = loop, window, loop.window_name(window)
@@ -69,24 +70,37 @@ class Dragging(Tracking):
     def begun(self, event):
         self.from_h, self.from_v, self.keeps_place = event.h, event.v, bool(event.modifiers & self.COMMAND)
         self.left, self.top = self.loop.numbers(f"info {self.window}")[:2]
-        return True
+        return self.loop.numbers(f"drag {self.window} {event.h} {event.v}") == [1]
 
     def target(self, h, v):
         return self.left + h - self.from_h, self.top + v - self.from_v
 
     def moved(self, h, v):
-        self.loop.status = "{} goes to {} {}".format(self.name, *self.target(h, v))
-
-    def is_meant(self, h, v):
-        width, height = self.loop.sides()
-        return 0 <= h < width and 0 <= v < height and self.loop.numbers(f"find {h} {v}")[0] != self.MENU_BAR
+        if self.loop.numbers(f"dragstep {h} {v}") == [1]:
+            self.loop.status = "{} goes to {} {}".format(self.name, *self.target(h, v))
+        else:
+            self.loop.status = f"{self.name} stays where it is"
 
     def released(self, event):
+        try:
+            self.end(event)
+        finally:
+            self.loop.end_open()
+
+    def end(self, event):
+        """The end of a drag moves the window and selects it. One that is to do less ends nowhere, and does it itself."""
         left, top = self.target(event.h, event.v)
-        if not self.is_meant(event.h, event.v):
+        has_moved = (left, top) != (self.left, self.top)
+        if self.keeps_place or not has_moved:
+            is_meant = self.loop.numbers(f"dragstep {event.h} {event.v}") == [1]
+            self.loop.end_open()
+        else:
+            is_meant = self.loop.numbers(f"dragend {event.h} {event.v}") == [1]
+        if not is_meant:
             self.loop.status = f"{self.name} stays where it is"
-        elif (left, top) != (self.left, self.top):
-            self.loop.tell(f"move {self.window} {left} {top} {0 if self.keeps_place else 1}")
+        elif has_moved:
+            if self.keeps_place:
+                self.loop.tell(f"move {self.window} {left} {top} 0")
             self.loop.status = f"{self.name} was moved to {left} {top}"
         elif not self.keeps_place and self.loop.numbers("frontwin") != [self.window]:
             self.loop.tell(f"select {self.window}")
@@ -94,26 +108,24 @@ class Dragging(Tracking):
 
 
 class Growing(Tracking):
-    """A window gets another size where the button goes up, by as much as the mouse moved."""
+    """A window gets another size where the button goes up, by as much as the mouse moved. Until then its outline shows it."""
 
     def __init__(self, loop, window):
         self.loop, self.window, self.name = loop, window, loop.window_name(window)
 
     def begun(self, event):
-        self.from_h, self.from_v = event.h, event.v
-        self.width, self.height = self.loop.numbers(f"info {self.window}")[2:4]
-        return True
-
-    def target(self, h, v):
-        sides = self.width + h - self.from_h, self.height + v - self.from_v
-        return tuple(max(LEAST_SIDE, side) for side in sides)
+        self.begin = event.h, event.v
+        sides = f"{LEAST_SIDE} {LEAST_SIDE} {MOST_SIDE} {MOST_SIDE}"
+        return self.loop.numbers(f"grow {self.window} {event.h} {event.v} {sides}") == [1]
 
     def moved(self, h, v):
-        self.loop.status = "{} gets the size {} by {}".format(self.name, *self.target(h, v))
+        width, height = self.loop.numbers(f"growstep {h} {v}")
+        self.loop.status = f"{self.name} gets the size {width} by {height}"
 
     def released(self, event):
-        if (event.h, event.v) != (self.from_h, self.from_v):
-            width, height = self.target(event.h, event.v)
+        """A click gives no size, and neither does an end whose answer is that the size is the same."""
+        width, height = self.loop.numbers(f"growend {event.h} {event.v}")
+        if (event.h, event.v) != self.begin and width:
             self.loop.tell(f"size {self.window} {width} {height}")
             self.loop.status = f"{self.name} has the size {width} by {height}"
 

@@ -31,7 +31,7 @@ WITHOUT_MEMORY = set(
     b"image find frontwin info drawp drawl drawc end post next avail flush setmask"
     b" menu mitem minsert mdelete mdispose menable mdisable mcheck mdown mmove mup mkey mhilite"
     b" cvalue cmin cmax chilite ctitle cget findc ctest ctrack ctstep ctend"
-    b" lgetsel lnext lsearch ldraw".split()
+    b" lgetsel lnext lsearch ldraw drag dragstep grow growstep growend".split()
 )
 # Those that may be so only while the drawing of their list is off.
 WITH_MEMORY_UNDRAWN = set(b"ldelrow ldelcol lclear lsetsel lclick lscroll".split())

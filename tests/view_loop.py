@@ -50,6 +50,31 @@ def with_the_command_key_a_dragged_window_stays_behind(tried):
     tried.wants("frontwin", "ok 2")
 
 
+def an_outline_follows_a_window_that_is_dragged(tried):
+    tried.loop.mouse_down(40, 34)
+    tried.shows("another", "the outline is where the window is")
+    tried.loop.mouse_moved(40, 10)
+    tried.shows("the first", "the mouse is in the menu bar")
+    tried.says('Window 1 "One" stays where it is')
+    tried.loop.mouse_moved(60, 40)
+    tried.shows("another", "the mouse is over the desktop again")
+    tried.says('Window 1 "One" goes to 30 50')
+    tried.wants("info 1", "ok 10 44 90 60 1 0")
+    tried.loop.mouse_up(60, 40)
+    tried.wants("info 1", "ok 30 50 90 60 1 1")
+
+
+def a_drag_is_told_where_the_mouse_is(tried):
+    tried.drag((40, 34), (60, 40), (70, 54))
+    tried.asked(
+        *("post 1 0 0 40 34 0", "next 65535", "find 40 34", "info 1", "drag 1 40 34"),
+        *("dragstep 60 40", "dragstep 70 54"),
+        *("post 2 0 0 70 54 128", "next 4", "dragend 70 54"),
+        # The windows change their highlighting, and the first one shows what the second one covered.
+        *("next 65535", "next 65535", "next 65535", "update 1", "next 65535"),
+    )
+
+
 def a_drag_that_ends_in_the_menu_bar_or_off_the_screen_moves_nothing(tried):
     for end in ((40, 10), (40, 150), (-1, 40), (200, 40)):
         tried.drag((40, 34), end)
@@ -74,6 +99,23 @@ def a_size_box_gives_another_size(tried):
     tried.wants("info 1", "ok 10 44 100 70 1 1")
     tried.drag((100, 105), (10, 44))
     tried.wants("info 1", "ok 10 44 32 32 1 1")
+
+
+def an_outline_follows_a_window_that_gets_another_size(tried):
+    tried.click(20, 60)
+    tried.loop.image()
+    tried.loop.mouse_down(95, 100)
+    tried.shows("another", "the outline is where the window is")
+    tried.loop.mouse_moved(105, 110)
+    tried.shows("another", "the outline is larger")
+    tried.says('Window 1 "One" gets the size 100 by 70')
+    tried.wants("info 1", "ok 10 44 90 60 1 1")
+    tried.loop.mouse_moved(0, 0)
+    tried.shows("another", "the outline is smaller")
+    tried.says('Window 1 "One" gets the size 32 by 32')
+    tried.loop.mouse_up(95, 100)
+    tried.shows("another", "the outline is gone")
+    tried.wants("info 1", "ok 10 44 90 60 1 1")
 
 
 def a_go_away_box_closes_its_window(tried):
@@ -140,7 +182,8 @@ def while_something_follows_the_mouse_no_event_is_asked_for(tried):
 def what_is_refused_is_said(tried):
     # A control 16000 columns to the right lets the window go no farther than to column 83.
     tried.drag((40, 34), (140, 34))
-    tried.says("move 1 110 44 1 is refused 8 OutOfRange")
+    tried.says("dragend 140 34 is refused 8 OutOfRange")
+    tried.shows("the same", "the outline is gone")
     tried.wants("info 1", "ok 10 44 90 60 1 0")
     tried.click(20, 60)
     tried.wants("frontwin", "ok 1")
@@ -150,6 +193,13 @@ def an_update_that_the_script_left_open_is_ended(tried):
     tried.click(20, 60)
     tried.wants("updatergn 1", NOTHING_DUE)
     tried.wants("begin 1", "ok")
+
+
+def an_outline_that_the_script_left_is_taken_away(tried):
+    tried.click(170, 140)
+    tried.shows("another", "the outline is gone")
+    tried.wants("info 2", "ok 60 70 100 60 1 1")
+    tried.wants("dragend 0 0", "refused 12 NotBusy")
 
 
 def what_the_event_mask_leaves_out_does_nothing(tried):
@@ -163,9 +213,12 @@ TESTS = {
     the_script_s_own_events_are_served_and_flushed: TWO_WINDOWS + "\nclose 9\r\npost 1 0 0 20 60 0\n",
     a_window_is_dragged_by_its_title_and_selected: TWO_WINDOWS,
     with_the_command_key_a_dragged_window_stays_behind: TWO_WINDOWS,
+    an_outline_follows_a_window_that_is_dragged: TWO_WINDOWS,
+    a_drag_is_told_where_the_mouse_is: TWO_WINDOWS,
     a_drag_that_ends_in_the_menu_bar_or_off_the_screen_moves_nothing: TWO_WINDOWS,
     a_click_in_a_title_bar_selects_and_moves_nothing: TWO_WINDOWS,
     a_size_box_gives_another_size: TWO_WINDOWS,
+    an_outline_follows_a_window_that_gets_another_size: TWO_WINDOWS,
     a_go_away_box_closes_its_window: TWO_WINDOWS,
     a_go_away_box_that_is_left_closes_nothing: TWO_WINDOWS,
     a_zoom_box_zooms_out_and_in: TWO_WINDOWS,
@@ -173,5 +226,6 @@ TESTS = {
     while_something_follows_the_mouse_no_event_is_asked_for: TWO_WINDOWS,
     what_is_refused_is_said: TWO_WINDOWS + 'control 1 button 16000 0 300 10 1 0 1 0 ""\n',
     an_update_that_the_script_left_open_is_ended: TWO_WINDOWS + "begin 1\n",
+    an_outline_that_the_script_left_is_taken_away: TWO_WINDOWS + "drag 2 100 60\ndragstep 90 70\n",
     what_the_event_mask_leaves_out_does_nothing: TWO_WINDOWS + "setmask 0\n",
 }

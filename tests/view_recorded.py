@@ -47,12 +47,17 @@ next 65535
 image
 """
 # The window was where its corner is 10 44. It lies behind the other one as before, so that nothing is to be updated; and what
-# is asked for meanwhile is not recorded.
+# is asked for meanwhile is not recorded. With the Command key the drag itself ends nowhere, since its end would select the window.
 DRAGGED = b"""\
 post 1 0 150 40 34 256
 next 65535
+drag 1 40 34
+dragstep 41 35
+dragstep 70 54
 post 2 0 150 70 54 384
 next 4
+dragstep 70 54
+dragend -16384 -16384
 move 1 40 64 0
 image
 """
@@ -98,7 +103,7 @@ def what_changes_something_is_recorded(program, folder):
     same("the end of its run", ran.stdout[-len(image) - 9 :], image + b"\ncheck 0\n")
 
 
-def a_drag_is_recorded_by_the_line_that_it_ends_in(program, folder):
+def a_drag_is_recorded_with_each_step_of_its_outline(program, folder):
     path = os.path.join(folder, "it.desk")
     with Driven([program]) as desk:
         loop = EventLoop(desk, lambda: 0.0, Recording(path))
@@ -120,8 +125,9 @@ def what_is_refused_is_not_recorded(program, folder):
         loop.run_script(SCRIPT + b'control 1 button 16000 0 300 10 1 0 1 0 ""\n')
         loop.mouse_down(40, 34)
         loop.mouse_up(140, 34)
-    same("what is said", loop.status, "move 1 110 44 1 is refused 8 OutOfRange")
-    same("the end", read(path).splitlines()[-4:], [b"post 1 0 0 40 34 0", b"next 65535", b"post 2 0 0 140 34 128", b"next 4"])
+    same("what is said", loop.status, "dragend 140 34 is refused 8 OutOfRange")
+    ends = b"post 1 0 0 40 34 0", b"next 65535", b"drag 1 40 34", b"post 2 0 0 140 34 128", b"next 4", b"dragend -16384 -16384"
+    same("the end", read(path).splitlines()[-6:], [*ends])
 
 
 def without_a_recording_there_is_none(program, _):
@@ -223,7 +229,7 @@ def words_that_exclude_each_other_are_told(program, folder):
 
 TESTS = [
     what_changes_something_is_recorded,
-    a_drag_is_recorded_by_the_line_that_it_ends_in,
+    a_drag_is_recorded_with_each_step_of_its_outline,
     what_is_refused_is_not_recorded,
     without_a_recording_there_is_none,
     a_recording_that_cannot_be_written_is_a_fault,

@@ -237,6 +237,7 @@ def a_click_in_a_rear_window_brings_it_to_front(viewer):
 def a_window_is_dragged_by_its_title(viewer):
     viewer.mouse(150, 60, "mousedown", 1)
     viewer.mouse(140, 50)
+    viewer.wants(("info 2", "ok 60 70 140 70 1 1"))
     viewer.mouse(160, 66, "mouseup", 1)
     viewer.wants(("frontwin", "ok 2"), ("info 2", "ok 70 76 140 70 1 1"))
 

@@ -3,11 +3,11 @@ use Rattle.std.specs.Prelude.{ℕ, ◌==◌, if◌then◌else◌, Option, None, 
 use Rattle.tb_geom.specs.declared.refusal.Refusal.{Refusal}
 use Rattle.tb_geom.specs.declared.refusal.Refusal.TheVariants.{Busy, NotBusy}
 use Rattle.desk_call.specs.declared.activity.Activity.{Activity}
-use Rattle.desk_call.specs.declared.activity.Activity.TheVariants.{Idle, Updating, Tracking, Pulling, TrackingControl}
+use Rattle.desk_call.specs.declared.activity.Activity.TheVariants.{Idle, Updating, Tracking, Pulling, TrackingControl, Dragging, Growing}
 use Rattle.desk_call.specs.declared.activity.Standing.{Standing}
-use Rattle.desk_call.specs.declared.activity.Standing.TheVariants.{Asks, Updates, Tracks, Pulls, TracksControl, Changes}
+use Rattle.desk_call.specs.declared.activity.Standing.TheVariants.{Asks, Updates, Tracks, Pulls, TracksControl, Drags, Grows, Changes}
 use Rattle.desk_call.specs.declared.call.Call.{Call}
-use Rattle.desk_call.specs.declared.call.Call.TheVariants.{Window, Update, Frame, Control, List, Menu, Event}
+use Rattle.desk_call.specs.declared.call.Call.TheVariants.{Window, Update, Frame, Control, List, Menu, Outline, Event}
 use Rattle.desk_call.specs.declared.control.ControlCall.{ControlCall}
 use Rattle.desk_call.specs.declared.control.ControlCall.TheVariants as controls
 use Rattle.desk_call.specs.declared.frame.FrameCall.{FrameCall}
@@ -16,6 +16,8 @@ use Rattle.desk_call.specs.declared.list.ListCall.{ListCall}
 use Rattle.desk_call.specs.declared.list.ListCall.TheVariants as lists
 use Rattle.desk_call.specs.declared.menu.MenuCall.{MenuCall}
 use Rattle.desk_call.specs.declared.menu.MenuCall.TheVariants as menus
+use Rattle.desk_call.specs.declared.outline.OutlineCall.{OutlineCall}
+use Rattle.desk_call.specs.declared.outline.OutlineCall.TheVariants.{StepDrag, EndDrag, StepGrow, EndGrow}
 use Rattle.desk_call.specs.declared.update.UpdateCall.{UpdateCall}
 use Rattle.desk_call.specs.declared.update.UpdateCall.TheVariants.{Draw as DrawLayers, End}
 use Rattle.desk_call.specs.declared.window.WindowCall.{WindowCall}
@@ -66,6 +68,14 @@ list_standing (lists.NextCell n) = Asks
 list_standing (lists.Search t) = Asks
 list_standing _ = Changes
 
+-- steps and the end of a drag belong to it, and those of growing to that
+abbrev pub outline_standing : OutlineCall → Standing
+outline_standing (StepDrag p) = Drags
+outline_standing (EndDrag p) = Drags
+outline_standing (StepGrow p) = Grows
+outline_standing (EndGrow p) = Grows
+outline_standing _ = Changes
+
 -- when a call may come; one about events may at any time
 abbrev pub standing_of : Call → Standing
 standing_of (Window call) = window_standing call
@@ -74,6 +84,7 @@ standing_of (Frame call) = frame_standing call
 standing_of (Control call) = control_standing call
 standing_of (List call) = list_standing call
 standing_of (Menu call) = menu_standing call
+standing_of (Outline call) = outline_standing call
 standing_of (Event call) = Asks
 
 -- why a call of a standing may not come while this is open
@@ -85,4 +96,6 @@ gate (Updating s) (Updates t) = if s == t then None else Some NotBusy
 gate (Tracking s) Tracks = None
 gate (Pulling m) Pulls = None
 gate (TrackingControl c) TracksControl = None
+gate (Dragging d) Drags = None
+gate (Growing g) Grows = None
 gate activity standing = Some NotBusy

@@ -1,11 +1,14 @@
 //! Which calls may come while something is open.
 ghost use Rattle.std.specs.Prelude.{◌≡◌, None, MatchResult, Some};
-ghost use Rattle.desk_call.specs.Gates.{gate, standing_of, window_standing, update_standing, frame_standing, menu_standing, control_standing, list_standing};
+ghost use Rattle.desk_call.specs.Gates.{gate, standing_of, window_standing, update_standing, frame_standing, menu_standing, control_standing, list_standing, outline_standing};
 
-use crate::{Call, ControlCall, ControlOf, FrameCall, ListCall, MenuCall, UpdateCall, WindowCall};
+use crate::{
+    Call, ControlCall, ControlOf, FrameCall, ListCall, MenuCall, OutlineCall, SizeLimits,
+    UpdateCall, WindowCall,
+};
 use control_values::ControlPart;
 use def_iface::Size;
-use tb_geom::{Point, Refusal};
+use tb_geom::{Point, Rect, Refusal};
 
 /// What is open between its begin and its end. At most one thing is.
 #[derive(Clone, Copy, PartialEq, Eq)]
@@ -20,6 +23,10 @@ pub enum Activity {
     Pulling(PulledMenu),
     /// The tracking of a part of this control.
     TrackingControl(TrackedControl),
+    /// This window is dragged.
+    Dragging(DraggedWindow),
+    /// The size of this window is being changed.
+    Growing(GrownWindow),
 }
 
 /// A menu that is pulled down.
@@ -44,6 +51,28 @@ pub struct TrackedControl {
     pub from: Point,
 }
 
+/// A window that is dragged.
+#[derive(Clone, Copy, PartialEq, Eq)]
+pub struct DraggedWindow {
+    pub window: u64,
+    /// Where the mouse button was pressed, on the screen.
+    pub from: Point,
+    /// The lines of its outline on the screen, before they are cut to it; no two share a pixel, and those that are not needed
+    /// are empty.
+    pub outline: [Rect; 8],
+}
+
+/// A window whose size is being changed.
+#[derive(Clone, Copy, PartialEq, Eq)]
+pub struct GrownWindow {
+    pub window: u64,
+    /// Where the mouse button was pressed, on the screen.
+    pub from: Point,
+    pub limits: SizeLimits,
+    /// The lines of its outline, as those of a window that is dragged.
+    pub outline: [Rect; 8],
+}
+
 /// When a call may come.
 #[derive(Clone, Copy, PartialEq, Eq)]
 pub enum Standing {
@@ -57,6 +86,10 @@ pub enum Standing {
     Pulls,
     /// It goes on with the tracking of a control or ends it, while that is open.
     TracksControl,
+    /// It goes on with the drag of a window or ends it, while one is dragged.
+    Drags,
+    /// It goes on with the growing of a window or ends it, while one is grown.
+    Grows,
     /// It is any other, while nothing is open.
     Changes,
 }
@@ -75,6 +108,8 @@ impl Activity {
             (Activity::Tracking(_), Standing::Tracks) => Ok(()),
             (Activity::Pulling(_), Standing::Pulls) => Ok(()),
             (Activity::TrackingControl(_), Standing::TracksControl) => Ok(()),
+            (Activity::Dragging(_), Standing::Drags) => Ok(()),
+            (Activity::Growing(_), Standing::Grows) => Ok(()),
             _ => Err(Refusal::NotBusy),
         }
     }
@@ -92,6 +127,7 @@ impl Call<'_> {
             Call::Control(call) => call.standing(),
             Call::List(call) => call.standing(),
             Call::Menu(call) => call.standing(),
+            Call::Outline(call) => call.standing(),
             Call::Event(_) => Standing::Asks,
         }
     }
@@ -169,6 +205,19 @@ impl ListCall<'_> {
             ListCall::GetCell(_) | ListCall::IsSelected(_) => Standing::Asks,
             ListCall::FirstSelected(_) | ListCall::NextCell(_) => Standing::Asks,
             ListCall::Search(_) => Standing::Asks,
+            _ => Standing::Changes,
+        }
+    }
+}
+
+impl OutlineCall {
+    /// When the call may come.
+    pub fn standing(&self) -> Standing
+        ensures { result ≡ outline_standing self.now }
+    {
+        match self {
+            OutlineCall::StepDrag(_) | OutlineCall::EndDrag(_) => Standing::Drags,
+            OutlineCall::StepGrow(_) | OutlineCall::EndGrow(_) => Standing::Grows,
             _ => Standing::Changes,
         }
     }

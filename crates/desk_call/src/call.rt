@@ -2,7 +2,7 @@
 
 use crate::{
     ControlCall, ControlReply, EventCall, EventReply, FrameCall, FrameReply, ListCall, ListReply,
-    MenuCall, MenuReply, UpdateCall, WindowCall, WindowReply,
+    MenuCall, MenuReply, OutlineCall, OutlineReply, UpdateCall, WindowCall, WindowReply,
 };
 
 /// A call of the Toolbox, by what it is about. Titles, and the bytes of operations and regions, are borrowed, so that
@@ -21,6 +21,8 @@ pub enum Call<'a> {
     List(ListCall<'a>),
     /// About menus.
     Menu(MenuCall<'a>),
+    /// About the outline of a window that is dragged or grown.
+    Outline(OutlineCall),
     /// About events.
     Event(EventCall),
 }
@@ -38,6 +40,8 @@ pub enum Reply {
     List(ListReply),
     /// To a `Call::Menu`.
     Menu(MenuReply),
+    /// To a `Call::Outline`.
+    Outline(OutlineReply),
     /// To a `Call::Event`.
     Event(EventReply),
 }

@@ -2,7 +2,7 @@
 //!
 //! A `Call` says what it is about, and a `Reply` of which kind the answer is. What a call does, the crate says that performs
 //! it: `window_mgr` for windows, `window_update` for updates, `window_frame` for frames, `control_mgr` for controls, `list_mgr`
-//! for lists, `menu_mgr` for menus, `desk_toolbox` for events. A program that only reads or writes calls needs no more than this.
+//! for lists, `menu_mgr` for menus, `window_outline` for outlines, `desk_toolbox` for events. A program that only reads or writes calls needs no more than this.
 #![tactic(auto)]
 
 mod activity;
@@ -12,10 +12,11 @@ mod event;
 mod frame;
 mod list;
 mod menu;
+mod outline;
 mod update;
 mod window;
 
-pub use activity::{Activity, PulledMenu, Standing, TrackedControl};
+pub use activity::{Activity, DraggedWindow, GrownWindow, PulledMenu, Standing, TrackedControl};
 pub use call::{Call, Reply};
 pub use control::{
     ControlCall, ControlInfo, ControlNumber, ControlOf, ControlReply, ControlTitle, FoundControl,
@@ -30,6 +31,7 @@ pub use list::{
 pub use menu::{
     AppendItems, CheckItem, Choice, InsertMenu, ItemOfMenu, ItemText, MenuCall, MenuReply, NewMenu,
 };
+pub use outline::{DragWindow, GrowWindow, OutlineCall, OutlineReply, SizeLimits};
 pub use update::{AreaRef, LayerDraw, Layers, UpdateCall, WindowArea};
 pub use window::{
     Drawing, Found, MoveWindow, NewPicture, NewWindow, PictureRef, ScrollPicture, SendBehind,

@@ -1,5 +1,5 @@
 -- Each state that a Toolbox reaches is consistent.
-use Rattle.std.proofs.Common.{◌≡◌, true, List, [], ◌∷◌, map, Result, sym, ap, ◌∙◌, subst, arith}
+use Rattle.std.proofs.Common.{◌≡◌, true, List, [], ◌∷◌, map, Result, Ok, refl, sym, ap, ◌∙◌, subst, arith}
 use Rattle.std.specs.Prelude.{IfSome, pos}
 use Rattle.std.proofs.lemmas.List.Elements.{All-nil, All-same}
 use Rattle.tb_geom.specs.declared.refusal.Refusal.{Refusal}
@@ -19,6 +19,10 @@ use Rattle.desk_toolbox.specs.Reached.{AreMenusApart, HasLiveDefinition, IsLit, 
 use Rattle.desk_toolbox.specs.Run.{IsStep, IsRunOfCalls}
 use Rattle.desk_toolbox.specs.ToolboxStates.{ToolboxState}
 use Rattle.desk_toolbox.proofs.EachManager.{HoldsOfEach, of_step}
+use Rattle.desk_call.specs.declared.window.WindowCall.TheVariants as window_calls
+use Rattle.desk_call.specs.declared.window.WindowReply.TheVariants as window_reply
+use Rattle.desk_toolbox.specs.Run.{put_down}
+use Rattle.desk_toolbox.proofs.OutlineStands.{outline_comes_then, outline_stands, put_down_stands}
 use Rattle.desk_toolbox.proofs.Runs.{step_stays_right}
 use Rattle.desk_toolbox.proofs.Stands.{Stands, stands, consistent, stands_still, event_stands, window_stands}
 use Rattle.desk_toolbox.proofs.StandsOpen.{update_stands, frame_stands}
@@ -48,6 +52,8 @@ each_stands = record {
   control = λ call answer before after may step events lists menus was right. control_stands call answer before after may was right step events menus;
   list = λ call answer before after may step events menus was right. list_stands call answer before after may was right step events menus;
   menu = λ call answer before after may step events controls lists was right. menu_stands call answer before after may was right step events;
+  outline = λ call answer before after may step rest was right. outline_stands call answer before after may was right step rest;
+  moved = λ call move before after may step was right. window_stands (window_calls.Move move) (Ok window_reply.Done) (put_down before) after refl (put_down_stands before (outline_comes_then call before.desk.activity may) was) right step;
   event = λ call answer before after step was right. event_stands call answer before after was right step;
 }
 

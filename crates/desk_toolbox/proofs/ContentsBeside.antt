@@ -11,7 +11,7 @@ use Rattle.desk_call.specs.declared.frame.FrameCall.TheVariants.{SetTitle, Hilit
 use Rattle.desk_call.specs.declared.frame.FrameReply.{FrameReply}
 use Rattle.desk_call.specs.declared.frame.FrameReply.TheVariants.{Done, Tracked}
 use Rattle.desk_call.specs.declared.activity.Standing.{Standing}
-use Rattle.desk_call.specs.declared.activity.Standing.TheVariants.{Asks, Updates, Tracks, Pulls, TracksControl, Changes}
+use Rattle.desk_call.specs.declared.activity.Standing.TheVariants.{Asks, Updates, Tracks, Pulls, TracksControl, Drags, Grows, Changes}
 use Rattle.desk_call.specs.declared.menu.MenuCall.{MenuCall}
 use Rattle.desk_call.specs.declared.update.UpdateCall.{UpdateCall}
 use Rattle.desk_call.specs.declared.window.WindowReply.{WindowReply}
@@ -148,6 +148,8 @@ module _ (B : Bond) where
   caught_up_holds Tracks before after (ss, told, informed) h = are_told_holds ss before after told h
   caught_up_holds Pulls before after (ss, told, informed) h = are_told_holds ss before after told h
   caught_up_holds TracksControl before after (ss, told, informed) h = are_told_holds ss before after told h
+  caught_up_holds Drags before after (ss, told, informed) h = are_told_holds ss before after told h
+  caught_up_holds Grows before after (ss, told, informed) h = are_told_holds ss before after told h
   caught_up_holds Changes before after (ss, told, informed) h = are_told_holds ss before after told h
 
   tracking_holds : (inside : Bool) (s : ℕ) (before after : FullState) → IsTrackingNotified inside s before after → Every B before.desk.windows → Every B after.desk.windows

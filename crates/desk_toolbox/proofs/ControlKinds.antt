@@ -12,6 +12,9 @@ use Rattle.list_mgr.proofs.ListFacts.{list_facts}
 use Rattle.desk_toolbox.specs.Run.{AreControlsLeft, IsWindowMade, IsStep}
 use Rattle.desk_toolbox.specs.ToolboxStates.{ToolboxState, with_controls, with_lists}
 use Rattle.desk_toolbox.proofs.EachManager.{HoldsOfEach, of_step}
+use Rattle.desk_call.specs.declared.window.WindowCall.TheVariants as window_calls
+use Rattle.desk_call.specs.declared.window.WindowReply.TheVariants as window_reply
+use Rattle.desk_toolbox.specs.Run.{put_down}
 
 abbrev pub control_kinds : List ControlSlot → List (List ℕ)
 control_kinds slots = map (λ s. s.kind) slots
@@ -41,6 +44,8 @@ each_keeps = record {
   control = λ call answer before after may step events lists menus. (control_facts call answer (with_controls before) (with_controls after) step).0.kinds;
   list = λ call answer before after may step events menus. (list_facts call answer (with_lists before) (with_lists after) step).0.kinds;
   menu = λ call answer before after may step events controls lists. same_controls before.controls after.controls controls;
+  outline = λ call answer before after may step rest. same_controls before.controls after.controls rest.controls;
+  moved = λ call move before after may step. window_keeps (window_calls.Move move) (Ok window_reply.Done) (put_down before) after step;
   event = λ call answer before after step. same_controls before.controls after.controls step.controls;
 }
 

@@ -23,6 +23,8 @@ use Rattle.list_mgr.proofs.ListFacts.{IsNextAfter, IsNextList, list_facts}
 use Rattle.desk_toolbox.specs.Run.{AreControlsLeft, AreCountedAlong, IsRunOfCalls, IsWindowMade, control_serial, controls_made, controls_taken, replied, untold}
 use Rattle.desk_toolbox.specs.ToolboxStates.{ToolboxState, with_controls, with_lists}
 use Rattle.desk_toolbox.proofs.EachManager.{HoldsOfEach, of_step}
+use Rattle.desk_call.specs.declared.window.WindowReply.TheVariants as window_reply
+use Rattle.desk_toolbox.specs.Run.{put_down}
 
 next_counted : (before after : ControlsState) (numbers : List (Option ℕ)) → after.next ≡ before.next → AreCountedAlong after.next numbers → AreCountedAlong before.next numbers
 next_counted before after numbers same h = subst (λ n. AreCountedAlong n numbers) same h
@@ -107,6 +109,8 @@ each_is_counted = record {
   control = λ call answer before after may step events lists menus numbers h. control_is_counted call answer before after numbers step h;
   list = λ call answer before after may step events menus numbers h. list_is_counted call answer before after numbers step h;
   menu = λ call answer before after may step events controls lists numbers h. none_made reply.Menu (calls.Menu call) answer before.controls after.controls numbers (λ a. refl) (next_of before after controls) h;
+  outline = λ call answer before after may step rest numbers h. none_made reply.Outline (calls.Outline call) answer before.controls after.controls numbers (λ a. refl) (next_of before after rest.controls) h;
+  moved = λ call move before after may step numbers h. next_counted before.controls after.controls numbers (window_next (windows.Move move) (Ok window_reply.Done) (put_down before) after step) h;
   event = λ call answer before after step numbers h. none_made reply.Event (calls.Event call) answer before.controls after.controls numbers (λ a. refl) (next_of before after step.controls) h;
 }
 

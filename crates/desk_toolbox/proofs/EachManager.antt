@@ -3,7 +3,7 @@ use Rattle.std.proofs.Common.{◌≡◌, Bool, true, false, Option, None, Some, 
 use Rattle.tb_geom.specs.declared.point.Point.{Point}
 use Rattle.tb_geom.specs.declared.refusal.Refusal.{Refusal}
 use Rattle.desk_call.specs.declared.call.Call.{Call}
-use Rattle.desk_call.specs.declared.call.Call.TheVariants.{Window, Update, Frame, Control, Menu, Event}
+use Rattle.desk_call.specs.declared.call.Call.TheVariants.{Window, Update, Frame, Control, Menu, Outline, Event}
 use Rattle.desk_call.specs.declared.call.Call.TheVariants as calls
 use Rattle.desk_call.specs.declared.call.Reply.{Reply}
 use Rattle.desk_call.specs.declared.call.Reply.TheVariants as reply
@@ -20,19 +20,26 @@ use Rattle.desk_call.specs.declared.list.ListCall.{ListCall}
 use Rattle.desk_call.specs.declared.list.ListReply.{ListReply}
 use Rattle.desk_call.specs.declared.menu.MenuCall.{MenuCall}
 use Rattle.desk_call.specs.declared.menu.MenuReply.{MenuReply}
+use Rattle.desk_call.specs.declared.outline.OutlineCall.{OutlineCall}
+use Rattle.desk_call.specs.declared.outline.OutlineReply.{OutlineReply}
+use Rattle.desk_call.specs.declared.outline.OutlineReply.TheVariants.{Shown}
 use Rattle.desk_call.specs.declared.update.UpdateCall.{UpdateCall}
+use Rattle.desk_call.specs.declared.window.MoveWindow.{MoveWindow}
 use Rattle.desk_call.specs.declared.window.WindowCall.{WindowCall}
-use Rattle.desk_call.specs.declared.window.WindowCall.TheVariants.{Find}
+use Rattle.desk_call.specs.declared.window.WindowCall.TheVariants.{Find, Move}
 use Rattle.desk_call.specs.declared.window.WindowReply.{WindowReply}
+use Rattle.desk_call.specs.declared.window.WindowReply.TheVariants.{Done}
 use Rattle.desk_call.specs.Gates.{gate, standing_of}
 use Rattle.window_update.specs.UpdateSteps.{IsUpdateStep}
 use Rattle.window_frame.specs.FrameSteps.{IsFrameStep}
+use Rattle.window_outline.specs.Outlining.{let_go_of}
+use Rattle.window_outline.specs.OutlineSteps.{IsOutlineStep}
 use Rattle.control_mgr.specs.ControlSteps.{IsControlStep}
 use Rattle.list_mgr.specs.ListSteps.{IsListStep}
 use Rattle.menu_mgr.specs.MenuSteps.{IsMenuStep}
 use Rattle.desk_toolbox.specs.Fronts.{is_on_menu}
 use Rattle.desk_toolbox.specs.ToolboxStates.{ToolboxState, IsToolboxUnchanged, with_controls, with_lists, with_menus}
-use Rattle.desk_toolbox.specs.Run.{IsWindowMade, IsWindowTold, IsControlTold, IsEventAnswer, IsAdmitted, IsGated, IsRestKept, IsStep, found_menu, is_covered, is_hidden_by_menu, is_under_menu, replied}
+use Rattle.desk_toolbox.specs.Run.{IsWindowMade, IsWindowTold, IsControlTold, IsEventAnswer, IsAdmitted, IsGated, IsLetGo, IsOutlineMade, IsRestKept, IsStep, found_menu, is_covered, is_hidden_by_menu, is_under_menu, put_down, replied}
 
 -- `R` relates a call, what it is answered, and the states before and after it
 module _ (R : Call → Result Reply Refusal → ToolboxState → ToolboxState → Type 0) where
@@ -55,6 +62,11 @@ module _ (R : Call → Result Reply Refusal → ToolboxState → ToolboxState �
     pub list : (call : ListCall) (answer : Result ListReply Refusal) (before after : ToolboxState) → gate before.desk.activity (standing_of (calls.List call)) ≡ None
         → IsListStep call answer (with_lists before) (with_lists after) → after.events ≡ before.events → after.menus ≡ before.menus
         → R (calls.List call) (replied reply.List answer) before after
+    pub outline : (call : OutlineCall) (answer : Result OutlineReply Refusal) (before after : ToolboxState) → gate before.desk.activity (standing_of (Outline call)) ≡ None
+        → IsOutlineStep call answer before.desk after.desk → IsRestKept before after → R (Outline call) (replied reply.Outline answer) before after
+    -- (the window that was dragged is let go, and moved)
+    pub moved : (call : OutlineCall) (move : MoveWindow) (before after : ToolboxState) → gate before.desk.activity (standing_of (Outline call)) ≡ None
+        → IsWindowMade (Move move) (Ok Done) (put_down before) after → R (Outline call) (Ok (reply.Outline (Shown true))) before after
     pub event : (call : EventCall) (answer : Result EventReply Refusal) (before after : ToolboxState)
         → IsEventAnswer call answer before after → R (Event call) (replied reply.Event answer) before after
 
@@ -79,6 +91,16 @@ module _ (R : Call → Result Reply Refusal → ToolboxState → ToolboxState �
     of_control (controls.Find p) own before after may step = of_controls (is_under_menu before p) (controls.Find p) p refl own before after may step
     of_control call own before after may told = each.control call own before after may told.step told.events told.lists told.menus
 
+    -- the window that was dragged is let go: the move is done or refused
+    of_let_go : (call : OutlineCall) (move : MoveWindow) (own : Result OutlineReply Refusal) (before after : ToolboxState) → gate before.desk.activity (standing_of (Outline call)) ≡ None → IsLetGo move own before after → R (Outline call) (replied reply.Outline own) before after
+    of_let_go call move (Ok answer) before after may (is, done) =
+        subst (λ r. R (Outline call) (Ok (reply.Outline r)) before after) (sym is) (each.moved call move before after may done)
+    of_let_go call move (Err e) before after may (refused, same) = each.unchanged (Outline call) e before after same
+
+    of_outline : (drop : Option MoveWindow) (call : OutlineCall) (own : Result OutlineReply Refusal) (before after : ToolboxState) → gate before.desk.activity (standing_of (Outline call)) ≡ None → IsOutlineMade drop call own before after → R (Outline call) (replied reply.Outline own) before after
+    of_outline None call own before after may step = each.outline call own before after may step.0 step.1
+    of_outline (Some move) call own before after may step = of_let_go call move own before after may step
+
     pub of_admitted : (call : Call) (answer : Result Reply Refusal) (before after : ToolboxState) → gate before.desk.activity (standing_of call) ≡ None → IsAdmitted call answer before after → R call answer before after
     of_admitted (Window call) answer before after may (own, is, step) = subst (λ r. R (Window call) r before after) (sym is) (of_window call own before after may step)
     of_admitted (Update call) answer before after may (own, is, step) = subst (λ r. R (Update call) r before after) (sym is) (each.update call own before after may step.0 step.1)
@@ -86,6 +108,7 @@ module _ (R : Call → Result Reply Refusal → ToolboxState → ToolboxState �
     of_admitted (Control call) answer before after may (own, is, step) = subst (λ r. R (Control call) r before after) (sym is) (of_control call own before after may step)
     of_admitted (calls.List call) answer before after may (own, is, told) = subst (λ r. R (calls.List call) r before after) (sym is) (each.list call own before after may told.step told.events told.menus)
     of_admitted (Menu call) answer before after may (own, is, told) = subst (λ r. R (Menu call) r before after) (sym is) (each.menu call own before after may told.step told.events told.controls told.lists)
+    of_admitted (Outline call) answer before after may (own, is, step) = subst (λ r. R (Outline call) r before after) (sym is) (of_outline (let_go_of call before.desk.activity before.desk.windows.desk) call own before after may step)
     of_admitted (Event call) answer before after may (own, is, step) = subst (λ r. R (Event call) r before after) (sym is) (each.event call own before after step)
 
     of_gated : (stopped : Option Refusal) (call : Call) (answer : Result Reply Refusal) (before after : ToolboxState) → gate before.desk.activity (standing_of call) ≡ stopped → IsGated stopped call answer before after → R call answer before after

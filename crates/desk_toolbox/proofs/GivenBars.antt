@@ -15,6 +15,9 @@ use Rattle.list_mgr.proofs.GivenBars.{bars_go_on, control_from_one, control_goes
 use Rattle.desk_toolbox.specs.Run.{AreControlsLeft, AreListsLeft, IsStep, IsWindowMade}
 use Rattle.desk_toolbox.specs.ToolboxStates.{ToolboxState, with_controls, with_lists}
 use Rattle.desk_toolbox.proofs.EachManager.{HoldsOfEach, of_step}
+use Rattle.desk_call.specs.declared.window.WindowCall.TheVariants as window_calls
+use Rattle.desk_call.specs.declared.window.WindowReply.TheVariants as window_reply
+use Rattle.desk_toolbox.specs.Run.{put_down}
 
 abbrev HaveGivenBars : ControlsState → ListsState → Type 0
 HaveGivenBars controls lists = AreBarsGiven controls.next lists.lists
@@ -54,6 +57,8 @@ each_keeps_bars = record {
       );
   list = λ call answer before after may step events menus h. list_keeps_bars call answer (with_lists before) (with_lists after) step h;
   menu = λ call answer before after may step events controls lists h. same_bars before after controls lists h;
+  outline = λ call answer before after may step rest h. same_bars before after rest.controls rest.lists h;
+  moved = λ call move before after may step h. made_bars (window_calls.Move move) (Ok window_reply.Done) (put_down before) after step h;
   event = λ call answer before after step h. same_bars before after step.controls step.lists h;
 }
 

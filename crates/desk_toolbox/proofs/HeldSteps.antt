@@ -7,7 +7,7 @@ use Rattle.tb_geom.specs.declared.refusal.Refusal.{Refusal}
 use Rattle.menu_list.specs.Lists.{is_in_bar, menu_index, without_highlight}
 use Rattle.menu_edits.specs.MenuEdits.{menus_after}
 use Rattle.desk_call.specs.declared.activity.Activity.{Activity}
-use Rattle.desk_call.specs.declared.activity.Activity.TheVariants.{Idle, Updating, Tracking, Pulling, TrackingControl}
+use Rattle.desk_call.specs.declared.activity.Activity.TheVariants.{Idle, Updating, Tracking, Pulling, TrackingControl, Dragging, Growing}
 use Rattle.desk_call.specs.declared.activity.PulledMenu.{PulledMenu}
 use Rattle.desk_call.specs.declared.call.Call.{Call}
 use Rattle.desk_call.specs.declared.call.Reply.{Reply}
@@ -26,6 +26,9 @@ use Rattle.desk_toolbox.specs.Reached.{IsPulledThere, IsTitleInBar}
 use Rattle.desk_toolbox.specs.Run.{IsStep, IsWindowMade}
 use Rattle.desk_toolbox.specs.ToolboxStates.{ToolboxState, with_menus}
 use Rattle.desk_toolbox.proofs.EachManager.{HoldsOfEach, of_step}
+use Rattle.desk_call.specs.declared.window.WindowCall.TheVariants as window_calls
+use Rattle.desk_call.specs.declared.window.WindowReply.TheVariants as window_reply
+use Rattle.desk_toolbox.specs.Run.{put_down}
 use Rattle.desk_toolbox.proofs.HeldMenus.{Shows, edited_title, of_another, shows-append, shows-remove, uses_after, weaker}
 use Rattle.desk_toolbox.proofs.LitMenus.{told_in_bar}
 
@@ -72,6 +75,8 @@ moved_held Idle p answer before after there wrong h = absurd wrong
 moved_held (Updating s) p answer before after there wrong h = absurd wrong
 moved_held (Tracking s) p answer before after there wrong h = absurd wrong
 moved_held (TrackingControl c) p answer before after there wrong h = absurd wrong
+moved_held (Dragging d) p answer before after there wrong h = absurd wrong
+moved_held (Growing g) p answer before after there wrong h = absurd wrong
 
 -- the title stays highlighted, or none is
 put_away_title : (o was : Option ℕ) (choice : Option Choice) (ls : List MenuRecord) → o ≡ (if is_none choice then None else was) → IfSome was (λ h. Shows h ls) → IfSome o (λ h. Shows h ls)
@@ -90,6 +95,8 @@ released_held Idle p choice before after wrong h = absurd wrong
 released_held (Updating s) p choice before after wrong h = absurd wrong
 released_held (Tracking s) p choice before after wrong h = absurd wrong
 released_held (TrackingControl c) p choice before after wrong h = absurd wrong
+released_held (Dragging d) p choice before after wrong h = absurd wrong
+released_held (Growing g) p choice before after wrong h = absurd wrong
 
 -- a menu that is gone loses its highlighting
 gone_title : (at : ℕ) (ls : List MenuRecord) (l : MenuRecord) (was : Option ℕ) → slice_get ls at ≡ Some l → IfSome was (λ h. Shows h ls) → IfSome (without_highlight l.menu.id was) (λ h. Shows h (remove ls at))
@@ -150,6 +157,8 @@ each_keeps_held = record {
   control = λ call answer before after may step events lists menus there h. same_held before.menus after.menus menus h;
   list = λ call answer before after may step events menus there h. same_held before.menus after.menus menus h;
   menu = λ call answer before after may step events controls lists there h. menu_held call answer (with_menus before) (with_menus after) there step h;
+  outline = λ call answer before after may step rest there h. same_held before.menus after.menus rest.menus h;
+  moved = λ call move before after may step there h. same_held before.menus after.menus (made_menus (window_calls.Move move) (Ok window_reply.Done) (put_down before) after step) h;
   event = λ call answer before after step there h. same_held before.menus after.menus step.menus h;
 }
 

@@ -8,7 +8,7 @@ use Rattle.def_iface.specs.Meaning.{Definition}
 use Rattle.def_iface.specs.News.{News, told_highlighted, told_title, told_tracked}
 use Rattle.def_iface.specs.Stocked.{SlotView}
 use Rattle.desk_call.specs.declared.activity.Standing.{Standing}
-use Rattle.desk_call.specs.declared.activity.Standing.TheVariants.{Asks, Updates, Tracks, Pulls, TracksControl, Changes}
+use Rattle.desk_call.specs.declared.activity.Standing.TheVariants.{Asks, Updates, Tracks, Pulls, TracksControl, Drags, Grows, Changes}
 use Rattle.desk_call.specs.declared.call.Call.{Call}
 use Rattle.desk_call.specs.declared.call.Reply.{Reply}
 use Rattle.desk_call.specs.declared.frame.FrameCall.{FrameCall}
@@ -49,6 +49,9 @@ use Rattle.desk_toolbox.specs.Reached.{AreWindowsStocked}
 use Rattle.desk_toolbox.specs.Run.{IsStep, IsWindowAnswer, IsWindowMade}
 use Rattle.desk_toolbox.specs.ToolboxStates.{ToolboxState, with_controls, with_lists, with_menus}
 use Rattle.desk_toolbox.proofs.EachManager.{HoldsOfEach, of_step}
+use Rattle.desk_call.specs.declared.window.WindowReply.TheVariants as window_reply
+use Rattle.desk_toolbox.proofs.Outlined.{outline_keeps_desk}
+use Rattle.desk_toolbox.specs.Run.{put_down}
 use Rattle.desk_toolbox.proofs.KeptDesks.{refused_keeps_desk}
 use Rattle.desk_toolbox.proofs.UpdatedDesks.{update_keeps_desk}
 
@@ -257,6 +260,8 @@ caught_up_stocked (Updates s) before after (ts, told, informed) h = are_told_sto
 caught_up_stocked Tracks before after (ts, told, informed) h = are_told_stocked ts before after told h
 caught_up_stocked Pulls before after (ts, told, informed) h = are_told_stocked ts before after told h
 caught_up_stocked TracksControl before after (ts, told, informed) h = are_told_stocked ts before after told h
+caught_up_stocked Drags before after (ts, told, informed) h = are_told_stocked ts before after told h
+caught_up_stocked Grows before after (ts, told, informed) h = are_told_stocked ts before after told h
 caught_up_stocked Changes before after (ts, told, informed) h = are_told_stocked ts before after told h
 
 made_stocked : (call : WindowCall) (answer : Result WindowReply Refusal) (before after : ToolboxState) → IsWindowMade call answer before after → AreWindowsStocked before.desk.windows.desk → AreWindowsStocked after.desk.windows.desk
@@ -324,6 +329,8 @@ each_keeps_stocked = record {
         stock = menu_keeps (λ d. d.stock) (λ d titles. refl) call answer (with_menus before) (with_menus after) step;
         all = λ k. menu_keeps (λ d. takes k d.windows) (λ d titles. refl) call answer (with_menus before) (with_menus after) step;
       }) h;
+  outline = λ call answer before after may step rest h. still_stocked before after (outline_keeps_desk call answer before.desk after.desk step) h;
+  moved = λ call move before after may step h. made_stocked (asks.Move move) (Ok window_reply.Done) (put_down before) after step h;
   event = λ call answer before after step h. still_stocked before after step.desk.windows.desk h;
 }
 

@@ -27,6 +27,10 @@ use Rattle.desk_toolbox.specs.Reached.{IsConsistent, IsJustBegun}
 use Rattle.desk_toolbox.specs.Run.{IsWindowMade, IsEventAnswer, found_menu, replied, IsStep, IsRunOfCalls}
 use Rattle.desk_toolbox.specs.ToolboxStates.{ToolboxState, with_menus}
 use Rattle.desk_toolbox.proofs.EachManager.{HoldsOfEach, of_step}
+use Rattle.desk_call.specs.declared.window.WindowCall.TheVariants as window_calls
+use Rattle.desk_call.specs.declared.window.WindowReply.TheVariants as window_reply
+use Rattle.desk_toolbox.proofs.Outlined.{outline_keeps_desk}
+use Rattle.desk_toolbox.specs.Run.{put_down}
 use Rattle.desk_toolbox.proofs.UpdatedDesks.{update_keeps_desk}
 use Rattle.desk_toolbox.proofs.StepCounts.{Recount, HasSame, IsGone, same_desk, frame_counts, menu_counts, window_recounts, gone_stays, disposed_is_gone, present_is_not_gone, right_is_numbered}
 use Rattle.desk_toolbox.proofs.Stands.{Stands, stands}
@@ -99,6 +103,7 @@ refused_step (asks.Frame call) e before after events same = still_step (asks.Fra
 refused_step (asks.List call) e before after events same = still_step (asks.List call) (Err e) before after refl refl (λ rest. refl) events same
 refused_step (asks.Control call) e before after events same = still_step (asks.Control call) (Err e) before after refl refl (λ rest. refl) events same
 refused_step (asks.Menu call) e before after events same = still_step (asks.Menu call) (Err e) before after refl refl (λ rest. refl) events same
+refused_step (asks.Outline call) e before after events same = still_step (asks.Outline call) (Err e) before after refl refl (λ rest. refl) events same
 refused_step (asks.Event (Post p)) e before after events same = still_step (asks.Event (Post p)) (Err e) before after refl refl (λ rest. refl) events same
 refused_step (asks.Event (Next mask)) e before after events same = still_step (asks.Event (Next mask)) (Err e) before after refl refl (λ rest. refl) events same
 refused_step (asks.Event (Avail mask)) e before after events same = still_step (asks.Event (Avail mask)) (Err e) before after refl refl (λ rest. refl) events same
@@ -119,6 +124,8 @@ each_goes_on = record {
   control = λ call answer before after may step events lists menus was. still_step (asks.Control call) (replied reply.Control answer) before after refl refl (λ rest. refl) events (control_counts call answer before after step);
   list = λ call answer before after may step events menus was. still_step (asks.List call) (replied reply.List answer) before after refl refl (λ rest. refl) events (list_counts call answer before after step);
   menu = λ call answer before after may step events controls lists was. still_step (asks.Menu call) (replied reply.Menu answer) before after refl refl (λ rest. refl) events (menu_counts call answer (with_menus before) (with_menus after) step);
+  outline = λ call answer before after may step kept was. still_step (asks.Outline call) (replied reply.Outline answer) before after refl refl (λ rest. refl) kept.events (same_desk before.desk.windows.desk after.desk.windows.desk (outline_keeps_desk call answer before.desk after.desk step));
+  moved = λ call move before after may step was. let moved = window_step (window_calls.Move move) (Ok window_reply.Done) (put_down before) after step in record { tells = moved.tells; recount = moved.recount };
   event = λ call answer before after step was. event_step_is call answer before after was step;
 }
 

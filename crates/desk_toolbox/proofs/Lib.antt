@@ -19,6 +19,9 @@ pub mod LiveDefinitions
 pub mod HeldWindows
 pub mod Stands
 pub mod StandsOpen
+pub mod Outlined
+pub mod OutlineStands
+pub mod OutlinesMade
 pub mod MenuKinds
 pub mod Narrowed
 pub mod Ended
@@ -45,6 +48,7 @@ pub mod FrontLaws
 pub mod FindLaws
 pub mod FindWindowLaws
 pub mod LeftByMenus
+pub mod OutlineLaws
 pub mod MenusBeside
 pub mod UpdatesBeside
 pub mod OpenUpdates

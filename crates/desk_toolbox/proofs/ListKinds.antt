@@ -11,6 +11,9 @@ use Rattle.list_mgr.proofs.ListFacts.{list_facts, list_kinds_of}
 use Rattle.desk_toolbox.specs.Run.{AreListsLeft, IsWindowMade, IsStep}
 use Rattle.desk_toolbox.specs.ToolboxStates.{ToolboxState, with_lists}
 use Rattle.desk_toolbox.proofs.EachManager.{HoldsOfEach, of_step}
+use Rattle.desk_call.specs.declared.window.WindowCall.TheVariants as window_calls
+use Rattle.desk_call.specs.declared.window.WindowReply.TheVariants as window_reply
+use Rattle.desk_toolbox.specs.Run.{put_down}
 
 abbrev KeepsListKinds : Call → Result Reply Refusal → ToolboxState → ToolboxState → Type 0
 KeepsListKinds call answer before after = list_kinds_of after.lists ≡ list_kinds_of before.lists
@@ -37,6 +40,8 @@ each_keeps = record {
   control = λ call answer before after may step events lists menus. same_lists before.lists after.lists lists;
   list = λ call answer before after may step events menus. (list_facts call answer (with_lists before) (with_lists after) step).0.list_kinds;
   menu = λ call answer before after may step events controls lists. same_lists before.lists after.lists lists;
+  outline = λ call answer before after may step rest. same_lists before.lists after.lists rest.lists;
+  moved = λ call move before after may step. window_keeps (window_calls.Move move) (Ok window_reply.Done) (put_down before) after step;
   event = λ call answer before after step. same_lists before.lists after.lists step.lists;
 }
 

@@ -21,6 +21,8 @@ use Rattle.list_mgr.proofs.ListFacts.{IsNextList, list_facts}
 use Rattle.desk_toolbox.specs.Run.{AreCounted, AreListsLeft, IsRunOfCalls, IsWindowMade, list_serial, lists_made, replied}
 use Rattle.desk_toolbox.specs.ToolboxStates.{ToolboxState, with_lists}
 use Rattle.desk_toolbox.proofs.EachManager.{HoldsOfEach, of_step}
+use Rattle.desk_call.specs.declared.window.WindowReply.TheVariants as window_reply
+use Rattle.desk_toolbox.specs.Run.{put_down}
 
 -- the serials of the lists that a call made
 abbrev made_by : Result Reply Refusal → List ℕ
@@ -113,6 +115,8 @@ each_is_counted = record {
   control = λ call answer before after may step events lists menus numbers h. none_made reply.Control answer before.lists after.lists numbers (λ a. refl) (next_of before after lists) h;
   list = λ call answer before after may step events menus numbers h. list_is_counted call answer before after numbers step h;
   menu = λ call answer before after may step events controls lists numbers h. none_made reply.Menu answer before.lists after.lists numbers (λ a. refl) (next_of before after lists) h;
+  outline = λ call answer before after may step rest numbers h. none_made reply.Outline answer before.lists after.lists numbers (λ a. refl) (next_of before after rest.lists) h;
+  moved = λ call move before after may step numbers h. next_counted before.lists after.lists numbers (window_next (windows.Move move) (Ok window_reply.Done) (put_down before) after step) h;
   event = λ call answer before after step numbers h. none_made reply.Event answer before.lists after.lists numbers (λ a. refl) (next_of before after step.lists) h;
 }
 
@@ -122,6 +126,7 @@ made_first (Ok (reply.Frame answer)) answers = refl
 made_first (Ok (reply.Control answer)) answers = refl
 made_first (Ok (reply.List answer)) answers = refl
 made_first (Ok (reply.Menu answer)) answers = refl
+made_first (Ok (reply.Outline answer)) answers = refl
 made_first (Ok (reply.Event answer)) answers = refl
 made_first (Err e) answers = refl
 

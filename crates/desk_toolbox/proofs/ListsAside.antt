@@ -75,7 +75,7 @@ module _ {V : Type 0} {H : V → Type 0} (loan : Taken V H → Loan) {W : Type 0
     pub menus_after_list : (m : Menus W K) (stored : List MenuSlot) → IsWholeMenus menu_loan t o.activity m stored → IsWholeMenus menu_loan new o.activity m stored
     menus_after_list m stored whole = ⊎_elim
         (λ same. menus.whole_unchanged loan menu_loan t new m stored before after (unchanged same) o.activity whole)
-        (λ idle. menus.whole_unpulled loan menu_loan t new m stored before after o.activity o.activity sides (subst menus.PullsNone (sym idle) tt) whole)
+        (λ idle. menus.whole_unpulled loan menu_loan t new m stored before after o.activity o.activity sides (subst menus.CoversNone (sym idle) tt) whole)
         split
 
     pub trackable_after_list : IsTrackable o.activity (records_of control_loan cs) → IsTrackable o.activity (records_of control_loan now)

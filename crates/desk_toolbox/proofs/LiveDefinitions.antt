@@ -9,7 +9,7 @@ use Rattle.def_iface.specs.Meaning.{Definition}
 use Rattle.def_iface.specs.News.{News, told_highlighted, told_placed, told_title, told_tracked}
 use Rattle.def_iface.proofs.Hearing.{goes_by_all, goes_by_news}
 use Rattle.desk_call.specs.declared.activity.Standing.{Standing}
-use Rattle.desk_call.specs.declared.activity.Standing.TheVariants.{Asks, Updates, Tracks, Pulls, TracksControl, Changes}
+use Rattle.desk_call.specs.declared.activity.Standing.TheVariants.{Asks, Updates, Tracks, Pulls, TracksControl, Drags, Grows, Changes}
 use Rattle.desk_call.specs.declared.call.Call.{Call}
 use Rattle.desk_call.specs.declared.call.Reply.{Reply}
 use Rattle.desk_call.specs.declared.frame.FrameCall.{FrameCall}
@@ -47,6 +47,9 @@ use Rattle.desk_toolbox.specs.Reached.{HasLiveDefinition}
 use Rattle.desk_toolbox.specs.Run.{IsStep, IsWindowAnswer, IsWindowMade}
 use Rattle.desk_toolbox.specs.ToolboxStates.{ToolboxState, with_controls, with_lists, with_menus}
 use Rattle.desk_toolbox.proofs.EachManager.{HoldsOfEach, of_step}
+use Rattle.desk_call.specs.declared.window.WindowReply.TheVariants as window_reply
+use Rattle.desk_toolbox.proofs.Outlined.{outline_keeps_desk}
+use Rattle.desk_toolbox.specs.Run.{put_down}
 use Rattle.desk_toolbox.proofs.KeptDesks.{refused_keeps_desk}
 use Rattle.desk_toolbox.proofs.UpdatedDesks.{update_keeps_desk}
 
@@ -279,6 +282,8 @@ caught_up_live (Updates s) before after (ts, told, informed) h = are_told_live t
 caught_up_live Tracks before after (ts, told, informed) h = are_told_live ts before after told h
 caught_up_live Pulls before after (ts, told, informed) h = are_told_live ts before after told h
 caught_up_live TracksControl before after (ts, told, informed) h = are_told_live ts before after told h
+caught_up_live Drags before after (ts, told, informed) h = are_told_live ts before after told h
+caught_up_live Grows before after (ts, told, informed) h = are_told_live ts before after told h
 caught_up_live Changes before after (ts, told, informed) h = are_told_live ts before after told h
 
 made_live : (call : WindowCall) (answer : Result WindowReply Refusal) (before after : ToolboxState) → IsWindowMade call answer before after → HaveLive before.desk.windows.desk.windows → HaveLive after.desk.windows.desk.windows
@@ -347,6 +352,8 @@ each_keeps_live = record {
       same_but_layers before.desk.windows.desk.windows after.desk.windows.desk.windows (list_facts call answer (with_lists before) (with_lists after) step).0.windows h;
   menu = λ call answer before after may step events controls lists h.
       subst HaveLive (sym (menu_keeps (λ d. d.windows) (λ d titles. refl) call answer (with_menus before) (with_menus after) step)) h;
+  outline = λ call answer before after may step rest h. same_live before.desk.windows after.desk.windows (outline_keeps_desk call answer before.desk after.desk step) h;
+  moved = λ call move before after may step h. made_live (asks.Move move) (Ok window_reply.Done) (put_down before) after step h;
   event = λ call answer before after step h. same_live before.desk.windows after.desk.windows step.desk.windows.desk h;
 }
 

@@ -7,7 +7,7 @@ use Rattle.tb_geom.specs.declared.refusal.Refusal.{Refusal}
 use Rattle.def_iface.specs.MenuMeaning.{MenuDefinition, MenuLoan}
 use Rattle.def_iface.specs.Slots.{IsTaken, holding}
 use Rattle.desk_call.specs.declared.activity.Activity.{Activity}
-use Rattle.desk_call.specs.declared.activity.Activity.TheVariants.{Idle, Updating, Tracking, Pulling, TrackingControl}
+use Rattle.desk_call.specs.declared.activity.Activity.TheVariants.{Idle, Updating, Tracking, Pulling, TrackingControl, Dragging, Growing}
 use Rattle.desk_call.specs.declared.activity.PulledMenu.{PulledMenu}
 use Rattle.desk_call.specs.declared.call.Call.{Call}
 use Rattle.desk_call.specs.declared.call.Reply.{Reply}
@@ -26,6 +26,9 @@ use Rattle.menu_mgr.specs.Pulling.{TitleOf, title_of_point}
 use Rattle.desk_toolbox.specs.Run.{IsStep, IsWindowMade}
 use Rattle.desk_toolbox.specs.ToolboxStates.{ToolboxState, with_menus}
 use Rattle.desk_toolbox.proofs.EachManager.{HoldsOfEach, of_step}
+use Rattle.desk_call.specs.declared.window.WindowCall.TheVariants as window_calls
+use Rattle.desk_call.specs.declared.window.WindowReply.TheVariants as window_reply
+use Rattle.desk_toolbox.specs.Run.{put_down}
 
 -- the kinds of the slots
 abbrev pub menu_kinds : List MenuSlot → List (List ℕ)
@@ -63,6 +66,8 @@ moved_keeps Idle p answer before after wrong = absurd wrong
 moved_keeps (Updating s) p answer before after wrong = absurd wrong
 moved_keeps (Tracking s) p answer before after wrong = absurd wrong
 moved_keeps (TrackingControl c) p answer before after wrong = absurd wrong
+moved_keeps (Dragging d) p answer before after wrong = absurd wrong
+moved_keeps (Growing g) p answer before after wrong = absurd wrong
 
 released_keeps : (a : Activity) (p : Point) (choice : Option Choice) (before after : MenuDesk) → IsMenuReleased a p choice before after → KeepsKinds before after
 released_keeps (Pulling m) p choice before after (is, away) = shown_keeps _ _ before after away.shown
@@ -70,6 +75,8 @@ released_keeps Idle p choice before after wrong = absurd wrong
 released_keeps (Updating s) p choice before after wrong = absurd wrong
 released_keeps (Tracking s) p choice before after wrong = absurd wrong
 released_keeps (TrackingControl c) p choice before after wrong = absurd wrong
+released_keeps (Dragging d) p choice before after wrong = absurd wrong
+released_keeps (Growing g) p choice before after wrong = absurd wrong
 
 disposed_keeps : (at : Option ℕ) (before after : MenuDesk) → IsDisposedAt at before after → KeepsKinds before after
 disposed_keeps None before after wrong = absurd wrong
@@ -109,6 +116,8 @@ each_keeps = record {
   control = λ call answer before after may step events lists menus. same_menus before after menus;
   list = λ call answer before after may step events menus. same_menus before after menus;
   menu = λ call answer before after may step events controls lists. menu_step_keeps call answer (with_menus before) (with_menus after) step;
+  outline = λ call answer before after may step rest. same_menus before after rest.menus;
+  moved = λ call move before after may step. window_keeps (window_calls.Move move) (Ok window_reply.Done) (put_down before) after step;
   event = λ call answer before after step. same_menus before after step.menus;
 }
 

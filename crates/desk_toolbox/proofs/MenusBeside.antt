@@ -1,7 +1,10 @@
--- The menus of a desk stay whole beside the calls of the other managers: while a menu is pulled down only calls may come that ask.
+-- The menus of a desk stay whole beside the calls of the other managers: while a menu is pulled down, or an outline is shown,
+-- only calls may come that ask.
 use Rattle.std.proofs.Common.{◌≡◌, ◌⊎◌, ⊎_elim, inl, inr, ℕ, ℤ, ◌≤◌, Bool, true, false, ◌&&◌, if◌then◌else◌, nat_abs, List, [], length, Option, None, Some, Result, Ok, Err, refl, sym, ap, ◌∙◌, subst, arith}
 use Rattle.tb_geom.specs.declared.point.Point.{Point}
+use Rattle.tb_geom.specs.declared.rect.Rect.{Rect}
 use Rattle.tb_geom.specs.declared.refusal.Refusal.{Refusal}
+use Rattle.tb_geom.specs.declared.refusal.Refusal.TheVariants.{Busy}
 use Rattle.tb_geom.specs.Points.{PixelSet}
 use Rattle.tb_geom.specs.Rects.{rect_holds}
 use Rattle.bit_map.specs.Bits.{bit, is_below, on_map}
@@ -13,10 +16,13 @@ use Rattle.def_iface.specs.Meaning.{Loan}
 use Rattle.def_iface.specs.MenuMeaning.{MenuLoan}
 use Rattle.def_iface.specs.Stocked.{SlotView}
 use Rattle.menu_overlay.specs.Overlays.{Pulled, pulled_bit, pulled_rect, shown_bit}
+use Rattle.menu_overlay.specs.Outlines.{IsOutlined, outline_holds, outlined}
+use Rattle.bit_map.specs.Modes.{xor_bit}
+use Rattle.bit_map.specs.Patterns.{pattern_bit}
+use Rattle.desk_ground.specs.Screens.{gray}
 use Rattle.desk_call.specs.declared.activity.Activity.{Activity}
-use Rattle.desk_call.specs.declared.activity.Activity.TheVariants.{Idle, Updating, Tracking, Pulling, TrackingControl}
-use Rattle.desk_call.specs.declared.activity.PulledMenu.{PulledMenu}
-use Rattle.desk_call.specs.declared.activity.Standing.TheVariants.{Asks}
+use Rattle.desk_call.specs.declared.activity.Activity.TheVariants.{Idle, Updating, Tracking, Pulling, TrackingControl, Dragging, Growing}
+use Rattle.desk_call.specs.declared.activity.Standing.TheVariants.{Asks, Changes}
 use Rattle.desk_call.specs.declared.frame.FrameCall.{FrameCall}
 use Rattle.desk_call.specs.declared.frame.FrameCall.TheVariants.{SetTitle, Hilite, TrackGoAway, StepGoAway, EndGoAway}
 use Rattle.desk_call.specs.declared.frame.FrameReply.{FrameReply}
@@ -49,29 +55,34 @@ use Rattle.desk_toolbox.proofs.UpdatedDesks.{update_keeps_desk}
 
 -- ---- what is open
 
--- no menu is pulled down
-abbrev pub PullsNone : Activity → Type 0
-PullsNone (Pulling m) = ⊥
-PullsNone _ = Unit {0}
+-- nothing lies in front of the base image: no menu is pulled down, and no outline is shown
+abbrev pub CoversNone : Activity → Type 0
+CoversNone (Pulling m) = ⊥
+CoversNone (Dragging d) = ⊥
+CoversNone (Growing g) = ⊥
+CoversNone _ = Unit {0}
 
-pulls_or_not : (a : Activity) → PullsNone a ⊎ ((m : PulledMenu) × (a ≡ Pulling m))
-pulls_or_not Idle = inl tt
-pulls_or_not (Updating s) = inl tt
-pulls_or_not (Tracking s) = inl tt
-pulls_or_not (TrackingControl c) = inl tt
-pulls_or_not (Pulling m) = inr (m, refl)
+-- or else no call may come that changes anything
+covers_or_not : (a : Activity) → CoversNone a ⊎ (gate a Changes ≡ Some Busy)
+covers_or_not Idle = inl tt
+covers_or_not (Updating s) = inl tt
+covers_or_not (Tracking s) = inl tt
+covers_or_not (TrackingControl c) = inl tt
+covers_or_not (Dragging d) = inr refl
+covers_or_not (Growing g) = inr refl
+covers_or_not (Pulling m) = inr refl
 
--- a call on windows comes while a menu is pulled down only if it asks
-window_asks : (call : WindowCall) (m : PulledMenu) → gate (Pulling m) (window_standing call) ≡ None → window_standing call ≡ Asks
-window_asks (asks.Find p) m may = refl
-window_asks asks.Front m may = refl
-window_asks (asks.Info s) m may = refl
-window_asks (asks.VisibleRegion s) m may = refl
-window_asks (asks.UpdateRegion s) m may = refl
-window_asks _ m may = absurd (cc)
+-- a call on windows comes then only if it asks
+window_asks : (call : WindowCall) (a : Activity) → gate a Changes ≡ Some Busy → gate a (window_standing call) ≡ None → window_standing call ≡ Asks
+window_asks (asks.Find p) a busy may = refl
+window_asks asks.Front a busy may = refl
+window_asks (asks.Info s) a busy may = refl
+window_asks (asks.VisibleRegion s) a busy may = refl
+window_asks (asks.UpdateRegion s) a busy may = refl
+window_asks _ a busy may = absurd (cc)
 
 -- and one about updates or frames never does
-pub update_comes_then : (call : UpdateCall) (a : Activity) → gate a (update_standing call) ≡ None → PullsNone a
+pub update_comes_then : (call : UpdateCall) (a : Activity) → gate a (update_standing call) ≡ None → CoversNone a
 update_comes_then call Idle may = tt
 update_comes_then call (Updating s) may = tt
 update_comes_then call (Tracking s) may = tt
@@ -82,8 +93,20 @@ update_comes_then (update.Begin s) (Pulling p) may = absurd (cc)
 update_comes_then (update.Draw d) (Pulling p) may = absurd (cc)
 update_comes_then (update.End s) (Pulling p) may = absurd (cc)
 update_comes_then (update.Serve s) (Pulling p) may = absurd (cc)
+update_comes_then (update.Invalidate m) (Dragging w) may = absurd (cc)
+update_comes_then (update.Validate m) (Dragging w) may = absurd (cc)
+update_comes_then (update.Begin s) (Dragging w) may = absurd (cc)
+update_comes_then (update.Draw d) (Dragging w) may = absurd (cc)
+update_comes_then (update.End s) (Dragging w) may = absurd (cc)
+update_comes_then (update.Serve s) (Dragging w) may = absurd (cc)
+update_comes_then (update.Invalidate m) (Growing w) may = absurd (cc)
+update_comes_then (update.Validate m) (Growing w) may = absurd (cc)
+update_comes_then (update.Begin s) (Growing w) may = absurd (cc)
+update_comes_then (update.Draw d) (Growing w) may = absurd (cc)
+update_comes_then (update.End s) (Growing w) may = absurd (cc)
+update_comes_then (update.Serve s) (Growing w) may = absurd (cc)
 
-pub frame_comes_then : (call : FrameCall) (a : Activity) → gate a (frame_standing call) ≡ None → PullsNone a
+pub frame_comes_then : (call : FrameCall) (a : Activity) → gate a (frame_standing call) ≡ None → CoversNone a
 frame_comes_then call Idle may = tt
 frame_comes_then call (Updating s) may = tt
 frame_comes_then call (Tracking s) may = tt
@@ -93,38 +116,48 @@ frame_comes_then (Hilite h) (Pulling p) may = absurd (cc)
 frame_comes_then (TrackGoAway g) (Pulling p) may = absurd (cc)
 frame_comes_then (StepGoAway q) (Pulling p) may = absurd (cc)
 frame_comes_then (EndGoAway q) (Pulling p) may = absurd (cc)
+frame_comes_then (SetTitle n) (Dragging w) may = absurd (cc)
+frame_comes_then (Hilite h) (Dragging w) may = absurd (cc)
+frame_comes_then (TrackGoAway g) (Dragging w) may = absurd (cc)
+frame_comes_then (StepGoAway q) (Dragging w) may = absurd (cc)
+frame_comes_then (EndGoAway q) (Dragging w) may = absurd (cc)
+frame_comes_then (SetTitle n) (Growing w) may = absurd (cc)
+frame_comes_then (Hilite h) (Growing w) may = absurd (cc)
+frame_comes_then (TrackGoAway g) (Growing w) may = absurd (cc)
+frame_comes_then (StepGoAway q) (Growing w) may = absurd (cc)
+frame_comes_then (EndGoAway q) (Growing w) may = absurd (cc)
 
-update_effect_pulls_none : (call : UpdateCall) (before after : DeskState) → IsUpdateEffect call before after → PullsNone before.activity → PullsNone after.activity
-update_effect_pulls_none (update.Invalidate m) before after (same, marked) was = subst PullsNone (sym same.activity) was
-update_effect_pulls_none (update.Validate m) before after (same, marked) was = subst PullsNone (sym same.activity) was
-update_effect_pulls_none (update.Begin s) before after begun was = subst PullsNone (sym begun.opened) tt
-update_effect_pulls_none (update.Draw d) before after (same, drawn) was = subst PullsNone (sym same.activity) was
-update_effect_pulls_none (update.End s) before after (idle, same) was = subst PullsNone (sym idle) tt
-update_effect_pulls_none (update.Serve s) before after (idle, drawn) was = subst PullsNone (sym idle) tt
+update_effect_pulls_none : (call : UpdateCall) (before after : DeskState) → IsUpdateEffect call before after → CoversNone before.activity → CoversNone after.activity
+update_effect_pulls_none (update.Invalidate m) before after (same, marked) was = subst CoversNone (sym same.activity) was
+update_effect_pulls_none (update.Validate m) before after (same, marked) was = subst CoversNone (sym same.activity) was
+update_effect_pulls_none (update.Begin s) before after begun was = subst CoversNone (sym begun.opened) tt
+update_effect_pulls_none (update.Draw d) before after (same, drawn) was = subst CoversNone (sym same.activity) was
+update_effect_pulls_none (update.End s) before after (idle, same) was = subst CoversNone (sym idle) tt
+update_effect_pulls_none (update.Serve s) before after (idle, drawn) was = subst CoversNone (sym idle) tt
 
-pub update_pulls_none : (call : UpdateCall) (answer : Result WindowReply Refusal) (before after : DeskState) → gate before.activity (update_standing call) ≡ None → IsUpdateStep call answer before after → PullsNone after.activity
+pub update_pulls_none : (call : UpdateCall) (answer : Result WindowReply Refusal) (before after : DeskState) → gate before.activity (update_standing call) ≡ None → IsUpdateStep call answer before after → CoversNone after.activity
 update_pulls_none call (Ok answer) before after may step = update_effect_pulls_none call before after step.1.1 (update_comes_then call before.activity may)
-update_pulls_none call (Err e) before after may step = subst PullsNone (sym step.1.activity) (update_comes_then call before.activity may)
+update_pulls_none call (Err e) before after may step = subst CoversNone (sym step.1.activity) (update_comes_then call before.activity may)
 
-begun_pulls_none : (s : ℕ) (inside : Bool) (before after : DeskState) → IsBegunAt s inside before after → PullsNone before.activity → PullsNone after.activity
-begun_pulls_none s true before after (tracked, told) was = subst PullsNone (sym tracked) tt
-begun_pulls_none s false before after same was = subst PullsNone (sym same.activity) was
+begun_pulls_none : (s : ℕ) (inside : Bool) (before after : DeskState) → IsBegunAt s inside before after → CoversNone before.activity → CoversNone after.activity
+begun_pulls_none s true before after (tracked, told) was = subst CoversNone (sym tracked) tt
+begun_pulls_none s false before after same was = subst CoversNone (sym same.activity) was
 
-frame_effect_pulls_none : (call : FrameCall) (answer : FrameReply) (before after : DeskState) → IsFrameEffect call answer before after → PullsNone before.activity → PullsNone after.activity
-frame_effect_pulls_none (SetTitle n) Done before after (same, told) was = subst PullsNone (sym same.activity) was
-frame_effect_pulls_none (Hilite h) Done before after (same, told) was = subst PullsNone (sym same.activity) was
+frame_effect_pulls_none : (call : FrameCall) (answer : FrameReply) (before after : DeskState) → IsFrameEffect call answer before after → CoversNone before.activity → CoversNone after.activity
+frame_effect_pulls_none (SetTitle n) Done before after (same, told) was = subst CoversNone (sym same.activity) was
+frame_effect_pulls_none (Hilite h) Done before after (same, told) was = subst CoversNone (sym same.activity) was
 frame_effect_pulls_none (TrackGoAway g) (Tracked inside) before after (is, begun) was = begun_pulls_none g.window inside before after begun was
-frame_effect_pulls_none (StepGoAway p) (Tracked inside) before after (same, tracked) was = subst PullsNone (sym same.activity) was
-frame_effect_pulls_none (EndGoAway p) (Tracked inside) before after (idle, tracked) was = subst PullsNone (sym idle) tt
+frame_effect_pulls_none (StepGoAway p) (Tracked inside) before after (same, tracked) was = subst CoversNone (sym same.activity) was
+frame_effect_pulls_none (EndGoAway p) (Tracked inside) before after (idle, tracked) was = subst CoversNone (sym idle) tt
 frame_effect_pulls_none (SetTitle n) (Tracked inside) before after wrong was = absurd wrong
 frame_effect_pulls_none (Hilite h) (Tracked inside) before after wrong was = absurd wrong
 frame_effect_pulls_none (TrackGoAway g) Done before after wrong was = absurd wrong
 frame_effect_pulls_none (StepGoAway p) Done before after wrong was = absurd wrong
 frame_effect_pulls_none (EndGoAway p) Done before after wrong was = absurd wrong
 
-pub frame_pulls_none : (call : FrameCall) (answer : Result FrameReply Refusal) (before after : DeskState) → gate before.activity (frame_standing call) ≡ None → IsFrameStep call answer before after → PullsNone after.activity
+pub frame_pulls_none : (call : FrameCall) (answer : Result FrameReply Refusal) (before after : DeskState) → gate before.activity (frame_standing call) ≡ None → IsFrameStep call answer before after → CoversNone after.activity
 frame_pulls_none call (Ok answer) before after may step = frame_effect_pulls_none call answer before after step.1 (frame_comes_then call before.activity may)
-frame_pulls_none call (Err e) before after may step = subst PullsNone (sym step.1.activity) (frame_comes_then call before.activity may)
+frame_pulls_none call (Err e) before after may step = subst CoversNone (sym step.1.activity) (frame_comes_then call before.activity may)
 
 -- a call that asks changes nothing
 asking_changes_nothing : (call : WindowCall) (answer : WindowReply) (before after : FullState) → IsEffect (effect_of call before.desk) answer before after → window_standing call ≡ Asks → IsUnchanged before after
@@ -152,6 +185,9 @@ shown_on : (font other : List ℕ) (m : Option Pulled) (a b : PixelSet) (p : Poi
 shown_on font other None a b p same e = sym e
 shown_on font other (Some m) a b p same e = λ i. if rect_holds (pulled_rect m.place m.size) p then pulled_bit (sym same i) m p else sym e i
 
+outlined_on : (bar other : ℤ) (lines : List Rect) (a b : PixelSet) (p : Point) → other ≡ bar → b p ≡ a p → outlined bar lines a p ≡ outlined other lines b p
+outlined_on bar other lines a b p same e = λ i. if outline_holds (sym same i) lines p then xor_bit (pattern_bit gray p) (sym e i) else sym e i
+
 -- `loan` says what a window's definition that was taken means, and `menu_loan` what a menu's
 module _ {V : Type 0} {H : V → Type 0} (loan : Taken V H → Loan) {W : Type 0} {K : W → Type 0} (menu_loan : TakenMenu W K → MenuLoan) where
   -- the menus that a desk begins with
@@ -174,23 +210,27 @@ module _ {V : Type 0} {H : V → Type 0} (loan : Taken V H → Loan) {W : Type 0
     abbrev now : FullState
     now = state_of loan new after
 
-    -- ---- no menu is pulled down, and the screen has the same sides
+    -- ---- nothing lies in front, and the screen has the same sides
 
-    placed_none : (a : Activity) → PullsNone a → IsPlaced a
+    placed_none : (a : Activity) → CoversNone a → IsPlaced a
     placed_none (Pulling p) none = absurd none
     placed_none Idle none = tt
     placed_none (Updating s) none = tt
     placed_none (Tracking s) none = tt
     placed_none (TrackingControl c) none = tt
+    placed_none (Dragging d) none = absurd none
+    placed_none (Growing g) none = absurd none
 
-    front_none : (a : Activity) → PullsNone a → IsFrontShown menu_loan a new m
+    front_none : (a : Activity) → CoversNone a → IsFrontShown menu_loan a new m
     front_none (Pulling p) none = absurd none
     front_none Idle none = tt
     front_none (Updating s) none = tt
     front_none (Tracking s) none = tt
     front_none (TrackingControl c) none = tt
+    front_none (Dragging d) none = absurd none
+    front_none (Growing g) none = absurd none
 
-    pub whole_unpulled : (a b : Activity) → SameSides was.desk now.desk → PullsNone b → IsWholeMenus menu_loan t a m kept → IsWholeMenus menu_loan new b m kept
+    pub whole_unpulled : (a b : Activity) → SameSides was.desk now.desk → CoversNone b → IsWholeMenus menu_loan t a m kept → IsWholeMenus menu_loan new b m kept
     whole_unpulled a b sides none whole = record {
       few = whole.few;
       room = whole.room;
@@ -219,6 +259,16 @@ module _ {V : Type 0} {H : V → Type 0} (loan : Taken V H → Loan) {W : Type 0
       high : new.screen.height ≡ t.screen.height
       high = ap nat_abs (ap (λ (d : FullDesk). d.height) same.desk)
 
+      outline_stays : (lines : List Rect) → IsOutlined t.bar.rows lines t.screen m.overlay.front → IsOutlined new.bar.rows lines new.screen m.overlay.front
+      outline_stays lines shown = record {
+        width = shown.width ∙ sym wide;
+        height = shown.height ∙ sym high;
+        pixels = λ q on.
+            shown.pixels q on
+            ∙ outlined_on t.bar.rows new.bar.rows lines (bit t.screen) (bit new.screen) q (ap (λ (d : FullDesk). d.bar.rows) same.desk)
+            (same.image q (on_map_is q ∙ sym (on_front q shown.width shown.height) ∙ on));
+      }
+
       front_stays : (a : Activity) → IsFrontShown menu_loan a t m → IsFrontShown menu_loan a new m
       front_stays (Pulling p) shown = record {
         width = shown.width ∙ sym wide;
@@ -232,6 +282,8 @@ module _ {V : Type 0} {H : V → Type 0} (loan : Taken V H → Loan) {W : Type 0
       front_stays (Updating s) shown = tt
       front_stays (Tracking s) shown = tt
       front_stays (TrackingControl c) shown = tt
+      front_stays (Dragging d) shown = outline_stays d.outline shown
+      front_stays (Growing g) shown = outline_stays g.outline shown
 
       pub whole_unchanged : (a : Activity) → IsWholeMenus menu_loan t a m kept → IsWholeMenus menu_loan new a m kept
       whole_unchanged a whole = record {
@@ -250,8 +302,8 @@ module _ {V : Type 0} {H : V → Type 0} (loan : Taken V H → Loan) {W : Type 0
     pub window_whole : (a : Activity) (call : WindowCall) (answer : Result WindowReply Refusal) → gate a (window_standing call) ≡ None → IsWindowStep call answer was now → IsWholeMenus menu_loan t a m kept → IsWholeMenus menu_loan new a m kept
     window_whole a call answer may step whole = ⊎_elim
         (λ none. whole_unpulled a a (step_keeps_sides call answer was now step) none whole)
-        (λ pulled. whole_unchanged (asked_changes_nothing call answer was now step (window_asks call pulled.0 (subst (λ b. gate b (window_standing call) ≡ None) pulled.1 may))) a whole)
-        (pulls_or_not a)
+        (λ busy. whole_unchanged (asked_changes_nothing call answer was now step (window_asks call a busy may)) a whole)
+        (covers_or_not a)
 
     -- definitions are told how their windows stand
     pub followed_whole : (a : Activity) (call : WindowCall) → gate a (window_standing call) ≡ None → IsCaughtUpBy (window_standing call) was now → IsWholeMenus menu_loan t a m kept → IsWholeMenus menu_loan new a m kept
@@ -260,8 +312,8 @@ module _ {V : Type 0} {H : V → Type 0} (loan : Taken V H → Loan) {W : Type 0
           width = caught_up_keeps (λ d. d.width) (λ d ws. refl) (window_standing call) was now told;
           height = caught_up_keeps (λ d. d.height) (λ d ws. refl) (window_standing call) was now told;
         }) none whole)
-        (λ pulled. whole_unchanged (same_state was now (subst (λ s. IsCaughtUpBy s was now) (window_asks call pulled.0 (subst (λ b. gate b (window_standing call) ≡ None) pulled.1 may)) told)) a whole)
-        (pulls_or_not a)
+        (λ busy. whole_unchanged (same_state was now (subst (λ s. IsCaughtUpBy s was now) (window_asks call a busy may) told)) a whole)
+        (covers_or_not a)
 
     pub update_whole : (shows : List ℕ → Part → PixelSet) (o n : Opened) (call : UpdateCall) (answer : Result WindowReply Refusal) → gate o.activity (update_standing call) ≡ None → IsUpdateStep call answer (desk_with o (state_showing shows was)) (desk_with n (state_showing shows now)) → IsWholeMenus menu_loan t o.activity m kept → IsWholeMenus menu_loan new n.activity m kept
     update_whole shows o n call answer may step whole =

@@ -39,6 +39,9 @@ use Rattle.list_mgr.specs.ListSteps.{IsListStep}
 use Rattle.desk_toolbox.specs.Run.{AreControlsLeft, AreListsLeft, IsWindowAnswer, IsWindowMade, IsStep, replied}
 use Rattle.desk_toolbox.specs.ToolboxStates.{ToolboxState, with_controls, with_lists}
 use Rattle.desk_toolbox.proofs.EachManager.{HoldsOfEach, of_step}
+use Rattle.desk_call.specs.declared.outline.OutlineCall.{OutlineCall}
+use Rattle.desk_call.specs.declared.outline.OutlineCall.TheVariants.{Drag, StepDrag, EndDrag, Grow, StepGrow, EndGrow}
+use Rattle.desk_call.specs.Gates.{outline_standing}
 use Rattle.desk_toolbox.proofs.ListStands.{list_comes_then}
 use Rattle.desk_toolbox.proofs.MenusBeside.{asked_changes_nothing}
 use Rattle.desk_toolbox.proofs.TrackedControls.{AtMostControl, comes_then}
@@ -61,6 +64,7 @@ refused_draws_none (Frame call) e kinds = refl
 refused_draws_none (Control call) e kinds = refl
 refused_draws_none (calls.List call) e kinds = refl
 refused_draws_none (Menu call) e kinds = refl
+refused_draws_none (calls.Outline call) e kinds = refl
 refused_draws_none (Event call) e kinds = refl
 
 -- ---- a call on windows that asks
@@ -183,6 +187,14 @@ module _ (s : ℕ) where
       (λ idle. absurd (not_idle (sym opened ∙ idle)))
       (list_comes_then call answer (with_lists before) (with_lists after) may step.1)
 
+  none_is_outlined : (call : OutlineCall) → gate (Updating s) (outline_standing call) ≡ None → ⊥
+  none_is_outlined (Drag d) may = absurd (cc)
+  none_is_outlined (StepDrag p) may = absurd (cc)
+  none_is_outlined (EndDrag p) may = absurd (cc)
+  none_is_outlined (Grow g) may = absurd (cc)
+  none_is_outlined (StepGrow p) may = absurd (cc)
+  none_is_outlined (EndGrow p) may = absurd (cc)
+
   each_goes_on : HoldsOfEach GoesOnOpen
   each_goes_on = record {
     unchanged = λ call e before after same opened rests. still_open call (Err e) before after (refused_draws_none call e) opened same.desk;
@@ -194,6 +206,8 @@ module _ (s : ℕ) where
     control = λ call answer before after may step events lists menus opened rests. control_goes_on call answer before after may step opened;
     list = λ call answer before after may step events menus opened rests. list_goes_on call answer before after may step opened;
     menu = λ call answer before after may step events controls lists opened rests. absurd (menu_comes_apart call (Updating s) (may_then before.desk.activity (menu_standing call) opened may));
+    outline = λ call answer before after may step rest opened rests. absurd (none_is_outlined call (may_then before.desk.activity (outline_standing call) opened may));
+    moved = λ call move before after may step opened rests. absurd (none_is_outlined call (may_then before.desk.activity (outline_standing call) opened may));
     event = λ call answer before after step opened rests. still_open (Event call) (replied reply.Event answer) before after (λ kinds. refl) opened step.desk;
   }
 

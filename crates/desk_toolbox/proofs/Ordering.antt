@@ -27,6 +27,10 @@ use Rattle.menu_mgr.specs.MenuDesks.{MenuSlot, MenusState}
 use Rattle.menu_mgr.specs.MenuRefusals.{menu_form_refusals, menu_refusals}
 use Rattle.window_mgr.specs.FullDesk.{FullDesk}
 use Rattle.window_frame.specs.FrameRefusals.{frame_refusals}
+use Rattle.window_outline.specs.OutlineRefusals.{outline_refusals}
+use Rattle.desk_call.specs.declared.activity.Activity.{Activity}
+use Rattle.desk_call.specs.declared.outline.OutlineCall.{OutlineCall}
+use Rattle.desk_call.specs.declared.outline.OutlineCall.TheVariants.{Drag, StepDrag, EndDrag, Grow, StepGrow, EndGrow}
 use Rattle.desk_toolbox.specs.Ordered.{AreInOrder}
 
 pub frame_reasons_in_order : (call : FrameCall) (desk : FullDesk) → AreInOrder (frame_refusals call desk)
@@ -35,6 +39,14 @@ frame_reasons_in_order (Hilite h) desk = refl
 frame_reasons_in_order (TrackGoAway g) desk = refl
 frame_reasons_in_order (StepGoAway p) desk = refl
 frame_reasons_in_order (EndGoAway p) desk = refl
+
+pub outline_reasons_in_order : (call : OutlineCall) (activity : Activity) (desk : FullDesk) → AreInOrder (outline_refusals call activity desk)
+outline_reasons_in_order (Drag d) activity desk = refl
+outline_reasons_in_order (StepDrag p) activity desk = refl
+outline_reasons_in_order (EndDrag p) activity desk = refl
+outline_reasons_in_order (Grow g) activity desk = refl
+outline_reasons_in_order (StepGrow p) activity desk = refl
+outline_reasons_in_order (EndGrow p) activity desk = refl
 
 pub menu_reasons_in_order : (call : MenuCall) (menus : MenusState) → AreInOrder (menu_refusals call menus)
 menu_reasons_in_order (New n) menus = refl

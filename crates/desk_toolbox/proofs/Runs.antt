@@ -48,6 +48,12 @@ use Rattle.desk_toolbox.specs.Run.{IsWindowAnswer, IsWindowMade, IsEventAnswer, 
 use Rattle.window_update.proofs.ServedLaws.{all_served_is_right}
 use Rattle.window_update.proofs.UpdateLaws.{update_stays_right}
 use Rattle.desk_toolbox.proofs.EachManager.{HoldsOfEach, of_admitted, of_step}
+use Rattle.desk_call.specs.declared.window.WindowReply.TheVariants as window_reply
+use Rattle.desk_toolbox.proofs.Outlined.{outline_keeps_desk, outline_unchanged, put_down_right}
+use Rattle.desk_toolbox.specs.Run.{put_down}
+use Rattle.desk_call.specs.declared.outline.OutlineCall.{OutlineCall}
+use Rattle.desk_call.specs.declared.outline.OutlineReply.{OutlineReply}
+use Rattle.window_outline.specs.OutlineSteps.{IsOutlineStep}
 use Rattle.desk_toolbox.proofs.UpdatedDesks.{update_keeps_desk}
 use Rattle.desk_toolbox.proofs.ContentsBeside.{IsRightToolbox, still, beside_frames, beside_menus}
 use Rattle.desk_toolbox.proofs.ContentsLeft.{control_stays_right, list_stays_right, made_stays_right}
@@ -106,6 +112,11 @@ each_stays_right = record {
     right = menu_stays_right call answer (with_menus before) (with_menus after) was.right step;
     contents = beside_menus call answer before after step controls lists was.contents;
   };
+  outline = λ call answer before after may step rest was. record {
+    right = unchanged_stays_right before.desk.windows after.desk.windows was.right (outline_unchanged call answer before.desk after.desk step);
+    contents = still before after (outline_keeps_desk call answer before.desk after.desk step) rest.controls rest.lists was.contents;
+  };
+  moved = λ call move before after may step was. window_stays_right (asks.Move move) (Ok window_reply.Done) (put_down before) after (put_down_right before was) step;
   event = λ call answer before after step was. unchanged_stays before after step.desk step.controls step.lists was;
 }
 
@@ -144,6 +155,8 @@ each_keeps_kinds = record {
   control = λ call answer before after may step events lists menus. ap (λ stock. map (λ slot. slot.kind) stock) (control_facts call answer (with_controls before) (with_controls after) step).0.stock;
   list = λ call answer before after may step events menus. ap (λ (d : FullDesk). map (λ slot. slot.kind) d.stock) (list_facts call answer (with_lists before) (with_lists after) step).0.rest;
   menu = λ call answer before after may step events controls lists. menu_keeps (λ d. map (λ slot. slot.kind) d.stock) (λ d titles. refl) call answer (with_menus before) (with_menus after) step;
+  outline = λ call answer before after may step rest. same_kinds before.desk.windows after.desk.windows (outline_keeps_desk call answer before.desk after.desk step);
+  moved = λ call move before after may step. window_keeps_kinds (asks.Move move) (Ok window_reply.Done) (put_down before) after step;
   event = λ call answer before after step. same_kinds before.desk.windows after.desk.windows step.desk.windows.desk;
 }
 
@@ -298,6 +311,7 @@ made_by (Ok (reply.Frame answer)) = []
 made_by (Ok (reply.Control answer)) = []
 made_by (Ok (reply.List answer)) = []
 made_by (Ok (reply.Menu answer)) = []
+made_by (Ok (reply.Outline answer)) = []
 made_by (Ok (reply.Event answer)) = []
 made_by (Err e) = []
 
@@ -329,6 +343,10 @@ menu_is_counted : (call : MenuCall) (answer : Result MenuReply Refusal) (before 
 menu_is_counted call (Ok answer) before after numbers step h = next_counted before.desk.windows after.desk.windows numbers (menu_keeps (λ d. d.next) (λ d titles. refl) call (Ok answer) (with_menus before) (with_menus after) step) h
 menu_is_counted call (Err e) before after numbers step h = next_counted before.desk.windows after.desk.windows numbers (menu_keeps (λ d. d.next) (λ d titles. refl) call (Err e) (with_menus before) (with_menus after) step) h
 
+outline_is_counted : (call : OutlineCall) (answer : Result OutlineReply Refusal) (before after : DeskState) (numbers : List ℕ) → IsOutlineStep call answer before after → AreCounted after.windows.desk.next numbers → AreCounted before.windows.desk.next (made_by (replied reply.Outline answer) ++ numbers)
+outline_is_counted call (Ok answer) before after numbers step h = counted_on before.windows after.windows numbers step.1.leaves.windows h
+outline_is_counted call (Err e) before after numbers step h = counted_on before.windows after.windows numbers step.1.windows h
+
 control_is_counted : (call : ControlCall) (answer : Result ControlReply Refusal) (before after : ToolboxState) (numbers : List ℕ) → IsControlStep call answer (with_controls before) (with_controls after) → AreCounted after.desk.windows.desk.next numbers → AreCounted before.desk.windows.desk.next (made_by (replied reply.Control answer) ++ numbers)
 control_is_counted call (Ok answer) before after numbers step h = next_counted before.desk.windows after.desk.windows numbers (control_facts call (Ok answer) (with_controls before) (with_controls after) step).0.next h
 control_is_counted call (Err e) before after numbers step h = next_counted before.desk.windows after.desk.windows numbers (control_facts call (Err e) (with_controls before) (with_controls after) step).0.next h
@@ -352,6 +370,8 @@ each_is_counted = record {
   control = λ call answer before after may step events lists menus numbers h. control_is_counted call answer before after numbers step h;
   list = λ call answer before after may step events menus numbers h. list_is_counted call answer before after numbers step h;
   menu = λ call answer before after may step events controls lists numbers h. menu_is_counted call answer before after numbers step h;
+  outline = λ call answer before after may step rest numbers h. outline_is_counted call answer before.desk after.desk numbers step h;
+  moved = λ call move before after may step numbers h. window_is_counted (asks.Move move) (Ok window_reply.Done) (put_down before) after numbers step h;
   event = λ call answer before after step numbers h. event_is_counted call answer before after numbers step h;
 }
 
@@ -361,6 +381,7 @@ made_first (Ok (reply.Frame answer)) answers = refl
 made_first (Ok (reply.Control answer)) answers = refl
 made_first (Ok (reply.List answer)) answers = refl
 made_first (Ok (reply.Menu answer)) answers = refl
+made_first (Ok (reply.Outline answer)) answers = refl
 made_first (Ok (reply.Event answer)) answers = refl
 made_first (Err e) answers = refl
 

@@ -107,6 +107,7 @@ module _ (s : ℕ) where
   drawn_before (Control call) answer kinds kind here = here
   drawn_before (calls.List call) answer kinds kind here = here
   drawn_before (Menu call) answer kinds kind here = here
+  drawn_before (calls.Outline call) answer kinds kind here = here
   drawn_before (Event call) answer kinds kind here = here
 
   -- of the windows no more changed than that all layers were drawn

@@ -4,9 +4,9 @@ use Rattle.std.specs.Prelude.{All}
 use Rattle.tb_geom.specs.declared.refusal.Refusal.{Refusal}
 use Rattle.tb_geom.specs.Points.{PixelSet}
 use Rattle.desk_call.specs.declared.activity.Activity.{Activity}
-use Rattle.desk_call.specs.declared.activity.Activity.TheVariants.{Idle, Updating, Tracking, Pulling, TrackingControl}
+use Rattle.desk_call.specs.declared.activity.Activity.TheVariants.{Idle, Updating, Tracking, Pulling, TrackingControl, Dragging, Growing}
 use Rattle.desk_call.specs.declared.activity.Standing.{Standing}
-use Rattle.desk_call.specs.declared.activity.Standing.TheVariants.{Asks, Updates, Tracks, Pulls, TracksControl, Changes}
+use Rattle.desk_call.specs.declared.activity.Standing.TheVariants.{Asks, Updates, Tracks, Pulls, TracksControl, Drags, Grows, Changes}
 use Rattle.desk_call.specs.declared.event.EventCall.{EventCall}
 use Rattle.desk_call.specs.declared.event.EventReply.{EventReply}
 use Rattle.desk_call.specs.declared.window.WindowCall.{WindowCall}
@@ -156,6 +156,8 @@ idle_now Idle e = refl
 idle_now (Updating s) e = absurd (cc)
 idle_now (Tracking s) e = absurd (cc)
 idle_now (TrackingControl c) e = absurd (cc)
+idle_now (Dragging d) e = absurd (cc)
+idle_now (Growing g) e = absurd (cc)
 idle_now (Pulling m) e = absurd (cc)
 
 -- no window is disposed of while something of it is open
@@ -196,6 +198,8 @@ caught_up_informs (Updates s) first before after (ts, told, informed) kept was =
 caught_up_informs Tracks first before after (ts, told, informed) kept was = informed
 caught_up_informs Pulls first before after (ts, told, informed) kept was = informed
 caught_up_informs TracksControl first before after (ts, told, informed) kept was = informed
+caught_up_informs Drags first before after (ts, told, informed) kept was = informed
+caught_up_informs Grows first before after (ts, told, informed) kept was = informed
 caught_up_informs Changes first before after (ts, told, informed) kept was = informed
 
 -- no control is tracked while its window is disposed of

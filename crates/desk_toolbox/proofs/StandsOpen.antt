@@ -7,7 +7,7 @@ use Rattle.tb_geom.specs.declared.refusal.Refusal.TheVariants.{NoSuchWindow, Out
 use Rattle.tb_geom.specs.Rects.{in_plane}
 use Rattle.def_iface.specs.News.{News, told_title, told_highlighted, told_tracked}
 use Rattle.desk_call.specs.declared.activity.Activity.{Activity}
-use Rattle.desk_call.specs.declared.activity.Activity.TheVariants.{Idle, Updating, Tracking, Pulling, TrackingControl}
+use Rattle.desk_call.specs.declared.activity.Activity.TheVariants.{Idle, Updating, Tracking, Pulling, TrackingControl, Dragging, Growing}
 use Rattle.desk_call.specs.declared.activity.Standing.TheVariants.{Updates}
 use Rattle.desk_call.specs.declared.frame.FrameCall.{FrameCall}
 use Rattle.desk_call.specs.declared.frame.FrameCall.TheVariants.{SetTitle, Hilite, TrackGoAway, StepGoAway, EndGoAway}
@@ -49,7 +49,7 @@ use Rattle.desk_toolbox.proofs.PulledMenus.{IsPullRight, still_unpulled}
 use Rattle.desk_toolbox.proofs.Stands.{Stands, apart_stays, bar_stays, stands_still, idle_now}
 
 -- where the first reason for a refusal does not hold
-not_refused : (b : Bool) (e : Refusal) (more : List (Bool × Refusal)) → first_refusal ((b, e) ∷ more) ≡ None → b ≡ false
+pub not_refused : (b : Bool) (e : Refusal) (more : List (Bool × Refusal)) → first_refusal ((b, e) ∷ more) ≡ None → b ≡ false
 not_refused true e more h = absurd (cc)
 not_refused false e more h = refl
 
@@ -71,6 +71,8 @@ ended Idle s ws e none = none
 ended (Updating t) s ws e none = none
 ended (Tracking t) s ws e none = absurd (cc)
 ended (TrackingControl c) s ws e none = absurd (cc)
+ended (Dragging d) s ws e none = absurd (cc)
+ended (Growing g) s ws e none = absurd (cc)
 ended (Pulling m) s ws e none = absurd (cc)
 
 update_misleads_none : (call : UpdateCall) (before after : DeskState) → gate before.activity (update_standing call) ≡ None → IsUpdateEffect call before after → total (misled before.activity) before.windows.desk.windows ≡ 0 → total (misled after.activity) before.windows.desk.windows ≡ 0

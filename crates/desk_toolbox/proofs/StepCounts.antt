@@ -6,7 +6,7 @@ use Rattle.tb_geom.specs.Points.{PixelSet}
 use Rattle.def_iface.specs.News.{News, told_title, told_highlighted, told_tracked}
 use Rattle.desk_call.specs.declared.activity.Activity.{Activity}
 use Rattle.desk_call.specs.declared.activity.Standing.{Standing}
-use Rattle.desk_call.specs.declared.activity.Standing.TheVariants.{Asks, Updates, Tracks, Pulls, TracksControl, Changes}
+use Rattle.desk_call.specs.declared.activity.Standing.TheVariants.{Asks, Updates, Tracks, Pulls, TracksControl, Drags, Grows, Changes}
 use Rattle.desk_call.specs.declared.frame.FrameCall.{FrameCall}
 use Rattle.desk_call.specs.declared.frame.FrameCall.TheVariants.{SetTitle, Hilite, TrackGoAway, StepGoAway, EndGoAway}
 use Rattle.desk_call.specs.declared.frame.FrameReply.{FrameReply}
@@ -97,6 +97,8 @@ module _ (g : Weight) where
   caught_up_total Tracks before after (ss, told, informed) = are_told_total ss before after told
   caught_up_total Pulls before after (ss, told, informed) = are_told_total ss before after told
   caught_up_total TracksControl before after (ss, told, informed) = are_told_total ss before after told
+  caught_up_total Drags before after (ss, told, informed) = are_told_total ss before after told
+  caught_up_total Grows before after (ss, told, informed) = are_told_total ss before after told
   caught_up_total Changes before after (ss, told, informed) = are_told_total ss before after told
 
 pub caught_up_counts : (standing : Standing) (before after : FullState) → IsCaughtUpBy standing before after → HasSame before.desk after.desk

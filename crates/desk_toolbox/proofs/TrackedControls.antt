@@ -13,7 +13,7 @@ use Rattle.def_iface.specs.declared.window_def.Stage.{Stage}
 use Rattle.def_iface.specs.ControlMeaning.{ControlDefinition}
 use Rattle.def_iface.specs.Slots.{IsFull, SlotOf}
 use Rattle.desk_call.specs.declared.activity.Activity.{Activity}
-use Rattle.desk_call.specs.declared.activity.Activity.TheVariants.{Idle, Updating, Tracking, Pulling, TrackingControl}
+use Rattle.desk_call.specs.declared.activity.Activity.TheVariants.{Idle, Updating, Tracking, Pulling, TrackingControl, Dragging, Growing}
 use Rattle.desk_call.specs.declared.activity.Standing.TheVariants.{TracksControl}
 use Rattle.desk_call.specs.declared.activity.TrackedControl.{TrackedControl}
 use Rattle.desk_call.specs.declared.control.ControlCall.{ControlCall}
@@ -50,7 +50,7 @@ use Rattle.desk_toolbox.specs.declared.events.Events.{Events}
 use Rattle.desk_toolbox.specs.Reached.{open_window}
 use Rattle.desk_toolbox.specs.ToolboxStates.{ToolboxState, with_controls}
 use Rattle.desk_toolbox.proofs.ContentsBeside.{IsRightToolbox}
-use Rattle.desk_toolbox.proofs.MenusBeside.{PullsNone}
+use Rattle.desk_toolbox.proofs.MenusBeside.{CoversNone}
 use Rattle.desk_toolbox.proofs.PulledMenus.{IsPullRight, still_unpulled}
 use Rattle.desk_toolbox.proofs.StepCounts.{HasSame}
 use Rattle.desk_toolbox.proofs.Stands.{Stands, apart_stays, bar_stays, idle_now, stands_still}
@@ -156,6 +156,8 @@ module _ (before after : ControlDesk) where
   stepped_there (Updating s) p answer is was wrong = absurd wrong
   stepped_there (Tracking s) p answer is was wrong = absurd wrong
   stepped_there (Pulling m) p answer is was wrong = absurd wrong
+  stepped_there (Dragging d) p answer is was wrong = absurd wrong
+  stepped_there (Growing g) p answer is was wrong = absurd wrong
 
   released_there : (a : Activity) (p : Point) (answer : Option ControlPart) → IsControlReleased a p answer before after → IsTrackable after.desk.activity after.controls.controls
   released_there (TrackingControl k) p answer (told, opens, anew) = subst (λ a. IsTrackable a after.controls.controls) (sym opens.activity) tt
@@ -163,6 +165,8 @@ module _ (before after : ControlDesk) where
   released_there (Updating s) p answer wrong = absurd wrong
   released_there (Tracking s) p answer wrong = absurd wrong
   released_there (Pulling m) p answer wrong = absurd wrong
+  released_there (Dragging d) p answer wrong = absurd wrong
+  released_there (Growing g) p answer wrong = absurd wrong
 
   -- nothing was open, and is not
   idle_still : before.desk.activity ≡ Idle → after.desk.activity ≡ before.desk.activity → IsTrackable after.desk.activity after.controls.controls
@@ -208,6 +212,8 @@ tracking_now (Updating s) e = absurd (cc)
 tracking_now (Tracking s) e = absurd (cc)
 tracking_now (TrackingControl k) e = inr (k, refl)
 tracking_now (Pulling m) e = absurd (cc)
+tracking_now (Dragging d) e = absurd (cc)
+tracking_now (Growing g) e = absurd (cc)
 
 -- a call that comes then asks, or no more is open
 pub comes_then : (call : ControlCall) (answer : ControlReply) (before after : ControlDesk) → gate before.desk.activity (control_standing call) ≡ None → IsControlEffect call answer before after → IsControlDeskUnchanged before after ⊎ AtMostControl before.desk.activity
@@ -224,8 +230,8 @@ open_then ws a b was open_after = ⊎_elim
     (λ other. ⊎_elim (λ idle. inl idle) (λ (k, is, there). inr (k, is)) other)
     open_after
 
-pub unpulled : (a : Activity) → AtMostControl a → PullsNone a
-unpulled a most = ⊎_elim (λ idle. subst PullsNone (sym idle) tt) (λ (k, is). subst PullsNone (sym is) tt) most
+pub unpulled : (a : Activity) → AtMostControl a → CoversNone a
+unpulled a most = ⊎_elim (λ idle. subst CoversNone (sym idle) tt) (λ (k, is). subst CoversNone (sym is) tt) most
 
 as_idle : (a : Activity) (ws : List WindowRecord) → AtMostControl a → total (misled a) ws ≡ total (misled Idle) ws
 as_idle a ws most = ⊎_elim (λ idle. ap (λ b. total (misled b) ws) idle) (λ (k, is). ap (λ b. total (misled b) ws) is) most

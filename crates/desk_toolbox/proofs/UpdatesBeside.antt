@@ -10,7 +10,7 @@ use Rattle.def_iface.specs.Meaning.{Loan}
 use Rattle.def_iface.specs.Owner.{owner}
 use Rattle.def_iface.specs.Stocked.{SlotView}
 use Rattle.desk_call.specs.declared.activity.Activity.{Activity}
-use Rattle.desk_call.specs.declared.activity.Activity.TheVariants.{Idle, Updating, Tracking, Pulling, TrackingControl}
+use Rattle.desk_call.specs.declared.activity.Activity.TheVariants.{Idle, Updating, Tracking, Pulling, TrackingControl, Dragging, Growing}
 use Rattle.desk_call.specs.declared.activity.PulledMenu.{PulledMenu}
 use Rattle.desk_call.specs.declared.activity.Standing.TheVariants.{Asks}
 use Rattle.desk_call.specs.declared.frame.FrameCall.{FrameCall}
@@ -61,6 +61,8 @@ updates_or_not Idle = inl tt
 updates_or_not (Updating s) = inr (s, refl)
 updates_or_not (Tracking s) = inl tt
 updates_or_not (TrackingControl c) = inl tt
+updates_or_not (Dragging d) = inl tt
+updates_or_not (Growing g) = inl tt
 updates_or_not (Pulling m) = inl tt
 
 -- a call on windows comes while an update is open only if it asks
@@ -77,6 +79,8 @@ pub frame_comes_apart : (call : FrameCall) (a : Activity) → gate a (frame_stan
 frame_comes_apart call Idle may = tt
 frame_comes_apart call (Tracking s) may = tt
 frame_comes_apart call (TrackingControl c) may = tt
+frame_comes_apart call (Dragging d) may = tt
+frame_comes_apart call (Growing g) may = tt
 frame_comes_apart call (Pulling m) may = tt
 frame_comes_apart (SetTitle n) (Updating s) may = absurd (cc)
 frame_comes_apart (Hilite h) (Updating s) may = absurd (cc)
@@ -88,6 +92,8 @@ pub menu_comes_apart : (call : MenuCall) (a : Activity) → gate a (menu_standin
 menu_comes_apart call Idle may = tt
 menu_comes_apart call (Tracking s) may = tt
 menu_comes_apart call (TrackingControl c) may = tt
+menu_comes_apart call (Dragging d) may = tt
+menu_comes_apart call (Growing g) may = tt
 menu_comes_apart call (Pulling m) may = tt
 menu_comes_apart (menus.Move p) (Updating s) may = absurd (cc)
 menu_comes_apart (menus.Up p) (Updating s) may = absurd (cc)
@@ -132,6 +138,8 @@ moved_updates_none Idle p answer before after wrong = absurd wrong
 moved_updates_none (Updating s) p answer before after wrong = absurd wrong
 moved_updates_none (Tracking s) p answer before after wrong = absurd wrong
 moved_updates_none (TrackingControl c) p answer before after wrong = absurd wrong
+moved_updates_none (Dragging d) p answer before after wrong = absurd wrong
+moved_updates_none (Growing g) p answer before after wrong = absurd wrong
 
 released_updates_none : (a : Activity) (p : Point) (choice : Option Choice) (before after : MenuDesk) → IsMenuReleased a p choice before after → UpdatesNone after.desk.activity
 released_updates_none (Pulling m) p choice before after (is, away) = subst UpdatesNone (sym away.activity) tt
@@ -139,6 +147,8 @@ released_updates_none Idle p choice before after wrong = absurd wrong
 released_updates_none (Updating s) p choice before after wrong = absurd wrong
 released_updates_none (Tracking s) p choice before after wrong = absurd wrong
 released_updates_none (TrackingControl c) p choice before after wrong = absurd wrong
+released_updates_none (Dragging d) p choice before after wrong = absurd wrong
+released_updates_none (Growing g) p choice before after wrong = absurd wrong
 
 menu_effect_updates_none : (call : MenuCall) (answer : MenuReply) (before after : MenuDesk) → IsMenuEffect call answer before after → UpdatesNone before.desk.activity → UpdatesNone after.desk.activity
 menu_effect_updates_none (menus.New n) answer before after (is, made) was = subst UpdatesNone (sym made.activity.activity) was

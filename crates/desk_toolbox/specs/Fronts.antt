@@ -1,5 +1,5 @@
--- What the screen shows, whose its pixels are, and what painting the desk from nothing gives, with the menu in front that is
--- pulled down.
+-- What the screen shows, whose its pixels are, and what painting the desk from nothing gives, with the menu or the
+-- outline in front.
 use Rattle.std.specs.Prelude.{◌≡◌, ℕ, Bool, true, false, not, ◌&&◌, if◌then◌else◌, List, Option, None, Some}
 use Rattle.std.specs.Option.{option_map_or}
 use Rattle.tb_geom.specs.declared.point.Point.{Point}
@@ -11,7 +11,9 @@ use Rattle.desk_call.specs.declared.control.FoundControl.{FoundControl}
 use Rattle.desk_call.specs.declared.control.PointInWindow.{PointInWindow}
 use Rattle.desk_call.specs.declared.window.Found.{Found}
 use Rattle.desk_call.specs.declared.window.WindowPart.TheVariants.{InDesk, InMenuBar}
+use Rattle.desk_call.specs.Outlines.{outline_of}
 use Rattle.menu_overlay.specs.Overlays.{Pulled, pulled_bit, shown_bit}
+use Rattle.menu_overlay.specs.Outlines.{outline_holds, outlined}
 use Rattle.vis_update.specs.Records.{WindowRecord}
 use Rattle.window_mgr.specs.Finding.{found_none, record_with}
 use Rattle.window_mgr.specs.Finding as windows
@@ -26,7 +28,7 @@ use Rattle.desk_toolbox.specs.ToolboxStates.{ToolboxState, with_menus}
 abbrev pub pulled : ToolboxState → Option Pulled
 pulled s = pulled_of s.desk.activity s.menus.menus
 
--- what the screen shows: the pulled menu where it lies, and else the base image
+-- what the screen shows: the pulled menu where it lies, and else the base image, with the outline in front
 abbrev pub screen_of : ToolboxState → PixelSet
 screen_of s = menus.screen_of (with_menus s)
 
@@ -51,9 +53,17 @@ abbrev pub screen_bit : ToolboxState → ScreenOwner → PixelSet
 screen_bit s PulledMenu p = pulled_value s (pulled s) p
 screen_bit s (Base o) p = own_bit (layered_desk s.desk.windows.desk) o p
 
--- painting the desk from nothing, back to front: the windows and the menu bar, and the pulled menu last
+-- the outline in front of these pixels, if one is shown
+abbrev pub with_outline : ToolboxState → PixelSet → PixelSet
+with_outline s = outlined s.desk.windows.desk.bar.rows (outline_of s.desk.activity)
+
+-- the point is a pixel of the outline, if one is shown
+abbrev pub is_on_outline : ToolboxState → Point → Bool
+is_on_outline s = outline_holds s.desk.windows.desk.bar.rows (outline_of s.desk.activity)
+
+-- painting the desk from nothing, back to front: the windows and the menu bar, and the pulled menu or the outline last
 abbrev pub screen_scratch : ToolboxState → PixelSet
-screen_scratch s = shown_bit s.desk.windows.desk.font (pulled s) (scratch (layered_desk s.desk.windows.desk))
+screen_scratch s = with_outline s (shown_bit s.desk.windows.desk.font (pulled s) (scratch (layered_desk s.desk.windows.desk)))
 
 -- the screen shows that wherever nothing is to be redrawn, and where the pulled menu lies
 abbrev pub IsScreenRight : ToolboxState → Type 0

@@ -5,8 +5,9 @@ use Rattle.tb_geom.specs.declared.refusal.Refusal.{Refusal}
 use Rattle.tb_geom.specs.Points.{PixelSet, plus}
 use Rattle.tb_geom.specs.Rects.{in_plane}
 use Rattle.tb_geom.specs.Refusals.{first_refusal}
+use Rattle.desk_call.specs.declared.activity.Activity.TheVariants.{Idle}
 use Rattle.desk_call.specs.declared.call.Call.{Call}
-use Rattle.desk_call.specs.declared.call.Call.TheVariants.{Window, Update, Frame, Control, Menu, Event}
+use Rattle.desk_call.specs.declared.call.Call.TheVariants.{Window, Update, Frame, Control, Menu, Outline, Event}
 use Rattle.desk_call.specs.declared.call.Call.TheVariants as asks
 use Rattle.desk_call.specs.declared.call.Reply.{Reply}
 use Rattle.desk_call.specs.declared.call.Reply.TheVariants as reply
@@ -24,11 +25,15 @@ use Rattle.desk_call.specs.declared.list.ListReply.{ListReply}
 use Rattle.desk_call.specs.declared.list.ListReply.TheVariants as list_reply
 use Rattle.desk_call.specs.declared.menu.MenuCall.{MenuCall}
 use Rattle.desk_call.specs.declared.menu.MenuReply.{MenuReply}
+use Rattle.desk_call.specs.declared.outline.OutlineCall.{OutlineCall}
+use Rattle.desk_call.specs.declared.outline.OutlineReply.{OutlineReply}
+use Rattle.desk_call.specs.declared.outline.OutlineReply.TheVariants.{Shown}
 use Rattle.desk_call.specs.declared.update.UpdateCall.{UpdateCall}
+use Rattle.desk_call.specs.declared.window.MoveWindow.{MoveWindow}
 use Rattle.desk_call.specs.declared.window.WindowCall.{WindowCall}
-use Rattle.desk_call.specs.declared.window.WindowCall.TheVariants.{Dispose, Find}
+use Rattle.desk_call.specs.declared.window.WindowCall.TheVariants.{Dispose, Find, Move}
 use Rattle.desk_call.specs.declared.window.WindowReply.{WindowReply}
-use Rattle.desk_call.specs.declared.window.WindowReply.TheVariants.{Made, Found}
+use Rattle.desk_call.specs.declared.window.WindowReply.TheVariants.{Done, Made, Found}
 use Rattle.desk_call.specs.declared.window.WindowPart.TheVariants.{InMenuBar}
 use Rattle.desk_call.specs.Gates.{gate, standing_of, window_standing}
 use Rattle.window_list.specs.Lists.{serial_after}
@@ -43,6 +48,8 @@ use Rattle.window_update.specs.UpdateSteps.{IsUpdateStep, IsToldOf}
 use Rattle.window_update.specs.Waiting.{IsFirstToUpdate}
 use Rattle.window_frame.specs.Followers.{IsCaughtUpBy}
 use Rattle.window_frame.specs.FrameSteps.{IsFrameStep}
+use Rattle.window_outline.specs.Outlining.{let_go_of}
+use Rattle.window_outline.specs.OutlineSteps.{IsOutlineStep}
 use Rattle.control_mgr.specs.ControlClosing.{IsWindowLeft}
 use Rattle.control_mgr.specs.ControlDesks.{ControlRecord, ControlsState, controls_show}
 use Rattle.control_mgr.specs.ControlRefusals.{control_form_refusals}
@@ -173,6 +180,29 @@ replied reply_of (Err e) = Err e
 abbrev pub IsUpdateTold : UpdateCall → Result WindowReply Refusal → ToolboxState → ToolboxState → Type 0
 IsUpdateTold call result before after = IsUpdateStep call result before.desk after.desk × IsRestKept before after
 
+-- nothing is open any more
+abbrev pub put_down : ToolboxState → ToolboxState
+put_down s = record s { desk = record s.desk { activity = Idle } }
+
+-- the window that was dragged is let go: it is moved and selected as by any move, and nothing is open then; where the move is
+-- refused nothing changes
+abbrev pub IsLetGo : MoveWindow → Result OutlineReply Refusal → ToolboxState → ToolboxState → Type 0
+IsLetGo move (Ok answer) before after = (answer ≡ Shown true) × IsWindowMade (Move move) (Ok Done) (put_down before) after
+IsLetGo move (Err e) before after = IsWindowMade (Move move) (Err e) (put_down before) (put_down after) × IsToolboxUnchanged before after
+
+-- a call about an outline changes nothing but what is open
+abbrev pub IsOutlineMoved : OutlineCall → Result OutlineReply Refusal → ToolboxState → ToolboxState → Type 0
+IsOutlineMoved call result before after = IsOutlineStep call result before.desk after.desk × IsRestKept before after
+
+-- it moves a window, or none
+abbrev pub IsOutlineMade : Option MoveWindow → OutlineCall → Result OutlineReply Refusal → ToolboxState → ToolboxState → Type 0
+IsOutlineMade None call result before after = IsOutlineMoved call result before after
+IsOutlineMade (Some move) call result before after = IsLetGo move result before after
+
+-- a call about an outline moves the window that was dragged, where the mouse button was released in the gray region
+abbrev pub IsOutlineTold : OutlineCall → Result OutlineReply Refusal → ToolboxState → ToolboxState → Type 0
+IsOutlineTold call result before after = IsOutlineMade (let_go_of call before.desk.activity before.desk.windows.desk) call result before after
+
 -- a call that may come is a step of its manager, which answers it
 abbrev pub IsAdmitted : Call → Result Reply Refusal → ToolboxState → ToolboxState → Type 0
 IsAdmitted (Window call) result before after =
@@ -187,6 +217,8 @@ IsAdmitted (asks.List call) result before after =
     (own : Result ListReply Refusal) × (result ≡ replied reply.List own) × IsListAnswer call own before after
 IsAdmitted (Menu call) result before after =
     (own : Result MenuReply Refusal) × (result ≡ replied reply.Menu own) × IsMenuAnswer call own before after
+IsAdmitted (Outline call) result before after =
+    (own : Result OutlineReply Refusal) × (result ≡ replied reply.Outline own) × IsOutlineTold call own before after
 IsAdmitted (Event call) result before after =
     (own : Result EventReply Refusal) × (result ≡ replied reply.Event own) × IsEventAnswer call own before after
 
@@ -198,6 +230,7 @@ IsFormFault (Frame call) before form = form ≡ None
 IsFormFault (Control call) before form = form ≡ first_refusal (control_form_refusals call before.controls.stock)
 IsFormFault (asks.List call) before form = form ≡ first_refusal (list_form_refusals call before.lists.stock before.controls.stock)
 IsFormFault (Menu call) before form = form ≡ first_refusal (menu_form_refusals call before.menus.stock)
+IsFormFault (Outline call) before form = form ≡ None
 IsFormFault (Event call) before form = form ≡ None
 
 -- a call that may not come for this is refused: for its form, if that is refused, and else for this. It changes nothing
@@ -237,6 +270,7 @@ made (Ok (reply.Frame answer) ∷ answers) = made answers
 made (Ok (reply.Control answer) ∷ answers) = made answers
 made (Ok (reply.List answer) ∷ answers) = made answers
 made (Ok (reply.Menu answer) ∷ answers) = made answers
+made (Ok (reply.Outline answer) ∷ answers) = made answers
 made (Ok (reply.Event answer) ∷ answers) = made answers
 made (Err e ∷ answers) = made answers
 
@@ -258,6 +292,7 @@ lists_made (Ok (reply.Frame answer) ∷ answers) = lists_made answers
 lists_made (Ok (reply.Control answer) ∷ answers) = lists_made answers
 lists_made (Ok (reply.List answer) ∷ answers) = list_serial answer ++ lists_made answers
 lists_made (Ok (reply.Menu answer) ∷ answers) = lists_made answers
+lists_made (Ok (reply.Outline answer) ∷ answers) = lists_made answers
 lists_made (Ok (reply.Event answer) ∷ answers) = lists_made answers
 lists_made (Err e ∷ answers) = lists_made answers
 

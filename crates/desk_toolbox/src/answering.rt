@@ -79,6 +79,10 @@ impl Toolbox {
                     Err(refusal) => Err(refusal),
                 }
             }
+            Call::Outline(call) => match self.tell_outline(call, stock) {
+                Ok(reply) => Ok(Reply::Outline(reply)),
+                Err(refusal) => Err(refusal),
+            },
             Call::Event(call) => match self.answer_event(*call) {
                 Ok(reply) => Ok(Reply::Event(reply)),
                 Err(refusal) => Err(refusal),
@@ -89,7 +93,7 @@ impl Toolbox {
     /// Answers a call on windows: whose a point of the pulled menu is, the menus tell; a region of the window whose update is open,
     /// that update; and all else the windows perform. Once it was done, definitions are notified how their windows stand, and a
     /// window that is gone is forgotten.
-    fn tell_window(
+    pub(crate) fn tell_window(
         &mut self,
         call: &WindowCall<'_>,
         stock: &mut Stock,
@@ -102,6 +106,7 @@ impl Toolbox {
             (toolbox_state ⟦<Taken as Defined>⟧.loan ⟦<TakenMenu as DefinedMenu>⟧.menu_loan ⟦<TakenControl as DefinedControl>⟧.control_loan ⟦<TakenList as DefinedList>⟧.list_loan self.new (⟦<Stock as StockedAll>⟧.all_slots stock.new)) }
         ensures economy { AreInformed (windows_of ⟦<Taken as Defined>⟧.loan self.old.windows)
             → IsEconomical ⟦<Taken as Defined>⟧.loan call.now self.old.windows self.new.windows }
+        ensures aside { (self.new.menus ≡ self.old.menus) × ((self.new.updates ≡ self.old.updates) × (self.new.activity ≡ self.old.activity)) }
     {
         if self.is_covered(call) {
             return Ok(WindowReply::Found(Found {
@@ -295,6 +300,6 @@ pub(crate) fn form_refusal_of(call: &Call<'_>, stock: &Stock) -> Option<Refusal>
         Call::Control(call) => control_mgr::form_refusal(call, &stock.controls),
         Call::List(call) => list_mgr::form_refusal(call, &stock.lists, &stock.controls),
         Call::Menu(call) => menu_mgr::form_refusal(call, &stock.menus),
-        Call::Frame(_) | Call::Event(_) => None,
+        Call::Frame(_) | Call::Outline(_) | Call::Event(_) => None,
     }
 }

@@ -1,5 +1,5 @@
 //! What the definitions of a desk, of its steps and of runs say of each other.
-ghost use Rattle.std.specs.Prelude.{◌≡◌, ℕ, Bool, true, false, not, List, [], ◌∷◌, ◌++◌, map, Option, Some, Result, Ok, All};
+ghost use Rattle.std.specs.Prelude.{◌≡◌, ◌≢◌, ℕ, Bool, true, false, not, List, [], ◌∷◌, ◌++◌, map, Option, None, Some, Result, Ok, All};
 ghost use Rattle.std.specs.List.{find};
 ghost use Rattle.std.specs.Option.{option_map};
 ghost use Rattle.tb_geom.specs.declared.point.Point.{Point};
@@ -12,7 +12,11 @@ ghost use Rattle.def_iface.specs.Owner.{is_content, owner, own_bit};
 ghost use Rattle.def_iface.specs.Scratch.{scratch};
 ghost use Rattle.vis_update.specs.Records.{WindowRecord};
 ghost use Rattle.window_mgr.specs.FullDesk.{FullDesk, IsRightState, layered_desk};
+ghost use Rattle.window_mgr.specs.Effects.{IsUnchanged};
 ghost use Rattle.window_mgr.specs.Finding.{front_of};
+ghost use Rattle.bit_map.specs.Modes.{xor_bit};
+ghost use Rattle.bit_map.specs.Patterns.{pattern_bit};
+ghost use Rattle.desk_ground.specs.Screens.{gray};
 ghost use Rattle.tb_geom.specs.declared.refusal.Refusal.TheVariants.{Busy, NoSuchMenu, NoSuchWindow, StalePixels, TooLong};
 ghost use Rattle.tb_geom.specs.Rects.{in_plane};
 ghost use Rattle.tb_geom.specs.Refusals.{first_refusal, is_before};
@@ -33,6 +37,8 @@ ghost use Rattle.desk_call.specs.declared.list.NewList.{NewList};
 ghost use Rattle.desk_call.specs.declared.menu.MenuCall.{MenuCall};
 ghost use Rattle.desk_call.specs.declared.menu.MenuCall.TheVariants as asks;
 ghost use Rattle.desk_call.specs.declared.menu.NewMenu.{NewMenu};
+ghost use Rattle.desk_call.specs.declared.outline.OutlineCall.{OutlineCall};
+ghost use Rattle.desk_call.specs.declared.outline.OutlineCall.TheVariants.{EndDrag};
 ghost use Rattle.desk_call.specs.declared.window.MoveWindow.{MoveWindow};
 ghost use Rattle.desk_call.specs.declared.window.NewPicture.{NewPicture};
 ghost use Rattle.desk_call.specs.declared.window.NewWindow.{NewWindow};
@@ -43,13 +49,15 @@ ghost use Rattle.desk_call.specs.declared.window.ZoomWindow.{ZoomWindow};
 ghost use Rattle.window_mgr.specs.Refused.{is_missing, new_window_refusals, kind_refusals, form_refusals, draw_refusals, picture_refusals, scroll_refusals, behind_refusals, move_refusals, size_refusals, zoom_refusals};
 ghost use Rattle.window_update.specs.UpdateRefusals.{area_refusals};
 ghost use Rattle.window_frame.specs.FrameRefusals.{frame_refusals};
+ghost use Rattle.window_outline.specs.OutlineRefusals.{outline_refusals};
+ghost use Rattle.desk_call.specs.declared.activity.Activity.{Activity};
 ghost use Rattle.menu_mgr.specs.MenuDesks.{MenuSlot, MenusState};
 ghost use Rattle.menu_mgr.specs.MenuRefusals.{menu_form_refusals, menu_refusals};
 ghost use Rattle.desk_toolbox.specs.Ordered.{AreInOrder};
 ghost use Rattle.window_mgr.specs.Whole.{IsSoundDesk};
 ghost use Rattle.event_queue.specs.History.{told_of, Alternates, is_told_active};
 ghost use Rattle.desk_call.specs.declared.call.Call.{Call};
-ghost use Rattle.desk_call.specs.declared.call.Call.TheVariants.{Control, Menu, Window};
+ghost use Rattle.desk_call.specs.declared.call.Call.TheVariants.{Control, Menu, Outline, Window};
 ghost use Rattle.desk_call.specs.declared.call.Reply.TheVariants as reply;
 ghost use Rattle.desk_call.specs.declared.window.WindowCall.TheVariants.{Find};
 ghost use Rattle.desk_call.specs.declared.window.WindowReply.TheVariants as window_reply;
@@ -59,10 +67,10 @@ ghost use Rattle.window_frame.specs.Followers.{AreInformed};
 ghost use Rattle.desk_toolbox.specs.Activations.{activate_events_told, IsNeverDisposed};
 ghost use Rattle.desk_toolbox.specs.Reached.{AreContentsRight, IsConsistent, IsJustBegun, news_by_record};
 ghost use Rattle.def_iface.specs.Desk.{on_screen};
-ghost use Rattle.desk_toolbox.specs.Fronts.{IsScreenAllRight, IsScreenRight, found_on_screen, is_on_menu, screen_bit, screen_of, screen_owner, screen_scratch, window_on_screen};
+ghost use Rattle.desk_toolbox.specs.Fronts.{IsScreenAllRight, IsScreenRight, found_on_screen, is_on_menu, is_on_outline, pulled, screen_bit, screen_of, screen_owner, screen_scratch, window_on_screen, with_outline};
 ghost use Rattle.desk_toolbox.specs.Fronts.ScreenOwner.{PulledMenu, Base};
 ghost use Rattle.desk_toolbox.specs.ToolboxStates.{ToolboxState, IsToolboxUnchanged};
-ghost use Rattle.desk_toolbox.specs.Run.{IsStep, IsRunOfCalls, controls_made, found_menu, lists_made, made, AreCounted, AreCountedAlong};
+ghost use Rattle.desk_toolbox.specs.Run.{IsRestKept, IsStep, IsRunOfCalls, controls_made, found_menu, lists_made, made, AreCounted, AreCountedAlong};
 
 /// Painting the desk from nothing, back to front, gives each pixel the value of its owner.
 #[tactic(auto, using(crate::proofs::Sayings::scratch_is_owners_on))]
@@ -86,7 +94,7 @@ pub fn a_refusal_is_the_first_that_holds()
 {}
 
 /// The reasons to refuse each call stand in the written order.
-#[tactic(auto, using(crate::proofs::Ordering::frame_reasons_in_order, crate::proofs::Ordering::control_reasons_in_order, crate::proofs::Ordering::list_reasons_in_order, crate::proofs::Ordering::menu_reasons_in_order))]
+#[tactic(auto, using(crate::proofs::Ordering::frame_reasons_in_order, crate::proofs::Ordering::outline_reasons_in_order, crate::proofs::Ordering::control_reasons_in_order, crate::proofs::Ordering::list_reasons_in_order, crate::proofs::Ordering::menu_reasons_in_order))]
 pub fn reasons_stand_in_the_written_order()
     ensures new_window { (w : NewWindow) (desk : FullDesk) → AreInOrder (new_window_refusals w desk) }
     ensures draw { (judged : Option Refusal) (window : Option WindowRecord) → AreInOrder (draw_refusals judged window) }
@@ -100,6 +108,7 @@ pub fn reasons_stand_in_the_written_order()
     ensures area { (judged : Option Refusal) (missing wrong : Bool)
         → AreInOrder (area_refusals judged missing ++ (wrong, StalePixels) ∷ []) }
     ensures frame { (call : FrameCall) (desk : FullDesk) → AreInOrder (frame_refusals call desk) }
+    ensures outline { (call : OutlineCall) (activity : Activity) (desk : FullDesk) → AreInOrder (outline_refusals call activity desk) }
     ensures control { (call : ControlCall) (desk : FullDesk) (s : ControlsState) → AreInOrder (control_refusals call desk s) }
     ensures control_form { (n : NewControl) (slots : List ControlSlot) (busy missing : Bool)
         → AreInOrder (control_form_refusals (controls.New n) slots ++ (busy, Busy) ∷ (missing, NoSuchWindow) ∷ []) }
@@ -188,8 +197,8 @@ pub fn runs_that_leave_every_update_served_are_all_right()
         → AreAllServed last.desk.windows → IsAllRight last.desk.windows }
 {}
 
-/// In a right state the screen shows what painting the desk from nothing gives, the pulled menu last, at each pixel in no
-/// update region, and at each that the pulled menu has.
+/// In a right state the screen shows what painting the desk from nothing gives, the pulled menu or the outline last, at each
+/// pixel in no update region, and at each that the pulled menu has.
 #[tactic(auto, using(crate::proofs::FrontLaws::screen_is_right))]
 pub fn the_screen_of_a_right_state_is_right()
     ensures { (s : ToolboxState) → IsRightState s.desk.windows → IsScreenRight s }
@@ -203,21 +212,40 @@ pub fn runs_that_leave_every_update_served_show_a_right_screen()
         → AreAllServed last.desk.windows → IsScreenAllRight last }
 {}
 
-/// Painting the desk from nothing, the pulled menu last, gives each pixel the value of its owner.
+/// Painting the desk from nothing, the pulled menu or the outline last, gives each pixel the value of its owner, inverted along
+/// the outline where gray is black.
 #[tactic(auto, using(crate::proofs::FrontLaws::screen_scratch_is_owners))]
 pub fn screen_scratch_is_owners()
     ensures { (s : ToolboxState) (p : Point) → IsDesk (layered_desk s.desk.windows.desk)
-        → screen_scratch s p ≡ screen_bit s (screen_owner s p) p }
+        → screen_scratch s p ≡ with_outline s (λ q. screen_bit s (screen_owner s q) q) p }
 {}
 
 /// The pulled menu is in front of all: it owns each pixel of the screen that it has, which shows the menu, and elsewhere the
-/// base image shows, and what its owners own.
+/// base image shows, with the outline, and what its owners own.
 #[tactic(auto, using(crate::proofs::FrontLaws::menu_is_in_front, crate::proofs::FrontLaws::base_is_elsewhere))]
 pub fn the_pulled_menu_is_in_front()
     ensures menu { (s : ToolboxState) (p : Point) → is_on_menu s p ≡ true
         → (screen_owner s p ≡ PulledMenu) × (screen_of s p ≡ screen_bit s PulledMenu p) }
     ensures base { (s : ToolboxState) (p : Point) → on_screen (layered_desk s.desk.windows.desk) p ≡ true → is_on_menu s p ≡ false
-        → (screen_owner s p ≡ Base (owner (layered_desk s.desk.windows.desk) p)) × (screen_of s p ≡ s.desk.windows.image p) }
+        → (screen_owner s p ≡ Base (owner (layered_desk s.desk.windows.desk) p)) × (screen_of s p ≡ with_outline s s.desk.windows.image p) }
+{}
+
+/// The outline is in front of all: along it the base image shows inverted where gray is black, and else as it is, where no menu
+/// is pulled down.
+#[tactic(auto, using(crate::proofs::FrontLaws::outline_is_in_front, crate::proofs::FrontLaws::no_outline_is_elsewhere))]
+pub fn the_outline_is_in_front()
+    ensures outline { (s : ToolboxState) (p : Point) → is_on_outline s p ≡ true
+        → screen_of s p ≡ xor_bit (pattern_bit gray p) (s.desk.windows.image p) }
+    ensures base { (s : ToolboxState) (p : Point) → pulled s ≡ None → is_on_outline s p ≡ false
+        → screen_of s p ≡ s.desk.windows.image p }
+{}
+
+/// A call about an outline, but for the end of a drag, changes nothing but what is open, and so the outline.
+#[tactic(auto, using(crate::proofs::OutlineLaws::outlines_leave_the_desk))]
+pub fn an_outline_leaves_the_desk_alone()
+    ensures { (call : OutlineCall) (answer : Result Reply Refusal) (before after : ToolboxState)
+        → ((p : Point) → call ≢ EndDrag p) → IsStep (Outline call) answer before after
+        → IsUnchanged before.desk.windows after.desk.windows × IsRestKept before after }
 {}
 
 /// A call on menus leaves every update region, and of the base image all that the contents of windows show.

@@ -1,9 +1,9 @@
 //! The Toolbox: a desk, and the calls of all its managers, one by one and in a row.
 //!
 //! A `Call` says which manager it is for. What each does, its manager says (`window_mgr` for windows, `window_update` for
-//! update regions, `window_frame` for titles, highlighting and go-away boxes, `control_mgr` for controls, `list_mgr` for
-//! lists, `menu_mgr` for menus, `event_queue` for events); here steps are strung together (`Run`), and the law that steps keep a right state right
-//! (`laws`) becomes one of runs: outside the update regions each pixel has the value that painting the desk from nothing
+//! update regions, `window_frame` for titles, highlighting and go-away boxes, `window_outline` for outlines, `control_mgr` for
+//! controls, `list_mgr` for lists, `menu_mgr` for menus, `event_queue` for events); here steps are strung together (`Run`), and
+//! the law that steps keep a right state right (`laws`) becomes one of runs: outside the update regions each pixel has the value that painting the desk from nothing
 //! gives. `update_laws` says what serving an update does, and what the regions of windows are.
 //!
 //! At most one thing is open at a time. Whether a call may come then, one table says for every call (`desk_call`'s `gate`):
@@ -16,18 +16,20 @@
 mod answering;
 mod events;
 pub mod laws;
+mod outlining;
 mod toolbox;
 pub mod update_laws;
 
 pub use desk_call::{
     Activity, AppendItems, AreaRef, Call, CheckItem, Choice, ControlCall, ControlInfo,
-    ControlNumber, ControlOf, ControlReply, ControlTitle, Drawing, EventCall, EventReply,
-    FlushEvents, Found, FoundControl, FrameCall, FrameReply, GoAwayPoint, HiliteWindow, InsertMenu,
-    ItemOfMenu, ItemText, LayerDraw, Layers, ListCall, ListReply, MenuCall, MenuReply, MoveControl,
-    MoveWindow, NewControl, NewMenu, NewPicture, NewTitle, NewWindow, PictureRef, PointAtControl,
+    ControlNumber, ControlOf, ControlReply, ControlTitle, DragWindow, DraggedWindow, Drawing,
+    EventCall, EventReply, FlushEvents, Found, FoundControl, FrameCall, FrameReply, GoAwayPoint,
+    GrowWindow, GrownWindow, HiliteWindow, InsertMenu, ItemOfMenu, ItemText, LayerDraw, Layers,
+    ListCall, ListReply, MenuCall, MenuReply, MoveControl, MoveWindow, NewControl, NewMenu,
+    NewPicture, NewTitle, NewWindow, OutlineCall, OutlineReply, PictureRef, PointAtControl,
     PointInWindow, PostEvent, PulledMenu, Reply, ScrollPicture, SendBehind, ShowHide, SizeControl,
-    SizeWindow, TrackedControl, UpdateCall, WindowArea, WindowCall, WindowInfo, WindowPart,
-    WindowReply, Zoom, ZoomWindow,
+    SizeLimits, SizeWindow, TrackedControl, UpdateCall, WindowArea, WindowCall, WindowInfo,
+    WindowPart, WindowReply, Zoom, ZoomWindow,
 };
 pub use toolbox::Toolbox;
 pub use window_mgr::NotBegun;

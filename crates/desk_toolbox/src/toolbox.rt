@@ -174,7 +174,8 @@ impl Toolbox {
         }
     }
 
-    /// The screen: the pulled menu where it lies, and else what the windows, the menu bar and the desktop show.
+    /// The screen: the pulled menu where it lies, and else what the windows, the menu bar and the desktop show, with the outline
+    /// of a window that is dragged or grown.
     pub fn screen(&self) -> &BitMap
         requires { IsKeptToolbox ⟦<Taken as Defined>⟧.loan ⟦<TakenMenu as DefinedMenu>⟧.menu_loan ⟦<TakenControl as DefinedControl>⟧.control_loan ⟦<TakenList as DefinedList>⟧.list_loan self.now }
         ensures width { result.now.width ≡ self.now.windows.screen.width }
@@ -183,7 +184,9 @@ impl Toolbox {
             → bit result.now p ≡ screen_of (toolbox_state ⟦<Taken as Defined>⟧.loan ⟦<TakenMenu as DefinedMenu>⟧.menu_loan ⟦<TakenControl as DefinedControl>⟧.control_loan ⟦<TakenList as DefinedList>⟧.list_loan self.now stocks) p }
     {
         match self.activity {
-            Activity::Pulling(_) => self.menus.screen(),
+            Activity::Pulling(_) | Activity::Dragging(_) | Activity::Growing(_) => {
+                self.menus.screen()
+            }
             _ => self.windows.screen(),
         }
     }

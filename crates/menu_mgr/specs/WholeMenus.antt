@@ -9,8 +9,10 @@ use Rattle.def_iface.specs.Stocked.{SlotView}
 use Rattle.menu_list.specs.declared.listed.Listed.{Listed}
 use Rattle.menu_list.specs.Seen.{all_seen}
 use Rattle.menu_overlay.specs.Overlays.{IsShown, is_menu_place}
+use Rattle.menu_overlay.specs.Outlines.{IsOutlined}
 use Rattle.desk_call.specs.declared.activity.Activity.{Activity}
-use Rattle.desk_call.specs.declared.activity.Activity.TheVariants.{Pulling}
+use Rattle.desk_call.specs.declared.activity.Activity.TheVariants.{Pulling, Dragging, Growing}
+use Rattle.desk_call.specs.Outlines.{IsOutlineKept}
 use Rattle.window_mgr.specs.declared.manager.WindowManager.{WindowManager}
 use Rattle.window_mgr.specs.DeskStates.{Opened, desk_state}
 use Rattle.menu_mgr.specs.declared.menus.Menus.{Menus}
@@ -38,10 +40,10 @@ abbrev pub AreLive : List MenuRecord → Type 0
 AreLive [] = Unit {0}
 AreLive (l ∷ ls) = (l.definition.definition.stage ≡ Live) × AreLive ls
 
--- a menu that is pulled down has its corner on a screen, and a size that a menu may have
+-- a menu that is pulled down has its corner on a screen, and a size that a menu may have, and an outline is one
 abbrev pub IsPlaced : Activity → Type 0
 IsPlaced (Pulling m) = (is_menu_place m.place ≡ true) × (is_menu_size m.size ≡ true)
-IsPlaced _ = Unit {0}
+IsPlaced activity = IsOutlineKept activity
 
 -- no menus, with room for 16, before a screen of these sides
 pub record AreNoMenus {W : Type 0} {K : W → Type 0} (wide high : ℤ) (m : Menus W K) : Type 0 where
@@ -65,9 +67,11 @@ module _ {W : Type 0} {K : W → Type 0} (menu_loan : TakenMenu W K → MenuLoan
   }
 
   module _ {V : Type 0} {H : V → Type 0} where
-    -- while a menu is pulled down the map in front shows it over the base image
+    -- while a menu is pulled down the map in front shows it over the base image, and so it shows an outline
     abbrev pub IsFrontShown : Activity → WindowManager V H → Menus W K → Type 0
     IsFrontShown (Pulling p) t m = IsShown t.font (pulled_of (Pulling p) (menus_of m.list.menus.items)) t.screen m.overlay.front
+    IsFrontShown (Dragging d) t m = IsOutlined t.bar.rows d.outline t.screen m.overlay.front
+    IsFrontShown (Growing g) t m = IsOutlined t.bar.rows g.outline t.screen m.overlay.front
     IsFrontShown _ t m = Unit {0}
 
     -- the menus beside windows, with what is open and the slots of the menus' stock, between calls

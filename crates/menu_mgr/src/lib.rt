@@ -14,12 +14,16 @@
 //! over it on a map of its own (`menu_overlay`): `screen_of` is the pulled menu where it lies, and else the base image. So there
 //! is nothing to bring back when it is put away, and no call about menus can hurt what windows show.
 //!
+//! The gray outline of a window that is dragged or grown is shown on the same map (`show_outline`), since while one is open no
+//! menu is pulled down.
+//!
 //! Boxes of definitions lie in the records of `menu_list`, and wait outside in a `MenuStock`. A definition is told which of its
 //! items is highlighted; what it was told last is a part of its meaning. All room but that of items is made when a desk begins.
 #![tactic(auto)]
 
 mod making;
 mod menus;
+mod outlining;
 mod painting;
 mod perform;
 mod pulling;

@@ -15,7 +15,8 @@ use menu_overlay::Overlay;
 use std::alloc::{AllocError, Global};
 use window_mgr::WindowManager;
 
-/// The menus of a desk, and the map on which the one that is pulled down lies in front of the windows' screen.
+/// The menus of a desk, and the map on which the one that is pulled down, or the outline of a window, lies in front of the
+/// windows' screen.
 #[derive(Drop)]
 pub struct Menus {
     pub(crate) alloc: Global,
@@ -45,7 +46,7 @@ impl Menus {
         })
     }
 
-    /// The screen while a menu is pulled down.
+    /// The screen while a menu is pulled down or an outline is shown.
     pub fn screen(&self) -> &BitMap
         ensures { result.now ≡ self.now.overlay.front }
     {

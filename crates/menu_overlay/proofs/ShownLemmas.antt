@@ -7,15 +7,12 @@ use Rattle.tb_geom.specs.declared.rect.Rect.{Rect}
 use Rattle.tb_geom.specs.Points.{PixelSet, minus}
 use Rattle.tb_geom.specs.Rects.{rect_holds, in_plane, is_coordinate}
 use Rattle.bit_map.specs.Bits.{Bits, bit, on_map, is_below, bounds_of}
-use Rattle.bit_map.specs.declared.mode.Mode.TheVariants.{Copy}
-use Rattle.bit_map.specs.Modes.{mode_bit}
 use Rattle.bit_map.proofs.BitsLemmas.{on_map-same}
 use Rattle.std.specs.Prelude.{int_le}
 use Rattle.bit_blit.specs.Draws.{Draws}
 use Rattle.bit_blit.proofs.DrawsLemmas.{Draws-same, Draws-on_map}
 use Rattle.scan_region.specs.declared.cut.Cut.{Cut}
 use Rattle.scan_region.specs.Cuts.{cut_holds}
-use Rattle.desk_ground.proofs.GroundLemmas.{origin, minus-origin}
 use Rattle.def_iface.specs.MenuMeaning.{MenuDefinition, IsMenuDamage, no_menu_news}
 use Rattle.menu_overlay.specs.Overlays.{Pulled, IsShown, pulled_rect, pulled_bit, is_menu_place}
 

@@ -1,9 +1,12 @@
-//! What the definitions of a pulled menu imply.
-ghost use Rattle.std.specs.Prelude.{◌≡◌, [], ℕ, true, false, List, Some, pos, ◌≤ℤ◌, ◌+ℤ◌, ℤ};
+//! What the definitions of a pulled menu and of an outline imply.
+ghost use Rattle.std.specs.Prelude.{◌≡◌, [], ℕ, true, false, List, Some, pos, ◌≤ℤ◌, ◌<ℤ◌, ◌+ℤ◌, ℤ};
 ghost use Rattle.tb_geom.specs.declared.point.Point.{Point};
+ghost use Rattle.tb_geom.specs.declared.rect.Rect.{Rect};
 ghost use Rattle.tb_geom.specs.Points.{PixelSet};
 ghost use Rattle.tb_geom.specs.Rects.{rect_holds};
 ghost use Rattle.def_iface.specs.declared.size.Size.{Size};
+ghost use Rattle.def_iface.specs.Lines.{line_holds};
+ghost use Rattle.menu_overlay.specs.Outlines.{outlined};
 ghost use Rattle.menu_overlay.specs.Overlays.{Pulled, pulled_rect, shown_bit};
 ghost use Rattle.menu_overlay.specs.Places.{pulled_place, shown_size};
 
@@ -28,4 +31,20 @@ pub fn a_menu_stays_on_the_screen()
         → ((pulled_place width left size).h +ℤ size.width) ≤ℤ width }
     ensures title { (width left : ℤ) (size : Size) → pos 0 ≤ℤ left → (left +ℤ size.width) ≤ℤ width
         → (pulled_place width left size).h ≡ left }
+{}
+
+/// Beside the lines of an outline, and on the menu bar, the screen shows the base image.
+#[tactic(auto, using(crate::proofs::OutlineLemmas::shows_beside, crate::proofs::OutlineLemmas::shows_bar))]
+pub fn an_outline_changes_its_lines_alone()
+    ensures beside { (bar : ℤ) (lines : List Rect) (base : PixelSet) (p : Point)
+        → line_holds lines p ≡ false → outlined bar lines base p ≡ base p }
+    ensures bar { (bar : ℤ) (lines : List Rect) (base : PixelSet) (p : Point)
+        → p.v <ℤ bar → outlined bar lines base p ≡ base p }
+{}
+
+/// An outline over the same outline leaves the base image.
+#[tactic(auto, using(crate::proofs::OutlineLemmas::shows_again))]
+pub fn an_outline_over_itself_leaves_the_base()
+    ensures { (bar : ℤ) (lines : List Rect) (base : PixelSet) (p : Point)
+        → outlined bar lines (outlined bar lines base) p ≡ base p }
 {}

@@ -14,10 +14,11 @@ use std::alloc::{AllocError, Global};
 use strike_font::Font;
 use tb_geom::{Point, Rect};
 
-/// What the screen shows while a menu is pulled down: a map in front of the base image, which stays as it is.
+/// What the screen shows while a menu is pulled down or an outline is shown: a map in front of the base image, which stays as
+/// it is.
 #[derive(Drop)]
 pub struct Overlay {
-    front: BitMap,
+    pub(crate) front: BitMap,
 }
 
 impl Overlay {

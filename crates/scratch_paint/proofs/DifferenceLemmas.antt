@@ -13,8 +13,11 @@ use Rattle.def_iface.specs.Desk.{on_screen}
 use Rattle.def_iface.specs.Scratch.{scratch}
 use Rattle.window_mgr.proofs.Arranged.{between-is_below}
 use Rattle.window_mgr.specs.FullDesk.{FullDesk, IsRightState, layered_desk}
+use Rattle.bit_map.specs.Modes.{xor_bit}
+use Rattle.bit_map.specs.Patterns.{pattern_bit}
+use Rattle.desk_ground.specs.Screens.{gray}
 use Rattle.menu_overlay.specs.Overlays.{Pulled, pulled_bit, pulled_rect, shown_bit}
-use Rattle.desk_toolbox.specs.Fronts.{pulled, screen_of, screen_scratch}
+use Rattle.desk_toolbox.specs.Fronts.{is_on_outline, pulled, screen_of, screen_scratch, with_outline}
 use Rattle.desk_toolbox.specs.ToolboxStates.{ToolboxState}
 use Rattle.scratch_paint.specs.Screens.{IsAsLarge, IsPaintedScreen}
 use Rattle.scratch_paint.specs.Differences.{differs, row_differences, differences_of, difference_count}
@@ -26,9 +29,14 @@ alike true = refl
 alike false = refl
 
 -- what is shown over two images is the same where they are
-pub shown_alike : (font : List ℕ) (m : Option Pulled) (base other : PixelSet) (p : Point) → base p ≡ other p → shown_bit font m base p ≡ shown_bit font m other p
+shown_alike : (font : List ℕ) (m : Option Pulled) (base other : PixelSet) (p : Point) → base p ≡ other p → shown_bit font m base p ≡ shown_bit font m other p
 shown_alike font None base other p e = e
 shown_alike font (Some m) base other p e = ap (λ b. if rect_holds (pulled_rect m.place m.size) p then pulled_bit font m p else b) e
+
+pub front_alike : (s : ToolboxState) (base other : PixelSet) (p : Point) → base p ≡ other p
+    → with_outline s (shown_bit s.desk.windows.desk.font (pulled s) base) p ≡ with_outline s (shown_bit s.desk.windows.desk.font (pulled s) other) p
+front_alike s base other p e =
+    ap (λ v. if is_on_outline s p then xor_bit (pattern_bit gray p) v else v) (shown_alike s.desk.windows.desk.font (pulled s) base other p e)
 
 nowhere : (s : ToolboxState) → IsRightState s.desk.windows → (p : Point) → differs s (screen_scratch s) p ≡ false
 nowhere s right p =
@@ -37,7 +45,7 @@ nowhere s right p =
         | inl stale ↦ rw (on, stale) refl
         | inr fresh ↦
             let shown : screen_of s p ≡ screen_scratch s p =
-            shown_alike s.desk.windows.desk.font (pulled s) s.desk.windows.image (scratch (layered_desk s.desk.windows.desk)) p (right.plain.right p on fresh) in
+            front_alike s s.desk.windows.image (scratch (layered_desk s.desk.windows.desk)) p (right.plain.right p on fresh) in
             (λ i. on i && (not (fresh i) && differ (shown i) (screen_scratch s p))) ∙ alike (screen_scratch s p)
       ]
       | inr off ↦ rw off refl

@@ -1,5 +1,5 @@
--- The menu that is pulled down, over the base image.
-use Rattle.std.proofs.Common.{◌≡◌, ℕ, List, [], Option, pos, sym, ap, ◌∙◌, subst}
+-- What lies in front, over the base image.
+use Rattle.std.proofs.Common.{◌≡◌, ℕ, ℤ, List, [], pos, sym, ap, ◌∙◌, subst}
 use Rattle.bit_map.specs.Bits.{Bits, bit}
 use Rattle.bit_map.proofs.BitsLemmas.{on_map-same}
 use Rattle.def_iface.specs.declared.taken.Taken.{Taken}
@@ -12,7 +12,6 @@ use Rattle.def_iface.specs.Meaning.{Loan}
 use Rattle.def_iface.specs.MenuMeaning.{MenuLoan}
 use Rattle.def_iface.specs.Scratch.{scratch}
 use Rattle.desk_call.specs.declared.activity.Activity.{Activity}
-use Rattle.menu_overlay.specs.Overlays.{IsShown, Pulled}
 use Rattle.window_mgr.specs.declared.manager.WindowManager.{WindowManager}
 use Rattle.window_mgr.specs.FullDesk.{layered_desk}
 use Rattle.window_mgr.specs.Records.{desk_of, desk_showing}
@@ -21,36 +20,36 @@ use Rattle.control_mgr.specs.WholeControls as controls
 use Rattle.list_mgr.specs.ListDesks.{lists_show}
 use Rattle.list_mgr.specs.WholeLists as lists
 use Rattle.menu_mgr.specs.declared.menus.Menus.{Menus}
-use Rattle.menu_mgr.specs.Pulling.{pulled_of}
+use Rattle.menu_mgr.specs.MenuDesks.{MenuRecord}
+use Rattle.menu_mgr.specs.Pulling.{IsFrontPainted}
 use Rattle.menu_mgr.specs.WholeMenus.{menus_of}
 use Rattle.desk_toolbox.specs.declared.toolbox.Toolbox.{Toolbox}
-use Rattle.desk_toolbox.specs.Fronts.{pulled}
 use Rattle.desk_toolbox.specs.ToolboxStates.{ToolboxState}
 use Rattle.desk_toolbox.specs.WholeToolbox.{toolbox_state}
 use Rattle.scratch_paint.specs.Paints.{IsPaintedDesk}
 use Rattle.scratch_paint.specs.Screens.{IsPaintedScreen, no_slots}
-use Rattle.scratch_paint.proofs.DifferenceLemmas.{on_its_screen, shown_alike}
+use Rattle.scratch_paint.proofs.DifferenceLemmas.{front_alike, on_its_screen}
 
--- the menu was drawn over the base image that was painted from nothing
+-- that was drawn over the base image that was painted from nothing
 over_base : (s : ToolboxState) (base new : Bits) → IsPaintedDesk s.desk.windows.desk base
-    → IsShown s.desk.windows.desk.font (pulled s) base new → IsPaintedScreen s new
+    → IsFrontPainted s.desk.windows.desk.font s.desk.windows.desk.bar.rows s.desk.activity s.menus.menus base new → IsPaintedScreen s new
 over_base s base new painted shown = record {
   wide = ap pos shown.width ∙ painted.wide;
   high = ap pos shown.height ∙ painted.high;
   pixels = λ p on.
       let there = on_map-same base new p shown.width shown.height ∙ sym (on_its_screen s.desk.windows.desk base painted.wide painted.high p) ∙ on in
-      shown.pixels p there ∙ shown_alike s.desk.windows.desk.font (pulled s) (bit base) (scratch (layered_desk s.desk.windows.desk)) p (painted.pixels p on);
+      shown.pixels p there ∙ front_alike s (bit base) (scratch (layered_desk s.desk.windows.desk)) p (painted.pixels p on);
 }
 
 -- and that is the screen of a Toolbox, where what was painted is its own
 pub screen_painted : {V : Type 0} {H : V → Type 0} (loan : Taken V H → Loan) {W : Type 0} {K : W → Type 0} (menu_loan : TakenMenu W K → MenuLoan) {U : Type 0} {J : U → Type 0} (control_loan : TakenControl U J → ControlLoan) {X : Type 0} {L : X → Type 0} (list_loan : TakenList X L → ListLoan)
-    (t : Toolbox V U W X H J K L) (windows : WindowManager V H) (menus : Menus W K) (activity : Activity) (font : List ℕ) (base new : Bits)
-    → windows ≡ t.windows → menus ≡ t.menus → activity ≡ t.activity → font ≡ windows.font
+    (t : Toolbox V U W X H J K L) (windows : WindowManager V H) (menus : Menus W K) (activity : Activity) (font : List ℕ) (bar : ℤ) (base new : Bits)
+    → windows ≡ t.windows → menus ≡ t.menus → activity ≡ t.activity → font ≡ windows.font → bar ≡ windows.bar.rows
     → IsPaintedDesk (desk_showing (controls_show (lists_show (lists.records_of list_loan t.lists)) (controls.records_of control_loan t.controls)) (desk_of loan windows [])) base
-    → IsShown font (pulled_of activity (menus_of menu_loan menus.list.menus.items)) base new
+    → IsFrontPainted font bar activity (menus_of menu_loan menus.list.menus.items) base new
     → IsPaintedScreen (toolbox_state loan menu_loan control_loan list_loan t no_slots) new
-screen_painted loan menu_loan control_loan list_loan t windows menus activity font base new same_windows same_menus same_activity letters painted shown =
+screen_painted loan menu_loan control_loan list_loan t windows menus activity font bar base new same_windows same_menus same_activity letters rows painted shown =
     over_base (toolbox_state loan menu_loan control_loan list_loan t no_slots) base new
     (subst (λ w. IsPaintedDesk (desk_showing (controls_show (lists_show (lists.records_of list_loan t.lists)) (controls.records_of control_loan t.controls)) (desk_of loan w [])) base) same_windows painted)
-    (subst (λ (x : List ℕ × Option Pulled). IsShown x.0 x.1 base new)
-    (λ i. ((letters ∙ ap (λ w. w.font) same_windows) i, pulled_of (same_activity i) (menus_of menu_loan (same_menus i).list.menus.items))) shown)
+    (subst (λ (x : List ℕ × ℤ × Activity × List MenuRecord). IsFrontPainted x.0 x.1 x.2 x.3 base new)
+    (λ i. ((letters ∙ ap (λ w. w.font) same_windows) i, (rows ∙ ap (λ w. w.bar.rows) same_windows) i, same_activity i, menus_of menu_loan (same_menus i).list.menus.items)) shown)

@@ -27,8 +27,8 @@ use window_mgr::{Parts, WindowManager};
 use window_paint::Showing;
 
 /// A new map, of the size of the screen, with the whole desk painted from nothing, back to front: what the windows, the menu
-/// bar and the desktop show, controls and lists among that, and over it the menu that is pulled down. It reads neither the
-/// screen's pixels nor any region that the Toolbox keeps.
+/// bar and the desktop show, controls and lists among that, and over it the menu that is pulled down, or the outline of a window
+/// that is dragged or grown. It reads neither the screen's pixels nor any region that the Toolbox keeps.
 pub fn paint(alloc: Global, toolbox: &Toolbox) -> Result<BitMap, AllocError>
     requires { IsKeptToolbox ⟦<Taken as Defined>⟧.loan ⟦<TakenMenu as DefinedMenu>⟧.menu_loan ⟦<TakenControl as DefinedControl>⟧.control_loan ⟦<TakenList as DefinedList>⟧.list_loan toolbox.now }
     ensures { IfOk result (IsPaintedScreen
@@ -36,14 +36,14 @@ pub fn paint(alloc: Global, toolbox: &Toolbox) -> Result<BitMap, AllocError>
 {
     let windows = toolbox.windows();
     let mut image = paint_base(alloc, windows, &toolbox.contents())?;
-    let font = windows.parts().font;
+    let parts = windows.parts();
     toolbox
         .menus()
-        .paint_pulled(&mut image, font, toolbox.activity());
+        .paint_front(&mut image, parts.font, parts.bar, toolbox.activity());
     Ok(image)
 }
 
-/// The same without a menu that is pulled down: the base image, where controls and lists show what `layers` says.
+/// The same without what lies in front: the base image, where controls and lists show what `layers` says.
 fn paint_base<S: Showing>(
     alloc: Global,
     windows: &WindowManager,

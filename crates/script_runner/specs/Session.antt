@@ -6,7 +6,7 @@ use Rattle.tb_geom.specs.declared.refusal.Refusal.TheVariants.{NoSuchName, OutOf
 use Rattle.tb_geom.specs.Points.{PixelSet}
 use Rattle.def_iface.specs.Stocked.{has_kind}
 use Rattle.def_iface.specs.Stocks.{AllSlots}
-use Rattle.desk_call.specs.declared.call.Call.TheVariants.{Window, Update, Frame, Control, Menu, Event}
+use Rattle.desk_call.specs.declared.call.Call.TheVariants.{Window, Update, Frame, Control, Menu, Outline, Event}
 use Rattle.desk_call.specs.declared.call.Call.TheVariants as asks
 use Rattle.desk_call.specs.declared.control.ControlCall.TheVariants as controls
 use Rattle.desk_call.specs.declared.list.ListCall.TheVariants as lists
@@ -69,6 +69,7 @@ is_known (Call (Window (New w))) stocks = has_kind w.kind stocks.windows
 is_known (Call (Window _)) stocks = true
 is_known (Call (Update _)) stocks = true
 is_known (Call (Frame _)) stocks = true
+is_known (Call (Outline _)) stocks = true
 is_known (Call (Control (controls.New n))) stocks = has_kind n.kind stocks.controls
 is_known (Call (Control _)) stocks = true
 is_known (Call (asks.List (lists.New n))) stocks = not (lacks_kind n stocks.lists stocks.controls)

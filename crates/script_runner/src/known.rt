@@ -19,6 +19,7 @@ pub(crate) fn is_known(command: &Command<'_>, stock: &Stock) -> bool
         Command::Call(Call::Window(call)) => is_known_call(call, stock),
         Command::Call(Call::Update(_)) => true,
         Command::Call(Call::Frame(_)) => true,
+        Command::Call(Call::Outline(_)) => true,
         Command::Call(Call::Control(call)) => is_known_control_call(call, stock),
         Command::Call(Call::List(call)) => is_known_list_call(call, stock),
         Command::Call(Call::Menu(call)) => is_known_menu_call(call, stock),

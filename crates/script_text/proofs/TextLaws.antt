@@ -8,6 +8,7 @@ use Rattle.line_words.proofs.TableLemmas.{found_is_in, in_is_found, are_distinct
 use Rattle.window_words.specs.WindowWords.{window_verbs}
 use Rattle.window_words.specs.UpdateWords.{update_verbs}
 use Rattle.window_words.specs.FrameWords.{frame_verbs}
+use Rattle.window_words.specs.OutlineWords.{outline_verbs}
 use Rattle.control_words.specs.ControlWords.{control_verbs}
 use Rattle.list_words.specs.ListWords.{list_verbs}
 use Rattle.menu_words.specs.MenuWords.{menu_verbs}
@@ -20,7 +21,7 @@ use Rattle.script_text.specs.Lines.{add_front, cut, whole_lines, last_part, if_a
 
 -- no word stands twice in the table
 verbs_are_distinct : are_distinct verbs ≡ true
-unfolding tagged window_verbs update_verbs frame_verbs control_verbs list_verbs menu_verbs event_verbs
+unfolding tagged window_verbs update_verbs frame_verbs outline_verbs control_verbs list_verbs menu_verbs event_verbs
 verbs_are_distinct = refl
 
 pub verb_is_of_the_table : (word : List ℕ) (verb : Verb) → named word verbs ≡ Some verb ↔ Contains verbs (word, verb)

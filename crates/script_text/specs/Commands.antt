@@ -9,6 +9,7 @@ use Rattle.line_words.specs.Tables.{named, tagged}
 use Rattle.window_words.specs.WindowWords.{window_verbs, window_shape}
 use Rattle.window_words.specs.UpdateWords.{update_verbs, update_shape}
 use Rattle.window_words.specs.FrameWords.{frame_verbs, frame_shape}
+use Rattle.window_words.specs.OutlineWords.{outline_verbs, outline_shape}
 use Rattle.control_words.specs.ControlWords.{control_verbs, control_shape}
 use Rattle.list_words.specs.ListWords.{list_verbs, list_shape}
 use Rattle.menu_words.specs.MenuWords.{menu_verbs, menu_shape}
@@ -28,11 +29,12 @@ verbs =
     tagged words.Window window_verbs
     ++ (tagged words.Update update_verbs
     ++ (tagged words.Frame frame_verbs
+    ++ (tagged words.Outline outline_verbs
     ++ (tagged words.Control control_verbs
     ++ (tagged words.List list_verbs
     ++ (tagged words.Menu menu_verbs
     ++ (tagged words.Event event_verbs
-    ++ desk_verbs))))))
+    ++ desk_verbs)))))))
 
 -- WIDTH HEIGHT BAR
 abbrev pub desk_shape : Shape Command
@@ -45,6 +47,7 @@ shape_of words.Image = says Image
 shape_of (words.Window verb) = mapped (λ call. Call (calls.Window call)) (window_shape verb)
 shape_of (words.Update verb) = mapped (λ call. Call (calls.Update call)) (update_shape verb)
 shape_of (words.Frame verb) = mapped (λ call. Call (calls.Frame call)) (frame_shape verb)
+shape_of (words.Outline verb) = mapped (λ call. Call (calls.Outline call)) (outline_shape verb)
 shape_of (words.Control verb) = mapped (λ call. Call (calls.Control call)) (control_shape verb)
 shape_of (words.List verb) = mapped (λ call. Call (calls.List call)) (list_shape verb)
 shape_of (words.Menu verb) = mapped (λ call. Call (calls.Menu call)) (menu_shape verb)

@@ -4,7 +4,7 @@ use Rattle.tb_geom.specs.declared.refusal.Refusal.{Refusal}
 use Rattle.tb_geom.specs.Refusals.{name_of, number_of}
 use Rattle.desk_call.specs.declared.call.Reply.{Reply}
 use Rattle.desk_call.specs.declared.call.Reply.TheVariants as replies
-use Rattle.window_words.specs.WindowLines.{window_reply_text, frame_reply_text}
+use Rattle.window_words.specs.WindowLines.{window_reply_text, frame_reply_text, outline_reply_text}
 use Rattle.control_words.specs.ControlLines.{control_reply_text}
 use Rattle.list_words.specs.ListLines.{list_reply_text}
 use Rattle.menu_words.specs.MenuLines.{menu_reply_text}
@@ -18,6 +18,7 @@ refused_text e = codes "refused " ++ (decimal (number_of e) ++ (codes " " ++ (na
 abbrev pub reply_text : Result Reply Refusal → List ℕ
 reply_text (Ok (replies.Window reply)) = window_reply_text reply
 reply_text (Ok (replies.Frame reply)) = frame_reply_text reply
+reply_text (Ok (replies.Outline reply)) = outline_reply_text reply
 reply_text (Ok (replies.Control reply)) = control_reply_text reply
 reply_text (Ok (replies.List reply)) = list_reply_text reply
 reply_text (Ok (replies.Menu reply)) = menu_reply_text reply

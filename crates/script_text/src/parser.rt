@@ -23,7 +23,7 @@ use line_words::Words;
 use list_words::ListVerb;
 use menu_words::MenuVerb;
 use tb_geom::Refusal;
-use window_words::{FrameVerb, UpdateVerb, WindowVerb};
+use window_words::{FrameVerb, OutlineVerb, UpdateVerb, WindowVerb};
 
 /// The words after `desk`: the screen's width and height, and the rows of its menu bar.
 fn desk<'a>(words: Words<'a>) -> Result<Command<'a>, Refusal>
@@ -68,6 +68,15 @@ fn frame<'a>(verb: FrameVerb, words: Words<'a>) -> Result<Command<'a>, Refusal>
 {
     let call = verb.call(words)?;
     Ok(Command::Call(Call::Frame(call)))
+}
+
+/// The words after a verb for the outline of a window.
+#[tactic(auto, using(line_words::proofs::Mapped::reading_mapped))]
+fn outline<'a>(verb: OutlineVerb, words: Words<'a>) -> Result<Command<'a>, Refusal>
+    ensures { result ≡ reading (shape_of (verbs.Outline verb)) words.entry }
+{
+    let call = verb.call(words)?;
+    Ok(Command::Call(Call::Outline(call)))
 }
 
 /// The words after a verb for controls.
@@ -116,6 +125,7 @@ fn command<'a>(verb: Verb, words: Words<'a>) -> Result<Command<'a>, Refusal>
         Verb::Window(verb) => window(verb, words),
         Verb::Update(verb) => update(verb, words),
         Verb::Frame(verb) => frame(verb, words),
+        Verb::Outline(verb) => outline(verb, words),
         Verb::Control(verb) => control(verb, words),
         Verb::List(verb) => list(verb, words),
         Verb::Menu(verb) => menu(verb, words),

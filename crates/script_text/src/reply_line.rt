@@ -11,7 +11,7 @@ use list_words::write_list_reply;
 use menu_words::write_menu_reply;
 use tb_geom::Refusal;
 use watched_io::{Sink, send_all};
-use window_words::{write_frame_reply, write_window_reply};
+use window_words::{write_frame_reply, write_outline_reply, write_window_reply};
 
 /// Writes the line of what a call answered: `ok` and its values, or `refused` with the refusal's
 /// number and name.
@@ -22,6 +22,7 @@ pub fn write_reply<S: Sink>(sink: &mut S, reply: &Result<Reply, Refusal>) -> Res
     match reply {
         Ok(Reply::Window(reply)) => write_window_reply(sink, reply),
         Ok(Reply::Frame(reply)) => write_frame_reply(sink, *reply),
+        Ok(Reply::Outline(reply)) => write_outline_reply(sink, *reply),
         Ok(Reply::Control(reply)) => write_control_reply(sink, reply),
         Ok(Reply::List(reply)) => write_list_reply(sink, reply),
         Ok(Reply::Menu(reply)) => write_menu_reply(sink, *reply),

@@ -8,7 +8,7 @@ use event_words::EventVerb;
 use line_words::named;
 use list_words::ListVerb;
 use menu_words::MenuVerb;
-use window_words::{FrameVerb, UpdateVerb, WindowVerb};
+use window_words::{FrameVerb, OutlineVerb, UpdateVerb, WindowVerb};
 
 /// The first word of a command, by what it is about. It says which words follow.
 #[derive(Clone, Copy)]
@@ -18,6 +18,7 @@ pub enum Verb {
     Window(WindowVerb),
     Update(UpdateVerb),
     Frame(FrameVerb),
+    Outline(OutlineVerb),
     Control(ControlVerb),
     List(ListVerb),
     Menu(MenuVerb),
@@ -40,6 +41,9 @@ pub fn verb_of(word: &[u8]) -> Option<Verb>
     }
     if let Some(verb) = FrameVerb::from_word(word) {
         return Some(Verb::Frame(verb));
+    }
+    if let Some(verb) = OutlineVerb::from_word(word) {
+        return Some(Verb::Outline(verb));
     }
     if let Some(verb) = ControlVerb::from_word(word) {
         return Some(Verb::Control(verb));

@@ -45,6 +45,8 @@ caught_up_light n (standings.Updates w) before after (ts, told, informed) = noti
 caught_up_light n standings.Tracks before after (ts, told, informed) = notified_light n ts before after told
 caught_up_light n standings.Pulls before after (ts, told, informed) = notified_light n ts before after told
 caught_up_light n standings.TracksControl before after (ts, told, informed) = notified_light n ts before after told
+caught_up_light n standings.Drags before after (ts, told, informed) = notified_light n ts before after told
+caught_up_light n standings.Grows before after (ts, told, informed) = notified_light n ts before after told
 caught_up_light n standings.Changes before after (ts, told, informed) = notified_light n ts before after told
 
 or_parts : (a b : Bool) → (a || b) ≡ false → (a ≡ false) × (b ≡ false)

@@ -3,7 +3,7 @@ use Rattle.std.proofs.Common.{◌≡◌, inl, inr, ℕ, Bool, true, false, List,
 use Rattle.tb_geom.specs.declared.refusal.Refusal.{Refusal}
 use Rattle.def_iface.specs.News.{News, told_title, told_highlighted, told_tracked}
 use Rattle.desk_call.specs.declared.activity.Standing.{Standing}
-use Rattle.desk_call.specs.declared.activity.Standing.TheVariants.{Asks, Updates, Tracks, Pulls, TracksControl, Changes}
+use Rattle.desk_call.specs.declared.activity.Standing.TheVariants.{Asks, Updates, Tracks, Pulls, TracksControl, Drags, Grows, Changes}
 use Rattle.desk_call.specs.declared.frame.FrameCall.{FrameCall}
 use Rattle.desk_call.specs.declared.frame.FrameCall.TheVariants.{SetTitle, Hilite, TrackGoAway, StepGoAway, EndGoAway}
 use Rattle.desk_call.specs.declared.frame.FrameReply.{FrameReply}
@@ -33,6 +33,8 @@ module _ {A : Type 0} (f : FullDesk → A) (apart : (d : FullDesk) (ws : List Wi
   caught_up_keeps Tracks before after (ss, told, informed) = are_told_keep ss before after told
   caught_up_keeps Pulls before after (ss, told, informed) = are_told_keep ss before after told
   caught_up_keeps TracksControl before after (ss, told, informed) = are_told_keep ss before after told
+  caught_up_keeps Drags before after (ss, told, informed) = are_told_keep ss before after told
+  caught_up_keeps Grows before after (ss, told, informed) = are_told_keep ss before after told
   caught_up_keeps Changes before after (ss, told, informed) = are_told_keep ss before after told
 
   begun_keeps : (s : ℕ) (inside : Bool) (before after : DeskState) → IsBegunAt s inside before after → f after.windows.desk ≡ f before.windows.desk

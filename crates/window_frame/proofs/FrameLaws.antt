@@ -3,7 +3,7 @@ use Rattle.std.proofs.Common.{inl, inr, ℕ, Bool, true, false, List, [], ◌∷
 use Rattle.tb_geom.specs.declared.refusal.Refusal.{Refusal}
 use Rattle.def_iface.specs.News.{told_title, told_highlighted, told_tracked}
 use Rattle.desk_call.specs.declared.activity.Standing.{Standing}
-use Rattle.desk_call.specs.declared.activity.Standing.TheVariants.{Asks, Updates, Tracks, Pulls, TracksControl, Changes}
+use Rattle.desk_call.specs.declared.activity.Standing.TheVariants.{Asks, Updates, Tracks, Pulls, TracksControl, Drags, Grows, Changes}
 use Rattle.desk_call.specs.declared.frame.FrameCall.{FrameCall}
 use Rattle.desk_call.specs.declared.frame.FrameCall.TheVariants.{SetTitle, Hilite, TrackGoAway, StepGoAway, EndGoAway}
 use Rattle.desk_call.specs.declared.frame.FrameReply.{FrameReply}
@@ -46,6 +46,8 @@ caught_up_stays_right (Updates s) before after right (ss, told, informed) = are_
 caught_up_stays_right Tracks before after right (ss, told, informed) = are_told_stay_right ss before after right told
 caught_up_stays_right Pulls before after right (ss, told, informed) = are_told_stay_right ss before after right told
 caught_up_stays_right TracksControl before after right (ss, told, informed) = are_told_stay_right ss before after right told
+caught_up_stays_right Drags before after right (ss, told, informed) = are_told_stay_right ss before after right told
+caught_up_stays_right Grows before after right (ss, told, informed) = are_told_stay_right ss before after right told
 caught_up_stays_right Changes before after right (ss, told, informed) = are_told_stay_right ss before after right told
 
 begun_stays_right : (s : ℕ) (inside : Bool) (before after : DeskState) → IsRightState before.windows → IsBegunAt s inside before after → IsRightState after.windows

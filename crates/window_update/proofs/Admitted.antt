@@ -3,7 +3,7 @@ use Rattle.std.proofs.Common.{◌≡◌, ℕ, ◌==◌, Bool, true, false, if◌
 use Rattle.std.proofs.lemmas.Bool.{eqb-true}
 use Rattle.tb_geom.specs.declared.refusal.Refusal.TheVariants.{NotBusy}
 use Rattle.desk_call.specs.declared.activity.Activity.{Activity}
-use Rattle.desk_call.specs.declared.activity.Activity.TheVariants.{Idle, Updating, Tracking, Pulling, TrackingControl}
+use Rattle.desk_call.specs.declared.activity.Activity.TheVariants.{Idle, Updating, Tracking, Pulling, TrackingControl, Dragging, Growing}
 use Rattle.desk_call.specs.declared.activity.Standing.TheVariants.{Updates, Changes}
 use Rattle.desk_call.specs.declared.update.UpdateCall.{UpdateCall}
 use Rattle.desk_call.specs.Gates.{gate, update_standing}
@@ -18,6 +18,8 @@ changes_idle a call admitted changes = by_activity a (ap (gate a) (sym changes) 
     by_activity (Tracking s) e = absurd (cc)
     by_activity (Pulling m) e = absurd (cc)
     by_activity (TrackingControl c) e = absurd (cc)
+    by_activity (Dragging d) e = absurd (cc)
+    by_activity (Growing g) e = absurd (cc)
 
 -- so the update of no window is
 pub no_update : (a : Activity) → a ≡ Idle → (s : ℕ) → a ≡ Updating s → ⊥
@@ -37,3 +39,5 @@ updates_open a s call admitted updates = by_activity a (ap (gate a) (sym updates
     by_activity (Tracking t) e = absurd (cc)
     by_activity (Pulling m) e = absurd (cc)
     by_activity (TrackingControl c) e = absurd (cc)
+    by_activity (Dragging d) e = absurd (cc)
+    by_activity (Growing g) e = absurd (cc)

@@ -1,9 +1,12 @@
--- The line of what is answered about windows and their frames.
+-- The line of what is answered about windows, their frames and their outlines.
 use Rattle.std.specs.Prelude.{ℕ, List, ◌++◌, Option, None, Some, codes, decimal}
 use Rattle.std.specs.Fmt.{signed_decimal}
+use Rattle.def_iface.specs.declared.size.Size.{Size}
 use Rattle.desk_call.specs.Parts.{part_number}
 use Rattle.desk_call.specs.declared.frame.FrameReply.{FrameReply}
 use Rattle.desk_call.specs.declared.frame.FrameReply.TheVariants as frame_reply
+use Rattle.desk_call.specs.declared.outline.OutlineReply.{OutlineReply}
+use Rattle.desk_call.specs.declared.outline.OutlineReply.TheVariants as outline_reply
 use Rattle.desk_call.specs.declared.window.Found.{Found}
 use Rattle.desk_call.specs.declared.window.WindowInfo.{WindowInfo}
 use Rattle.desk_call.specs.declared.window.WindowReply.{WindowReply}
@@ -39,3 +42,13 @@ window_reply_text (window_reply.Region bytes) = region_text bytes.items
 abbrev pub frame_reply_text : FrameReply → List ℕ
 frame_reply_text frame_reply.Done = done_text
 frame_reply_text (frame_reply.Tracked inside) = number_text (flag_number inside)
+
+-- a width and a height
+abbrev pub size_text : Size → List ℕ
+size_text size = codes "ok " ++ (signed_decimal size.width ++ (codes " " ++ (signed_decimal size.height ++ codes "\n")))
+
+-- what was answered about an outline: 1 where something begins or the mouse is in the gray region, and else 0; or the size
+-- that a window is grown to
+abbrev pub outline_reply_text : OutlineReply → List ℕ
+outline_reply_text (outline_reply.Shown shown) = number_text (flag_number shown)
+outline_reply_text (outline_reply.Sized size) = size_text size

@@ -1,9 +1,10 @@
-//! The lines of what is answered about windows and their frames.
+//! The lines of what is answered about windows, their frames and their outlines.
 ghost use Rattle.std.specs.Prelude.{◌≡◌, false};
 ghost use Rattle.watched_io.specs.Writes.{Sends};
-ghost use Rattle.window_words.specs.WindowLines.{found_text, info_text, window_number, window_reply_text, frame_reply_text};
+ghost use Rattle.window_words.specs.WindowLines.{found_text, info_text, window_number, window_reply_text, frame_reply_text, size_text, outline_reply_text};
 
-use desk_call::{Found, FrameReply, WindowInfo, WindowReply};
+use def_iface::Size;
+use desk_call::{Found, FrameReply, OutlineReply, WindowInfo, WindowReply};
 use itoa::Buffer;
 use reply_lines::{flag_number, flag_text, write_done, write_number, write_region};
 use tb_geom::Refusal;
@@ -84,4 +85,32 @@ pub fn write_frame_reply<S: Sink>(sink: &mut S, reply: FrameReply) -> Result<(),
         FrameReply::Done => write_done(sink),
         FrameReply::Tracked(inside) => write_number(sink, flag_number(inside)),
     }
+}
+
+/// Writes the line of what was answered about an outline.
+pub fn write_outline_reply<S: Sink>(sink: &mut S, reply: OutlineReply) -> Result<(), Refusal>
+    requires { (S.output sink.old).has_failed ≡ false }
+    ensures { Sends (S.output sink.old) (S.output sink.new) result (outline_reply_text reply) }
+{
+    match reply {
+        OutlineReply::Shown(shown) => write_number(sink, flag_number(shown)),
+        OutlineReply::Sized(size) => write_size(sink, size),
+    }
+}
+
+/// Writes the line of a width and a height.
+fn write_size<S: Sink>(sink: &mut S, size: Size) -> Result<(), Refusal>
+    requires { (S.output sink.old).has_failed ≡ false }
+    ensures { Sends (S.output sink.old) (S.output sink.new) result (size_text size) }
+{
+    let mut width = Buffer::new();
+    let mut height = Buffer::new();
+    let pieces: [&[u8]; 5] = [
+        b"ok ",
+        width.format(size.width).as_bytes(),
+        b" ",
+        height.format(size.height).as_bytes(),
+        b"\n",
+    ];
+    send_all(sink, &pieces)
 }

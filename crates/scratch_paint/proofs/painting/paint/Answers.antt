@@ -1,3 +1,5 @@
+use Rattle.std.proofs.Common.{SFits, w32, rules}
+use Rattle.std.proofs.lemmas.Int.{to_z-of_z}
 use Rattle.def_iface.specs.contracts.taken.TakenDefined.TheImpl as taken
 use Rattle.def_iface.specs.contracts.taken_control.TakenControlDefinedControl.TheImpl as taken_control
 use Rattle.def_iface.specs.contracts.taken_list.TakenListDefinedList.TheImpl as taken_list
@@ -12,13 +14,14 @@ paint_base-requires-clause-kept g c = rw c.windows-windows.ensures (kept _ _ _ c
 pub paint_base-requires-clause-layers : goal.paint_base-requires-clause-layers
 paint_base-requires-clause-layers g c = rw (c.contents.ensures.0, c.contents.ensures.1) (c.requires.whole.managers.controls.settled, c.requires.whole.managers.lists.settled)
 
-pub paint_pulled-requires-clause-live : goal.paint_pulled-requires-clause-live
-paint_pulled-requires-clause-live g c = rw c.menus.ensures c.requires.whole.managers.menus.live
+pub paint_front-requires-clause-live : goal.paint_front-requires-clause-live
+paint_front-requires-clause-live g c = rw c.menus.ensures c.requires.whole.managers.menus.live
 
-pub paint_pulled-requires-clause-placed : goal.paint_pulled-requires-clause-placed
-paint_pulled-requires-clause-placed g c = rw c.activity.ensures c.requires.whole.managers.menus.placed
+pub paint_front-requires-clause-placed : goal.paint_front-requires-clause-placed
+paint_front-requires-clause-placed g c = rw c.activity.ensures c.requires.whole.managers.menus.placed
 
 pub returns : goal.returns
 returns g c =
-    screen_painted (taken.loan-value g.dyn-1).it (taken_menu.menu_loan-value g.dyn-3).it (taken_control.control_loan-value g.dyn-2).it (taken_list.list_loan-value g.dyn-4).it c.args.toolbox.now c.windows-windows.result.now c.menus.result.now c.activity.result _ _ c.paint_pulled.new.map
-    c.windows-windows.ensures c.menus.ensures c.activity.ensures c.parts.ensures.font (rw (c.contents.ensures.0, c.contents.ensures.1) at c.in_ok-image.ensures) c.paint_pulled.ensures
+    let fits : SFits w32 c.parts-parts.result.bar = search rules in
+    screen_painted (taken.loan-value g.dyn-1).it (taken_menu.menu_loan-value g.dyn-3).it (taken_control.control_loan-value g.dyn-2).it (taken_list.list_loan-value g.dyn-4).it c.args.toolbox.now c.windows-windows.result.now c.menus.result.now c.activity.result _ c.parts-parts.result.bar _ c.paint_front.new.map
+    c.windows-windows.ensures c.menus.ensures c.activity.ensures c.parts-parts.ensures.font c.parts-parts.ensures.bar (rw (c.contents.ensures.0, c.contents.ensures.1) at c.in_ok-image.ensures) (simp to_z-of_z at c.paint_front.ensures)

@@ -1,6 +1,5 @@
 use Rattle.std.proofs.Common.{rules, refl}
 use Rattle.desk_toolbox.proofs.Runs.{admitted_stays_right}
-use Rattle.desk_toolbox.proofs.Untouched.{call_untouched}
 use Rattle.desk_toolbox.proofs.toolbox.Toolbox.call.Goals as goal
 
 pub returns-in-Ok-clause-whole : goal.returns-in-Ok-clause-whole

@@ -192,3 +192,15 @@ returns-in-Ok-clause-economy g c = rw c.in-Window.is c.in-Ok.ensures.economy
 
 pub returns-in-Err-clause-economy : goal.returns-in-Err-clause-economy
 returns-in-Err-clause-economy g c = rw c.in-Window.is c.in-Err.ensures.economy
+
+pub returns-in-Ok-tell_outline-clause-whole : goal.returns-in-Ok-tell_outline-clause-whole
+returns-in-Ok-tell_outline-clause-whole g c = c.in-Ok-tell_outline.ensures.whole
+
+pub returns-in-Ok-tell_outline-clause-step : goal.returns-in-Ok-tell_outline-clause-step
+returns-in-Ok-tell_outline-clause-step g c = rw c.in-Outline.is (Ok c.in-Ok-tell_outline.reply, refl, c.in-Ok-tell_outline.ensures.step)
+
+pub returns-in-Err-tell_outline-clause-whole : goal.returns-in-Err-tell_outline-clause-whole
+returns-in-Err-tell_outline-clause-whole g c = c.in-Err-tell_outline.ensures.whole
+
+pub returns-in-Err-tell_outline-clause-step : goal.returns-in-Err-tell_outline-clause-step
+returns-in-Err-tell_outline-clause-step g c = rw c.in-Outline.is (Err c.in-Err-tell_outline.refusal, refl, c.in-Err-tell_outline.ensures.step)

@@ -1,0 +1,109 @@
+-- A call about an outline leaves every manager whole, and the end of a drag begins while nothing is open.
+use Rattle.std.proofs.Common.{◌≡◌, None, Some, List, [], Ok, Err, refl, sym, ap, subst}
+use Rattle.tb_geom.specs.declared.refusal.Refusal.{Refusal}
+use Rattle.tb_geom.specs.Points.{PixelSet}
+use Rattle.def_iface.specs.declared.part.Part.{Part}
+use Rattle.def_iface.specs.declared.taken.Taken.{Taken}
+use Rattle.def_iface.specs.declared.taken_menu.TakenMenu.{TakenMenu}
+use Rattle.def_iface.specs.MenuMeaning.{MenuLoan}
+use Rattle.def_iface.specs.Meaning.{Loan}
+use Rattle.def_iface.specs.Stocked.{SlotView}
+use Rattle.desk_call.specs.declared.activity.Activity.{Activity}
+use Rattle.desk_call.specs.declared.activity.Activity.TheVariants.{Idle, Updating, Tracking, Pulling, TrackingControl, Dragging, Growing}
+use Rattle.desk_call.specs.declared.activity.Standing.TheVariants.{Drags}
+use Rattle.desk_call.specs.declared.outline.OutlineCall.{OutlineCall}
+use Rattle.desk_call.specs.declared.outline.OutlineCall.TheVariants.{Drag, StepDrag, EndDrag, Grow, StepGrow, EndGrow}
+use Rattle.desk_call.specs.declared.window.MoveWindow.{MoveWindow}
+use Rattle.desk_call.specs.declared.window.WindowCall.TheVariants.{Move}
+use Rattle.desk_call.specs.declared.window.WindowReply.{WindowReply}
+use Rattle.desk_call.specs.declared.window.WindowReply.TheVariants.{Done}
+use Rattle.desk_call.specs.Gates.{gate, outline_standing}
+use Rattle.desk_call.specs.Outlines.{IsOutlineKept}
+use Rattle.window_mgr.specs.declared.manager.WindowManager.{WindowManager}
+use Rattle.window_mgr.specs.Effects.{IsUnchanged}
+use Rattle.window_mgr.specs.FullDesk.{FullDesk, FullState}
+use Rattle.window_outline.specs.Outlining.{let_go_of}
+use Rattle.window_update.specs.declared.updates.Updates.{Updates}
+use Rattle.window_update.specs.WholeUpdates.{IsWholeUpdates}
+use Rattle.window_mgr.specs.Records.{desk_of, state_of}
+use Rattle.window_paint.specs.White.{all_white}
+use Rattle.menu_mgr.specs.declared.menus.Menus.{Menus}
+use Rattle.menu_mgr.specs.MenuDesks.{MenuSlot}
+use Rattle.menu_mgr.specs.WholeMenus.{IsPlaced, IsWholeMenus, menus_of, menus_state}
+use Rattle.desk_toolbox.specs.Run.{IsWindowDone, IsWindowMade, put_down}
+use Rattle.desk_toolbox.specs.ToolboxStates.{IsToolboxUnchanged, ToolboxState}
+use Rattle.desk_toolbox.proofs.MenusBeside as beside
+use Rattle.desk_toolbox.proofs.OutlineStands.{IsOutlining}
+use Rattle.desk_toolbox.proofs.UpdatesBeside.{UpdatesNone}
+use Rattle.desk_toolbox.proofs.UpdatesBeside as updates
+
+-- what is kept of an outline is kept of what lies in front
+pub placed_is_kept : (a : Activity) → IsPlaced a → IsOutlineKept a
+placed_is_kept Idle placed = tt
+placed_is_kept (Updating s) placed = tt
+placed_is_kept (Tracking s) placed = tt
+placed_is_kept (Pulling m) placed = tt
+placed_is_kept (TrackingControl c) placed = tt
+placed_is_kept (Dragging d) placed = placed
+placed_is_kept (Growing g) placed = placed
+
+-- only the end of a drag moves a window
+pub drops_drag : (call : OutlineCall) (a : Activity) (desk : FullDesk) (drop : MoveWindow) → let_go_of call a desk ≡ Some drop → gate a (outline_standing call) ≡ None → gate a Drags ≡ None
+drops_drag (EndDrag p) a desk drop is may = may
+drops_drag (Drag d) a desk drop is may = absurd (cc)
+drops_drag (StepDrag p) a desk drop is may = absurd (cc)
+drops_drag (Grow g) a desk drop is may = absurd (cc)
+drops_drag (StepGrow p) a desk drop is may = absurd (cc)
+drops_drag (EndGrow p) a desk drop is may = absurd (cc)
+
+-- no update is open
+outlining_updates_none : (a : Activity) → IsOutlining a → UpdatesNone a
+outlining_updates_none Idle is = tt
+outlining_updates_none (Dragging d) is = tt
+outlining_updates_none (Growing g) is = tt
+outlining_updates_none (Updating s) is = absurd is
+outlining_updates_none (Tracking s) is = absurd is
+outlining_updates_none (TrackingControl c) is = absurd is
+outlining_updates_none (Pulling m) is = absurd is
+
+pub outlined_updates : {V : Type 0} {H : V → Type 0} (loan : Taken V H → Loan) (t : WindowManager V H) (u : Updates) (a b : Activity) → IsOutlining b → IsWholeUpdates loan a t u → IsWholeUpdates loan b t u
+outlined_updates loan t u a b is whole = updates.whole_unopened loan t t u [] [] a b (record { width = refl; height = refl }) (outlining_updates_none b is) whole
+
+pub unchanged : (s : FullState) → IsUnchanged s s
+unchanged s = record { desk = refl; stale = λ p on. refl; image = λ p on. refl }
+
+-- the same menus are listed
+pub same_menus : {W : Type 0} {K : W → Type 0} (menu_loan : TakenMenu W K → MenuLoan) (old new : Menus W K) (slots : List MenuSlot) → new.list ≡ old.list → menus_state menu_loan new slots ≡ menus_state menu_loan old slots
+same_menus menu_loan old new slots e = λ i. record { menus = menus_of menu_loan (e i).menus.items; highlighted = (e i).highlighted; stock = slots }
+
+-- ---- the window that was dragged is let go
+
+-- a move that is done answers that
+pub moved_done : (move : MoveWindow) (answer : WindowReply) (before after : ToolboxState) → IsWindowDone (Move move) answer before after → IsWindowMade (Move move) (Ok Done) before after
+moved_done move answer before after done = subst (λ r. IsWindowDone (Move move) r before after) done.answered.1.1.0 done
+
+-- a move that is refused, where what was open is again
+pub refused_drop : (move : MoveWindow) (e : Refusal) (before after : ToolboxState) → after.desk.activity ≡ before.desk.activity → IsWindowMade (Move move) (Err e) (put_down before) (put_down after) → IsToolboxUnchanged before after
+refused_drop move e before after activity (answered, rest) = record {
+  desk = record { windows = answered.1.1; activity = activity; begun = answered.0.begun };
+  controls = rest.controls;
+  lists = rest.lists;
+  menus = rest.menus;
+  events = rest.events;
+}
+
+-- where what the windows show did not change, they did not
+pub unshown : {V : Type 0} {H : V → Type 0} (loan : Taken V H → Loan) (t new : WindowManager V H) (before after : List SlotView) (old_shows shows : Part → PixelSet)
+    → IsUnchanged (record (state_of loan t before) { desk = record (desk_of loan t before) { shows = old_shows } }) (record (state_of loan new after) { desk = record (desk_of loan new after) { shows = shows } })
+    → IsUnchanged (state_of loan t before) (state_of loan new after)
+unshown loan t new before after old_shows shows same = record {
+  desk = ap (λ (d : FullDesk). record d { shows = all_white }) same.desk;
+  stale = same.stale;
+  image = same.image;
+}
+
+pub dropped_menus : {V : Type 0} {H : V → Type 0} (loan : Taken V H → Loan) {W : Type 0} {K : W → Type 0} (menu_loan : TakenMenu W K → MenuLoan) (t new : WindowManager V H) (m other : Menus W K) (kept left : List MenuSlot) (before after : List SlotView) (a : Activity)
+    → IsUnchanged (state_of loan t before) (state_of loan new after) → other ≡ m → left ≡ kept → IsWholeMenus menu_loan t a m kept → IsWholeMenus menu_loan new a other left
+dropped_menus loan menu_loan t new m other kept left before after a same menus slots whole =
+    subst (λ (x : List MenuSlot). IsWholeMenus menu_loan new a other x) (sym slots)
+    (subst (λ x. IsWholeMenus menu_loan new a x kept) (sym menus) (beside.whole_unchanged loan menu_loan t new m kept before after same a whole))

@@ -1,0 +1,80 @@
+//! Calls about the outline of a window that is dragged or grown.
+ghost use Rattle.std.specs.Prelude.{◌≡◌, None};
+ghost use Rattle.def_iface.specs.Stocks.{AllSlots};
+ghost use Rattle.desk_call.specs.declared.activity.Standing.TheVariants as Standing;
+ghost use Rattle.desk_call.specs.Gates.{gate, outline_standing};
+ghost use Rattle.desk_toolbox.specs.Run.{IsLetGo, IsOutlineMoved, IsOutlineTold};
+ghost use Rattle.desk_toolbox.specs.WholeToolbox.{AreWholeManagers, IsKeptToolbox, IsWholeToolbox, toolbox_state};
+
+use crate::{Activity, OutlineCall, OutlineReply, Toolbox, WindowCall};
+use def_iface::{
+    Defined, DefinedControl, DefinedList, DefinedMenu, Stock, StockedAll, Taken, TakenControl,
+    TakenList, TakenMenu,
+};
+use desk_call::MoveWindow;
+use tb_geom::Refusal;
+use window_outline::{let_go, outlined_by};
+
+impl Toolbox {
+    /// Answers a call about an outline. Where it ends a drag in the gray region, the window is moved.
+    pub(crate) fn tell_outline(
+        &mut self,
+        call: &OutlineCall,
+        stock: &mut Stock,
+    ) -> Result<OutlineReply, Refusal>
+        requires whole { IsWholeToolbox ⟦<Taken as Defined>⟧.loan ⟦<TakenMenu as DefinedMenu>⟧.menu_loan ⟦<TakenControl as DefinedControl>⟧.control_loan ⟦<TakenList as DefinedList>⟧.list_loan self.old (⟦<Stock as StockedAll>⟧.all_slots stock.old) }
+        requires admitted { gate self.old.activity (outline_standing call.now) ≡ None }
+        ensures whole { AreWholeManagers ⟦<Taken as Defined>⟧.loan ⟦<TakenMenu as DefinedMenu>⟧.menu_loan ⟦<TakenControl as DefinedControl>⟧.control_loan ⟦<TakenList as DefinedList>⟧.list_loan self.new (⟦<Stock as StockedAll>⟧.all_slots stock.new) }
+        ensures step { IsOutlineTold call.now result
+            (toolbox_state ⟦<Taken as Defined>⟧.loan ⟦<TakenMenu as DefinedMenu>⟧.menu_loan ⟦<TakenControl as DefinedControl>⟧.control_loan ⟦<TakenList as DefinedList>⟧.list_loan self.old (⟦<Stock as StockedAll>⟧.all_slots stock.old))
+            (toolbox_state ⟦<Taken as Defined>⟧.loan ⟦<TakenMenu as DefinedMenu>⟧.menu_loan ⟦<TakenControl as DefinedControl>⟧.control_loan ⟦<TakenList as DefinedList>⟧.list_loan self.new (⟦<Stock as StockedAll>⟧.all_slots stock.new)) }
+    {
+        match let_go(&self.windows, self.activity, call) {
+            Some(drop) => self.drop_window(drop, stock),
+            None => self.outline(call),
+        }
+    }
+
+    /// Answers a call about an outline that moves no window, and shows the outline that there is then.
+    fn outline(&mut self, call: &OutlineCall) -> Result<OutlineReply, Refusal>
+        requires kept { IsKeptToolbox ⟦<Taken as Defined>⟧.loan ⟦<TakenMenu as DefinedMenu>⟧.menu_loan ⟦<TakenControl as DefinedControl>⟧.control_loan ⟦<TakenList as DefinedList>⟧.list_loan self.old }
+        requires admitted { gate self.old.activity (outline_standing call.now) ≡ None }
+        ensures whole { (stocks : AllSlots)
+            → IsWholeToolbox ⟦<Taken as Defined>⟧.loan ⟦<TakenMenu as DefinedMenu>⟧.menu_loan ⟦<TakenControl as DefinedControl>⟧.control_loan ⟦<TakenList as DefinedList>⟧.list_loan self.old stocks
+            → AreWholeManagers ⟦<Taken as Defined>⟧.loan ⟦<TakenMenu as DefinedMenu>⟧.menu_loan ⟦<TakenControl as DefinedControl>⟧.control_loan ⟦<TakenList as DefinedList>⟧.list_loan self.new stocks }
+        ensures step { (stocks : AllSlots)
+            → IsWholeToolbox ⟦<Taken as Defined>⟧.loan ⟦<TakenMenu as DefinedMenu>⟧.menu_loan ⟦<TakenControl as DefinedControl>⟧.control_loan ⟦<TakenList as DefinedList>⟧.list_loan self.old stocks
+            → IsOutlineMoved call.now result
+            (toolbox_state ⟦<Taken as Defined>⟧.loan ⟦<TakenMenu as DefinedMenu>⟧.menu_loan ⟦<TakenControl as DefinedControl>⟧.control_loan ⟦<TakenList as DefinedList>⟧.list_loan self.old stocks)
+            (toolbox_state ⟦<Taken as Defined>⟧.loan ⟦<TakenMenu as DefinedMenu>⟧.menu_loan ⟦<TakenControl as DefinedControl>⟧.control_loan ⟦<TakenList as DefinedList>⟧.list_loan self.new stocks) }
+    {
+        match outlined_by(&self.windows, self.activity, call) {
+            Ok(next) => {
+                self.menus
+                    .show_outline(&self.windows, self.activity, next.activity);
+                self.activity = next.activity;
+                Ok(next.reply)
+            }
+            Err(refusal) => Err(refusal),
+        }
+    }
+
+    /// Moves the window that was dragged, and selects it, and nothing is open then; where the move is refused, all stays.
+    fn drop_window(&mut self, drop: MoveWindow, stock: &mut Stock) -> Result<OutlineReply, Refusal>
+        requires whole { IsWholeToolbox ⟦<Taken as Defined>⟧.loan ⟦<TakenMenu as DefinedMenu>⟧.menu_loan ⟦<TakenControl as DefinedControl>⟧.control_loan ⟦<TakenList as DefinedList>⟧.list_loan self.old (⟦<Stock as StockedAll>⟧.all_slots stock.old) }
+        requires dragged { gate self.old.activity Standing.Drags ≡ None }
+        ensures whole { AreWholeManagers ⟦<Taken as Defined>⟧.loan ⟦<TakenMenu as DefinedMenu>⟧.menu_loan ⟦<TakenControl as DefinedControl>⟧.control_loan ⟦<TakenList as DefinedList>⟧.list_loan self.new (⟦<Stock as StockedAll>⟧.all_slots stock.new) }
+        ensures step { IsLetGo drop result
+            (toolbox_state ⟦<Taken as Defined>⟧.loan ⟦<TakenMenu as DefinedMenu>⟧.menu_loan ⟦<TakenControl as DefinedControl>⟧.control_loan ⟦<TakenList as DefinedList>⟧.list_loan self.old (⟦<Stock as StockedAll>⟧.all_slots stock.old))
+            (toolbox_state ⟦<Taken as Defined>⟧.loan ⟦<TakenMenu as DefinedMenu>⟧.menu_loan ⟦<TakenControl as DefinedControl>⟧.control_loan ⟦<TakenList as DefinedList>⟧.list_loan self.new (⟦<Stock as StockedAll>⟧.all_slots stock.new)) }
+    {
+        let open = self.activity;
+        self.activity = Activity::Idle;
+        let refusal = match self.tell_window(&WindowCall::Move(drop), stock) {
+            Ok(_) => return Ok(OutlineReply::Shown(true)),
+            Err(refusal) => refusal,
+        };
+        self.activity = open;
+        Err(refusal)
+    }
+}
