@@ -61,7 +61,7 @@ still before after desk controls lists was = record {
 
 -- a window's layers begin with its controls'
 abbrev pub joined_to : List ControlRecord → Bond
-joined_to cs n ls = AreLayersOf (controls_of n cs) ls
+joined_to cs n floating ls = AreLayersOf (controls_of n cs) ls
 
 pub whole_on : (s : ControlsState) (ws vs : List WindowRecord) → ((x : ℕ) → copies x ws ≤ copies x vs) → Every (joined_to s.controls) vs → AreWholeControls ws s → AreWholeControls vs s
 whole_on s ws vs more every whole = record {
@@ -80,7 +80,7 @@ joined_every s ws whole = all_every (joined_to s.controls) ws whole.joined
 
 -- so are whole lists
 abbrev pub listed_to : List KeptList → Bond
-listed_to ls n layers = AreListLayers (lists_of n ls) layers
+listed_to ls n floating layers = AreListLayers (lists_of n ls) layers
 
 pub lists_on : (s : ListsState) (ws vs : List WindowRecord) → ((x : ℕ) → copies x ws ≤ copies x vs) → Every (listed_to s.lists) vs → AreWholeLists ws s → AreWholeLists vs s
 lists_on s ws vs more every whole = record {
@@ -128,12 +128,12 @@ none_of_missing n (c ∷ cs) ws there none =
 -- ---- definitions of windows that are told
 
 module _ (B : Bond) where
-  told_holds : (s : ℕ) (news : WindowRecord → News → News) (kept : WindowRecord → WindowRecord) → ((w : WindowRecord) → B w.serial w.layers → B (kept w).serial (kept w).layers) → (before after : FullState) → IsFrameNotified s news kept before after → Every B before.desk.windows → Every B after.desk.windows
+  told_holds : (s : ℕ) (news : WindowRecord → News → News) (kept : WindowRecord → WindowRecord) → ((w : WindowRecord) → B w.serial w.floating w.layers → B (kept w).serial (kept w).floating (kept w).layers) → (before after : FullState) → IsFrameNotified s news kept before after → Every B before.desk.windows → Every B after.desk.windows
   told_holds s news kept same before after told h =
       subst (λ (d : FullDesk). Every B d.windows) (sym told.desk)
       (every_changed B s (λ w. record (kept w) { definition = told.definition }) same before.desk.windows h)
 
-  heard_holds : (flag : Flag) (w : WindowRecord) → B w.serial w.layers → B (with_heard flag w).serial (with_heard flag w).layers
+  heard_holds : (flag : Flag) (w : WindowRecord) → B w.serial w.floating w.layers → B (with_heard flag w).serial (with_heard flag w).floating (with_heard flag w).layers
   heard_holds Highlighting w h = h
   heard_holds Zooming w h = h
 

@@ -49,6 +49,7 @@ pub mod FindLaws
 pub mod FindWindowLaws
 pub mod LeftByMenus
 pub mod OutlineLaws
+pub mod Classed
 pub mod MenusBeside
 pub mod UpdatesBeside
 pub mod OpenUpdates

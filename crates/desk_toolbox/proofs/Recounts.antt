@@ -9,18 +9,19 @@ use Rattle.desk_call.specs.declared.window.WindowCall.{WindowCall}
 use Rattle.desk_call.specs.declared.window.WindowCall.TheVariants as asks
 use Rattle.desk_call.specs.declared.window.WindowReply.{WindowReply}
 use Rattle.window_list.specs.Lists.{serial_after}
-use Rattle.vis_update.specs.Records.{WindowRecord}
+use Rattle.window_list.specs.Classes.{back_place, front_place}
+use Rattle.vis_update.specs.Records.{WindowRecord, is_floating}
 use Rattle.vis_update.specs.Touches.{is_this}
 use Rattle.window_mgr.specs.declared.arrange.Activates.{Activates}
 use Rattle.window_mgr.specs.declared.arrange.Activates.TheVariants.{Nothing, Itself, ItselfIfFront, FrontInItsPlace, NextInItsPlace}
-use Rattle.window_mgr.specs.Arrange.{Arrangement, with_highlighting, activated, active_after, activation_of, if_active, next_active, if_visible, is_visible, with_shown, with_placement, at_place, without, in_front, brought, changed, placed}
-use Rattle.window_mgr.specs.Effects.{Effect, IsEffect, IsNewWindow, IsArrangement, IsWindowDisposed, effect_of, places, with_drawn, with_new_picture, with_scrolled}
+use Rattle.window_mgr.specs.Arrange.{Arrangement, with_highlighting, activated, active_after, activation_of, if_active, next_active, if_leading, is_visible, with_shown, with_placement, at_place, without, in_front, brought, changed, placed}
+use Rattle.window_mgr.specs.Effects.{Effect, IsEffect, IsNewWindow, IsArrangement, IsWindowDisposed, begins_active, effect_of, new_record, places, with_drawn, with_new_picture, with_scrolled}
 use Rattle.window_mgr.specs.Effects.Effect.{Makes, Disposes, Draws, Pictures, Scrolls, Arranges, Places, Tells, Describes}
 use Rattle.window_mgr.specs.Finding.{record_with, front_of}
 use Rattle.window_mgr.specs.FullDesk.{FullDesk, FullState}
 use Rattle.window_mgr.specs.Placings.{Placing, sized, zoomed}
 use Rattle.window_mgr.specs.Refused.{is_missing}
-use Rattle.desk_toolbox.proofs.Totals.{Weight, weight_of, total, counting, copies, Present, total_map, total_changed, total_without, total_brought, total_sent, total_lit, total_activated, present_when, found_counts, front_is_present}
+use Rattle.desk_toolbox.proofs.Totals.{alone, total_insert, Weight, weight_of, total, counting, copies, Present, total_map, total_changed, total_without, total_brought, total_sent, total_lit, total_activated, present_when, found_counts, front_is_present}
 
 -- the windows count as much, and the next number is the same
 pub record IsKept (before after : FullDesk) : Type 0 where
@@ -51,7 +52,7 @@ IsReordered (Arranges a) desk = (g : Weight) → total g a.windows ≡ total g d
 IsReordered _ desk = Unit {0}
 
 abbrev pub Counts : Effect → FullDesk → FullDesk → Type 0
-Counts (Makes w) before after = (n : ℕ) × IsAdded n before after
+Counts (Makes floating w) before after = (n : ℕ) × IsAdded n before after
 Counts (Disposes s) before after = IsRemoved s before after
 Counts _ before after = IsKept before after
 
@@ -68,16 +69,20 @@ serial_found s w (v ∷ vs) found = by_this (v.serial == s) refl found (serial_f
     by_this true same found rest = let its : v ≡ w = cc in sym (ap (λ (x : WindowRecord). x.serial) its) ∙ eqb-true v.serial s same
     by_this false same found rest = rest found
 
-made_counts : (w : NewWindow) (n : ℕ) (before after : FullState) → IsNewWindow w n before after → IsAdded n before.desk after.desk
-made_counts w n before after new = record {
+made_counts : (floating : Bool) (w : NewWindow) (n : ℕ) (before after : FullState) → IsNewWindow floating w n before after → IsAdded n before.desk after.desk
+made_counts floating w n before after new = record {
   serials = new.serials;
   next = ap (λ (d : FullDesk). d.next) new.desk;
-  all = λ g. ap (λ (d : FullDesk). total g d.windows) new.desk ∙ ap (λ k. g n false + k) (by_shown g w.shown);
+  all = λ g.
+      let rest = if begins_active floating w then map (with_highlighting false before.desk.active) before.desk.windows else before.desk.windows in
+      ap (λ (d : FullDesk). total g d.windows) new.desk
+      ∙ total_insert g (front_place is_floating floating rest) (new_record floating w n new.loan.slot new.begun) rest
+      ∙ ap (λ k. g n false + k) (by_active g (begins_active floating w));
 }
   where
-    by_shown : (g : Weight) (b : Bool) → total g (if b then map (with_highlighting false before.desk.active) before.desk.windows else before.desk.windows) ≡ total g before.desk.windows
-    by_shown g true = total_map g (with_highlighting false before.desk.active) (λ v. total_lit g false before.desk.active v) before.desk.windows
-    by_shown g false = refl
+    by_active : (g : Weight) (b : Bool) → total g (if b then map (with_highlighting false before.desk.active) before.desk.windows else before.desk.windows) ≡ total g before.desk.windows
+    by_active g true = total_map g (with_highlighting false before.desk.active) (λ v. total_lit g false before.desk.active v) before.desk.windows
+    by_active g false = refl
 
 disposed_counts : (s : ℕ) (before after : FullState) → IsWindowDisposed s before after → IsRemoved s before.desk after.desk
 disposed_counts s before after gone = record {
@@ -88,7 +93,7 @@ disposed_counts s before after gone = record {
       let rest = without s before.desk.windows in
       let activation = activation_of FrontInItsPlace s before.desk.active (front_of rest) in
       let left : total g after.desk.windows ≡ total g rest = ap (λ (d : FullDesk). total g d.windows) gone.desk ∙ total_activated g activation before.desk.active rest in
-      let its : total g (in_front (record_with s before.desk.windows) []) ≡ g gone.window.serial gone.window.heard.tracked + 0 = ap (λ o. total g (in_front o [])) gone.found in
+      let its : total g (alone (record_with s before.desk.windows)) ≡ g gone.window.serial gone.window.heard.tracked + 0 = ap (λ o. total g (alone o)) gone.found in
       let serial : g gone.window.serial gone.window.heard.tracked ≡ g s gone.window.heard.tracked = ap (λ n. g n gone.window.heard.tracked) (serial_found s gone.window before.desk.windows gone.found) in
       let all = total_without g s before.desk.windows in
       omega arith;
@@ -102,7 +107,7 @@ arranged_counts a before after reordered arranged = record {
 }
 
 effect_counts : (effect : Effect) (answer : WindowReply) (before after : FullState) → IsReordered effect before.desk → IsEffect effect answer before after → Counts effect before.desk after.desk
-effect_counts (Makes w) answer before after all (n, is, new) = (n, made_counts w n before after new)
+effect_counts (Makes floating w) answer before after all (n, is, new) = (n, made_counts floating w n before after new)
 effect_counts (Draws d) answer before after all (is, drawn) = record {
   next = ap (λ (x : FullDesk). x.next) drawn.desk;
   all = λ g. ap (λ (x : FullDesk). total g x.windows) drawn.desk
@@ -219,14 +224,14 @@ disposed_active s before after gone was = subst (λ o. Present o after.desk.wind
     by_active true e = present_kept (front_of (without s before.desk.windows)) (without s before.desk.windows) after.desk.windows left (front_is_present (without s before.desk.windows))
     by_active false e = others_stay s before.desk.active before.desk after.desk (disposed_counts s before after gone) e was
 
-made_active : (w : NewWindow) (n : ℕ) (before after : FullState) → IsNewWindow w n before after → Present before.desk.active before.desk.windows → Present after.desk.active after.desk.windows
-made_active w n before after new was = subst (λ o. Present o after.desk.windows) (sym (ap (λ (d : FullDesk). d.active) new.desk)) (by_shown w.shown)
+made_active : (floating : Bool) (w : NewWindow) (n : ℕ) (before after : FullState) → IsNewWindow floating w n before after → Present before.desk.active before.desk.windows → Present after.desk.active after.desk.windows
+made_active floating w n before after new was = subst (λ o. Present o after.desk.windows) (sym (ap (λ (d : FullDesk). d.active) new.desk)) (by_active (begins_active floating w))
   where
-    by_shown : (b : Bool) → Present (if b then Some n else before.desk.active) after.desk.windows
-    by_shown true =
-        let all : copies n after.desk.windows ≡ (if n == n then 1 else 0) + copies n before.desk.windows = (made_counts w n before after new).all (counting n) in
+    by_active : (b : Bool) → Present (if b then Some n else before.desk.active) after.desk.windows
+    by_active true =
+        let all : copies n after.desk.windows ≡ (if n == n then 1 else 0) + copies n before.desk.windows = (made_counts floating w n before after new).all (counting n) in
         grind (arith, nat_tests)
-    by_shown false = present_when before.desk.active before.desk.windows after.desk.windows (λ s. let more = (made_counts w n before after new).all (counting s) in omega arith) was
+    by_active false = present_when before.desk.active before.desk.windows after.desk.windows (λ s. let more = (made_counts floating w n before after new).all (counting s) in omega arith) was
 
 -- which window is active did not change, nor which windows there are
 pub same_active : (before after : FullState) → after.desk.active ≡ before.desk.active → IsKept before.desk after.desk → Present before.desk.active before.desk.windows → Present after.desk.active after.desk.windows
@@ -234,7 +239,7 @@ same_active before after same kept was =
     subst (λ o. Present o after.desk.windows) (sym same) (present_kept before.desk.active before.desk.windows after.desk.windows kept.all was)
 
 effect_keeps_active : (effect : Effect) (answer : WindowReply) (before after : FullState) → IsReordered effect before.desk → IsAimed effect → IsEffect effect answer before after → Present before.desk.active before.desk.windows → Present after.desk.active after.desk.windows
-effect_keeps_active (Makes w) answer before after all aim (n, is, new) was = made_active w n before after new was
+effect_keeps_active (Makes floating w) answer before after all aim (n, is, new) was = made_active floating w n before after new was
 effect_keeps_active (Draws d) answer before after all aim (is, drawn) was = same_active before after (ap (λ (x : FullDesk). x.active) drawn.desk) (effect_counts (Draws d) answer before after tt (is, drawn)) was
 effect_keeps_active (Pictures n) answer before after all aim (is, done) was = same_active before after (ap (λ (x : FullDesk). x.active) done.desk) (effect_counts (Pictures n) answer before after tt (is, done)) was
 effect_keeps_active (Scrolls m) answer before after all aim (is, done) was = same_active before after (ap (λ (x : FullDesk). x.active) done.desk) (effect_counts (Scrolls m) answer before after tt (is, done)) was
@@ -246,17 +251,17 @@ effect_keeps_active (Places p) answer before after all aim (is, change) was =
 effect_keeps_active (Tells r) answer before after all aim (is, same) was = subst (λ (d : FullDesk). Present d.active d.windows) (sym same.desk) was
 effect_keeps_active (Describes region) answer before after all aim (is, same) was = subst (λ (d : FullDesk). Present d.active d.windows) (sym same.desk) was
 
-aimed : (s : ℕ) (ws : List WindowRecord) (o : Option WindowRecord) → record_with s ws ≡ o → if_visible o Itself ≡ Itself → is_missing s ws ≡ false
+aimed : (s : ℕ) (ws : List WindowRecord) (o : Option WindowRecord) → record_with s ws ≡ o → if_leading o ≡ Itself → is_missing s ws ≡ false
 aimed s ws None found e = absurd (cc)
 aimed s ws (Some w) found e = ap is_none found
 
-brought_aimed : (s : ℕ) (ws vs : List WindowRecord) → ((g : Weight) → total g vs ≡ total g ws) → if_visible (record_with s ws) Itself ≡ Itself → 1 ≤ copies s vs
+brought_aimed : (s : ℕ) (ws vs : List WindowRecord) → ((g : Weight) → total g vs ≡ total g ws) → if_leading (record_with s ws) ≡ Itself → 1 ≤ copies s vs
 brought_aimed s ws vs all e =
     let some = found_counts s ws (aimed s ws (record_with s ws) refl e) in
     let same = all (counting s) in
     omega arith
 
-moved_aimed : (m : MoveWindow) (ws : List WindowRecord) (b : Bool) → (if b then if_visible (record_with m.window ws) Itself else Nothing) ≡ Itself → 1 ≤ copies m.window (if b then brought m.window (changed m.window (at_place m.place) ws) else changed m.window (at_place m.place) ws)
+moved_aimed : (m : MoveWindow) (ws : List WindowRecord) (b : Bool) → (if b then if_leading (record_with m.window ws) else Nothing) ≡ Itself → 1 ≤ copies m.window (if b then brought m.window (changed m.window (at_place m.place) ws) else changed m.window (at_place m.place) ws)
 moved_aimed m ws true e = brought_aimed m.window ws (brought m.window (changed m.window (at_place m.place) ws)) (λ g. moved_reordered m ws g true) e
 moved_aimed m ws false e = absurd (cc)
 

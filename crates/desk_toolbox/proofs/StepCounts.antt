@@ -158,6 +158,7 @@ placed_recounts (Some p) before after kept = kept_is_same before after kept
 
 call_recounts : (call : WindowCall) (desk before after : FullDesk) → Counts (effect_of call desk) before after → Recount (to_dispose call) before after
 call_recounts (asks.New w) desk before after (n, added) = inr (n, record { serials = added.serials; next = added.next; count = λ s. added.all (counting s) })
+call_recounts (asks.NewFloating w) desk before after (n, added) = inr (n, record { serials = added.serials; next = added.next; count = λ s. added.all (counting s) })
 call_recounts (asks.Dispose s) desk before after removed = record { found = removed.found; next = removed.next; count = λ x. removed.all (counting x) }
 call_recounts (asks.Size z) desk before after kept = placed_recounts (sized z (record_with z.window desk.windows)) before after kept
 call_recounts (asks.Zoom z) desk before after kept = placed_recounts (zoomed z (record_with z.window desk.windows) desk) before after kept

@@ -1,16 +1,18 @@
 -- Windows counted by their serials, and by whether their definitions heard that the go-away box is tracked.
-use Rattle.std.proofs.Common.{◌≡◌, ℕ, ◌+◌, ◌≤◌, ◌==◌, Bool, true, false, if◌then◌else◌, List, [], ◌∷◌, map, Option, None, Some, refl, sym, ◌∙◌, subst, arith}
+use Rattle.std.proofs.Common.{◌≡◌, ℕ, ◌+◌, ◌≤◌, ◌==◌, Bool, true, false, if◌then◌else◌, List, [], ◌∷◌, map, Option, None, Some, refl, sym, ◌∙◌, subst, arith, zero, suc}
 use Rattle.std.proofs.lemmas.Bool.{eqb-true}
 use Rattle.std.proofs.lemmas.Bool.Decides.{nat_tests}
 use Rattle.std.specs.Prelude.{is_none}
 use Rattle.def_iface.specs.Desk as layers
 use Rattle.desk_call.specs.declared.window.SendBehind.{SendBehind}
-use Rattle.vis_update.specs.Records.{WindowRecord, Look, layered_window}
+use Rattle.window_list.specs.Classes.{back_place, front_place}
+use Rattle.std.specs.List.{insert}
+use Rattle.vis_update.specs.Records.{WindowRecord, Look, layered_window, is_floating}
 use Rattle.vis_update.specs.Touches.{is_this}
 use Rattle.window_mgr.specs.declared.arrange.Activation.{Activation}
 use Rattle.window_mgr.specs.declared.arrange.Activation.TheVariants.{Stays, Becomes}
-use Rattle.window_mgr.specs.Arrange.{with_highlighting, activated, without, put_behind, in_front, behind_this, brought, sent, changed}
-use Rattle.window_mgr.specs.Finding.{record_with, front_of}
+use Rattle.window_mgr.specs.Arrange.{with_highlighting, activated, without, put_behind, put_next, in_front, behind_this, brought, sent, changed}
+use Rattle.window_mgr.specs.Finding.{record_with, front_of, is_leading}
 use Rattle.window_mgr.specs.FullDesk.{HaveSerials}
 use Rattle.window_mgr.specs.Refused.{is_missing}
 use Rattle.window_mgr.proofs.DimLemmas.{either}
@@ -25,6 +27,11 @@ weight_of g w = g w.serial w.heard.tracked
 abbrev pub total : Weight → List WindowRecord → ℕ
 total g [] = 0
 total g (w ∷ ws) = weight_of g w + total g ws
+
+-- one window, if it is there
+abbrev pub alone : Option WindowRecord → List WindowRecord
+alone None = []
+alone (Some w) = w ∷ []
 
 -- ---- what leaves the total as it is
 
@@ -41,30 +48,39 @@ module _ (g : Weight) where
       by_this true e rest = λ i. same w (eqb-true w.serial s e) i + total g ws
       by_this false e rest = λ i. weight_of g w + rest i
 
-  pub total_without : (s : ℕ) (ws : List WindowRecord) → total g ws ≡ total g (in_front (record_with s ws) []) + total g (without s ws)
+  pub total_without : (s : ℕ) (ws : List WindowRecord) → total g ws ≡ total g (alone (record_with s ws)) + total g (without s ws)
   total_without s [] = refl
   total_without s (w ∷ ws) = by_this (w.serial == s) (total_without s ws)
     where
-      by_this : (b : Bool) → total g ws ≡ total g (in_front (record_with s ws) []) + total g (without s ws) → weight_of g w + total g ws ≡ total g (in_front (if b then Some w else record_with s ws) []) + total g (if b then ws else w ∷ without s ws)
+      by_this : (b : Bool) → total g ws ≡ total g (alone (record_with s ws)) + total g (without s ws) → weight_of g w + total g ws ≡ total g (alone (if b then Some w else record_with s ws)) + total g (if b then ws else w ∷ without s ws)
       by_this true rest = omega arith
       by_this false rest = omega arith
 
-  total_in_front : (o : Option WindowRecord) (ws : List WindowRecord) → total g (in_front o ws) ≡ total g (in_front o []) + total g ws
+  pub total_insert : (k : ℕ) (w : WindowRecord) (ws : List WindowRecord) → total g (insert ws k w) ≡ weight_of g w + total g ws
+  total_insert zero w ws = refl
+  total_insert (suc k) w [] = refl
+  total_insert (suc k) w (v ∷ vs) = let rest = total_insert k w vs in omega arith
+
+  total_in_front : (o : Option WindowRecord) (ws : List WindowRecord) → total g (in_front o ws) ≡ total g (alone o) + total g ws
   total_in_front None ws = omega arith
-  total_in_front (Some w) ws = omega arith
+  total_in_front (Some w) ws = let all = total_insert (front_place is_floating (is_floating w) ws) w ws in omega arith
 
   pub total_brought : (s : ℕ) (ws : List WindowRecord) → total g (brought s ws) ≡ total g ws
   total_brought s ws = total_in_front (record_with s ws) (without s ws) ∙ sym (total_without s ws)
 
-  total_put : (x : Option ℕ) (w : WindowRecord) (ws : List WindowRecord) → total g (put_behind x w ws) ≡ weight_of g w + total g ws
-  total_put x w [] = refl
-  total_put x w (v ∷ vs) = by_this (is_this x v.serial) (total_put x w vs)
+  total_next : (x : ℕ) (w : WindowRecord) (ws : List WindowRecord) → total g (put_next x w ws) ≡ weight_of g w + total g ws
+  total_next x w [] = refl
+  total_next x w (v ∷ vs) = by_this (v.serial == x) (total_next x w vs)
     where
-      by_this : (b : Bool) → total g (put_behind x w vs) ≡ weight_of g w + total g vs → total g (if b then v ∷ w ∷ vs else v ∷ put_behind x w vs) ≡ weight_of g w + (weight_of g v + total g vs)
+      by_this : (b : Bool) → total g (put_next x w vs) ≡ weight_of g w + total g vs → total g (if b then v ∷ w ∷ vs else v ∷ put_next x w vs) ≡ weight_of g w + (weight_of g v + total g vs)
       by_this true rest = omega arith
       by_this false rest = omega arith
 
-  total_behind : (x : Option ℕ) (o : Option WindowRecord) (ws : List WindowRecord) → total g (behind_this x o ws) ≡ total g (in_front o []) + total g ws
+  total_put : (x : Option ℕ) (w : WindowRecord) (ws : List WindowRecord) → total g (put_behind x w ws) ≡ weight_of g w + total g ws
+  total_put None w ws = total_insert (back_place is_floating (is_floating w) ws) w ws
+  total_put (Some x) w ws = total_next x w ws
+
+  total_behind : (x : Option ℕ) (o : Option WindowRecord) (ws : List WindowRecord) → total g (behind_this x o ws) ≡ total g (alone o) + total g ws
   total_behind x None ws = omega arith
   total_behind x (Some w) ws = total_put x w ws ∙ omega arith
 
@@ -123,7 +139,7 @@ present_when (Some s) ws vs more h = let m = more s in omega arith
 
 pub front_is_present : (ws : List WindowRecord) → Present (front_of ws) ws
 front_is_present [] = tt
-front_is_present (w ∷ ws) = by_shown w.shown (front_is_present ws)
+front_is_present (w ∷ ws) = by_leading (is_leading w) (front_is_present ws)
   where
     behind : (o : Option ℕ) → Present o ws → Present o (w ∷ ws)
     behind None h = tt
@@ -132,9 +148,9 @@ front_is_present (w ∷ ws) = by_shown w.shown (front_is_present ws)
     itself : 1 ≤ copies w.serial (w ∷ ws)
     itself = grind (arith, nat_tests)
 
-    by_shown : (b : Bool) → Present (front_of ws) ws → Present (if b then Some w.serial else front_of ws) (w ∷ ws)
-    by_shown true rest = itself
-    by_shown false rest = behind (front_of ws) rest
+    by_leading : (b : Bool) → Present (front_of ws) ws → Present (if b then Some w.serial else front_of ws) (w ∷ ws)
+    by_leading true rest = itself
+    by_leading false rest = behind (front_of ws) rest
 
 -- a serial that no window has
 free_counts : (look : Look) (s : ℕ) (ws : List WindowRecord) → layers.window_of s (map (layered_window look) ws) ≡ None → copies s ws ≡ 0

@@ -13,7 +13,7 @@ ghost use Rattle.def_iface.specs.Scratch.{scratch};
 ghost use Rattle.vis_update.specs.Records.{WindowRecord};
 ghost use Rattle.window_mgr.specs.FullDesk.{FullDesk, IsRightState, layered_desk};
 ghost use Rattle.window_mgr.specs.Effects.{IsUnchanged};
-ghost use Rattle.window_mgr.specs.Finding.{front_of};
+ghost use Rattle.window_mgr.specs.Finding.{front_of, is_leading};
 ghost use Rattle.bit_map.specs.Modes.{xor_bit};
 ghost use Rattle.bit_map.specs.Patterns.{pattern_bit};
 ghost use Rattle.desk_ground.specs.Screens.{gray};
@@ -79,11 +79,11 @@ pub fn scratch_is_owners()
         → scratch (layered_desk desk) p ≡ own_bit (layered_desk desk) (owner (layered_desk desk) p) p }
 {}
 
-/// The window that FrontWindow answers is the first of the list that is visible.
+/// The window that FrontWindow answers is the first ordinary one of the list that is visible.
 #[tactic(auto, using(crate::proofs::Sayings::front_is_first))]
-pub fn front_is_the_first_visible()
+pub fn front_is_the_first_visible_ordinary_window()
     ensures { (windows : List WindowRecord)
-        → front_of windows ≡ option_map (λ w. w.serial) (find (λ w. w.shown) windows) }
+        → front_of windows ≡ option_map (λ w. w.serial) (find is_leading windows) }
 {}
 
 /// A refusal is the first of the written order whose condition holds.
