@@ -1,4 +1,4 @@
-//! The combination of the rows of two regions, which has a short way where the one lies above the other.
+//! The combination of the rows of two regions, which has a short way where the one lies above the other, and for a union of two rectangles.
 ghost use Rattle.std.specs.Prelude.{◌≡◌, ℤ, IsTrue, IfOk};
 ghost use Rattle.region_bytes.specs.Points.{in_rows};
 ghost use Rattle.region_rows.specs.Edges.{applied, applied_apart, differ};
@@ -7,6 +7,7 @@ ghost use Rattle.region_rows.specs.Rows.{AreAbove, AreRows};
 use crate::copy::copy_rows;
 use crate::merge::merge_rows;
 use crate::operator::Operator;
+use crate::pair::{pair_of, pair_rows};
 use crate::row::Row;
 use std::alloc::{AllocError, Global};
 
@@ -65,5 +66,8 @@ pub fn combined_rows(
     if is_above(b, a) {
         return apart_rows(alloc, a, b, a, operator);
     }
-    merge_rows(alloc, a, b, operator)
+    match (operator, pair_of(a, b)) {
+        (Operator::Union, Some(pair)) => pair_rows(alloc, pair),
+        _ => merge_rows(alloc, a, b, operator),
+    }
 }
