@@ -44,7 +44,7 @@ returns-then-other-own-clause-pixels c =
     let fits_bl : SFits w32 b.left = search rules in
     let fits_br : SFits w32 b.right = search rules in
     let after : b.right ≤ℤ a.left = search (rules, ints) in
-    let e : c.from_buf_and_len-2.result.items ≡ a.left ∷ a.right ∷ [] = search rules in
+    let e : c.from_buf_and_len-then-other-own.result.items ≡ a.left ∷ a.right ∷ [] = search rules in
     rw e (λ h. alone_after a.left a.right b.left b.right h p.across after)
 
 pub returns-then-other-own-clause-row : goal.returns-then-other-own-clause-row
@@ -58,7 +58,7 @@ returns-then-other-own-clause-row c =
     let fits_bl : SFits w32 b.left = search rules in
     let fits_br : SFits w32 b.right = search rules in
     let after : b.right ≤ℤ a.left = search (rules, ints) in
-    let e : c.from_buf_and_len-2.result.items ≡ a.left ∷ a.right ∷ [] = search rules in
+    let e : c.from_buf_and_len-then-other-own.result.items ≡ a.left ∷ a.right ∷ [] = search rules in
     rw e (row_of_two a.left a.right p.left_in p.right_in p.across)
 
 pub returns-then-other-own-2-clause-pixels : goal.returns-then-other-own-2-clause-pixels
