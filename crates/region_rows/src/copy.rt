@@ -6,7 +6,7 @@ use std::alloc::{AllocError, Global};
 
 /// Adds a copy of each row.
 #[inline(always)]
-fn push_copies(alloc: Global, copies: &mut Vec<Row>, rows: &[Row]) -> Result<(), AllocError>
+pub fn push_copies(alloc: Global, copies: &mut Vec<Row>, rows: &[Row]) -> Result<(), AllocError>
     ensures { OnOk result (copies.new.items ≡ copies.old.items ++ rows.now) }
 {
     for row in rows {

@@ -1,5 +1,5 @@
 //! The row kernel: what is kept of a row beside another one, and a row that turns at columns.
-ghost use Rattle.std.specs.Prelude.{◌≡◌, [], ◌∷◌, false, ℕ, ◌<◌, ◌≤◌, ◌&&◌, ◌-◌, ◌++◌, length, take, insert, remove, slice_index_or, IsTrue, OnOk, ℤ, pos, ◌<ℤ◌, ◌≤ℤ◌};
+ghost use Rattle.std.specs.Prelude.{◌≡◌, [], ◌∷◌, false, ℕ, ◌<◌, ◌≤◌, ◌&&◌, ◌-◌, ◌++◌, length, take, insert, remove, slice_index_or, IsTrue, IfOk, OnOk, ℤ, pos, ◌<ℤ◌, ◌≤ℤ◌};
 ghost use Rattle.tb_geom.specs.Rects.{between};
 ghost use Rattle.region_rows.specs.Cursor.{IsCountTo, IsCount};
 ghost use Rattle.region_rows.specs.Edges.{alike, differ, inside, is_odd, kept, only, IsClimb, IsCoordinate, IsEdges, IsRow};
@@ -256,14 +256,15 @@ pub struct Turning {
 }
 
 impl Turning {
-    /// A row without pixels.
-    pub fn new(alloc: Global) -> Turning
-        ensures { result.edges.items ≡ [] }
+    /// A row without pixels, with room for sixteen edges.
+    pub fn new(alloc: Global) -> Result<Turning, AllocError>
+        ensures { IfOk result (λ turning. turning.edges.items ≡ []) }
     {
-        Turning {
-            edges: Vec::new(alloc),
+        let edges = Vec::with_capacity(alloc, 16)?;
+        Ok(Turning {
+            edges,
             room: Vec::new(alloc),
-        }
+        })
     }
 
     /// Turns the row from each of these columns on, of which there are two most often. Most rows begin as the first

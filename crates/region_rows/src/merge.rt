@@ -5,6 +5,7 @@ ghost use Rattle.region_rows.specs.Edges.{applied, by_first, by_second, differ, 
 ghost use Rattle.region_rows.specs.Rows.{with_row, AreRows, IsPushed};
 ghost use Rattle.region_rows.specs.RowsAt.{RowsAt};
 
+use crate::copy::push_copies;
 use crate::kernel::{Kept, Turning, keep_part};
 use crate::operator::Operator;
 use crate::row::Row;
@@ -36,28 +37,6 @@ fn read_row<'a>(rows: &'a [Row], next: usize, v: i32) -> RowRead<'a>
             next: next + 1,
         },
         _ => RowRead { points: &[], next },
-    }
-}
-
-/// The next row of either region.
-fn next_row(a: &[Row], i: usize, b: &[Row], j: usize) -> Option<i32>
-    requires a_rows { AreRows a.now }
-    requires b_rows { AreRows b.now }
-    ensures none { IfNone result ((length a.now ≤ i) × (length b.now ≤ j)) }
-    ensures least_a { IfSome result (λ v.
-        i < length a.now → v ≤ℤ slice_index_or (map top_of a.now) i (pos 0)) }
-    ensures least_b { IfSome result (λ v.
-        j < length b.now → v ≤ℤ slice_index_or (map top_of b.now) j (pos 0)) }
-    ensures here { IfSome result (λ v.
-        ((i < length a.now) × (slice_index_or (map top_of a.now) i (pos 0) ≡ v))
-        ⊎ ((j < length b.now) × (slice_index_or (map top_of b.now) j (pos 0) ≡ v))) }
-    ensures in_range { IfSome result IsCoordinate }
-{
-    match (a.get(i), b.get(j)) {
-        (Some(p), Some(q)) => Some(p.v().min(q.v())),
-        (Some(p), None) => Some(p.v()),
-        (None, Some(q)) => Some(q.v()),
-        (None, None) => None,
     }
 }
 
@@ -112,16 +91,19 @@ impl Sides {
     ghost use Rattle.region_rows.specs.Merges.{AreTurned, turns_of};
 
     /// Rows without pixels.
-    fn new(alloc: Global) -> Sides
-        ensures a { result.of_a.edges.items ≡ [] }
-        ensures b { result.of_b.edges.items ≡ [] }
+    fn new(alloc: Global) -> Result<Sides, AllocError>
+        ensures a { IfOk result (λ sides. sides.of_a.edges.items ≡ []) }
+        ensures b { IfOk result (λ sides. sides.of_b.edges.items ≡ []) }
     {
-        Sides {
-            of_a: Turning::new(alloc),
-            of_b: Turning::new(alloc),
-            points: Turning::new(alloc),
+        let of_a = Turning::new(alloc)?;
+        let of_b = Turning::new(alloc)?;
+        let points = Turning::new(alloc)?;
+        Ok(Sides {
+            of_a,
+            of_b,
+            points,
             second: Vec::new(alloc),
-        }
+        })
     }
 
     /// Turns both sides at their points `p` and `q` of a row, and adds the row of the points at which the
@@ -213,13 +195,32 @@ pub fn merge_rows(
 {
     let mut rows = Vec::with_capacity(alloc, a.len().saturating_add(b.len()))?;
     let (mut i, mut j) = (0, 0);
-    let mut sides = Sides::new(alloc);
-    while let Some(v) = next_row(a, i, b, j) {
+    let mut sides = Sides::new(alloc)?;
+    while let (Some(p), Some(q)) = (a.get(i), b.get(j)) {
+        let v = p.v().min(q.v());
         let in_a = read_row(a, i, v);
         let in_b = read_row(b, j, v);
         sides.turn(alloc, &mut rows, v, in_a.points, in_b.points, operator)?;
         i = in_a.next;
         j = in_b.next;
     }
+    if i < a.len() {
+        push_rest(alloc, &mut rows, &a[i..], operator.by_first())?;
+    } else {
+        push_rest(alloc, &mut rows, &b[j..], operator.by_second())?;
+    }
     Ok(rows)
+}
+
+/// Adds what is kept of the last rows of one side, below those of the other side.
+fn push_rest(
+    alloc: Global,
+    rows: &mut Vec<Row>,
+    rest: &[Row],
+    what: Kept,
+) -> Result<(), AllocError> {
+    match what {
+        Kept::Shared => Ok(()),
+        Kept::Alone | Kept::All => push_copies(alloc, rows, rest),
+    }
 }

@@ -135,7 +135,14 @@ impl Region {
         if other.is_held_by(self) {
             return self.copy(alloc);
         }
-        self.combined(alloc, other, Operator::Union)
+        let rows = combined_rows(
+            alloc,
+            self.rows.as_slice(),
+            other.rows.as_slice(),
+            Operator::Union,
+        )?;
+        let bounds = Bounds::of(self.bounds.rect().union(other.bounds.rect()));
+        Ok(Region { bounds, rows })
     }
 
     /// The pixels of this region that the other lacks.
