@@ -226,8 +226,9 @@ class EventLoop(ShownDesk):
             self.tracked, self.goes_on_at = tracking, self.clock() + HELD_AFTER
 
     def in_content(self, event, _part, window):
-        """A window that is not in front comes there, and nothing else. In the front one, what lies at the point is meant."""
-        if self.numbers("frontwin") != [window]:
+        """A window that is not in front comes there, and nothing else. In the front one, and in one that floats, what lies at
+        the point is meant."""
+        if window not in self.known.floating and self.numbers("frontwin") != [window]:
             self.tell(f"select {window}")
             self.status = f"{self.window_name(window)} is selected"
             return

@@ -106,6 +106,8 @@ class Known:
 
     def __init__(self):
         self.windows = {}
+        # The numbers of those of the windows that float.
+        self.floating = set()
         self.controls = {}
         self.lists = {}
         self.menus = {}
@@ -145,12 +147,17 @@ class Known:
     def window_made(self, words, numbers):
         self.windows[numbers[0]] = words[8][1:-1]
 
+    def float_made(self, words, numbers):
+        self.window_made(words, numbers)
+        self.floating.add(numbers[0])
+
     def window_titled(self, words, _):
         self.windows[int(words[1])] = words[2][1:-1]
 
     def window_closed(self, words, _):
         window = int(words[1])
         self.windows.pop(window, None)
+        self.floating.discard(window)
         self.controls = {key: control for key, control in self.controls.items() if control.window != window}
         self.lists = {key: its for key, its in self.lists.items() if its.window != window}
 
@@ -216,6 +223,7 @@ class Known:
 ENDS = {"goaway": "gaend", "ctrack": "ctend", "mdown": "mup", "drag": "dragend", "grow": "growend"}
 LEARNED = {
     "window": Known.window_made,
+    "float": Known.float_made,
     "title": Known.window_titled,
     "close": Known.window_closed,
     "control": Known.control_made,

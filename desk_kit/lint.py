@@ -8,6 +8,8 @@ from desk_kit.forms import Forms, words_of
 from desk_kit.rows import said_of_status
 from desk_kit.screen_tests import Found, empty_folder
 
+# The first command of a script that may have floating windows.
+VERSION_2 = re.compile(rb"version 0*2")
 REFUSED = re.compile(rb"refused [0-9]+ (BadSyntax|NoSuchName|TooLong)\n")
 # A byte that stands in no line but a comment.
 STRANGE = re.compile(rb"[^\x20-\x7e]")
@@ -26,18 +28,30 @@ class Lint(NamedTuple):
         commands = commands_of(row.script())
         answers = zip(commands, answers_to(commands, ran.out))
         refused = [(command, answer) for command, answer in answers if REFUSED.fullmatch(answer)]
-        return Found(tuple(f"line {it.line}, {shown(it.text)}: {self.said(it.text, answer)}" for it, answer in refused))
+        first = commands[0] if commands else None
+        said = (f"line {it.line}, {shown(it.text)}: {self.said(it.text, answer, misplaced(it, first))}" for it, answer in refused)
+        return Found(tuple(said))
 
-    def said(self, line, answer):
-        """What is said of a line that is answered so."""
+    def said(self, line, answer, place):
+        """What is said of a line that is answered so, where this is wrong with its place, if anything is."""
         answer = answer.decode("ascii").rstrip("\n")
         if len(line) > LONGEST_LINE:
             return f"{answer}: the line has {len(line)} bytes, and {LONGEST_LINE} is the most"
         text = line.decode("latin-1")
         reading = self.forms.reading(text)
-        reason = strange(line) or reading.unknown or misformed(text, reading.form)
+        reason = strange(line) or reading.unknown or misformed(text, reading.form) or place
         form = f". The form is: {reading.form}" if reading.form else ""
         return f"{answer}{f': {reason}' if reason else ''}{form}"
+
+
+def misplaced(command, first):
+    """What is wrong with the place of a command in the script that has this first one, or nothing."""
+    word = command.text.partition(b" ")[0]
+    if word == b"version" and command.line != first.line:
+        return "it stands before every other command"
+    if word == b"float" and not VERSION_2.fullmatch(first.text):
+        return "the script does not begin with 'version 2'"
+    return ""
 
 
 def strange(line):

@@ -14,6 +14,9 @@ PAUSES, STEPS = (32,), (13, 29, 31)
 # How much of a line is shown.
 LONGEST = 60
 
+# How a line begins that says the version of its script: it makes no desk.
+VERSION = "version "
+
 
 def shortened(text):
     return text if len(text) <= LONGEST else text[: LONGEST - 3] + "..."
@@ -31,10 +34,12 @@ class Replay(ShownDesk):
         self.due = clock() + PACE
 
     def begin(self):
-        """Runs the lines up to the first one that is done. Until then there may be no desk, and a look at the screen would
-        make one."""
-        while not self.has_ended() and not self.step().startswith(b"ok"):
-            pass
+        """Runs the lines up to the first one that is done, a version aside. Until then there may be no desk, and a look at
+        the screen would make one."""
+        while not self.has_ended():
+            is_done = self.step().startswith(b"ok")
+            if is_done and not self.last[0].startswith(VERSION):
+                return
 
     def has_ended(self):
         """Whether no line is left that is answered."""

@@ -26,6 +26,8 @@ MOST_CELLS = 32
 DEFAULT_DESK = b"desk 512 342 20"
 NO_MEMORY = b"refused 1 NoMemory\n"
 BUSY = b"refused 11 Busy\n"
+# The commands that open a window.
+WINDOWS = (b"window", b"float")
 # The commands that are never refused for want of memory.
 WITHOUT_MEMORY = set(
     b"image find frontwin info drawp drawl drawc end post next avail flush setmask"
@@ -55,14 +57,16 @@ def keys_in(command):
 class Row:
     """A row: its commands with their answers, and, once it was watched, the state of the desk after each."""
 
-    def __init__(self, name, commands, answers, options):
+    def __init__(self, name, commands, answers, ahead, options):
         self.name = name
         self.commands = commands
         self.answers = answers
+        # How many commands come before the one that makes the desk: nothing is asked before that is done.
+        self.ahead = ahead
         # The words that the program is called with.
         self.options = options
         # What asks for the desk's state. One window more than there are shows whether a refused one is there after all.
-        windows = sum(self.is_done(at) and self.words(at)[0] == b"window" for at in range(len(commands)))
+        windows = sum(self.is_done(at) and self.words(at)[0] in WINDOWS for at in range(len(commands)))
         asking = [b"%s %d" % (verb, it) for it in range(1, windows + 2) for verb in (b"info", b"visrgn", b"updatergn")]
         # And what asks for the controls and lists, each in the window in which it is made at some time.
         asking += [b"cget %s %d" % (window, number) for number, window in enumerate(self.windows_of_controls(), 1)]
@@ -95,7 +99,11 @@ class Row:
 
     def begins_without_memory(self, at):
         """Whether the command at this place changes nothing with memory, and the one before it does."""
-        return not self.changes_with_memory(at) and (at == 1 or self.changes_with_memory(at - 1))
+        return not self.changes_with_memory(at) and (at == self.ahead + 1 or self.changes_with_memory(at - 1))
+
+    def tried(self):
+        """The places of the commands that are refused memory: those behind the one that makes the desk."""
+        return range(self.ahead + 1, len(self.commands))
 
     def done(self, *verbs):
         """The words of the commands that are done and begin so, each with its place."""
@@ -146,14 +154,16 @@ class Row:
     def watch(self, program):
         """Runs the row with nothing refused, and keeps the desk's state after each command and how many growths that
         made."""
-        lines = [line for command in self.commands for line in (command, *self.probes)]
+        asked = [line for command in self.commands[self.ahead :] for line in (command, *self.probes)]
+        lines = [*self.commands[: self.ahead], *asked]
         text, told = program.run(lines, *self.options)
         answers = answers_to(lines, text)
         step = 1 + len(self.probes)
-        if answers[::step] != self.answers:
+        places = [*range(self.ahead), *range(self.ahead, len(lines), step)]
+        if [answers[at] for at in places] != self.answers:
             raise Fault("where its state is asked for after each command, it is answered otherwise")
-        self.states = [answers[at + 1 : at + step] for at in range(0, len(lines), step)]
-        self.growths = [growths for growths, _ in told[::step]]
+        self.states = [answers[at + 1 : at + step] if at >= self.ahead else [] for at in places]
+        self.growths = [told[at][0] for at in places]
 
     def asked(self, begin, end=None):
         """These commands, with their answers."""
@@ -252,12 +262,15 @@ class Row:
 
 
 def on_a_desk(commands, answers):
-    """Commands with their answers, where the first is what makes the desk; None where no command makes one, or not the
-    first. Where the first makes the desk that none names, the line that names it is put in front."""
+    """Commands with their answers, where the first is what makes the desk, behind those that come before it; None where no
+    command makes one, or not the first. A version may come before it. Where the first makes the desk that none names, the
+    line that names it is put there."""
+    ahead = int(commands[0].startswith(b"version"))
     made = [answer for command, answer in zip(commands, answers) if command.startswith(b"desk ")]
     if all(answer == BUSY for answer in made):
-        return [DEFAULT_DESK, *commands], [b"ok\n", *answers]
-    return (commands, answers) if commands[0].startswith(b"desk ") and answers[0] == b"ok\n" else None
+        return [*commands[:ahead], DEFAULT_DESK, *commands[ahead:]], [*answers[:ahead], b"ok\n", *answers[ahead:]], ahead
+    begins = commands[ahead:] and commands[ahead].startswith(b"desk ") and answers[ahead] == b"ok\n"
+    return (commands, answers, ahead) if begins else None
 
 
 def options_of(path, fonts):

@@ -47,6 +47,13 @@ LINES = [
 ]  # fmt: skip
 
 
+# Lines of a script that does not say its version, and of one that does.
+FLOAT = 'float plain 2 2 9 6 1 0 "x"'
+FLOAT_FORM = "float KIND LEFT TOP WIDTH HEIGHT SHOWN GOAWAY \"TITLE\""
+UNVERSIONED = [DESK.rstrip("\n"), FLOAT, "version 2"]
+VERSIONED = ["version 2", DESK.rstrip("\n"), FLOAT, "version 2", 'float plain 2 2 9 6 1 0 x']
+
+
 def text_of(line):
     """A line as it is shown: 60 bytes of it at most, between quotes."""
     return f"'{line[:60]}'..." if len(line) > 60 else f"'{line}'".replace("\t", "\\t").replace("\xe4", "\\xe4")
@@ -58,6 +65,21 @@ def lines_that_are_refused_are_told_with_their_forms(place):
     said = [f"FAILED: screens/wrong.desk: line {number}, {text_of(line)}: {said}\n" for number, line, said in told]
     place.says("".join(said) + "0 passed, 1 failed\n", "--lint", "screens")
     same("the files", place.files("screens"), ["wrong.desk"])
+
+
+def lines_of_another_version_are_told(place):
+    place.write("screens/one.desk", "".join(line + "\n" for line in UNVERSIONED))
+    place.write("screens/two.desk", "".join(line + "\n" for line in VERSIONED))
+    bad = "refused 15 BadSyntax"
+    version = f"{bad}: it stands before every other command. The form is: version NUMBER"
+    told = [
+        ("one", 2, FLOAT, f"{bad}: the script does not begin with 'version 2'. The form is: {FLOAT_FORM}"),
+        ("one", 3, "version 2", version),
+        ("two", 4, "version 2", version),
+        ("two", 5, VERSIONED[-1], f"{bad}. The form is: {FLOAT_FORM}"),
+    ]
+    failed = "".join(f"FAILED: screens/{name}.desk: line {at}, '{line}': {why}\n" for name, at, line, why in told)
+    place.says(f"{failed}0 passed, 2 failed\n", "--lint", "screens")
 
 
 def what_is_stored_does_not_matter_to_lint(place):
@@ -178,6 +200,7 @@ def every_line_that_rows_have_answered_has_its_form(_):
 
 TESTS = [
     lines_that_are_refused_are_told_with_their_forms,
+    lines_of_another_version_are_told,
     what_is_stored_does_not_matter_to_lint,
     a_program_that_does_not_answer_is_told_by_lint,
     lint_needs_the_manual,

@@ -11,6 +11,8 @@ desk 200 150 20
 window document 10 44 90 60 1 1 "One"
 window zoom 60 70 100 60 1 1 "Two"
 """
+# A third one floats in front of the first.
+A_FLOATING_WINDOW = f"version 2\n{TWO_WINDOWS}float plain 30 60 20 20 1 0 \"\"\n"
 
 
 def a_click_in_a_rear_window_brings_it_to_front(tried):
@@ -25,6 +27,20 @@ def a_click_in_a_rear_window_brings_it_to_front(tried):
     tried.shows("another", "the window in front")
     tried.click(20, 60)
     tried.shows("the same", "another click in the front window")
+
+
+def a_floating_window_is_used_where_it_lies(tried):
+    tried.wants("frontwin", "ok 2")
+    tried.click(35, 65)
+    tried.says("Window 3, at 5 5 in it")
+    tried.wants("frontwin", "ok 2")
+    tried.shows("the same", "a click in a window that floats")
+    tried.click(20, 60)
+    tried.says('Window 1 "One" is selected')
+    tried.wants("find 35 65", "ok 3 3")
+    tried.wants("close 3", "ok")
+    tried.click(35, 65)
+    tried.says('Window 1 "One", at 25 21 in it')
 
 
 def the_script_s_own_events_are_served_and_flushed(tried):
@@ -210,6 +226,7 @@ def what_the_event_mask_leaves_out_does_nothing(tried):
 
 TESTS = {
     a_click_in_a_rear_window_brings_it_to_front: TWO_WINDOWS,
+    a_floating_window_is_used_where_it_lies: A_FLOATING_WINDOW,
     the_script_s_own_events_are_served_and_flushed: TWO_WINDOWS + "\nclose 9\r\npost 1 0 0 20 60 0\n",
     a_window_is_dragged_by_its_title_and_selected: TWO_WINDOWS,
     with_the_command_key_a_dragged_window_stays_behind: TWO_WINDOWS,

@@ -12,25 +12,29 @@ use tb_geom::Point;
 /// takes no memory.
 #[derive(Drop)]
 pub enum WindowCall<'a> {
-    /// Makes a window in front of all others; a visible one becomes active.
+    /// Makes an ordinary window in front of all ordinary ones, behind those that float; a visible one becomes active.
     New(NewWindow<'a>),
+    /// Makes a floating window, in front of all others: it is highlighted from the start, hidden too, and never active.
+    /// What it takes and why it is refused is as for `New`.
+    NewFloating(NewWindow<'a>),
     /// Ends a window: its definition is disposed of, and goes back Closed into its slot (DisposeWindow).
-    /// Where it was active, the first visible window becomes so, or none.
+    /// Where it was active, the first visible ordinary window becomes so, or none.
     Dispose(u64),
-    /// Makes a hidden window visible, and active where it is the first visible one then (ShowWindow). A
+    /// Makes a hidden window visible, and active where it is the first visible ordinary one then (ShowWindow). A
     /// visible one stays as it is.
     Show(u64),
     /// Makes a visible window hidden; it keeps its place in the order (HideWindow). Where it was
-    /// active, the first visible window becomes so, or none. A hidden one stays as it is.
+    /// active, the first visible ordinary window becomes so, or none. A hidden one stays as it is.
     Hide(u64),
     /// Makes a window visible or hidden, and changes no highlighting (ShowHide).
     ShowHide(ShowHide),
-    /// Brings a window to the front; a visible one becomes active (SelectWindow).
+    /// Brings a window to the front of its class; a visible ordinary one becomes active (SelectWindow).
     Select(u64),
-    /// Brings a window to the front, and changes no highlighting (BringToFront).
+    /// Brings a window to the front of its class, and changes no highlighting (BringToFront).
     BringToFront(u64),
-    /// Puts a window behind another or behind all (SendBehind). Where it was active, the first visible
-    /// window becomes so, if that is another.
+    /// Puts a window behind another of its class or behind all of that (SendBehind). Where it was active, the first
+    /// visible ordinary window becomes so, if that is another. OutOfRange where the other is the window itself, or of the
+    /// other class.
     SendBehind(SendBehind),
     /// Moves a window, and selects it where that is asked (MoveWindow). OutOfRange where it may not be
     /// there.
@@ -54,7 +58,7 @@ pub enum WindowCall<'a> {
     /// Whose a point of the screen is (FindWindow). A point outside the range of coordinates is
     /// OutOfRange.
     Find(Point),
-    /// Which window is the first visible one (FrontWindow).
+    /// Which window is the first visible ordinary one (FrontWindow).
     Front,
     /// Where a window stands, and how.
     Info(u64),
@@ -77,7 +81,7 @@ pub struct ShowHide {
 #[derive(Clone, Copy, PartialEq, Eq)]
 pub struct SendBehind {
     pub window: u64,
-    /// The window in front of it then, another than itself, or None: behind all others.
+    /// The window in front of it then, another than itself and of its class, or None: behind all others of its class.
     pub behind: Option<u64>,
 }
 
@@ -285,7 +289,7 @@ pub enum WindowReply {
     Made(u64),
     /// Whose a point is.
     Found(Found),
-    /// The serial of the first visible window, if there is one.
+    /// The serial of the first visible ordinary window, if there is one.
     Front(Option<u64>),
     /// Where a window stands, and how.
     Info(WindowInfo),

@@ -1,5 +1,5 @@
 -- What holds of each window by its serial and its layers holds on, whatever a call on windows does.
-use Rattle.std.proofs.Common.{◌≡◌, ℕ, ◌==◌, Bool, true, false, if◌then◌else◌, List, [], ◌∷◌, map, Option, None, Some, sym, subst}
+use Rattle.std.proofs.Common.{◌≡◌, ℕ, ◌==◌, Bool, true, false, if◌then◌else◌, List, [], ◌∷◌, map, Option, None, Some, sym, subst, zero, suc}
 use Rattle.std.specs.Prelude.{All}
 use Rattle.std.proofs.lemmas.List.Elements.{All-nil, All-cons, All-head, All-tail}
 use Rattle.layer_list.specs.declared.layer.Layer.{Layer}
@@ -9,43 +9,45 @@ use Rattle.desk_call.specs.declared.window.SendBehind.{SendBehind}
 use Rattle.desk_call.specs.declared.window.WindowCall.{WindowCall}
 use Rattle.desk_call.specs.declared.window.WindowCall.TheVariants as asks
 use Rattle.desk_call.specs.declared.window.WindowReply.{WindowReply}
-use Rattle.vis_update.specs.Records.{WindowRecord}
+use Rattle.window_list.specs.Classes.{back_place, front_place}
+use Rattle.std.specs.List.{insert}
+use Rattle.vis_update.specs.Records.{WindowRecord, is_floating}
 use Rattle.vis_update.specs.Touches.{is_this}
 use Rattle.window_mgr.specs.declared.arrange.Activation.{Activation}
 use Rattle.window_mgr.specs.declared.arrange.Activation.TheVariants.{Stays, Becomes}
-use Rattle.window_mgr.specs.Arrange.{Arrangement, with_highlighting, activated, activation_of, with_shown, with_placement, at_place, without, put_behind, in_front, behind_this, brought, sent, changed, placed}
+use Rattle.window_mgr.specs.Arrange.{Arrangement, with_highlighting, activated, activation_of, with_shown, with_placement, at_place, without, put_behind, put_next, in_front, behind_this, brought, sent, changed, placed}
 use Rattle.window_mgr.specs.declared.arrange.Activates.TheVariants.{FrontInItsPlace}
-use Rattle.window_mgr.specs.Effects.{Effect, IsEffect, IsNewWindow, IsArrangement, IsWindowDisposed, effect_of, places, with_drawn, with_new_picture, with_scrolled}
+use Rattle.window_mgr.specs.Effects.{Effect, IsEffect, IsNewWindow, IsArrangement, IsWindowDisposed, begins_active, effect_of, new_record, places, with_drawn, with_new_picture, with_scrolled}
 use Rattle.window_mgr.specs.Effects.Effect.{Makes, Disposes, Draws, Pictures, Scrolls, Arranges, Places, Tells, Describes}
 use Rattle.window_mgr.specs.Finding.{record_with, front_of}
 use Rattle.window_mgr.specs.FullDesk.{FullDesk, FullState}
 use Rattle.window_mgr.specs.Placings.{Placing, sized, zoomed}
 use Rattle.window_mgr.proofs.DimLemmas.{either}
 
--- what may hold of a window by its serial and its layers
+-- what may hold of a window by its serial, whether it floats, and its layers
 abbrev pub Bond : Type 1
-Bond = ℕ → List Layer → Type 0
+Bond = ℕ → Bool → List Layer → Type 0
 
 abbrev pub Bound : Bond → WindowRecord → Type 0
-Bound B w = B w.serial w.layers
+Bound B w = B w.serial w.floating w.layers
 
 abbrev pub Every : Bond → List WindowRecord → Type 0
 Every B [] = Unit {0}
 Every B (w ∷ ws) = Bound B w × Every B ws
 
 -- of each window by its place in the list
-pub every_all : (B : Bond) (ws : List WindowRecord) → Every B ws → All (λ w. B w.serial w.layers) ws
-every_all B [] h = All-nil (λ w. B w.serial w.layers)
-every_all B (w ∷ ws) h = All-cons (λ w. B w.serial w.layers) w ws h.0 (every_all B ws h.1)
+pub every_all : (B : Bond) (ws : List WindowRecord) → Every B ws → All (λ w. B w.serial w.floating w.layers) ws
+every_all B [] h = All-nil (λ w. B w.serial w.floating w.layers)
+every_all B (w ∷ ws) h = All-cons (λ w. B w.serial w.floating w.layers) w ws h.0 (every_all B ws h.1)
 
-pub all_every : (B : Bond) (ws : List WindowRecord) → All (λ w. B w.serial w.layers) ws → Every B ws
+pub all_every : (B : Bond) (ws : List WindowRecord) → All (λ w. B w.serial w.floating w.layers) ws → Every B ws
 all_every B [] h = tt
-all_every B (w ∷ ws) h = (All-head (λ w. B w.serial w.layers) w ws h, all_every B ws (All-tail (λ w. B w.serial w.layers) w ws h))
+all_every B (w ∷ ws) h = (All-head (λ w. B w.serial w.floating w.layers) w ws h, all_every B ws (All-tail (λ w. B w.serial w.floating w.layers) w ws h))
 
 -- by another bond too
-pub every_also : (B C D : Bond) → ((n : ℕ) (ls : List Layer) → B n ls → C n ls → D n ls) → (ws : List WindowRecord) → Every B ws → Every C ws → Every D ws
+pub every_also : (B C D : Bond) → ((n : ℕ) (f : Bool) (ls : List Layer) → B n f ls → C n f ls → D n f ls) → (ws : List WindowRecord) → Every B ws → Every C ws → Every D ws
 every_also B C D both [] h k = tt
-every_also B C D both (w ∷ ws) h k = (both w.serial w.layers h.0 k.0, every_also B C D both ws h.1 k.1)
+every_also B C D both (w ∷ ws) h k = (both w.serial w.floating w.layers h.0 k.0, every_also B C D both ws h.1 k.1)
 
 module _ (B : Bond) where
   every_map : (f : WindowRecord → WindowRecord) → ((w : WindowRecord) → Bound B w → Bound B (f w)) → (ws : List WindowRecord) → Every B ws → Every B (map f ws)
@@ -81,20 +83,29 @@ module _ (B : Bond) where
       by_this true rest = h.0
       by_this false rest = rest
 
+  every_insert : (k : ℕ) (w : WindowRecord) (ws : List WindowRecord) → Bound B w → Every B ws → Every B (insert ws k w)
+  every_insert zero w ws its h = (its, h)
+  every_insert (suc k) w [] its h = (its, tt)
+  every_insert (suc k) w (v ∷ vs) its h = (h.0, every_insert k w vs its h.1)
+
   every_in_front : (o : Option WindowRecord) (ws : List WindowRecord) → OfThis o → Every B ws → Every B (in_front o ws)
   every_in_front None ws its h = h
-  every_in_front (Some w) ws its h = (its, h)
+  every_in_front (Some w) ws its h = every_insert (front_place is_floating (is_floating w) ws) w ws its h
 
   every_brought : (s : ℕ) (ws : List WindowRecord) → Every B ws → Every B (brought s ws)
   every_brought s ws h = every_in_front (record_with s ws) (without s ws) (of_found s ws h) (every_without s ws h)
 
-  every_put : (x : Option ℕ) (w : WindowRecord) (ws : List WindowRecord) → Bound B w → Every B ws → Every B (put_behind x w ws)
-  every_put x w [] its h = (its, tt)
-  every_put x w (v ∷ vs) its h = by_this (is_this x v.serial) (every_put x w vs its h.1)
+  every_next : (x : ℕ) (w : WindowRecord) (ws : List WindowRecord) → Bound B w → Every B ws → Every B (put_next x w ws)
+  every_next x w [] its h = (its, tt)
+  every_next x w (v ∷ vs) its h = by_this (v.serial == x) (every_next x w vs its h.1)
     where
-      by_this : (b : Bool) → Every B (put_behind x w vs) → Every B (if b then v ∷ w ∷ vs else v ∷ put_behind x w vs)
+      by_this : (b : Bool) → Every B (put_next x w vs) → Every B (if b then v ∷ w ∷ vs else v ∷ put_next x w vs)
       by_this true rest = (h.0, (its, h.1))
       by_this false rest = (h.0, rest)
+
+  every_put : (x : Option ℕ) (w : WindowRecord) (ws : List WindowRecord) → Bound B w → Every B ws → Every B (put_behind x w ws)
+  every_put None w ws its h = every_insert (back_place is_floating (is_floating w) ws) w ws its h
+  every_put (Some x) w ws its h = every_next x w ws its h
 
   every_behind : (x : Option ℕ) (o : Option WindowRecord) (ws : List WindowRecord) → OfThis o → Every B ws → Every B (behind_this x o ws)
   every_behind x None ws its h = h
@@ -115,7 +126,7 @@ module _ (B : Bond) where
 
   -- what holds of each window holds of each afterwards, if it does of a new one, which has no layers
   abbrev pub HoldsOn : Effect → FullDesk → FullDesk → Type 0
-  HoldsOn (Makes w) before after = (n : ℕ) × (before.next ≡ Some n) × (B n [] → Every B before.windows → Every B after.windows)
+  HoldsOn (Makes floating w) before after = (n : ℕ) × (before.next ≡ Some n) × (B n floating [] → Every B before.windows → Every B after.windows)
   HoldsOn _ before after = Every B before.windows → Every B after.windows
 
   abbrev IsReordered : Effect → FullDesk → Type 0
@@ -127,12 +138,15 @@ module _ (B : Bond) where
   by_serial w v true new old = new
   by_serial w v false new old = old
 
-  made_holds : (w : NewWindow) (n : ℕ) (before after : FullState) → IsNewWindow w n before after → B n [] → Every B before.desk.windows → Every B after.desk.windows
-  made_holds w n before after new its h = subst (λ (d : FullDesk). Every B d.windows) (sym new.desk) (its, by_shown w.shown)
+  made_holds : (floating : Bool) (w : NewWindow) (n : ℕ) (before after : FullState) → IsNewWindow floating w n before after → B n floating [] → Every B before.desk.windows → Every B after.desk.windows
+  made_holds floating w n before after new its h =
+      let rest = if begins_active floating w then map (with_highlighting false before.desk.active) before.desk.windows else before.desk.windows in
+      subst (λ (d : FullDesk). Every B d.windows) (sym new.desk)
+      (every_insert (front_place is_floating floating rest) (new_record floating w n new.loan.slot new.begun) rest its (by_active (begins_active floating w)))
     where
-      by_shown : (b : Bool) → Every B (if b then map (with_highlighting false before.desk.active) before.desk.windows else before.desk.windows)
-      by_shown true = every_map (with_highlighting false before.desk.active) (λ v k. lit false before.desk.active v k) before.desk.windows h
-      by_shown false = h
+      by_active : (b : Bool) → Every B (if b then map (with_highlighting false before.desk.active) before.desk.windows else before.desk.windows)
+      by_active true = every_map (with_highlighting false before.desk.active) (λ v k. lit false before.desk.active v k) before.desk.windows h
+      by_active false = h
 
   disposed_holds : (s : ℕ) (before after : FullState) → IsWindowDisposed s before after → Every B before.desk.windows → Every B after.desk.windows
   disposed_holds s before after gone h =
@@ -149,7 +163,7 @@ module _ (B : Bond) where
   same_desk_holds before after same h = subst (λ (d : FullDesk). Every B d.windows) (sym same) h
 
   effect_holds : (effect : Effect) (answer : WindowReply) (before after : FullState) → IsReordered effect before.desk → IsEffect effect answer before after → HoldsOn effect before.desk after.desk
-  effect_holds (Makes w) answer before after all (n, is, new) = (n, new.serials, made_holds w n before after new)
+  effect_holds (Makes floating w) answer before after all (n, is, new) = (n, new.serials, made_holds floating w n before after new)
   effect_holds (Draws d) answer before after all (is, drawn) = λ h.
       subst (λ (x : FullDesk). Every B x.windows) (sym drawn.desk)
       (every_map (with_drawn d.window drawn.operation) (λ w k. by_serial w _ (w.serial == d.window) k k) before.desk.windows h)

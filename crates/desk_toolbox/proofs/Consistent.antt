@@ -15,6 +15,7 @@ use Rattle.vis_update.specs.Records.{WindowRecord}
 use Rattle.window_frame.specs.Followers.{Knows}
 use Rattle.window_frame.specs.Followers.Flag.{Highlighting, Zooming}
 use Rattle.desk_toolbox.specs.declared.events.Events.{Events}
+use Rattle.desk_toolbox.specs.Classes.{AreClassed, IsOrdinary}
 use Rattle.desk_toolbox.specs.Reached.{AreMenusApart, HasLiveDefinition, IsLit, IsPulledThere, IsThere, IsTrackedIfHeard, IsConsistent, IsJustBegun, open_window}
 use Rattle.desk_toolbox.specs.Run.{IsStep, IsRunOfCalls}
 use Rattle.desk_toolbox.specs.ToolboxStates.{ToolboxState}
@@ -31,6 +32,7 @@ use Rattle.desk_toolbox.proofs.ContentsBeside.{IsRightToolbox}
 use Rattle.desk_toolbox.proofs.HeldSteps.{step_keeps_held}
 use Rattle.desk_toolbox.proofs.HeldWindows.{step_keeps_stocked}
 use Rattle.desk_toolbox.proofs.LiveDefinitions.{step_keeps_live}
+use Rattle.desk_toolbox.proofs.KeptClasses.{step_stays_classed}
 use Rattle.desk_toolbox.proofs.TrackedControls.{control_stands, none_used_at}
 use Rattle.desk_toolbox.proofs.ListStands.{begun_contents, list_stands}
 use Rattle.desk_toolbox.proofs.GivenBars.{step_keeps_bars}
@@ -64,6 +66,7 @@ pub step_keeps_consistent : (call : Call) (answer : Result Reply Refusal) (befor
 step_keeps_consistent call answer before after was step =
     let now = step_stands call answer before after (stands before was) step in
     consistent after now (step_keeps_stocked call answer before after step was.held) (step_keeps_live call answer before after step was.live)
+    (step_stays_classed call answer before after step was.classed)
     (step_keeps_held call answer before after step now.pull.pulled (record { stocked = was.stocked; title = was.title }))
     (step_keeps_bars call answer before after step was.bars)
 
@@ -81,8 +84,9 @@ just_begun_is_consistent s begun =
     let windows = s.desk.windows.desk.windows in
     record {
       right = begun.right;
-      active = subst (λ o. IsThere o windows) (sym begun.active) tt;
-      told = subst (λ (e : Events). IsThere e.told windows) (sym begun.events) tt;
+      active = subst (λ o. IsOrdinary o windows) (sym begun.active) tt;
+      told = subst (λ (e : Events). IsOrdinary e.told windows) (sym begun.events) tt;
+      classed = subst AreClassed (sym begun.windows) tt;
       opened = subst (λ a. IsThere (open_window a) windows) (sym begun.idle) tt;
       contents = begun_contents s begun;
       trackable = subst (λ a. IsTrackable a s.controls.controls) (sym begun.idle) tt;

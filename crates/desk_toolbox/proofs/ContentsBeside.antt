@@ -41,7 +41,7 @@ use Rattle.desk_toolbox.specs.Reached.{AreContentsRight}
 use Rattle.desk_toolbox.specs.ToolboxStates.{ToolboxState, with_menus}
 use Rattle.desk_toolbox.proofs.Bonds.{Bond, Every, every_all, all_every, every_changed}
 use Rattle.desk_toolbox.proofs.StepCounts.{frame_counts}
-use Rattle.desk_toolbox.proofs.Totals.{copies, found_counts, counted_is_found}
+use Rattle.desk_toolbox.proofs.Totals.{copies, counted_is_found, either_class, found_counts}
 
 -- a right state whose controls and lists are whole and shown
 pub record IsRightToolbox (s : ToolboxState) : Type 0 where
@@ -61,7 +61,7 @@ still before after desk controls lists was = record {
 
 -- a window's layers begin with its controls'
 abbrev pub joined_to : List ControlRecord → Bond
-joined_to cs n ls = AreLayersOf (controls_of n cs) ls
+joined_to cs n floating ls = AreLayersOf (controls_of n cs) ls
 
 pub whole_on : (s : ControlsState) (ws vs : List WindowRecord) → ((x : ℕ) → copies x ws ≤ copies x vs) → Every (joined_to s.controls) vs → AreWholeControls ws s → AreWholeControls vs s
 whole_on s ws vs more every whole = record {
@@ -80,7 +80,7 @@ joined_every s ws whole = all_every (joined_to s.controls) ws whole.joined
 
 -- so are whole lists
 abbrev pub listed_to : List KeptList → Bond
-listed_to ls n layers = AreListLayers (lists_of n ls) layers
+listed_to ls n floating layers = AreListLayers (lists_of n ls) layers
 
 pub lists_on : (s : ListsState) (ws vs : List WindowRecord) → ((x : ℕ) → copies x ws ≤ copies x vs) → Every (listed_to s.lists) vs → AreWholeLists ws s → AreWholeLists vs s
 lists_on s ws vs more every whole = record {
@@ -128,12 +128,12 @@ none_of_missing n (c ∷ cs) ws there none =
 -- ---- definitions of windows that are told
 
 module _ (B : Bond) where
-  told_holds : (s : ℕ) (news : WindowRecord → News → News) (kept : WindowRecord → WindowRecord) → ((w : WindowRecord) → B w.serial w.layers → B (kept w).serial (kept w).layers) → (before after : FullState) → IsFrameNotified s news kept before after → Every B before.desk.windows → Every B after.desk.windows
+  told_holds : (s : ℕ) (news : WindowRecord → News → News) (kept : WindowRecord → WindowRecord) → ((w : WindowRecord) → B w.serial w.floating w.layers → B (kept w).serial (kept w).floating (kept w).layers) → (before after : FullState) → IsFrameNotified s news kept before after → Every B before.desk.windows → Every B after.desk.windows
   told_holds s news kept same before after told h =
       subst (λ (d : FullDesk). Every B d.windows) (sym told.desk)
       (every_changed B s (λ w. record (kept w) { definition = told.definition }) same before.desk.windows h)
 
-  heard_holds : (flag : Flag) (w : WindowRecord) → B w.serial w.layers → B (with_heard flag w).serial (with_heard flag w).layers
+  heard_holds : (flag : Flag) (w : WindowRecord) → B w.serial w.floating w.layers → B (with_heard flag w).serial (with_heard flag w).floating (with_heard flag w).layers
   heard_holds Highlighting w h = h
   heard_holds Zooming w h = h
 
@@ -186,7 +186,7 @@ shown_on before after shows font controls lists was = shows ∙ was.shown ∙ (�
 pub frames_leave : (call : FrameCall) (answer : Result FrameReply Refusal) (before after : DeskState) (s : ControlsState) → IsFrameStep call answer before after → AreWholeControls before.windows.desk.windows s → AreWholeControls after.windows.desk.windows s
 frames_leave call answer before after s step whole =
     let counts = frame_counts call answer before after step in
-    whole_on s before.windows.desk.windows after.windows.desk.windows (λ x. let count = counts.count x in omega arith)
+    whole_on s before.windows.desk.windows after.windows.desk.windows (λ x. let count = counts.count either_class x in omega arith)
     (frame_holds (joined_to s.controls) call answer before after step (joined_every s before.windows.desk.windows whole)) whole
 
 pub updates_leave : (call : UpdateCall) (answer : Result WindowReply Refusal) (before after : DeskState) (s : ControlsState) → IsUpdateStep call answer before after → AreWholeControls before.windows.desk.windows s → AreWholeControls after.windows.desk.windows s
@@ -198,7 +198,7 @@ menus_leave call answer before after s step whole = subst (λ ws. AreWholeContro
 pub frames_leave_lists : (call : FrameCall) (answer : Result FrameReply Refusal) (before after : DeskState) (s : ListsState) → IsFrameStep call answer before after → AreWholeLists before.windows.desk.windows s → AreWholeLists after.windows.desk.windows s
 frames_leave_lists call answer before after s step whole =
     let counts = frame_counts call answer before after step in
-    lists_on s before.windows.desk.windows after.windows.desk.windows (λ x. let count = counts.count x in omega arith)
+    lists_on s before.windows.desk.windows after.windows.desk.windows (λ x. let count = counts.count either_class x in omega arith)
     (frame_holds (listed_to s.lists) call answer before after step (listed_every s before.windows.desk.windows whole)) whole
 
 pub updates_leave_lists : (call : UpdateCall) (answer : Result WindowReply Refusal) (before after : DeskState) (s : ListsState) → IsUpdateStep call answer before after → AreWholeLists before.windows.desk.windows s → AreWholeLists after.windows.desk.windows s

@@ -48,7 +48,7 @@ use Rattle.desk_toolbox.proofs.Bonds.{Bond, Every, HoldsOn, every_all, done_hold
 use Rattle.desk_toolbox.proofs.ContentsBeside.{IsRightToolbox, caught_up_holds, joined_every, joined_to, listed_every, listed_to, no_lists_of_missing, none_of_missing}
 use Rattle.desk_toolbox.proofs.KeptDesks.{told_keeps}
 use Rattle.desk_toolbox.proofs.StepCounts.{AreNumbered, HasLess, Recount, told_recounts, disposed_is_gone, right_is_numbered}
-use Rattle.desk_toolbox.proofs.Totals.{copies, found_counts, counted_is_found, serial_of_counted}
+use Rattle.desk_toolbox.proofs.Totals.{copies, counted_is_found, either_class, found_counts, serial_of_counted}
 
 -- ---- the windows after a call on them
 
@@ -68,28 +68,29 @@ module _ (B : Bond) where
   placed_holds None before after holds h = holds h
   placed_holds (Some p) before after holds h = holds h
 
-  call_holds : (call : WindowCall) (desk before after : FullDesk) → HoldsOn B (effect_of call desk) before after → ((n : ℕ) → before.next ≡ Some n → B n []) → Every B before.windows → Every B after.windows
-  call_holds (asks.New w) desk before after (n, next, holds) fresh h = holds (fresh n next) h
+  call_holds : (call : WindowCall) (desk before after : FullDesk) → HoldsOn B (effect_of call desk) before after → ((n : ℕ) (f : Bool) → before.next ≡ Some n → B n f []) → Every B before.windows → Every B after.windows
+  call_holds (asks.New w) desk before after (n, next, holds) fresh h = holds (fresh n false next) h
+  call_holds (asks.NewFloating w) desk before after (n, next, holds) fresh h = holds (fresh n true next) h
   call_holds (asks.Size z) desk before after holds fresh h = placed_holds (sized z (record_with z.window desk.windows)) before after holds h
   call_holds (asks.Zoom z) desk before after holds fresh h = placed_holds (zoomed z (record_with z.window desk.windows) desk) before after holds h
   call_holds _ desk before after holds fresh h = holds h
 
-  answer_holds : (asked : Option PixelSet) (call : WindowCall) (answer : WindowReply) (before after : DeskState) → IsWindowAnswer asked call (Ok answer) before after → ((n : ℕ) → before.windows.desk.next ≡ Some n → B n []) → Every B before.windows.desk.windows → Every B after.windows.desk.windows
+  answer_holds : (asked : Option PixelSet) (call : WindowCall) (answer : WindowReply) (before after : DeskState) → IsWindowAnswer asked call (Ok answer) before after → ((n : ℕ) (f : Bool) → before.windows.desk.next ≡ Some n → B n f []) → Every B before.windows.desk.windows → Every B after.windows.desk.windows
   answer_holds None call answer before after step fresh h =
       call_holds call before.windows.desk before.windows.desk after.windows.desk (done_holds B call answer before.windows after.windows step.1.1) fresh h
   answer_holds (Some set) call answer before after step fresh h = subst (λ (d : FullDesk). Every B d.windows) (sym step.1.windows.desk) h
 
 -- each control is in a window that is there, or in the one that is gone
 stays_there : (o : Option ℕ) (c : ℕ) (before after : FullDesk) → Recount o before after → (o ≡ Some c → ⊥) → is_missing c before.windows ≡ false → is_missing c after.windows ≡ false
-stays_there None c before after (inl same) other here = let some = found_counts c before.windows here in let count = same.count c in counted_is_found c after.windows (omega arith)
-stays_there None c before after (inr (n, more)) other here = let some = found_counts c before.windows here in let count = more.count c in counted_is_found c after.windows (omega arith)
+stays_there None c before after (inl same) other here = let some = found_counts c before.windows here in let count = same.count either_class c in counted_is_found c after.windows (omega arith)
+stays_there None c before after (inr (n, more)) other here = let some = found_counts c before.windows here in let count = more.count either_class c in counted_is_found c after.windows (omega arith)
 stays_there (Some d) c before after less other here = by_this (d == c) refl
   where
     by_this : (b : Bool) → (d == c) ≡ b → is_missing c after.windows ≡ false
     by_this true e = absurd (other (ap Some (eqb-true d c e)))
     by_this false e =
         let some = found_counts c before.windows here in
-        let all : copies c before.windows ≡ 0 + copies c after.windows = subst (λ (b : Bool). copies c before.windows ≡ (if b then 1 else 0) + copies c after.windows) e (less.count c) in
+        let all : copies c before.windows ≡ 0 + copies c after.windows = subst (λ (b : Bool). copies c before.windows ≡ (if b then 1 else 0) + copies c after.windows) e (less.count either_class c) in
         counted_is_found c after.windows (omega arith)
 
 module _ (call : WindowCall) (answer : WindowReply) (before : ToolboxState) (middle : DeskState) (told : FullState) (was : AreContentsRight before) (numbered : AreNumbered before.desk.windows.desk)
@@ -107,19 +108,19 @@ module _ (call : WindowCall) (answer : WindowReply) (before : ToolboxState) (mid
   recount = told_recounts call answer before.desk middle told answered caught
 
   -- what holds of the layers of each window, and of none where it is new
-  holds : (B : Bond) → ((n : ℕ) → before.desk.windows.desk.next ≡ Some n → B n []) → Every B ws → Every B told.desk.windows
+  holds : (B : Bond) → ((n : ℕ) (f : Bool) → before.desk.windows.desk.next ≡ Some n → B n f []) → Every B ws → Every B told.desk.windows
   holds B fresh every =
       caught_up_holds B (window_standing call) middle.windows told caught
       (answer_holds B (narrowed call before.desk.activity before.desk.begun) call answer before.desk middle answered fresh every)
 
   joined : Every (joined_to cs) told.desk.windows
   joined = holds (joined_to cs)
-      (λ n next. subst (λ own. AreLayersOf own []) (sym (none_of_missing n cs ws was.controls.somewhere (next_is_new before.desk.windows.desk n numbered next))) (All-nil (λ (k : Layer). is_of Controls k.part ≡ false)))
+      (λ n f next. subst (λ own. AreLayersOf own []) (sym (none_of_missing n cs ws was.controls.somewhere (next_is_new before.desk.windows.desk n numbered next))) (All-nil (λ (k : Layer). is_of Controls k.part ≡ false)))
       (joined_every before.controls ws was.controls)
 
   listed : Every (listed_to ls) told.desk.windows
   listed = holds (listed_to ls)
-      (λ n next. subst (λ own. AreListLayers own []) (sym (no_lists_of_missing n ls ws was.lists.somewhere (next_is_new before.desk.windows.desk n numbered next))) tt)
+      (λ n f next. subst (λ own. AreListLayers own []) (sym (no_lists_of_missing n ls ws was.lists.somewhere (next_is_new before.desk.windows.desk n numbered next))) tt)
       (listed_every before.lists ws was.lists)
 
   shows : told.desk.shows ≡ controls_show (lists_show ls) cs told.desk.font

@@ -1,5 +1,5 @@
 -- The stock of windows has all definitions but those of the windows that are there, whatever is called.
-use Rattle.std.proofs.Common.{◌≡◌, inl, inr, ℕ, ◌+◌, ◌==◌, Bool, true, false, if◌then◌else◌, List, [], ◌∷◌, ◌++◌, map, Option, None, Some, Result, Ok, Err, refl, sym, ap, ◌∙◌, subst, arith}
+use Rattle.std.proofs.Common.{◌≡◌, inl, inr, ℕ, ◌+◌, ◌==◌, Bool, true, false, if◌then◌else◌, List, [], ◌∷◌, ◌++◌, map, Option, None, Some, Result, Ok, Err, refl, sym, ap, ◌∙◌, subst, arith, zero, suc}
 use Rattle.std.specs.Prelude.{slice_get}
 use Rattle.tb_geom.specs.declared.refusal.Refusal.{Refusal}
 use Rattle.tb_geom.specs.Points.{PixelSet, plus}
@@ -22,14 +22,17 @@ use Rattle.desk_call.specs.declared.window.WindowCall.{WindowCall}
 use Rattle.desk_call.specs.declared.window.WindowCall.TheVariants as asks
 use Rattle.desk_call.specs.declared.window.WindowReply.{WindowReply}
 use Rattle.desk_call.specs.Gates.{window_standing}
-use Rattle.vis_update.specs.Records.{WindowRecord}
+use Rattle.window_list.specs.Classes.{back_place, front_place}
+use Rattle.std.specs.List.{insert}
+use Rattle.desk_toolbox.proofs.Totals.{alone}
+use Rattle.vis_update.specs.Records.{WindowRecord, is_floating}
 use Rattle.vis_update.specs.Touches.{is_this}
 use Rattle.window_mgr.specs.declared.arrange.Activation.{Activation}
 use Rattle.window_mgr.specs.declared.arrange.Activation.TheVariants.{Stays, Becomes}
-use Rattle.window_mgr.specs.Arrange.{Arrangement, activated, activation_of, at_place, behind_this, brought, changed, in_front, put_behind, sent, with_highlighting, with_placement, with_shown, without}
+use Rattle.window_mgr.specs.Arrange.{Arrangement, activated, activation_of, at_place, behind_this, brought, changed, in_front, put_behind, put_next, sent, with_highlighting, with_placement, with_shown, without}
 use Rattle.window_mgr.specs.Closing.{IsShut}
 use Rattle.window_mgr.specs.DeskStates.{DeskState, narrowed}
-use Rattle.window_mgr.specs.Effects.{Effect, IsArrangement, IsEffect, IsNewWindow, IsWindowDisposed, effect_of, places, with_drawn, with_new_picture, with_scrolled}
+use Rattle.window_mgr.specs.Effects.{Effect, IsArrangement, IsEffect, IsNewWindow, IsWindowDisposed, begins_active, effect_of, new_record, places, with_drawn, with_new_picture, with_scrolled}
 use Rattle.window_mgr.specs.Effects.Effect.{Makes, Disposes, Draws, Pictures, Scrolls, Arranges, Places, Tells, Describes}
 use Rattle.window_mgr.specs.Finding.{front_of, record_with}
 use Rattle.window_mgr.specs.FrameNotices.{IsFrameNotified}
@@ -80,30 +83,39 @@ module _ (k : ℕ) where
       by_this true rest = λ i. use_of k (same w i) + takes k ws
       by_this false rest = λ i. use_of k w.slot + rest i
 
-  takes_without : (s : ℕ) (ws : List WindowRecord) → takes k ws ≡ takes k (in_front (record_with s ws) []) + takes k (without s ws)
+  takes_without : (s : ℕ) (ws : List WindowRecord) → takes k ws ≡ takes k (alone (record_with s ws)) + takes k (without s ws)
   takes_without s [] = refl
   takes_without s (w ∷ ws) = by_this (w.serial == s) (takes_without s ws)
     where
-      by_this : (b : Bool) → takes k ws ≡ takes k (in_front (record_with s ws) []) + takes k (without s ws) → use_of k w.slot + takes k ws ≡ takes k (in_front (if b then Some w else record_with s ws) []) + takes k (if b then ws else w ∷ without s ws)
+      by_this : (b : Bool) → takes k ws ≡ takes k (alone (record_with s ws)) + takes k (without s ws) → use_of k w.slot + takes k ws ≡ takes k (alone (if b then Some w else record_with s ws)) + takes k (if b then ws else w ∷ without s ws)
       by_this true rest = omega arith
       by_this false rest = omega arith
 
-  takes_in_front : (o : Option WindowRecord) (ws : List WindowRecord) → takes k (in_front o ws) ≡ takes k (in_front o []) + takes k ws
+  takes_insert : (n : ℕ) (w : WindowRecord) (ws : List WindowRecord) → takes k (insert ws n w) ≡ use_of k w.slot + takes k ws
+  takes_insert zero w ws = refl
+  takes_insert (suc n) w [] = refl
+  takes_insert (suc n) w (v ∷ vs) = let rest = takes_insert n w vs in omega arith
+
+  takes_in_front : (o : Option WindowRecord) (ws : List WindowRecord) → takes k (in_front o ws) ≡ takes k (alone o) + takes k ws
   takes_in_front None ws = omega arith
-  takes_in_front (Some w) ws = omega arith
+  takes_in_front (Some w) ws = let all = takes_insert (front_place is_floating (is_floating w) ws) w ws in omega arith
 
   takes_brought : (s : ℕ) (ws : List WindowRecord) → takes k (brought s ws) ≡ takes k ws
   takes_brought s ws = takes_in_front (record_with s ws) (without s ws) ∙ sym (takes_without s ws)
 
-  takes_put : (x : Option ℕ) (w : WindowRecord) (ws : List WindowRecord) → takes k (put_behind x w ws) ≡ use_of k w.slot + takes k ws
-  takes_put x w [] = refl
-  takes_put x w (v ∷ vs) = by_this (is_this x v.serial) (takes_put x w vs)
+  takes_next : (x : ℕ) (w : WindowRecord) (ws : List WindowRecord) → takes k (put_next x w ws) ≡ use_of k w.slot + takes k ws
+  takes_next x w [] = refl
+  takes_next x w (v ∷ vs) = by_this (v.serial == x) (takes_next x w vs)
     where
-      by_this : (b : Bool) → takes k (put_behind x w vs) ≡ use_of k w.slot + takes k vs → takes k (if b then v ∷ w ∷ vs else v ∷ put_behind x w vs) ≡ use_of k w.slot + (use_of k v.slot + takes k vs)
+      by_this : (b : Bool) → takes k (put_next x w vs) ≡ use_of k w.slot + takes k vs → takes k (if b then v ∷ w ∷ vs else v ∷ put_next x w vs) ≡ use_of k w.slot + (use_of k v.slot + takes k vs)
       by_this true rest = omega arith
       by_this false rest = omega arith
 
-  takes_behind : (x : Option ℕ) (o : Option WindowRecord) (ws : List WindowRecord) → takes k (behind_this x o ws) ≡ takes k (in_front o []) + takes k ws
+  takes_put : (x : Option ℕ) (w : WindowRecord) (ws : List WindowRecord) → takes k (put_behind x w ws) ≡ use_of k w.slot + takes k ws
+  takes_put None w ws = takes_insert (back_place is_floating (is_floating w) ws) w ws
+  takes_put (Some x) w ws = takes_next x w ws
+
+  takes_behind : (x : Option ℕ) (o : Option WindowRecord) (ws : List WindowRecord) → takes k (behind_this x o ws) ≡ takes k (alone o) + takes k ws
   takes_behind x None ws = omega arith
   takes_behind x (Some w) ws = takes_put x w ws ∙ omega arith
 
@@ -144,15 +156,18 @@ abbrev TakesAgain : Effect → FullDesk → Type 0
 TakesAgain (Arranges a) desk = (k : ℕ) → takes k a.windows ≡ takes k desk.windows
 TakesAgain _ desk = Unit {0}
 
-new_stocked : (w : NewWindow) (n : ℕ) (before after : FullState) → IsNewWindow w n before after → AreWindowsStocked before.desk → AreWindowsStocked after.desk
-new_stocked w n before after new h =
+new_stocked : (floating : Bool) (w : NewWindow) (n : ℕ) (before after : FullState) → IsNewWindow floating w n before after → AreWindowsStocked before.desk → AreWindowsStocked after.desk
+new_stocked floating w n before after new h =
     alike (slots_of before.desk.windows ++ new.loan.slot ∷ []) (slots_of after.desk.windows) after.desk.stock one_more
     (stocked_with stage_of (slots_of before.desk.windows) w.kind new.loan before.desk.stock after.desk.stock new.taken h)
   where
     one_more : (k : ℕ) → takes k after.desk.windows ≡ uses k (slots_of before.desk.windows ++ new.loan.slot ∷ [])
     one_more k =
-        let all : takes k after.desk.windows ≡ use_of k new.loan.slot + takes k (if w.shown then map (with_highlighting false before.desk.active) before.desk.windows else before.desk.windows) = ap (λ (d : FullDesk). takes k d.windows) new.desk in
-        let behind = takes_behind_new k w.shown before.desk.active before.desk.windows in
+        let rest = if begins_active floating w then map (with_highlighting false before.desk.active) before.desk.windows else before.desk.windows in
+        let made = new_record floating w n new.loan.slot new.begun in
+        let all : takes k after.desk.windows ≡ takes k (insert rest (front_place is_floating floating rest) made) = ap (λ (d : FullDesk). takes k d.windows) new.desk in
+        let more : takes k (insert rest (front_place is_floating floating rest) made) ≡ use_of k new.loan.slot + takes k rest = takes_insert k (front_place is_floating floating rest) made rest in
+        let behind = takes_behind_new k (begins_active floating w) before.desk.active before.desk.windows in
         let end = uses-append k (slots_of before.desk.windows) new.loan.slot in
         omega arith
 
@@ -167,7 +182,7 @@ disposed_stocked s before after gone h =
     let rest = without s before.desk.windows in
     let shut : IsShut _ before.desk.stock after.desk.stock = gone.shut in
     let first = alike (slots_of before.desk.windows) (gone.window.slot ∷ slots_of rest) before.desk.stock
-    (λ k. sym (takes_without k s before.desk.windows ∙ ap (λ o. takes k (in_front o []) + takes k rest) gone.found ∙ nothing_more (use_of k gone.window.slot) (takes k rest))) h in
+    (λ k. sym (takes_without k s before.desk.windows ∙ ap (λ o. takes k (alone o) + takes k rest) gone.found ∙ nothing_more (use_of k gone.window.slot) (takes k rest))) h in
     alike (slots_of rest) (slots_of after.desk.windows) after.desk.stock
     (λ k. ap (λ (d : FullDesk). takes k d.windows) gone.desk ∙ takes_activated k _ before.desk.active rest)
     (stocked_without stage_of 0 (gone.window.slot ∷ slots_of rest) (record { definition = shut.definition; slot = gone.window.slot }) before.desk.stock after.desk.stock refl shut.closed shut.back first)
@@ -176,7 +191,7 @@ disposed_stocked s before after gone h =
     nothing_more m n = omega arith
 
 effect_stocked : (effect : Effect) (answer : WindowReply) (before after : FullState) → TakesAgain effect before.desk → IsEffect effect answer before after → AreWindowsStocked before.desk → AreWindowsStocked after.desk
-effect_stocked (Makes w) answer before after all (n, is, new) h = new_stocked w n before after new h
+effect_stocked (Makes floating w) answer before after all (n, is, new) h = new_stocked floating w n before after new h
 effect_stocked (Draws d) answer before after all (is, drawn) h =
     same_stocked before.desk after.desk (record {
       stock = ap (λ (x : FullDesk). x.stock) drawn.desk;

@@ -34,6 +34,7 @@ use Rattle.desk_toolbox.specs.Run.{put_down}
 use Rattle.desk_toolbox.proofs.UpdatedDesks.{update_keeps_desk}
 use Rattle.desk_toolbox.proofs.StepCounts.{Recount, HasSame, IsGone, same_desk, frame_counts, menu_counts, window_recounts, gone_stays, disposed_is_gone, present_is_not_gone, right_is_numbered}
 use Rattle.desk_toolbox.proofs.Stands.{Stands, stands}
+use Rattle.desk_toolbox.proofs.Totals.{ordinary_is_present}
 use Rattle.desk_toolbox.proofs.TrackedControls.{control_counts}
 use Rattle.desk_toolbox.proofs.ListStands.{list_counts}
 use Rattle.desk_toolbox.proofs.KeptDesks.{refused_keeps_desk}
@@ -41,20 +42,20 @@ use Rattle.desk_toolbox.proofs.Telling.{forgotten_if, left_after, telling_on, ev
 use Rattle.desk_toolbox.proofs.Consistent.{step_keeps_consistent, just_begun_is_consistent}
 
 -- a window is disposed of, if one is, and then others
-abbrev disposing : Option ℕ → List Step → List Step
+abbrev pub disposing : Option ℕ → List Step → List Step
 disposing None rest = rest
 disposing (Some w) rest = IsDisposed w ∷ rest
 
 -- the steps of the history that a call is, in front of others
-abbrev steps_of : Call → Result Reply Refusal → Option ℕ → List Step → List Step
+abbrev pub steps_of : Call → Result Reply Refusal → Option ℕ → List Step → List Step
 steps_of call answer active rest = BecomesActive active ∷ disposing (disposed_by call answer) (telling_on call answer rest)
 
 -- ---- what one step of a run is
 
-record IsOneStep (call : Call) (answer : Result Reply Refusal) (before after : ToolboxState) : Type 0 where
-  tells : (rest : List Step) → telling before.events.told before.desk.windows.desk.active (steps_of call answer after.desk.windows.desk.active rest)
+pub record IsOneStep (call : Call) (answer : Result Reply Refusal) (before after : ToolboxState) : Type 0 where
+  pub tells : (rest : List Step) → telling before.events.told before.desk.windows.desk.active (steps_of call answer after.desk.windows.desk.active rest)
       ≡ activate_event_told call answer ++ telling after.events.told after.desk.windows.desk.active rest
-  recount : Recount (disposed_by call answer) before.desk.windows.desk after.desk.windows.desk
+  pub recount : Recount (disposed_by call answer) before.desk.windows.desk after.desk.windows.desk
 
 -- nothing is told, and what is disposed of is forgotten
 quiet : (o told active new_active new : Option ℕ) (rest : List Step) → new ≡ forgotten_if o told → telling told active (BecomesActive new_active ∷ disposing o rest) ≡ telling new new_active rest
@@ -129,7 +130,7 @@ each_goes_on = record {
   event = λ call answer before after step was. event_step_is call answer before after was step;
 }
 
-one_step : (call : Call) (answer : Result Reply Refusal) (before after : ToolboxState) → Stands before → IsStep call answer before after → IsOneStep call answer before after
+pub one_step : (call : Call) (answer : Result Reply Refusal) (before after : ToolboxState) → Stands before → IsStep call answer before after → IsOneStep call answer before after
 one_step call answer before after was step = of_step GoesOnByOne each_goes_on call answer before after step was
 
 -- ---- runs
@@ -176,6 +177,7 @@ history_of first last (call ∷ calls) (answer ∷ answers) was run =
     let before = stands first was in
     let next = step_keeps_consistent call answer first middle was run.1 in
     let after = stands middle next in
+    let present = ordinary_is_present desk.active desk.windows after.active in
     let step = one_step call answer first middle before run.1 in
     let rest = history_of middle last calls answers next run.2 in
     let gone_now = λ (w : ℕ) (e : disposed_by call answer ≡ Some w).
@@ -183,12 +185,12 @@ history_of first last (call ∷ calls) (answer ∷ answers) was run =
     record {
       steps = steps_of call answer desk.active rest.steps;
       history = history_on (disposed_by call answer) desk.active call answer rest.steps rest.history (λ w e.
-          (present_is_not_gone desk.active w desk (gone_now w e) after.active, rest.gone w (gone_now w e)));
+          (present_is_not_gone desk.active w desk (gone_now w e) present, rest.gone w (gone_now w e)));
       tells = step.tells rest.steps ∙ ap (λ (es : List Event). activate_event_told call answer ++ es) rest.tells;
       kept = λ w h. kept_on w (disposed_by call answer) call answer rest.steps h.0 (rest.kept w h.1);
       gone = λ w g.
           let still = gone_stays (disposed_by call answer) w first.desk.windows.desk desk step.recount g in
-          (present_is_not_gone desk.active w desk still after.active, gone_on w (disposed_by call answer) call answer rest.steps (rest.gone w still));
+          (present_is_not_gone desk.active w desk still present, gone_on w (disposed_by call answer) call answer rest.steps (rest.gone w still));
     }
 
 -- from a desk that just began

@@ -20,7 +20,7 @@ use Rattle.desk_toolbox.specs.ToolboxStates.{ToolboxState}
 
 module _ {A : Type 0} (f : FullDesk → A) (apart : (d : FullDesk) (ws : List WindowRecord) (active next : Option ℕ) (stock : List SlotView) → f (record d { windows = ws; active = active; next = next; stock = stock }) ≡ f d) where
   effect_keeps : (effect : Effect) (answer : WindowReply) (before after : FullState) → IsEffect effect answer before after → f after.desk ≡ f before.desk
-  effect_keeps (Makes w) answer before after (n, is, new) = ap f new.desk ∙ apart before.desk _ _ _ _
+  effect_keeps (Makes floating w) answer before after (n, is, new) = ap f new.desk ∙ apart before.desk _ _ _ _
   effect_keeps (Draws d) answer before after (is, drawn) = ap f drawn.desk ∙ apart before.desk _ _ _ _
   effect_keeps (Pictures n) answer before after (is, placed) = ap f placed.desk ∙ apart before.desk _ _ _ _
   effect_keeps (Scrolls m) answer before after (is, scrolled) = ap f scrolled.desk ∙ apart before.desk _ _ _ _

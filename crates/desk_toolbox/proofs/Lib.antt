@@ -16,6 +16,8 @@ pub mod Told
 pub mod Telling
 pub mod Tracked
 pub mod LiveDefinitions
+pub mod Classed
+pub mod KeptClasses
 pub mod HeldWindows
 pub mod Stands
 pub mod StandsOpen
@@ -43,6 +45,7 @@ pub mod ControlsAside
 pub mod ListsAside
 pub mod Consistent
 pub mod Histories
+pub mod ClassLaws
 pub mod Shown
 pub mod FrontLaws
 pub mod FindLaws

@@ -30,7 +30,7 @@ use Rattle.desk_toolbox.proofs.PulledMenus.{same_pull}
 use Rattle.desk_toolbox.proofs.StepCounts.{HasSame}
 use Rattle.desk_toolbox.proofs.Stands.{Stands, apart_stays, bar_stays, idle_now, stands_still}
 use Rattle.desk_toolbox.proofs.Told.{ArePosted}
-use Rattle.desk_toolbox.proofs.Totals.{Present, copies, counting, present_when, total}
+use Rattle.desk_toolbox.proofs.Totals.{Classing, Has, Ordinary, Present, counted, counting, either_class, has_when, of_class, total}
 use Rattle.desk_toolbox.proofs.Tracked.{misled}
 use Rattle.desk_toolbox.proofs.TrackedControls.{bare_informed, bare_total, informed_bare, none_used_at, none_whole}
 
@@ -50,7 +50,7 @@ list_counts call answer before after step =
     let facts = (list_facts call answer (with_lists before) (with_lists after) step).0 in
     record {
       next = ap (λ (d : FullDesk). d.next) facts.rest;
-      count = λ s. bare_total (counting s) before.desk.windows.desk.windows after.desk.windows.desk.windows facts.windows;
+      count = λ c s. bare_total (counting c s) before.desk.windows.desk.windows after.desk.windows.desk.windows facts.windows;
     }
 
 pub list_stands : (call : ListCall) (answer : Result ListReply Refusal) (before after : ToolboxState) → gate before.desk.activity (list_standing call) ≡ None → Stands before → IsRightToolbox after → IsListStep call answer (with_lists before) (with_lists after) → after.events ≡ before.events → after.menus ≡ before.menus → Stands after
@@ -72,20 +72,20 @@ list_stands call (Ok answer) before after may was right step events menus = ⊎_
     activity : after.desk.activity ≡ before.desk.activity
     activity = facts.activity.activity
 
-    count : (s : ℕ) → copies s vs ≡ copies s ws
-    count s = bare_total (counting s) ws vs facts.windows
+    count : (c : Classing) (s : ℕ) → counted c s vs ≡ counted c s ws
+    count c s = bare_total (counting c s) ws vs facts.windows
 
-    stay : (o : Option ℕ) → Present o ws → Present o vs
-    stay o h = present_when o ws vs (λ s. let its = count s in omega arith) h
+    stay : (c : Classing) (o : Option ℕ) → Has c o ws → Has c o vs
+    stay c o h = has_when c o ws vs (λ s. let its = count c s in omega arith) h
 
     changed : before.desk.activity ≡ Idle → Stands after
     changed idle = record {
       right = right.right;
       contents = right.contents;
       trackable = subst (λ a. IsTrackable a after.controls.controls) (sym (activity ∙ idle)) tt;
-      active = subst (λ o. Present o vs) (sym (ap (λ (d : FullDesk). d.active) facts.rest)) (stay before.desk.windows.desk.active was.active);
-      told = subst (λ (e : Events). Present e.told vs) (sym events) (stay before.events.told was.told);
-      opened = subst (λ a. Present (open_window a) vs) (sym activity) (stay (open_window before.desk.activity) was.opened);
+      active = subst (λ o. Ordinary o vs) (sym (ap (λ (d : FullDesk). d.active) facts.rest)) (stay (of_class false) before.desk.windows.desk.active was.active);
+      told = subst (λ (e : Events). Ordinary e.told vs) (sym events) (stay (of_class false) before.events.told was.told);
+      opened = subst (λ a. Present (open_window a) vs) (sym activity) (stay either_class (open_window before.desk.activity) was.opened);
       queued = subst (λ (e : Events). ArePosted e.queue.events) (sym events) was.queued;
       informed = bare_informed vs (subst AreInformed (sym facts.windows) (informed_bare ws was.informed));
       tracked = ap (λ a. total (misled a) vs) activity ∙ bare_total (misled before.desk.activity) ws vs facts.windows ∙ was.tracked;

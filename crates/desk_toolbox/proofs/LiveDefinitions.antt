@@ -1,5 +1,5 @@
 -- Each window's definition is live, was told its size, and goes by what the record says that it heard, whatever is called.
-use Rattle.std.proofs.Common.{◌≡◌, inl, inr, ℕ, ◌==◌, Bool, true, false, if◌then◌else◌, List, [], ◌∷◌, ◌++◌, map, Option, None, Some, Result, Ok, Err, refl, sym, ap, subst}
+use Rattle.std.proofs.Common.{◌≡◌, inl, inr, ℕ, ◌==◌, Bool, true, false, if◌then◌else◌, List, [], ◌∷◌, ◌++◌, map, Option, None, Some, Result, Ok, Err, refl, sym, ap, subst, zero, suc}
 use Rattle.std.specs.Prelude.{All}
 use Rattle.std.specs.Option.{is_some}
 use Rattle.std.proofs.lemmas.List.Elements.{All-cons, All-head, All-nil, All-tail}
@@ -22,14 +22,16 @@ use Rattle.desk_call.specs.declared.window.WindowCall.{WindowCall}
 use Rattle.desk_call.specs.declared.window.WindowCall.TheVariants as asks
 use Rattle.desk_call.specs.declared.window.WindowReply.{WindowReply}
 use Rattle.desk_call.specs.Gates.{window_standing}
-use Rattle.vis_update.specs.Records.{WindowRecord, news_of}
+use Rattle.window_list.specs.Classes.{back_place, front_place}
+use Rattle.std.specs.List.{insert}
+use Rattle.vis_update.specs.Records.{WindowRecord, news_of, is_floating}
 use Rattle.vis_update.specs.Touches.{is_this}
 use Rattle.window_mgr.specs.declared.arrange.Activation.{Activation}
 use Rattle.window_mgr.specs.declared.arrange.Activation.TheVariants.{Stays, Becomes}
-use Rattle.window_mgr.specs.Arrange.{activated, activation_of, at_place, behind_this, brought, changed, in_front, put_behind, sent, with_highlighting, with_placement, with_shown, without}
+use Rattle.window_mgr.specs.Arrange.{activated, activation_of, at_place, behind_this, brought, changed, in_front, put_behind, put_next, sent, with_highlighting, with_placement, with_shown, without}
 use Rattle.desk_call.specs.declared.window.SendBehind.{SendBehind}
 use Rattle.window_mgr.specs.DeskStates.{DeskState, narrowed}
-use Rattle.window_mgr.specs.Effects.{Effect, IsEffect, IsNewWindow, IsToldSize, effect_of, first_news, new_record, places, with_drawn, with_new_picture, with_scrolled}
+use Rattle.window_mgr.specs.Effects.{Effect, IsEffect, IsNewWindow, IsToldSize, effect_of, begins_active, first_news, new_record, places, with_drawn, with_new_picture, with_scrolled}
 use Rattle.window_mgr.specs.Effects.Effect.{Makes, Disposes, Draws, Pictures, Scrolls, Arranges, Places, Tells, Describes}
 use Rattle.window_mgr.specs.Finding.{front_of, record_with}
 use Rattle.window_mgr.specs.FrameNotices.{IsFrameNotified}
@@ -92,20 +94,29 @@ module _ (P : WindowRecord → Type 0) where
       by_this true rest = All-tail P w ws h
       by_this false rest = All-cons P w (without s ws) (All-head P w ws h) rest
 
+  each_insert : (k : ℕ) (w : WindowRecord) (ws : List WindowRecord) → P w → All P ws → All P (insert ws k w)
+  each_insert zero w ws its h = All-cons P w ws its h
+  each_insert (suc k) w [] its h = All-cons P w [] its h
+  each_insert (suc k) w (v ∷ vs) its h = All-cons P v (insert vs k w) (All-head P v vs h) (each_insert k w vs its (All-tail P v vs h))
+
   each_brought : (s : ℕ) (ws : List WindowRecord) → All P ws → All P (brought s ws)
   each_brought s ws h = by_found (record_with s ws) refl
     where
       by_found : (o : Option WindowRecord) → record_with s ws ≡ o → All P (in_front o (without s ws))
       by_found None e = each_without s ws h
-      by_found (Some w) e = All-cons P w (without s ws) (found_has s ws w e h) (each_without s ws h)
+      by_found (Some w) e = each_insert (front_place is_floating (is_floating w) (without s ws)) w (without s ws) (found_has s ws w e h) (each_without s ws h)
+
+  each_next : (x : ℕ) (w : WindowRecord) (ws : List WindowRecord) → P w → All P ws → All P (put_next x w ws)
+  each_next x w [] its h = All-cons P w [] its h
+  each_next x w (v ∷ vs) its h = by_this (v.serial == x) (each_next x w vs its (All-tail P v vs h))
+    where
+      by_this : (b : Bool) → All P (put_next x w vs) → All P (if b then v ∷ w ∷ vs else v ∷ put_next x w vs)
+      by_this true rest = All-cons P v (w ∷ vs) (All-head P v vs h) (All-cons P w vs its (All-tail P v vs h))
+      by_this false rest = All-cons P v (put_next x w vs) (All-head P v vs h) rest
 
   each_put : (x : Option ℕ) (w : WindowRecord) (ws : List WindowRecord) → P w → All P ws → All P (put_behind x w ws)
-  each_put x w [] its h = All-cons P w [] its h
-  each_put x w (v ∷ vs) its h = by_this (is_this x v.serial) (each_put x w vs its (All-tail P v vs h))
-    where
-      by_this : (b : Bool) → All P (put_behind x w vs) → All P (if b then v ∷ w ∷ vs else v ∷ put_behind x w vs)
-      by_this true rest = All-cons P v (w ∷ vs) (All-head P v vs h) (All-cons P w vs its (All-tail P v vs h))
-      by_this false rest = All-cons P v (put_behind x w vs) (All-head P v vs h) rest
+  each_put None w ws its h = each_insert (back_place is_floating (is_floating w) ws) w ws its h
+  each_put (Some x) w ws its h = each_next x w ws its h
 
   each_sent : (b : SendBehind) (ws : List WindowRecord) → All P ws → All P (sent b ws)
   each_sent b ws h = by_found (record_with b.window ws) refl
@@ -138,11 +149,11 @@ abbrev AreArrangedLive : Effect → Type 0
 AreArrangedLive (Arranges a) = HaveLive a.windows
 AreArrangedLive _ = Unit {0}
 
-new_live : (w : NewWindow) (n : ℕ) (before after : FullState) → (new : IsNewWindow w n before after) → HasLiveDefinition (new_record w n new.loan.slot new.begun)
-new_live w n before after new = record {
+new_live : (floating : Bool) (w : NewWindow) (n : ℕ) (before after : FullState) → (new : IsNewWindow floating w n before after) → HasLiveDefinition (new_record floating w n new.loan.slot new.begun)
+new_live floating w n before after new = record {
   live = new.live.live;
   told = new.live.told;
-  goes_by = goes_by_all (first_news w) new.loan.definition new.begun new.live.heard;
+  goes_by = goes_by_all (first_news floating w) new.loan.definition new.begun new.live.heard;
 }
 
 placed_live : (p : Placing) (w : WindowRecord) (d : Definition) → HasLiveDefinition w → IsToldSize p.to.size (told_placed p.to.size (is_some p.to.user_state)) w.definition d → HasLiveDefinition (with_placement p.to d w)
@@ -156,10 +167,11 @@ same_live : (before after : FullState) → after.desk ≡ before.desk → HaveLi
 same_live before after same h = subst (λ (d : FullDesk). HaveLive d.windows) (sym same) h
 
 drawn_live : (effect : Effect) (answer : WindowReply) (before after : FullState) → AreArrangedLive effect → IsEffect effect answer before after → HaveLive before.desk.windows → HaveLive after.desk.windows
-drawn_live (Makes w) answer before after all (n, is, new) h =
+drawn_live (Makes floating w) answer before after all (n, is, new) h =
+    let rest = if begins_active floating w then map (with_highlighting false before.desk.active) before.desk.windows else before.desk.windows in
     subst (λ (d : FullDesk). HaveLive d.windows) (sym new.desk)
-    (All-cons HasLiveDefinition (new_record w n new.loan.slot new.begun) (if w.shown then map (with_highlighting false before.desk.active) before.desk.windows else before.desk.windows)
-    (new_live w n before after new) (behind_live w.shown before.desk.active before.desk.windows h))
+    (each_insert HasLiveDefinition (front_place is_floating floating rest) (new_record floating w n new.loan.slot new.begun) rest
+    (new_live floating w n before after new) (behind_live (begins_active floating w) before.desk.active before.desk.windows h))
 drawn_live (Draws d) answer before after all (is, drawn) h =
     subst (λ (x : FullDesk). HaveLive x.windows) (sym drawn.desk)
     (each_mapped HasLiveDefinition (with_drawn d.window drawn.operation) (λ w its. by_this w its (w.serial == d.window)) before.desk.windows h)

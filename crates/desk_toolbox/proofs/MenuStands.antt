@@ -26,7 +26,7 @@ use Rattle.desk_toolbox.proofs.ContentsBeside.{IsRightToolbox}
 use Rattle.desk_toolbox.specs.ToolboxStates.{ToolboxState, with_menus}
 use Rattle.desk_toolbox.proofs.MenuNumbers.{menu_keeps_apart}
 use Rattle.desk_toolbox.proofs.PulledSteps.{menu_keeps_pull}
-use Rattle.desk_toolbox.proofs.Totals.{total, Present}
+use Rattle.desk_toolbox.proofs.Totals.{Ordinary, Present, total}
 use Rattle.desk_toolbox.proofs.Told.{ArePosted}
 use Rattle.desk_toolbox.proofs.Tracked.{misled}
 use Rattle.desk_toolbox.proofs.Stands.{Stands, idle_now}
@@ -126,8 +126,8 @@ menu_stands call answer before after may was right step events =
       right = right.right;
       contents = right.contents;
       trackable = none_tracked after.desk.activity after.controls.controls opens;
-      active = subst (λ vs. Present after.desk.windows.desk.active vs) (sym windows) (subst (λ o. Present o ws) (sym active) was.active);
-      told = subst (λ vs. Present after.events.told vs) (sym windows) (subst (λ (e : Events). Present e.told ws) (sym events) was.told);
+      active = subst (λ vs. Ordinary after.desk.windows.desk.active vs) (sym windows) (subst (λ o. Ordinary o ws) (sym active) was.active);
+      told = subst (λ vs. Ordinary after.events.told vs) (sym windows) (subst (λ (e : Events). Ordinary e.told ws) (sym events) was.told);
       opened = none_opened after.desk.activity now opens;
       queued = subst (λ (e : Events). ArePosted e.queue.events) (sym events) was.queued;
       informed = subst AreInformed (sym windows) was.informed;

@@ -31,7 +31,7 @@ use Rattle.desk_toolbox.proofs.PulledMenus.{IsPullRight, still_without}
 use Rattle.desk_toolbox.proofs.Stands.{Stands, apart_stays, bar_stays, idle_now, stands_still}
 use Rattle.desk_toolbox.proofs.StandsOpen.{not_refused}
 use Rattle.desk_toolbox.proofs.Told.{ArePosted}
-use Rattle.desk_toolbox.proofs.Totals.{total, Present, found_counts}
+use Rattle.desk_toolbox.proofs.Totals.{Ordinary, Present, found_counts, total}
 use Rattle.desk_toolbox.proofs.Tracked.{misled}
 
 -- ---- what is open
@@ -167,8 +167,8 @@ module _ (before after : ToolboxState) (desk : after.desk.windows.desk ≡ befor
         right = right.right;
         contents = right.contents;
         trackable = outlining_tracks_none after.desk.activity after.controls.controls now;
-        active = subst (λ (d : FullDesk). Present d.active d.windows) (sym desk) was.active;
-        told = subst (λ (d : FullDesk). Present after.events.told d.windows) (sym desk) (subst (λ (e : Events). Present e.told ws) (sym rest.events) was.told);
+        active = subst (λ (d : FullDesk). Ordinary d.active d.windows) (sym desk) was.active;
+        told = subst (λ (d : FullDesk). Ordinary after.events.told d.windows) (sym desk) (subst (λ (e : Events). Ordinary e.told ws) (sym rest.events) was.told);
         opened = subst (λ (d : FullDesk). Present (open_window after.desk.activity) d.windows) (sym desk) here;
         queued = subst (λ (e : Events). ArePosted e.queue.events) (sym rest.events) was.queued;
         informed = subst (λ (d : FullDesk). AreInformed d.windows) (sym desk) was.informed;

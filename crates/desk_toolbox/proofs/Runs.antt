@@ -213,7 +213,7 @@ counted_on before after numbers same h = subst (λ (d : FullDesk). AreCounted d.
 
 -- what is told is no number of a new window
 abbrev IsNumberless : Effect → Type 0
-IsNumberless (Makes w) = Unit {0}
+IsNumberless (Makes floating w) = Unit {0}
 IsNumberless (Draws d) = Unit {0}
 IsNumberless (Pictures n) = Unit {0}
 IsNumberless (Scrolls m) = Unit {0}
@@ -230,6 +230,7 @@ placed_numberless (Some p) = tt
 
 numberless : (call : WindowCall) (desk : FullDesk) → IsNumberless (effect_of call desk)
 numberless (asks.New w) desk = tt
+numberless (asks.NewFloating w) desk = tt
 numberless (asks.Draw d) desk = tt
 numberless (asks.SetPicture n) desk = tt
 numberless (asks.Scroll m) desk = tt
@@ -264,7 +265,7 @@ region_is_numberless set (Info info) told = refl
 
 -- the numbers that follow an effect, with its own in front if it gave one
 effect_is_counted : (effect : Effect) (answer : WindowReply) (before after : FullState) (numbers : List ℕ) → IsNumberless effect → IsEffect effect answer before after → AreCounted after.desk.next numbers → AreCounted before.desk.next (serial_made answer ++ numbers)
-effect_is_counted (Makes w) answer before after numbers none (n, is, new) h =
+effect_is_counted (Makes floating w) answer before after numbers none (n, is, new) h =
     subst (λ (a : WindowReply). AreCounted before.desk.next (serial_made a ++ numbers)) (sym is) (new.serials, subst (λ (d : FullDesk). AreCounted d.next numbers) new.desk h)
 effect_is_counted (Draws d) answer before after numbers none (is, drawn) h =
     subst (λ (a : WindowReply). AreCounted before.desk.next (serial_made a ++ numbers)) (sym is) (subst (λ (d : FullDesk). AreCounted d.next numbers) drawn.desk h)

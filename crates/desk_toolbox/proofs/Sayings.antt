@@ -10,19 +10,19 @@ use Rattle.def_iface.specs.Scratch.{scratch}
 use Rattle.def_iface.proofs.Painting.{scratch_is_owners}
 use Rattle.vis_update.specs.Records.{WindowRecord}
 use Rattle.window_mgr.specs.FullDesk.{FullDesk, layered_desk}
-use Rattle.window_mgr.specs.Finding.{front_of}
+use Rattle.window_mgr.specs.Finding.{front_of, is_leading}
 use Rattle.tb_geom.specs.Refusals.{first_refusal}
 
 pub scratch_is_owners_on : (desk : FullDesk) (p : Point) → IsDesk (layered_desk desk) → scratch (layered_desk desk) p ≡ own_bit (layered_desk desk) (owner (layered_desk desk) p) p
 scratch_is_owners_on desk p distinct = scratch_is_owners (layered_desk desk) p distinct
 
-pub front_is_first : (windows : List WindowRecord) → front_of windows ≡ option_map (λ w. w.serial) (find (λ w. w.shown) windows)
+pub front_is_first : (windows : List WindowRecord) → front_of windows ≡ option_map (λ w. w.serial) (find is_leading windows)
 front_is_first [] = refl
-front_is_first (w ∷ ws) = by_shown w.shown (front_is_first ws)
+front_is_first (w ∷ ws) = by_leading (is_leading w) (front_is_first ws)
   where
-    by_shown : (b : Bool) → front_of ws ≡ option_map (λ w. w.serial) (find (λ w. w.shown) ws) → (if b then Some w.serial else front_of ws) ≡ option_map (λ w. w.serial) (if b then Some w else find (λ w. w.shown) ws)
-    by_shown true rest = refl
-    by_shown false rest = rest
+    by_leading : (b : Bool) → front_of ws ≡ option_map (λ w. w.serial) (find is_leading ws) → (if b then Some w.serial else front_of ws) ≡ option_map (λ w. w.serial) (if b then Some w else find is_leading ws)
+    by_leading true rest = refl
+    by_leading false rest = rest
 
 pub refusal_is_first : (refusals : List (Bool × Refusal)) → first_refusal refusals ≡ option_map (λ r. r.1) (find (λ r. r.0) refusals)
 refusal_is_first [] = refl

@@ -1,6 +1,7 @@
 -- What holds of a reached state, with windows counted, after calls on windows and about events.
-use Rattle.std.proofs.Common.{◌≡◌, ℕ, List, Option, None, Some, Result, Ok, Err, refl, sym, ap, ◌∙◌, subst, arith}
+use Rattle.std.proofs.Common.{◌≡◌, ℕ, ◌≤◌, Bool, true, false, List, Option, None, Some, Result, Ok, Err, refl, sym, ap, ◌∙◌, subst, arith}
 use Rattle.std.specs.Prelude.{All}
+use Rattle.std.specs.Option.{option_map}
 use Rattle.tb_geom.specs.declared.refusal.Refusal.{Refusal}
 use Rattle.tb_geom.specs.Points.{PixelSet}
 use Rattle.desk_call.specs.declared.activity.Activity.{Activity}
@@ -13,9 +14,10 @@ use Rattle.desk_call.specs.declared.window.WindowCall.{WindowCall}
 use Rattle.desk_call.specs.declared.window.WindowCall.TheVariants as asks
 use Rattle.desk_call.specs.declared.window.WindowReply.{WindowReply}
 use Rattle.desk_call.specs.Gates.{gate, window_standing}
-use Rattle.vis_update.specs.Records.{WindowRecord}
+use Rattle.vis_update.specs.Records.{WindowRecord, is_floating}
 use Rattle.vis_update.specs.Touches.{is_this}
 use Rattle.window_mgr.specs.Effects.{IsEffect, effect_of}
+use Rattle.window_mgr.specs.Finding.{record_with}
 use Rattle.window_mgr.specs.FullDesk.{FullDesk, FullState, IsRightState}
 use Rattle.window_mgr.specs.DeskStates.{DeskState, narrowed}
 use Rattle.control_mgr.specs.ControlDesks.{ControlsState}
@@ -27,25 +29,26 @@ use Rattle.window_frame.specs.Followers.{AreInformed, IsCaughtUpBy}
 use Rattle.window_frame.proofs.FrameKeeps.{caught_up_keeps}
 use Rattle.desk_toolbox.specs.declared.events.Events.{Events}
 use Rattle.desk_toolbox.specs.Activations.{to_dispose}
+use Rattle.desk_toolbox.specs.Classes.{AreClassed, IsOrdinary}
 use Rattle.desk_toolbox.specs.EventSteps.{event_step}
 use Rattle.desk_toolbox.specs.Reached.{AreMenusApart, AreContentsRight, AreWindowsStocked, HasLiveDefinition, IsThere, IsConsistent, open_window}
 use Rattle.desk_toolbox.specs.Run.{AreControlsLeft, IsWindowAnswer, IsWindowMade, IsEventAnswer}
 use Rattle.desk_toolbox.specs.ToolboxStates.{ToolboxState}
 use Rattle.desk_toolbox.proofs.HeldSteps.{AreMenusHeld}
 use Rattle.desk_toolbox.proofs.PulledMenus.{IsPullRight, same_pull}
-use Rattle.desk_toolbox.proofs.Totals.{total, Present, present_when, found_counts, counted_is_found}
+use Rattle.desk_toolbox.proofs.Totals.{Ordinary, Present, counted, counted_is_found, counted_of_class, distinct_counts, either_class, found_counts, found_of_class, has_when, of_class, total}
 use Rattle.desk_toolbox.proofs.Recounts.{done_counts, done_keeps_active}
 use Rattle.desk_toolbox.proofs.ContentsBeside.{IsRightToolbox}
 use Rattle.desk_toolbox.proofs.KeptDesks.{made_keeps, refused_keeps_desk}
-use Rattle.desk_toolbox.proofs.StepCounts.{Apart, caught_up_counts, caught_up_total, same_and_same, shown_counts, window_recounts, stays_present}
+use Rattle.desk_toolbox.proofs.StepCounts.{Apart, AreNumbered, caught_up_counts, caught_up_total, right_is_numbered, same_and_same, shown_counts, stays, window_recounts}
 use Rattle.desk_toolbox.proofs.Told.{ArePosted, step_are_posted}
-use Rattle.desk_toolbox.proofs.Telling.{step_told_present, left_after, forgotten_present}
+use Rattle.desk_toolbox.proofs.Telling.{forgotten_ordinary, left_after, step_told_ordinary}
 use Rattle.desk_toolbox.proofs.Tracked.{misled, none_misled, all_heard_rightly, counted_none}
 
 pub record Stands (s : ToolboxState) : Type 0 where
   pub right : IsRightState s.desk.windows
-  pub active : Present s.desk.windows.desk.active s.desk.windows.desk.windows
-  pub told : Present s.events.told s.desk.windows.desk.windows
+  pub active : Ordinary s.desk.windows.desk.active s.desk.windows.desk.windows
+  pub told : Ordinary s.events.told s.desk.windows.desk.windows
   pub opened : Present (open_window s.desk.activity) s.desk.windows.desk.windows
   pub contents : AreContentsRight s
   pub trackable : IsTrackable s.desk.activity s.controls.controls
@@ -64,11 +67,26 @@ present_is_there : (o : Option ℕ) (ws : List WindowRecord) → Present o ws �
 present_is_there None ws h = tt
 present_is_there (Some s) ws h = counted_is_found s ws h
 
+-- an ordinary window that is there counts as one, and one alone that counts so is ordinary
+ordinary_counts : (o : Option ℕ) (ws : List WindowRecord) → IsOrdinary o ws → Ordinary o ws
+ordinary_counts None ws h = tt
+ordinary_counts (Some s) ws h = by_found (record_with s ws) refl h
+  where
+    by_found : (o : Option WindowRecord) → record_with s ws ≡ o → option_map is_floating o ≡ Some false → Ordinary (Some s) ws
+    by_found None found e = absurd (cc)
+    by_found (Some w) found e =
+        let its : w.floating ≡ false = cc in
+        subst (λ (b : Bool). 1 ≤ counted (of_class b) s ws) its (found_of_class s ws w found)
+
+pub counts_ordinary : (o : Option ℕ) (desk : FullDesk) → AreNumbered desk → Ordinary o desk.windows → IsOrdinary o desk.windows
+counts_ordinary None desk numbered h = tt
+counts_ordinary (Some s) desk numbered h = counted_of_class false s desk.windows (distinct_counts numbered.look s desk.windows numbered.distinct) h
+
 pub stands : (s : ToolboxState) → IsConsistent s → Stands s
 stands s h = record {
   right = h.right;
-  active = there_is_present s.desk.windows.desk.active s.desk.windows.desk.windows h.active;
-  told = there_is_present s.events.told s.desk.windows.desk.windows h.told;
+  active = ordinary_counts s.desk.windows.desk.active s.desk.windows.desk.windows h.active;
+  told = ordinary_counts s.events.told s.desk.windows.desk.windows h.told;
   opened = there_is_present (open_window s.desk.activity) s.desk.windows.desk.windows h.opened;
   contents = h.contents;
   trackable = h.trackable;
@@ -80,11 +98,12 @@ stands s h = record {
   pull = record { pulled = h.pulled; lit = h.lit };
 }
 
-pub consistent : (s : ToolboxState) → Stands s → AreWindowsStocked s.desk.windows.desk → All HasLiveDefinition s.desk.windows.desk.windows → AreMenusHeld s.menus → AreBarsGiven s.controls.next s.lists.lists → IsConsistent s
-consistent s h held live menus bars = record {
+pub consistent : (s : ToolboxState) → Stands s → AreWindowsStocked s.desk.windows.desk → All HasLiveDefinition s.desk.windows.desk.windows → AreClassed s.desk.windows.desk.windows → AreMenusHeld s.menus → AreBarsGiven s.controls.next s.lists.lists → IsConsistent s
+consistent s h held live classed menus bars = record {
   right = h.right;
-  active = present_is_there s.desk.windows.desk.active s.desk.windows.desk.windows h.active;
-  told = present_is_there s.events.told s.desk.windows.desk.windows h.told;
+  active = counts_ordinary s.desk.windows.desk.active s.desk.windows.desk (right_is_numbered s.desk.windows h.right) h.active;
+  told = counts_ordinary s.events.told s.desk.windows.desk (right_is_numbered s.desk.windows h.right) h.told;
+  classed = classed;
   opened = present_is_there (open_window s.desk.activity) s.desk.windows.desk.windows h.opened;
   contents = h.contents;
   trackable = h.trackable;
@@ -117,13 +136,13 @@ apart_stays before after menus was = subst (λ (m : MenusState). AreMenusApart m
 -- ---- where the desk and what is open did not change
 
 module _ (before after : ToolboxState) (desk : after.desk.windows.desk ≡ before.desk.windows.desk) (activity : after.desk.activity ≡ before.desk.activity) (controls : after.controls ≡ before.controls) (menus : after.menus ≡ before.menus) where
-  pub stands_on : Stands before → IsRightToolbox after → Present after.events.told before.desk.windows.desk.windows → ArePosted after.events.queue.events → Stands after
+  pub stands_on : Stands before → IsRightToolbox after → Ordinary after.events.told before.desk.windows.desk.windows → ArePosted after.events.queue.events → Stands after
   stands_on was right told queued = record {
     right = right.right;
     contents = right.contents;
     trackable = trackable_stays before after activity controls was.trackable;
-    active = subst (λ (d : FullDesk). Present d.active d.windows) (sym desk) was.active;
-    told = subst (λ (d : FullDesk). Present after.events.told d.windows) (sym desk) told;
+    active = subst (λ (d : FullDesk). Ordinary d.active d.windows) (sym desk) was.active;
+    told = subst (λ (d : FullDesk). Ordinary after.events.told d.windows) (sym desk) told;
     opened = subst (λ (d : FullDesk). Present (open_window after.desk.activity) d.windows) (sym desk) (subst (λ a. Present (open_window a) before.desk.windows.desk.windows) (sym activity) was.opened);
     queued = queued;
     informed = subst (λ (d : FullDesk). AreInformed d.windows) (sym desk) was.informed;
@@ -135,7 +154,7 @@ module _ (before after : ToolboxState) (desk : after.desk.windows.desk ≡ befor
 
   pub stands_still : after.events ≡ before.events → Stands before → IsRightToolbox after → Stands after
   stands_still events was right = stands_on was right
-      (subst (λ (e : Events). Present e.told before.desk.windows.desk.windows) (sym events) was.told)
+      (subst (λ (e : Events). Ordinary e.told before.desk.windows.desk.windows) (sym events) was.told)
       (subst (λ (e : Events). ArePosted e.queue.events) (sym events) was.queued)
 
 -- ---- calls about events
@@ -145,7 +164,7 @@ event_stands call answer before after was right step =
     let active = before.desk.windows.desk.active in
     let events : after.events ≡ (event_step call active step.update before.events).1 = ap (λ (x : Result EventReply Refusal × Events). x.1) step.step in
     stands_on before after step.desk.windows.desk step.desk.activity step.controls step.menus was right
-    (subst (λ (e : Events). Present e.told before.desk.windows.desk.windows) (sym events) (step_told_present call active step.update before.events before.desk.windows.desk.windows was.told was.active))
+    (subst (λ (e : Events). Ordinary e.told before.desk.windows.desk.windows) (sym events) (step_told_ordinary call active step.update before.events before.desk.windows.desk.windows was.told was.active))
     (subst (λ (e : Events). ArePosted e.queue.events) (sym events) (step_are_posted call active step.update before.events was.queued))
 
 -- ---- calls on windows
@@ -169,13 +188,13 @@ answer_keeps_activity : (asked : Option PixelSet) (call : WindowCall) (answer : 
 answer_keeps_activity None call answer before after step = step.0.activity
 answer_keeps_activity (Some set) call answer before after step = step.1.activity
 
-answer_keeps_active : (asked : Option PixelSet) (call : WindowCall) (answer : WindowReply) (before after : DeskState) → IsWindowAnswer asked call (Ok answer) before after → Present before.windows.desk.active before.windows.desk.windows → Present after.windows.desk.active after.windows.desk.windows
+answer_keeps_active : (asked : Option PixelSet) (call : WindowCall) (answer : WindowReply) (before after : DeskState) → IsWindowAnswer asked call (Ok answer) before after → Ordinary before.windows.desk.active before.windows.desk.windows → Ordinary after.windows.desk.active after.windows.desk.windows
 answer_keeps_active None call answer before after step was = done_keeps_active call answer before.windows after.windows step.1.1 was
-answer_keeps_active (Some set) call answer before after step was = subst (λ (d : FullDesk). Present d.active d.windows) (sym step.1.windows.desk) was
+answer_keeps_active (Some set) call answer before after step was = subst (λ (d : FullDesk). Ordinary d.active d.windows) (sym step.1.windows.desk) was
 
 answer_misleads_none : (asked : Option PixelSet) (call : WindowCall) (answer : WindowReply) (activity : Activity) (before after : DeskState) → IsWindowAnswer asked call (Ok answer) before after → total (misled activity) before.windows.desk.windows ≡ 0 → total (misled activity) after.windows.desk.windows ≡ 0
 answer_misleads_none None call answer activity before after step none =
-    counted_none (misled activity) (effect_of call before.windows.desk) before.windows.desk after.windows.desk (λ n. refl) (done_counts call answer before.windows after.windows step.1.1) none
+    counted_none (misled activity) (effect_of call before.windows.desk) before.windows.desk after.windows.desk (λ n floating. refl) (done_counts call answer before.windows after.windows step.1.1) none
 answer_misleads_none (Some set) call answer activity before after step none = ap (λ (d : FullDesk). total (misled activity) d.windows) step.1.windows.desk ∙ none
 
 -- a call that asks leaves the desk
@@ -221,14 +240,14 @@ done_stands call answer before after may was right made =
       contents = right.contents;
       trackable = left_trackable call before after may activity made.controls was.trackable;
       active =
-          subst (λ o. Present o desk.windows) (sym (ap (λ (s : FullState). s.desk.active) made.shown ∙ caught_up_keeps (λ d. d.active) (λ d ws. refl) (window_standing call) made.middle.windows made.told made.caught_up))
-          (present_when made.middle.windows.desk.active made.middle.windows.desk.windows desk.windows (λ s. let count = followed.count s in omega arith) (answer_keeps_active asked call answer before.desk made.middle made.answered was.active));
+          subst (λ o. Ordinary o desk.windows) (sym (ap (λ (s : FullState). s.desk.active) made.shown ∙ caught_up_keeps (λ d. d.active) (λ d ws. refl) (window_standing call) made.middle.windows made.told made.caught_up))
+          (has_when (of_class false) made.middle.windows.desk.active made.middle.windows.desk.windows desk.windows (λ s. let count = followed.count (of_class false) s in omega arith) (answer_keeps_active asked call answer before.desk made.middle made.answered was.active));
       told =
-          subst (λ (e : Events). Present e.told desk.windows) (sym left)
-          (forgotten_present (to_dispose call) before.events.told desk.windows (λ apart. stays_present (to_dispose call) before.events.told was_desk desk recount apart was.told));
+          subst (λ (e : Events). Ordinary e.told desk.windows) (sym left)
+          (forgotten_ordinary (to_dispose call) before.events.told desk.windows (λ apart. stays (of_class false) (to_dispose call) before.events.told was_desk desk recount apart was.told));
       opened =
           subst (λ a. Present (open_window a) desk.windows) (sym activity)
-          (stays_present (to_dispose call) (open_window before.desk.activity) was_desk desk recount (apart_open call before.desk.activity may) was.opened);
+          (stays either_class (to_dispose call) (open_window before.desk.activity) was_desk desk recount (apart_open call before.desk.activity may) was.opened);
       queued = subst (λ (e : Events). ArePosted e.queue.events) (sym left) was.queued;
       informed = subst (λ (s : FullState). AreInformed s.desk.windows) (sym made.shown) (caught_up_informs (window_standing call) before.desk.windows made.middle.windows made.told made.caught_up (answer_keeps_desk asked call answer before.desk made.middle made.answered) was.informed);
       tracked =

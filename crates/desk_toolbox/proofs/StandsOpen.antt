@@ -36,7 +36,7 @@ use Rattle.desk_toolbox.specs.Reached.{open_window}
 use Rattle.desk_toolbox.specs.Run.{IsRestKept}
 use Rattle.desk_toolbox.specs.ToolboxStates.{ToolboxState}
 use Rattle.desk_toolbox.proofs.UpdatedDesks.{update_keeps_desk}
-use Rattle.desk_toolbox.proofs.Totals.{total, copies, Present, present_when, found_counts}
+use Rattle.desk_toolbox.proofs.Totals.{Classing, Has, Ordinary, Present, copies, either_class, found_counts, has_when, of_class, total}
 use Rattle.desk_toolbox.proofs.StepCounts.{frame_counts, told_total}
 use Rattle.desk_toolbox.proofs.Told.{ArePosted}
 use Rattle.desk_toolbox.proofs.Tracked.{misled, tracking_told, tracking_begins, tracking_ends}
@@ -95,8 +95,8 @@ update_stands call (Ok answer) before after may was right step rest =
       right = right.right;
       contents = right.contents;
       trackable = subst (λ (s : ControlsState). IsTrackable after.desk.activity s.controls) (sym rest.controls) (update_trackable before.desk after.desk before.controls.controls was.trackable call (Ok answer) step);
-      active = subst (λ (d : FullDesk). Present d.active d.windows) (sym desk) was.active;
-      told = subst (λ (d : FullDesk). Present after.events.told d.windows) (sym desk) (subst (λ (e : Events). Present e.told ws) (sym rest.events) was.told);
+      active = subst (λ (d : FullDesk). Ordinary d.active d.windows) (sym desk) was.active;
+      told = subst (λ (d : FullDesk). Ordinary after.events.told d.windows) (sym desk) (subst (λ (e : Events). Ordinary e.told ws) (sym rest.events) was.told);
       opened = subst (λ (d : FullDesk). Present (open_window after.desk.activity) d.windows) (sym desk) (update_opens call before.desk after.desk step.0 step.1.1 was.opened);
       queued = subst (λ (e : Events). ArePosted e.queue.events) (sym rest.events) was.queued;
       informed = subst (λ (d : FullDesk). AreInformed d.windows) (sym desk) was.informed;
@@ -204,14 +204,14 @@ frame_stands call (Ok answer) before after may was right step rest =
     let ws = after.desk.windows.desk.windows in
     let counts = frame_counts call (Ok answer) before.desk after.desk step in
     let active = frame_keeps (λ d. d.active) (λ d ws. refl) call (Ok answer) before.desk after.desk step in
-    let stay = λ (o : Option ℕ) (h : Present o was_ws). present_when o was_ws ws (λ s. let count = counts.count s in omega arith) h in
+    let stay = λ (c : Classing) (o : Option ℕ) (h : Has c o was_ws). has_when c o was_ws ws (λ s. let count = counts.count c s in omega arith) h in
     record {
       right = right.right;
       contents = right.contents;
       trackable = subst (λ (s : ControlsState). IsTrackable after.desk.activity s.controls) (sym rest.controls) (frame_trackable before.desk after.desk before.controls.controls was.trackable call (Ok answer) step);
-      active = subst (λ o. Present o ws) (sym active) (stay before.desk.windows.desk.active was.active);
-      told = subst (λ (e : Events). Present e.told ws) (sym rest.events) (stay before.events.told was.told);
-      opened = stay (open_window after.desk.activity) (frame_opens call answer before.desk after.desk step.0 step.1 was.opened);
+      active = subst (λ o. Ordinary o ws) (sym active) (stay (of_class false) before.desk.windows.desk.active was.active);
+      told = subst (λ (e : Events). Ordinary e.told ws) (sym rest.events) (stay (of_class false) before.events.told was.told);
+      opened = stay either_class (open_window after.desk.activity) (frame_opens call answer before.desk after.desk step.0 step.1 was.opened);
       queued = subst (λ (e : Events). ArePosted e.queue.events) (sym rest.events) was.queued;
       informed = frame_informs call answer before.desk after.desk step.1 was.informed;
       tracked = frame_misleads_none call answer before.desk after.desk may was.right step.1 was.tracked;

@@ -39,25 +39,27 @@ use Rattle.menu_mgr.specs.MenuSteps.{IsMenuStep}
 use Rattle.menu_mgr.proofs.MenuKeeps.{menu_keeps}
 use Rattle.desk_toolbox.specs.Activations.{to_dispose}
 use Rattle.desk_toolbox.specs.Run.{IsWindowAnswer, IsWindowAnswered, shown_with}
-use Rattle.desk_toolbox.proofs.Totals.{Weight, weight_of, total, counting, copies, Present, total_changed, present_when, found_counts, distinct_counts, serial_of_counted}
+use Rattle.desk_toolbox.proofs.Totals.{Classing, Has, Present, Weight, copies, counted, counting, distinct_counts, either_class, found_counts, has_when, serial_of_counted, total, total_changed, weight_of}
 use Rattle.desk_toolbox.proofs.Recounts.{IsKept, Counts, done_counts}
 
 -- there are the same windows, by their serials
 pub record HasSame (before after : FullDesk) : Type 0 where
   pub next : after.next ≡ before.next
-  pub count : (s : ℕ) → copies s after.windows ≡ copies s before.windows
+  pub count : (c : Classing) (s : ℕ) → counted c s after.windows ≡ counted c s before.windows
 
 -- there is one more, of the next number
 pub record HasMore (n : ℕ) (before after : FullDesk) : Type 0 where
+  pub floating : Bool
   pub serials : before.next ≡ Some n
   pub next : after.next ≡ serial_after n
-  pub count : (s : ℕ) → copies s after.windows ≡ (if n == s then 1 else 0) + copies s before.windows
+  pub count : (c : Classing) (s : ℕ) → counted c s after.windows ≡ (if n == s then c floating else 0) + counted c s before.windows
 
 -- there is one less, which was of this number
 pub record HasLess (d : ℕ) (before after : FullDesk) : Type 0 where
+  pub floating : Bool
   pub found : is_missing d before.windows ≡ false
   pub next : after.next ≡ before.next
-  pub count : (s : ℕ) → copies s before.windows ≡ (if d == s then 1 else 0) + copies s after.windows
+  pub count : (c : Classing) (s : ℕ) → counted c s before.windows ≡ (if d == s then c floating else 0) + counted c s after.windows
 
 -- this window is gone, if one is, and else there are the same or one more
 abbrev pub Recount : Option ℕ → FullDesk → FullDesk → Type 0
@@ -65,15 +67,15 @@ Recount None before after = HasSame before after ⊎ ((n : ℕ) × HasMore n bef
 Recount (Some d) before after = HasLess d before after
 
 pub same_desk : (before after : FullDesk) → after ≡ before → HasSame before after
-same_desk before after same = record { next = ap (λ (d : FullDesk). d.next) same; count = λ s. ap (λ (d : FullDesk). copies s d.windows) same }
+same_desk before after same = record { next = ap (λ (d : FullDesk). d.next) same; count = λ c s. ap (λ (d : FullDesk). counted c s d.windows) same }
 
 pub same_and_same : (a b c : FullDesk) → HasSame a b → HasSame b c → HasSame a c
-same_and_same a b c first rest = record { next = rest.next ∙ first.next; count = λ s. rest.count s ∙ first.count s }
+same_and_same a b c first rest = record { next = rest.next ∙ first.next; count = λ c s. rest.count c s ∙ first.count c s }
 
 recount_and_same : (o : Option ℕ) (a b c : FullDesk) → Recount o a b → HasSame b c → Recount o a c
 recount_and_same None a b c (inl first) rest = inl (same_and_same a b c first rest)
-recount_and_same None a b c (inr (n, first)) rest = inr (n, record { serials = first.serials; next = rest.next ∙ first.next; count = λ s. rest.count s ∙ first.count s })
-recount_and_same (Some d) a b c first rest = record { found = first.found; next = rest.next ∙ first.next; count = λ s. let f = first.count s in let r = rest.count s in cc }
+recount_and_same None a b c (inr (n, first)) rest = inr (n, record { floating = first.floating; serials = first.serials; next = rest.next ∙ first.next; count = λ c s. rest.count c s ∙ first.count c s })
+recount_and_same (Some d) a b c first rest = record { floating = first.floating; found = first.found; next = rest.next ∙ first.next; count = λ c s. let f = first.count c s in let r = rest.count c s in cc }
 
 -- ---- definitions that are told
 
@@ -104,28 +106,28 @@ module _ (g : Weight) where
 pub caught_up_counts : (standing : Standing) (before after : FullState) → IsCaughtUpBy standing before after → HasSame before.desk after.desk
 caught_up_counts standing before after told = record {
   next = caught_up_keeps (λ d. d.next) (λ d ws. refl) standing before after told;
-  count = λ s. caught_up_total (counting s) standing before after told;
+  count = λ c s. caught_up_total (counting c s) standing before after told;
 }
 
-told_counts : (s : ℕ) (news : WindowRecord → News → News) (kept : WindowRecord → WindowRecord) → ((w : WindowRecord) → (kept w).serial ≡ w.serial) → (before after : FullState) → IsFrameNotified s news kept before after → HasSame before.desk after.desk
+told_counts : (s : ℕ) (news : WindowRecord → News → News) (kept : WindowRecord → WindowRecord) → ((c : Classing) (x : ℕ) (w : WindowRecord) → weight_of (counting c x) (kept w) ≡ weight_of (counting c x) w) → (before after : FullState) → IsFrameNotified s news kept before after → HasSame before.desk after.desk
 told_counts s news kept same before after told = record {
   next = ap (λ (d : FullDesk). d.next) told.desk;
-  count = λ x. told_total (counting x) s news kept (λ w its. ap (λ n. if n == x then 1 else 0) (same w)) before after told;
+  count = λ c x. told_total (counting c x) s news kept (λ w its. same c x w) before after told;
 }
 
 -- ---- calls about frames
 
 tracking_counts : (inside : Bool) (s : ℕ) (before after : FullState) → IsTrackingNotified inside s before after → HasSame before.desk after.desk
 tracking_counts inside s before after (inl (missing, same)) = same_desk before.desk after.desk (ap (λ (x : FullState). x.desk) same)
-tracking_counts inside s before after (inr told) = told_counts s (λ _. told_tracked inside) (with_tracked inside) (λ w. refl) before after told
+tracking_counts inside s before after (inr told) = told_counts s (λ _. told_tracked inside) (with_tracked inside) (λ c x w. refl) before after told
 
 begun_counts : (s : ℕ) (inside : Bool) (before after : DeskState) → IsBegunAt s inside before after → HasSame before.windows.desk after.windows.desk
 begun_counts s true before after (tracked, told) = tracking_counts true s before.windows after.windows told
 begun_counts s false before after same = same_desk before.windows.desk after.windows.desk same.windows.desk
 
 effect_counts : (call : FrameCall) (answer : FrameReply) (before after : DeskState) → IsFrameEffect call answer before after → HasSame before.windows.desk after.windows.desk
-effect_counts (SetTitle n) Done before after (same, told) = told_counts n.window (λ _. told_title n.title) (with_title n.title) (λ w. refl) before.windows after.windows told
-effect_counts (Hilite h) Done before after (same, told) = told_counts h.window (λ _. told_highlighted h.highlighted) (with_flag h.highlighted) (λ w. refl) before.windows after.windows told
+effect_counts (SetTitle n) Done before after (same, told) = told_counts n.window (λ _. told_title n.title) (with_title n.title) (λ c x w. refl) before.windows after.windows told
+effect_counts (Hilite h) Done before after (same, told) = told_counts h.window (λ _. told_highlighted h.highlighted) (with_flag h.highlighted) (λ c x w. refl) before.windows after.windows told
 effect_counts (TrackGoAway g) (Tracked inside) before after (is, begun) = begun_counts g.window inside before after begun
 effect_counts (StepGoAway p) (Tracked inside) before after (same, tracked) = tracking_counts inside tracked.window before.windows after.windows tracked.told
 effect_counts (EndGoAway p) (Tracked inside) before after (idle, tracked) = tracking_counts false tracked.window before.windows after.windows tracked.told
@@ -144,21 +146,22 @@ frame_counts call (Err e) before after step = same_desk before.windows.desk afte
 pub menu_counts : (call : MenuCall) (answer : Result MenuReply Refusal) (before after : MenuDesk) → IsMenuStep call answer before after → HasSame before.desk.windows.desk after.desk.windows.desk
 menu_counts call answer before after step = record {
   next = menu_keeps (λ d. d.next) (λ d titles. refl) call answer before after step;
-  count = λ s. menu_keeps (λ d. copies s d.windows) (λ d titles. refl) call answer before after step;
+  count = λ c s. menu_keeps (λ d. counted c s d.windows) (λ d titles. refl) call answer before after step;
 }
 
 -- ---- calls on windows
 
 kept_is_same : (before after : FullDesk) → IsKept before after → Recount None before after
-kept_is_same before after kept = inl (record { next = kept.next; count = λ s. kept.all (counting s) })
+kept_is_same before after kept = inl (record { next = kept.next; count = λ c s. kept.all (counting c s) })
 
 placed_recounts : (o : Option Placing) (before after : FullDesk) → Counts (places o) before after → Recount None before after
 placed_recounts None before after kept = kept_is_same before after kept
 placed_recounts (Some p) before after kept = kept_is_same before after kept
 
 call_recounts : (call : WindowCall) (desk before after : FullDesk) → Counts (effect_of call desk) before after → Recount (to_dispose call) before after
-call_recounts (asks.New w) desk before after (n, added) = inr (n, record { serials = added.serials; next = added.next; count = λ s. added.all (counting s) })
-call_recounts (asks.Dispose s) desk before after removed = record { found = removed.found; next = removed.next; count = λ x. removed.all (counting x) }
+call_recounts (asks.New w) desk before after (n, added) = inr (n, record { floating = added.floating; serials = added.serials; next = added.next; count = λ c s. added.all (counting c s) })
+call_recounts (asks.NewFloating w) desk before after (n, added) = inr (n, record { floating = added.floating; serials = added.serials; next = added.next; count = λ c s. added.all (counting c s) })
+call_recounts (asks.Dispose s) desk before after removed = record { floating = removed.floating; found = removed.found; next = removed.next; count = λ c x. removed.all (counting c x) }
 call_recounts (asks.Size z) desk before after kept = placed_recounts (sized z (record_with z.window desk.windows)) before after kept
 call_recounts (asks.Zoom z) desk before after kept = placed_recounts (zoomed z (record_with z.window desk.windows) desk) before after kept
 call_recounts _ desk before after kept = kept_is_same before after kept
@@ -185,7 +188,7 @@ told_recounts call answer before middle told answered caught =
 pub shown_counts : (cs : List ControlRecord) (ls : List KeptList) (told after : FullState) → after ≡ shown_with cs ls told → HasSame told.desk after.desk
 shown_counts cs ls told after shown = record {
   next = ap (λ (s : FullState). s.desk.next) shown;
-  count = λ s. ap (λ (x : FullState). copies s x.desk.windows) shown;
+  count = λ c s. ap (λ (x : FullState). counted c s x.desk.windows) shown;
 }
 
 pub window_recounts : (call : WindowCall) (answer : WindowReply) (before middle : DeskState) (told after : FullState) (cs : List ControlRecord) (ls : List KeptList) → IsWindowAnswered call (Ok answer) before middle → IsCaughtUpBy (window_standing call) middle.windows told
@@ -200,12 +203,12 @@ abbrev pub Apart : Option ℕ → Option ℕ → Type 0
 Apart None x = Unit {0}
 Apart (Some d) x = is_this x d ≡ false
 
-pub stays_present : (o x : Option ℕ) (before after : FullDesk) → Recount o before after → Apart o x → Present x before.windows → Present x after.windows
-stays_present None x before after (inl same) apart h = present_when x before.windows after.windows (λ s. let count = same.count s in omega arith) h
-stays_present None x before after (inr (n, more)) apart h = present_when x before.windows after.windows (λ s. let count = more.count s in omega arith) h
-stays_present (Some d) None before after less apart h = tt
-stays_present (Some d) (Some t) before after less apart h =
-    let all : copies t before.windows ≡ 0 + copies t after.windows = subst (λ (b : Bool). copies t before.windows ≡ (if b then 1 else 0) + copies t after.windows) apart (less.count t) in
+pub stays : (c : Classing) (o x : Option ℕ) (before after : FullDesk) → Recount o before after → Apart o x → Has c x before.windows → Has c x after.windows
+stays c None x before after (inl same) apart h = has_when c x before.windows after.windows (λ s. let count = same.count c s in omega arith) h
+stays c None x before after (inr (n, more)) apart h = has_when c x before.windows after.windows (λ s. let count = more.count c s in omega arith) h
+stays c (Some d) None before after less apart h = tt
+stays c (Some d) (Some t) before after less apart h =
+    let all : counted c t before.windows ≡ 0 + counted c t after.windows = subst (λ (b : Bool). counted c t before.windows ≡ (if b then c less.floating else 0) + counted c t after.windows) apart (less.count c t) in
     omega arith
 
 -- no window has this number, nor will one have it
@@ -218,15 +221,15 @@ given_after n w true given = let first = given.0 in let below = given.1 in (firs
 given_after n w false given = given.0
 
 pub gone_stays : (o : Option ℕ) (w : ℕ) (before after : FullDesk) → Recount o before after → IsGone w before → IsGone w after
-gone_stays None w before after (inl same) gone = record { none = same.count w ∙ gone.none; given = subst (λ o. IsGiven o w) (sym same.next) gone.given }
+gone_stays None w before after (inl same) gone = record { none = same.count either_class w ∙ gone.none; given = subst (λ o. IsGiven o w) (sym same.next) gone.given }
 gone_stays None w before after (inr (n, more)) gone =
     let given : IsGiven (Some n) w = subst (λ o. IsGiven o w) more.serials gone.given in
     record {
-      none = let below = given.1 in let was = gone.none in let count = more.count w in grind (arith, nat_tests);
+      none = let below = given.1 in let was = gone.none in let count = more.count either_class w in grind (arith, nat_tests);
       given = subst (λ o. IsGiven o w) (sym more.next) (given_after n w (nat_lt (n + 1) (2 ^ 64)) given);
     }
 gone_stays (Some d) w before after less gone = record {
-  none = let was = gone.none in let count = less.count w in omega arith;
+  none = let was = gone.none in let count = less.count either_class w in omega arith;
   given = subst (λ o. IsGiven o w) (sym less.next) gone.given;
 }
 
@@ -242,7 +245,7 @@ right_is_numbered s right = record { look = look_of s.desk; distinct = right.pla
 pub disposed_is_gone : (d : ℕ) (before after : FullDesk) → AreNumbered before → HasLess d before after → IsGone d after
 disposed_is_gone d before after numbered less = record {
   none =
-      let all : copies d before.windows ≡ (if d == d then 1 else 0) + copies d after.windows = less.count d in
+      let all : copies d before.windows ≡ (if d == d then 1 else 0) + copies d after.windows = less.count either_class d in
       let most : copies d before.windows ≤ 1 = distinct_counts numbered.look d before.windows numbered.distinct in
       let itself : (d == d) ≡ true = grind (arith, nat_tests) in
       let is : copies d before.windows ≡ 1 + copies d after.windows = subst (λ (b : Bool). copies d before.windows ≡ (if b then 1 else 0) + copies d after.windows) itself all in

@@ -26,7 +26,7 @@ use Rattle.desk_toolbox.specs.declared.events.Events.{Events}
 use Rattle.desk_toolbox.specs.Activations.{is_activate, if_activate, activate_event_told, to_dispose}
 use Rattle.desk_toolbox.specs.EventSteps.{EventStep, is_word, word_of, with_word, asked_event, posting, told_next, after_telling, event_step, events_left, with_queued}
 use Rattle.desk_toolbox.specs.Run.{replied}
-use Rattle.desk_toolbox.proofs.Totals.{Present}
+use Rattle.desk_toolbox.proofs.Totals.{Ordinary}
 use Rattle.desk_toolbox.proofs.StepCounts.{Apart}
 use Rattle.desk_toolbox.proofs.Told.{ArePosted, IsPosted}
 
@@ -34,31 +34,31 @@ use Rattle.desk_toolbox.proofs.Told.{ArePosted, IsPosted}
 
 -- what a step leaves of it
 abbrev ToldOf : List WindowRecord → EventStep → Type 0
-ToldOf ws x = Present x.1.told ws
+ToldOf ws x = Ordinary x.1.told ws
 
-after_telling_present : (mask : ℕ) (told active : Option ℕ) (ws : List WindowRecord) → Present told ws → Present active ws → Present (told_after mask told active) ws
-after_telling_present mask None None ws was is = tt
-after_telling_present mask None (Some a) ws was is = by_selected (selects mask kind.Activate)
+after_telling_ordinary : (mask : ℕ) (told active : Option ℕ) (ws : List WindowRecord) → Ordinary told ws → Ordinary active ws → Ordinary (told_after mask told active) ws
+after_telling_ordinary mask None None ws was is = tt
+after_telling_ordinary mask None (Some a) ws was is = by_selected (selects mask kind.Activate)
   where
-    by_selected : (b : Bool) → Present (told_from None (if b then Some (activation a) else None)) ws
+    by_selected : (b : Bool) → Ordinary (told_from None (if b then Some (activation a) else None)) ws
     by_selected true = is
     by_selected false = tt
-after_telling_present mask (Some t) None ws was is = by_selected (selects mask kind.Activate)
+after_telling_ordinary mask (Some t) None ws was is = by_selected (selects mask kind.Activate)
   where
-    by_selected : (b : Bool) → Present (told_from (Some t) (if b then Some (deactivation t) else None)) ws
+    by_selected : (b : Bool) → Ordinary (told_from (Some t) (if b then Some (deactivation t) else None)) ws
     by_selected true = tt
     by_selected false = was
-after_telling_present mask (Some t) (Some a) ws was is = by_same (nat_eq t a)
+after_telling_ordinary mask (Some t) (Some a) ws was is = by_same (nat_eq t a)
   where
-    by_selected : (b : Bool) → Present (told_from (Some t) (if b then Some (deactivation t) else if b then Some (activation a) else None)) ws
+    by_selected : (b : Bool) → Ordinary (told_from (Some t) (if b then Some (deactivation t) else if b then Some (activation a) else None)) ws
     by_selected true = tt
     by_selected false = was
 
-    by_same : (b : Bool) → Present (told_from (Some t) (find (is_selected mask) (if b then [] else deactivation t ∷ activation a ∷ []))) ws
+    by_same : (b : Bool) → Ordinary (told_from (Some t) (find (is_selected mask) (if b then [] else deactivation t ∷ activation a ∷ []))) ws
     by_same true = was
     by_same false = by_selected (selects mask kind.Activate)
 
-by_word_told : (w : Result ℕ Refusal) (before : Events) (step : ℕ → EventStep) (ws : List WindowRecord) → Present before.told ws → ((m : ℕ) → ToldOf ws (step m)) → ToldOf ws (with_word w before step)
+by_word_told : (w : Result ℕ Refusal) (before : Events) (step : ℕ → EventStep) (ws : List WindowRecord) → Ordinary before.told ws → ((m : ℕ) → ToldOf ws (step m)) → ToldOf ws (with_word w before step)
 by_word_told (Ok m) before step ws h each = each m
 by_word_told (Err e) before step ws h each = h
 
@@ -73,12 +73,12 @@ posting_told (Some e) before = by_posted (is_posted e.what)
     by_posted true = refl
     by_posted false = refl
 
-pub step_told_present : (call : EventCall) (active update : Option ℕ) (before : Events) (ws : List WindowRecord) → Present before.told ws → Present active ws → Present (event_step call active update before).1.told ws
-step_told_present (Post p) active update before ws was is = subst (λ o. Present o ws) (sym (posting_told (asked_event p) before)) was
-step_told_present (Next mask) active update before ws was is = by_word_told (word_of mask) before (λ m. (Ok (told_next m active update before), after_telling m active before)) ws was (λ m. after_telling_present m before.told active ws was is)
-step_told_present (Avail mask) active update before ws was is = by_word_told (word_of mask) before (λ m. (Ok (told_next m active update before), before)) ws was (λ m. was)
-step_told_present (Flush f) active update before ws was is = by_word_told (word_of f.mask) before _ ws was (λ m. by_word_told (word_of f.stop) before _ ws was (λ stop. was))
-step_told_present (SetMask mask) active update before ws was is = by_word_told (word_of mask) before _ ws was (λ m. was)
+pub step_told_ordinary : (call : EventCall) (active update : Option ℕ) (before : Events) (ws : List WindowRecord) → Ordinary before.told ws → Ordinary active ws → Ordinary (event_step call active update before).1.told ws
+step_told_ordinary (Post p) active update before ws was is = subst (λ o. Ordinary o ws) (sym (posting_told (asked_event p) before)) was
+step_told_ordinary (Next mask) active update before ws was is = by_word_told (word_of mask) before (λ m. (Ok (told_next m active update before), after_telling m active before)) ws was (λ m. after_telling_ordinary m before.told active ws was is)
+step_told_ordinary (Avail mask) active update before ws was is = by_word_told (word_of mask) before (λ m. (Ok (told_next m active update before), before)) ws was (λ m. was)
+step_told_ordinary (Flush f) active update before ws was is = by_word_told (word_of f.mask) before _ ws was (λ m. by_word_told (word_of f.stop) before _ ws was (λ stop. was))
+step_told_ordinary (SetMask mask) active update before ws was is = by_word_told (word_of mask) before _ ws was (λ m. was)
 
 -- ---- after a call on windows
 
@@ -91,12 +91,12 @@ left_after (window.Dispose s) before = refl
 left_after _ before = refl
 
 -- a window that was not forgotten is another
-pub forgotten_present : (o told : Option ℕ) (ws : List WindowRecord) → (Apart o told → Present told ws) → Present (forgotten_if o told) ws
-forgotten_present None told ws kept = kept tt
-forgotten_present (Some w) None ws kept = tt
-forgotten_present (Some w) (Some t) ws kept = by_window (nat_eq t w) refl
+pub forgotten_ordinary : (o told : Option ℕ) (ws : List WindowRecord) → (Apart o told → Ordinary told ws) → Ordinary (forgotten_if o told) ws
+forgotten_ordinary None told ws kept = kept tt
+forgotten_ordinary (Some w) None ws kept = tt
+forgotten_ordinary (Some w) (Some t) ws kept = by_window (nat_eq t w) refl
   where
-    by_window : (b : Bool) → nat_eq t w ≡ b → Present (if b then None else Some t) ws
+    by_window : (b : Bool) → nat_eq t w ≡ b → Ordinary (if b then None else Some t) ws
     by_window true e = tt
     by_window false e = let other : (w == t) ≡ false = grind (arith, nat_tests) in kept other
 
@@ -115,7 +115,7 @@ posted_is_no_activate e is = by_kind e.what is
     by_kind kind.Activate is = absurd (cc)
 
 -- neither a queued event nor an update event is an activate event
-queued_is_no_activate : (test : Event → Bool) (update : Option ℕ) (events : List Event) → ArePosted events → if_activate (event_or_null (find test (events ++ update_events update))) ≡ []
+pub queued_is_no_activate : (test : Event → Bool) (update : Option ℕ) (events : List Event) → ArePosted events → if_activate (event_or_null (find test (events ++ update_events update))) ≡ []
 queued_is_no_activate test None [] h = refl
 queued_is_no_activate test (Some w) [] h = by_test (test (update_event w))
   where

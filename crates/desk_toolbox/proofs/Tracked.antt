@@ -14,7 +14,7 @@ use Rattle.window_mgr.specs.Effects.Effect.{Makes, Disposes, Draws, Pictures, Sc
 use Rattle.window_mgr.specs.FullDesk.{FullDesk, FullState, IsRightState, look_of}
 use Rattle.window_frame.specs.FrameSteps.{IsTrackingNotified, with_tracked}
 use Rattle.desk_toolbox.specs.Reached.{IsTrackedIfHeard}
-use Rattle.desk_toolbox.proofs.Totals.{Weight, total, counting, copies, missing_counts, distinct_counts}
+use Rattle.desk_toolbox.proofs.Totals.{Weight, total, copies, missing_counts, distinct_counts}
 use Rattle.desk_toolbox.proofs.Recounts.{Counts}
 use Rattle.desk_toolbox.proofs.StepCounts.{told_total}
 
@@ -29,8 +29,11 @@ tracks n (Growing g) = false
 tracks n (Pulling m) = false
 
 -- windows whose definitions heard wrongly that it is
+abbrev pub misled_by : Activity → ℕ → Bool → ℕ
+misled_by activity n tracked = if tracked then (if tracks n activity then 0 else 1) else 0
+
 abbrev pub misled : Activity → Weight
-misled activity n tracked = if tracked then (if tracks n activity then 0 else 1) else 0
+misled activity n tracked floating = misled_by activity n tracked
 
 -- ---- in words of each window, and counted
 
@@ -49,11 +52,11 @@ this_is_tracked n (TrackingControl c) e = absurd (cc)
 this_is_tracked n (Dragging d) e = absurd (cc)
 this_is_tracked n (Growing g) e = absurd (cc)
 
-not_misled : (activity : Activity) (n : ℕ) (tracked : Bool) → (tracked ≡ true → activity ≡ Tracking n) → misled activity n tracked ≡ 0
+not_misled : (activity : Activity) (n : ℕ) (tracked : Bool) → (tracked ≡ true → activity ≡ Tracking n) → misled_by activity n tracked ≡ 0
 not_misled activity n true h = ap (λ (b : Bool). if b then 0 else 1) (tracks_this n activity (h refl))
 not_misled activity n false h = refl
 
-rightly_heard : (activity : Activity) (n : ℕ) (tracked : Bool) → misled activity n tracked ≡ 0 → tracked ≡ true → activity ≡ Tracking n
+rightly_heard : (activity : Activity) (n : ℕ) (tracked : Bool) → misled_by activity n tracked ≡ 0 → tracked ≡ true → activity ≡ Tracking n
 rightly_heard activity n true none e = this_is_tracked n activity (by_test (tracks n activity) none)
   where
     by_test : (b : Bool) → ◌≡◌ {A = ℕ} (if b then 0 else 1) 0 → b ≡ true
@@ -75,8 +78,8 @@ all_heard_rightly activity (w ∷ ws) none =
 
 -- ---- what calls on windows leave
 
-pub counted_none : (g : Weight) (effect : Effect) (before after : FullDesk) → ((n : ℕ) → g n false ≡ 0) → Counts effect before after → total g before.windows ≡ 0 → total g after.windows ≡ 0
-counted_none g (Makes w) before after new (n, added) none = let all = added.all g in let first = new n in omega arith
+pub counted_none : (g : Weight) (effect : Effect) (before after : FullDesk) → ((n : ℕ) (floating : Bool) → g n false floating ≡ 0) → Counts effect before after → total g before.windows ≡ 0 → total g after.windows ≡ 0
+counted_none g (Makes floating w) before after new (n, added) none = let all = added.all g in let first = new n added.floating in omega arith
 counted_none g (Draws d) before after new kept none = kept.all g ∙ none
 counted_none g (Pictures n) before after new kept none = kept.all g ∙ none
 counted_none g (Scrolls m) before after new kept none = kept.all g ∙ none
@@ -97,18 +100,18 @@ misled_by_less activity (w ∷ ws) = let rest = misled_by_less activity ws in le
     by_test true = omega arith
     by_test false = omega arith
 
-    less : (n : ℕ) (tracked : Bool) → misled activity n tracked ≤ misled Idle n tracked
+    less : (n : ℕ) (tracked : Bool) → misled_by activity n tracked ≤ misled_by Idle n tracked
     less n true = by_test (tracks n activity)
     less n false = omega arith
 
 -- what the definition of the window that is tracked is told is right
-tracked_is_right : (s n : ℕ) (now was : Bool) → n ≡ s → misled (Tracking s) n now ≡ misled (Tracking s) n was
+tracked_is_right : (s n : ℕ) (now was : Bool) → n ≡ s → misled_by (Tracking s) n now ≡ misled_by (Tracking s) n was
 tracked_is_right s n now was its = always now ∙ sym (always was)
   where
     same : (s == n) ≡ true
     same = grind (arith, nat_tests)
 
-    always : (b : Bool) → misled (Tracking s) n b ≡ 0
+    always : (b : Bool) → misled_by (Tracking s) n b ≡ 0
     always true = ap (λ (b : Bool). if b then 0 else 1) same
     always false = refl
 
@@ -128,11 +131,11 @@ misled_or_this : (s : ℕ) (ws : List WindowRecord) → total (misled Idle) ws �
 misled_or_this s [] = omega arith
 misled_or_this s (w ∷ ws) = let rest = misled_or_this s ws in let first = this s w.serial w.heard.tracked in omega arith
   where
-    this : (s n : ℕ) (tracked : Bool) → misled Idle n tracked ≤ misled (Tracking s) n tracked + counting s n tracked
+    this : (s n : ℕ) (tracked : Bool) → misled_by Idle n tracked ≤ misled_by (Tracking s) n tracked + (if n == s then 1 else 0)
     this s n true = grind (arith, nat_tests)
     this s n false = omega arith
 
-other_as_before : (s n : ℕ) (tracked : Bool) → (n == s) ≡ false → misled Idle n tracked ≡ misled (Tracking s) n tracked
+other_as_before : (s n : ℕ) (tracked : Bool) → (n == s) ≡ false → misled_by Idle n tracked ≡ misled_by (Tracking s) n tracked
 other_as_before s n true other = let same : (s == n) ≡ false = grind (arith, nat_tests) in ap (λ (b : Bool). if b then 0 else 1) (sym same)
 other_as_before s n false other = refl
 
@@ -143,7 +146,7 @@ one_is_told s f off (w ∷ ws) most none = by_this (w.serial == s) refl most (on
   where
     by_this : (b : Bool) → (w.serial == s) ≡ b → (if b then 1 else 0) + copies s ws ≤ 1 → (copies s ws ≤ 1 → total (misled (Tracking s)) ws ≡ 0 → total (misled Idle) (changed s f ws) ≡ 0) → total (misled Idle) (if b then f w ∷ ws else w ∷ changed s f ws) ≡ 0
     by_this true e most rest =
-        let first : misled Idle (f w).serial (f w).heard.tracked ≡ 0 = ap (misled Idle (f w).serial) (off w) in
+        let first : misled_by Idle (f w).serial (f w).heard.tracked ≡ 0 = ap (misled_by Idle (f w).serial) (off w) in
         let others = misled_or_this s ws in
         omega arith
     by_this false e most rest =

@@ -55,7 +55,7 @@ use Rattle.desk_toolbox.proofs.PulledMenus.{IsPullRight, still_unpulled}
 use Rattle.desk_toolbox.proofs.StepCounts.{HasSame}
 use Rattle.desk_toolbox.proofs.Stands.{Stands, apart_stays, bar_stays, idle_now, stands_still}
 use Rattle.desk_toolbox.proofs.Told.{ArePosted}
-use Rattle.desk_toolbox.proofs.Totals.{Present, Weight, copies, counting, found_counts, present_when, total, total_map}
+use Rattle.desk_toolbox.proofs.Totals.{Classing, Has, Ordinary, Present, Weight, copies, counted, counting, either_class, found_counts, has_when, of_class, total, total_map}
 use Rattle.desk_toolbox.proofs.Tracked.{misled}
 
 -- ---- beside calls about updates and frames
@@ -121,7 +121,7 @@ bare_informed (w ∷ ws) h =
 pub control_counts : (call : ControlCall) (answer : Result ControlReply Refusal) (before after : ToolboxState) → IsControlStep call answer (with_controls before) (with_controls after) → HasSame before.desk.windows.desk after.desk.windows.desk
 control_counts call answer before after step =
     let facts = (control_facts call answer (with_controls before) (with_controls after) step).0 in
-    record { next = facts.next; count = λ s. bare_total (counting s) before.desk.windows.desk.windows after.desk.windows.desk.windows facts.windows }
+    record { next = facts.next; count = λ c s. bare_total (counting c s) before.desk.windows.desk.windows after.desk.windows.desk.windows facts.windows }
 
 -- ---- the control that is tracked
 
@@ -238,7 +238,7 @@ as_idle a ws most = ⊎_elim (λ idle. ap (λ b. total (misled b) ws) idle) (λ 
 
 opened_present : (a b : Activity) (ws vs : List WindowRecord) → ((s : ℕ) → copies s vs ≡ copies s ws) → IsOpenAfter ws a b → Present (open_window a) ws → Present (open_window b) vs
 opened_present a b ws vs count open_after was = ⊎_elim
-    (λ same. subst (λ c. Present (open_window c) vs) (sym same) (present_when (open_window a) ws vs (λ s. let its = count s in omega arith) was))
+    (λ same. subst (λ c. Present (open_window c) vs) (sym same) (has_when either_class (open_window a) ws vs (λ s. let its = count s in omega arith) was))
     (λ other. ⊎_elim
     (λ idle. subst (λ c. Present (open_window c) vs) (sym idle) tt)
     (λ (k, is, there). subst (λ c. Present (open_window c) vs) (sym is) (let some = found_counts k.control.window ws there in let its = count k.control.window in omega arith))
@@ -261,11 +261,11 @@ control_stands call (Ok answer) before after may was right step events menus = �
     facts : IsBesideControls (with_controls before) (with_controls after)
     facts = (control_facts call (Ok answer) (with_controls before) (with_controls after) step).0
 
-    count : (s : ℕ) → copies s vs ≡ copies s ws
-    count s = bare_total (counting s) ws vs facts.windows
+    count : (c : Classing) (s : ℕ) → counted c s vs ≡ counted c s ws
+    count c s = bare_total (counting c s) ws vs facts.windows
 
-    stay : (o : Option ℕ) → Present o ws → Present o vs
-    stay o h = present_when o ws vs (λ s. let its = count s in omega arith) h
+    stay : (c : Classing) (o : Option ℕ) → Has c o ws → Has c o vs
+    stay c o h = has_when c o ws vs (λ s. let its = count c s in omega arith) h
 
     moved : AtMostControl before.desk.activity → Stands after
     moved most =
@@ -274,9 +274,9 @@ control_stands call (Ok answer) before after may was right step events menus = �
           right = right.right;
           contents = right.contents;
           trackable = step_there call (Ok answer) (with_controls before) (with_controls after) may was.trackable step;
-          active = subst (λ o. Present o vs) (sym facts.active) (stay before.desk.windows.desk.active was.active);
-          told = subst (λ (e : Events). Present e.told vs) (sym events) (stay before.events.told was.told);
-          opened = opened_present before.desk.activity after.desk.activity ws vs count facts.activity was.opened;
+          active = subst (λ o. Ordinary o vs) (sym facts.active) (stay (of_class false) before.desk.windows.desk.active was.active);
+          told = subst (λ (e : Events). Ordinary e.told vs) (sym events) (stay (of_class false) before.events.told was.told);
+          opened = opened_present before.desk.activity after.desk.activity ws vs (count either_class) facts.activity was.opened;
           queued = subst (λ (e : Events). ArePosted e.queue.events) (sym events) was.queued;
           informed = bare_informed vs (subst AreInformed (sym facts.windows) (informed_bare ws was.informed));
           tracked = as_idle after.desk.activity vs then ∙ bare_total (misled Idle) ws vs facts.windows ∙ sym (as_idle before.desk.activity ws most) ∙ was.tracked;

@@ -8,6 +8,7 @@ pub mod WholeToolbox
 pub mod Run
 pub mod OpenUpdates
 pub mod Regions
+pub mod Classes
 pub mod Reached
 pub mod Activations
 pub mod Economy

@@ -23,6 +23,7 @@ use Rattle.list_mgr.specs.WholeLists.{AreWholeLists}
 use Rattle.menu_list.specs.Lists.{has_number, is_in_bar}
 use Rattle.menu_mgr.specs.MenuDesks.{IsBarOf, IsMenuFull, MenuRecord, MenusState}
 use Rattle.menu_mgr.specs.WholeMenus.{AreMenusStocked}
+use Rattle.desk_toolbox.specs.Classes.{AreClassed, IsOrdinary}
 use Rattle.desk_toolbox.specs.EventSteps.{first_events}
 use Rattle.desk_toolbox.specs.ToolboxStates.{ToolboxState, with_controls}
 
@@ -89,8 +90,8 @@ pub record AreContentsRight (s : ToolboxState) : Type 0 where
   pub lists : AreWholeLists s.desk.windows.desk.windows s.lists
   pub shown : ShowsControls (with_controls s)
 
--- a right state, in which the active window, the one last told active and that of what is open are windows of the desk, and
--- only events of kinds that are posted are queued. Each window's definition is live and knows how the window stands, and none
+-- a right state, in which the active window and the one last told active are ordinary windows of the desk, that of what is open
+-- is one of its windows, and only events of kinds that are posted are queued. Windows that float stand in front of the others. Each window's definition is live and knows how the window stands, and none
 -- heard last that a go-away box is tracked which is not. Its controls and lists are whole, the control that is tracked is there,
 -- and its windows show them. The scroll bars of each list have serials that controls were given, and two bars of one list have
 -- two. The menu bar has the titles of the menus that are inserted, no two menus have one number, and a highlighted title is in
@@ -99,8 +100,9 @@ pub record AreContentsRight (s : ToolboxState) : Type 0 where
 -- and of lists have.
 pub record IsConsistent (s : ToolboxState) : Type 0 where
   pub right : IsRightState s.desk.windows
-  pub active : IsThere s.desk.windows.desk.active s.desk.windows.desk.windows
-  pub told : IsThere s.events.told s.desk.windows.desk.windows
+  pub active : IsOrdinary s.desk.windows.desk.active s.desk.windows.desk.windows
+  pub told : IsOrdinary s.events.told s.desk.windows.desk.windows
+  pub classed : AreClassed s.desk.windows.desk.windows
   pub opened : IsThere (open_window s.desk.activity) s.desk.windows.desk.windows
   pub queued : All (λ e. is_posted e.what ≡ true) s.events.queue.events
   pub held : AreWindowsStocked s.desk.windows.desk

@@ -13,7 +13,6 @@ ghost use Rattle.def_iface.specs.Scratch.{scratch};
 ghost use Rattle.vis_update.specs.Records.{WindowRecord};
 ghost use Rattle.window_mgr.specs.FullDesk.{FullDesk, IsRightState, layered_desk};
 ghost use Rattle.window_mgr.specs.Effects.{IsUnchanged};
-ghost use Rattle.window_mgr.specs.Finding.{front_of};
 ghost use Rattle.bit_map.specs.Modes.{xor_bit};
 ghost use Rattle.bit_map.specs.Patterns.{pattern_bit};
 ghost use Rattle.desk_ground.specs.Screens.{gray};
@@ -77,13 +76,6 @@ ghost use Rattle.desk_toolbox.specs.Run.{IsRestKept, IsStep, IsRunOfCalls, contr
 pub fn scratch_is_owners()
     ensures { (desk : FullDesk) (p : Point) → IsDesk (layered_desk desk)
         → scratch (layered_desk desk) p ≡ own_bit (layered_desk desk) (owner (layered_desk desk) p) p }
-{}
-
-/// The window that FrontWindow answers is the first of the list that is visible.
-#[tactic(auto, using(crate::proofs::Sayings::front_is_first))]
-pub fn front_is_the_first_visible()
-    ensures { (windows : List WindowRecord)
-        → front_of windows ≡ option_map (λ w. w.serial) (find (λ w. w.shown) windows) }
 {}
 
 /// A refusal is the first of the written order whose condition holds.

@@ -12,7 +12,7 @@ use Rattle.script_text.specs.declared.command.Command.{Command}
 use Rattle.script_text.specs.Held.{said_held, said_last, held_of, pushed}
 use Rattle.script_text.specs.Lines.{said, whole_lines, last_part, lines_of, if_any}
 use Rattle.watched_io.specs.Reads.{Input, IsOpen, Gave, IsEntire, IsCutOff}
-use Rattle.script_runner.specs.Session.{SessionState, SaidAnswers, Written}
+use Rattle.script_runner.specs.Script.{ScriptState, SaidAnswers, Written}
 use Rattle.script_runner.specs.Endings.{LineEnds}
 use Rattle.script_runner.specs.Progress.{SoFar}
 use Rattle.script_runner.specs.Runs.{Stops, ScriptEnds}
@@ -21,7 +21,7 @@ use Rattle.script_text.proofs.Cuts.{whole_lines-newline, last_part-newline, whol
 use Rattle.watched_io.proofs.Written.{Sent-nil, Sent-trans, BrokeOff-after}
 
 -- one more line at the end
-pub written-more : (raw : Bool) (old : SessionState) (lines : List (List ℕ)) (text : List ℕ) (middle : SessionState) (line more : List ℕ) (new : SessionState)
+pub written-more : (raw : Bool) (old : ScriptState) (lines : List (List ℕ)) (text : List ℕ) (middle : ScriptState) (line more : List ℕ) (new : ScriptState)
     → Written raw old lines text middle → SaidAnswers raw middle (said line) more new → Written raw old (lines ++ line ∷ []) (text ++ more) new
 written-more raw old [] text middle line more new (none, same) answered =
     (new, more, [], subst (λ s. SaidAnswers raw s (said line) more new) same answered, (refl, refl), ap (λ l. l ++ more) none ∙ sym (append-nil more))
@@ -41,15 +41,15 @@ whole-read None rest script read end = tt
 whole-read (Some xs) None script read end = absurd read
 whole-read (Some xs) (Some ys) script read end = read ∙ ap (λ l. script ++ l) end ∙ append-nil script
 
--- `raw` says whether the run is raw; `first` is the session at the start, `input` and `old` the reader and the writer
-module _ (raw : Bool) (first : SessionState) (input : Input) (old : Output) where
+-- `raw` says whether the run is raw; `first` is the script at the start, `input` and `old` the reader and the writer
+module _ (raw : Bool) (first : ScriptState) (input : Input) (old : Output) where
   pub start : IsOpen input → SoFar raw first input old input old first (Some []) []
   unfolding whole_lines last_part held_of
   start going = record { seen = []; text = []; going = going; read = Consumes-nil input.remaining; sent = Sent-nil old; answered = (refl, refl); held = refl }
 
-  module _ (rest : Input) (new : Output) (session : SessionState) (part : Option (List ℕ)) where
+  module _ (rest : Input) (new : Output) (state : ScriptState) (part : Option (List ℕ)) where
     -- some bytes were read
-    pub read_more : (rest' : Input) (chunk : List ℕ) → SoFar raw first input old rest new session part [] → Gave rest rest' chunk → 0 < length chunk → SoFar raw first input old rest' new session part chunk
+    pub read_more : (rest' : Input) (chunk : List ℕ) → SoFar raw first input old rest new state part [] → Gave rest rest' chunk → 0 < length chunk → SoFar raw first input old rest' new state part chunk
     read_more rest' chunk so_far gave some = record {
       seen = so_far.seen;
       text = so_far.text;
@@ -61,23 +61,23 @@ module _ (raw : Bool) (first : SessionState) (input : Input) (old : Output) wher
     }
 
     -- the next byte of what was read
-    pub next : (chunk : List ℕ) (i : ℕ) → i < length chunk → SoFar raw first input old rest new session part (drop i chunk) → SoFar raw first input old rest new session part (get_or chunk i 0 ∷ drop (i + 1) chunk)
-    next chunk i within so_far = subst (SoFar raw first input old rest new session part) (drop_more chunk i 0 within) so_far
+    pub next : (chunk : List ℕ) (i : ℕ) → i < length chunk → SoFar raw first input old rest new state part (drop i chunk) → SoFar raw first input old rest new state part (get_or chunk i 0 ∷ drop (i + 1) chunk)
+    next chunk i within so_far = subst (SoFar raw first input old rest new state part) (drop_more chunk i 0 within) so_far
 
     -- the line that a newline ends here was answered
-    module _ (b : ℕ) (ahead : List ℕ) (so_far : SoFar raw first input old rest new session part (b ∷ ahead)) (session' : SessionState) (new' : Output) where
-      ended : (ten : b ≡ 10) (more : List ℕ) → SaidAnswers raw session (said_held part) more session' → Written raw first (whole_lines (so_far.seen ++ b ∷ [])) (so_far.text ++ more) session'
+    module _ (b : ℕ) (ahead : List ℕ) (so_far : SoFar raw first input old rest new state part (b ∷ ahead)) (state' : ScriptState) (new' : Output) where
+      ended : (ten : b ≡ 10) (more : List ℕ) → SaidAnswers raw state (said_held part) more state' → Written raw first (whole_lines (so_far.seen ++ b ∷ [])) (so_far.text ++ more) state'
       ended ten more answered =
           let line = strip_carriage_return (last_part so_far.seen) in
           let says : said_held part ≡ said line = ap said_held so_far.held ∙ said_held-held_of (last_part so_far.seen) in
-          rw ten (subst (λ ls. Written raw first ls (so_far.text ++ more) session') (sym (whole_lines-newline so_far.seen))
-          (written-more raw first (whole_lines so_far.seen) so_far.text session line more session' so_far.answered (subst (λ s. SaidAnswers raw session s more session') says answered)))
+          rw ten (subst (λ ls. Written raw first ls (so_far.text ++ more) state') (sym (whole_lines-newline so_far.seen))
+          (written-more raw first (whole_lines so_far.seen) so_far.text state line more state' so_far.answered (subst (λ s. SaidAnswers raw state s more state') says answered)))
 
       -- the byte is taken, and the run goes on
       pub taken : {X : Type 0} (part' : Option (List ℕ)) (x : X)
-          → (b ≡ 10 → LineEnds raw session (said_held part) session' new new' (Ok x)) → (b ≡ 10 → part' ≡ Some [])
-          → (b ≢ 10 → (part' ≡ pushed part b) × (session' ≡ session) × (new' ≡ new))
-          → SoFar raw first input old rest new' session' part' ahead
+          → (b ≡ 10 → LineEnds raw state (said_held part) state' new new' (Ok x)) → (b ≡ 10 → part' ≡ Some [])
+          → (b ≢ 10 → (part' ≡ pushed part b) × (state' ≡ state) × (new' ≡ new))
+          → SoFar raw first input old rest new' state' part' ahead
       taken part' x newline cleared other =
           elim (cases_eq b 10) [
             | inl ten ↦ elim (newline ten) [
@@ -106,11 +106,11 @@ module _ (raw : Bool) (first : SessionState) (input : Input) (old : Output) wher
           ]
 
       -- the byte is taken, and the run stops
-      pub taken_last : (X : Type 0) (e : Refusal) → (b ≡ 10 → LineEnds {X = X} raw session (said_held part) session' new new' (Err e)) → (b ≢ 10 → ⊥) → Stops raw first input rest old new' session' e
+      pub taken_last : (X : Type 0) (e : Refusal) → (b ≡ 10 → LineEnds {X = X} raw state (said_held part) state' new new' (Err e)) → (b ≢ 10 → ⊥) → Stops raw first input rest old new' state' e
       taken_last X e newline other =
           elim (cases_eq b 10) [
             | inl ten ↦ elim (newline ten) [
-              | inl done ↦ subst (Stops raw first input rest old new' session') (sym done.2.0) (record {
+              | inl done ↦ subst (Stops raw first input rest old new' state') (sym done.2.0) (record {
                 seen = so_far.seen ++ b ∷ [];
                 ahead = ahead;
                 lines = whole_lines (so_far.seen ++ b ∷ []);
@@ -121,7 +121,7 @@ module _ (raw : Bool) (first : SessionState) (input : Input) (old : Output) wher
                 answered = ended ten done.0 done.1;
                 broken = BrokeOff-after old new new' so_far.text done.0 so_far.sent done.2.1;
               })
-              | inr none ↦ subst (Stops raw first input rest old new' session') (sym none.2.memory) (record {
+              | inr none ↦ subst (Stops raw first input rest old new' state') (sym none.2.memory) (record {
                 seen = so_far.seen ++ b ∷ [];
                 ahead = ahead;
                 before = whole_lines so_far.seen;
@@ -132,8 +132,10 @@ module _ (raw : Bool) (first : SessionState) (input : Input) (old : Output) wher
                 quiet = so_far.going.unfailed;
                 taken = inl (rw ten (sym (whole_lines-newline so_far.seen)));
                 says = sym (ap said_held so_far.held ∙ said_held-held_of (last_part so_far.seen)) ∙ none.1;
-                makes = rw none.2.same none.2.makes;
-                answered = rw none.2.same so_far.answered;
+                middle = state;
+                makes = none.2.makes;
+                same = none.2.same;
+                answered = so_far.answered;
                 sent = rw none.2.silent so_far.sent;
               })
             ]
@@ -141,13 +143,13 @@ module _ (raw : Bool) (first : SessionState) (input : Input) (old : Output) wher
           ]
 
     -- nothing is ahead: all that was read was taken
-    all_taken : (rest' : Input) → Consumes rest.remaining rest'.remaining [] → (so_far : SoFar raw first input old rest new session part []) → Consumes input.remaining rest'.remaining so_far.seen
+    all_taken : (rest' : Input) → Consumes rest.remaining rest'.remaining [] → (so_far : SoFar raw first input old rest new state part []) → Consumes input.remaining rest'.remaining so_far.seen
     all_taken rest' none so_far = subst (Consumes input.remaining rest'.remaining) (append-nil (so_far.seen ++ []) ∙ append-nil so_far.seen) (Consumes-trans input.remaining rest.remaining rest'.remaining (so_far.seen ++ []) [] so_far.read none)
 
     -- a read failed, or there were as many as there may be
-    pub stops_reading : (rest' : Input) (e : Refusal) → SoFar raw first input old rest new session part [] → e ≡ ReadFault → Consumes rest.remaining rest'.remaining []
-        → IsCutOff rest' → Stops raw first input rest' old new session e
-    stops_reading rest' e so_far fault none why = subst (Stops raw first input rest' old new session) (sym fault) (record {
+    pub stops_reading : (rest' : Input) (e : Refusal) → SoFar raw first input old rest new state part [] → e ≡ ReadFault → Consumes rest.remaining rest'.remaining []
+        → IsCutOff rest' → Stops raw first input rest' old new state e
+    stops_reading rest' e so_far fault none why = subst (Stops raw first input rest' old new state) (sym fault) (record {
       seen = so_far.seen;
       text = so_far.text;
       read = all_taken rest' none so_far;
@@ -157,7 +159,7 @@ module _ (raw : Bool) (first : SessionState) (input : Input) (old : Output) wher
     })
 
     -- the script came to its end, and what was left of it was answered
-    module _ (rest' : Input) (so_far : SoFar raw first input old rest new session part []) (gave : Gave rest rest' []) (session' : SessionState) (new' : Output) where
+    module _ (rest' : Input) (so_far : SoFar raw first input old rest new state part []) (gave : Gave rest rest' []) (state' : ScriptState) (new' : Output) where
       -- all of the input
       entire : IsEntire input rest' so_far.seen
       entire =
@@ -172,16 +174,16 @@ module _ (raw : Bool) (first : SessionState) (input : Input) (old : Output) wher
       unfailed = gave.quiet ∙ so_far.going.unfailed
 
       -- the last line, if there is one, was answered
-      answered_last : (left : List ℕ) → (more : List ℕ) → SaidAnswers raw session (said_last (held_of left)) more session' → Written raw first (whole_lines so_far.seen ++ if_any left) (so_far.text ++ more) session'
+      answered_last : (left : List ℕ) → (more : List ℕ) → SaidAnswers raw state (said_last (held_of left)) more state' → Written raw first (whole_lines so_far.seen ++ if_any left) (so_far.text ++ more) state'
       unfolding held_of
       answered_last [] more (silent, same) =
           let t : so_far.text ++ more ≡ so_far.text = ap (λ l. so_far.text ++ l) silent ∙ append-nil so_far.text in
           rw (append-nil (whole_lines so_far.seen), t, same) so_far.answered
       answered_last (b ∷ bs) more answered =
-          written-more raw first (whole_lines so_far.seen) so_far.text session (b ∷ bs) more session' so_far.answered (subst (λ s. SaidAnswers raw session s more session') (said_last-held_of b bs) answered)
+          written-more raw first (whole_lines so_far.seen) so_far.text state (b ∷ bs) more state' so_far.answered (subst (λ s. SaidAnswers raw state s more state') (said_last-held_of b bs) answered)
 
-      at_last : (more : List ℕ) → SaidAnswers raw session (said_last part) more session' → Written raw first (lines_of so_far.seen) (so_far.text ++ more) session'
-      at_last more answered = answered_last (last_part so_far.seen) more (subst (λ p. SaidAnswers raw session (said_last p) more session') so_far.held answered)
+      at_last : (more : List ℕ) → SaidAnswers raw state (said_last part) more state' → Written raw first (lines_of so_far.seen) (so_far.text ++ more) state'
+      at_last more answered = answered_last (last_part so_far.seen) more (subst (λ p. SaidAnswers raw state (said_last p) more state') so_far.held answered)
 
       -- the last line is a command
       last_command : (left : List ℕ) (command : Command) → said_last (held_of left) ≡ Some (Ok command) → (whole_lines so_far.seen ++ if_any left ≡ whole_lines so_far.seen ++ left ∷ []) × (said left ≡ Some (Ok command))
@@ -189,7 +191,7 @@ module _ (raw : Bool) (first : SessionState) (input : Input) (old : Output) wher
       last_command [] command says = absurd (cc)
       last_command (b ∷ bs) command says = (refl, sym (said_last-held_of b bs) ∙ says)
 
-      finished_with : {X : Type 0} (r : Result X Refusal) → LineEnds raw session (said_last part) session' new new' r → ScriptEnds raw first input rest' old new' session' r
+      finished_with : {X : Type 0} (r : Result X Refusal) → LineEnds raw state (said_last part) state' new new' r → ScriptEnds raw first input rest' old new' state' r
       finished_with (Ok x) ends =
           elim ends [
             | inl done ↦ record {
@@ -204,7 +206,7 @@ module _ (raw : Bool) (first : SessionState) (input : Input) (old : Output) wher
           ]
       finished_with (Err e) ends =
           elim ends [
-            | inl done ↦ subst (Stops raw first input rest' old new' session') (sym done.2.0) (record {
+            | inl done ↦ subst (Stops raw first input rest' old new' state') (sym done.2.0) (record {
               seen = so_far.seen;
               ahead = [];
               lines = lines_of so_far.seen;
@@ -218,7 +220,7 @@ module _ (raw : Bool) (first : SessionState) (input : Input) (old : Output) wher
             | inr none ↦
                 let left = last_part so_far.seen in
                 let last = last_command left none.0 (sym (ap said_last so_far.held) ∙ none.1) in
-                subst (Stops raw first input rest' old new' session') (sym none.2.memory) (record {
+                subst (Stops raw first input rest' old new' state') (sym none.2.memory) (record {
                   seen = so_far.seen;
                   ahead = [];
                   before = whole_lines so_far.seen;
@@ -229,11 +231,13 @@ module _ (raw : Bool) (first : SessionState) (input : Input) (old : Output) wher
                   quiet = unfailed;
                   taken = inr (entire, refl, sym last.0);
                   says = last.1;
-                  makes = rw none.2.same none.2.makes;
-                  answered = rw none.2.same so_far.answered;
+                  middle = state;
+                  makes = none.2.makes;
+                  same = none.2.same;
+                  answered = so_far.answered;
                   sent = rw none.2.silent so_far.sent;
                 })
           ]
 
-      pub finished : {X : Type 0} (r : Result X Refusal) (said : Option (Result Command Refusal)) → said ≡ said_last part → LineEnds raw session said session' new new' r → ScriptEnds raw first input rest' old new' session' r
-      finished r said says ends = finished_with r (subst (λ s. LineEnds raw session s session' new new' r) says ends)
+      pub finished : {X : Type 0} (r : Result X Refusal) (said : Option (Result Command Refusal)) → said ≡ said_last part → LineEnds raw state said state' new new' r → ScriptEnds raw first input rest' old new' state' r
+      finished r said says ends = finished_with r (subst (λ s. LineEnds raw state s state' new new' r) says ends)

@@ -7,3 +7,5 @@ mod Sessions
 mod StockKinds
 mod RawRuns
 mod RightSessions
+mod FirstVersions
+mod Taken

@@ -7,10 +7,11 @@ use Rattle.tb_geom.specs.declared.refusal.Refusal.{Refusal}
 use Rattle.def_iface.specs.Stocks.{AllSlots}
 use Rattle.desk_toolbox.specs.ToolboxStates.{ToolboxState}
 use Rattle.script_text.specs.declared.command.Command.{Command}
-use Rattle.script_text.specs.declared.command.Command.TheVariants.{Desk, Image, Call}
+use Rattle.script_text.specs.declared.command.Command.TheVariants.{Version, Desk, Image, Call}
 use Rattle.script_text.specs.Lines.{said}
 use Rattle.script_runner.specs.RawText.{asks_image, AreImages}
-use Rattle.script_runner.specs.Session.{SessionState, unmade, made, image_text, Answers, FirstAnswers, Opens, SaidAnswers, Written, why_unmade}
+use Rattle.script_runner.specs.Script.{ScriptState, Takes, SaidAnswers, Written, why_unread}
+use Rattle.script_runner.specs.Session.{SessionState, unmade, made, image_text, Answers, FirstAnswers, Obeys, Opens, why_unmade}
 
 none : AreImages 0 []
 none = ([], refl, refl)
@@ -27,11 +28,13 @@ abbrev asked : Command → ℕ
 asked command = cond (asks_image (Some (Ok command))) 1 0
 
 answers_images : (s : ToolboxState) (command : Command) (text : List ℕ) (after : ToolboxState) → Answers true s command text after → AreImages (asked command) text
+answers_images s (Version number) text after answered = subst (AreImages 0) (sym answered.0) none
 answers_images s (Desk size) text after answered = subst (AreImages 0) (sym answered.0) none
 answers_images s Image text after answered = subst (AreImages 1) (sym answered.0) (one s)
 answers_images s (Call call) text after answered = subst (AreImages 0) (sym answered.2) none
 
 first_images : (s : ToolboxState) (command : Command) (text : List ℕ) (after : ToolboxState) → FirstAnswers true s command text after → AreImages (asked command) text
+first_images s (Version number) text after answered = answers_images s (Version number) text after answered
 first_images s (Desk size) text after answered = subst (AreImages 0) (sym answered.0) none
 first_images s Image text after answered = answers_images s Image text after answered
 first_images s (Call call) text after answered = answers_images s (Call call) text after answered
@@ -40,19 +43,33 @@ first_images s (Call call) text after answered = answers_images s (Call call) te
 opens_images : (font : List ℕ) (stocks : AllSlots) (command : Command) (why : Option Refusal) (text : List ℕ) (new : SessionState)
     → why_unmade command stocks ≡ why → Opens true why font stocks command text new → AreImages (asked command) text
 opens_images font stocks command None text new is (first, after, fresh, answered, then) = first_images first command text after answered
+opens_images font stocks (Version number) (Some e) text new is opened = subst (AreImages 0) (sym opened.0) none
 opens_images font stocks (Desk size) (Some e) text new is opened = subst (AreImages 0) (sym opened.0) none
 opens_images font stocks Image (Some e) text new is opened =
     let bad : ◌≡◌ {A = Option Refusal} None (Some e) = is in
     absurd (cc)
 opens_images font stocks (Call call) (Some e) text new is opened = subst (AreImages 0) (sym opened.0) none
 
-said_images : (old : SessionState) (says : Option (Result Command Refusal)) (text : List ℕ) (new : SessionState) → SaidAnswers true old says text new → AreImages (cond (asks_image says) 1 0) text
+obeys_images : (old : SessionState) (command : Command) (text : List ℕ) (new : SessionState) → Obeys true old command text new → AreImages (asked command) text
+obeys_images (unmade font stocks) command text new obeyed = opens_images font stocks command (why_unmade command stocks) text new refl obeyed
+obeys_images (made s) command text new (after, answered, is) = answers_images s command text after answered
+
+-- `image` is of every version, and is not refused
+takes_images : (why : Option Refusal) (old : ScriptState) (command : Command) (text : List ℕ) (new : ScriptState)
+    → why_unread old.is_begun old.version command ≡ why → Takes true why old command text new → AreImages (asked command) text
+takes_images None old (Version number) text new is taken = subst (AreImages 0) (sym taken.0) none
+takes_images None old command text new is (after, obeyed, then) = obeys_images old.session command text after obeyed
+takes_images (Some e) old Image text new is taken =
+    let bad : ◌≡◌ {A = Option Refusal} None (Some e) = is in
+    absurd (cc)
+takes_images (Some e) old command text new is taken = subst (AreImages 0) (sym taken.0) none
+
+said_images : (old : ScriptState) (says : Option (Result Command Refusal)) (text : List ℕ) (new : ScriptState) → SaidAnswers true old says text new → AreImages (cond (asks_image says) 1 0) text
 said_images old None text new answered = subst (AreImages 0) (sym answered.0) none
 said_images old (Some (Err e)) text new answered = subst (AreImages 0) (sym answered.0) none
-said_images (unmade font stocks) (Some (Ok command)) text new obeyed = opens_images font stocks command (why_unmade command stocks) text new refl obeyed
-said_images (made s) (Some (Ok command)) text new (after, answered, is) = answers_images s command text after answered
+said_images old (Some (Ok command)) text new taken = takes_images (why_unread old.is_begun old.version command) old command text new refl taken
 
-pub written_images : (old : SessionState) (lines : List (List ℕ)) (text : List ℕ) (new : SessionState) → Written true old lines text new
+pub written_images : (old : ScriptState) (lines : List (List ℕ)) (text : List ℕ) (new : ScriptState) → Written true old lines text new
     → AreImages (count_by (λ line. asks_image (said line)) lines) text
 written_images old [] text new written = subst (AreImages 0) (sym written.0) none
 written_images old (line ∷ lines) text new (middle, first, others, answered, rest, whole) =

@@ -4,7 +4,8 @@ use Rattle.tb_geom.specs.declared.refusal.Refusal.{Refusal}
 use Rattle.tb_geom.specs.declared.refusal.Refusal.TheVariants.{NoMemory}
 use Rattle.desk_toolbox.specs.ToolboxStates.{ToolboxState}
 use Rattle.script_text.specs.declared.command.Command.{Command}
-use Rattle.script_runner.specs.Session.{SessionState, Answers, FirstAnswers, Obeys, SaidAnswers, makes_desk}
+use Rattle.script_runner.specs.Script.{ScriptState, Takes, SaidAnswers, begun, makes_desk_of, why_unread}
+use Rattle.script_runner.specs.Session.{SessionState, Answers, FirstAnswers, Obeys, makes_desk}
 use Rattle.watched_io.specs.Writes.{Output, Sends}
 
 -- a command was answered on a desk, as far as writing went
@@ -30,8 +31,27 @@ IsUnmadeAt session command after old new (Err e) = IsUnmade session command afte
 abbrev pub CommandEnds : {X : Type 0} → Bool → SessionState → Command → SessionState → Output → Output → Result X Refusal → Type 0
 CommandEnds raw session command after old new r = ((text : List ℕ) × Obeys raw session command text after × Sends old new r text) ⊎ IsUnmadeAt session command after old new r
 
+-- a command of a script was answered, as far as writing went
+abbrev pub IsTaken : {X : Type 0} → Bool → ScriptState → Command → ScriptState → Output → Output → Result X Refusal → Type 0
+IsTaken raw old command new before after r = (text : List ℕ) × Takes raw (why_unread old.is_begun old.version command) old command text new × Sends before after r text
+
+-- there was no memory for the desk that a command of a script was to make: it is taken, and nothing was done or written
+pub record IsDenied (old : ScriptState) (command : Command) (new : ScriptState) (before after : Output) (e : Refusal) : Type 0 where
+  pub makes : makes_desk_of old command ≡ true
+  pub same : new ≡ begun old
+  pub silent : after ≡ before
+  pub memory : e ≡ NoMemory
+
+abbrev pub IsDeniedAt : {X : Type 0} → ScriptState → Command → ScriptState → Output → Output → Result X Refusal → Type 0
+IsDeniedAt old command new before after (Ok x) = ⊥
+IsDeniedAt old command new before after (Err e) = IsDenied old command new before after e
+
+-- a command of a script was answered, or the desk could not be made for want of memory
+abbrev pub TakeEnds : {X : Type 0} → Bool → ScriptState → Command → ScriptState → Output → Output → Result X Refusal → Type 0
+TakeEnds raw old command new before after r = IsTaken raw old command new before after r ⊎ IsDeniedAt old command new before after r
+
 -- what a line says was answered so, or the desk that it asks for could not be made
-abbrev pub LineEnds : {X : Type 0} → Bool → SessionState → Option (Result Command Refusal) → SessionState → Output → Output → Result X Refusal → Type 0
-LineEnds raw session said after old new r =
-    ((text : List ℕ) × SaidAnswers raw session said text after × Sends old new r text)
-    ⊎ ((command : Command) × (said ≡ Some (Ok command)) × IsUnmadeAt session command after old new r)
+abbrev pub LineEnds : {X : Type 0} → Bool → ScriptState → Option (Result Command Refusal) → ScriptState → Output → Output → Result X Refusal → Type 0
+LineEnds raw old said new before after r =
+    ((text : List ℕ) × SaidAnswers raw old said text new × Sends before after r text)
+    ⊎ ((command : Command) × (said ≡ Some (Ok command)) × IsDeniedAt old command new before after r)

@@ -6,6 +6,8 @@ pub mod Kinds
 pub mod Progress
 pub mod RawText
 pub mod Runs
+pub mod FirstVersion
+pub mod Script
 pub mod Session
 pub mod SessionViews
 pub mod ChosenRuns

@@ -1,4 +1,4 @@
--- What the lines of a script do to its desk, and what they answer.
+-- What the commands of a script do to its desk, and what they answer.
 use Rattle.std.specs.Prelude.{◌≡◌, ℕ, pos, nat_abs, Bool, true, false, not, List, [], ◌∷◌, ◌++◌, Option, None, Some, is_none, Result, Ok, Err, if◌then◌else◌}
 use Rattle.tb_geom.specs.declared.point.Point.{Point}
 use Rattle.tb_geom.specs.declared.refusal.Refusal.{Refusal}
@@ -11,7 +11,7 @@ use Rattle.desk_call.specs.declared.call.Call.TheVariants as asks
 use Rattle.desk_call.specs.declared.control.ControlCall.TheVariants as controls
 use Rattle.desk_call.specs.declared.list.ListCall.TheVariants as lists
 use Rattle.desk_call.specs.declared.menu.MenuCall.TheVariants as menus
-use Rattle.desk_call.specs.declared.window.WindowCall.TheVariants.{New}
+use Rattle.desk_call.specs.declared.window.WindowCall.TheVariants.{New, NewFloating}
 use Rattle.desk_call.specs.declared.call.Reply.{Reply}
 use Rattle.desk_call.specs.declared.activity.Activity.TheVariants.{Idle}
 use Rattle.window_mgr.specs.FullDesk.{IsRightState}
@@ -30,8 +30,7 @@ use Rattle.desk_toolbox.specs.ToolboxStates.{ToolboxState}
 use Rattle.desk_ground.specs.Screens.{is_screen}
 use Rattle.script_text.specs.declared.command.Command.{Command}
 use Rattle.script_text.specs.declared.command.DeskSize.{DeskSize}
-use Rattle.script_text.specs.declared.command.Command.TheVariants.{Desk, Image, Call}
-use Rattle.script_text.specs.Lines.{said}
+use Rattle.script_text.specs.declared.command.Command.TheVariants.{Version, Desk, Image, Call}
 use Rattle.screen_pbm.specs.Pbm.{p1, p4}
 use Rattle.reply_lines.specs.Texts.{done_text}
 use Rattle.script_text.specs.Replies.{refused_text, reply_text}
@@ -57,15 +56,18 @@ pub record IsNewDesk (size : DeskSize) (font : List ℕ) (stocks : AllSlots) (s 
 -- the desk that the first command makes: of the size that it asks for, and else of 512 by 342 with a menu bar of 20 rows
 abbrev pub first_size : Command → DeskSize
 first_size (Desk size) = size
+first_size (Version number) = record { width = pos 512; height = pos 342; bar = pos 20 }
 first_size Image = record { width = pos 512; height = pos 342; bar = pos 20 }
 first_size (Call call) = record { width = pos 512; height = pos 342; bar = pos 20 }
 
 -- whether the stock has a slot of the kind that a command names, if it names one; a new menu is of the one kind of menus, and
 -- with a new list come its scroll bars, where it is to have some
 abbrev pub is_known : Command → AllSlots → Bool
+is_known (Version number) stocks = true
 is_known (Desk size) stocks = true
 is_known Image stocks = true
 is_known (Call (Window (New w))) stocks = has_kind w.kind stocks.windows
+is_known (Call (Window (NewFloating w))) stocks = has_kind w.kind stocks.windows
 is_known (Call (Window _)) stocks = true
 is_known (Call (Update _)) stocks = true
 is_known (Call (Frame _)) stocks = true
@@ -105,14 +107,16 @@ image_text raw s = image_shown raw (nat_abs s.desk.windows.desk.width) (nat_abs 
 
 -- `raw` says whether a run is raw: whether it shows images alone
 module _ (raw : Bool) where
-  -- with a desk, the command may be answered so and leave this state
+  -- with a desk, the command may be answered so and leave this state; of a version a desk knows nothing
   abbrev pub Answers : ToolboxState → Command → List ℕ → ToolboxState → Type 0
+  Answers s (Version number) text after = (text ≡ reply_shown raw done_text) × (after ≡ s)
   Answers s (Desk size) text after = (text ≡ reply_shown raw (refused_text Busy)) × (after ≡ s)
   Answers s Image text after = (text ≡ image_text raw s) × (after ≡ s)
   Answers s (Call call) text after = (answer : Result Reply Refusal) × IsStep call answer s after × (text ≡ reply_shown raw (reply_text answer))
 
   -- the answer of the command that made the desk: `ok` where it asked for nothing else
   abbrev pub FirstAnswers : ToolboxState → Command → List ℕ → ToolboxState → Type 0
+  FirstAnswers s (Version number) text after = Answers s (Version number) text after
   FirstAnswers s (Desk size) text after = (text ≡ reply_shown raw done_text) × (after ≡ s)
   FirstAnswers s Image text after = Answers s Image text after
   FirstAnswers s (Call call) text after = Answers s (Call call) text after
@@ -127,18 +131,6 @@ module _ (raw : Bool) where
   abbrev pub Obeys : SessionState → Command → List ℕ → SessionState → Type 0
   Obeys (unmade font stocks) command text new = Opens (why_unmade command stocks) font stocks command text new
   Obeys (made s) command text new = (after : ToolboxState) × Answers s command text after × (new ≡ made after)
-
-  -- what a line says may be answered so, and leave this: a line that says nothing is not answered
-  abbrev pub SaidAnswers : SessionState → Option (Result Command Refusal) → List ℕ → SessionState → Type 0
-  SaidAnswers old None text new = (text ≡ []) × (new ≡ old)
-  SaidAnswers old (Some (Err e)) text new = (text ≡ reply_shown raw (refused_text e)) × (new ≡ old)
-  SaidAnswers old (Some (Ok command)) text new = Obeys old command text new
-
-  -- the lines, one after another, may be answered by this text, and leave this
-  abbrev pub Written : SessionState → List (List ℕ) → List ℕ → SessionState → Type 0
-  Written old [] text new = (text ≡ []) × (new ≡ old)
-  Written old (line ∷ lines) text new = (middle : SessionState) × (first : List ℕ) × (others : List ℕ)
-      × SaidAnswers old (said line) first middle × Written middle lines others new × (text ≡ first ++ others)
 
 -- what the end of the session leaves of the stock: the definitions of the desk's windows, menus, controls and lists are closed
 -- and back in their slots, and every other slot is as it was

@@ -1,4 +1,4 @@
--- The session of a run as plain data.
+-- The script of a run, and its session, as plain data.
 use Rattle.std.specs.Prelude.{ℕ, List, [], Option, None, Some}
 use Rattle.def_iface.specs.declared.taken.Taken.{Taken}
 use Rattle.def_iface.specs.declared.taken_control.TakenControl.{TakenControl}
@@ -11,7 +11,9 @@ use Rattle.def_iface.specs.MenuMeaning.{MenuLoan}
 use Rattle.def_iface.specs.Stocks.{AllSlots, AreAllFull}
 use Rattle.desk_toolbox.specs.declared.toolbox.Toolbox.{Toolbox}
 use Rattle.desk_toolbox.specs.WholeToolbox.{IsWholeToolbox, toolbox_state}
+use Rattle.script_runner.specs.declared.script.Script.{Script}
 use Rattle.script_runner.specs.declared.session.Session.{Session}
+use Rattle.script_runner.specs.Script.{ScriptState}
 use Rattle.script_runner.specs.Session.{SessionState, unmade, made}
 
 -- `loan` says what a window's definition that was taken means, `menu_loan` what a menu's, `control_loan` what a control's, and
@@ -25,6 +27,10 @@ module _ {V : Type 0} {H : V → Type 0} (loan : Taken V H → Loan) {W : Type 0
   -- the session over the slots of a stock
   abbrev pub session_of : Session V U W X H J K L → AllSlots → SessionState
   session_of s stocks = state_with s.desk s.font stocks
+
+  -- the script over the slots of a stock
+  abbrev pub script_of : Script V U W X H J K L → AllSlots → ScriptState
+  script_of s stocks = record { session = session_of s.session stocks; version = s.version; is_begun = s.is_begun }
 
   abbrev pub IsReadyWith : Option (Toolbox V U W X H J K L) → Option (List ℕ) → AllSlots → Type 0
   IsReadyWith (Some t) font stocks = IsWholeToolbox loan menu_loan control_loan list_loan t stocks

@@ -24,6 +24,7 @@ pub(crate) fn is_known(command: &Command<'_>, stock: &Stock) -> bool
         Command::Call(Call::List(call)) => is_known_list_call(call, stock),
         Command::Call(Call::Menu(call)) => is_known_menu_call(call, stock),
         Command::Call(Call::Event(_)) => true,
+        Command::Version(_) => true,
         Command::Desk(_) => true,
         Command::Image => true,
     }
@@ -35,6 +36,7 @@ fn is_known_call(call: &WindowCall<'_>, stock: &Stock) -> bool
 {
     match call {
         WindowCall::New(window) => stock.windows.has(window.kind.as_slice()),
+        WindowCall::NewFloating(window) => stock.windows.has(window.kind.as_slice()),
         _ => true,
     }
 }

@@ -1,16 +1,18 @@
 //! What the definitions of runs and of checks say of each other.
-ghost use Rattle.std.specs.Prelude.{◌≡◌, ◌⊎◌, ℕ, Bool, true, List, None, Some, count_by};
+ghost use Rattle.std.specs.Prelude.{◌≡◌, ◌⊎◌, ℕ, Bool, true, false, List, None, Some, count_by};
 ghost use Rattle.def_iface.specs.Stocks.{AllSlots};
 ghost use Rattle.script_text.specs.Lines.{said};
 ghost use Rattle.script_runner.specs.Checks.{IsCheckLine, check_text};
 ghost use Rattle.script_runner.specs.RawText.{asks_image, AreImages};
-ghost use Rattle.script_runner.specs.Session.{SessionState, unmade, Written};
+ghost use Rattle.script_runner.specs.FirstVersion.{begins_with_version, WrittenBefore};
+ghost use Rattle.script_runner.specs.Script.{ScriptState, first_state, Written};
+ghost use Rattle.script_runner.specs.Session.{unmade};
 
 /// Whatever lines a script has, the check finds no pixel that differs, or there is no memory for it.
 #[tactic(auto, using(crate::proofs::RightSessions::no_pixel_found))]
 pub fn checks_find_no_pixel()
     ensures { (raw : Bool) (font : List ℕ) (stocks : AllSlots) (lines : List (List ℕ)) (text line : List ℕ)
-        (session : SessionState) → Written raw (unmade font stocks) lines text session → IsCheckLine session line
+        (state : ScriptState) → Written raw (first_state font stocks) lines text state → IsCheckLine state.session line
         → (line ≡ check_text (Some 0)) ⊎ (line ≡ check_text None) }
 {}
 
@@ -19,6 +21,15 @@ pub fn checks_find_no_pixel()
 #[tactic(auto, using(crate::proofs::RawRuns::written_images))]
 pub fn raw_runs_write_images_alone()
     ensures { (font : List ℕ) (stocks : AllSlots) (lines : List (List ℕ)) (text : List ℕ)
-        (session : SessionState) → Written true (unmade font stocks) lines text session
+        (state : ScriptState) → Written true (first_state font stocks) lines text state
         → AreImages (count_by (λ line. asks_image (said line)) lines) text }
+{}
+
+/// Where the first line that is answered says no version, a script's lines write what they wrote before there were versions,
+/// and do to the desk what they did: each line that says a version or asks for a floating window is BadSyntax.
+#[tactic(auto, using(crate::proofs::FirstVersions::written_as_before))]
+pub fn scripts_of_version_1_write_what_they_wrote()
+    ensures { (raw : Bool) (font : List ℕ) (stocks : AllSlots) (lines : List (List ℕ)) (text : List ℕ)
+        (state : ScriptState) → begins_with_version lines ≡ false → Written raw (first_state font stocks) lines text state
+        → WrittenBefore raw (unmade font stocks) lines text state.session }
 {}

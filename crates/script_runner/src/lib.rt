@@ -2,12 +2,14 @@
 //!
 //! `run` makes the font of the desk's texts first. Then it reads bytes from a `Source`, cuts them into lines,
 //! and has each answered on a `Sink` before it reads on. A line is a command, a comment or nothing, as
-//! `script_text` says. A `Session` holds the script's desk, which the first command makes, and answers one
+//! `script_text` says. A `Script` knows of which version the script is, which its first line may say, and which commands
+//! are of that version. Its `Session` holds the script's desk, which the first other command makes, and answers one
 //! command: a call of the Toolbox by the line of its reply, and `image` by the bytes that `screen_pbm` writes. A raw run
 //! shows images alone, in the format P4.
 //!
 //! What a script answers is stated apart from all this code, in `specs/`: `Session` says what may be answered
-//! to a line and what that leaves of the desk, over the Toolbox's own steps, and `Runs` how a run ends. The
+//! to a command and what that leaves of the desk, over the Toolbox's own steps, `Script` which commands are answered so,
+//! and `Runs` how a run ends. The
 //! contract of `run` is that and nothing else: the bytes that went out are the answers to the lines that came
 //! in, and, where a check is asked for, a last line of how many pixels differ from the desk painted from nothing
 //! (`Checks`): the laws say that none does. It holds for every stock: whose window definitions they are, and of
@@ -25,6 +27,7 @@ mod files;
 mod known;
 pub mod laws;
 mod runner;
+mod script;
 mod session;
 mod shown;
 

@@ -2,17 +2,17 @@
 ghost use Rattle.std.specs.Prelude.{◌≡◌, ◌≢◌, Option, Some, IsOk, IfOk, IfErr, OnOk, [], option_map, false};
 ghost use Rattle.def_iface.specs.Stocks.{AreAllFull};
 ghost use Rattle.script_text.specs.Held.{pushed, said_held};
-ghost use Rattle.script_runner.specs.SessionViews.{session_of, IsReady};
+ghost use Rattle.script_runner.specs.SessionViews.{script_of, IsReady};
 ghost use Rattle.script_runner.specs.Fonts.{IsFontOf, why_fontless};
 ghost use Rattle.script_runner.specs.Kinds.{kinds_of};
-ghost use Rattle.script_runner.specs.Session.{SessionState};
+ghost use Rattle.script_runner.specs.Script.{ScriptState};
 ghost use Rattle.script_runner.specs.Endings.{LineEnds};
 ghost use Rattle.script_runner.specs.Progress.{SoFar, GoesOn};
 ghost use Rattle.watched_io.specs.Reads.{Input, IsOpen};
 ghost use Rattle.script_runner.specs.Runs.{CheckedEnds, RunEnds, ScriptEnds};
 ghost use Rattle.watched_io.specs.Writes.{Output};
 
-use crate::session::Session;
+use crate::script::Script;
 use def_iface::{
     Defined, DefinedControl, DefinedList, DefinedMenu, Stock, StockedAll, Taken, TakenControl,
     TakenList, TakenMenu,
@@ -55,33 +55,33 @@ pub fn run<R: Source, W: Sink>(
         (R.input source.old) (R.input source.new) (W.output sink.old) (W.output sink.new) result }
 {
     let font = make_font(alloc, font)?;
-    let mut session = Session::new(alloc, font);
-    let outcome = answer_and_check(&mut session, source, sink, stock, raw, check);
-    session.close(stock);
+    let mut script = Script::new(alloc, font);
+    let outcome = answer_and_check(&mut script, source, sink, stock, raw, check);
+    script.close(stock);
     outcome
 }
 
 /// Answers each line of the script, and then, where a check is asked for, writes the line of it.
 fn answer_and_check<R: Source, W: Sink>(
-    session: &mut Session,
+    script: &mut Script,
     source: &mut R,
     sink: &mut W,
     stock: &mut Stock,
     raw: bool,
     check: bool,
 ) -> Result<(), Refusal>
-    requires ready { IsReady ⟦<Taken as Defined>⟧.loan ⟦<TakenMenu as DefinedMenu>⟧.menu_loan ⟦<TakenControl as DefinedControl>⟧.control_loan ⟦<TakenList as DefinedList>⟧.list_loan session.old (⟦<Stock as StockedAll>⟧.all_slots stock.old) }
+    requires ready { IsReady ⟦<Taken as Defined>⟧.loan ⟦<TakenMenu as DefinedMenu>⟧.menu_loan ⟦<TakenControl as DefinedControl>⟧.control_loan ⟦<TakenList as DefinedList>⟧.list_loan script.old.session (⟦<Stock as StockedAll>⟧.all_slots stock.old) }
     requires unread { (R.input source.old).reads ≡ 0 }
     requires going { IsOpen (R.input source.old) }
     requires unfailed { (W.output sink.old).has_failed ≡ false }
-    ensures ready { IsReady ⟦<Taken as Defined>⟧.loan ⟦<TakenMenu as DefinedMenu>⟧.menu_loan ⟦<TakenControl as DefinedControl>⟧.control_loan ⟦<TakenList as DefinedList>⟧.list_loan session.new (⟦<Stock as StockedAll>⟧.all_slots stock.new) }
+    ensures ready { IsReady ⟦<Taken as Defined>⟧.loan ⟦<TakenMenu as DefinedMenu>⟧.menu_loan ⟦<TakenControl as DefinedControl>⟧.control_loan ⟦<TakenList as DefinedList>⟧.list_loan script.new.session (⟦<Stock as StockedAll>⟧.all_slots stock.new) }
     ensures ends { CheckedEnds raw check
-        (session_of ⟦<Taken as Defined>⟧.loan ⟦<TakenMenu as DefinedMenu>⟧.menu_loan ⟦<TakenControl as DefinedControl>⟧.control_loan ⟦<TakenList as DefinedList>⟧.list_loan session.old (⟦<Stock as StockedAll>⟧.all_slots stock.old))
+        (script_of ⟦<Taken as Defined>⟧.loan ⟦<TakenMenu as DefinedMenu>⟧.menu_loan ⟦<TakenControl as DefinedControl>⟧.control_loan ⟦<TakenList as DefinedList>⟧.list_loan script.old (⟦<Stock as StockedAll>⟧.all_slots stock.old))
         (R.input source.old) (R.input source.new) (W.output sink.old) (W.output sink.new)
-        (session_of ⟦<Taken as Defined>⟧.loan ⟦<TakenMenu as DefinedMenu>⟧.menu_loan ⟦<TakenControl as DefinedControl>⟧.control_loan ⟦<TakenList as DefinedList>⟧.list_loan session.new (⟦<Stock as StockedAll>⟧.all_slots stock.new)) result }
+        (script_of ⟦<Taken as Defined>⟧.loan ⟦<TakenMenu as DefinedMenu>⟧.menu_loan ⟦<TakenControl as DefinedControl>⟧.control_loan ⟦<TakenList as DefinedList>⟧.list_loan script.new (⟦<Stock as StockedAll>⟧.all_slots stock.new)) result }
 {
-    match answer_all(session, source, sink, stock, raw) {
-        Ok(()) if check => session.check(sink),
+    match answer_all(script, source, sink, stock, raw) {
+        Ok(()) if check => script.check(sink),
         outcome => outcome,
     }
 }
@@ -100,86 +100,86 @@ fn make_font(alloc: Global, asked: Option<&[u8]>) -> Result<Font, Refusal>
 
 /// Answers each line of the script.
 fn answer_all<R: Source, W: Sink>(
-    session: &mut Session,
+    script: &mut Script,
     source: &mut R,
     sink: &mut W,
     stock: &mut Stock,
     raw: bool,
 ) -> Result<(), Refusal>
-    requires ready { IsReady ⟦<Taken as Defined>⟧.loan ⟦<TakenMenu as DefinedMenu>⟧.menu_loan ⟦<TakenControl as DefinedControl>⟧.control_loan ⟦<TakenList as DefinedList>⟧.list_loan session.old (⟦<Stock as StockedAll>⟧.all_slots stock.old) }
+    requires ready { IsReady ⟦<Taken as Defined>⟧.loan ⟦<TakenMenu as DefinedMenu>⟧.menu_loan ⟦<TakenControl as DefinedControl>⟧.control_loan ⟦<TakenList as DefinedList>⟧.list_loan script.old.session (⟦<Stock as StockedAll>⟧.all_slots stock.old) }
     requires unread { (R.input source.old).reads ≡ 0 }
     requires going { IsOpen (R.input source.old) }
     requires unfailed { (W.output sink.old).has_failed ≡ false }
-    ensures ready { IsReady ⟦<Taken as Defined>⟧.loan ⟦<TakenMenu as DefinedMenu>⟧.menu_loan ⟦<TakenControl as DefinedControl>⟧.control_loan ⟦<TakenList as DefinedList>⟧.list_loan session.new (⟦<Stock as StockedAll>⟧.all_slots stock.new) }
+    ensures ready { IsReady ⟦<Taken as Defined>⟧.loan ⟦<TakenMenu as DefinedMenu>⟧.menu_loan ⟦<TakenControl as DefinedControl>⟧.control_loan ⟦<TakenList as DefinedList>⟧.list_loan script.new.session (⟦<Stock as StockedAll>⟧.all_slots stock.new) }
     ensures ends { ScriptEnds raw
-        (session_of ⟦<Taken as Defined>⟧.loan ⟦<TakenMenu as DefinedMenu>⟧.menu_loan ⟦<TakenControl as DefinedControl>⟧.control_loan ⟦<TakenList as DefinedList>⟧.list_loan session.old (⟦<Stock as StockedAll>⟧.all_slots stock.old))
+        (script_of ⟦<Taken as Defined>⟧.loan ⟦<TakenMenu as DefinedMenu>⟧.menu_loan ⟦<TakenControl as DefinedControl>⟧.control_loan ⟦<TakenList as DefinedList>⟧.list_loan script.old (⟦<Stock as StockedAll>⟧.all_slots stock.old))
         (R.input source.old) (R.input source.new) (W.output sink.old) (W.output sink.new)
-        (session_of ⟦<Taken as Defined>⟧.loan ⟦<TakenMenu as DefinedMenu>⟧.menu_loan ⟦<TakenControl as DefinedControl>⟧.control_loan ⟦<TakenList as DefinedList>⟧.list_loan session.new (⟦<Stock as StockedAll>⟧.all_slots stock.new)) result }
+        (script_of ⟦<Taken as Defined>⟧.loan ⟦<TakenMenu as DefinedMenu>⟧.menu_loan ⟦<TakenControl as DefinedControl>⟧.control_loan ⟦<TakenList as DefinedList>⟧.list_loan script.new (⟦<Stock as StockedAll>⟧.all_slots stock.new)) result }
 {
     let mut line = LineBuffer::new();
     let mut buffer = [0u8; 4096];
     for read in 0..MOST_READS {
         let count = source.read_some(&mut buffer)?;
         if count == 0 {
-            return session.answer(line.said_last(), stock, sink, raw);
+            return script.answer(line.said_last(), stock, sink, raw);
         }
-        take_all(session, &mut line, &buffer[..count], stock, sink, raw)?;
+        take_all(script, &mut line, &buffer[..count], stock, sink, raw)?;
     }
     Err(Refusal::ReadFault)
 }
 
 /// Takes the next bytes of the script, whatever was read, answered and written before.
 fn take_all<W: Sink>(
-    session: &mut Session,
+    script: &mut Script,
     line: &mut LineBuffer,
     bytes: &[u8],
     stock: &mut Stock,
     sink: &mut W,
     raw: bool,
 ) -> Result<(), Refusal>
-    requires ready { IsReady ⟦<Taken as Defined>⟧.loan ⟦<TakenMenu as DefinedMenu>⟧.menu_loan ⟦<TakenControl as DefinedControl>⟧.control_loan ⟦<TakenList as DefinedList>⟧.list_loan session.old (⟦<Stock as StockedAll>⟧.all_slots stock.old) }
+    requires ready { IsReady ⟦<Taken as Defined>⟧.loan ⟦<TakenMenu as DefinedMenu>⟧.menu_loan ⟦<TakenControl as DefinedControl>⟧.control_loan ⟦<TakenList as DefinedList>⟧.list_loan script.old.session (⟦<Stock as StockedAll>⟧.all_slots stock.old) }
     requires unfailed { (W.output sink.old).has_failed ≡ false }
-    ensures ready { IsReady ⟦<Taken as Defined>⟧.loan ⟦<TakenMenu as DefinedMenu>⟧.menu_loan ⟦<TakenControl as DefinedControl>⟧.control_loan ⟦<TakenList as DefinedList>⟧.list_loan session.new (⟦<Stock as StockedAll>⟧.all_slots stock.new) }
+    ensures ready { IsReady ⟦<Taken as Defined>⟧.loan ⟦<TakenMenu as DefinedMenu>⟧.menu_loan ⟦<TakenControl as DefinedControl>⟧.control_loan ⟦<TakenList as DefinedList>⟧.list_loan script.new.session (⟦<Stock as StockedAll>⟧.all_slots stock.new) }
     ensures quiet { OnOk result ((W.output sink.new).has_failed ≡ false) }
-    ensures goes_on { (first : SessionState) (input rest : Input) (old : Output) → SoFar raw first input old rest (W.output sink.old)
-        (session_of ⟦<Taken as Defined>⟧.loan ⟦<TakenMenu as DefinedMenu>⟧.menu_loan ⟦<TakenControl as DefinedControl>⟧.control_loan ⟦<TakenList as DefinedList>⟧.list_loan session.old (⟦<Stock as StockedAll>⟧.all_slots stock.old)) line.old bytes.now
+    ensures goes_on { (first : ScriptState) (input rest : Input) (old : Output) → SoFar raw first input old rest (W.output sink.old)
+        (script_of ⟦<Taken as Defined>⟧.loan ⟦<TakenMenu as DefinedMenu>⟧.menu_loan ⟦<TakenControl as DefinedControl>⟧.control_loan ⟦<TakenList as DefinedList>⟧.list_loan script.old (⟦<Stock as StockedAll>⟧.all_slots stock.old)) line.old bytes.now
         → GoesOn raw first input old rest (W.output sink.new)
-        (session_of ⟦<Taken as Defined>⟧.loan ⟦<TakenMenu as DefinedMenu>⟧.menu_loan ⟦<TakenControl as DefinedControl>⟧.control_loan ⟦<TakenList as DefinedList>⟧.list_loan session.new (⟦<Stock as StockedAll>⟧.all_slots stock.new)) line.new result }
+        (script_of ⟦<Taken as Defined>⟧.loan ⟦<TakenMenu as DefinedMenu>⟧.menu_loan ⟦<TakenControl as DefinedControl>⟧.control_loan ⟦<TakenList as DefinedList>⟧.list_loan script.new (⟦<Stock as StockedAll>⟧.all_slots stock.new)) line.new result }
 {
     for byte in bytes {
-        take(session, line, *byte, stock, sink, raw)?;
+        take(script, line, *byte, stock, sink, raw)?;
     }
     Ok(())
 }
 
 /// Takes the next byte of the script.
 fn take<W: Sink>(
-    session: &mut Session,
+    script: &mut Script,
     line: &mut LineBuffer,
     byte: u8,
     stock: &mut Stock,
     sink: &mut W,
     raw: bool,
 ) -> Result<(), Refusal>
-    requires ready { IsReady ⟦<Taken as Defined>⟧.loan ⟦<TakenMenu as DefinedMenu>⟧.menu_loan ⟦<TakenControl as DefinedControl>⟧.control_loan ⟦<TakenList as DefinedList>⟧.list_loan session.old (⟦<Stock as StockedAll>⟧.all_slots stock.old) }
+    requires ready { IsReady ⟦<Taken as Defined>⟧.loan ⟦<TakenMenu as DefinedMenu>⟧.menu_loan ⟦<TakenControl as DefinedControl>⟧.control_loan ⟦<TakenList as DefinedList>⟧.list_loan script.old.session (⟦<Stock as StockedAll>⟧.all_slots stock.old) }
     requires unfailed { (W.output sink.old).has_failed ≡ false }
-    ensures ready { IsReady ⟦<Taken as Defined>⟧.loan ⟦<TakenMenu as DefinedMenu>⟧.menu_loan ⟦<TakenControl as DefinedControl>⟧.control_loan ⟦<TakenList as DefinedList>⟧.list_loan session.new (⟦<Stock as StockedAll>⟧.all_slots stock.new) }
+    ensures ready { IsReady ⟦<Taken as Defined>⟧.loan ⟦<TakenMenu as DefinedMenu>⟧.menu_loan ⟦<TakenControl as DefinedControl>⟧.control_loan ⟦<TakenList as DefinedList>⟧.list_loan script.new.session (⟦<Stock as StockedAll>⟧.all_slots stock.new) }
     ensures quiet { OnOk result ((W.output sink.new).has_failed ≡ false) }
     ensures newline { byte ≡ 10 → LineEnds raw
-        (session_of ⟦<Taken as Defined>⟧.loan ⟦<TakenMenu as DefinedMenu>⟧.menu_loan ⟦<TakenControl as DefinedControl>⟧.control_loan ⟦<TakenList as DefinedList>⟧.list_loan session.old (⟦<Stock as StockedAll>⟧.all_slots stock.old)) (said_held line.old)
-        (session_of ⟦<Taken as Defined>⟧.loan ⟦<TakenMenu as DefinedMenu>⟧.menu_loan ⟦<TakenControl as DefinedControl>⟧.control_loan ⟦<TakenList as DefinedList>⟧.list_loan session.new (⟦<Stock as StockedAll>⟧.all_slots stock.new))
+        (script_of ⟦<Taken as Defined>⟧.loan ⟦<TakenMenu as DefinedMenu>⟧.menu_loan ⟦<TakenControl as DefinedControl>⟧.control_loan ⟦<TakenList as DefinedList>⟧.list_loan script.old (⟦<Stock as StockedAll>⟧.all_slots stock.old)) (said_held line.old)
+        (script_of ⟦<Taken as Defined>⟧.loan ⟦<TakenMenu as DefinedMenu>⟧.menu_loan ⟦<TakenControl as DefinedControl>⟧.control_loan ⟦<TakenList as DefinedList>⟧.list_loan script.new (⟦<Stock as StockedAll>⟧.all_slots stock.new))
         (W.output sink.old) (W.output sink.new) result }
     ensures cleared { byte ≡ 10 → OnOk result (line.new ≡ Some []) }
     ensures other { byte ≢ 10 → IsOk result × (line.new ≡ pushed line.old byte)
-        × (session_of ⟦<Taken as Defined>⟧.loan ⟦<TakenMenu as DefinedMenu>⟧.menu_loan ⟦<TakenControl as DefinedControl>⟧.control_loan ⟦<TakenList as DefinedList>⟧.list_loan session.new (⟦<Stock as StockedAll>⟧.all_slots stock.new)
-        ≡ session_of ⟦<Taken as Defined>⟧.loan ⟦<TakenMenu as DefinedMenu>⟧.menu_loan ⟦<TakenControl as DefinedControl>⟧.control_loan ⟦<TakenList as DefinedList>⟧.list_loan session.old (⟦<Stock as StockedAll>⟧.all_slots stock.old))
+        × (script_of ⟦<Taken as Defined>⟧.loan ⟦<TakenMenu as DefinedMenu>⟧.menu_loan ⟦<TakenControl as DefinedControl>⟧.control_loan ⟦<TakenList as DefinedList>⟧.list_loan script.new (⟦<Stock as StockedAll>⟧.all_slots stock.new)
+        ≡ script_of ⟦<Taken as Defined>⟧.loan ⟦<TakenMenu as DefinedMenu>⟧.menu_loan ⟦<TakenControl as DefinedControl>⟧.control_loan ⟦<TakenList as DefinedList>⟧.list_loan script.old (⟦<Stock as StockedAll>⟧.all_slots stock.old))
         × (W.output sink.new ≡ W.output sink.old) }
 {
     if byte != b'\n' {
         line.push(byte);
         return Ok(());
     }
-    session.answer(line.said(), stock, sink, raw)?;
+    script.answer(line.said(), stock, sink, raw)?;
     line.clear();
     Ok(())
 }

@@ -6,7 +6,7 @@ ghost use Rattle.watched_io.specs.Writes.{Sends};
 ghost use Rattle.script_runner.specs.Checks.{IsCheckLine};
 ghost use Rattle.script_runner.specs.Session.{LeavesStock, first_size, is_known};
 ghost use Rattle.script_runner.specs.SessionViews.{session_of, IsReady};
-ghost use Rattle.script_runner.specs.Endings.{IsAnswered, IsFirstAnswered, CommandEnds, LineEnds};
+ghost use Rattle.script_runner.specs.Endings.{IsAnswered, IsFirstAnswered, CommandEnds};
 
 use crate::check_line::write_check;
 use crate::known::is_known;
@@ -52,35 +52,10 @@ impl Session {
         }
     }
 
-    /// Answers what a line says, in bytes to the sink: a reply line, or an image. Nothing is written
-    /// for a line that says nothing, and, where the run is raw, in place of a reply line. The first
-    /// command makes the desk: where there is no memory for that, the answer is NoMemory and nothing is
-    /// written. Else WriteFault is the only error.
-    pub fn answer<S: Sink>(
-        &mut self,
-        said: Option<Result<Command<'_>, Refusal>>,
-        stock: &mut Stock,
-        sink: &mut S,
-        raw: bool,
-    ) -> Result<(), Refusal>
-        requires ready { IsReady ⟦<Taken as Defined>⟧.loan ⟦<TakenMenu as DefinedMenu>⟧.menu_loan ⟦<TakenControl as DefinedControl>⟧.control_loan ⟦<TakenList as DefinedList>⟧.list_loan self.old (⟦<Stock as StockedAll>⟧.all_slots stock.old) }
-        requires unfailed { (S.output sink.old).has_failed ≡ false }
-        ensures ready { IsReady ⟦<Taken as Defined>⟧.loan ⟦<TakenMenu as DefinedMenu>⟧.menu_loan ⟦<TakenControl as DefinedControl>⟧.control_loan ⟦<TakenList as DefinedList>⟧.list_loan self.new (⟦<Stock as StockedAll>⟧.all_slots stock.new) }
-        ensures quiet { OnOk result ((S.output sink.new).has_failed ≡ false) }
-        ensures ends { LineEnds raw
-            (session_of ⟦<Taken as Defined>⟧.loan ⟦<TakenMenu as DefinedMenu>⟧.menu_loan ⟦<TakenControl as DefinedControl>⟧.control_loan ⟦<TakenList as DefinedList>⟧.list_loan self.old (⟦<Stock as StockedAll>⟧.all_slots stock.old)) said.entry
-            (session_of ⟦<Taken as Defined>⟧.loan ⟦<TakenMenu as DefinedMenu>⟧.menu_loan ⟦<TakenControl as DefinedControl>⟧.control_loan ⟦<TakenList as DefinedList>⟧.list_loan self.new (⟦<Stock as StockedAll>⟧.all_slots stock.new))
-            (S.output sink.old) (S.output sink.new) result }
-    {
-        match said {
-            None => Ok(()),
-            Some(Err(refusal)) => show_reply(sink, &Err(refusal), raw),
-            Some(Ok(command)) => self.obey(&command, stock, sink, raw),
-        }
-    }
-
-    /// Answers a command.
-    fn obey<S: Sink>(
+    /// Answers a command that is asked of the desk, in bytes to the sink: a reply line, or an image. Where the run is raw,
+    /// nothing is written in place of a reply line. The first command makes the desk: where there is no memory for that,
+    /// the answer is NoMemory and nothing is written. Else WriteFault is the only error.
+    pub fn obey<S: Sink>(
         &mut self,
         command: &Command<'_>,
         stock: &mut Stock,
@@ -183,6 +158,7 @@ fn first_size(command: &Command<'_>) -> DeskSize
 {
     match command {
         Command::Desk(size) => *size,
+        Command::Version(_) => USUAL_DESK,
         Command::Image => USUAL_DESK,
         Command::Call(_) => USUAL_DESK,
     }
@@ -207,6 +183,7 @@ fn first_answer<S: Sink>(
 {
     match command {
         Command::Desk(_) => show_done(sink, raw),
+        Command::Version(_) => answer_on(desk, command, stock, sink, raw),
         Command::Image => answer_on(desk, command, stock, sink, raw),
         Command::Call(_) => answer_on(desk, command, stock, sink, raw),
     }
@@ -230,6 +207,7 @@ fn answer_on<S: Sink>(
         (S.output sink.old) (S.output sink.new) result }
 {
     match command {
+        Command::Version(_) => show_done(sink, raw),
         Command::Desk(_) => show_reply(sink, &Err(Refusal::Busy), raw),
         Command::Image => show_image(sink, desk.screen(), raw),
         Command::Call(call) => {

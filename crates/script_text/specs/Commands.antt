@@ -15,13 +15,13 @@ use Rattle.list_words.specs.ListWords.{list_verbs, list_shape}
 use Rattle.menu_words.specs.MenuWords.{menu_verbs, menu_shape}
 use Rattle.event_words.specs.EventWords.{event_verbs, event_shape}
 use Rattle.script_text.specs.declared.command.Command.{Command}
-use Rattle.script_text.specs.declared.command.Command.TheVariants.{Desk, Image, Call}
+use Rattle.script_text.specs.declared.command.Command.TheVariants.{Version, Desk, Image, Call}
 use Rattle.script_text.specs.declared.verb.Verb.{Verb}
 use Rattle.script_text.specs.declared.verb.Verb.TheVariants as words
 
--- the first words of commands about the whole desk
+-- the first words of commands about the whole desk or the whole script
 abbrev pub desk_verbs : List (List ℕ × Verb)
-desk_verbs = (codes "desk", words.Desk) ∷ (codes "image", words.Image) ∷ []
+desk_verbs = (codes "desk", words.Desk) ∷ (codes "image", words.Image) ∷ (codes "version", words.Version) ∷ []
 
 -- the first words of commands
 abbrev pub verbs : List (List ℕ × Verb)
@@ -40,10 +40,15 @@ verbs =
 abbrev pub desk_shape : Shape Command
 desk_shape = number (λ width. number (λ height. number (λ bar. says (Desk (record { width = width; height = height; bar = bar })))))
 
+-- NUMBER
+abbrev pub version_shape : Shape Command
+version_shape = number (λ version. says (Version version))
+
 -- the words that follow a verb
 abbrev pub shape_of : Verb → Shape Command
 shape_of words.Desk = desk_shape
 shape_of words.Image = says Image
+shape_of words.Version = version_shape
 shape_of (words.Window verb) = mapped (λ call. Call (calls.Window call)) (window_shape verb)
 shape_of (words.Update verb) = mapped (λ call. Call (calls.Update call)) (update_shape verb)
 shape_of (words.Frame verb) = mapped (λ call. Call (calls.Frame call)) (frame_shape verb)

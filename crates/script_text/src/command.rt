@@ -16,6 +16,8 @@ pub struct DeskSize {
 /// A command of a script.
 #[derive(Drop)]
 pub enum Command<'a> {
+    /// Says which version of the commands the script is written in, a number judged by nobody.
+    Version(i32),
     /// Makes the desk.
     Desk(DeskSize),
     /// Shows the screen, in place of a reply.

@@ -11,7 +11,7 @@ ghost use Rattle.line_words.specs.Shapes.{reading, says};
 ghost use Rattle.script_text.specs.declared.command.Command.{Command};
 ghost use Rattle.script_text.specs.declared.command.Command.TheVariants.{Image};
 ghost use Rattle.script_text.specs.declared.verb.Verb.TheVariants as verbs;
-ghost use Rattle.script_text.specs.Commands.{command_of, shape_of, desk_shape};
+ghost use Rattle.script_text.specs.Commands.{command_of, shape_of, desk_shape, version_shape};
 ghost use Rattle.script_text.specs.Spelling.{IsLine};
 
 use crate::command::{Command, DeskSize};
@@ -41,6 +41,13 @@ fn image<'a>(words: Words<'a>) -> Result<Command<'a>, Refusal>
 {
     words.end()?;
     Ok(Command::Image)
+}
+
+/// The word after `version`: a number.
+fn version<'a>(words: Words<'a>) -> Result<Command<'a>, Refusal>
+    ensures { result ≡ reading version_shape words.entry }
+{
+    Ok(Command::Version(words.last_number()?))
 }
 
 /// The words after a verb for windows.
@@ -122,6 +129,7 @@ fn command<'a>(verb: Verb, words: Words<'a>) -> Result<Command<'a>, Refusal>
     match verb {
         Verb::Desk => desk(words),
         Verb::Image => image(words),
+        Verb::Version => version(words),
         Verb::Window(verb) => window(verb, words),
         Verb::Update(verb) => update(verb, words),
         Verb::Frame(verb) => frame(verb, words),

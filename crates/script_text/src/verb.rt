@@ -15,6 +15,7 @@ use window_words::{FrameVerb, OutlineVerb, UpdateVerb, WindowVerb};
 pub enum Verb {
     Desk,
     Image,
+    Version,
     Window(WindowVerb),
     Update(UpdateVerb),
     Frame(FrameVerb),
@@ -25,8 +26,12 @@ pub enum Verb {
     Event(EventVerb),
 }
 
-/// The first words of commands about the whole desk, and what they stand for.
-static VERBS: [(&[u8], Verb); 2] = [(b"desk", Verb::Desk), (b"image", Verb::Image)];
+/// The first words of commands about the whole desk or the whole script, and what they stand for.
+static VERBS: [(&[u8], Verb); 3] = [
+    (b"desk", Verb::Desk),
+    (b"image", Verb::Image),
+    (b"version", Verb::Version),
+];
 
 /// The verb that this word is, byte by byte; None of a word that is no verb.
 #[tactic(auto, using(line_words::proofs::TableLemmas::named_first, line_words::proofs::TableLemmas::named_later))]

@@ -25,6 +25,8 @@ pub record WindowRecord : Type 0 where
   -- the place and size that a zoomed window has when it is zoomed in again
   pub user_state : Option UserState
   pub shown : Bool
+  -- it floats in front of those that do not
+  pub floating : Bool
   pub highlighted : Bool
   pub title : List ℕ
   pub go_away : Bool
@@ -39,6 +41,9 @@ pub record WindowRecord : Type 0 where
   pub definition : Definition
   -- the slot of the stock that the definition came from
   pub slot : ℕ
+
+abbrev pub is_floating : WindowRecord → Bool
+is_floating w = w.floating
 
 -- all that the window's definition was told last
 abbrev pub news_of : WindowRecord → AllNews
@@ -92,6 +97,7 @@ module _ {V : Type 0} {H : V → Type 0} (loan : Taken V H → Loan) where
     size = w.size;
     user_state = w.user_state;
     shown = w.shown;
+    floating = w.floating;
     highlighted = w.highlighted;
     title = w.title.items;
     go_away = w.go_away;

@@ -53,6 +53,7 @@ module _ {V : Type 0} {H : V → Type 0} where
     pub place : s.place ≡ w.place
     pub size : s.size ≡ w.size
     pub shown : s.shown ≡ w.shown
+    pub floating : s.floating ≡ w.floating
     pub taken : s.taken.now ≡ w.taken
     pub area : s.area.now ≡ a
 

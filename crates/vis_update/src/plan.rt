@@ -96,6 +96,8 @@ pub struct Seat<'a> {
     pub place: Point,
     pub size: Size,
     pub shown: bool,
+    /// Whether it floats in front of those that do not.
+    pub floating: bool,
     pub taken: &'a Taken,
     pub area: &'a Area,
 }
@@ -109,6 +111,7 @@ pub fn seat_of<'a>(window: &'a Window, area: &'a Area) -> Seat<'a>
         place: window.place,
         size: window.size,
         shown: window.shown,
+        floating: window.floating,
         taken: &window.taken,
         area,
     }

@@ -3,3 +3,4 @@ pub mod RanksLemmas
 pub mod ListLemmas
 pub mod NumberLemmas
 pub mod ChangeLemmas
+pub mod ClassLemmas

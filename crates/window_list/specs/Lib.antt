@@ -1,5 +1,6 @@
 -- What the contracts speak of.
 pub mod Ranks
 pub mod Lends
+pub mod Classes
 pub mod Lists
 pub mod Changes

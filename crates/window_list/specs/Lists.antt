@@ -1,11 +1,12 @@
 -- The windows of a list, and one of them changed.
-use Rattle.std.specs.Prelude.{◌≡◌, ℕ, Bool, ◌==◌, List, [], ◌∷◌, Option, None, Some, if◌then◌else◌, zero, suc, map, nat_lt, false, ◌+◌, ◌++◌, ◌^◌, true, slice_set}
+use Rattle.std.specs.Prelude.{◌≡◌, ℕ, Bool, ◌==◌, List, [], ◌∷◌, Option, None, Some, if◌then◌else◌, zero, suc, map, nat_lt, false, ◌+◌, ◌++◌, ◌^◌, true, slice_set, not, ◌&&◌}
 use Rattle.tb_geom.specs.declared.point.Point.{Point}
 use Rattle.draw_port.specs.declared.shapes.Op.{Op}
 use Rattle.def_iface.specs.declared.taken.Taken.{Taken}
 use Rattle.def_iface.specs.declared.window_def.Stage.TheVariants.{Live}
 use Rattle.def_iface.specs.Meaning.{Loan, SameRegions, Hears}
 use Rattle.layer_list.specs.Holders.{PlacedLayers}
+use Rattle.window_list.specs.Classes.{put_front}
 use Rattle.window_list.specs.Ranks.{Ranked}
 use Rattle.window_list.specs.declared.window.Placement.{Placement}
 use Rattle.window_list.specs.declared.window.UserState.{UserState}
@@ -40,10 +41,22 @@ module _ {V : Type 0} {H : V → Type 0} where
   abbrev pub has_serial : ℕ → Window V H → Bool
   has_serial serial w = w.serial == serial
 
-  -- the serial of the first visible window
-  abbrev pub first_shown : List (Window V H) → Option ℕ
-  first_shown [] = None
-  first_shown (w ∷ ws) = if w.shown then Some w.serial else first_shown ws
+  -- the window floats
+  abbrev pub floats : Window V H → Bool
+  floats w = w.floating
+
+  -- the window is visible, and ordinary: one that may be active
+  abbrev pub leads : Window V H → Bool
+  leads w = w.shown && not w.floating
+
+  -- the serial of the first visible ordinary window
+  abbrev pub first_leading : List (Window V H) → Option ℕ
+  first_leading [] = None
+  first_leading (w ∷ ws) = if leads w then Some w.serial else first_leading ws
+
+  -- the windows once a new one is at the front of its class; where it becomes active, the one that was loses its highlighting
+  abbrev pub with_new : Option ℕ → Window V H → List (Window V H) → List (Window V H)
+  with_new active w ws = put_front floats w (if leads w then map (dimmed active) ws else ws)
 
   -- the window at this place, with its layers, visible or not, and with this user state
   abbrev pub with_stand : Point → Bool → Option UserState → Window V H → Window V H

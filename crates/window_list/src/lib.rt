@@ -11,6 +11,9 @@
 //! A window's definition is told by the list alone, and the record keeps what it was told last (`Heard`): that may be
 //! older than how the window stands, until the definition is told again.
 //!
+//! A window is ordinary or floats, for good (`Window::floating`). A window is put at the front or at the back of its class,
+//! so that those that float stand before those that do not; only an ordinary window is active.
+//!
 //! `WindowList` has the windows so, and with them the serial of the active window and the serial of the
 //! next. What makes a window active and what that does to the highlighting of two windows is said here once,
 //! and so is the order of the serials. Each call that changes one window says which, by its index from the

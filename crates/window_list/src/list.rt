@@ -1,12 +1,13 @@
 //! The windows of a desk, which of them is active, and the serial of the next.
-ghost use Rattle.std.specs.Prelude.{◌≡◌, true, ◌<◌, nat_lt, ◌==◌, [], ◌∷◌, length, map, if◌then◌else◌, position, slice_index_or, slice_get, Some, None, OnOk, OnErr, IfErr, IfNone, IfSome};
-ghost use Rattle.std.specs.List.{remove, list_all};
+ghost use Rattle.std.specs.Prelude.{◌≡◌, true, ◌<◌, ◌≤◌, nat_lt, ◌==◌, [], ◌∷◌, length, map, if◌then◌else◌, position, slice_index_or, slice_get, Some, None, OnOk, OnErr, IfErr, IfNone, IfSome};
+ghost use Rattle.std.specs.List.{remove, list_all, prefix_len};
 ghost use Rattle.std.specs.Option.{option_map};
 ghost use Rattle.tb_geom.specs.Rects.{in_plane};
 ghost use Rattle.def_iface.specs.Meaning.{is_fitting};
 ghost use Rattle.layer_list.specs.Holders.{fits_at};
+ghost use Rattle.window_list.specs.Classes.{front_place, back_place};
 ghost use Rattle.window_list.specs.Ranks.{moved_item};
-ghost use Rattle.window_list.specs.Lists.{has_serial, first_shown, dimmed, relit, serial_after, map_ranked, edit_at, IsLastBox, with_stand, with_picture, with_layers, with_origin, with_operation, IsPlacedAt};
+ghost use Rattle.window_list.specs.Lists.{has_serial, floats, leads, first_leading, with_new, dimmed, relit, serial_after, map_ranked, edit_at, IsLastBox, with_stand, with_picture, with_layers, with_origin, with_operation, IsPlacedAt};
 ghost use Rattle.window_list.specs.Changes.{keeps_size, has_short_title, IsNotifiedAt};
 
 use crate::{Placement, Ranks, UserState, Window};
@@ -81,13 +82,13 @@ impl WindowList {
         None
     }
 
-    /// The serial of the first visible window.
+    /// The serial of the first visible ordinary window.
     pub fn front(&self) -> Option<u64>
-        ensures { result ≡ first_shown self.now.records.items }
+        ensures { result ≡ first_leading self.now.records.items }
     {
         for at in 0..self.len() {
             let window = self.at(at);
-            if window.shown {
+            if window.leads() {
                 return Some(window.serial);
             }
         }
@@ -103,27 +104,71 @@ impl WindowList {
         self.records.reserve()
     }
 
-    /// Puts a new window, which has the next serial, in front of all others, where there is room. A visible one becomes
-    /// the active one, in place of the window that was.
+    /// The index at the front of a class, counted without the window at this index: in front of all where it is the class of
+    /// those that float, else behind those that float in front. Of no window's index, all are counted.
+    pub fn class_front(&self, floating: bool, without: usize) -> usize
+        ensures place { result ≡ front_place floats floating (remove self.now.records.items without) }
+        ensures low { result ≤ length (remove self.now.records.items without) }
+    {
+        if floating {
+            0
+        } else {
+            self.floating_without(without)
+        }
+    }
+
+    /// The index at the back of a class, counted without the window at this index: behind those that float in front where
+    /// it is their class, else behind all.
+    pub fn class_back(&self, floating: bool, without: usize) -> usize
+        requires { without < length self.now.records.items }
+        ensures place { result ≡ back_place floats floating (remove self.now.records.items without) }
+        ensures low { result ≤ length (remove self.now.records.items without) }
+    {
+        if floating {
+            self.floating_without(without)
+        } else {
+            self.len() - 1
+        }
+    }
+
+    /// How many windows float, from the front on to the first that does not, counted without the window at this index.
+    fn floating_without(&self, without: usize) -> usize
+        ensures count { result ≡ prefix_len floats (remove self.now.records.items without) }
+        ensures low { result ≤ length (remove self.now.records.items without) }
+    {
+        let mut count = 0;
+        for at in 0..self.len() {
+            if at != without {
+                if !self.at(at).floating {
+                    return count;
+                }
+                count += 1;
+            }
+        }
+        count
+    }
+
+    /// Puts a new window, which has the next serial, at the front of its class, where there is room. A visible ordinary one
+    /// becomes the active one, in place of the window that was.
     pub fn add(&mut self, window: Window)
         requires room { length self.old.records.items < self.old.records.capacity }
         requires next { self.old.next ≡ Some window.serial }
         ensures { self.new ≡ record {
           records = record {
-            items = window ∷ (if window.shown then map (dimmed self.old.active) self.old.records.items
-                else self.old.records.items);
+            items = with_new self.old.active window self.old.records.items;
             capacity = self.old.records.capacity;
           };
-          active = if window.shown then Some window.serial else self.old.active;
+          active = if leads window then Some window.serial else self.old.active;
           next = serial_after window.serial;
         } }
     {
+        let at = self.class_front(window.floating, self.len());
         self.next = serial_after(window.serial);
-        if window.shown {
+        if window.leads() {
             self.dim();
             self.active = Some(window.serial);
         }
-        self.records.insert(0, window);
+        self.records.insert(at, window);
     }
 
     /// Takes the highlighting from the active window.

@@ -1,7 +1,7 @@
 //! A window's record.
 
 ghost use Rattle.std.specs.Prelude.{◌≡◌, ◌≤◌, true, length};
-ghost use Rattle.window_list.specs.Lists.{dimmed, relit};
+ghost use Rattle.window_list.specs.Lists.{dimmed, leads, relit};
 ghost use Rattle.window_list.specs.Changes.{has_short_title, with_change};
 
 use arrayvec::ArrayVec;
@@ -51,6 +51,8 @@ pub struct Window {
     /// What it has when it is zoomed in again, or None where it is not zoomed.
     pub user_state: Option<UserState>,
     pub shown: bool,
+    /// Whether it floats in front of those that do not: so it was made, and so it stays.
+    pub floating: bool,
     pub highlighted: bool,
     pub go_away: bool,
     pub title: Title,
@@ -65,6 +67,13 @@ pub struct Window {
 }
 
 impl Window {
+    /// Whether it is visible and ordinary: only such a window becomes active.
+    pub fn leads(&self) -> bool
+        ensures { result ≡ leads self.now }
+    {
+        self.shown && !self.floating
+    }
+
     /// Takes the highlighting away, if this is the active window.
     pub(crate) fn dim(&mut self, active: Option<u64>)
         ensures { self.new ≡ dimmed active self.old }

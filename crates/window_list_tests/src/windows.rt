@@ -42,8 +42,17 @@ const WIDE: Size = Size {
     height: 4,
 };
 
-/// A window of this serial, highlighted where it is visible, with a white picture.
+/// An ordinary window of this serial, highlighted where it is visible, with a white picture.
 fn window(alloc: Global, serial: u64, shown: bool, taken: Taken) -> Window
+    ensures serial { result.serial ≡ serial }
+    ensures taken { result.taken ≡ taken }
+    ensures layers { result.layers.layers ≡ [] }
+{
+    window_of(alloc, serial, shown, false, taken)
+}
+
+/// The same, of either class.
+fn window_of(alloc: Global, serial: u64, shown: bool, floating: bool, taken: Taken) -> Window
     ensures serial { result.serial ≡ serial }
     ensures taken { result.taken ≡ taken }
     ensures layers { result.layers.layers ≡ [] }
@@ -54,6 +63,7 @@ fn window(alloc: Global, serial: u64, shown: bool, taken: Taken) -> Window
         size: SIZE,
         user_state: None,
         shown,
+        floating,
         highlighted: shown,
         go_away: false,
         title: Title::new(),
@@ -176,6 +186,32 @@ fn windows_lie_from_front_to_back(rt: HostRuntime) -> Result<(), Fail> {
     assert!(rt; is_changed(&windows, 0) && windows.front() == Some(3));
     let behind = reorder(&mut windows, 1, 2)?;
     assert!(rt; behind.serial == 1 && are(&windows, &[(2, false), (3, false)]));
+    Ok(())
+}
+
+#[test]
+fn floating_windows_lie_in_front(rt: HostRuntime) -> Result<(), Fail> {
+    let alloc = rt.alloc();
+    let mut stock = WindowStock::new(alloc);
+    for _ in 0..4 {
+        let Ok(()) = stock.add(b"titled", Box::new(alloc, Titled::new())?) else {
+            return Err(Fail::from(Refusal::NoMemory));
+        };
+    }
+    let mut windows = WindowList::new(Ranks::new(alloc));
+    for floating in [true, false, true, false] {
+        let taken = begun(&mut stock)?;
+        windows.reserve()?;
+        let serial = next(&windows)?;
+        windows.add(window_of(alloc, serial, true, floating, taken));
+    }
+    assert!(rt; are(&windows, &[(3, true), (1, true), (4, true), (2, false)]));
+    assert!(rt; windows.active() == Some(4) && windows.front() == Some(4));
+    assert!(rt; windows.class_front(true, 1) == 0 && windows.class_front(false, 3) == 2);
+    there(&windows, 0)?;
+    assert!(rt; !windows.at(0).leads() && windows.class_back(true, 0) == 1);
+    there(&windows, 2)?;
+    assert!(rt; windows.at(2).leads() && windows.class_back(false, 2) == 3);
     Ok(())
 }
 

@@ -1,5 +1,5 @@
 -- How each call arranges the windows: it puts one of them anew among the others.
-use Rattle.std.proofs.Common.{◌≡◌, ℕ, suc, Bool, true, false, if◌then◌else◌, List, [], ◌∷◌, map, Option, None, Some, ℤ, pos, negsuc, ◌-ℤ◌, refl, sym, ap, ◌∙◌, subst, arith}
+use Rattle.std.proofs.Common.{◌≡◌, ℕ, suc, ◌==◌, Bool, true, false, if◌then◌else◌, List, [], ◌∷◌, map, Option, None, Some, ℤ, pos, negsuc, ◌-ℤ◌, refl, sym, ap, ◌∙◌, subst, arith}
 use Rattle.std.specs.Prelude.{is_none}
 use Rattle.std.proofs.lemmas.Int.{ints}
 use Rattle.tb_geom.specs.declared.point.Point.{Point}
@@ -11,16 +11,17 @@ use Rattle.def_iface.specs.Desk as layers
 use Rattle.def_iface.specs.Owner.{content_bit, layer_bit}
 use Rattle.def_iface.specs.Owner.Owner.{Content}
 use Rattle.def_iface.proofs.Owning.{same_number}
-use Rattle.vis_update.specs.Records.{WindowRecord, Look, layered_window}
-use Rattle.vis_update.specs.Touches.{moved_from, came_from, is_this}
+use Rattle.window_list.specs.Classes.{front_place, back_place}
+use Rattle.vis_update.specs.Records.{WindowRecord, Look, layered_window, is_floating}
+use Rattle.vis_update.specs.Touches.{moved_from, came_from}
 use Rattle.desk_call.specs.declared.window.WindowCall.{WindowCall}
-use Rattle.desk_call.specs.declared.window.WindowCall.TheVariants.{New, Dispose, Show, Hide, ShowHide, Select, BringToFront, SendBehind, Move, Size, Zoom, Draw, SetPicture, Scroll, Find, Front, Info, VisibleRegion, UpdateRegion}
+use Rattle.desk_call.specs.declared.window.WindowCall.TheVariants.{New, NewFloating, Dispose, Show, Hide, ShowHide, Select, BringToFront, SendBehind, Move, Size, Zoom, Draw, SetPicture, Scroll, Find, Front, Info, VisibleRegion, UpdateRegion}
 use Rattle.desk_call.specs.declared.window.MoveWindow.{MoveWindow}
 use Rattle.desk_call.specs.declared.window.SendBehind as sending
 use Rattle.def_iface.specs.Meaning.{Definition}
 use Rattle.window_mgr.specs.FullDesk.{FullDesk, FullState, layered_desk, look_of}
 use Rattle.window_mgr.specs.Finding.{record_with}
-use Rattle.window_mgr.specs.Arrange.{Arrangement, put_behind, behind_this, in_front, without, brought, changed, at_place, with_shown, with_placement, way_to, moved, placed}
+use Rattle.window_mgr.specs.Arrange.{Arrangement, put_next, put_behind, behind_this, in_front, without, brought, changed, at_place, with_shown, with_placement, way_to, moved, placed}
 use Rattle.desk_call.specs.declared.window.Zoom as directions
 use Rattle.desk_call.specs.Parts.{zoom_of}
 use Rattle.window_mgr.specs.Placings.{Placing, sized, zoomed_by, gone, zoom_target}
@@ -28,7 +29,7 @@ use Rattle.window_mgr.specs.Effects.{Effect, effect_of, places}
 use Rattle.window_mgr.specs.Effects.Effect.{Makes, Disposes, Draws, Pictures, Scrolls, Arranges, Places, Tells, Describes}
 use Rattle.window_mgr.specs.Refused.{IsRefusal}
 use Rattle.window_mgr.proofs.LayerParts.{shown_alike}
-use Rattle.window_mgr.proofs.PutIn.{put_in, IsFree, IsPut, is_put, IsTakenOut, out_of, distinct_out}
+use Rattle.window_mgr.proofs.PutIn.{put_in, put_is_insert, IsFree, IsPut, is_put, IsTakenOut, out_of, distinct_out}
 use Rattle.window_mgr.proofs.Rearranged.{IsEdit}
 
 -- ---- the words of the order, of a window that stands among others
@@ -40,8 +41,8 @@ module _ (look : Look) (s i : ℕ) (w : WindowRecord) (rest : List WindowRecord)
   pub found_is : record_with s (put_in i w rest) ≡ Some w
   found_is = put.found
 
-  pub brought_is : brought s (put_in i w rest) ≡ put_in 0 w rest
-  brought_is = λ k. in_front (put.found k) (put.others k)
+  pub brought_is : brought s (put_in i w rest) ≡ put_in (front_place is_floating w.floating rest) w rest
+  brought_is = (λ k. in_front (put.found k) (put.others k)) ∙ sym (put_is_insert (front_place is_floating w.floating rest) w rest)
 
   pub changed_is : (f : WindowRecord → WindowRecord) → changed s f (put_in i w rest) ≡ put_in i (f w) rest
   changed_is f = put.changed_is f
@@ -49,22 +50,31 @@ module _ (look : Look) (s i : ℕ) (w : WindowRecord) (rest : List WindowRecord)
   pub behind_is : (x : Option ℕ) → behind_this x (record_with s (put_in i w rest)) (without s (put_in i w rest)) ≡ put_behind x w rest
   behind_is x = λ k. behind_this x (put.found k) (put.others k)
 
--- the place behind a window of this serial, or behind all
-abbrev pub place_after : Option ℕ → List WindowRecord → ℕ
-place_after x [] = 0
-place_after x (v ∷ vs) = if is_this x v.serial then 1 else suc (place_after x vs)
+-- the place behind a window of this serial, or behind all where there is none
+abbrev pub place_next : ℕ → List WindowRecord → ℕ
+place_next x [] = 0
+place_next x (v ∷ vs) = if v.serial == x then 1 else suc (place_next x vs)
 
-pub put_behind_is : (x : Option ℕ) (w : WindowRecord) (rest : List WindowRecord) → put_behind x w rest ≡ put_in (place_after x rest) w rest
-put_behind_is x w [] = refl
-put_behind_is x w (v ∷ vs) = by_test (is_this x v.serial) (put_behind_is x w vs)
+put_next_is : (x : ℕ) (w : WindowRecord) (rest : List WindowRecord) → put_next x w rest ≡ put_in (place_next x rest) w rest
+put_next_is x w [] = refl
+put_next_is x w (v ∷ vs) = by_test (v.serial == x) (put_next_is x w vs)
   where
-    by_test : (b : Bool) → put_behind x w vs ≡ put_in (place_after x vs) w vs → (if b then v ∷ w ∷ vs else v ∷ put_behind x w vs) ≡ put_in (if b then 1 else suc (place_after x vs)) w (v ∷ vs)
+    by_test : (b : Bool) → put_next x w vs ≡ put_in (place_next x vs) w vs → (if b then v ∷ w ∷ vs else v ∷ put_next x w vs) ≡ put_in (if b then 1 else suc (place_next x vs)) w (v ∷ vs)
     by_test true e = front w v vs
       where
         front : (a b : WindowRecord) (cs : List WindowRecord) → b ∷ a ∷ cs ≡ put_in 1 a (b ∷ cs)
         front a b [] = refl
         front a b (c ∷ cs) = refl
     by_test false e = ap (λ zs. v ∷ zs) e
+
+-- the place behind a window of this serial, or at the back of the class
+abbrev pub place_after : Option ℕ → Bool → List WindowRecord → ℕ
+place_after None floating ws = back_place is_floating floating ws
+place_after (Some x) floating ws = place_next x ws
+
+pub put_behind_is : (x : Option ℕ) (w : WindowRecord) (rest : List WindowRecord) → put_behind x w rest ≡ put_in (place_after x w.floating rest) w rest
+put_behind_is None w rest = sym (put_is_insert (back_place is_floating w.floating rest) w rest)
+put_behind_is (Some x) w rest = put_next_is x w rest
 
 -- ---- a sound arrangement
 
@@ -87,7 +97,7 @@ IsWay p w = (q : Point) → minus (came_from p.by q) w.place ≡ minus q p.to.pl
 -- there
 abbrev pub IsSoundEffect : Effect → FullDesk → Type 0
 IsSoundEffect (Arranges a) desk = IsSoundArrangement a desk
-IsSoundEffect (Makes w) desk = Unit {0}
+IsSoundEffect (Makes floating w) desk = Unit {0}
 IsSoundEffect (Disposes s) desk = Unit {0}
 IsSoundEffect (Draws d) desk = Unit {0}
 IsSoundEffect (Pictures n) desk = Unit {0}
@@ -136,7 +146,7 @@ module _ (desk : FullDesk) (distinct : layers.IsDesk (layered_desk desk)) (s : �
   }
 
   pub brought_sound : (a : Arrangement) → a.window ≡ s → a.by ≡ None → a.windows ≡ brought s desk.windows → IsSoundArrangement a desk
-  brought_sound a its still windows = stays a 0 w its still refl refl (windows ∙ ap (brought s) out.is ∙ brought_is (look_of desk) s out.place w out.rest out.serial free) (λ part p. refl)
+  brought_sound a its still windows = stays a (front_place is_floating w.floating out.rest) w its still refl refl (windows ∙ ap (brought s) out.is ∙ brought_is (look_of desk) s out.place w out.rest out.serial free) (λ part p. refl)
 
   pub shown_sound : (a : Arrangement) (shown : Bool) → a.window ≡ s → a.by ≡ None → a.windows ≡ changed s (with_shown shown) desk.windows → IsSoundArrangement a desk
   shown_sound a shown its still windows = stays a out.place (with_shown shown w) its still refl refl (windows ∙ ap (changed s (with_shown shown)) out.is ∙ changed_is (look_of desk) s out.place w out.rest out.serial free (with_shown shown)) (λ part p. refl)
@@ -165,7 +175,7 @@ module _ (desk : FullDesk) (distinct : layers.IsDesk (layered_desk desk)) (s : �
           ∙ shown_alike (look_of desk) w (with_placement p.to d w) part (minus q p.to.place) (minus q p.to.place) refl (λ other. refl) (λ e. refl)
 
   pub sent_sound : (a : Arrangement) (b : sending.SendBehind) → b.window ≡ s → a.window ≡ s → a.by ≡ None → a.windows ≡ behind_this b.behind (record_with s desk.windows) (without s desk.windows) → IsSoundArrangement a desk
-  sent_sound a b named its still windows = stays a (place_after b.behind out.rest) w its still refl refl
+  sent_sound a b named its still windows = stays a (place_after b.behind w.floating out.rest) w its still refl refl
       (windows ∙ ap (λ ws. behind_this b.behind (record_with s ws) (without s ws)) out.is ∙ behind_is (look_of desk) s out.place w out.rest out.serial free b.behind ∙ put_behind_is b.behind w out.rest)
       (λ part p. refl)
 
@@ -191,7 +201,7 @@ module _ (desk : FullDesk) (distinct : layers.IsDesk (layered_desk desk)) (s : �
           layers_at q local = layer_bit (layers.layer_of q (layered_window (look_of desk) w).layers) local
 
       windows_are : (b : Bool) → m.select ≡ b → (j : ℕ) × ((moved m desk.windows).windows ≡ put_in j (at_place m.place w) out.rest)
-      windows_are true e = (0, ap (λ c. if c then brought m.window there else there) e ∙ (λ k. brought (named k) (there_is k)) ∙ brought_is (look_of desk) s out.place (at_place m.place w) out.rest out.serial free)
+      windows_are true e = (front_place is_floating w.floating out.rest, ap (λ c. if c then brought m.window there else there) e ∙ (λ k. brought (named k) (there_is k)) ∙ brought_is (look_of desk) s out.place (at_place m.place w) out.rest out.serial free)
       windows_are false e = (out.place, ap (λ c. if c then brought m.window there else there) e ∙ there_is)
 
       by_select : (b : Bool) → m.select ≡ b → IsSoundArrangement (moved m desk.windows) desk
@@ -219,6 +229,7 @@ module _ (desk : FullDesk) (s : ℕ) (w : WindowRecord) (found : record_with s d
 -- every call that nothing refuses has a sound effect
 pub effect_is_sound : (call : WindowCall) (state : FullState) → layers.IsDesk (layered_desk state.desk) → IsRefusal call state None → IsSoundEffect (effect_of call state.desk) state.desk
 effect_is_sound (New w) state distinct e = tt
+effect_is_sound (NewFloating w) state distinct e = tt
 effect_is_sound (Dispose s) state distinct e = tt
 effect_is_sound (Draw d) state distinct e = tt
 effect_is_sound (SetPicture n) state distinct e = tt

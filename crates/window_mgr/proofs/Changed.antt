@@ -28,12 +28,12 @@ use Rattle.vis_update.proofs.SeatLemmas.{absent_area}
 use Rattle.window_mgr.specs.declared.arrange.Edit.{Edit}
 use Rattle.window_mgr.specs.declared.manager.WindowManager.{WindowManager}
 use Rattle.window_mgr.specs.Edits.{put_record, AreSeatsAfter, IsWindowAt, IsDeskOfEdit}
-use Rattle.window_mgr.specs.Effects.{new_record, desk_with_new}
+use Rattle.window_mgr.specs.Effects.{begins_active, new_record, desk_with_new}
 use Rattle.window_mgr.specs.FullDesk.{FullDesk, layered_desk, layered_state, look_of}
 use Rattle.window_mgr.specs.Kept.{IsKept}
 use Rattle.window_mgr.specs.Records.{desk_of, state_of, look_on}
 use Rattle.window_mgr.specs.Without.{records_without, IsDeskWithout}
-use Rattle.window_mgr.proofs.DimLemmas.{windows_behind}
+use Rattle.window_mgr.proofs.ClassPlaces.{new_windows, others_with, place_on}
 use Rattle.window_mgr.proofs.KeptWindows.{same_behind}
 use Rattle.window_mgr.proofs.PutIn.{put_in, put_is_insert, taken_out, map-put, All-put, IsFree, distinct_out}
 use Rattle.window_mgr.proofs.EditSeats.{anew_read, area_read}
@@ -158,34 +158,44 @@ module _ {V : Type 0} {H : V → Type 0} (loan : Taken V H → Loan) (t : Window
       stands_are : map stand_of after.windows ≡ map stand_of others
       stands_are = D.stands ∙ ap (map stand_of) (sym (put_is_insert e.to anew (rest e.at w w_is low)))
 
-  -- where a new one is put in front
-  pub changes_new : (w : NewWindow) (n slot : ℕ) (d begun : Definition) → t.windows.next ≡ Some n → SameRegions d begun → (old : Area) → IsNowhere old → (changed : Pixels) → IsChangedWith old (λ p. w.shown && d.structure w.size (minus p w.place)) t.gray changed → IsChangedArea before.desk (layered_desk (desk_with_new w n slot begun (desk_of loan t []))) changed
-  changes_new w n slot d begun next regions old nowhere changed its =
+  -- where a new one is put in
+  pub changes_new : (floating : Bool) (w : NewWindow) (n slot : ℕ) (d begun : Definition) → t.windows.next ≡ Some n → SameRegions d begun → (old : Area) → IsNowhere old → (changed : Pixels) → IsChangedWith old (λ p. w.shown && d.structure w.size (minus p w.place)) t.gray changed → IsChangedArea before.desk (layered_desk (desk_with_new floating w n slot begun (desk_of loan t []))) changed
+  changes_new floating w n slot d begun next regions old nowhere changed its =
       changed_on n after old (λ p. w.shown && d.structure w.size (minus p w.place)) changed refl
       (others_then n were behind after.windows (others_alike n were behind (sym stands) (sym its_layers)) (record {
-        stands = ap (map stand_of) (sym (except_put n made (same_number n) zero behind));
-        layers = ap (map (λ (v : WindowRecord). v.layers)) (sym (except_put n made (same_number n) zero behind));
+        stands = ap (map stand_of) (sym put_out);
+        layers = ap (map (λ (v : WindowRecord). v.layers)) (sym put_out);
       }))
       (absent_area before.desk before.stale n old free nowhere)
-      (λ p none. All-cons (IsClear n p) (stand_of made) (map stand_of behind)
+      (λ p none. subst (All (IsClear n p)) (sym (ap (map stand_of) put ∙ map-put stand_of k made behind))
+      (All-put (IsClear n p) k (stand_of made) (map stand_of behind)
       (λ same. (λ i. w.shown && regions.structure i w.size (minus p w.place)) ∙ none)
-      (subst (All (IsClear n p)) (sym stands) (none_of_serial (look_on t) n p were free)))
+      (subst (All (IsClear n p)) (sym stands) (none_of_serial (look_on t) n p were free))))
       its
     where
       after : FullDesk
-      after = desk_with_new w n slot begun (desk_of loan t [])
+      after = desk_with_new floating w n slot begun (desk_of loan t [])
 
       made : WindowRecord
-      made = new_record w n slot begun
+      made = new_record floating w n slot begun
 
       behind : List WindowRecord
-      behind = windows_behind t.windows.active w.shown were
+      behind = others_with floating w (desk_of loan t [])
+
+      k : ℕ
+      k = place_on floating (desk_of loan t [])
+
+      put : after.windows ≡ put_in k made behind
+      put = new_windows floating w n slot begun (desk_of loan t [])
+
+      put_out : except n after.windows ≡ except n behind
+      put_out = ap (except n) put ∙ except_put n made (same_number n) k behind
 
       free : IsFree (look_on t) n were
       free = seating.number_is_free loan t kept n next
 
       stands : map stand_of behind ≡ map stand_of were
-      stands = same_behind stand_of (λ v. refl) t.windows.active w.shown were
+      stands = same_behind stand_of (λ v. refl) t.windows.active (begins_active floating w) were
 
       its_layers : map (λ (v : WindowRecord). v.layers) behind ≡ map (λ (v : WindowRecord). v.layers) were
-      its_layers = same_behind (λ (v : WindowRecord). v.layers) (λ v. refl) t.windows.active w.shown were
+      its_layers = same_behind (λ (v : WindowRecord). v.layers) (λ v. refl) t.windows.active (begins_active floating w) were

@@ -1,11 +1,10 @@
 -- The seats of windows of which one is put anew.
-use Rattle.std.proofs.Common.{◌≡◌, ℕ, zero, suc, ◌+◌, ◌<◌, ◌≤◌, ◌&&◌, if◌then◌else◌, List, [], ◌∷◌, length, get_or, map, Option, None, Some, refl, sym, ap, ◌∙◌, subst, arith}
+use Rattle.std.proofs.Common.{◌≡◌, ℕ, zero, suc, ◌<◌, ◌≤◌, not, ◌&&◌, if◌then◌else◌, List, [], ◌∷◌, length, get_or, map, Option, None, Some, refl, sym, ap, ◌∙◌, subst, arith}
 use Rattle.std.specs.Prelude.{All, slice_get}
 use Rattle.std.specs.List.{insert, remove}
 use Rattle.std.proofs.lemmas.Bool.{and_parts}
 use Rattle.std.proofs.lemmas.Option.{slice_get_read, get_or_from_slice_get}
 use Rattle.std.proofs.lemmas.List.Elements.{All-head, All-tail, All-get_or}
-use Rattle.std.proofs.lemmas.List.Sorted.{length_permutation}
 use Rattle.tb_geom.specs.declared.point.Point.{Point}
 use Rattle.tb_geom.specs.Points.{minus}
 use Rattle.tb_geom.specs.Pixels.{Pixels, holds}
@@ -19,7 +18,7 @@ use Rattle.vis_update.specs.declared.plan.Seat.{Seat}
 use Rattle.vis_update.specs.declared.plan.Touch.{Touch}
 use Rattle.vis_update.specs.Plans.{IsLosing}
 use Rattle.vis_update.specs.Hands.{IsLostOf}
-use Rattle.vis_update.specs.Records.{WindowRecord, record_of}
+use Rattle.vis_update.specs.Records.{WindowRecord, record_of, is_floating}
 use Rattle.vis_update.specs.Places.{is_placed}
 use Rattle.vis_update.specs.Areas.{IsArea}
 use Rattle.vis_update.specs.Seats.{stand_of, seat_stand, area_had, IsPlacedSeat, IsNearSeat, IsArranged, IsChangedArea}
@@ -35,8 +34,8 @@ use Rattle.window_mgr.specs.Seats.{first_seated}
 use Rattle.window_mgr.specs.Whole.{IsSettled}
 use Rattle.window_mgr.proofs.PaintLemmas.{settled_in}
 use Rattle.vis_update.proofs.PlaceLemmas.{placed_from}
-use Rattle.window_mgr.proofs.PutIn.{put_in, put_is_insert, taken_out, All-out, All-put, map-put, put_permutes}
-use Rattle.window_mgr.proofs.Seating.{as_many, lengths_of, seat_at, seats_areas, seats_stand, seats_had, seats_placed, sides}
+use Rattle.window_mgr.proofs.PutIn.{put_in, put_is_insert, taken_out, All-out, All-put, map-put, length-put}
+use Rattle.window_mgr.proofs.Seating.{as_many, lengths_of, seat_at, seats_areas, seats_class, seats_stand, seat_floats, seats_had, seats_placed, sides}
 use Rattle.vis_update.proofs.SeatLemmas.{seats_near, losing_seats}
 
 module _ {X Y : Type 0} (f : X → Y) where
@@ -60,9 +59,6 @@ pub there_is : {X : Type 0} (xs : List X) (i : ℕ) → i < length xs → (x : X
 there_is [] i low = absurd (omega arith)
 there_is (x ∷ xs) zero low = (x, refl)
 there_is (x ∷ xs) (suc i) low = there_is xs i (omega arith)
-
-pub length-put : {X : Type 0} (i : ℕ) (x : X) (xs : List X) → length (put_in i x xs) ≡ length xs + 1
-length-put i x xs = let e = length_permutation (x ∷ xs) (put_in i x xs) (put_permutes i x xs) in omega arith
 
 pub length-anew : {X : Type 0} (xs : List X) (i j : ℕ) (x : X) → i < length xs → length (insert (remove xs i) j x) ≡ length xs
 length-anew xs i j x low =
@@ -113,15 +109,17 @@ read_map f [] i x e = refl
 read_map f (y ∷ ys) zero x e = ap f e
 read_map f (y ∷ ys) (suc i) x e = read_map f ys i x e
 
--- seats that stand as windows do have the same first visible one
-pub first_stand : {V : Type 0} {H : V → Type 0} (loan : Taken V H → Loan) (ss : List (Seat V H)) (ws : List WindowRecord) → map (seat_stand loan) ss ≡ map stand_of ws → first_seated ss ≡ front_of ws
-first_stand loan [] [] e = refl
-first_stand loan [] (v ∷ vs) e = absurd (cc)
-first_stand loan (s ∷ ss) [] e = absurd (cc)
-first_stand loan (s ∷ ss) (v ∷ vs) e =
+-- seats that stand as windows do, of the same classes, have the same first visible ordinary one
+pub first_stand : {V : Type 0} {H : V → Type 0} (loan : Taken V H → Loan) (ss : List (Seat V H)) (ws : List WindowRecord) → map (seat_stand loan) ss ≡ map stand_of ws → map (seat_floats) ss ≡ map is_floating ws → first_seated ss ≡ front_of ws
+first_stand loan [] [] e c = refl
+first_stand loan [] (v ∷ vs) e c = absurd (cc)
+first_stand loan (s ∷ ss) [] e c = absurd (cc)
+first_stand loan (s ∷ ss) (v ∷ vs) e c =
     let here : seat_stand loan s ≡ stand_of v = cc in
     let behind : map (seat_stand loan) ss ≡ map stand_of vs = cc in
-    λ i. if (here i).shown then Some (here i).serial else first_stand loan ss vs behind i
+    let its_class : s.floating ≡ v.floating = cc in
+    let classes : map (seat_floats) ss ≡ map is_floating vs = cc in
+    λ i. if (here i).shown && not (its_class i) then Some (here i).serial else first_stand loan ss vs behind classes i
 
 module _ {V : Type 0} {H : V → Type 0} (loan : Taken V H → Loan) (t : WindowManager V H) (kept : IsKept loan t) (e : Edit) (seats : List (Seat V H)) (S : AreSeatsAfter e t.windows.records.items t.areas.items seats) (low : e.at < length t.windows.records.items) where
   within : e.at < length S.all
@@ -230,9 +228,18 @@ module _ {V : Type 0} {H : V → Type 0} (loan : Taken V H → Loan) (t : Window
       areas = had;
     }
 
-    -- and the first visible one is the same
+    -- and are of their classes
+    classes_put : map (seat_floats) seats ≡ map is_floating (records_put loan e w t)
+    classes_put =
+        let its = seat_at t.windows.records.items t.areas.items S.all e.at w S.seat S.are low w_is S.at in
+        ap (map (seat_floats)) S.is
+        ∙ map-insert (seat_floats) e.to (record S.seat { place = e.place; size = e.size; shown = e.shown }) (remove S.all e.at)
+        ∙ (λ i. put_in e.to (its.1.floating i) ((map-remove (seat_floats) S.all e.at ∙ ap (λ xs. remove xs e.at) (seats_class loan t.windows.records.items t.areas.items S.all S.are) ∙ sym (map-remove is_floating (map (record_of loan) t.windows.records.items) e.at) ∙ ap (map is_floating) (sym (map-remove (record_of loan) t.windows.records.items e.at))) i))
+        ∙ sym (map-insert is_floating e.to (put_record e (record_of loan w)) (map (record_of loan) (remove t.windows.records.items e.at)))
+
+    -- and the first visible ordinary one is the same
     pub front_put : first_seated seats ≡ front_of (records_put loan e w t)
-    front_put = first_stand loan seats (records_put loan e w t) seats_put
+    front_put = first_stand loan seats (records_put loan e w t) seats_put classes_put
 
 -- a window that stays where it is, with its size, may be there
 pub may_stay : {V : Type 0} {H : V → Type 0} (loan : Taken V H → Loan) (e : Edit) (ws : List (Window V H)) (x : Window V H) → e.at < length ws → IsWindowAt ws e.at x → e.place ≡ x.place → e.size ≡ x.size → All IsSettled (map (record_of loan) ws) → IsPlaceable loan e ws

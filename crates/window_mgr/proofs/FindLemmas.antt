@@ -26,7 +26,7 @@ use Rattle.layer_list.specs.Holders.{part_at as layer_at}
 use Rattle.vis_update.proofs.LayerOwners.{first_owner, owner_first}
 use Rattle.window_mgr.specs.declared.manager.WindowManager.{WindowManager}
 use Rattle.window_list.specs.declared.window.Window.{Window}
-use Rattle.window_list.specs.Lists.{first_shown, has_serial}
+use Rattle.window_list.specs.Lists.{first_leading, leads, has_serial}
 use Rattle.vis_update.specs.Records.{WindowRecord, Look, layered_window}
 use Rattle.window_mgr.specs.FullDesk.{layered_desk}
 use Rattle.vis_update.specs.Records.{record_of}
@@ -186,10 +186,10 @@ module _ {V : Type 0} {H : V → Type 0} (loan : Taken V H → Loan) (t : Window
       let its : owner desk p ≡ Desktop = among ∙ nowhere (look_on t) windows p (subst (λ o. NoneHas windows o) among none) in
       rw on (ap (λ o. found_by windows o p) its)
 
--- the first visible window, of the list and of its records
-pub front-records : {V : Type 0} {H : V → Type 0} (loan : Taken V H → Loan) (ws : List (Window V H)) → front_of (map (record_of loan) ws) ≡ first_shown ws
+-- the first visible ordinary window, of the list and of its records
+pub front-records : {V : Type 0} {H : V → Type 0} (loan : Taken V H → Loan) (ws : List (Window V H)) → front_of (map (record_of loan) ws) ≡ first_leading ws
 front-records loan [] = refl
-front-records loan (w ∷ ws) = ap (λ o. if w.shown then Some w.serial else o) (front-records loan ws)
+front-records loan (w ∷ ws) = ap (λ o. if leads w then Some w.serial else o) (front-records loan ws)
 
 -- what the search for a number among the windows tells
 module _ {V : Type 0} {H : V → Type 0} (loan : Taken V H → Loan) (s : ℕ) where

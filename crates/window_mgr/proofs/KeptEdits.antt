@@ -1,5 +1,5 @@
--- Windows keep their layers where a call puts one of them anew, takes one out, or puts a new one in front.
-use Rattle.std.proofs.Common.{◌≡◌, ℕ, zero, suc, ◌<◌, ◌==◌, Bool, true, false, if◌then◌else◌, [], length, get_or, map, Option, None, Some, refl, sym, ap, ◌∙◌, subst, arith}
+-- Windows keep their layers where a call puts one of them anew, takes one out, or puts a new one among them.
+use Rattle.std.proofs.Common.{◌≡◌, ℕ, ◌<◌, ◌==◌, Bool, true, false, if◌then◌else◌, List, ◌⊎◌, inl, inr, [], length, map, Option, None, Some, refl, sym, ap, ◌∙◌, subst}
 use Rattle.std.specs.Prelude.{Contains}
 use Rattle.std.specs.List.{remove}
 use Rattle.std.proofs.lemmas.Bool.{eqb-true}
@@ -18,12 +18,13 @@ use Rattle.vis_update.proofs.KeptLayers.{IsKept, keeps_layers, kept_in_place, ke
 use Rattle.window_mgr.specs.declared.arrange.Edit.{Edit}
 use Rattle.window_mgr.specs.declared.manager.WindowManager.{WindowManager}
 use Rattle.window_mgr.specs.Edits.{put_record, IsWindowAt, IsOnItsWay, IsDeskOfEdit}
-use Rattle.window_mgr.specs.Effects.{desk_with_new}
+use Rattle.window_mgr.specs.Effects.{begins_active, new_record, desk_with_new}
 use Rattle.window_mgr.specs.FullDesk.{FullDesk, layered_desk, look_of}
 use Rattle.window_mgr.specs.Records.{desk_of, look_on}
 use Rattle.window_mgr.specs.Without.{records_without, IsDeskWithout}
+use Rattle.window_mgr.proofs.ClassPlaces.{new_windows, place_on}
 use Rattle.window_mgr.proofs.DimLemmas.{windows_behind}
-use Rattle.window_mgr.proofs.KeptWindows.{Was, all_were, kept_as_it_was, kept_anew, among_all, none_free, none_moves, same_behind}
+use Rattle.window_mgr.proofs.KeptWindows.{Was, all_were, kept_as_it_was, kept_anew, among_all, none_free, none_moves, one_or_rest, same_behind}
 use Rattle.window_mgr.proofs.PutIn.{put_in, put_is_insert, taken_out, map-put, IsFree}
 
 module _ {V : Type 0} {H : V → Type 0} (loan : Taken V H → Loan) (t : WindowManager V H) (distinct : layers.IsDesk (layered_desk (desk_of loan t []))) where
@@ -71,14 +72,25 @@ module _ {V : Type 0} {H : V → Type 0} (loan : Taken V H → Loan) (t : Window
         kept_anew (look_on t) touch before.windows rest e.at e.to (record_of loan w) anew (windows_were e.at w w_is low) distinct refl refl (on_its_way by whole way) u v there
         (all_were after.windows (put_in e.to anew rest) (D.stands ∙ ap (map stand_of) (sym (put_is_insert e.to anew rest))) (D.layers ∙ ap (map (λ (x : WindowRecord). x.layers)) (sym (put_is_insert e.to anew rest))) v now)))
 
-  -- a call that puts a new window in front, whose serial owned nothing
-  pub new_keeps : (w : NewWindow) (n slot : ℕ) (begun : Definition) (touch : Touch) → touch.window ≡ n → IsFree (look_on t) n before.windows
-      → KeepsLayers touch (layered_desk before) (layered_desk (desk_with_new w n slot begun before))
-  new_keeps w n slot begun touch about free = keeps_layers touch (look_on t) (look_on t) before.windows after.windows (layered_desk before) (layered_desk after) refl refl
-      (λ u v there now. at_place u v there now.0 now.1 now.2)
+  -- a call that puts a new window among the others, whose serial owned nothing
+  pub new_keeps : (floating : Bool) (w : NewWindow) (n slot : ℕ) (begun : Definition) (touch : Touch) → touch.window ≡ n → IsFree (look_on t) n before.windows
+      → KeepsLayers touch (layered_desk before) (layered_desk (desk_with_new floating w n slot begun before))
+  new_keeps floating w n slot begun touch about free = keeps_layers touch (look_on t) (look_on t) before.windows after.windows (layered_desk before) (layered_desk after) refl refl
+      (λ u v there now. elim (one_or_others v now) [
+        | inl this ↦ λ same. absurd (none u there (same ∙ ap (λ (x : WindowRecord). x.serial) (sym this)))
+        | inr other ↦
+            let was = all_were others before.windows (same_behind stand_of (λ x. refl) before.active (begins_active floating w) before.windows) (same_behind (λ x. x.layers) (λ x. refl) before.active (begins_active floating w) before.windows) v other in
+            kept_as_it_was (look_on t) touch before.windows distinct u v there was (stays v was (v.serial == touch.window) refl)
+      ])
     where
       after : FullDesk
-      after = desk_with_new w n slot begun before
+      after = desk_with_new floating w n slot begun before
+
+      others : List WindowRecord
+      others = windows_behind before.active (begins_active floating w) before.windows
+
+      one_or_others : (v : WindowRecord) → Contains after.windows v → (new_record floating w n slot begun ≡ v) ⊎ Contains others v
+      one_or_others v now = one_or_rest (place_on floating before) (new_record floating w n slot begun) others v (subst (λ ws. Contains ws v) (new_windows floating w n slot begun before) now)
 
       none : (u : WindowRecord) → Contains before.windows u → u.serial ≡ n → ⊥
       none u there same = none_free (look_on t) n before.windows distinct free u there same
@@ -86,9 +98,3 @@ module _ {V : Type 0} {H : V → Type 0} (loan : Taken V H → Loan) (t : Window
       stays : (v : WindowRecord) → Was before.windows v → (b : Bool) → (v.serial == touch.window) ≡ b → (if b then touch.by else None) ≡ None
       stays v was true same = absurd (none was.window was.among (ap (λ (s : Stand). s.serial) (sym was.stands) ∙ eqb-true v.serial touch.window same ∙ about))
       stays v was false away = refl
-
-      at_place : (u v : WindowRecord) → Contains before.windows u → (k : ℕ) → k < length after.windows → get_or after.windows k v ≡ v → IsKept touch u v
-      at_place u v there zero low is = λ same. absurd (none u there (same ∙ ap (λ (x : WindowRecord). x.serial) (sym is)))
-      at_place u v there (suc k) low is =
-          let was = all_were (windows_behind before.active w.shown before.windows) before.windows (same_behind stand_of (λ x. refl) before.active w.shown before.windows) (same_behind (λ x. x.layers) (λ x. refl) before.active w.shown before.windows) v (k, omega arith, is) in
-          kept_as_it_was (look_on t) touch before.windows distinct u v there was (stays v was (v.serial == touch.window) refl)

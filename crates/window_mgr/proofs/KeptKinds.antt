@@ -15,7 +15,7 @@ abbrev pub kinds_of : FullState → List (List ℕ)
 kinds_of s = map (λ slot. slot.kind) s.desk.stock
 
 effect_keeps_kinds : (effect : Effect) (answer : WindowReply) (before after : FullState) → IsEffect effect answer before after → kinds_of after ≡ kinds_of before
-effect_keeps_kinds (Makes w) answer before after (n, is, new) = kinds_when_taken w.kind new.loan before.desk.stock after.desk.stock new.taken
+effect_keeps_kinds (Makes floating w) answer before after (n, is, new) = kinds_when_taken w.kind new.loan before.desk.stock after.desk.stock new.taken
 effect_keeps_kinds (Draws d) answer before after (is, drawn) = ap (λ (d : FullDesk). map (λ slot. slot.kind) d.stock) drawn.desk
 effect_keeps_kinds (Pictures n) answer before after (is, done) = ap (λ (d : FullDesk). map (λ slot. slot.kind) d.stock) done.desk
 effect_keeps_kinds (Scrolls m) answer before after (is, done) = ap (λ (d : FullDesk). map (λ slot. slot.kind) d.stock) done.desk

@@ -48,6 +48,17 @@ all_were vs us stands own v among = at_place vs us stands own among.0 among.1 am
         let there = was.among in
         record { window = was.window; among = (suc there.0, (let low = there.1 in omega arith), there.2); stands = was.stands; layers = was.layers }
 
+-- among windows is the one that was put in, or one of the others
+pub one_or_rest : (j : ℕ) (x : WindowRecord) (rest : List WindowRecord) (y : WindowRecord) → Contains (put_in j x rest) y → (x ≡ y) ⊎ Contains rest y
+one_or_rest j x rest y there = at_place (Contains-permutation (put_in j x rest) (x ∷ rest) y (IsPermutation-sym (x ∷ rest) (put_in j x rest) (put_permutes j x rest)) there)
+  where
+    at_place : Contains (x ∷ rest) y → (x ≡ y) ⊎ Contains rest y
+    at_place its = by_index its.0 its.1 its.2
+      where
+        by_index : (k : ℕ) → k < length (x ∷ rest) → get_or (x ∷ rest) k y ≡ y → (x ≡ y) ⊎ Contains rest y
+        by_index zero low is = inl is
+        by_index (suc k) low is = inr (k, omega arith, is)
+
 module _ (look : Look) where
   -- a window of a list is the one that is found by its serial
   pub found_by_serial : (ws : List WindowRecord) → layers.AreWindows (map (layered_window look) ws) → (u : WindowRecord) (k : ℕ) → k < length ws → get_or ws k u ≡ u → record_with u.serial ws ≡ Some u
@@ -94,17 +105,6 @@ module _ (look : Look) where
     pub among_all : (y : WindowRecord) → Contains rest y → Contains ws y
     among_all y there = let low = there.1 in among_front y (suc there.0, omega arith, there.2)
 
-    -- it is the one that was put anew, or one of the rest
-    one_or_rest : (y : WindowRecord) → Contains (put_in j x rest) y → (x ≡ y) ⊎ Contains rest y
-    one_or_rest y there = at_place (Contains-permutation (put_in j x rest) (x ∷ rest) y (IsPermutation-sym (x ∷ rest) (put_in j x rest) (put_permutes j x rest)) there)
-      where
-        at_place : Contains (x ∷ rest) y → (x ≡ y) ⊎ Contains rest y
-        at_place its = by_index its.0 its.1 its.2
-          where
-            by_index : (k : ℕ) → k < length (x ∷ rest) → get_or (x ∷ rest) k y ≡ y → (x ≡ y) ⊎ Contains rest y
-            by_index zero low is = inl is
-            by_index (suc k) low is = inr (k, omega arith, is)
-
     -- one of the rest does not move
     rest_stays : (y : WindowRecord) → t.window ≡ w.serial → Contains rest y → way_of t y.serial ≡ None
     rest_stays y about there = by_test (y.serial == t.window) refl
@@ -115,7 +115,7 @@ module _ (look : Look) where
 
     -- all windows are kept where that one is
     pub kept_anew : t.window ≡ w.serial → x.serial ≡ w.serial → IsKept t w x → (u v : WindowRecord) → Contains ws u → Was (put_in j x rest) v → IsKept t u v
-    kept_anew about serial kept u v there was = elim (one_or_rest was.window was.among) [
+    kept_anew about serial kept u v there was = elim (one_or_rest j x rest was.window was.among) [
       | inl this ↦
           let stand : stand_of x ≡ stand_of v = ap stand_of this ∙ sym was.stands in
           let its : x.layers ≡ v.layers = ap (λ (z : WindowRecord). z.layers) this ∙ sym was.layers in

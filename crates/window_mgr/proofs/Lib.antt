@@ -16,6 +16,7 @@ pub mod LayersPut
 pub mod LayersDrawn
 pub mod LayersSet
 pub mod PutIn
+pub mod ClassPlaces
 pub mod Rearranged
 pub mod LyingThere
 pub mod KeptWindows

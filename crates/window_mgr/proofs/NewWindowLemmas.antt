@@ -1,9 +1,10 @@
 -- The step of a new window.
-use Rattle.std.proofs.Common.{◌≡◌, ℕ, ◌<◌, ◌≤◌, nat_lt, nat_le, Bool, true, false, not, ◌&&◌, ◌||◌, ◌==◌, if◌then◌else◌, List, [], ◌∷◌, ◌++◌, length, map, Option, None, Some, pos, inl, refl, sym, ap, ◌∙◌, subst, arith}
+use Rattle.std.proofs.Common.{◌≡◌, ℕ, ◌<◌, ◌≤◌, nat_lt, nat_le, Bool, true, false, not, ◌&&◌, ◌||◌, ◌==◌, ◌+◌, if◌then◌else◌, List, [], ◌∷◌, ◌++◌, length, map, Option, None, Some, pos, inl, refl, sym, ap, ◌∙◌, subst, arith}
 use Rattle.std.specs.Prelude.{All, Ok, Err, is_none}
+use Rattle.std.specs.List.{insert}
+use Rattle.vis_update.specs.declared.area.Area.{Area}
 use Rattle.std.proofs.lemmas.Bool.Decides.{nat_tests}
 use Rattle.std.proofs.lemmas.List.{length-map}
-use Rattle.std.proofs.lemmas.List.Elements.{All-cons}
 use Rattle.tb_geom.specs.declared.point.Point.{Point}
 use Rattle.tb_geom.specs.declared.refusal.Refusal.{Refusal}
 use Rattle.tb_geom.specs.declared.refusal.Refusal.TheVariants.{OutOfRange, TooLong, TooMany, NoDefinition}
@@ -20,11 +21,10 @@ use Rattle.def_iface.specs.Stocked.{SlotView, IsTaken, IsNotTaken, IsPutBack}
 use Rattle.def_iface.specs.Desk as layers
 use Rattle.def_iface.specs.Owner.{own_bit}
 use Rattle.def_iface.specs.Owner.Owner.{Frame}
-use Rattle.def_iface.proofs.Owning.{own_bit-behind}
 use Rattle.def_iface.proofs.Hearing.{goes_by_all}
 use Rattle.def_iface.specs.Change as plain
 use Rattle.desk_call.specs.declared.window.NewWindow.{NewWindow}
-use Rattle.desk_call.specs.declared.window.WindowCall.TheVariants.{New}
+use Rattle.desk_call.specs.declared.window.WindowCall.TheVariants.{New, NewFloating}
 use Rattle.desk_call.specs.declared.window.WindowReply.TheVariants.{Made}
 use Rattle.window_mgr.specs.declared.manager.WindowManager.{WindowManager}
 use Rattle.vis_update.specs.declared.plan.Plan.{Plan}
@@ -36,16 +36,18 @@ use Rattle.vis_update.specs.Records.{record_of}
 use Rattle.window_mgr.specs.Records.{desk_of, state_of, look_on}
 use Rattle.window_paint.specs.White.{all_white}
 use Rattle.tb_geom.specs.Refusals.{first_refusal}
-use Rattle.window_mgr.specs.Refused.{judged_refusals, is_full, longest_text, most_windows}
+use Rattle.window_mgr.specs.Refused.{judged_refusals, new_window_refusals, is_full, longest_text, most_windows}
 use Rattle.vis_update.specs.Places.{is_placed}
 use Rattle.window_mgr.specs.Step.{IsWindowStep}
-use Rattle.window_mgr.specs.Effects.{IsNewWindow, first_news, new_record, desk_with_new}
+use Rattle.window_mgr.specs.Effects.{IsNewWindow, IsUnchanged, begins_active, first_news, new_record, desk_with_new}
 use Rattle.window_mgr.specs.Arrange.{with_highlighting}
-use Rattle.window_mgr.specs.Planned.{IsPlanWith, IsAdded, IsUnplanned, SameDesk, new_touch}
-use Rattle.window_list.specs.Lists.{dimmed}
+use Rattle.window_mgr.specs.Planned.{IsPlanWith, IsAdded, IsUnplanned, SameDesk, new_place, new_touch}
+use Rattle.window_list.specs.Classes.{front_place}
+use Rattle.window_list.specs.Lists.{floats, leads, with_new}
+use Rattle.window_list.proofs.ClassLemmas.{made_way, way_front, way_length}
 use Rattle.vis_update.specs.Plans.{IsPlan, areas_then}
 use Rattle.vis_update.specs.Touches.{change_of, draws_whole}
-use Rattle.window_mgr.specs.Whole.{IsWholeManager, IsSoundDesk, IsSettled, LieThere}
+use Rattle.window_mgr.specs.Whole.{IsWholeManager, IsSoundDesk, IsSettled, IsStocked, LieThere}
 use Rattle.window_mgr.specs.Commits.{IsPlanDrawn}
 use Rattle.window_mgr.proofs.LyingThere.{dimmed_lie}
 use Rattle.window_mgr.proofs.SlotLemmas.{stocked_with, put_back_is_old}
@@ -55,6 +57,9 @@ use Rattle.vis_update.proofs.PlaceLemmas.{placed_parts}
 use Rattle.window_mgr.proofs.Committing.{quiet_is, turned}
 use Rattle.window_mgr.proofs.Arranged.{IsArrangedCall, is_left as arranged_is_left, is_whole as arranged_is_whole}
 use Rattle.window_mgr.proofs.DimLemmas.{windows_behind, settled_behind, stocked_behind, records_behind}
+use Rattle.window_mgr.proofs.ClassPlaces.{new_windows, others_with, own_bit-put, place_on, place_records}
+use Rattle.window_mgr.proofs.PutIn.{put_in, put_is_insert, map-put, length-put, distinct_put, All-put}
+use Rattle.window_mgr.proofs.Rearranged.{stocked_put}
 use Rattle.window_mgr.proofs.Running.{layered_desk-with, next_is_free, numbered_with}
 
 -- what it says that a place, a title and the count of windows refuse nothing
@@ -111,8 +116,8 @@ pub begun_as : {size : Size} {t u : List ℕ} {go_away highlighted : Bool} {d be
 begun_as {size} {t} {u} {go_away} {highlighted} {d} {begun} e live = subst (λ x. IsBegun (new_window_news size x go_away highlighted) d begun) e live
 
 -- the record of a new window is settled
-pub settled_new : (w : NewWindow) (n slot : ℕ) (d begun : Definition) → IsBegun (first_news w) d begun → is_placed (Some d) w.place w.size ≡ true → IsWithin (d.content w.size) (rect_holds (d.bounds w.size)) → IsSettled (new_record w n slot begun)
-settled_new w n slot d begun live placed within =
+pub settled_new : (floating : Bool) (w : NewWindow) (n slot : ℕ) (d begun : Definition) → IsBegun (first_news floating w) d begun → is_placed (Some d) w.place w.size ≡ true → IsWithin (d.content w.size) (rect_holds (d.bounds w.size)) → IsSettled (new_record floating w n slot begun)
+settled_new floating w n slot d begun live placed within =
     let its = placed_parts d w.place w.size placed in
     record {
       origin = refl;
@@ -123,35 +128,60 @@ settled_new w n slot d begun live placed within =
       inside = ap (λ (b : Size → Rect). is_in_range (moved_rect (b w.size) w.place.h w.place.v)) live.regions.bounds ∙ its.moved;
       within = begun_within w.size d begun live within;
       layers = refl;
-      goes_by = goes_by_all (first_news w) d begun live.heard;
+      goes_by = goes_by_all (first_news floating w) d begun live.heard;
     }
 
--- so are all windows, with a new one in front
-pub settled_added : {V : Type 0} {H : V → Type 0} (loan : Taken V H → Loan) (w : NewWindow) (n slot : ℕ) (d begun : Definition) (added : Window V H) (active : Option ℕ) (ws items : List (Window V H)) → record_of loan added ≡ new_record w n slot begun → items ≡ added ∷ (if w.shown then map (dimmed active) ws else ws) → IsBegun (first_news w) d begun → is_placed (Some d) w.place w.size ≡ true → IsWithin (d.content w.size) (rect_holds (d.bounds w.size)) → All IsSettled (map (record_of loan) ws) → All IsSettled (map (record_of loan) items)
-settled_added loan w n slot d begun added active ws items seen items_are live placed within settled =
-    subst (All IsSettled) (λ i. sym (ap (map (record_of loan)) items_are ∙ (λ j. seen j ∷ records_behind loan active w.shown ws j)) i)
-    (All-cons IsSettled _ _ (settled_new w n slot d begun live placed within) (settled_behind active w.shown (map (record_of loan) ws) settled))
+-- the windows of a list, with a new one among them
+module _ {V : Type 0} {H : V → Type 0} (added : Window V H) (active : Option ℕ) (ws items : List (Window V H)) (items_are : items ≡ with_new active added ws) where
+  -- where it stands
+  abbrev pub place_in : ℕ
+  place_in = front_place floats added.floating ws
+
+  -- the others
+  abbrev pub others_in : List (Window V H)
+  others_in = made_way (leads added) active ws
+
+  pub put_among : items ≡ put_in place_in added others_in
+  put_among =
+      items_are
+      ∙ (λ i. insert others_in (way_front (leads added) added.floating active ws i) added)
+      ∙ sym (put_is_insert place_in added others_in)
+
+  pub one_more : length items ≡ length ws + 1
+  one_more =
+      let more = ap length put_among ∙ length-put place_in added others_in in
+      let others = way_length (leads added) active ws in
+      omega arith
+
+-- all windows are settled, with a new one among them
+pub settled_added : {V : Type 0} {H : V → Type 0} (loan : Taken V H → Loan) (floating : Bool) (w : NewWindow) (n slot : ℕ) (d begun : Definition) (added : Window V H) (active : Option ℕ) (ws items : List (Window V H)) → record_of loan added ≡ new_record floating w n slot begun → items ≡ with_new active added ws → IsBegun (first_news floating w) d begun → is_placed (Some d) w.place w.size ≡ true → IsWithin (d.content w.size) (rect_holds (d.bounds w.size)) → All IsSettled (map (record_of loan) ws) → All IsSettled (map (record_of loan) items)
+settled_added loan floating w n slot d begun added active ws items seen items_are live placed within settled =
+    let k = place_in added active ws items items_are in
+    let others = others_in added active ws items items_are in
+    subst (All IsSettled)
+    (sym (ap (map (record_of loan)) (put_among added active ws items items_are) ∙ map-put (record_of loan) k added others ∙ (λ i. put_in k (seen i) (records_behind loan active (leads added) ws i))))
+    (All-put IsSettled k (new_record floating w n slot begun) (windows_behind active (leads added) (map (record_of loan) ws)) (settled_new floating w n slot d begun live placed within) (settled_behind active (leads added) (map (record_of loan) ws) settled))
 
 module _ {V : Type 0} {H : V → Type 0} (loan : Taken V H → Loan) where
   -- all that is known where a window was added
-  pub record IsNew (w : NewWindow) (n : ℕ) (taken : Loan) (touch : Touch) (plan : Plan) (t planned new : WindowManager V H) (slots left : List SlotView) : Type 0 where
+  pub record IsNew (floating : Bool) (w : NewWindow) (n : ℕ) (taken : Loan) (touch : Touch) (plan : Plan) (t planned new : WindowManager V H) (slots left : List SlotView) : Type 0 where
     pub whole : IsWholeManager loan t slots
     pub same : SameDesk t planned
     pub unrefused_is : first_refusal (judged_refusals w (is_placed (Some taken.definition) w.place w.size) (length t.windows.records.items) t.windows.next) ≡ None
     pub touch_is : touch ≡ new_touch n
-    pub plan_with : IsPlanWith loan w n taken.definition touch planned plan
+    pub plan_with : IsPlanWith loan floating w n taken.definition touch planned plan
     pub number : planned.windows.next ≡ Some n
-    pub added : IsAdded loan w n taken touch plan planned new
+    pub added : IsAdded loan floating w n taken touch plan planned new
     pub took : IsTaken w.kind taken slots left
     pub within : IsWithin (taken.definition.content w.size) (rect_holds (taken.definition.bounds w.size))
 
-  module _ (w : NewWindow) (n : ℕ) (taken : Loan) (touch : Touch) (plan : Plan) (t planned new : WindowManager V H) (slots left : List SlotView) (N : IsNew w n taken touch plan t planned new slots left) where
+  module _ (floating : Bool) (w : NewWindow) (n : ℕ) (taken : Loan) (touch : Touch) (plan : Plan) (t planned new : WindowManager V H) (slots left : List SlotView) (N : IsNew floating w n taken touch plan t planned new slots left) where
     abbrev before : FullDesk
     before = desk_of loan t slots
 
-    -- the desk with the new window in front
+    -- the desk with the new window at its place
     abbrev after : FullDesk
-    after = record (desk_with_new w n taken.slot N.added.begun before) { stock = left }
+    after = record (desk_with_new floating w n taken.slot N.added.begun before) { stock = left }
 
     next_is : t.windows.next ≡ Some n
     next_is = sym N.same.next ∙ N.number
@@ -162,21 +192,41 @@ module _ {V : Type 0} {H : V → Type 0} (loan : Taken V H → Loan) where
     free : layers.window_of n (layered_desk before).windows ≡ None
     free = next_is_free (look_on t) n before.windows below.1
 
+    abbrev made : WindowRecord
+    made = new_record floating w n taken.slot N.added.begun
+
+    -- where it is put in
+    abbrev k : ℕ
+    k = place_on floating before
+
     -- as layers, the desk after is the desk before with one more window
-    layers_are : layered_desk after ≡ record (layered_desk before) { windows = layered_window (look_on t) (new_record w n taken.slot N.added.begun) ∷ (layered_desk before).windows }
-    layers_are = layered_desk-with w n taken.slot N.added.begun before left
+    layers_are : layered_desk after ≡ record (layered_desk before) { windows = map (layered_window (look_on t)) (put_in k made before.windows) }
+    layers_are = layered_desk-with floating w n taken.slot N.added.begun before left
+
+    -- the areas before, with one of no pixel at the place of the new window
+    abbrev olds : List Area
+    olds = insert t.areas.items (new_place floating t) N.added.area
 
     -- the plan, said of the desk before the call
-    plan_is : IsPlan touch (layered_state (state_of loan t slots)) (layered_desk after) t.desktop (N.added.area ∷ t.areas.items) after.windows plan
+    plan_is : IsPlan touch (layered_state (state_of loan t slots)) (layered_desk after) t.desktop olds after.windows plan
     plan_is =
         let back : SameDesk planned t = record { screen = sym N.same.screen; bar = sym N.same.bar; font = sym N.same.font; gray = sym N.same.gray; desktop = sym N.same.desktop; windows = sym N.same.windows; areas = sym N.same.areas; active = sym N.same.active; next = sym N.same.next } in
-        plan_stays loan planned t [] [] back refl w n taken.definition touch plan N.plan_with taken.slot N.added.begun N.added.live.regions N.added.area N.added.nowhere
+        plan_stays loan planned t [] [] back refl floating w n taken.definition touch plan N.plan_with taken.slot N.added.begun N.added.live.regions N.added.area N.added.nowhere
+
+    -- the window leads as the call says
+    leads_is : leads N.added.record_is ≡ begins_active floating w
+    leads_is = λ i. (N.added.seen i).shown && not (N.added.seen i).floating
+
+    class_is : N.added.record_is.floating ≡ floating
+    class_is = ap (λ (x : WindowRecord). x.floating) N.added.seen
 
     windows_are : map (record_of loan) new.windows.records.items ≡ after.windows
     windows_are =
-        ap (map (record_of loan)) N.added.windows
-        ∙ (λ i. N.added.seen i ∷ map (record_of loan) (if w.shown then map (dimmed (N.same.active i)) (N.same.windows i) else N.same.windows i))
-        ∙ ap (λ (ws : List WindowRecord). new_record w n taken.slot N.added.begun ∷ ws) (records_behind loan t.windows.active w.shown t.windows.records.items)
+        ap (map (record_of loan)) (put_among N.added.record_is planned.windows.active planned.windows.records.items new.windows.records.items N.added.windows)
+        ∙ map-put (record_of loan) (front_place floats N.added.record_is.floating planned.windows.records.items) N.added.record_is (made_way (leads N.added.record_is) planned.windows.active planned.windows.records.items)
+        ∙ (λ i. put_in (front_place floats (class_is i) (N.same.windows i)) (N.added.seen i) (map (record_of loan) (made_way (leads_is i) (N.same.active i) (N.same.windows i))))
+        ∙ (λ i. put_in (sym (place_records floating loan t.windows.records.items) i) made (records_behind loan t.windows.active (begins_active floating w) t.windows.records.items i))
+        ∙ sym (new_windows floating w n taken.slot N.added.begun before)
 
     drawn : IsPlanDrawn plan touch.by t.font after.windows t.screen new.screen
     drawn = subst (λ (x : List ℕ × List WindowRecord × Bits). IsPlanDrawn plan touch.by x.0 x.1 x.2 new.screen) (λ i. (N.same.font i, windows_are i, N.same.screen i)) N.added.drawn
@@ -189,7 +239,7 @@ module _ {V : Type 0} {H : V → Type 0} (loan : Taken V H → Loan) where
       font = (N.added.font ∙ N.same.font) i;
       shows = all_white;
       windows = windows_are i;
-      active = (N.added.active ∙ ap (λ a. if w.shown then Some n else a) N.same.active) i;
+      active = (N.added.active ∙ ap (λ a. if begins_active floating w then Some n else a) N.same.active) i;
       next = N.added.next i;
       stock = left;
     }
@@ -197,10 +247,10 @@ module _ {V : Type 0} {H : V → Type 0} (loan : Taken V H → Loan) where
     -- the frames of other windows stay
     frames : (s : ℕ) (p : Point) → draws_whole touch s ≡ false → own_bit (layered_desk before) (Frame s) p ≡ own_bit (layered_desk after) (Frame s) p
     frames s p e =
-        sym (own_bit-behind (layered_desk before) (layered_window (look_on t) (new_record w n taken.slot N.added.begun)) (layered_desk before).windows p (Frame s) (ap not (turned s n (quiet_is (s == n) (ap (λ (x : Touch). s == x.window && x.whole) (sym N.touch_is) ∙ e)))))
+        sym (own_bit-put (look_on t) (layered_desk before) k made before.windows p (Frame s) free (ap not (turned s n (quiet_is (s == n) (ap (λ (x : Touch). s == x.window && x.whole) (sym N.touch_is) ∙ e)))))
         ∙ sym (ap (λ d. own_bit d (Frame s) p) layers_are)
 
-    settled : IsSettled (new_record w n taken.slot N.added.begun)
+    settled : IsSettled made
     settled = record {
       origin = refl;
       placed = unrefused_place w _ _ _ N.unrefused_is;
@@ -210,27 +260,31 @@ module _ {V : Type 0} {H : V → Type 0} (loan : Taken V H → Loan) where
       inside = ap (λ (b : Size → Rect). is_in_range (moved_rect (b w.size) w.place.h w.place.v)) N.added.live.regions.bounds ∙ unrefused_inside w _ _ _ N.unrefused_is;
       within = begun_within w.size taken.definition N.added.begun N.added.live N.within;
       layers = refl;
-      goes_by = goes_by_all (first_news w) taken.definition N.added.begun N.added.live.heard;
+      goes_by = goes_by_all (first_news floating w) taken.definition N.added.begun N.added.live.heard;
     }
 
     few_after : length after.windows ≤ most_windows
     few_after =
         let fewer : length t.windows.records.items < most_windows = fewer_before _ t.windows.next (unrefused w _ (length t.windows.records.items) t.windows.next N.unrefused_is).room in
         let records : length before.windows ≡ length t.windows.records.items = length-map t.windows.records.items (record_of loan) in
-        let same : length (windows_behind t.windows.active w.shown before.windows) ≡ length before.windows = length_behind t.windows.active w.shown before.windows in
+        let same : length (others_with floating w before) ≡ length before.windows = length_behind t.windows.active (begins_active floating w) before.windows in
+        let more = ap length (new_windows floating w n taken.slot N.added.begun before) ∙ length-put k made (others_with floating w before) in
         omega arith
 
     sound_after : IsSoundDesk after
     sound_after = record {
       screen = N.whole.sound.screen;
-      distinct = subst layers.IsDesk (sym layers_are) (free, ((refl, tt), N.whole.sound.distinct));
-      serials = numbered_with w n taken.slot N.added.begun before below;
+      distinct = subst layers.IsDesk (sym layers_are) (distinct_put (look_on t) k made before.windows free (refl, tt) N.whole.sound.distinct);
+      serials = numbered_with floating w n taken.slot N.added.begun before below;
       few = few_after;
-      settled = All-cons IsSettled _ _ settled (settled_behind t.windows.active w.shown before.windows N.whole.sound.settled);
-      stocked = stocked_with w.kind taken slots left N.took _ _ refl (stocked_behind t.windows.active w.shown before.windows slots N.whole.sound.stocked);
+      settled = subst (All IsSettled) (sym (new_windows floating w n taken.slot N.added.begun before))
+          (All-put IsSettled k made (others_with floating w before) settled (settled_behind t.windows.active (begins_active floating w) before.windows N.whole.sound.settled));
+      stocked = subst (λ ws. IsStocked ws left) (sym (new_windows floating w n taken.slot N.added.begun before))
+          (stocked_put 0 k made made (others_with floating w before) left refl
+          (stocked_with w.kind taken slots left N.took made (others_with floating w before) refl (stocked_behind t.windows.active (begins_active floating w) before.windows slots N.whole.sound.stocked)));
     }
 
-    arranged : IsArrangedCall loan touch t new slots left after (N.added.area ∷ t.areas.items) plan
+    arranged : IsArrangedCall loan touch t new slots left after olds plan
     arranged = record {
       whole = N.whole;
       screen = refl;
@@ -239,16 +293,18 @@ module _ {V : Type 0} {H : V → Type 0} (loan : Taken V H → Loan) where
       planned = plan_is;
       drawn = drawn;
       desk_is = desk_is;
-      areas = N.added.areas ∙ ap (λ olds. areas_then (N.added.area ∷ olds) plan.areas.items) N.same.areas;
+      areas = N.added.areas ∙ (λ i. areas_then (insert (N.same.areas i) (front_place floats floating (N.same.windows i)) N.added.area) plan.areas.items);
       desktop = N.added.desktop;
       gray = N.added.gray ∙ N.same.gray;
-      lie = subst (All LieThere) (sym N.added.windows) (All-cons LieThere N.added.record_is _ N.added.there (dimmed_lie planned.windows.active w.shown planned.windows.records.items (subst (All LieThere) (sym N.same.windows) N.whole.layers)));
+      lie = subst (All LieThere) (sym (put_among N.added.record_is planned.windows.active planned.windows.records.items new.windows.records.items N.added.windows))
+          (All-put LieThere (front_place floats N.added.record_is.floating planned.windows.records.items) N.added.record_is _ N.added.there
+          (dimmed_lie planned.windows.active (leads N.added.record_is) planned.windows.records.items (subst (All LieThere) (sym N.same.windows) N.whole.layers)));
     }
 
     pub is_whole : IsWholeManager loan new left
-    is_whole = arranged_is_whole loan touch t new slots left after (N.added.area ∷ t.areas.items) plan arranged
+    is_whole = arranged_is_whole loan touch t new slots left after olds plan arranged
 
-    pub is_new_window : IsNewWindow w n (state_of loan t slots) (state_of loan new left)
+    pub is_new_window : IsNewWindow floating w n (state_of loan t slots) (state_of loan new left)
     is_new_window = record {
       loan = taken;
       begun = N.added.begun;
@@ -256,29 +312,45 @@ module _ {V : Type 0} {H : V → Type 0} (loan : Taken V H → Loan) where
       taken = N.took;
       live = N.added.live;
       desk = desk_is;
-      pixels = subst (λ (x : Touch). plain.IsChanged (change_of x) (layered_state (state_of loan t slots)) (layered_state (state_of loan new left))) N.touch_is (arranged_is_left loan touch t new slots left after (N.added.area ∷ t.areas.items) plan arranged).1;
+      pixels = subst (λ (x : Touch). plain.IsChanged (change_of x) (layered_state (state_of loan t slots)) (layered_state (state_of loan new left))) N.touch_is (arranged_is_left loan touch t new slots left after olds plan arranged).1;
     }
 
     -- the call was done
-    pub is_made : IsWindowStep (New w) (Ok (Made n)) (state_of loan t slots) (state_of loan new left)
-    is_made = (refusal_is loan w taken t slots left N.took ∙ N.unrefused_is, (n, refl, is_new_window))
+    pub is_made : IsWindowStep (if floating then NewFloating w else New w) (Ok (Made n)) (state_of loan t slots) (state_of loan new left)
+    is_made = by_class floating is_new_window
+      where
+        by_class : (b : Bool) → IsNewWindow b w n (state_of loan t slots) (state_of loan new left) → IsWindowStep (if b then NewFloating w else New w) (Ok (Made n)) (state_of loan t slots) (state_of loan new left)
+        by_class true made = (refusal_is loan w taken t slots left N.took ∙ N.unrefused_is, (n, refl, made))
+        by_class false made = (refusal_is loan w taken t slots left N.took ∙ N.unrefused_is, (n, refl, made))
 
   -- the call was refused: the definition is back in its slot
-  pub is_not_made : (w : NewWindow) (e : Refusal) (taken : Loan) (t planned : WindowManager V H) (slots left back : List SlotView) → IsWholeManager loan t slots → IsTaken w.kind taken slots left → IsUnplanned w (is_placed (Some taken.definition) w.place w.size) (length t.windows.records.items) t.windows.next e → SameDesk t planned → IsPutBack taken left back → IsWindowStep (New w) (Err e) (state_of loan t slots) (state_of loan planned back)
-  is_not_made w e taken t planned slots left back whole took unplanned same back_is = (
-    unplanned_is_refused loan w taken t slots left took e unplanned,
-    stays_unchanged loan t planned slots back same (put_back_is_old w.kind taken slots left took back back_is),
-  )
+  pub is_not_made : (floating : Bool) (w : NewWindow) (e : Refusal) (taken : Loan) (t planned : WindowManager V H) (slots left back : List SlotView) → IsWholeManager loan t slots → IsTaken w.kind taken slots left → IsUnplanned w (is_placed (Some taken.definition) w.place w.size) (length t.windows.records.items) t.windows.next e → SameDesk t planned → IsPutBack taken left back
+      → IsWindowStep (if floating then NewFloating w else New w) (Err e) (state_of loan t slots) (state_of loan planned back)
+  is_not_made floating w e taken t planned slots left back whole took unplanned same back_is = by_class floating
+    where
+      unchanged : IsUnchanged (state_of loan t slots) (state_of loan planned back)
+      unchanged = stays_unchanged loan t planned slots back same (put_back_is_old w.kind taken slots left took back back_is)
+
+      by_class : (b : Bool) → IsWindowStep (if b then NewFloating w else New w) (Err e) (state_of loan t slots) (state_of loan planned back)
+      by_class true = (unplanned_is_refused loan w taken t slots left took e unplanned, unchanged)
+      by_class false = (unplanned_is_refused loan w taken t slots left took e unplanned, unchanged)
 
   -- nor is a window made that no definition of its kind is left for
-  pub is_not_given : (w : NewWindow) (e why : Refusal) (kind : List ℕ) (t : WindowManager V H) (slots back : List SlotView) → kind ≡ w.kind → why ≡ NoDefinition → IsNotTaken kind slots why
+  pub is_not_given : (floating : Bool) (w : NewWindow) (e why : Refusal) (kind : List ℕ) (t : WindowManager V H) (slots back : List SlotView) → kind ≡ w.kind → why ≡ NoDefinition → IsNotTaken kind slots why
       → first_refusal (judged_refusals w (is_placed None w.place w.size) (length (desk_of loan t []).windows) t.windows.next ++ (true, NoDefinition) ∷ []) ≡ Some e
-      → back ≡ slots → IsWindowStep (New w) (Err e) (state_of loan t slots) (state_of loan t back)
-  is_not_given w e why kind t slots back named is_why none judged same = (
-    inl (refusal_without w (desk_of loan t slots) kind e named (subst (IsNotTaken kind slots) is_why none) judged),
-    record {
-      desk = ap (desk_of loan t) same;
-      stale = λ p on. ap (λ (s : List SlotView). (state_of loan t s).stale p) same;
-      image = λ p on. ap (λ (s : List SlotView). (state_of loan t s).image p) same;
-    },
-  )
+      → back ≡ slots → IsWindowStep (if floating then NewFloating w else New w) (Err e) (state_of loan t slots) (state_of loan t back)
+  is_not_given floating w e why kind t slots back named is_why none judged same = by_class floating
+    where
+      refused : first_refusal (new_window_refusals w (desk_of loan t slots)) ≡ Some e
+      refused = refusal_without w (desk_of loan t slots) kind e named (subst (IsNotTaken kind slots) is_why none) judged
+
+      unchanged : IsUnchanged (state_of loan t slots) (state_of loan t back)
+      unchanged = record {
+        desk = ap (desk_of loan t) same;
+        stale = λ p on. ap (λ (s : List SlotView). (state_of loan t s).stale p) same;
+        image = λ p on. ap (λ (s : List SlotView). (state_of loan t s).image p) same;
+      }
+
+      by_class : (b : Bool) → IsWindowStep (if b then NewFloating w else New w) (Err e) (state_of loan t slots) (state_of loan t back)
+      by_class true = (inl refused, unchanged)
+      by_class false = (inl refused, unchanged)

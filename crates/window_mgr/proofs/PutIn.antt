@@ -1,5 +1,5 @@
 -- A window among others, put at another place of them, or changed.
-use Rattle.std.proofs.Common.{◌≡◌, ℕ, zero, suc, ◌<◌, ◌==◌, Bool, true, false, if◌then◌else◌, List, [], ◌∷◌, ◌++◌, length, get_or, map, Option, None, Some, refl, sym, ap, ◌∙◌, subst, arith}
+use Rattle.std.proofs.Common.{◌≡◌, ℕ, zero, suc, ◌<◌, ◌==◌, Bool, true, false, if◌then◌else◌, ◌+◌, List, [], ◌∷◌, ◌++◌, length, get_or, map, Option, None, Some, refl, sym, ap, ◌∙◌, subst, arith}
 use Rattle.std.specs.Prelude.{All, AllPairs, Contains}
 use Rattle.std.specs.List.{insert, remove}
 use Rattle.std.specs.List.Sorted.{IsPermutation}
@@ -44,6 +44,11 @@ module _ {X : Type 0} where
   -- the same elements in another order
   pub put_permutes : (i : ℕ) (x : X) (xs : List X) → IsPermutation (x ∷ xs) (put_in i x xs)
   put_permutes i x xs = subst (IsPermutation (x ∷ xs)) (sym (put_is_insert i x xs)) (IsPermutation-insert xs i x)
+
+  pub length-put : (i : ℕ) (x : X) (xs : List X) → length (put_in i x xs) ≡ length xs + 1
+  length-put zero x xs = omega arith
+  length-put (suc i) x [] = omega arith
+  length-put (suc i) x (y ∷ ys) = let e = length-put i x ys in omega arith
 
   -- what holds of all of them
   pub All-out : (P : X → Type 0) (i : ℕ) (x : X) (xs : List X) → All P (put_in i x xs) → All P (x ∷ xs)

@@ -15,7 +15,7 @@ use Rattle.vis_update.specs.declared.plan.Seat.{Seat}
 use Rattle.vis_update.specs.declared.plan.Touch.{Touch}
 use Rattle.vis_update.specs.Plans.{IsLosing}
 use Rattle.vis_update.specs.Hands.{IsLostOf}
-use Rattle.vis_update.specs.Records.{record_of}
+use Rattle.vis_update.specs.Records.{record_of, is_floating}
 use Rattle.vis_update.specs.Areas.{IsArea}
 use Rattle.vis_update.specs.Seats.{stand_of, seat_stand, area_had, IsPlacedSeat, IsNearSeat, IsArranged, IsChangedArea}
 use Rattle.vis_update.proofs.SeatLemmas.{seats_near, losing_seats}
@@ -29,9 +29,9 @@ use Rattle.window_mgr.specs.Kept.{IsKept}
 use Rattle.window_mgr.specs.Records.{state_of}
 use Rattle.window_mgr.specs.Seats.{first_seated}
 use Rattle.window_mgr.specs.Without.{AreSeatsWithout, IsDeskWithout, records_without}
-use Rattle.window_mgr.proofs.PutIn.{taken_out, All-out}
-use Rattle.window_mgr.proofs.Seating.{lengths_of, seats_areas, seats_stand, seats_had, seats_placed, sides}
-use Rattle.window_mgr.proofs.EditSeats.{map-remove, there_is, length-put, first_stand}
+use Rattle.window_mgr.proofs.PutIn.{taken_out, All-out, length-put}
+use Rattle.window_mgr.proofs.Seating.{lengths_of, seats_areas, seats_class, seats_stand, seat_floats, seats_had, seats_placed, sides}
+use Rattle.window_mgr.proofs.EditSeats.{map-remove, there_is, first_stand}
 
 -- one element less
 pub length-out : {X : Type 0} (xs : List X) (i : ℕ) → i < length xs → length (remove xs i) + 1 ≡ length xs
@@ -136,6 +136,15 @@ module _ {V : Type 0} {H : V → Type 0} (loan : Taken V H → Loan) (t : Window
     areas = had;
   }
 
-  -- and the first visible one is the same
+  -- and are of their classes
+  classes_rest : map (seat_floats) seats ≡ map is_floating (records_without loan at t)
+  classes_rest =
+      ap (map (seat_floats)) S.is
+      ∙ map-remove (seat_floats) S.all at
+      ∙ ap (λ xs. remove xs at) (seats_class loan t.windows.records.items t.areas.items S.all S.are)
+      ∙ sym (map-remove is_floating (map (record_of loan) t.windows.records.items) at)
+      ∙ ap (map is_floating) (sym (map-remove (record_of loan) t.windows.records.items at))
+
+  -- and the first visible ordinary one is the same
   pub front_rest : first_seated seats ≡ front_of (records_without loan at t)
-  front_rest = first_stand loan seats (records_without loan at t) seats_rest
+  front_rest = first_stand loan seats (records_without loan at t) seats_rest classes_rest

@@ -4,14 +4,14 @@ use Rattle.std.proofs.lemmas.Bool.{and_parts}
 use Rattle.std.proofs.lemmas.Bool.Decides.{nat_tests}
 use Rattle.tb_geom.specs.declared.point.Point.{Point}
 use Rattle.tb_geom.specs.declared.refusal.Refusal.{Refusal}
-use Rattle.tb_geom.specs.Points.{plus}
+use Rattle.tb_geom.specs.Points.{PixelSet, plus}
 use Rattle.def_iface.specs.Meaning.{Definition}
 use Rattle.def_iface.specs.Desk as layers
 use Rattle.def_iface.specs.Owner.{Owner, owner, owner_among, is_content}
 use Rattle.def_iface.specs.Owner.Owner.{Bar}
 use Rattle.def_iface.specs.Scratch.{scratch}
 use Rattle.def_iface.specs.Change as plain
-use Rattle.def_iface.proofs.Owning.{is_other, owner_is_other, own_bit-behind, same_owner-true}
+use Rattle.def_iface.proofs.Owning.{is_other, owner_is_other, same_owner-true}
 use Rattle.def_iface.proofs.Changing.{stays_right}
 use Rattle.desk_call.specs.declared.window.WindowCall.{WindowCall}
 use Rattle.desk_call.specs.declared.window.Drawing.{Drawing}
@@ -23,25 +23,32 @@ use Rattle.vis_update.specs.Contents.{scroll_change}
 use Rattle.vis_update.specs.Records.{WindowRecord, Look, layered_window}
 use Rattle.window_mgr.specs.FullDesk.{FullDesk, FullState, IsRightState, IsGiven, HaveSerials, AreSerials, layered_desk, layered_state, look_of}
 use Rattle.window_mgr.specs.Step.{IsWindowStep}
-use Rattle.window_mgr.specs.Effects.{IsNewWindow, IsDrawn, IsPictureSet, IsScrolled, IsUnchanged, IsArrangement, Effect, IsEffect, effect_of, new_record, desk_with_new, with_drawn, with_new_picture, with_scrolled, draw_change, picture_change}
+use Rattle.window_mgr.specs.Effects.{IsNewWindow, IsDrawn, IsPictureSet, IsScrolled, IsUnchanged, IsArrangement, Effect, IsEffect, effect_of, begins_active, new_record, desk_with_new, with_drawn, with_new_picture, with_scrolled, draw_change, picture_change}
 use Rattle.window_mgr.specs.Effects.Effect.{Makes, Disposes, Draws, Pictures, Scrolls, Arranges, Places, Tells, Describes}
 use Rattle.window_mgr.specs.Arrange.{with_highlighting, Arrangement, activation_of, desk_activated, placed}
 use Rattle.window_mgr.specs.Finding.{front_of, record_with}
 use Rattle.vis_update.specs.Touches.{moving}
 use Rattle.window_mgr.proofs.EachChanged.{serials_map, map-map, numbered_map}
+use Rattle.window_mgr.proofs.ClassPlaces.{new_windows, others_with, own_bit-put, place_on}
 use Rattle.window_mgr.proofs.DimLemmas.{either}
 use Rattle.window_mgr.proofs.PictureChanges.{draw_is_sound, picture_is_sound, scroll_is_sound}
 use Rattle.window_mgr.proofs.Repictured.{repictured_serial}
 use Rattle.window_mgr.proofs.Rearranged.{edited, edit_is_sound, numbered_now}
 use Rattle.window_mgr.proofs.Arrangements.{IsSoundArrangement, IsSoundEffect, effect_is_sound, placed_sound}
 use Rattle.window_mgr.proofs.Disposed.{disposed_stays_right}
+use Rattle.window_mgr.proofs.PutIn.{put_in, map-put, distinct_put, serials_put, IsFree}
 
--- ---- a window in front of others
+-- ---- a window among others
 
 -- as layers, a desk with a new window has just one window more
-pub layered_desk-with : (w : NewWindow) (serial slot : ℕ) (d : Definition) (desk : FullDesk) (stock : _) → layered_desk (record (desk_with_new w serial slot d desk) { stock = stock }) ≡ record (layered_desk desk) { windows = layered_window (look_of desk) (new_record w serial slot d) ∷ map (layered_window (look_of desk)) desk.windows }
-layered_desk-with w serial slot d desk stock =
-    ap (λ ws. record (layered_desk desk) { windows = layered_window (look_of desk) (new_record w serial slot d) ∷ ws }) (by_shown w.shown)
+pub layered_desk-with : (floating : Bool) (w : NewWindow) (serial slot : ℕ) (d : Definition) (desk : FullDesk) (stock : _) → layered_desk (record (desk_with_new floating w serial slot d desk) { stock = stock })
+    ≡ record (layered_desk desk) { windows = map (layered_window (look_of desk)) (put_in (place_on floating desk) (new_record floating w serial slot d) desk.windows) }
+layered_desk-with floating w serial slot d desk stock =
+    ap (λ ws. record (layered_desk desk) { windows = ws })
+    (ap (map (layered_window (look_of desk))) (new_windows floating w serial slot d desk)
+    ∙ map-put (layered_window (look_of desk)) (place_on floating desk) (new_record floating w serial slot d) (others_with floating w desk)
+    ∙ ap (put_in (place_on floating desk) (layered_window (look_of desk) (new_record floating w serial slot d))) (by_shown (begins_active floating w))
+    ∙ sym (map-put (layered_window (look_of desk)) (place_on floating desk) (new_record floating w serial slot d) desk.windows))
   where
     by_shown : (b : Bool) → map (layered_window (look_of desk)) (if b then map (with_highlighting false desk.active) desk.windows else desk.windows) ≡ map (layered_window (look_of desk)) desk.windows
     by_shown true = map-map (layered_window (look_of desk)) (with_highlighting false desk.active) (layered_window (look_of desk)) (λ v. either false desk.active (λ u. layered_window (look_of desk) u ≡ layered_window (look_of desk) v) v refl refl) desk.windows
@@ -73,21 +80,26 @@ not_the_bar : (s : ℕ) (b : Bool) (o : Owner) → is_other s o ≡ true → is_
 not_the_bar s true o e = refl
 not_the_bar s false o e = e
 
-new_is_sound : (before : plain.State) (w : layers.LayeredWindow) → layers.IsDesk before.desk → layers.window_of w.serial before.desk.windows ≡ None → layers.AreParts w.layers → plain.IsSound plain.no_change before (record before.desk { windows = w ∷ before.desk.windows })
-new_is_sound before w desk free parts = record {
-  desk = (free, (parts, desk));
+new_is_sound : (desk : FullDesk) (stale image : PixelSet) (i : ℕ) (w : WindowRecord) → layers.IsDesk (layered_desk desk) → IsFree (look_of desk) w.serial desk.windows → layers.AreParts (layered_window (look_of desk) w).layers
+    → plain.IsSound plain.no_change (record { desk = layered_desk desk; stale = stale; image = image }) (record (layered_desk desk) { windows = map (layered_window (look_of desk)) (put_in i w desk.windows) })
+new_is_sound desk stale image i w distinct free parts = record {
+  desk = distinct_put (look_of desk) i w desk.windows free parts distinct;
   kept = λ p on content afresh taken put drawn there.
-      let after = record before.desk { windows = w ∷ before.desk.windows } in
+      let after = record (layered_desk desk) { windows = map (layered_window (look_of desk)) (put_in i w desk.windows) } in
       let o = owner after p in
-      let was : owner before.desk p ≡ o = same_owner-true (owner before.desk p) o (and_parts _ _ there).1 in
-      let other : is_other w.serial (owner before.desk p) ≡ true = not_the_bar w.serial (layers.in_bar before.desk p) (owner_among before.desk.windows p) (owner_is_other before.desk.windows p w.serial free) in
-      sym (own_bit-behind before.desk w before.desk.windows p o (subst (λ (x : Owner). is_other w.serial x ≡ true) was other));
+      let was : owner (layered_desk desk) p ≡ o = same_owner-true (owner (layered_desk desk) p) o (and_parts _ _ there).1 in
+      let other : is_other w.serial (owner (layered_desk desk) p) ≡ true = not_the_bar w.serial (layers.in_bar (layered_desk desk) p) (owner_among (layered_desk desk).windows p) (owner_is_other (layered_desk desk).windows p w.serial free) in
+      sym (own_bit-put (look_of desk) (layered_desk desk) i w desk.windows p o free (subst (λ (x : Owner). is_other w.serial x ≡ true) was other));
   right = λ p on taken. absurd (cc);
 }
 
 -- the windows of a desk with a new window are serials, it by the last number
-pub numbered_with : (w : NewWindow) (serial slot : ℕ) (d : Definition) (desk : FullDesk) → AreSerials (Some serial) desk.windows → AreSerials (desk_with_new w serial slot d desk).next (desk_with_new w serial slot d desk).windows
-numbered_with w serial slot d desk serials = let first = serials.0 in after_number (desk_with_new w serial slot d desk).windows (nat_lt (serial + 1) (2 ^ 64)) ((first, omega arith), by_shown w.shown)
+pub numbered_with : (floating : Bool) (w : NewWindow) (serial slot : ℕ) (d : Definition) (desk : FullDesk) → AreSerials (Some serial) desk.windows → AreSerials (desk_with_new floating w serial slot d desk).next (desk_with_new floating w serial slot d desk).windows
+numbered_with floating w serial slot d desk serials =
+    let first = serials.0 in
+    after_number (desk_with_new floating w serial slot d desk).windows (nat_lt (serial + 1) (2 ^ 64))
+    (subst (HaveSerials (IsGiven (Some (serial + 1)))) (sym (new_windows floating w serial slot d desk))
+    (serials_put (IsGiven (Some (serial + 1))) (place_on floating desk) (new_record floating w serial slot d) (others_with floating w desk) (first, omega arith) (by_shown (begins_active floating w))))
   where
     after_number : (ws : List WindowRecord) (b : Bool) → HaveSerials (IsGiven (Some (serial + 1))) ws → AreSerials (if b then Some (serial + 1) else None) ws
     after_number ws true h = (omega arith, h)
@@ -97,16 +109,16 @@ numbered_with w serial slot d desk serials = let first = serials.0 in after_numb
     by_shown true = serials_map (with_highlighting false desk.active) (same_serial desk.active) _ desk.windows (given-more serial desk.windows serials.1)
     by_shown false = given-more serial desk.windows serials.1
 
-new_stays_right : (w : NewWindow) (serial : ℕ) (before after : FullState) → IsRightState before → IsNewWindow w serial before after → IsRightState after
-new_stays_right w serial before after right new =
-    let new_window = layered_window (look_of before.desk) (new_record w serial new.loan.slot new.begun) in
+new_stays_right : (floating : Bool) (w : NewWindow) (serial : ℕ) (before after : FullState) → IsRightState before → IsNewWindow floating w serial before after → IsRightState after
+new_stays_right floating w serial before after right new =
+    let made = new_record floating w serial new.loan.slot new.begun in
     let below : AreSerials (Some serial) before.desk.windows = subst (λ (n : Option ℕ). AreSerials n before.desk.windows) new.serials right.serials in
-    let desk : layered_desk after.desk ≡ record (layered_desk before.desk) { windows = new_window ∷ map (layered_window (look_of before.desk)) before.desk.windows } =
-    ap layered_desk new.desk ∙ layered_desk-with w serial new.loan.slot new.begun before.desk after.desk.stock in
-    let sound = new_is_sound (layered_state before) new_window right.plain.desk (next_is_free (look_of before.desk) serial before.desk.windows below.1) (refl, tt) in
+    let desk : layered_desk after.desk ≡ record (layered_desk before.desk) { windows = map (layered_window (look_of before.desk)) (put_in (place_on floating before.desk) made before.desk.windows) } =
+    ap layered_desk new.desk ∙ layered_desk-with floating w serial new.loan.slot new.begun before.desk after.desk.stock in
+    let sound = new_is_sound before.desk before.stale before.image (place_on floating before.desk) made right.plain.desk (next_is_free (look_of before.desk) serial before.desk.windows below.1) (refl, tt) in
     record {
       plain = stays_right plain.no_change (layered_state before) (layered_state after) right.plain (subst (plain.IsSound plain.no_change (layered_state before)) (sym desk) sound) new.pixels;
-      serials = subst (λ (d : FullDesk). AreSerials d.next d.windows) (sym new.desk) (numbered_with w serial new.loan.slot new.begun before.desk below);
+      serials = subst (λ (d : FullDesk). AreSerials d.next d.windows) (sym new.desk) (numbered_with floating w serial new.loan.slot new.begun before.desk below);
     }
 
 -- ---- a picture that changes is a sound change
@@ -172,7 +184,7 @@ arranged_stays_right a before after right E arranged =
     }
 
 effect_stays_right : (effect : Effect) (answer : WindowReply) (before after : FullState) → IsRightState before → IsSoundEffect effect before.desk → IsEffect effect answer before after → IsRightState after
-effect_stays_right (Makes w) answer before after right sound done = new_stays_right w done.0 before after right done.2
+effect_stays_right (Makes floating w) answer before after right sound done = new_stays_right floating w done.0 before after right done.2
 effect_stays_right (Draws d) answer before after right sound done = draw_stays_right d before after right done.1
 effect_stays_right (Pictures n) answer before after right sound done = picture_stays_right n before after right done.1
 effect_stays_right (Scrolls m) answer before after right sound done = scroll_stays_right m before after sound.0 sound.1 right done.1

@@ -1,6 +1,7 @@
 -- A window manager that gained room alone.
-use Rattle.std.proofs.Common.{◌≡◌, ◌∷◌, ℕ, List, [], map, Err, pos, refl, sym, ap, subst}
+use Rattle.std.proofs.Common.{◌≡◌, ℕ, Bool, List, [], map, Err, pos, refl, sym, ap, subst}
 use Rattle.std.specs.Prelude.{All}
+use Rattle.std.specs.List.{insert}
 use Rattle.tb_geom.specs.declared.refusal.Refusal.{Refusal}
 use Rattle.tb_geom.specs.Pixels.{Pixels}
 use Rattle.bit_map.specs.Bits.{Bits, bit}
@@ -13,6 +14,8 @@ use Rattle.window_mgr.specs.declared.manager.WindowManager.{WindowManager}
 use Rattle.vis_update.specs.declared.area.Area.{Area}
 use Rattle.vis_update.specs.declared.plan.Plan.{Plan}
 use Rattle.vis_update.specs.declared.plan.Touch.{Touch}
+use Rattle.window_list.specs.Classes.{front_place}
+use Rattle.window_list.specs.Lists.{floats}
 use Rattle.window_mgr.specs.AnySlots.{IsStepOverAnySlots}
 use Rattle.window_mgr.specs.FullDesk.{FullDesk, FullState, layered_desk, layered_state}
 use Rattle.vis_update.specs.Records.{record_of}
@@ -67,14 +70,14 @@ module _ {V : Type 0} {H : V → Type 0} (loan : Taken V H → Loan) (t u : Wind
   }
 
   -- what was planned is still right
-  pub plan_stays : (w : NewWindow) (n : ℕ) (d : Definition) (touch : Touch) (plan : Plan) → IsPlanWith loan w n d touch t plan → IsPlanWith loan w n d touch u plan
-  plan_stays w n d touch plan h slot begun regions old nowhere =
-      subst (λ (x : FullState × Pixels × List Area). IsPlan touch (layered_state x.0) (layered_desk (desk_with_new w n slot begun x.0.desk)) x.1 (old ∷ x.2) (desk_with_new w n slot begun x.0.desk).windows plan)
-      (λ i. (record (sym state_stays i) { desk = record (sym state_stays i).desk { stock = [] } }, sym same.desktop i, sym same.areas i)) (h slot begun regions old nowhere)
+  pub plan_stays : (floating : Bool) (w : NewWindow) (n : ℕ) (d : Definition) (touch : Touch) (plan : Plan) → IsPlanWith loan floating w n d touch t plan → IsPlanWith loan floating w n d touch u plan
+  plan_stays floating w n d touch plan h slot begun regions old nowhere =
+      subst (λ (x : FullState × Pixels × List Area). IsPlan touch (layered_state x.0) (layered_desk (desk_with_new floating w n slot begun x.0.desk)) x.1 x.2 (desk_with_new floating w n slot begun x.0.desk).windows plan)
+      (λ i. (record (sym state_stays i) { desk = record (sym state_stays i).desk { stock = [] } }, sym same.desktop i, insert (sym same.areas i) (front_place floats floating (sym same.windows i)) old)) (h slot begun regions old nowhere)
 
   -- the same, where the window's number goes by another name
-  pub plan_stays_by : (w : NewWindow) (k n : ℕ) (d : Definition) (touch : Touch) (plan : Plan) → k ≡ n → IsPlanWith loan w k d touch t plan → IsPlanWith loan w n d touch u plan
-  plan_stays_by w k n d touch plan e h = plan_stays w n d touch plan (subst (λ j. IsPlanWith loan w j d touch t plan) e h)
+  pub plan_stays_by : (floating : Bool) (w : NewWindow) (k n : ℕ) (d : Definition) (touch : Touch) (plan : Plan) → k ≡ n → IsPlanWith loan floating w k d touch t plan → IsPlanWith loan floating w n d touch u plan
+  plan_stays_by floating w k n d touch plan e h = plan_stays floating w n d touch plan (subst (λ j. IsPlanWith loan floating w j d touch t plan) e h)
 
 -- a call that is refused and leaves the same desk makes its step
 pub stays_refused : {V : Type 0} {H : V → Type 0} (loan : Taken V H → Loan) (t u : WindowManager V H) → SameDesk t u → (call : WindowCall) (e : Refusal)

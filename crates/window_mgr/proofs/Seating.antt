@@ -1,6 +1,7 @@
--- The windows of a desk as they are, behind a new one.
+-- The windows of a desk as they are, and a new one among them.
 use Rattle.std.proofs.Common.{◌≡◌, ℕ, zero, suc, ◌+◌, ◌<◌, Bool, true, false, ◌&&◌, ℤ, pos, ◌≤ℤ◌, List, [], ◌∷◌, ◌++◌, length, get_or, take, map, Option, None, Some, refl, sym, ap, ◌∙◌, subst, arith}
 use Rattle.std.specs.Prelude.{All}
+use Rattle.std.specs.List.{insert}
 use Rattle.std.proofs.Math.Seq.{take-length}
 use Rattle.std.proofs.lemmas.List.{take_more, length-map}
 use Rattle.std.proofs.lemmas.List.Elements.{All-nil, All-cons, All-head, All-tail}
@@ -22,7 +23,7 @@ use Rattle.vis_update.specs.declared.plan.Touch.{Touch}
 use Rattle.vis_update.specs.Plans.{IsPlan, AreAreasAfter, areas_then, stale_after}
 use Rattle.vis_update.specs.Touches.{change_of}
 use Rattle.window_list.specs.declared.window.Window.{Window}
-use Rattle.vis_update.specs.Records.{WindowRecord}
+use Rattle.vis_update.specs.Records.{WindowRecord, is_floating}
 use Rattle.window_mgr.specs.FullDesk.{FullDesk, AreSerials, layered_desk, layered_state}
 use Rattle.window_mgr.specs.Kept.{IsKept}
 use Rattle.vis_update.specs.Records.{record_of}
@@ -30,8 +31,8 @@ use Rattle.window_mgr.specs.Records.{desk_of, state_of, look_on}
 use Rattle.vis_update.specs.Areas.{stale_in}
 use Rattle.vis_update.specs.Seats.{stand_of, seat_stand, area_had, IsPlacedSeat, IsNearSeat, IsSeatOf, IsArranged, IsChangedArea}
 use Rattle.vis_update.specs.Areas.{IsNowhere, IsNear}
-use Rattle.window_mgr.specs.Seats.{AreSeatsOf, AreSeatsBehind}
-use Rattle.window_mgr.specs.Effects.{new_record, desk_with_new}
+use Rattle.window_mgr.specs.Seats.{AreSeatsOf, AreSeatsWith}
+use Rattle.window_mgr.specs.Effects.{begins_active, new_record, desk_with_new}
 use Rattle.window_mgr.specs.Arrange.{with_highlighting}
 use Rattle.vis_update.specs.Areas.{IsArea, AreAreas}
 use Rattle.window_mgr.specs.Whole.{IsSettled}
@@ -39,6 +40,8 @@ use Rattle.desk_ground.specs.Screens.{is_screen_side}
 use Rattle.vis_update.proofs.PlaceLemmas.{placed_from}
 use Rattle.window_mgr.proofs.EachChanged.{map-map}
 use Rattle.window_mgr.proofs.DimLemmas.{either, windows_behind}
+use Rattle.window_mgr.proofs.ClassPlaces.{new_windows, others_with, place_on}
+use Rattle.window_mgr.proofs.PutIn.{put_in, put_is_insert, map-put, length-put, distinct_put, All-put}
 use Rattle.window_mgr.proofs.Running.{layered_desk-with, next_is_free}
 use Rattle.vis_update.proofs.SeatLemmas as seat
 
@@ -77,6 +80,10 @@ module _ {V : Type 0} {H : V → Type 0} where
   seat_at (v ∷ ws) [] seats i w s its low w_is s_is = absurd its
   seat_at (v ∷ ws) (a ∷ areas) [] i w s its low w_is s_is = absurd its
 
+  -- the window that sits here floats
+  abbrev pub seat_floats : Seat V H → Bool
+  seat_floats s = s.floating
+
   -- seats lend the areas
   pub seats_areas : (ws : List (Window V H)) (areas : List Area) (seats : List (Seat V H)) → AreSeatsOf ws areas seats → map area_had seats ≡ areas
   seats_areas [] [] [] its = refl
@@ -94,15 +101,24 @@ module _ {V : Type 0} {H : V → Type 0} where
   lengths_of (w ∷ ws) [] seats its = absurd its
   lengths_of (w ∷ ws) (a ∷ areas) [] its = absurd its
 
-  -- they lend the areas behind that of the first
-  pub areas_behind : (front : Seat V H) (ws : List (Window V H)) (areas : List Area) (seats : List (Seat V H)) → AreSeatsBehind front ws areas seats → map area_had seats ≡ front.area.now ∷ areas
-  areas_behind front ws areas [] h = absurd h
-  areas_behind front ws areas (s ∷ seats) h = λ i. area_had (h.0 i) ∷ seats_areas ws areas seats h.1 i
+  module _ (k : ℕ) (added : Seat V H) (ws : List (Window V H)) (areas : List Area) (seats : List (Seat V H)) (S : AreSeatsWith k added ws areas seats) where
+    pub with_is : seats ≡ put_in k added S.all
+    with_is = S.is ∙ sym (put_is_insert k added S.all)
 
-  -- one seat more than there are windows, behind the first
-  pub seats_length : (front : Seat V H) (ws : List (Window V H)) (areas : List Area) (seats : List (Seat V H)) → AreSeatsBehind front ws areas seats → length seats ≡ length ws + 1
-  seats_length front ws areas [] h = absurd h
-  seats_length front ws areas (s ∷ seats) h = let rest = lengths_of ws areas seats h.1 in omega arith
+    -- they lend the areas, and the new one its own
+    pub areas_with : map area_had seats ≡ insert areas k added.area.now
+    areas_with = ap (map area_had) with_is ∙ map-put area_had k added S.all ∙ ap (put_in k added.area.now) (seats_areas ws areas S.all S.are) ∙ put_is_insert k added.area.now areas
+
+    -- one seat more than there are windows
+    pub seats_length : length seats ≡ length ws + 1
+    seats_length =
+        let rest = lengths_of ws areas S.all S.are in
+        let more = ap length with_is ∙ length-put k added S.all in
+        omega arith
+
+    -- what holds of all the others and of it
+    pub all_with : (P : Seat V H → Type 0) → P added → All P S.all → All P seats
+    all_with P one all = subst (All P) (sym with_is) (All-put P k added S.all one all)
 
 -- areas of no pixel are one as good as the other
 nowhere_alike : (desk : LayeredDesk) (stale : PixelSet) (n : ℕ) (a b : Area) → IsNowhere a → IsNowhere b → IsArea desk stale n a → IsArea desk stale n b
@@ -112,23 +128,37 @@ nowhere_alike desk stale n a b none nowhere its = record {
   frame = λ p. nowhere.frame p ∙ sym (none.frame p) ∙ its.frame p;
 }
 
--- so a plan, where the first window had the one, is a plan where it had the other
-pub plan_for_any : (t : Touch) (before : State) (after : LayeredDesk) (desktop : Pixels) (a b : Area) (olds : List Area) (ws : List WindowRecord) (plan : Plan) → IsNowhere a → IsNowhere b
-    → IsPlan t before after desktop (a ∷ olds) ws plan → IsPlan t before after desktop (b ∷ olds) ws plan
-plan_for_any t before after desktop a b olds ws plan none nowhere its = record {
-  areas = by_first ws plan.areas.items its.areas;
+-- so a plan, where the window at a place had the one, is a plan where it had the other
+pub plan_for_any : (t : Touch) (before : State) (after : LayeredDesk) (desktop : Pixels) (k : ℕ) (a b : Area) (olds : List Area) (ws : List WindowRecord) (plan : Plan) → IsNowhere a → IsNowhere b
+    → IsPlan t before after desktop (insert olds k a) ws plan → IsPlan t before after desktop (insert olds k b) ws plan
+plan_for_any t before after desktop k a b olds ws plan none nowhere its = record {
+  areas = subst (λ xs. AreAreasAfter (change_of t) before after ws (areas_then xs plan.areas.items)) (put_is_insert k b olds)
+      (by_place k olds ws plan.areas.items (subst (λ xs. AreAreasAfter (change_of t) before after ws (areas_then xs plan.areas.items)) (sym (put_is_insert k a olds)) its.areas));
   parts = its.parts;
   desktop_is = its.desktop_is;
   uncovered = its.uncovered;
   copied = its.copied;
 }
   where
-    by_first : (vs : List WindowRecord) (cs : List (Option Area)) → AreAreasAfter (change_of t) before after vs (areas_then (a ∷ olds) cs) → AreAreasAfter (change_of t) before after vs (areas_then (b ∷ olds) cs)
-    by_first [] [] h = absurd h
-    by_first [] (c ∷ cs) h = absurd h
-    by_first (v ∷ vs) [] h = (nowhere_alike after (stale_after (change_of t) before after) v.serial a b none nowhere h.0, h.1)
-    by_first (v ∷ vs) (None ∷ cs) h = (nowhere_alike after (stale_after (change_of t) before after) v.serial a b none nowhere h.0, h.1)
-    by_first (v ∷ vs) (Some c ∷ cs) h = h
+    by_first : (xs : List Area) (vs : List WindowRecord) (cs : List (Option Area)) → AreAreasAfter (change_of t) before after vs (areas_then (a ∷ xs) cs) → AreAreasAfter (change_of t) before after vs (areas_then (b ∷ xs) cs)
+    by_first xs [] [] h = absurd h
+    by_first xs [] (c ∷ cs) h = absurd h
+    by_first xs (v ∷ vs) [] h = (nowhere_alike after (stale_after (change_of t) before after) v.serial a b none nowhere h.0, h.1)
+    by_first xs (v ∷ vs) (None ∷ cs) h = (nowhere_alike after (stale_after (change_of t) before after) v.serial a b none nowhere h.0, h.1)
+    by_first xs (v ∷ vs) (Some c ∷ cs) h = h
+
+    -- a plan for no window leaves the areas
+    then_none : (xs : List Area) → areas_then xs [] ≡ xs
+    then_none [] = refl
+    then_none (x ∷ xs) = refl
+
+    by_place : (j : ℕ) (xs : List Area) (vs : List WindowRecord) (cs : List (Option Area)) → AreAreasAfter (change_of t) before after vs (areas_then (put_in j a xs) cs) → AreAreasAfter (change_of t) before after vs (areas_then (put_in j b xs) cs)
+    by_place zero xs vs cs h = by_first xs vs cs h
+    by_place (suc j) [] vs cs h = by_first [] vs cs h
+    by_place (suc j) (x ∷ xs) [] [] h = absurd h
+    by_place (suc j) (x ∷ xs) [] (c ∷ cs) h = absurd h
+    by_place (suc j) (x ∷ xs) (v ∷ vs) [] h = (h.0, subst (AreAreasAfter (change_of t) before after vs) (then_none (put_in j b xs)) (by_place j xs vs [] (subst (AreAreasAfter (change_of t) before after vs) (sym (then_none (put_in j a xs))) h.1)))
+    by_place (suc j) (x ∷ xs) (v ∷ vs) (c ∷ cs) h = (h.0, by_place j xs vs cs h.1)
 
 -- no side of a screen is longer than 1024
 low_side : (n : ℤ) → is_screen_side n ≡ true → n ≤ℤ pos 1024
@@ -162,6 +192,14 @@ module _ {V : Type 0} {H : V → Type 0} (loan : Taken V H → Loan) where
   seats_stand (w ∷ ws) [] seats its = absurd its
   seats_stand (w ∷ ws) (a ∷ areas) [] its = absurd its
 
+  pub seats_class : (ws : List (Window V H)) (areas : List Area) (seats : List (Seat V H)) → AreSeatsOf ws areas seats → map seat_floats seats ≡ map is_floating (map (record_of loan) ws)
+  seats_class [] [] [] its = refl
+  seats_class (w ∷ ws) (a ∷ areas) (s ∷ seats) its = λ i. its.0.floating i ∷ seats_class ws areas seats its.1 i
+  seats_class [] [] (s ∷ seats) its = absurd its
+  seats_class [] (a ∷ areas) seats its = absurd its
+  seats_class (w ∷ ws) [] seats its = absurd its
+  seats_class (w ∷ ws) (a ∷ areas) [] its = absurd its
+
   pub seats_had : (before : State) (ws : List (Window V H)) (areas : List Area) (seats : List (Seat V H)) → AreSeatsOf ws areas seats → AreAreas before.desk before.stale (map (record_of loan) ws) areas → All (λ s. IsArea before.desk before.stale s.serial s.area.now) seats
   seats_had before [] [] [] its had = All-nil (λ s. IsArea before.desk before.stale s.serial s.area.now)
   seats_had before (w ∷ ws) (a ∷ areas) (s ∷ seats) its had =
@@ -187,11 +225,10 @@ module _ {V : Type 0} {H : V → Type 0} (loan : Taken V H → Loan) where
   seats_placed (w ∷ ws) (a ∷ areas) [] its settled = absurd its
 
   -- all may be where they are to be
-  pub all_placed : (front : Seat V H) (ws : List (Window V H)) (areas : List Area) (seats : List (Seat V H)) → AreSeatsBehind front ws areas seats → IsPlacedSeat loan front → All IsSettled (map (record_of loan) ws) → All (IsPlacedSeat loan) seats
-  all_placed front ws areas (s ∷ seats) its placed settled = All-cons (IsPlacedSeat loan) s seats (subst (IsPlacedSeat loan) (sym its.0) placed) (seats_placed ws areas seats its.1 settled)
-  all_placed front ws areas [] its placed settled = absurd its
+  pub all_placed : (k : ℕ) (added : Seat V H) (ws : List (Window V H)) (areas : List Area) (seats : List (Seat V H)) → AreSeatsWith k added ws areas seats → IsPlacedSeat loan added → All IsSettled (map (record_of loan) ws) → All (IsPlacedSeat loan) seats
+  all_placed k added ws areas seats S placed settled = all_with k added ws areas seats S (IsPlacedSeat loan) placed (seats_placed ws areas S.all S.are settled)
 
-  -- ---- and a new one in front
+  -- ---- and a new one among them
 
   -- the seat of a new window of this number and definition, which had no pixel
   pub record IsNewSeat (w : NewWindow) (n : ℕ) (d : Definition) (s : Seat V H) : Type 0 where
@@ -202,20 +239,22 @@ module _ {V : Type 0} {H : V → Type 0} (loan : Taken V H → Loan) where
     pub definition : (loan s.taken.now).definition ≡ d
     pub nowhere : IsNowhere s.area.now
 
-  module _ (w : NewWindow) (n slot : ℕ) (d begun : Definition) (t : WindowManager V H) (kept : IsKept loan t) (next : t.windows.next ≡ Some n) (regions : SameRegions d begun) (front : Seat V H) (new : IsNewSeat w n d front) where
+  module _ (floating : Bool) (w : NewWindow) (n slot : ℕ) (d begun : Definition) (t : WindowManager V H) (kept : IsKept loan t) (next : t.windows.next ≡ Some n) (regions : SameRegions d begun) (front : Seat V H) (new : IsNewSeat w n d front) where
     abbrev before : State
     before = layered_state (state_of loan t [])
 
     abbrev after : FullDesk
-    after = desk_with_new w n slot begun (desk_of loan t [])
+    after = desk_with_new floating w n slot begun (desk_of loan t [])
 
     free : layers.window_of n before.desk.windows ≡ None
     free = number_is_free loan t kept n next
 
     distinct : layers.IsDesk (layered_desk after)
-    distinct = subst layers.IsDesk (sym (layered_desk-with w n slot begun (desk_of loan t []) [])) (free, ((refl, tt), kept.whole.sound.distinct))
+    distinct =
+        subst layers.IsDesk (sym (layered_desk-with floating w n slot begun (desk_of loan t []) []))
+        (distinct_put (look_on t) (place_on floating (desk_of loan t [])) (new_record floating w n slot begun) (desk_of loan t []).windows free (refl, tt) kept.whole.sound.distinct)
 
-    pub front_stand : seat_stand loan front ≡ stand_of (new_record w n slot begun)
+    pub front_stand : seat_stand loan front ≡ stand_of (new_record floating w n slot begun)
     front_stand =
         (λ i. record {
           serial = new.serial i;
@@ -230,24 +269,29 @@ module _ {V : Type 0} {H : V → Type 0} (loan : Taken V H → Loan) where
     pub front_had : IsArea before.desk before.stale front.serial front.area.now
     front_had = subst (λ k. IsArea before.desk before.stale k front.area.now) (sym new.serial) (seat.absent_area before.desk before.stale n front.area.now free new.nowhere)
 
-    pub arranged : (seats : List (Seat V H)) (changed : Pixels) → AreSeatsBehind front t.windows.records.items t.areas.items seats → IsChangedArea before.desk (layered_desk after) changed → IsArranged loan (look_on t) before (layered_desk after) after.windows changed seats
-    arranged (s ∷ seats) changed its changes = record {
+    -- the seats stand as the windows do, with the new one at its place
+    stands_with : (k : ℕ) → k ≡ place_on floating (desk_of loan t []) → (seats : List (Seat V H)) → AreSeatsWith k front t.windows.records.items t.areas.items seats → map (seat_stand loan) seats ≡ map stand_of after.windows
+    stands_with k place seats S =
+        ap (map (seat_stand loan)) (with_is k front t.windows.records.items t.areas.items seats S)
+        ∙ map-put (seat_stand loan) k front S.all
+        ∙ (λ i. put_in (place i) (front_stand i) ((seats_stand t.windows.records.items t.areas.items S.all S.are ∙ sym (stands-behind t.windows.active (begins_active floating w) (desk_of loan t []).windows)) i))
+        ∙ sym (map-put stand_of (place_on floating (desk_of loan t [])) (new_record floating w n slot begun) (others_with floating w (desk_of loan t [])))
+        ∙ ap (map stand_of) (sym (new_windows floating w n slot begun (desk_of loan t [])))
+
+    pub arranged : (k : ℕ) → k ≡ place_on floating (desk_of loan t []) → (seats : List (Seat V H)) (changed : Pixels) → AreSeatsWith k front t.windows.records.items t.areas.items seats → IsChangedArea before.desk (layered_desk after) changed → IsArranged loan (look_on t) before (layered_desk after) after.windows changed seats
+    arranged k place seats changed S changes = record {
       desk = refl;
       distinct = distinct;
       changes = changes;
-      stands = (λ i. (ap (seat_stand loan) its.0 ∙ front_stand) i ∷ (seats_stand t.windows.records.items t.areas.items seats its.1 ∙ sym (stands-behind t.windows.active w.shown (desk_of loan t []).windows)) i);
-      areas = All-cons (λ s. IsArea before.desk before.stale s.serial s.area.now) s seats
-          (subst (λ (x : Seat V H). IsArea before.desk before.stale x.serial x.area.now) (sym its.0) front_had)
-          (seats_had before t.windows.records.items t.areas.items seats its.1 kept.whole.areas);
+      stands = stands_with k place seats S;
+      areas = all_with k front t.windows.records.items t.areas.items seats S (λ s. IsArea before.desk before.stale s.serial s.area.now) front_had (seats_had before t.windows.records.items t.areas.items S.all S.are kept.whole.areas);
     }
-    arranged [] changed its changes = absurd its
 
-  -- all seats are near, with one in front that had no pixel
-  pub all_near : (t : WindowManager V H) → IsKept loan t → (front : Seat V H) → IsNowhere front.area.now → (seats : List (Seat V H)) → AreSeatsBehind front t.windows.records.items t.areas.items seats → All IsNearSeat seats
-  all_near t kept front nowhere (s ∷ seats) its =
+  -- all seats are near, with a new one that had no pixel
+  pub all_near : (t : WindowManager V H) → IsKept loan t → (k : ℕ) (added : Seat V H) → IsNowhere added.area.now → (seats : List (Seat V H)) → AreSeatsWith k added t.windows.records.items t.areas.items seats → All IsNearSeat seats
+  all_near t kept k added nowhere seats S =
       let side = sides loan t kept in
       let was : State = layered_state (state_of loan t []) in
-      All-cons IsNearSeat s seats
-      (subst IsNearSeat (sym its.0) ((λ p e. absurd (false≢true (sym (nowhere.visible p) ∙ e))), (λ p e. absurd (false≢true (sym (nowhere.update p) ∙ e)))))
-      (seat.seats_near was.desk was.stale seats side.0 side.1 (seats_had was t.windows.records.items t.areas.items seats its.1 kept.whole.areas))
-  all_near t kept front nowhere [] its = absurd its
+      all_with k added t.windows.records.items t.areas.items seats S IsNearSeat
+      ((λ p e. absurd (false≢true (sym (nowhere.visible p) ∙ e))), (λ p e. absurd (false≢true (sym (nowhere.update p) ∙ e))))
+      (seat.seats_near was.desk was.stale S.all side.0 side.1 (seats_had was t.windows.records.items t.areas.items S.all S.are kept.whole.areas))

@@ -12,8 +12,10 @@ use Rattle.def_iface.specs.declared.taken.Taken.{Taken}
 use Rattle.def_iface.specs.Meaning.{Loan}
 use Rattle.def_iface.specs.Stocked.{SlotView}
 use Rattle.def_iface.specs.Desk as layers
+use Rattle.window_list.specs.Classes.{front_place}
+use Rattle.window_list.specs.Lists.{floats, leads}
 use Rattle.window_list.specs.declared.window.Window.{Window}
-use Rattle.vis_update.specs.Records.{WindowRecord, layered_window, record_of}
+use Rattle.vis_update.specs.Records.{WindowRecord, layered_window, record_of, is_floating}
 use Rattle.vis_update.specs.Places.{is_placed}
 use Rattle.window_mgr.specs.declared.arrange.Activates.{Activates}
 use Rattle.window_mgr.specs.declared.arrange.Activates.TheVariants.{Nothing, Itself, ItselfIfFront, FrontInItsPlace, NextInItsPlace}
@@ -26,7 +28,7 @@ use Rattle.desk_call.specs.declared.window.WindowReply.{WindowReply}
 use Rattle.window_mgr.specs.declared.manager.WindowManager.{WindowManager}
 use Rattle.window_mgr.specs.FullDesk.{FullDesk}
 use Rattle.window_mgr.specs.AnySlots.{IsRearrangedOverAnySlots}
-use Rattle.window_mgr.specs.Arrange.{Arrangement, at_place, with_shown, is_visible, if_visible, brought, changed, way_to, behind_this, without}
+use Rattle.window_mgr.specs.Arrange.{Arrangement, at_place, with_shown, is_visible, if_visible, if_leading, brought, changed, way_to, behind_this, without}
 use Rattle.window_mgr.specs.Edits.{records_put, stays_put, IsWindowAt, IsPlaceBehind, IsPlaceable}
 use Rattle.window_mgr.specs.Effects.{Effect, IsEffect, IsArrangement, effect_of}
 use Rattle.window_mgr.specs.Effects.Effect.{Arranges}
@@ -40,6 +42,7 @@ use Rattle.window_mgr.specs.Whole.{IsWholeManager}
 use Rattle.window_mgr.proofs.PutIn.{put_in, put_is_insert, taken_out, map-put, IsFree, distinct_out}
 use Rattle.vis_update.proofs.PlaceLemmas.{placed_parts}
 use Rattle.window_mgr.proofs.EditSeats.{same_at}
+use Rattle.window_mgr.proofs.ClassPlaces.{place_records}
 use Rattle.window_mgr.proofs.Arrangements.{found_is, brought_is, changed_is, behind_is}
 
 module _ {V : Type 0} {H : V → Type 0} (loan : Taken V H → Loan) (t new : WindowManager V H) (slots : List SlotView) (whole : IsWholeManager loan t slots) (i s : ℕ) (x : Window V H) (low : i < length t.windows.records.items) (x_is : IsWindowAt t.windows.records.items i x) (serial : x.serial ≡ s) where
@@ -83,24 +86,31 @@ module _ {V : Type 0} {H : V → Type 0} (loan : Taken V H → Loan) (t new : Wi
       let left = done slots whole in
       (left.0, (inr (allowed, (grows, left.1.0)), left.1.1))
 
+  -- the front of its class among the others
+  abbrev pub front : ℕ
+  front = front_place floats x.floating (remove t.windows.records.items i)
+
+  front_is : front_place is_floating x.floating others ≡ front
+  front_is = place_records x.floating loan (remove t.windows.records.items i)
+
   -- the windows, this one put elsewhere or changed
-  brought_so : brought s desk.windows ≡ insert others 0 (record_of loan x)
-  brought_so = ap (brought s) windows ∙ brought_is (look_on t) s i (record_of loan x) others serial free ∙ put_is_insert 0 (record_of loan x) others
+  brought_so : brought s desk.windows ≡ insert others front (record_of loan x)
+  brought_so = ap (brought s) windows ∙ brought_is (look_on t) s i (record_of loan x) others serial free ∙ put_is_insert (front_place is_floating x.floating others) (record_of loan x) others ∙ ap (λ n. insert others n (record_of loan x)) front_is
 
   pub changed_so : (f : WindowRecord → WindowRecord) → changed s f desk.windows ≡ insert others i (f (record_of loan x))
   changed_so f = ap (changed s f) windows ∙ changed_is (look_on t) s i (record_of loan x) others serial free f ∙ put_is_insert i (f (record_of loan x)) others
 
   -- ---- one by one
 
-  -- the window is brought to the front, and selected where that is asked
-  pub bring_step : (select : Bool) (e : Edit) (activates : Activates) (result : Result WindowReply Refusal) → e ≡ record (stays_put i x) { to = 0 } → activates ≡ (if select then (if x.shown then Itself else Nothing) else Nothing)
+  -- the window is brought to the front of its class, and selected where that is asked
+  pub bring_step : (select : Bool) (e : Edit) (activates : Activates) (result : Result WindowReply Refusal) → e ≡ record (stays_put i x) { to = front } → activates ≡ (if select then (if leads x then Itself else Nothing) else Nothing)
       → IsRearrangedOverAnySlots loan e activates None result t new → IsStep (if select then Select s else BringToFront s) result
   bring_step true e activates result e_is activates_is done =
-      edit_step (Select s) (record (stays_put i x) { to = 0 }) (if x.shown then Itself else Nothing) None result _ refl refl refl not_missing
-      (λ k. record { window = sym serial k; by = None; windows = brought_so k; activates = if_visible (found k) Itself })
+      edit_step (Select s) (record (stays_put i x) { to = front }) (if leads x then Itself else Nothing) None result _ refl refl refl not_missing
+      (λ k. record { window = sym serial k; by = None; windows = brought_so k; activates = if_leading (found k) })
       (subst (λ (y : Edit × Activates). IsRearrangedOverAnySlots loan y.0 y.1 None result t new) (λ k. (e_is k, activates_is k)) done)
   bring_step false e activates result e_is activates_is done =
-      edit_step (BringToFront s) (record (stays_put i x) { to = 0 }) Nothing None result _ refl refl refl not_missing
+      edit_step (BringToFront s) (record (stays_put i x) { to = front }) Nothing None result _ refl refl refl not_missing
       (λ k. record { window = sym serial k; by = None; windows = brought_so k; activates = Nothing })
       (subst (λ (y : Edit × Activates). IsRearrangedOverAnySlots loan y.0 y.1 None result t new) (λ k. (e_is k, activates_is k)) done)
 
@@ -134,7 +144,7 @@ module _ {V : Type 0} {H : V → Type 0} (loan : Taken V H → Loan) (t new : Wi
           ap (λ n. behind_this b.behind (record_with n desk.windows) (without n desk.windows)) (sym named)
           ∙ ap (λ ws. behind_this b.behind (record_with s ws) (without s ws)) windows
           ∙ behind_is (look_on t) s i (record_of loan x) others serial free b.behind
-          ∙ place.is (record_of loan x)
+          ∙ place.is x x_is
 
   -- where nothing but this refuses a call about a window that is there, it says whether the call is refused
   pub may_stand : (may : Option WindowRecord → Bool) (b : Bool) → b ≡ may (Some (record_of loan x))
@@ -163,15 +173,15 @@ module _ {V : Type 0} {H : V → Type 0} (loan : Taken V H → Loan) (t new : Wi
         (λ k. refused.may_stand (place k) (size k) (record_of loan (same_at t.windows.records.items i w x low (subst (λ n. IsWindowAt t.windows.records.items n w) at w_is) x_is k))) ∙ stands
 
   pub move_step : (m : MoveWindow) (e : Edit) (activates : Activates) (by : Point) (result : Result WindowReply Refusal) → s ≡ m.window → first_refusal (move_refusals m desk) ≡ None
-      → e ≡ record { at = i; to = if m.select then 0 else i; place = m.place; size = x.size; user_state = None; shown = x.shown } → activates ≡ (if m.select then (if x.shown then Itself else Nothing) else Nothing) → by ≡ minus m.place x.place
+      → e ≡ record { at = i; to = if m.select then front else i; place = m.place; size = x.size; user_state = None; shown = x.shown } → activates ≡ (if m.select then (if leads x then Itself else Nothing) else Nothing) → by ≡ minus m.place x.place
       → IsRearrangedOverAnySlots loan e activates (Some by) result t new → IsStep (Move m) result
   move_step m e activates by result named allowed e_is activates_is by_is done =
-      edit_step (Move m) (record { at = i; to = if m.select then 0 else i; place = m.place; size = x.size; user_state = None; shown = x.shown }) (if m.select then (if x.shown then Itself else Nothing) else Nothing) (Some (minus m.place x.place)) result _ refl refl refl allowed
+      edit_step (Move m) (record { at = i; to = if m.select then front else i; place = m.place; size = x.size; user_state = None; shown = x.shown }) (if m.select then (if leads x then Itself else Nothing) else Nothing) (Some (minus m.place x.place)) result _ refl refl refl allowed
       (λ k. record {
         window = sym (serial ∙ named) k;
         by = (ap (way_to m.place) here) k;
         windows = (by_select m.select) k;
-        activates = (ap (λ o. if m.select then if_visible o Itself else Nothing) here) k;
+        activates = (ap (λ o. if m.select then if_leading o else Nothing) here) k;
       })
       (subst (λ (y : Edit × Activates × Point). IsRearrangedOverAnySlots loan y.0 y.1 (Some y.2) result t new) (λ k. (e_is k, activates_is k, by_is k)) done)
     where
@@ -181,6 +191,7 @@ module _ {V : Type 0} {H : V → Type 0} (loan : Taken V H → Loan) (t new : Wi
       there : changed m.window (at_place m.place) desk.windows ≡ put_in i (at_place m.place (record_of loan x)) others
       there = ap (λ n. changed n (at_place m.place) desk.windows) (sym named) ∙ ap (changed s (at_place m.place)) windows ∙ changed_is (look_on t) s i (record_of loan x) others serial free (at_place m.place)
 
-      by_select : (b : Bool) → (if b then brought m.window (changed m.window (at_place m.place) desk.windows) else changed m.window (at_place m.place) desk.windows) ≡ insert others (if b then 0 else i) (at_place m.place (record_of loan x))
-      by_select true = (λ k. brought (sym named k) (there k)) ∙ brought_is (look_on t) s i (at_place m.place (record_of loan x)) others serial free ∙ put_is_insert 0 (at_place m.place (record_of loan x)) others
+      by_select : (b : Bool) → (if b then brought m.window (changed m.window (at_place m.place) desk.windows) else changed m.window (at_place m.place) desk.windows) ≡ insert others (if b then front else i) (at_place m.place (record_of loan x))
+      by_select true = (λ k. brought (sym named k) (there k)) ∙ brought_is (look_on t) s i (at_place m.place (record_of loan x)) others serial free ∙ put_is_insert (front_place is_floating x.floating others) (at_place m.place (record_of loan x)) others
+          ∙ ap (λ n. insert others n (at_place m.place (record_of loan x))) front_is
       by_select false = there ∙ put_is_insert i (at_place m.place (record_of loan x)) others

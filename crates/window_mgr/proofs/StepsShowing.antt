@@ -13,7 +13,7 @@ use Rattle.def_iface.specs.Scratch.{scratch}
 use Rattle.def_iface.specs.Change.{Change, IsChanged, no_change, had, stale_by, image_by}
 use Rattle.def_iface.proofs.Painting.{scratch_is_owners}
 use Rattle.desk_call.specs.declared.window.WindowCall.{WindowCall}
-use Rattle.desk_call.specs.declared.window.WindowCall.TheVariants.{New, Dispose, Show, Hide, ShowHide, Select, BringToFront, SendBehind, Move, Size, Zoom, Draw, SetPicture, Scroll, Find, Front, Info, VisibleRegion, UpdateRegion}
+use Rattle.desk_call.specs.declared.window.WindowCall.TheVariants.{New, NewFloating, Dispose, Show, Hide, ShowHide, Select, BringToFront, SendBehind, Move, Size, Zoom, Draw, SetPicture, Scroll, Find, Front, Info, VisibleRegion, UpdateRegion}
 use Rattle.desk_call.specs.declared.window.WindowReply.{WindowReply}
 use Rattle.desk_call.specs.declared.window.WindowReply.TheVariants as reply
 use Rattle.desk_call.specs.declared.window.WindowPart.TheVariants.{InDesk}
@@ -117,6 +117,7 @@ module _ (shows : List ℕ → Part → PixelSet) where
 
   refusal_showing : (call : WindowCall) (s : FullState) (why : Option Refusal) → IsRefusal call s why → IsRefusal call (state_showing shows s) why
   refusal_showing (New w) s why e = e
+  refusal_showing (NewFloating w) s why e = e
   refusal_showing (Draw d) s why e = e
   refusal_showing (SetPicture n) s why e = e
   refusal_showing (Scroll m) s why e = e
@@ -162,7 +163,7 @@ module _ (shows : List ℕ → Part → PixelSet) where
 
   effect_showing : (e : Effect) (answer : WindowReply) (s t : FullState) → DescribesAlike e → IsDesk (layered_desk t.desk)
       → IsEffect e answer s t → IsEffect e answer (state_showing shows s) (state_showing shows t)
-  effect_showing (Makes w) answer s t alike distinct (serial, a, made) = (
+  effect_showing (Makes floating w) answer s t alike distinct (serial, a, made) = (
     serial,
     a,
     record {
@@ -244,7 +245,8 @@ module _ (shows : List ℕ → Part → PixelSet) where
   step_effect (Zoom z) answer s t distinct effect =
       subst (λ o. IsEffect (places o) answer (state_showing shows s) (state_showing shows t)) (sym (zoomed_showing z (record_with z.window s.desk.windows) s.desk))
       (effect_showing (effect_of (Zoom z) s.desk) answer s t (places_alike _) distinct effect)
-  step_effect (New w) answer s t distinct effect = effect_showing (Makes w) answer s t tt distinct effect
+  step_effect (New w) answer s t distinct effect = effect_showing (Makes false w) answer s t tt distinct effect
+  step_effect (NewFloating w) answer s t distinct effect = effect_showing (Makes true w) answer s t tt distinct effect
   step_effect (Dispose n) answer s t distinct effect = effect_showing (Disposes n) answer s t tt distinct effect
   step_effect (Draw d) answer s t distinct effect = effect_showing (Draws d) answer s t tt distinct effect
   step_effect (SetPicture n) answer s t distinct effect = effect_showing (Pictures n) answer s t tt distinct effect

@@ -4,7 +4,8 @@ use Rattle.std.specs.Option.{is_some}
 use Rattle.tb_geom.specs.declared.point.Point.{Point}
 use Rattle.tb_geom.specs.Points.{minus}
 use Rattle.window_list.specs.declared.window.Placement.{Placement}
-use Rattle.vis_update.specs.Records.{WindowRecord}
+use Rattle.window_list.specs.Classes.{put_front, put_back}
+use Rattle.vis_update.specs.Records.{WindowRecord, is_floating}
 use Rattle.vis_update.specs.Touches.{is_this}
 use Rattle.window_mgr.specs.declared.arrange.Activates.{Activates}
 use Rattle.window_mgr.specs.declared.arrange.Activates.TheVariants.{Nothing, Itself, ItselfIfFront, FrontInItsPlace, NextInItsPlace}
@@ -15,7 +16,7 @@ use Rattle.desk_call.specs.declared.window.SendBehind.{SendBehind}
 use Rattle.desk_call.specs.declared.window.ShowHide.{ShowHide}
 use Rattle.def_iface.specs.Meaning.{Definition}
 use Rattle.window_mgr.specs.FullDesk.{FullDesk}
-use Rattle.window_mgr.specs.Finding.{record_with, front_of}
+use Rattle.window_mgr.specs.Finding.{record_with, is_leading, front_of}
 use Rattle.window_mgr.specs.Placings.{Placing}
 
 -- ---- highlighting
@@ -39,13 +40,13 @@ abbrev pub if_active : Bool → Option ℕ → Activation
 if_active true s = Becomes s
 if_active false s = Stays
 
--- the first visible window becomes active, if there is one and it is another than this
+-- the first visible ordinary window becomes active, if there is one and it is another than this
 abbrev pub next_active : ℕ → Option ℕ → Activation
 next_active s None = Stays
 next_active s (Some front) = if_active (not (front == s)) (Some front)
 
 -- what the activation of a call comes to, for the window that it is about, the one that was active, and the first visible
--- one after the call
+-- ordinary one after the call
 abbrev pub activation_of : Activates → ℕ → Option ℕ → Option ℕ → Activation
 activation_of Nothing s active front = Stays
 activation_of Itself s active front = Becomes (Some s)
@@ -71,24 +72,29 @@ abbrev pub without : ℕ → List WindowRecord → List WindowRecord
 without s [] = []
 without s (w ∷ ws) = if w.serial == s then ws else w ∷ without s ws
 
--- the windows, and this one behind the one of that serial, or behind all where there is none
+-- the windows, and this one behind the one of that serial
+abbrev pub put_next : ℕ → WindowRecord → List WindowRecord → List WindowRecord
+put_next s w [] = w ∷ []
+put_next s w (v ∷ vs) = if v.serial == s then v ∷ w ∷ vs else v ∷ put_next s w vs
+
+-- the windows, and this one behind the one of that serial, or at the back of its class where there is none
 abbrev pub put_behind : Option ℕ → WindowRecord → List WindowRecord → List WindowRecord
-put_behind s w [] = w ∷ []
-put_behind s w (v ∷ vs) = if is_this s v.serial then v ∷ w ∷ vs else v ∷ put_behind s w vs
+put_behind None w ws = put_back is_floating w ws
+put_behind (Some s) w ws = put_next s w ws
 
 abbrev pub in_front : Option WindowRecord → List WindowRecord → List WindowRecord
 in_front None ws = ws
-in_front (Some w) ws = w ∷ ws
+in_front (Some w) ws = put_front is_floating w ws
 
 abbrev pub behind_this : Option ℕ → Option WindowRecord → List WindowRecord → List WindowRecord
 behind_this s None ws = ws
 behind_this s (Some w) ws = put_behind s w ws
 
--- the windows, the one of this serial first
+-- the windows, the one of this serial at the front of its class
 abbrev pub brought : ℕ → List WindowRecord → List WindowRecord
 brought s ws = in_front (record_with s ws) (without s ws)
 
--- the windows, the one of this serial behind that one, or behind all
+-- the windows, the one of this serial behind that one, or at the back of its class
 abbrev pub sent : SendBehind → List WindowRecord → List WindowRecord
 sent b ws = behind_this b.behind (record_with b.window ws) (without b.window ws)
 
@@ -118,6 +124,11 @@ abbrev pub is_visible : Option WindowRecord → Bool
 is_visible None = false
 is_visible (Some w) = w.shown
 
+-- it is there, visible and ordinary: one that may become active
+abbrev pub may_lead : Option WindowRecord → Bool
+may_lead None = false
+may_lead (Some w) = is_leading w
+
 -- how far it is to the place from that of the window, if there is one
 abbrev pub way_to : Point → Option WindowRecord → Option Point
 way_to place None = None
@@ -137,16 +148,20 @@ pub record Arrangement : Type 0 where
   pub windows : List WindowRecord
   pub activates : Activates
 
--- the window is brought to the front, and becomes active if it is visible
-abbrev pub selected : ℕ → List WindowRecord → Arrangement
-selected s ws = record { window = s; by = None; windows = brought s ws; activates = if_visible (record_with s ws) Itself }
+-- the window becomes active where it may
+abbrev pub if_leading : Option WindowRecord → Activates
+if_leading w = if may_lead w then Itself else Nothing
 
--- the window is brought to the front, and no highlighting changes
+-- the window is brought to the front of its class, and becomes active if it is visible and ordinary
+abbrev pub selected : ℕ → List WindowRecord → Arrangement
+selected s ws = record { window = s; by = None; windows = brought s ws; activates = if_leading (record_with s ws) }
+
+-- the window is brought to the front of its class, and no highlighting changes
 abbrev pub brought_forward : ℕ → List WindowRecord → Arrangement
 brought_forward s ws = record { window = s; by = None; windows = brought s ws; activates = Nothing }
 
--- the window goes behind another or behind all; where it was active, the first visible window becomes so, if that is
--- another
+-- the window goes behind another or to the back of its class; where it was active, the first visible ordinary window
+-- becomes so, if that is another
 abbrev pub sent_behind : SendBehind → List WindowRecord → Arrangement
 sent_behind b ws = record { window = b.window; by = None; windows = sent b ws; activates = NextInItsPlace }
 
@@ -156,10 +171,10 @@ moved m ws = let there = changed m.window (at_place m.place) ws in record {
   window = m.window;
   by = way_to m.place (record_with m.window ws);
   windows = if m.select then brought m.window there else there;
-  activates = if m.select then if_visible (record_with m.window ws) Itself else Nothing;
+  activates = if m.select then if_leading (record_with m.window ws) else Nothing;
 }
 
--- a hidden window becomes visible, and active where it is the first visible one then; a visible one stays
+-- a hidden window becomes visible, and active where it is the first visible ordinary one then; a visible one stays
 abbrev pub made_visible : ℕ → List WindowRecord → Arrangement
 made_visible s ws = record {
   window = s;
@@ -168,8 +183,8 @@ made_visible s ws = record {
   activates = if is_visible (record_with s ws) then Nothing else ItselfIfFront;
 }
 
--- a visible window becomes hidden, and where it was active the first visible one becomes so, or none where there is none;
--- a hidden one stays
+-- a visible window becomes hidden, and where it was active the first visible ordinary one becomes so, or none where there
+-- is none; a hidden one stays
 abbrev pub made_hidden : ℕ → List WindowRecord → Arrangement
 made_hidden s ws = record {
   window = s;

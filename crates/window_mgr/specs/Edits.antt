@@ -117,12 +117,14 @@ module _ {V : Type 0} {H : V → Type 0} (loan : Taken V H → Loan) where
       → let touch : Touch = record { window = w.serial; by = by; whole = whole } in
       IsPlan touch (layered_state (state_of loan t [])) (layered_desk after) t.desktop (moved_item t.areas.items e.at e.to) after.windows plan
 
-  -- nothing refuses that the window at this place goes behind another or behind all, and that is this place of the others
+  -- nothing refuses that the window at this place goes behind another or to the back of its class, and that is this place of
+  -- the others
   pub record IsPlaceBehind (b : SendBehind) (at : ℕ) (t : WindowManager V H) (to : ℕ) : Type 0 where
     pub unrefused : first_refusal (behind_refusals b (desk_of loan t [])) ≡ None
     pub low : to < length t.windows.records.items
-    pub is : (w : WindowRecord) → put_behind b.behind w (map (record_of loan) (remove t.windows.records.items at))
-        ≡ insert (map (record_of loan) (remove t.windows.records.items at)) to w
+    pub is : (w : Window V H) → IsWindowAt t.windows.records.items at w
+        → put_behind b.behind (record_of loan w) (map (record_of loan) (remove t.windows.records.items at))
+        ≡ insert (map (record_of loan) (remove t.windows.records.items at)) to (record_of loan w)
 
   -- one window was put anew, another or it became active where that is so, and the plan was drawn
   pub record IsCommitted (e : Edit) (activation : Activation) (plan : Plan) (by : Option Point)

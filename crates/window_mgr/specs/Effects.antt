@@ -1,5 +1,5 @@
 -- What calls do: the kinds of effect, and which has which.
-use Rattle.std.specs.Prelude.{◌≡◌, ℕ, true, false, if◌then◌else◌, ◌==◌, List, [], ◌∷◌, ◌++◌, map, Option, None, Some, pos}
+use Rattle.std.specs.Prelude.{◌≡◌, ℕ, Bool, true, false, not, ◌&&◌, ◌||◌, if◌then◌else◌, ◌==◌, List, [], ◌∷◌, ◌++◌, map, Option, None, Some, pos}
 use Rattle.tb_geom.specs.declared.point.Point.{Point}
 use Rattle.tb_geom.specs.Points.{PixelSet, plus, minus}
 use Rattle.draw_port.specs.declared.shapes.Op.{Op}
@@ -16,12 +16,13 @@ use Rattle.def_iface.specs.declared.part.Part.TheVariants.{Picture}
 use Rattle.def_iface.specs.Owner.{same_owner}
 use Rattle.def_iface.specs.Owner.Owner.{Content}
 use Rattle.def_iface.specs.Change.{Change, no_change, IsChanged}
+use Rattle.window_list.specs.Classes.{put_front}
 use Rattle.window_list.specs.Lists.{serial_after}
-use Rattle.vis_update.specs.Records.{WindowRecord}
+use Rattle.vis_update.specs.Records.{WindowRecord, is_floating}
 use Rattle.vis_update.specs.Touches.{moving}
 use Rattle.vis_update.specs.Contents.{scroll_change}
 use Rattle.desk_call.specs.declared.window.WindowCall.{WindowCall}
-use Rattle.desk_call.specs.declared.window.WindowCall.TheVariants.{New, Dispose, Show, Hide, ShowHide, Select, BringToFront, SendBehind, Move, Size, Zoom, Draw, SetPicture, Scroll, Find, Front, Info, VisibleRegion, UpdateRegion}
+use Rattle.desk_call.specs.declared.window.WindowCall.TheVariants.{New, NewFloating, Dispose, Show, Hide, ShowHide, Select, BringToFront, SendBehind, Move, Size, Zoom, Draw, SetPicture, Scroll, Find, Front, Info, VisibleRegion, UpdateRegion}
 use Rattle.desk_call.specs.declared.window.Drawing.{Drawing}
 use Rattle.desk_call.specs.declared.window.NewPicture.{NewPicture}
 use Rattle.desk_call.specs.declared.window.NewWindow.{NewWindow}
@@ -36,22 +37,27 @@ use Rattle.window_mgr.specs.Placings.{Placing, sized, zoomed}
 use Rattle.window_mgr.specs.Closing.{IsShut, loan_of}
 use Rattle.window_mgr.specs.Telling.{IsRegionTold, visible_of, update_of}
 
--- all that the definition of a new window is told; a visible window is highlighted
-abbrev pub first_news : NewWindow → AllNews
-first_news w = new_window_news w.size w.title w.go_away w.shown
+-- a new window is highlighted where it is visible, and one that floats always
+abbrev pub begins_highlighted : Bool → NewWindow → Bool
+begins_highlighted floating w = w.shown || floating
+
+-- all that the definition of a new window is told
+abbrev pub first_news : Bool → NewWindow → AllNews
+first_news floating w = new_window_news w.size w.title w.go_away (begins_highlighted floating w)
 
 -- the record that a new window gets
-abbrev pub new_record : NewWindow → ℕ → ℕ → Definition → WindowRecord
-new_record w serial slot d = record {
+abbrev pub new_record : Bool → NewWindow → ℕ → ℕ → Definition → WindowRecord
+new_record floating w serial slot d = record {
   serial = serial;
   place = w.place;
   size = w.size;
   user_state = None;
   shown = w.shown;
-  highlighted = w.shown;
+  floating = floating;
+  highlighted = begins_highlighted floating w;
   title = w.title;
   go_away = w.go_away;
-  heard = record { highlighted = w.shown; zoomed = false; tracked = false };
+  heard = record { highlighted = begins_highlighted floating w; zoomed = false; tracked = false };
   picture = [];
   origin = record { h = pos 0; v = pos 0 };
   layers = [];
@@ -59,23 +65,27 @@ new_record w serial slot d = record {
   slot = slot;
 }
 
--- a new window in front of all: a visible one becomes active, in place of the window that was
-abbrev pub desk_with_new : NewWindow → ℕ → ℕ → Definition → FullDesk → FullDesk
-desk_with_new w serial slot d desk = record desk {
-  windows = new_record w serial slot d
-      ∷ (if w.shown then map (with_highlighting false desk.active) desk.windows else desk.windows);
-  active = if w.shown then Some serial else desk.active;
+-- a new window is visible and ordinary
+abbrev pub begins_active : Bool → NewWindow → Bool
+begins_active floating w = w.shown && not floating
+
+-- a new window at the front of its class: a visible ordinary one becomes active, in place of the window that was
+abbrev pub desk_with_new : Bool → NewWindow → ℕ → ℕ → Definition → FullDesk → FullDesk
+desk_with_new floating w serial slot d desk = record desk {
+  windows = put_front is_floating (new_record floating w serial slot d)
+      (if begins_active floating w then map (with_highlighting false desk.active) desk.windows else desk.windows);
+  active = if begins_active floating w then Some serial else desk.active;
   next = serial_after serial;
 }
 
--- a new window was made, of this serial
-pub record IsNewWindow (w : NewWindow) (serial : ℕ) (before after : FullState) : Type 0 where
+-- a new window was made, of this serial, which floats or does not
+pub record IsNewWindow (floating : Bool) (w : NewWindow) (serial : ℕ) (before after : FullState) : Type 0 where
   pub loan : Loan
   pub begun : Definition
   pub serials : before.desk.next ≡ Some serial
   pub taken : IsTaken w.kind loan before.desk.stock after.desk.stock
-  pub live : IsBegun (first_news w) loan.definition begun
-  pub desk : after.desk ≡ record (desk_with_new w serial loan.slot begun before.desk) { stock = after.desk.stock }
+  pub live : IsBegun (first_news floating w) loan.definition begun
+  pub desk : after.desk ≡ record (desk_with_new floating w serial loan.slot begun before.desk) { stock = after.desk.stock }
   pub pixels : IsChanged no_change (layered_state before) (layered_state after)
 
 -- the window has the operation too, if it is the one of this serial
@@ -148,7 +158,7 @@ pub record IsWindowPlaced (p : Placing) (before after : FullState) : Type 0 wher
   pub arranged : IsArrangement (placed p definition before.desk.windows) before after
 
 -- the window of this serial is there no more, and its definition went back Closed into its slot; where it was active, the
--- first visible window became so, or none
+-- first visible ordinary window became so, or none
 pub record IsWindowDisposed (s : ℕ) (before after : FullState) : Type 0 where
   pub window : WindowRecord
   pub found : record_with s before.desk.windows ≡ Some window
@@ -159,7 +169,7 @@ pub record IsWindowDisposed (s : ℕ) (before after : FullState) : Type 0 where
 
 -- the kinds of effect that a call can have
 pub data Effect : Type 0 where
-  Makes : (window : NewWindow) → Effect
+  Makes : (floating : Bool) → (window : NewWindow) → Effect
   Disposes : (window : ℕ) → Effect
   Draws : (drawing : Drawing) → Effect
   Pictures : (picture : NewPicture) → Effect
@@ -176,7 +186,8 @@ places (Some p) = Places p
 
 -- the effect of a call that nothing refuses
 abbrev pub effect_of : WindowCall → FullDesk → Effect
-effect_of (New w) desk = Makes w
+effect_of (New w) desk = Makes false w
+effect_of (NewFloating w) desk = Makes true w
 effect_of (Dispose s) desk = Disposes s
 effect_of (Draw d) desk = Draws d
 effect_of (SetPicture n) desk = Pictures n
@@ -198,7 +209,8 @@ effect_of (UpdateRegion s) desk = Describes (update_of s)
 
 -- what a call of such an effect answers and leaves: a call that tells something, or describes a region, changes nothing
 abbrev pub IsEffect : Effect → WindowReply → FullState → FullState → Type 0
-IsEffect (Makes w) answer before after = (serial : ℕ) × (answer ≡ reply.Made serial) × IsNewWindow w serial before after
+IsEffect (Makes floating w) answer before after =
+    (serial : ℕ) × (answer ≡ reply.Made serial) × IsNewWindow floating w serial before after
 IsEffect (Disposes s) answer before after = (answer ≡ reply.Done) × IsWindowDisposed s before after
 IsEffect (Draws d) answer before after = (answer ≡ reply.Done) × IsDrawn d before after
 IsEffect (Pictures n) answer before after = (answer ≡ reply.Done) × IsPictureSet n before after

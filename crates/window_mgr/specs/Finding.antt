@@ -1,5 +1,5 @@
--- Whose a point is, as FindWindow answers it, and which window is the first visible one.
-use Rattle.std.specs.Prelude.{ℕ, if◌then◌else◌, ◌==◌, List, [], ◌∷◌, Option, None, Some}
+-- Whose a point is, as FindWindow answers it, and which window is the first visible ordinary one.
+use Rattle.std.specs.Prelude.{ℕ, Bool, not, ◌&&◌, if◌then◌else◌, ◌==◌, List, [], ◌∷◌, Option, None, Some}
 use Rattle.tb_geom.specs.declared.point.Point.{Point}
 use Rattle.tb_geom.specs.Points.{minus}
 use Rattle.def_iface.specs.News.{no_news}
@@ -56,10 +56,14 @@ abbrev pub found_at : FullDesk → Point → Found
 found_at desk p =
     if on_screen (layered_desk desk) p then found_by desk.windows (owner (layered_desk desk) p) p else found_none part.InDesk
 
--- the first visible window
+-- the window is visible, and ordinary
+abbrev pub is_leading : WindowRecord → Bool
+is_leading w = w.shown && not w.floating
+
+-- the first visible ordinary window
 abbrev pub front_of : List WindowRecord → Option ℕ
 front_of [] = None
-front_of (w ∷ ws) = if w.shown then Some w.serial else front_of ws
+front_of (w ∷ ws) = if is_leading w then Some w.serial else front_of ws
 
 -- what is told of a window, if it is there
 abbrev pub info_of : Option WindowRecord → WindowReply

@@ -1,6 +1,7 @@
 -- A window that is planned, and one that was added; an operation that may be drawn, and one that was; a window that got
 -- another picture.
 use Rattle.std.specs.Prelude.{◌≡◌, ◌⊎◌, ℕ, ◌+◌, ◌<◌, Bool, if◌then◌else◌, [], ◌∷◌, ◌++◌, length, map, set, Option, None, Some, IsSomeAnd, slice_get, vec_len, vec_capacity, true, ◌&&◌, ◌||◌, not}
+use Rattle.std.specs.List.{insert}
 use Rattle.tb_geom.specs.declared.refusal.Refusal.{Refusal}
 use Rattle.tb_geom.specs.declared.refusal.Refusal.TheVariants.{NoMemory}
 use Rattle.tb_geom.specs.Points.{minus}
@@ -13,7 +14,8 @@ use Rattle.op_ref.specs.OpRefs.{IsGood, IsMeant}
 use Rattle.def_iface.specs.declared.taken.Taken.{Taken}
 use Rattle.def_iface.specs.Meaning.{Definition, Loan, SameRegions, IsWithin, IsBegun}
 use Rattle.window_list.specs.declared.window.Window.{Window}
-use Rattle.window_list.specs.Lists.{dimmed, serial_after}
+use Rattle.window_list.specs.Classes.{front_place}
+use Rattle.window_list.specs.Lists.{floats, with_new, serial_after}
 use Rattle.vis_update.specs.declared.plan.Plan.{Plan}
 use Rattle.vis_update.specs.declared.plan.Touch.{Touch}
 use Rattle.vis_update.specs.declared.area.Area.{Area}
@@ -31,7 +33,7 @@ use Rattle.window_mgr.specs.Records.{desk_of, state_of}
 use Rattle.tb_geom.specs.Refusals.{first_refusal}
 use Rattle.window_mgr.specs.Refused.{judged_refusals, most_operations}
 use Rattle.window_mgr.specs.Commits.{IsPlanDrawn}
-use Rattle.window_mgr.specs.Effects.{first_news, new_record, desk_with_new}
+use Rattle.window_mgr.specs.Effects.{begins_active, first_news, new_record, desk_with_new}
 use Rattle.window_mgr.specs.Whole.{LieThere}
 use Rattle.tb_geom.specs.declared.point.Point.{Point}
 use Rattle.window_paint.specs.Hidden.{is_hidden}
@@ -106,6 +108,10 @@ module _ {V : Type 0} {H : V → Type 0} where
     pub active : new.windows.active ≡ old.windows.active
     pub next : new.windows.next ≡ old.windows.next
 
+  -- where a new window is put in, by its class
+  abbrev pub new_place : Bool → WindowManager V H → ℕ
+  new_place floating t = front_place floats floating t.windows.records.items
+
   -- the serial and the title of the window
   pub record IsTicket (w : NewWindow) (t : WindowManager V H) (ticket : Ticket) : Type 0 where
     pub next : t.windows.next ≡ Some ticket.serial
@@ -113,39 +119,38 @@ module _ {V : Type 0} {H : V → Type 0} where
 
 -- `loan` says what a definition that was taken means
 module _ {V : Type 0} {H : V → Type 0} (loan : Taken V H → Loan) where
-  -- all that changes on the screen once the window stands in front of the others, whichever slot its definition has
-  abbrev pub IsPlanWith : NewWindow → ℕ → Definition → Touch → WindowManager V H → Plan → Type 0
-  IsPlanWith w serial d touch t plan = (slot : ℕ) (begun : Definition) → SameRegions d begun
-      → let after = desk_with_new w serial slot begun (desk_of loan t []) in
-      (old : Area) → IsNowhere old → IsPlan touch (layered_state (state_of loan t [])) (layered_desk after) t.desktop (old ∷ t.areas.items) after.windows plan
+  -- all that changes on the screen once the window stands at the front of its class, whichever slot its definition has
+  abbrev pub IsPlanWith : Bool → NewWindow → ℕ → Definition → Touch → WindowManager V H → Plan → Type 0
+  IsPlanWith floating w serial d touch t plan = (slot : ℕ) (begun : Definition) → SameRegions d begun
+      → let after = desk_with_new floating w serial slot begun (desk_of loan t []) in
+      (old : Area) → IsNowhere old → IsPlan touch (layered_state (state_of loan t [])) (layered_desk after) t.desktop (insert t.areas.items (new_place floating t) old) after.windows plan
 
   -- nothing refuses the window with this definition any more, whose content then lies in the box of its structure
-  pub record IsPlanned (w : NewWindow) (d : Definition) (t : WindowManager V H) (addition : Addition) : Type 0 where
+  pub record IsPlanned (floating : Bool) (w : NewWindow) (d : Definition) (t : WindowManager V H) (addition : Addition) : Type 0 where
     pub ticket : IsTicket w t addition.ticket
     pub touch : addition.touch ≡ new_touch addition.ticket.serial
-    pub plan : IsPlanWith w addition.ticket.serial d addition.touch t addition.plan
+    pub plan : IsPlanWith floating w addition.ticket.serial d addition.touch t addition.plan
     pub some : vec_len addition.plan.parts ≡ length t.windows.records.items + 1
     pub room : length t.windows.records.items < t.windows.records.capacity
     pub area_room : vec_len t.areas < vec_capacity t.areas
     pub within : IsWithin (d.content w.size) (rect_holds (d.bounds w.size))
 
-  -- the window was put in front of all others, and the plan was drawn
-  pub record IsAdded (w : NewWindow) (serial : ℕ) (taken : Loan) (touch : Touch) (plan : Plan)
+  -- the window was put at the front of its class, and the plan was drawn
+  pub record IsAdded (floating : Bool) (w : NewWindow) (serial : ℕ) (taken : Loan) (touch : Touch) (plan : Plan)
       (old new : WindowManager V H) : Type 0 where
     pub record_is : Window V H
     pub begun : Definition
-    pub live : IsBegun (first_news w) taken.definition begun
-    pub seen : record_of loan record_is ≡ new_record w serial taken.slot begun
+    pub live : IsBegun (first_news floating w) taken.definition begun
+    pub seen : record_of loan record_is ≡ new_record floating w serial taken.slot begun
     pub there : LieThere record_is
-    pub windows : new.windows.records.items ≡ record_is
-        ∷ (if w.shown then map (dimmed old.windows.active) old.windows.records.items else old.windows.records.items)
+    pub windows : new.windows.records.items ≡ with_new old.windows.active record_is old.windows.records.items
     pub area : Area
     pub nowhere : IsNowhere area
-    pub areas : new.areas.items ≡ areas_then (area ∷ old.areas.items) plan.areas.items
+    pub areas : new.areas.items ≡ areas_then (insert old.areas.items (new_place floating old) area) plan.areas.items
     pub desktop : new.desktop ≡ plan.desktop
     pub drawn : IsPlanDrawn plan touch.by old.font (map (record_of loan) new.windows.records.items) old.screen new.screen
     pub bar : new.bar ≡ old.bar
     pub font : new.font ≡ old.font
     pub gray : new.gray ≡ old.gray
-    pub active : new.windows.active ≡ (if w.shown then Some serial else old.windows.active)
+    pub active : new.windows.active ≡ (if begins_active floating w then Some serial else old.windows.active)
     pub next : new.windows.next ≡ serial_after serial

@@ -1,5 +1,5 @@
 -- Why a call refuses: the first refusal of the written order whose condition holds.
-use Rattle.std.specs.Prelude.{◌≡◌, ℕ, Bool, true, false, not, ◌==◌, ◌&&◌, ◌||◌, List, [], ◌∷◌, ◌++◌, length, Option, None, Some, is_none, nat_le, nat_lt}
+use Rattle.std.specs.Prelude.{◌≡◌, ℕ, Bool, if◌then◌else◌, true, false, not, ◌==◌, ◌&&◌, ◌||◌, List, [], ◌∷◌, ◌++◌, length, Option, None, Some, is_none, nat_le, nat_lt}
 use Rattle.std.specs.List.{list_all}
 use Rattle.tb_geom.specs.declared.point.Point.{Point}
 use Rattle.tb_geom.specs.declared.refusal.Refusal.{Refusal}
@@ -17,7 +17,7 @@ use Rattle.vis_update.specs.Records.{WindowRecord}
 use Rattle.vis_update.specs.Places.{is_placed}
 use Rattle.vis_update.specs.Touches.{is_this}
 use Rattle.desk_call.specs.declared.window.WindowCall.{WindowCall}
-use Rattle.desk_call.specs.declared.window.WindowCall.TheVariants.{New, Dispose, Show, Hide, ShowHide, Select, BringToFront, SendBehind, Move, Size, Zoom, Draw, SetPicture, Scroll, Find, Front, Info, VisibleRegion, UpdateRegion}
+use Rattle.desk_call.specs.declared.window.WindowCall.TheVariants.{New, NewFloating, Dispose, Show, Hide, ShowHide, Select, BringToFront, SendBehind, Move, Size, Zoom, Draw, SetPicture, Scroll, Find, Front, Info, VisibleRegion, UpdateRegion}
 use Rattle.desk_call.specs.declared.window.MoveWindow.{MoveWindow}
 use Rattle.desk_call.specs.declared.window.NewPicture.{NewPicture}
 use Rattle.desk_call.specs.declared.window.NewWindow.{NewWindow}
@@ -109,16 +109,28 @@ may_be_at place (Some w) = may_stand place w.size w
 abbrev pub is_missing : ℕ → List WindowRecord → Bool
 is_missing s ws = is_none (record_with s ws)
 
+-- the record of the window that is named, if one is
+abbrev pub named_record : Option ℕ → List WindowRecord → Option WindowRecord
+named_record None ws = None
+named_record (Some s) ws = record_with s ws
+
 -- a window is named that there is not
 abbrev pub is_named_missing : Option ℕ → List WindowRecord → Bool
 is_named_missing None ws = false
 is_named_missing (Some s) ws = is_missing s ws
 
--- why a window may not be sent behind another: one of them is missing, or they are one
+-- both windows are there, and one of them floats alone
+abbrev pub are_apart : Option WindowRecord → Option WindowRecord → Bool
+are_apart (Some v) (Some w) = if v.floating then not w.floating else w.floating
+are_apart None o = false
+are_apart (Some v) None = false
+
+-- why a window may not be sent behind another: one of them is missing, or they are one, or they are of two classes
 abbrev pub behind_refusals : sending.SendBehind → FullDesk → List (Bool × Refusal)
 behind_refusals b desk =
     (is_missing b.window desk.windows, NoSuchWindow) ∷ (is_named_missing b.behind desk.windows, NoSuchWindow)
-    ∷ (is_this b.behind b.window, OutOfRange) ∷ []
+    ∷ (is_this b.behind b.window, OutOfRange)
+    ∷ (are_apart (record_with b.window desk.windows) (named_record b.behind desk.windows), OutOfRange) ∷ []
 
 -- why a window may not be moved: it is missing, or may not be there
 abbrev pub move_refusals : MoveWindow → FullDesk → List (Bool × Refusal)
@@ -173,6 +185,7 @@ IsUntold s set desk why = (long : Bool) × IsMeasured set long
 -- why the call refuses, want of memory aside
 abbrev pub IsRefusal : WindowCall → FullState → Option Refusal → Type 0
 IsRefusal (New w) state why = first_refusal (new_window_refusals w state.desk) ≡ why
+IsRefusal (NewFloating w) state why = first_refusal (new_window_refusals w state.desk) ≡ why
 IsRefusal (Draw d) state why = (judged : Option Refusal) × IsJudged d.operation judged
     × (first_refusal (draw_refusals judged (record_with d.window state.desk.windows)) ≡ why)
 IsRefusal (SetPicture n) state why = first_refusal (picture_refusals n state.desk) ≡ why
@@ -196,6 +209,7 @@ IsRefusal (Info s) state why = first_refusal (window_refusals s state.desk) ≡ 
 -- what of that comes before all else, whatever is open: a name that no table has, or bytes without their form
 abbrev pub IsFormRefusal : WindowCall → FullDesk → Option Refusal → Type 0
 IsFormRefusal (New w) desk why = first_refusal (kind_refusals w desk) ≡ why
+IsFormRefusal (NewFloating w) desk why = first_refusal (kind_refusals w desk) ≡ why
 IsFormRefusal (Draw d) desk why = (judged : Option Refusal) × IsJudged d.operation judged
     × (first_refusal (form_refusals judged) ≡ why)
 IsFormRefusal _ desk why = None ≡ why
@@ -203,6 +217,7 @@ IsFormRefusal _ desk why = None ≡ why
 -- the call may ask for memory
 abbrev pub may_grow : WindowCall → Bool
 may_grow (New w) = true
+may_grow (NewFloating w) = true
 may_grow (Dispose s) = true
 may_grow (Show s) = true
 may_grow (Hide s) = true

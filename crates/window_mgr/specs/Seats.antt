@@ -1,5 +1,6 @@
 -- The seats of the windows of a list.
-use Rattle.std.specs.Prelude.{◌≡◌, ℕ, if◌then◌else◌, List, [], ◌∷◌, Option, None, Some}
+use Rattle.std.specs.Prelude.{◌≡◌, ℕ, Bool, not, ◌&&◌, if◌then◌else◌, List, [], ◌∷◌, Option, None, Some}
+use Rattle.std.specs.List.{insert}
 use Rattle.vis_update.specs.declared.area.Area.{Area}
 use Rattle.vis_update.specs.declared.plan.Seat.{Seat}
 use Rattle.vis_update.specs.Seats.{IsSeatOf}
@@ -12,12 +13,17 @@ module _ {V : Type 0} {H : V → Type 0} where
   AreSeatsOf (w ∷ ws) (a ∷ areas) (s ∷ seats) = IsSeatOf w a s × AreSeatsOf ws areas seats
   AreSeatsOf _ _ _ = ⊥
 
-  -- the same, behind one more
-  abbrev pub AreSeatsBehind : Seat V H → List (Window V H) → List Area → List (Seat V H) → Type 0
-  AreSeatsBehind front ws areas [] = ⊥
-  AreSeatsBehind front ws areas (s ∷ seats) = (s ≡ front) × AreSeatsOf ws areas seats
+  -- the same, and one more at this place
+  pub record AreSeatsWith (k : ℕ) (added : Seat V H) (ws : List (Window V H)) (areas : List Area) (seats : List (Seat V H)) : Type 0 where
+    pub all : List (Seat V H)
+    pub are : AreSeatsOf ws areas all
+    pub is : seats ≡ insert all k added
 
-  -- the serial of the first visible window
+  -- the window that sits here is to be visible, and is ordinary
+  abbrev pub seat_leads : Seat V H → Bool
+  seat_leads s = s.shown && not s.floating
+
+  -- the serial of the first visible ordinary window
   abbrev pub first_seated : List (Seat V H) → Option ℕ
   first_seated [] = None
-  first_seated (s ∷ seats) = if s.shown then Some s.serial else first_seated seats
+  first_seated (s ∷ seats) = if seat_leads s then Some s.serial else first_seated seats

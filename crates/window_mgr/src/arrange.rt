@@ -35,11 +35,11 @@ pub enum Activates {
     /// No highlighting changes.
     Nothing,
     Itself,
-    /// Itself, where it is the first visible window then.
+    /// Itself, where it is the first visible ordinary window then.
     ItselfIfFront,
-    /// Where it was active, the first visible window, or none.
+    /// Where it was active, the first visible ordinary window, or none.
     FrontInItsPlace,
-    /// Where it was active, the first visible window, if that is another.
+    /// Where it was active, the first visible ordinary window, if that is another.
     NextInItsPlace,
 }
 
@@ -59,8 +59,8 @@ pub(crate) struct Rearrangement {
 }
 
 impl Activates {
-    /// What it comes to for a window, where the active one and the first visible one after the call
-    /// are given.
+    /// What it comes to for a window, where the active one and the first visible ordinary one after the
+    /// call are given.
     pub(crate) fn activation(
         self,
         window: u64,
@@ -264,12 +264,12 @@ impl WindowManager {
     }
 }
 
-/// The serial of the first visible window, by the seats of all.
+/// The serial of the first visible ordinary window, by the seats of all.
 pub(crate) fn front_of(seats: &[Seat<'_>]) -> Option<u64>
     ensures { result ≡ first_seated seats.now }
 {
     for seat in seats {
-        if seat.shown {
+        if seat.shown && !seat.floating {
             return Some(seat.serial);
         }
     }

@@ -18,7 +18,7 @@ use layer_list::local;
 use tb_geom::Refusal;
 
 impl WindowManager {
-    /// Brings a window to the front; a visible one becomes active where it is selected.
+    /// Brings a window to the front of its class; a visible ordinary one becomes active where it is selected.
     #[tactic(auto, using(crate::proofs::Sparing::spares_same))]
     pub(crate) fn bring_to_front(
         &mut self,
@@ -34,13 +34,13 @@ impl WindowManager {
             return Err(Refusal::NoSuchWindow);
         };
         let found = self.windows.at(at);
-        let activates = if_so(select, if_so(found.shown, Activates::Itself));
+        let activates = if_so(select, if_so(found.leads(), Activates::Itself));
         let mut edit = Edit::of(at, found);
-        edit.to = 0;
+        edit.to = self.windows.class_front(found.floating, at);
         self.rearrange(edit, activates, None)
     }
 
-    /// Puts a window behind another or behind all.
+    /// Puts a window behind another or at the back of its class.
     #[tactic(auto, using(crate::proofs::Sparing::spares_same))]
     pub(crate) fn send_behind(&mut self, sent: SendBehind) -> Result<WindowReply, Refusal>
         requires { IsKept ⟦<Taken as Defined>⟧.loan self.old }
@@ -67,13 +67,17 @@ impl WindowManager {
         ensures { MatchResult result (IsPlaceBehind ⟦<Taken as Defined>⟧.loan sent at self.now)
             (λ e. first_refusal (behind_refusals sent (desk_of ⟦<Taken as Defined>⟧.loan self.now [])) ≡ Some e) }
     {
+        let found = self.windows.at(at);
         let Some(front) = sent.behind else {
-            return Ok(self.windows.len() - 1);
+            return Ok(self.windows.class_back(found.floating, at));
         };
         let Some(there) = self.find(front) else {
             return Err(Refusal::NoSuchWindow);
         };
         if front == sent.window {
+            return Err(Refusal::OutOfRange);
+        }
+        if self.windows.at(there).floating != found.floating {
             return Err(Refusal::OutOfRange);
         }
         Ok(if there < at { there + 1 } else { there })
@@ -93,17 +97,19 @@ impl WindowManager {
         if !may_stand(found, moved.place, found.size) {
             return Err(Refusal::OutOfRange);
         }
-        let activates = if_so(moved.select, if_so(found.shown, Activates::Itself));
+        let activates = if_so(moved.select, if_so(found.leads(), Activates::Itself));
         let by = local(moved.place, found.place);
+        let front = self.windows.class_front(found.floating, at);
         let mut edit = Edit::of(at, found);
         edit.place = moved.place;
         edit.user_state = None;
-        edit.to = if moved.select { 0 } else { at };
+        edit.to = if moved.select { front } else { at };
         self.rearrange(edit, activates, Some(by))
     }
 
-    /// Makes a window visible or hidden. One that becomes visible becomes active where it is the first visible one
-    /// then, and in the place of an active one that becomes hidden the first visible one, or none, where that is asked.
+    /// Makes a window visible or hidden. One that becomes visible becomes active where it is the first visible
+    /// ordinary one then, and in the place of an active one that becomes hidden the first of these, or none, where that is
+    /// asked.
     #[tactic(auto, using(crate::proofs::Sparing::spares_same))]
     pub(crate) fn show_hide(
         &mut self,

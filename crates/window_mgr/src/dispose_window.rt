@@ -23,7 +23,7 @@ use window_list::Window;
 
 impl WindowManager {
     /// Ends a window: its definition is disposed of, and put back Closed into its slot. Where it was
-    /// active, the first visible window becomes so, or none.
+    /// active, the first visible ordinary window becomes so, or none.
     #[tactic(auto, using(crate::proofs::Sparing::spares_same))]
     pub(crate) fn dispose_window(
         &mut self,

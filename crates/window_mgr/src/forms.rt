@@ -15,7 +15,8 @@ pub fn form_refusal(call: &WindowCall<'_>, stock: &WindowStock) -> Option<Refusa
         → IsFormRefusal call.now desk result }
 {
     match call {
-        WindowCall::New(window) if !stock.has(window.kind.as_slice()) => Some(Refusal::NoSuchName),
+        WindowCall::New(window) | WindowCall::NewFloating(window)
+            if !stock.has(window.kind.as_slice()) => Some(Refusal::NoSuchName),
         WindowCall::Draw(drawing) => match drawing.operation.judge() {
             Err(refusal) if is_formal(refusal) => Some(refusal),
             _ => None,

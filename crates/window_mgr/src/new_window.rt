@@ -2,16 +2,16 @@
 ghost use Rattle.std.specs.Prelude.{◌≡◌, ◌+◌, ◌++◌, ◌∷◌, [], true, map, if◌then◌else◌, Some, None, All, IfOk, IfErr, MatchResult, length, vec_len};
 ghost use Rattle.tb_geom.specs.Rects.{in_plane};
 ghost use Rattle.def_iface.specs.Meaning.{is_fitting};
-ghost use Rattle.desk_call.specs.declared.window.WindowCall.TheVariants.{New};
+ghost use Rattle.desk_call.specs.declared.window.WindowCall.TheVariants.{New, NewFloating};
 ghost use Rattle.vis_update.specs.Records.{record_of};
 ghost use Rattle.vis_update.specs.Places.{is_placed};
 ghost use Rattle.window_mgr.specs.Records.{desk_of, state_of};
 ghost use Rattle.tb_geom.specs.Refusals.{first_refusal};
 ghost use Rattle.window_mgr.specs.Refused.{judged_refusals};
 ghost use Rattle.window_mgr.specs.Kept.{IsKept};
-ghost use Rattle.window_mgr.specs.Planned.{IsPlanWith, IsUnplanned, SameDesk, IsTicket, IsPlanned, IsAdded};
-ghost use Rattle.window_mgr.specs.Seats.{AreSeatsBehind};
-ghost use Rattle.window_mgr.specs.Effects.{new_record};
+ghost use Rattle.window_mgr.specs.Planned.{IsPlanWith, IsUnplanned, SameDesk, new_place, IsTicket, IsPlanned, IsAdded};
+ghost use Rattle.window_mgr.specs.Seats.{AreSeatsWith};
+ghost use Rattle.window_mgr.specs.Effects.{begins_highlighted, new_record};
 ghost use Rattle.window_mgr.specs.Step.{IsWindowStep};
 ghost use Rattle.window_mgr.specs.Whole.{IsWholeManager, IsSettled, LieThere};
 
@@ -45,23 +45,24 @@ struct Addition {
 }
 
 impl WindowManager {
-    /// Makes a window in front of all others, and answers its serial.
+    /// Makes a window that floats or an ordinary one, at the front of its class, and answers its serial.
     pub(crate) fn new_window(
         &mut self,
         window: &NewWindow<'_>,
+        floating: bool,
         stock: &mut WindowStock,
     ) -> Result<WindowReply, Refusal>
         requires { IsWholeManager ⟦<Taken as Defined>⟧.loan self.old (⟦<WindowStock as Stocked>⟧.slots stock.old) }
         ensures whole { IsWholeManager ⟦<Taken as Defined>⟧.loan self.new (⟦<WindowStock as Stocked>⟧.slots stock.new) }
-        ensures step { IsWindowStep (New window.now) result
+        ensures step { IsWindowStep (if floating then NewFloating window.now else New window.now) result
             (state_of ⟦<Taken as Defined>⟧.loan self.old (⟦<WindowStock as Stocked>⟧.slots stock.old))
             (state_of ⟦<Taken as Defined>⟧.loan self.new (⟦<WindowStock as Stocked>⟧.slots stock.new)) }
     {
         match stock.take(window.kind.as_slice()) {
-            Ok(taken) => match self.plan_window(window, &taken) {
+            Ok(taken) => match self.plan_window(window, floating, &taken) {
                 Ok(addition) => {
                     let serial = addition.ticket.serial;
-                    self.add_window(window, addition, taken);
+                    self.add_window(window, floating, addition, taken);
                     Ok(WindowReply::Made(serial))
                 }
                 Err(refusal) => {
@@ -75,20 +76,25 @@ impl WindowManager {
     }
 
     /// All that can be refused of a window with this definition, and all growth.
-    fn plan_window(&mut self, window: &NewWindow<'_>, taken: &Taken) -> Result<Addition, Refusal>
+    fn plan_window(
+        &mut self,
+        window: &NewWindow<'_>,
+        floating: bool,
+        taken: &Taken,
+    ) -> Result<Addition, Refusal>
         requires { IsKept ⟦<Taken as Defined>⟧.loan self.old }
         ensures same { SameDesk self.old self.new }
         ensures ok { let d = (⟦<Taken as Defined>⟧.loan taken.now).definition in IfOk result (λ addition.
             (first_refusal (judged_refusals window.now (is_placed (Some d) window.now.place window.now.size)
             (length self.old.windows.records.items) self.old.windows.next) ≡ None)
-            × IsPlanned ⟦<Taken as Defined>⟧.loan window.now d self.new addition) }
+            × IsPlanned ⟦<Taken as Defined>⟧.loan floating window.now d self.new addition) }
         ensures err { let d = (⟦<Taken as Defined>⟧.loan taken.now).definition in IfErr result (
             IsUnplanned window.now (is_placed (Some d) window.now.place window.now.size)
             (length self.old.windows.records.items) self.old.windows.next) }
     {
         let ticket = self.judge(window, is_placed_with(window.place, window.size, taken))?;
         let touch = new_touch(ticket.serial);
-        let plan = self.plan_with(window, taken, touch)?;
+        let plan = self.plan_with(window, floating, taken, touch)?;
         self.windows.reserve()?;
         self.areas.reserve(1)?;
         Ok(Addition {
@@ -133,10 +139,11 @@ impl WindowManager {
         }
     }
 
-    /// The plan of all windows, with a new one in front.
+    /// The plan of all windows, with a new one at the front of its class.
     fn plan_with(
         &self,
         window: &NewWindow<'_>,
+        floating: bool,
         taken: &Taken,
         touch: Touch,
     ) -> Result<Plan, AllocError>
@@ -144,47 +151,56 @@ impl WindowManager {
         requires placed { is_placed (Some (⟦<Taken as Defined>⟧.loan taken.now).definition)
             window.now.place window.now.size ≡ true }
         requires number { self.now.windows.next ≡ Some touch.window }
-        ensures plan { IfOk result (λ plan. IsPlanWith ⟦<Taken as Defined>⟧.loan window.now touch.window
+        ensures plan { IfOk result (λ plan. IsPlanWith ⟦<Taken as Defined>⟧.loan floating window.now touch.window
             (⟦<Taken as Defined>⟧.loan taken.now).definition touch self.now plan) }
         ensures some { IfOk result (λ plan. vec_len plan.parts ≡ length self.now.windows.records.items + 1) }
     {
         let nothing = Area::empty(self.alloc);
-        let front = Seat {
+        let seat = Seat {
             serial: touch.window,
             place: window.place,
             size: window.size,
             shown: window.shown,
+            floating,
             taken,
             area: &nothing,
         };
-        let changed = changed_with(self.alloc, &self.gray, &front)?;
-        let seats = self.seats_behind(front)?;
+        let changed = changed_with(self.alloc, &self.gray, &seat)?;
+        let seats = self.seats_with(seat)?;
         let lost = lost_of(self.alloc, &changed, &nothing)?;
         let plan = plan_of(self.alloc, &changed, &lost, &self.desktop, &seats, touch)?;
         Ok(plan)
     }
 
-    /// The windows as they are, behind a new one.
-    fn seats_behind<'a>(&'a self, front: Seat<'a>) -> Result<Vec<Seat<'a>>, AllocError>
+    /// The windows as they are, with a new one at the front of its class.
+    fn seats_with<'a>(&'a self, added: Seat<'a>) -> Result<Vec<Seat<'a>>, AllocError>
         requires { length self.now.areas.items ≡ length self.now.windows.records.items }
-        ensures { IfOk result (λ seats. AreSeatsBehind front.entry
+        ensures { IfOk result (λ seats. AreSeatsWith (new_place added.entry.floating self.now) added.entry
             self.now.windows.records.items self.now.areas.items seats.items) }
     {
         let mut seats = self.seats()?;
-        seats.insert(0, front).unwrap();
+        let at = self.windows.class_front(added.floating, self.windows.len());
+        seats.insert(at, added).unwrap();
         Ok(seats)
     }
 
-    /// Puts a planned window in front of all others, and draws what changes.
-    fn add_window(&mut self, window: &NewWindow<'_>, addition: Addition, taken: Taken)
+    /// Puts a planned window at the front of its class, and draws what changes.
+    fn add_window(
+        &mut self,
+        window: &NewWindow<'_>,
+        floating: bool,
+        addition: Addition,
+        taken: Taken,
+    )
         requires fresh { (⟦<Taken as Defined>⟧.loan taken).definition.stage ≡ Stage.Fresh }
         requires fits { is_fitting (⟦<Taken as Defined>⟧.loan taken).definition window.now.size ≡ true }
         requires may_stand { is_placed (Some (⟦<Taken as Defined>⟧.loan taken).definition)
             window.now.place window.now.size ≡ true }
         requires settled { All IsSettled (map (record_of ⟦<Taken as Defined>⟧.loan) self.old.windows.records.items) }
-        requires planned { IsPlanned ⟦<Taken as Defined>⟧.loan window.now
+        requires areas { length self.old.areas.items ≡ length self.old.windows.records.items }
+        requires planned { IsPlanned ⟦<Taken as Defined>⟧.loan floating window.now
             (⟦<Taken as Defined>⟧.loan taken).definition self.old addition }
-        ensures { IsAdded ⟦<Taken as Defined>⟧.loan window.now addition.ticket.serial (⟦<Taken as Defined>⟧.loan taken)
+        ensures { IsAdded ⟦<Taken as Defined>⟧.loan floating window.now addition.ticket.serial (⟦<Taken as Defined>⟧.loan taken)
             addition.touch addition.plan self.old self.new }
     {
         let Addition {
@@ -194,17 +210,26 @@ impl WindowManager {
         } = addition;
         let Ticket { serial, title } = ticket;
         let mut taken = taken;
+        let highlighted = begins_highlighted(window, floating);
         taken.begin(
             window.size,
             window.title.as_slice(),
             window.go_away,
-            window.shown,
+            highlighted,
         );
-        let added = record_for(self.alloc, window, serial, title, taken);
+        let added = record_for(self.alloc, window, floating, serial, title, taken);
+        let at = self.windows.class_front(floating, self.windows.len());
         self.windows.add(added);
-        self.areas.insert(0, Area::empty(self.alloc)).unwrap();
+        self.areas.insert(at, Area::empty(self.alloc)).unwrap();
         self.commit(plan, touch.by);
     }
+}
+
+/// Whether a new window is highlighted when it is made.
+fn begins_highlighted(window: &NewWindow<'_>, floating: bool) -> bool
+    ensures { result ≡ begins_highlighted floating window.now }
+{
+    window.shown || floating
 }
 
 /// What a new window does with the windows.
@@ -222,34 +247,38 @@ fn new_touch(serial: u64) -> Touch
     }
 }
 
-/// The record of a new window, with its definition. A visible one is highlighted, and its picture is
-/// white.
+/// The record of a new window, with its definition. A visible one is highlighted, and one that floats
+/// always; its picture is white.
 fn record_for(
     alloc: Global,
     window: &NewWindow<'_>,
+    floating: bool,
     serial: u64,
     title: Title,
     taken: Taken,
 ) -> Window
     requires title { title.items ≡ window.now.title }
     requires placed { in_plane window.now.place ≡ true }
-    ensures seen { record_of ⟦<Taken as Defined>⟧.loan result ≡ new_record window.now serial
+    ensures seen { record_of ⟦<Taken as Defined>⟧.loan result ≡ new_record floating window.now serial
         (⟦<Taken as Defined>⟧.loan taken).slot (⟦<Taken as Defined>⟧.loan taken).definition }
     ensures serial { result.serial ≡ serial }
     ensures shown { result.shown ≡ window.now.shown }
+    ensures floating { result.floating ≡ floating }
     ensures there { LieThere result }
 {
+    let highlighted = begins_highlighted(window, floating);
     Window {
         serial,
         place: window.place,
         size: window.size,
         user_state: None,
         shown: window.shown,
-        highlighted: window.shown,
+        floating,
+        highlighted,
         go_away: window.go_away,
         title,
         heard: Heard {
-            highlighted: window.shown,
+            highlighted,
             zoomed: false,
             tracked: false,
         },

@@ -29,7 +29,8 @@ impl WindowManager {
         ensures sparing { IsSparingCall ⟦<Taken as Defined>⟧.loan call.now self.old self.new }
     {
         match call {
-            WindowCall::New(window) => self.new_window(window, stock),
+            WindowCall::New(window) => self.new_window(window, false, stock),
+            WindowCall::NewFloating(window) => self.new_window(window, true, stock),
             WindowCall::Dispose(window) => self.dispose_window(*window, stock),
             WindowCall::Show(window) => self.show_hide(
                 ShowHide {

@@ -2,6 +2,7 @@
 use Rattle.std.specs.Prelude.{ℕ, ℤ, pos, List, [], ◌∷◌, Option, Some, None, codes, if◌then◌else◌}
 use Rattle.std.specs.Ordering.{int_eq}
 use Rattle.desk_call.specs.declared.window.NewPicture.{NewPicture}
+use Rattle.desk_call.specs.declared.window.NewWindow.{NewWindow}
 use Rattle.desk_call.specs.declared.window.WindowCall.{WindowCall}
 use Rattle.desk_call.specs.declared.window.WindowCall.TheVariants as calls
 use Rattle.line_words.specs.Words.{serial_of}
@@ -14,6 +15,7 @@ use Rattle.window_words.specs.Drawings.{drawing_shape}
 unfoldable pub window_verbs : List (List ℕ × WindowVerb)
 window_verbs =
     (codes "window", verbs.New)
+    ∷ (codes "float", verbs.Float)
     ∷ (codes "close", verbs.Close)
     ∷ (codes "show", verbs.Show)
     ∷ (codes "hide", verbs.Hide)
@@ -35,9 +37,9 @@ window_verbs =
     ∷ []
 
 -- KIND h v width height SHOWN GOAWAY "title"
-abbrev pub new_shape : Shape WindowCall
+abbrev pub new_shape : Shape NewWindow
 new_shape = name (λ kind. point (λ place. number (λ width. number (λ height. flag (λ shown. flag (λ go_away. text (λ title.
-    says (calls.New (record { kind = kind; place = place; size = record { width = width; height = height }; shown = shown; go_away = go_away; title = title })))))))))
+    says (record { kind = kind; place = place; size = record { width = width; height = height }; shown = shown; go_away = go_away; title = title }))))))))
 
 -- W FLAG
 abbrev pub show_hide_shape : Shape WindowCall
@@ -75,7 +77,8 @@ scroll_shape = serial (λ window. point (λ by. says (calls.Scroll (record { win
 
 -- the words that follow a first word, and what they ask
 unfoldable pub window_shape : WindowVerb → Shape WindowCall
-window_shape verbs.New = new_shape
+window_shape verbs.New = mapped calls.New new_shape
+window_shape verbs.Float = mapped calls.NewFloating new_shape
 window_shape verbs.Close = serial (λ window. says (calls.Dispose window))
 window_shape verbs.Show = serial (λ window. says (calls.Show window))
 window_shape verbs.Hide = serial (λ window. says (calls.Hide window))

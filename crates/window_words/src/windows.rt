@@ -17,6 +17,7 @@ use tb_geom::{Point, Refusal};
 #[derive(Clone, Copy)]
 pub enum WindowVerb {
     New,
+    Float,
     Close,
     Show,
     Hide,
@@ -38,8 +39,9 @@ pub enum WindowVerb {
 }
 
 /// Each first word, and what it stands for.
-static VERBS: [(&[u8], WindowVerb); 19] = [
+static VERBS: [(&[u8], WindowVerb); 20] = [
     (b"window", WindowVerb::New),
+    (b"float", WindowVerb::Float),
     (b"close", WindowVerb::Close),
     (b"show", WindowVerb::Show),
     (b"hide", WindowVerb::Hide),
@@ -75,7 +77,8 @@ impl WindowVerb {
         ensures { result ≡ reading (window_shape self) words.entry }
     {
         match self {
-            WindowVerb::New => new_window(words),
+            WindowVerb::New => Ok(WindowCall::New(new_window(words)?)),
+            WindowVerb::Float => Ok(WindowCall::NewFloating(new_window(words)?)),
             WindowVerb::Close => Ok(WindowCall::Dispose(words.last_serial()?)),
             WindowVerb::Show => Ok(WindowCall::Show(words.last_serial()?)),
             WindowVerb::Hide => Ok(WindowCall::Hide(words.last_serial()?)),
@@ -98,9 +101,9 @@ impl WindowVerb {
     }
 }
 
-/// The words after `window`: the kind, the place and size of the content on the screen, whether it is shown,
-/// whether it has a go-away box, and the title.
-fn new_window<'a>(words: Words<'a>) -> Result<WindowCall<'a>, Refusal>
+/// The words after `window` and after `float`: the kind, the place and size of the content on the screen, whether it is
+/// shown, whether it has a go-away box, and the title.
+fn new_window<'a>(words: Words<'a>) -> Result<NewWindow<'a>, Refusal>
     ensures { result ≡ reading new_shape words.entry }
 {
     let (kind, words) = words.name()?;
@@ -112,14 +115,14 @@ fn new_window<'a>(words: Words<'a>) -> Result<WindowCall<'a>, Refusal>
     let (title, words) = words.text()?;
     words.end()?;
     let size = Size { width, height };
-    Ok(WindowCall::New(NewWindow {
+    Ok(NewWindow {
         kind,
         place,
         size,
         shown,
         go_away,
         title,
-    }))
+    })
 }
 
 /// The words after `showhide`: a window, and whether it is to be shown.

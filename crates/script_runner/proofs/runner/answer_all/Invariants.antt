@@ -4,7 +4,7 @@ use Rattle.def_iface.specs.contracts.taken.TakenDefined.TheImpl as taken
 use Rattle.def_iface.specs.contracts.taken_control.TakenControlDefinedControl.TheImpl as taken_control
 use Rattle.def_iface.specs.contracts.taken_list.TakenListDefinedList.TheImpl as taken_list
 use Rattle.def_iface.specs.contracts.taken_menu.TakenMenuDefinedMenu.TheImpl as taken_menu
-use Rattle.script_runner.specs.SessionViews.{session_of, IsReady}
+use Rattle.script_runner.specs.SessionViews.{script_of, IsReady}
 use Rattle.script_runner.specs.Progress.{SoFar}
 use Rattle.script_runner.proofs.runner.answer_all.Given as goal
 
@@ -16,8 +16,8 @@ invariant-loop-read g l =
     let list_loan = (taken_list.list_loan-value g.dyn-4).it in
     let stocks = (stock.all_slots-value g.dyn-1 g.dyn-2 g.dyn-4 g.dyn-3).it in
     record {
-      ready : IsReady loan menu_loan control_loan list_loan l.session (stocks l.stock);
+      ready : IsReady loan menu_loan control_loan list_loan l.script.session (stocks l.stock);
       quiet : (g.W.Sink.output l.sink).has_failed ≡ false;
-      so_far : SoFar l.raw (session_of loan menu_loan control_loan list_loan l.fn.session (stocks l.fn.stock)) (g.R.Source.input l.fn.source) (g.W.Sink.output l.fn.sink) (g.R.Source.input l.source) (g.W.Sink.output l.sink) (session_of loan menu_loan control_loan list_loan l.session (stocks l.stock)) l.line [];
+      so_far : SoFar l.raw (script_of loan menu_loan control_loan list_loan l.fn.script (stocks l.fn.stock)) (g.R.Source.input l.fn.source) (g.W.Sink.output l.fn.sink) (g.R.Source.input l.source) (g.W.Sink.output l.sink) (script_of loan menu_loan control_loan list_loan l.script (stocks l.stock)) l.line [];
       counted : (g.R.Source.input l.source).reads ≡ l.read;
     }

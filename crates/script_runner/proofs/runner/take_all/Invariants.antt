@@ -4,8 +4,8 @@ use Rattle.def_iface.specs.contracts.taken.TakenDefined.TheImpl as taken
 use Rattle.def_iface.specs.contracts.taken_control.TakenControlDefinedControl.TheImpl as taken_control
 use Rattle.def_iface.specs.contracts.taken_list.TakenListDefinedList.TheImpl as taken_list
 use Rattle.def_iface.specs.contracts.taken_menu.TakenMenuDefinedMenu.TheImpl as taken_menu
-use Rattle.script_runner.specs.Session.{SessionState}
-use Rattle.script_runner.specs.SessionViews.{session_of, IsReady}
+use Rattle.script_runner.specs.Script.{ScriptState}
+use Rattle.script_runner.specs.SessionViews.{script_of, IsReady}
 use Rattle.script_runner.specs.Progress.{SoFar}
 use Rattle.watched_io.specs.Reads.{Input}
 use Rattle.watched_io.specs.Writes.{Output}
@@ -19,9 +19,9 @@ invariant-loop-byte g l =
     let list_loan = (taken_list.list_loan-value g.dyn-4).it in
     let stocks = (stock.all_slots-value g.dyn-1 g.dyn-2 g.dyn-4 g.dyn-3).it in
     record {
-      ready : IsReady loan menu_loan control_loan list_loan l.session (stocks l.stock);
+      ready : IsReady loan menu_loan control_loan list_loan l.script.session (stocks l.stock);
       quiet : (g.W.Sink.output l.sink).has_failed ≡ false;
-      so_far : (first : SessionState) (input rest : Input) (old : Output)
-          → SoFar l.raw first input old rest (g.W.Sink.output l.initial.sink) (session_of loan menu_loan control_loan list_loan l.initial.session (stocks l.initial.stock)) l.initial.line l.bytes
-          → SoFar l.raw first input old rest (g.W.Sink.output l.sink) (session_of loan menu_loan control_loan list_loan l.session (stocks l.stock)) l.line (drop l.byte-index l.bytes);
+      so_far : (first : ScriptState) (input rest : Input) (old : Output)
+          → SoFar l.raw first input old rest (g.W.Sink.output l.initial.sink) (script_of loan menu_loan control_loan list_loan l.initial.script (stocks l.initial.stock)) l.initial.line l.bytes
+          → SoFar l.raw first input old rest (g.W.Sink.output l.sink) (script_of loan menu_loan control_loan list_loan l.script (stocks l.stock)) l.line (drop l.byte-index l.bytes);
     }

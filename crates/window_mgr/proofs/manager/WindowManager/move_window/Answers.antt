@@ -1,6 +1,7 @@
-use Rattle.std.proofs.Common.{◌≡◌, refl, sym, ap, rules, ◌∙◌, inl, false, true, None, if◌then◌else◌, subst, Some}
+use Rattle.std.proofs.lemmas.List.Edits.{length-remove}
+use Rattle.std.proofs.Common.{◌≡◌, ◌<◌, length, arith, refl, sym, ap, rules, ◌∙◌, inl, false, true, None, if◌then◌else◌, subst, Some}
 use Rattle.desk_call.specs.declared.window.WindowCall.TheVariants.{Move}
-use Rattle.window_mgr.specs.declared.arrange.Activates.TheVariants.{Nothing}
+use Rattle.window_mgr.specs.declared.arrange.Activates.TheVariants.{Nothing, Itself}
 use Rattle.window_mgr.specs.declared.arrange.Edit.{Edit}
 use Rattle.window_mgr.proofs.PaintLemmas.{settled_in}
 use Rattle.window_mgr.proofs.SameDeskLemmas.{is_refused}
@@ -23,6 +24,16 @@ pub local-by-requires-clause-point : goal.local-by-requires-clause-point
 local-by-requires-clause-point g c =
     steps.arrives _ c.args.self.now c.args.self.now _ c.requires.whole c.in-Some.at c.args.moved.window c.at-found.result.now c.in-Some.ensures.0 (search rules) (c.in-Some.ensures.1 c.at-found.result.now (search rules)) c.args.moved (search rules)
 
+pub rearrange-requires-clause-to : goal.rearrange-requires-clause-to
+rearrange-requires-clause-to g c =
+    let fewer = length-remove c.args.self.now.windows.records.items c.in-Some.at c.in-Some.ensures.0 in
+    let low = c.class_front-front.ensures.low in
+    let front : c.class_front-front.result < length c.args.self.now.windows.records.items = omega arith in
+    elim c.if-moved.branch [
+      | then-moved w ↦ subst (λ n. n < length c.args.self.now.windows.records.items) (sym w.edit-is) front
+      | else-moved w ↦ subst (λ n. n < length c.args.self.now.windows.records.items) (sym w.edit-is) c.in-Some.ensures.0
+    ]
+
 pub rearrange-requires-clause-placed : goal.rearrange-requires-clause-placed
 rearrange-requires-clause-placed g c =
     steps.may_arrive _ c.args.self.now c.args.self.now _ c.requires.whole c.in-Some.at c.args.moved.window c.at-found.result.now c.in-Some.ensures.0 (search rules) (c.in-Some.ensures.1 c.at-found.result.now (search rules)) c.args.moved (search rules) (record c.of-edit.result { place = c.args.moved.place; user_state = None; to = c.if-moved.edit })
@@ -37,12 +48,13 @@ returns-clause-step g c slots whole =
     steps.move_step _ c.args.self.now c.rearrange.new.self slots whole c.in-Some.at c.args.moved.window c.at-found.result.now c.in-Some.ensures.0 (search rules) (c.in-Some.ensures.1 c.at-found.result.now (search rules)) c.args.moved
     _ _ _ _ refl
     (steps.may_move _ c.args.self.now c.args.self.now slots whole c.in-Some.at c.args.moved.window c.at-found.result.now c.in-Some.ensures.0 (search rules) (c.in-Some.ensures.1 c.at-found.result.now (search rules)) c.args.moved true refl (search rules))
-    (let goes : c.if-moved.edit ≡ (if c.args.moved.select then 0 else c.in-Some.at) = elim c.if-moved.branch [
-      | then-moved w ↦ w.edit-is ∙ ap (λ b. if b then 0 else c.in-Some.at) (sym w.if-moved.true)
-      | else-moved w ↦ w.edit-is ∙ ap (λ b. if b then 0 else c.in-Some.at) (sym w.if-moved.false)
+    (let goes : c.if-moved.edit ≡ (if c.args.moved.select then c.class_front-front.result else c.in-Some.at) = elim c.if-moved.branch [
+      | then-moved w ↦ w.edit-is ∙ ap (λ b. if b then c.class_front-front.result else c.in-Some.at) (sym w.if-moved.true)
+      | else-moved w ↦ w.edit-is ∙ ap (λ b. if b then c.class_front-front.result else c.in-Some.at) (sym w.if-moved.false)
     ] in
-    λ k. record { at = (ap (λ (e : Edit). e.at) c.of-edit.ensures) k; to = goes k; place = c.args.moved.place; size = (ap (λ (e : Edit). e.size) c.of-edit.ensures) k; user_state = None; shown = (ap (λ (e : Edit). e.shown) c.of-edit.ensures) k })
-    (c.if_so-activates.ensures ∙ ap (λ a. if c.args.moved.select then a else Nothing) c.if_so.ensures)
+    let to = goes ∙ ap (λ n. if c.args.moved.select then n else c.in-Some.at) c.class_front-front.ensures.place in
+    λ k. record { at = (ap (λ (e : Edit). e.at) c.of-edit.ensures) k; to = to k; place = c.args.moved.place; size = (ap (λ (e : Edit). e.size) c.of-edit.ensures) k; user_state = None; shown = (ap (λ (e : Edit). e.shown) c.of-edit.ensures) k })
+    (c.if_so-activates.ensures ∙ ap (λ a. if c.args.moved.select then a else Nothing) (c.if_so.ensures ∙ ap (λ b. if b then Itself else Nothing) c.leads.ensures))
     c.local-by.ensures c.rearrange.ensures.step
 
 pub returns-clause-sparing : goal.returns-clause-sparing

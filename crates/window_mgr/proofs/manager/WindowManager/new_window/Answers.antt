@@ -1,3 +1,5 @@
+use Rattle.std.proofs.Common.{length, sym, ap, ◌∙◌}
+use Rattle.window_mgr.proofs.Seating.{as_many}
 use Rattle.window_mgr.proofs.NewWindowLemmas as adding
 use Rattle.window_mgr.proofs.SlotLemmas as slots
 use Rattle.window_mgr.proofs.SameDeskLemmas as keeping
@@ -17,11 +19,11 @@ returns-in-Err-plan_window-clause-whole g c =
 
 pub returns-in-Err-plan_window-clause-step : goal.returns-in-Err-plan_window-clause-step
 returns-in-Err-plan_window-clause-step g c =
-    adding.is_not_made _ c.args.window.now _ _ _ _ _ _ _ c.requires (slots.taken_named _ _ _ _ _ c.as_slice.ensures c.in-Ok.ensures.taken) c.in-Err-plan_window.ensures.err c.plan_window.ensures.same c.put_back.ensures
+    adding.is_not_made _ c.args.floating c.args.window.now _ _ _ _ _ _ _ c.requires (slots.taken_named _ _ _ _ _ c.as_slice.ensures c.in-Ok.ensures.taken) c.in-Err-plan_window.ensures.err c.plan_window.ensures.same c.put_back.ensures
 
 pub returns-in-Ok-plan_window-clause-whole : goal.returns-in-Ok-plan_window-clause-whole
 returns-in-Ok-plan_window-clause-whole g c =
-    adding.is_whole _ _ _ _ _ _ _ _ _ _ _ (record {
+    adding.is_whole _ c.args.floating _ _ _ _ _ _ _ _ _ _ (record {
       whole = c.requires;
       same = c.plan_window.ensures.same;
       unrefused_is = c.in-Ok-plan_window.ensures.ok.0;
@@ -35,7 +37,7 @@ returns-in-Ok-plan_window-clause-whole g c =
 
 pub returns-in-Ok-plan_window-clause-step : goal.returns-in-Ok-plan_window-clause-step
 returns-in-Ok-plan_window-clause-step g c =
-    adding.is_made _ c.args.window.now _ _ _ _ _ _ _ _ _ (record {
+    adding.is_made _ c.args.floating c.args.window.now _ _ _ _ _ _ _ _ _ (record {
       whole = c.requires;
       same = c.plan_window.ensures.same;
       unrefused_is = c.in-Ok-plan_window.ensures.ok.0;
@@ -56,4 +58,8 @@ add_window-requires-clause-may_stand g c =
 
 pub returns-in-Err-NoDefinition-clause-step : goal.returns-in-Err-NoDefinition-clause-step
 returns-in-Err-NoDefinition-clause-step g c =
-    adding.is_not_given _ c.args.window.now _ _ _ c.args.self.now _ _ c.as_slice.ensures c.in-Err-NoDefinition.field-0-is c.in-Err-NoDefinition.ensures.refused c.refusal_without.ensures c.in-Err-NoDefinition.ensures.kept
+    adding.is_not_given _ c.args.floating c.args.window.now _ _ _ c.args.self.now _ _ c.as_slice.ensures c.in-Err-NoDefinition.field-0-is c.in-Err-NoDefinition.ensures.refused c.refusal_without.ensures c.in-Err-NoDefinition.ensures.kept
+
+pub add_window-requires-clause-areas : goal.add_window-requires-clause-areas
+add_window-requires-clause-areas g c =
+    ap length c.plan_window.ensures.same.areas ∙ as_many _ c.args.self.now (kept _ c.args.self.now _ c.requires) ∙ ap length (sym c.plan_window.ensures.same.windows)

@@ -1,0 +1,62 @@
+-- What the lines of a script do, and what they answer: some are about the script itself, and the others about its desk.
+use Rattle.std.specs.Prelude.{◌≡◌, ℕ, ℤ, pos, Bool, true, false, is_none, ◌&&◌, ◌||◌, List, [], ◌∷◌, ◌++◌, Option, None, Some, Result, Ok, Err, if◌then◌else◌}
+use Rattle.std.specs.Ordering.{int_eq}
+use Rattle.tb_geom.specs.declared.refusal.Refusal.{Refusal}
+use Rattle.tb_geom.specs.declared.refusal.Refusal.TheVariants.{BadSyntax, OutOfRange}
+use Rattle.def_iface.specs.Stocks.{AllSlots}
+use Rattle.desk_call.specs.declared.call.Call.TheVariants.{Window}
+use Rattle.desk_call.specs.declared.window.WindowCall.TheVariants.{NewFloating}
+use Rattle.script_text.specs.declared.command.Command.{Command}
+use Rattle.script_text.specs.declared.command.Command.TheVariants.{Version, Call}
+use Rattle.script_text.specs.Lines.{said}
+use Rattle.script_text.specs.Replies.{refused_text}
+use Rattle.reply_lines.specs.Texts.{done_text}
+use Rattle.script_runner.specs.Session.{SessionState, unmade, Obeys, makes_desk, reply_shown}
+
+-- a script at work: its desk, the version of its commands, and whether a line was answered
+pub record ScriptState : Type 0 where
+  pub session : SessionState
+  pub version : ℤ
+  pub is_begun : Bool
+
+-- before its first line: without a desk, and of version 1
+abbrev pub first_state : List ℕ → AllSlots → ScriptState
+first_state font stocks = record { session = unmade font stocks; version = pos 1; is_begun = false }
+
+-- once a line was answered
+abbrev pub begun : ScriptState → ScriptState
+begun s = record s { is_begun = true }
+
+-- why a command is refused whatever desk there is, where a line was answered or not, in a script of this version: a version
+-- stands first and is 1 or 2, and floating windows are of version 2
+abbrev pub why_unread : Bool → ℤ → Command → Option Refusal
+why_unread is_begun version (Version number) =
+    if is_begun then Some BadSyntax else (if int_eq number (pos 1) || int_eq number (pos 2) then None else Some OutOfRange)
+why_unread is_begun version (Call (Window (NewFloating w))) = if int_eq version (pos 2) then None else Some BadSyntax
+why_unread is_begun version _ = None
+
+-- whether the command is the one that makes the script's desk
+abbrev pub makes_desk_of : ScriptState → Command → Bool
+makes_desk_of s (Version number) = false
+makes_desk_of s command = is_none (why_unread s.is_begun s.version command) && makes_desk s.session command
+
+-- `raw` says whether a run is raw: whether it shows images alone
+module _ (raw : Bool) where
+  -- a command may be answered so, and leave this: refused whatever desk there is, or read
+  abbrev pub Takes : Option Refusal → ScriptState → Command → List ℕ → ScriptState → Type 0
+  Takes (Some e) old command text new = (text ≡ reply_shown raw (refused_text e)) × (new ≡ begun old)
+  Takes None old (Version number) text new = (text ≡ reply_shown raw done_text) × (new ≡ record old { version = number; is_begun = true })
+  Takes None old command text new = (after : SessionState) × Obeys raw old.session command text after
+      × (new ≡ record old { session = after; is_begun = true })
+
+  -- what a line says may be answered so, and leave this: a line that says nothing is not answered
+  abbrev pub SaidAnswers : ScriptState → Option (Result Command Refusal) → List ℕ → ScriptState → Type 0
+  SaidAnswers old None text new = (text ≡ []) × (new ≡ old)
+  SaidAnswers old (Some (Err e)) text new = (text ≡ reply_shown raw (refused_text e)) × (new ≡ begun old)
+  SaidAnswers old (Some (Ok command)) text new = Takes (why_unread old.is_begun old.version command) old command text new
+
+  -- the lines, one after another, may be answered by this text, and leave this
+  abbrev pub Written : ScriptState → List (List ℕ) → List ℕ → ScriptState → Type 0
+  Written old [] text new = (text ≡ []) × (new ≡ old)
+  Written old (line ∷ lines) text new = (middle : ScriptState) × (first : List ℕ) × (others : List ℕ)
+      × SaidAnswers old (said line) first middle × Written middle lines others new × (text ≡ first ++ others)

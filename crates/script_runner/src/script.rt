@@ -1,0 +1,167 @@
+//! A script at work: its desk, the version of its commands, and whether a line was answered.
+ghost use Rattle.std.specs.Prelude.{◌≡◌, ℕ, pos, List, Some, None, OnOk, false};
+ghost use Rattle.def_iface.specs.Stocks.{AllSlots, AreAllFull};
+ghost use Rattle.desk_call.specs.declared.call.Call.TheVariants as asks;
+ghost use Rattle.desk_toolbox.specs.WholeToolbox.{IsKeptToolbox};
+ghost use Rattle.watched_io.specs.Writes.{Sends};
+ghost use Rattle.script_runner.specs.Checks.{IsCheckLine};
+ghost use Rattle.script_runner.specs.Endings.{LineEnds, TakeEnds};
+ghost use Rattle.script_runner.specs.Script.{why_unread};
+ghost use Rattle.script_runner.specs.Session.{LeavesStock};
+ghost use Rattle.script_runner.specs.SessionViews.{session_of, script_of, IsReady};
+
+use crate::session::Session;
+use crate::shown::{show_done, show_reply};
+use def_iface::{
+    Defined, DefinedControl, DefinedList, DefinedMenu, Stock, StockedAll, Taken, TakenControl,
+    TakenList, TakenMenu,
+};
+use desk_toolbox::{Call, WindowCall};
+use script_text::Command;
+use std::alloc::Global;
+use strike_font::Font;
+use tb_geom::Refusal;
+use watched_io::Sink;
+
+/// A script at work.
+#[derive(Drop)]
+pub struct Script {
+    /// The script's desk, or the font that waits for it.
+    session: Session,
+    /// The version of the commands: 1, or 2 where the script says so.
+    version: i32,
+    /// Whether a line was answered: the first that is may say the version, and no other.
+    is_begun: bool,
+}
+
+impl Script {
+    /// Before its first line: without a desk, and of version 1. The desk will have this font.
+    pub fn new(alloc: Global, font: Font) -> Script
+        ensures font { result.session.font ≡ Some font }
+        ensures unmade { result.session.desk ≡ None }
+        ensures version { result.version ≡ pos 1 }
+        ensures unbegun { result.is_begun ≡ false }
+    {
+        Script {
+            session: Session::new(alloc, font),
+            version: 1,
+            is_begun: false,
+        }
+    }
+
+    /// Answers what a line says, in bytes to the sink: a reply line, or an image. Nothing is written for a
+    /// line that says nothing, and, where the run is raw, in place of a reply line. The first line that is answered may
+    /// say the version; the first command of another kind makes the desk: where there is no memory for that, the
+    /// answer is NoMemory and nothing is written. Else WriteFault is the only error.
+    pub fn answer<S: Sink>(
+        &mut self,
+        said: Option<Result<Command<'_>, Refusal>>,
+        stock: &mut Stock,
+        sink: &mut S,
+        raw: bool,
+    ) -> Result<(), Refusal>
+        requires ready { IsReady ⟦<Taken as Defined>⟧.loan ⟦<TakenMenu as DefinedMenu>⟧.menu_loan ⟦<TakenControl as DefinedControl>⟧.control_loan ⟦<TakenList as DefinedList>⟧.list_loan self.old.session (⟦<Stock as StockedAll>⟧.all_slots stock.old) }
+        requires unfailed { (S.output sink.old).has_failed ≡ false }
+        ensures ready { IsReady ⟦<Taken as Defined>⟧.loan ⟦<TakenMenu as DefinedMenu>⟧.menu_loan ⟦<TakenControl as DefinedControl>⟧.control_loan ⟦<TakenList as DefinedList>⟧.list_loan self.new.session (⟦<Stock as StockedAll>⟧.all_slots stock.new) }
+        ensures quiet { OnOk result ((S.output sink.new).has_failed ≡ false) }
+        ensures ends { LineEnds raw
+            (script_of ⟦<Taken as Defined>⟧.loan ⟦<TakenMenu as DefinedMenu>⟧.menu_loan ⟦<TakenControl as DefinedControl>⟧.control_loan ⟦<TakenList as DefinedList>⟧.list_loan self.old (⟦<Stock as StockedAll>⟧.all_slots stock.old)) said.entry
+            (script_of ⟦<Taken as Defined>⟧.loan ⟦<TakenMenu as DefinedMenu>⟧.menu_loan ⟦<TakenControl as DefinedControl>⟧.control_loan ⟦<TakenList as DefinedList>⟧.list_loan self.new (⟦<Stock as StockedAll>⟧.all_slots stock.new))
+            (S.output sink.old) (S.output sink.new) result }
+    {
+        match said {
+            None => Ok(()),
+            Some(Err(refusal)) => {
+                self.is_begun = true;
+                show_reply(sink, &Err(refusal), raw)
+            }
+            Some(Ok(command)) => self.take(&command, stock, sink, raw),
+        }
+    }
+
+    /// Answers a command.
+    fn take<S: Sink>(
+        &mut self,
+        command: &Command<'_>,
+        stock: &mut Stock,
+        sink: &mut S,
+        raw: bool,
+    ) -> Result<(), Refusal>
+        requires ready { IsReady ⟦<Taken as Defined>⟧.loan ⟦<TakenMenu as DefinedMenu>⟧.menu_loan ⟦<TakenControl as DefinedControl>⟧.control_loan ⟦<TakenList as DefinedList>⟧.list_loan self.old.session (⟦<Stock as StockedAll>⟧.all_slots stock.old) }
+        requires unfailed { (S.output sink.old).has_failed ≡ false }
+        ensures ready { IsReady ⟦<Taken as Defined>⟧.loan ⟦<TakenMenu as DefinedMenu>⟧.menu_loan ⟦<TakenControl as DefinedControl>⟧.control_loan ⟦<TakenList as DefinedList>⟧.list_loan self.new.session (⟦<Stock as StockedAll>⟧.all_slots stock.new) }
+        ensures quiet { OnOk result ((S.output sink.new).has_failed ≡ false) }
+        ensures ends { TakeEnds raw
+            (script_of ⟦<Taken as Defined>⟧.loan ⟦<TakenMenu as DefinedMenu>⟧.menu_loan ⟦<TakenControl as DefinedControl>⟧.control_loan ⟦<TakenList as DefinedList>⟧.list_loan self.old (⟦<Stock as StockedAll>⟧.all_slots stock.old)) command.now
+            (script_of ⟦<Taken as Defined>⟧.loan ⟦<TakenMenu as DefinedMenu>⟧.menu_loan ⟦<TakenControl as DefinedControl>⟧.control_loan ⟦<TakenList as DefinedList>⟧.list_loan self.new (⟦<Stock as StockedAll>⟧.all_slots stock.new))
+            (S.output sink.old) (S.output sink.new) result }
+    {
+        let refusal = why_unread(self.is_begun, self.version, command);
+        self.is_begun = true;
+        if let Some(refusal) = refusal {
+            return show_reply(sink, &Err(refusal), raw);
+        }
+        if let Command::Version(version) = command {
+            self.version = *version;
+            return show_done(sink, raw);
+        }
+        self.session.obey(command, stock, sink, raw)
+    }
+
+    /// Writes the line of the check of the script's desk, as `Session::check` says.
+    pub fn check<S: Sink>(&self, sink: &mut S) -> Result<(), Refusal>
+        requires kept { (desk : _) → self.now.session.desk ≡ Some desk → IsKeptToolbox ⟦<Taken as Defined>⟧.loan ⟦<TakenMenu as DefinedMenu>⟧.menu_loan ⟦<TakenControl as DefinedControl>⟧.control_loan ⟦<TakenList as DefinedList>⟧.list_loan desk }
+        requires unfailed { (S.output sink.old).has_failed ≡ false }
+        ensures { (stocks : AllSlots) → (text : List ℕ)
+            × IsCheckLine (session_of ⟦<Taken as Defined>⟧.loan ⟦<TakenMenu as DefinedMenu>⟧.menu_loan ⟦<TakenControl as DefinedControl>⟧.control_loan ⟦<TakenList as DefinedList>⟧.list_loan self.now.session stocks) text
+            × Sends (S.output sink.old) (S.output sink.new) result text }
+    {
+        self.session.check(sink)
+    }
+
+    /// Ends the script: the definition of every window, control, list and menu of its desk is disposed of, and put back
+    /// Closed into its slot, while every other slot stays as it was.
+    pub fn close(self, stock: &mut Stock)
+        requires { IsReady ⟦<Taken as Defined>⟧.loan ⟦<TakenMenu as DefinedMenu>⟧.menu_loan ⟦<TakenControl as DefinedControl>⟧.control_loan ⟦<TakenList as DefinedList>⟧.list_loan self.session (⟦<Stock as StockedAll>⟧.all_slots stock.old) }
+        ensures full { AreAllFull (⟦<Stock as StockedAll>⟧.all_slots stock.new) }
+        ensures left { LeavesStock (session_of ⟦<Taken as Defined>⟧.loan ⟦<TakenMenu as DefinedMenu>⟧.menu_loan ⟦<TakenControl as DefinedControl>⟧.control_loan ⟦<TakenList as DefinedList>⟧.list_loan self.session (⟦<Stock as StockedAll>⟧.all_slots stock.old)) (⟦<Stock as StockedAll>⟧.all_slots stock.new) }
+    {
+        let Script { session, .. } = self;
+        session.close(stock);
+    }
+}
+
+/// Why a command is refused whatever desk there is, where a line was answered or not, in a script of this version.
+fn why_unread(is_begun: bool, version: i32, command: &Command<'_>) -> Option<Refusal>
+    ensures { result ≡ why_unread is_begun version command.now }
+{
+    match command {
+        Command::Version(number) => why_no_version(is_begun, *number),
+        Command::Call(Call::Window(call)) => why_no_call(version, call),
+        _ => None,
+    }
+}
+
+/// Why a version is refused: it stands first, and is 1 or 2.
+fn why_no_version(is_begun: bool, number: i32) -> Option<Refusal>
+    ensures { result ≡ why_unread is_begun (pos 1) (Command.Version number) }
+{
+    if is_begun {
+        return Some(Refusal::BadSyntax);
+    }
+    if number == 1 || number == 2 {
+        None
+    } else {
+        Some(Refusal::OutOfRange)
+    }
+}
+
+/// Why a call on windows is refused in a script of this version: floating windows are of version 2.
+fn why_no_call(version: i32, call: &WindowCall<'_>) -> Option<Refusal>
+    ensures { result ≡ why_unread false version (Command.Call (asks.Window call.now)) }
+{
+    match call {
+        WindowCall::NewFloating(_) if version != 2 => Some(Refusal::BadSyntax),
+        _ => None,
+    }
+}
